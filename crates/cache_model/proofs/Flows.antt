@@ -1,0 +1,168 @@
+-- A fractional schedule is worth at most the bound of any prices, over any two denominators.
+use Rattle.std.proofs.Common.{◌≡◌, ℕ, suc, zero, ◌+◌, ◌-◌, ◌*◌, ◌/◌, ◌<◌, ◌≤◌, ◌∙◌, sym, refl, ap, Bool, true, false, ◌&&◌, cond, nat_lt, nat_le, leb, List, [], ◌∷◌, length, arith, ⊎_elim, sum, sum_by, zip, take, drop, get_or, slice_range}
+use Rattle.std.specs.List.{range_with_len, AllZip}
+use Rattle.std.proofs.Math.Nat.{mul-le-mul_left, mul-le-mul_right, div-mul-le_self}
+use Rattle.std.proofs.lemmas.Bool.{cases_lt, lt-ltb, le-ltb, le-leb, lt-leb, and_left, and_right}
+use Rattle.std.proofs.lemmas.List.Sums.{sum_by-cons}
+use Rattle.cache_model.specs.declared.intervals.Interval.{Interval}
+use Rattle.cache_model.specs.Intervals.{surplus, bound_of}
+use Rattle.cache_model.specs.Units.{weight}
+use Rattle.cache_model.specs.Schedules.{covers, load_at, IsFractionalSchedule, flow_value}
+use Rattle.cache_model.proofs.Sums.{sum_by-range, sum_by-nothing, sum_by-agree}
+use Rattle.cache_model.proofs.Pairs.{ltb-suc, slice_range-suc}
+
+leb-suc : (a b : ℕ) → leb (suc a) (suc b) ≡ leb a b
+leb-suc a b = ⊎_elim (λ (h : b < a). lt-leb (suc a) (suc b) (omega arith) ∙ sym (lt-leb a b h)) (λ (h : a ≤ b). le-leb (suc a) (suc b) (omega arith) ∙ sym (le-leb a b h)) (cases_lt b a)
+
+abbrev within : ℕ → ℕ → ℕ → Bool
+within a b t = nat_le a t && nat_lt t b
+
+within-suc : (a b t : ℕ) → within (suc a) (suc b) (suc t) ≡ within a b t
+within-suc a b t = ap (λ s. s && nat_lt (suc t) (suc b)) (leb-suc a t) ∙ ap (λ s. nat_le a t && s) (ltb-suc t b)
+
+within-suc_end : (b t : ℕ) → within 0 (suc b) (suc t) ≡ within 0 b t
+within-suc_end b t = ap (λ s. s && nat_lt (suc t) (suc b)) (le-leb 0 (suc t) (omega arith) ∙ sym (le-leb 0 t (omega arith))) ∙ ap (λ s. nat_le 0 t && s) (ltb-suc t b)
+
+take_drop_nil : (k a : ℕ) → take {A = ℕ} k (drop a []) ≡ []
+take_drop_nil zero a = refl
+take_drop_nil (suc k) zero = refl
+take_drop_nil (suc k) (suc a) = refl
+
+-- the price of step t, where the range has it
+abbrev priced : List ℕ → ℕ → ℕ → ℕ → ℕ
+priced prices a b t = cond (within a b t) (get_or prices t 0) 0
+
+-- a range's sum, price by price
+range_sum : (prices : List ℕ) (a b : ℕ) → sum (slice_range prices a b) ≡ sum_by (priced prices a b) (range_with_len 0 (length prices))
+range_sum [] a b = ap sum (take_drop_nil (b - a) a)
+range_sum (q ∷ prices) a zero =
+    let e : 0 - a ≡ 0 = omega arith in
+    ap (λ k. sum (take k (drop a (q ∷ prices)))) e
+    ∙ sym (sum_by-nothing (priced (q ∷ prices) a 0) (range_with_len 0 (suc (length prices)))
+    (λ t. ap (λ s. cond s (get_or (q ∷ prices) t 0) 0) (and_right (nat_le a t) _ (le-ltb t 0 (omega arith)))))
+range_sum (q ∷ prices) zero (suc b) =
+    let e : suc b - 0 ≡ suc b = omega arith in
+    let e' : b - 0 ≡ b = omega arith in
+    let whole : sum (slice_range (q ∷ prices) 0 (suc b)) ≡ q + sum (take b prices) = ap (λ k. sum (take k (q ∷ prices))) e ∙ sum_by-cons (λ (n : ℕ). n) q (take b prices) in
+    let rest : sum (take b prices) ≡ sum_by (priced prices 0 b) (range_with_len 0 (length prices)) = ap (λ k. sum (take k prices)) (sym e') ∙ range_sum prices 0 b in
+    let first : priced (q ∷ prices) 0 (suc b) 0 ≡ q = ap (λ s. cond s q 0) (lt-ltb 0 (suc b) (omega arith)) in
+    omega (
+      arith,
+      sum_by-range (priced (q ∷ prices) 0 (suc b)) (length prices),
+      sum_by-agree (λ t. priced (q ∷ prices) 0 (suc b) (suc t)) (priced prices 0 b) (range_with_len 0 (length prices))
+          (λ t. ap (λ s. cond s (get_or prices t 0) 0) (within-suc_end b t)),
+    )
+range_sum (q ∷ prices) (suc a) (suc b) =
+    let first : priced (q ∷ prices) (suc a) (suc b) 0 ≡ 0 = ap (λ s. cond s q 0) (and_left _ _ (lt-leb (suc a) 0 (omega arith))) in
+    slice_range-same a b
+    ∙ omega (
+      arith,
+      range_sum prices a b,
+      sum_by-range (priced (q ∷ prices) (suc a) (suc b)) (length prices),
+      sum_by-agree (λ t. priced (q ∷ prices) (suc a) (suc b) (suc t)) (priced prices a b) (range_with_len 0 (length prices))
+          (λ t. ap (λ s. cond s (get_or prices t 0) 0) (within-suc a b t)),
+    )
+  where
+    slice_range-same : (a b : ℕ) → sum (slice_range (q ∷ prices) (suc a) (suc b)) ≡ sum (slice_range prices a b)
+    slice_range-same a b = ap sum (slice_range-suc q prices a b)
+
+sum_by-add : (f g : ℕ → ℕ) (xs : List ℕ) → sum_by (λ t. f t + g t) xs ≡ sum_by f xs + sum_by g xs
+sum_by-add f g [] = refl
+sum_by-add f g (x ∷ xs) = omega (arith, sum_by-add f g xs, sum_by-cons f x xs, sum_by-cons g x xs, sum_by-cons (λ t. f t + g t) x xs)
+
+sum_by-times : (k : ℕ) (f : ℕ → ℕ) (xs : List ℕ) → k * sum_by f xs ≡ sum_by (λ t. k * f t) xs
+sum_by-times k f [] = omega arith
+sum_by-times k f (x ∷ xs) = omega (arith, sum_by-times k f xs, ap (λ n. k * n) (sum_by-cons f x xs), sum_by-cons (λ t. k * f t) x xs)
+
+cond-mul : (b : Bool) (f p : ℕ) → f * cond b p 0 ≡ cond b f 0 * p
+cond-mul true f p = refl
+cond-mul false f p = omega arith
+
+-- what each flow pays for its room is what each step is paid for its load
+abbrev pub paid_by_intervals : List Interval → List ℕ → List ℕ → ℕ
+paid_by_intervals intervals flows prices = sum_by (λ (i, f). f * sum (slice_range prices i.start i.end)) (zip intervals flows)
+
+pub paid_by_steps : (intervals : List Interval) (flows prices : List ℕ)
+    → paid_by_intervals intervals flows prices ≡ sum_by (λ t. load_at intervals flows t * get_or prices t 0) (range_with_len 0 (length prices))
+paid_by_steps [] flows prices = sym (sum_by-nothing (λ t. 0 * get_or prices t 0) (range_with_len 0 (length prices)) (λ t. omega arith))
+paid_by_steps (i ∷ intervals) [] prices = sym (sum_by-nothing (λ t. 0 * get_or prices t 0) (range_with_len 0 (length prices)) (λ t. omega arith))
+paid_by_steps (i ∷ intervals) (f ∷ flows) prices =
+    let steps : List ℕ = range_with_len 0 (length prices) in
+    let pay : Interval × ℕ → ℕ = λ (i, f). f * sum (slice_range prices i.start i.end) in
+    let own : ℕ → ℕ = λ t. f * priced prices i.start i.end t in
+    let rest : ℕ → ℕ = λ t. load_at intervals flows t * get_or prices t 0 in
+    let mine : f * sum (slice_range prices i.start i.end) ≡ sum_by own steps =
+    ap (λ n. f * n) (range_sum prices i.start i.end) ∙ sum_by-times f (priced prices i.start i.end) steps in
+    omega (
+      arith,
+      sum_by-cons pay (i, f) (zip intervals flows),
+      mine,
+      paid_by_steps intervals flows prices,
+      sum_by-add own rest steps,
+      sum_by-agree (λ t. own t + rest t) (λ t. load_at (i ∷ intervals) (f ∷ flows) t * get_or prices t 0) steps (λ t. at t (within i.start i.end t) refl),
+    )
+  where
+    at : (t : ℕ) (b : Bool) → within i.start i.end t ≡ b
+        → f * priced prices i.start i.end t + load_at intervals flows t * get_or prices t 0 ≡ load_at (i ∷ intervals) (f ∷ flows) t * get_or prices t 0
+    at t b e =
+        let p : ℕ = get_or prices t 0 in
+        let term : Interval × ℕ → ℕ = λ (j, g). cond (covers t j) g 0 in
+        let load : load_at (i ∷ intervals) (f ∷ flows) t * p ≡ (cond b f 0 + load_at intervals flows t) * p =
+        ap (λ n. n * p) (sum_by-cons term (i, f) (zip intervals flows) ∙ ap (λ s. cond s f 0 + load_at intervals flows t) e) in
+        let own : f * priced prices i.start i.end t ≡ f * cond b p 0 = ap (λ s. f * cond s p 0) e in
+        omega (arith, cond-mul b f p)
+
+-- one interval, whose weight is f + r and whose surplus is s, over the two denominators
+one_interval : (d e g r m f q s : ℕ) → m * (f + r) ≤ d * g → e * g ≤ s + (f + r) * q → e * (m * f) ≤ d * (s + f * q)
+one_interval d e g r m f q s value over =
+    let first : e * (m * (f + r)) ≤ e * (d * g) = mul-le-mul_left e value in
+    let second : d * (e * g) ≤ d * (s + (f + r) * q) = mul-le-mul_left d over in
+    ⊎_elim
+    (λ (h : e * m < d * q). let h' : e * m ≤ d * q = omega arith in let third : (e * m) * f ≤ (d * q) * f = mul-le-mul_right f h' in omega arith)
+    (λ (h : d * q ≤ e * m). let third : (d * q) * r ≤ (e * m) * r = mul-le-mul_right r h in omega arith)
+    (cases_lt (e * m) (d * q))
+
+each_interval : (unit d e : ℕ) (prices : List ℕ) (intervals : List Interval) (flows : List ℕ) → AllZip (λ i f. f ≤ weight unit i) intervals flows
+    → e * flow_value intervals unit d flows ≤ d * (sum_by (surplus unit e prices) intervals + paid_by_intervals intervals flows prices)
+each_interval unit d e prices [] flows small = omega arith
+each_interval unit d e prices (i ∷ intervals) [] small = absurd small
+each_interval unit d e prices (i ∷ intervals) (f ∷ flows) small =
+    let w : ℕ = weight unit i in
+    let q : ℕ = sum (slice_range prices i.start i.end) in
+    let m : ℕ = d * i.gain / w in
+    let s : ℕ = e * i.gain - w * q in
+    let worth : Interval × ℕ → ℕ = λ (i, f). (d * i.gain / weight unit i) * f in
+    let pay : Interval × ℕ → ℕ = λ (i, f). f * sum (slice_range prices i.start i.end) in
+    let low : f ≤ w = small.0 in
+    let same : f + (w - f) ≡ w = omega arith in
+    let value : m * (f + (w - f)) ≤ d * i.gain = omega (arith, div-mul-le_self (d * i.gain) w, ap (λ n. m * n) same) in
+    let over : e * i.gain ≤ s + (f + (w - f)) * q = omega (arith, ap (λ n. n * q) same) in
+    let one : e * (m * f) ≤ d * (s + f * q) = one_interval d e i.gain (w - f) m f q s value over in
+    omega (
+      arith,
+      one,
+      each_interval unit d e prices intervals flows small.1,
+      ap (λ n. e * n) (sum_by-cons worth (i, f) (zip intervals flows)),
+      ap (λ n. d * n) (sum_by-cons pay (i, f) (zip intervals flows)),
+      ap (λ n. d * n) (sum_by-cons (surplus unit e prices) i intervals),
+    )
+
+-- the loads are within the units
+loads_paid : (units : ℕ) (load : ℕ → ℕ) (prices : List ℕ) → ((t : ℕ) → load t ≤ units)
+    → sum_by (λ t. load t * get_or prices t 0) (range_with_len 0 (length prices)) ≤ units * sum prices
+loads_paid units load [] within_units = omega arith
+loads_paid units load (q ∷ prices) within_units =
+    omega (
+      arith,
+      sum_by-range (λ t. load t * get_or (q ∷ prices) t 0) (length prices),
+      loads_paid units (λ t. load (suc t)) prices (λ t. within_units (suc t)),
+      mul-le-mul_right q (within_units 0),
+      ap (λ n. units * n) (sum_by-cons (λ (n : ℕ). n) q prices),
+    )
+
+pub flow_value-le : (intervals : List Interval) (unit units d e : ℕ) (flows prices : List ℕ) → IsFractionalSchedule intervals unit units flows
+    → e * flow_value intervals unit d flows ≤ d * bound_of intervals unit units e prices
+flow_value-le intervals unit units d e flows prices schedule =
+    let paid : paid_by_intervals intervals flows prices ≤ units * sum prices =
+    omega (arith, paid_by_steps intervals flows prices, loads_paid units (load_at intervals flows) prices schedule.within_units) in
+    omega (arith, each_interval unit d e prices intervals flows schedule.within_weights, mul-le-mul_left d paid)

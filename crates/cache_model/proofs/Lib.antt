@@ -1,0 +1,15 @@
+mod Rows
+pub mod Duality
+pub mod Sums
+pub mod Pairs
+pub mod Steps
+pub mod Eligible
+pub mod Keeps
+pub mod Streams
+pub mod Members
+pub mod Flows
+pub mod Rounding
+pub mod Apart
+pub mod Latest
+pub mod Loads
+pub mod Headline

@@ -1,0 +1,92 @@
+-- Certificates: when one is valid.
+use Rattle.std.specs.Prelude.{◌≡◌, ℕ, ◌-◌, ◌*◌, ◌/◌, ◌^◌, ◌<◌, ◌≤◌, Bool, false, ◌==◌, IsTrue, List, length, map, slice_index_or, sum, All}
+use Rattle.std.specs.List.{list_any}
+use Prim.Native.Nat.{◌∣◌}
+use Rattle.cache_model.specs.declared.objects.Object.{Object}
+use Rattle.cache_model.specs.declared.intervals.Interval.{Interval}
+use Rattle.cache_model.specs.declared.certificates.Header.{Header}
+use Rattle.cache_model.specs.declared.certificates.Record.{Record}
+use Rattle.cache_model.specs.Play.{IsAllowed, score}
+use Rattle.cache_model.specs.Intervals.{eligible_intervals, bound_of}
+use Rattle.cache_model.specs.Schedules.{IsFractionalSchedule, flow_value}
+use Rattle.cache_model.specs.Units.{HasWholeCosts}
+use Rattle.cache_model.specs.Keeps.{contents_of}
+
+-- each number of the header is in the range that the text has for it
+pub record IsHeaderInRange (h : Header) : Type 0 where
+  pub capacity : (1 ≤ h.capacity) × (h.capacity ≤ 2 ^ 56)
+  pub requests : h.requests ≤ 2 ^ 25
+  pub unit : (1 ≤ h.unit) × (h.unit ≤ h.capacity)
+  pub denominator : (1 ≤ h.denominator) × (h.denominator ≤ 2 ^ 48)
+  pub upper : h.upper < 2 ^ 127
+  pub flow : h.flow < 2 ^ 127
+  pub lower : h.lower < 2 ^ 127
+
+-- each number of a record is in its range
+pub record IsRecordInRange (r : Record) : Type 0 where
+  pub price : r.price ≤ 2 ^ 126
+  pub flow : r.flow ≤ 2 ^ 48
+
+-- a header in range, and as many records in range as it says
+pub record IsCertificate (h : Header) (records : List Record) : Type 0 where
+  pub header : IsHeaderInRange h
+  pub count : length records ≡ h.requests
+  pub each : All IsRecordInRange records
+
+abbrev pub prices_of : List Record → List ℕ
+prices_of records = map (λ r. r.price) records
+
+abbrev pub keeps_of : List Record → List Bool
+keeps_of records = map (λ r. r.keep) records
+
+-- the flow that record t states
+abbrev pub flow_at : List Record → ℕ → ℕ
+flow_at records t = slice_index_or (map (λ r. r.flow) records) t 0
+
+-- the flow of each interval is that of the record where it starts
+abbrev pub flows_of : List Interval → List Record → List ℕ
+flows_of intervals records = map (λ i. flow_at records i.start) intervals
+
+-- the eligible intervals at the header's capacity and objective
+abbrev pub eligible_of : List Object → Header → List Interval
+eligible_of trace h = eligible_intervals h.objective h.capacity trace
+
+abbrev pub units_of : Header → ℕ
+units_of h = h.capacity / h.unit
+
+-- the bound of the records' prices
+abbrev pub upper_of : List Object → Header → List Record → ℕ
+upper_of trace h records = bound_of (eligible_of trace h) h.unit (units_of h) h.denominator (prices_of records)
+
+-- the value of the records' flows
+abbrev pub flow_of : List Object → Header → List Record → ℕ
+flow_of trace h records = flow_value (eligible_of trace h) h.unit h.denominator (flows_of (eligible_of trace h) records)
+
+-- the certificate's numbers are in range and are what the trace gives
+pub record IsValid (trace : List Object) (h : Header) (records : List Record) : Type 0 where
+  pub certificate : IsCertificate h records
+  pub requests : h.requests ≡ length trace
+  pub sum_limit : units_of h * sum (prices_of records) ≤ 2 ^ 126
+  pub last_price : slice_index_or (prices_of records) (length trace - 1) 0 ≡ 0
+  pub unit : All (λ i. h.unit ∣ i.size) (eligible_of trace h)
+  pub keeps : IsAllowed h.capacity trace (contents_of trace (keeps_of records))
+  pub lower : h.lower ≡ score h.objective trace (contents_of trace (keeps_of records))
+  pub unused_flows : (t : ℕ) → list_any (λ i. i.start == t) (eligible_of trace h) ≡ false → flow_at records t ≡ 0
+  pub flows : IsFractionalSchedule (eligible_of trace h) h.unit (units_of h) (flows_of (eligible_of trace h) records)
+  pub flow : h.flow ≡ flow_of trace h records
+  pub upper : h.upper ≡ upper_of trace h records
+  pub whole_costs : IsTrue h.exact → HasWholeCosts (eligible_of trace h) h.unit h.denominator
+  pub exact_values : IsTrue h.exact → h.upper ≡ h.flow
+
+-- no play of the trace within the header's capacity scores more than the printed upper bound, nor than its floor
+pub record BoundsEveryPlay (trace : List Object) (h : Header) : Type 0 where
+  pub some_denominator : 0 < h.denominator
+  pub no_play_scores_more : (contents : List (List Object)) → IsAllowed h.capacity trace contents
+      → h.denominator * score h.objective trace contents ≤ h.upper
+  pub no_play_passes_the_floor : (contents : List (List Object)) → IsAllowed h.capacity trace contents
+      → score h.objective trace contents ≤ h.upper / h.denominator
+
+-- no list of prices over any denominator gives a smaller bound than the certificate's
+abbrev pub IsLeastOverAll : List Object → Header → List Record → Type 0
+IsLeastOverAll trace h records = (e : ℕ) (prices : List ℕ) → length prices ≡ length trace
+    → e * upper_of trace h records ≤ h.denominator * bound_of (eligible_of trace h) h.unit (units_of h) e prices

@@ -1,0 +1,102 @@
+-- What is proved of the definitions themselves, each a law that a function below carries.
+use Rattle.std.specs.Prelude.{if◌then◌else◌, nat_le, sum_by, map, [], ◌∷◌, ◌++◌, ◌≡◌, ◌↔◌, ℕ, ◌+◌, ◌*◌, ◌<◌, ◌≤◌, ◌==◌, Bool, false, IsTrue, List, length, Contains, AllPairs}
+use Rattle.cache_model.specs.declared.objects.Object.{Object}
+use Rattle.cache_model.specs.declared.objects.Objective.{Objective}
+use Rattle.cache_model.specs.declared.intervals.Interval.{Interval}
+use Rattle.cache_model.specs.declared.certificates.Header.{Header}
+use Rattle.cache_model.specs.declared.certificates.Record.{Record}
+use Rattle.cache_model.specs.Certificates.{IsCertificate, IsValid, BoundsEveryPlay, IsLeastOverAll}
+use Rattle.cache_model.specs.Texts.{cert_text}
+use Rattle.cache_model.specs.Play.{IsAllowed, total_size}
+use Rattle.cache_model.specs.Objects.{IsLatest, IsNew}
+use Rattle.cache_model.specs.Intervals.{interval_of, eligible_intervals, bound_of}
+use Rattle.cache_model.specs.Objects.{request_at, IsNext}
+use Rattle.std.specs.List.{list_any}
+use Rattle.cache_model.specs.Keeps.{latest_sum, held_before, contents_of, is_kept}
+use Rattle.cache_model.specs.Schedules.{load_at, IsFractionalSchedule, flow_value}
+use Rattle.cache_model.specs.Rounding.{IsRounded, IsMaximal, taken_load}
+
+-- two requests of one object that fits, with no request of it between them
+pub record IsEligible (objective : Objective) (capacity : ℕ) (trace : List Object) (i : Interval) : Type 0 where
+  pub next : IsNext trace i.start i.end
+  pub fits : (request_at trace i.start).size ≤ capacity
+  pub told : i ≡ interval_of objective trace i.start i.end
+
+-- the list has all and only the eligible intervals, in order of start
+pub record EligibleIntervals (objective : Objective) (capacity : ℕ) (trace : List Object) : Type 0 where
+  pub all_and_only : (i : Interval) → Contains (eligible_intervals objective capacity trace) i ↔ IsEligible objective capacity trace i
+  pub in_order : AllPairs (λ i j. i.start < j.start) (eligible_intervals objective capacity trace)
+
+abbrev pub IntervalsAreEligible : Type 0
+IntervalsAreEligible = (objective : Objective) (capacity : ℕ) (trace : List Object) → EligibleIntervals objective capacity trace
+
+-- keeps whose contents fit are allowed
+abbrev pub KeepsAreAllowed : Type 0
+KeepsAreAllowed =
+    (trace : List Object) (capacity : ℕ) (keeps : List Bool)
+    → ((t : ℕ) → t ≤ length trace → total_size (held_before trace keeps t) ≤ capacity)
+    → IsAllowed capacity trace (contents_of trace keeps)
+
+-- over any two denominators, flows are worth at most the bound of any prices
+abbrev pub FlowsAreBelowPrices : Type 0
+FlowsAreBelowPrices =
+    (intervals : List Interval) (unit units d e : ℕ) (flows prices : List ℕ)
+    → IsFractionalSchedule intervals unit units flows
+    → e * flow_value intervals unit d flows ≤ d * bound_of intervals unit units e prices
+
+-- the contents after request t hold what the intervals that are taken hold over step t
+abbrev pub ContentsWeighTheirIntervals : Type 0
+ContentsWeighTheirIntervals =
+    (objective : Objective) (capacity : ℕ) (trace : List Object) (keeps : List Bool) (t : ℕ)
+    → ((a : ℕ) → list_any (λ i. i.start == a) (eligible_intervals objective capacity trace) ≡ false → is_kept keeps a ≡ false)
+    → t < length trace
+    → total_size (held_before trace keeps (t + 1)) ≡ taken_load (eligible_intervals objective capacity trace) keeps t
+
+abbrev pub RoundedIsMaximal : Type 0
+RoundedIsMaximal =
+    (ahead : Interval → Interval → Bool) (intervals : List Interval) (capacity steps : ℕ) (full keeps : List Bool)
+    → IsRounded ahead intervals capacity steps full keeps → IsMaximal intervals capacity keeps
+
+-- no two certificates have one text, and no text of one begins another's
+abbrev pub OneReading : Type 0
+OneReading =
+    (h k : Header) (records entries : List Record) (xs ys : List ℕ)
+    → IsCertificate h records → IsCertificate k entries
+    → cert_text h records ++ xs ≡ cert_text k entries ++ ys
+    → (h ≡ k) × (records ≡ entries) × (xs ≡ ys)
+
+-- one more request: at most one more interval, from the latest request of its object
+pub record IntervalsGrow (objective : Objective) (capacity : ℕ) (trace : List Object) (x : Object) (amount : Interval → ℕ) : Type 0 where
+  pub new : IsNew trace x
+      → sum_by amount (eligible_intervals objective capacity (trace ++ x ∷ [])) ≡ sum_by amount (eligible_intervals objective capacity trace)
+  pub again : (a : ℕ) → IsLatest trace x a
+      → sum_by amount (eligible_intervals objective capacity (trace ++ x ∷ []))
+      ≡ sum_by amount (eligible_intervals objective capacity trace)
+      + (if nat_le x.size capacity then amount (interval_of objective (trace ++ x ∷ []) a (length trace)) else 0)
+
+-- one more request: its amount stands in place of that of the latest request of its object
+pub record LatestSumGrows (trace : List Object) (x : Object) (amount : ℕ → ℕ) : Type 0 where
+  pub new : IsNew trace x → latest_sum (trace ++ x ∷ []) amount (length trace + 1) ≡ latest_sum trace amount (length trace) + amount (length trace)
+  pub again : (a : ℕ) → IsLatest trace x a
+      → latest_sum (trace ++ x ∷ []) amount (length trace + 1) + amount a ≡ latest_sum trace amount (length trace) + amount (length trace)
+
+abbrev pub OneMoreRequest : Type 0
+OneMoreRequest =
+    (objective : Objective) (capacity : ℕ) (trace : List Object) (x : Object) (of_interval : Interval → ℕ) (of_request : ℕ → ℕ)
+    → IntervalsGrow objective capacity trace x of_interval × LatestSumGrows trace x of_request
+
+-- the load of a step is the sum over the latest requests, where only starts of intervals have an amount
+abbrev pub LoadIsLatestSum : Type 0
+LoadIsLatestSum =
+    (objective : Objective) (capacity : ℕ) (trace : List Object) (amount : ℕ → ℕ) (t : ℕ)
+    → ((a : ℕ) → list_any (λ i. i.start == a) (eligible_intervals objective capacity trace) ≡ false → amount a ≡ 0)
+    → t < length trace
+    → load_at (eligible_intervals objective capacity trace) (map (λ i. amount i.start) (eligible_intervals objective capacity trace)) t ≡ latest_sum trace amount (t + 1)
+
+-- a valid certificate bounds every play
+abbrev pub ValidBoundsEveryPlay : Type 0
+ValidBoundsEveryPlay = (trace : List Object) (h : Header) (records : List Record) → IsValid trace h records → BoundsEveryPlay trace h
+
+-- a valid certificate of the form exact gives the least bound of all prices over every denominator
+abbrev pub ExactIsLeast : Type 0
+ExactIsLeast = (trace : List Object) (h : Header) (records : List Record) → IsValid trace h records → IsTrue h.exact → IsLeastOverAll trace h records

@@ -1,0 +1,11 @@
+pub mod Play
+pub mod Objects
+pub mod Intervals
+pub mod Units
+pub mod Schedules
+pub mod Keeps
+pub mod Rounding
+pub mod Certificates
+pub mod Texts
+pub mod NoPlayScoresMore
+pub mod Laws

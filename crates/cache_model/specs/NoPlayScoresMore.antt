@@ -1,0 +1,14 @@
+-- No play scores more than the bound of any prices.
+use Rattle.std.specs.Prelude.{◌≡◌, ℕ, ◌*◌, ◌/◌, ◌≤◌, List, length}
+use Rattle.cache_model.specs.declared.objects.Object.{Object}
+use Rattle.cache_model.specs.declared.objects.Objective.{Objective}
+use Rattle.cache_model.specs.Play.{IsAllowed, score}
+use Rattle.cache_model.specs.Intervals.{eligible_intervals, bound_of}
+
+abbrev pub NoPlayScoresMore : Type 0
+NoPlayScoresMore =
+    (objective : Objective) (capacity unit denominator : ℕ) (trace : List Object) (prices : List ℕ) (contents : List (List Object))
+    → IsAllowed capacity trace contents
+    → length prices ≡ length trace
+    → denominator * score objective trace contents
+    ≤ bound_of (eligible_intervals objective capacity trace) unit (capacity / unit) denominator prices

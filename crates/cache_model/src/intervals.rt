@@ -1,0 +1,11 @@
+//! Intervals between two successive requests of one object.
+
+/// Two requests of one object with no other request of it between them. It covers the steps from `start` to
+/// the one before `end`. The size and, in bytes or hits, the gain of the hit at `end`.
+#[derive(Clone, Copy, Debug, PartialEq, Eq)]
+pub struct Interval {
+    pub start: u32,
+    pub end: u32,
+    pub size: u64,
+    pub gain: u64,
+}

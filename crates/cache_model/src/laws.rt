@@ -1,0 +1,58 @@
+//! What is proved of the definitions: each law is the contract of a function that does nothing.
+ghost use Rattle.cache_model.specs.Laws.{ContentsWeighTheirIntervals, ExactIsLeast, FlowsAreBelowPrices, IntervalsAreEligible, KeepsAreAllowed, LoadIsLatestSum, OneMoreRequest, OneReading, RoundedIsMaximal, ValidBoundsEveryPlay};
+ghost use Rattle.cache_model.specs.NoPlayScoresMore.{NoPlayScoresMore};
+
+/// No contents that the rules allow score more than the bound of any prices.
+pub fn no_play_scores_more()
+    ensures { NoPlayScoresMore }
+{}
+
+/// The list of eligible intervals has all and only those, in order of start.
+pub fn intervals_are_eligible()
+    ensures { IntervalsAreEligible }
+{}
+
+/// Keeps whose contents fit are allowed contents.
+pub fn keeps_are_allowed()
+    ensures { KeepsAreAllowed }
+{}
+
+/// Flows that fit are worth no more than the bound of any prices, over any two denominators.
+pub fn flows_are_below_prices()
+    ensures { FlowsAreBelowPrices }
+{}
+
+/// The contents that keeps stand for hold what their intervals do.
+pub fn contents_weigh_their_intervals()
+    ensures { ContentsWeighTheirIntervals }
+{}
+
+/// Nothing can be added to rounded keeps.
+pub fn rounded_is_maximal()
+    ensures { RoundedIsMaximal }
+{}
+
+/// What one more request adds to the sums that a checker keeps.
+pub fn one_more_request()
+    ensures { OneMoreRequest }
+{}
+
+/// The load of a step is the sum over the latest request of each object.
+pub fn load_is_latest_sum()
+    ensures { LoadIsLatestSum }
+{}
+
+/// A text of a certificate can be read in one way only.
+pub fn one_reading()
+    ensures { OneReading }
+{}
+
+/// A valid certificate bounds every play.
+pub fn valid_bounds_every_play()
+    ensures { ValidBoundsEveryPlay }
+{}
+
+/// A valid certificate of the form exact gives the least bound of all prices.
+pub fn exact_is_least()
+    ensures { ExactIsLeast }
+{}
