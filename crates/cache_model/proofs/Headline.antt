@@ -1,5 +1,5 @@
 -- A valid certificate bounds every play, and one of the form exact gives the least bound of all prices.
-use Rattle.std.proofs.Common.{◌≡◌, ℕ, ◌*◌, ◌≤◌, ◌<◌, ap, arith, List, length}
+use Rattle.std.proofs.Common.{◌≡◌, ◌*◌, ◌≤◌, ◌<◌, ap, arith, List, length}
 use Rattle.std.specs.Prelude.{IsTrue}
 use Rattle.std.proofs.lemmas.List.{length-map}
 use Rattle.std.proofs.lemmas.Nat.{le-div}
@@ -19,7 +19,7 @@ prices_bound trace h records each positive upper =
     let most : (contents : List (List Object)) → IsAllowed h.capacity trace contents → h.denominator * score h.objective trace contents ≤ h.upper
     = λ contents allowed. omega (arith, no_play_scores_more_lem h.objective h.capacity h.unit h.denominator trace (prices_of records) contents allowed many) in
     record {
-      some_denominator = positive;
+      denominator_positive = positive;
       no_play_scores_more = most;
       no_play_passes_the_floor = λ contents allowed. le-div (score h.objective trace contents) h.upper h.denominator positive (omega (arith, most contents allowed));
     }

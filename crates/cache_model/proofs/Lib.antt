@@ -13,3 +13,4 @@ pub mod Apart
 pub mod Latest
 pub mod Loads
 pub mod Headline
+pub mod Units

@@ -53,7 +53,7 @@ All-eligible_from o c trace a =
     let P : Interval → Type 0 = λ i. IsEligible o c trace i × (i.start ≡ a) in
     All-map P (interval_of o trace a) (filter (is_eligible c trace a) (range_with_len 0 (length trace)))
     (All-filter_range (λ b. P (interval_of o trace a b)) (is_eligible c trace a) 0 (length trace)
-    (λ b low high e. let parts = eligible_parts c trace a b (omega arith) e in (record { next = parts.0; fits = parts.1; told = refl }, refl)))
+    (λ b low high e. let parts = eligible_parts c trace a b (omega arith) e in (record { next = parts.0; fits = parts.1; numbers = refl }, refl)))
 
 -- each interval of the list is eligible
 pub All-eligible_intervals : (o : Objective) (c : ℕ) (trace : List Object) → All (IsEligible o c trace) (eligible_intervals o c trace)
@@ -69,7 +69,7 @@ Contains-eligible o c trace i e =
     ∙ ap (λ t. cond t (interval_of o trace i.start i.end ∷ []) []) (le-leb (request_at trace i.start).size c e.fits) in
     let one : Contains (interval_of o trace i.start i.end ∷ []) (interval_of o trace i.start i.end) = Contains-get_or (interval_of o trace i.start i.end ∷ []) 0 (interval_of o trace i.start i.end) (omega arith) in
     let there : Contains (eligible_from o c trace i.start) i =
-    subst (λ xs. Contains xs i) (sym row) (subst (Contains (interval_of o trace i.start i.end ∷ [])) (sym e.told) one) in
+    subst (λ xs. Contains xs i) (sym row) (subst (Contains (interval_of o trace i.start i.end ∷ [])) (sym e.numbers) one) in
     let next : IsNext trace i.start i.end = e.next in
     Contains-flat_map_range (eligible_from o c trace) i i.start 0 (length trace) (omega arith) (omega (arith, next.before, next.within)) there
 

@@ -1,7 +1,7 @@
 -- The definitions at small traces, computed.
-use Rattle.std.proofs.Common.{cond, ◌&&◌, ◌≡◌, ℕ, zero, suc, ◌/◌, ◌*◌, ◌+◌, ◌==◌, ◌≤◌, arith, lit≤, lit<, ◌<◌, ◌%◌, Bool, true, false, List, [], ◌∷◌, map, codes, refl}
+use Rattle.std.proofs.Common.{cond, ◌&&◌, ◌≡◌, ℕ, zero, suc, ◌/◌, ◌*◌, ◌+◌, ◌==◌, ◌≤◌, arith, lit≤, lit<, ◌<◌, ◌%◌, Bool, true, false, List, [], ◌∷◌, All, map, codes, refl}
 use Rattle.std.specs.Fmt.{digits}
-use Rattle.std.specs.List.{list_any}
+use Rattle.std.specs.List.{list_any, AllZip}
 use Rattle.std.proofs.lemmas.Bool.{true≢false, cond_both}
 use Rattle.std.proofs.lemmas.List.Elements.{All-cons, All-nil, All-head, All-tail}
 use Rattle.std.proofs.lemmas.Nat.Gcd.{dvd_refl, dvd_of_mod-eq-zero, mod-eq-zero_of_dvd}
@@ -18,11 +18,12 @@ use Rattle.cache_model.specs.Play.{score, total_size}
 use Rattle.cache_model.specs.Objects.{objects_of}
 use Rattle.cache_model.specs.Intervals.{eligible_intervals, bound_of}
 use Rattle.cache_model.specs.Schedules.{load_at, flow_value, covers}
-use Rattle.cache_model.specs.Units.{cost, weight, IsUnit, IsLeastWhole}
+use Rattle.cache_model.specs.Units.{cost, weight, IsUnit, IsLeastWhole, IsLeastCommonMultiple, IsReducedWeight}
 use Rattle.cache_model.specs.Keeps.{held_before, contents_of, is_kept}
 use Rattle.cache_model.specs.Rounding.{rank, by_rank, by_start, fits_beside, FitTogether, IsRounded}
 use Rattle.cache_model.specs.Certificates.{upper_of, flow_of, flow_at, IsRecordInRange, IsCertificate, IsValid}
 use Rattle.cache_model.proofs.Keeps.{contents_of_keeps}
+use Rattle.cache_model.proofs.Units.{least_whole_is_least_common_multiple}
 use Rattle.cache_model.specs.Texts.{cert_text, report_text, text_of}
 
 abbrev object : ℕ → ℕ → Object
@@ -432,3 +433,18 @@ infinite_report : report_text (record { header = pair_header false 0; objects = 
     ∷ [])
 unfolding digits
 infinite_report = refl
+
+-- ---- the reduced weights 2 and 3 of the same, whose least common multiple 6 is that denominator
+unequal_reduced : AllZip (IsReducedWeight 1) (eligible_intervals Hits 4 unequal) (2 ∷ 3 ∷ [])
+unequal_reduced = (
+  (1, (dvd_of_mod-eq-zero 1 {n = 2} refl, dvd_refl 1, λ d p q. q), refl),
+  ((1, (dvd_of_mod-eq-zero 1 {n = 3} refl, dvd_refl 1, λ d p q. q), refl), tt),
+)
+
+unequal_positive : All (λ i. 0 < weight 1 i) (eligible_intervals Hits 4 unequal)
+unequal_positive =
+    let Positive : Interval → Type 0 = λ i. 0 < weight 1 i in
+    All-cons Positive (interval 0 2 2 1) (interval 1 3 3 1 ∷ []) (lit< tt) (All-cons Positive (interval 1 3 3 1) [] (lit< tt) (All-nil Positive))
+
+unequal_multiple : IsLeastCommonMultiple (2 ∷ 3 ∷ []) 6
+unequal_multiple = (least_whole_is_least_common_multiple (eligible_intervals Hits 4 unequal) 1 6 (2 ∷ 3 ∷ []) unequal_positive unequal_reduced).0 unequal_whole

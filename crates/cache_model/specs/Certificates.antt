@@ -33,9 +33,15 @@ pub record IsCertificate (h : Header) (records : List Record) : Type 0 where
   pub count : length records ≡ h.requests
   pub each : All IsRecordInRange records
 
+-- the record of a keep, with no price and no flow
+abbrev pub unpriced : Bool → Record
+unpriced keep = record { price = 0; keep = keep; flow = 0 }
+
+-- the price of each step
 abbrev pub prices_of : List Record → List ℕ
 prices_of records = map (λ r. r.price) records
 
+-- the keep of each request
 abbrev pub keeps_of : List Record → List Bool
 keeps_of records = map (λ r. r.keep) records
 
@@ -51,6 +57,7 @@ flows_of intervals records = map (λ i. flow_at records i.start) intervals
 abbrev pub eligible_of : List Object → Header → List Interval
 eligible_of trace h = eligible_intervals h.objective h.capacity trace
 
+-- the capacity in units, rounded down
 abbrev pub units_of : Header → ℕ
 units_of h = h.capacity / h.unit
 
@@ -62,7 +69,7 @@ upper_of trace h records = bound_of (eligible_of trace h) h.unit (units_of h) h.
 abbrev pub flow_of : List Object → Header → List Record → ℕ
 flow_of trace h records = flow_value (eligible_of trace h) h.unit h.denominator (flows_of (eligible_of trace h) records)
 
--- the certificate's numbers are in range and are what the trace gives
+-- the keeps are an allowed play, the flows a fractional schedule, and the header has their score, their value and the bound of the prices
 pub record IsValid (trace : List Object) (h : Header) (records : List Record) : Type 0 where
   pub certificate : IsCertificate h records
   pub requests : h.requests ≡ length trace
@@ -78,15 +85,15 @@ pub record IsValid (trace : List Object) (h : Header) (records : List Record) : 
   pub whole_costs : IsTrue h.exact → HasWholeCosts (eligible_of trace h) h.unit h.denominator
   pub exact_values : IsTrue h.exact → h.upper ≡ h.flow
 
--- no play of the trace within the header's capacity scores more than the printed upper bound, nor than its floor
+-- no play within the capacity scores more than the upper bound, nor than its floor
 pub record BoundsEveryPlay (trace : List Object) (h : Header) : Type 0 where
-  pub some_denominator : 0 < h.denominator
+  pub denominator_positive : 0 < h.denominator
   pub no_play_scores_more : (contents : List (List Object)) → IsAllowed h.capacity trace contents
       → h.denominator * score h.objective trace contents ≤ h.upper
   pub no_play_passes_the_floor : (contents : List (List Object)) → IsAllowed h.capacity trace contents
       → score h.objective trace contents ≤ h.upper / h.denominator
 
--- no list of prices over any denominator gives a smaller bound than the certificate's
+-- no prices over any denominator give a smaller bound than the records' prices
 abbrev pub IsLeastOverAll : List Object → Header → List Record → Type 0
 IsLeastOverAll trace h records = (e : ℕ) (prices : List ℕ) → length prices ≡ length trace
     → e * upper_of trace h records ≤ h.denominator * bound_of (eligible_of trace h) h.unit (units_of h) e prices

@@ -1,5 +1,5 @@
 -- Eligible intervals, and the bound of a list of prices.
-use Rattle.std.specs.Prelude.{ℕ, ◌+◌, ◌-◌, ◌*◌, ◌/◌, Bool, not, ◌&&◌, nat_lt, nat_le, List, length, map, slice_range, filter, flat_map, sum, sum_by}
+use Rattle.std.specs.Prelude.{ℕ, ◌+◌, ◌-◌, ◌*◌, ◌/◌, Bool, not, ◌&&◌, nat_lt, nat_le, List, map, slice_range, filter, flat_map, sum, sum_by}
 use Rattle.std.specs.List.{list_any}
 use Rattle.cache_model.specs.declared.objects.Object.{Object}
 use Rattle.cache_model.specs.declared.objects.Objective.{Objective}
@@ -7,7 +7,7 @@ use Rattle.cache_model.specs.declared.intervals.Interval.{Interval}
 use Rattle.cache_model.specs.Play.{same_object, gain_of}
 use Rattle.cache_model.specs.Objects.{request_at, numbers_of}
 
--- requests a and b are of one object that fits, and no request between them is of it
+-- request a comes before request b, both are of one object that fits, and no request between them is of it
 abbrev pub is_eligible : ℕ → List Object → ℕ → ℕ → Bool
 is_eligible capacity trace a b =
     let x = request_at trace a in
@@ -18,7 +18,7 @@ abbrev pub interval_of : Objective → List Object → ℕ → ℕ → Interval
 interval_of objective trace a b =
     record { start = a; end = b; size = (request_at trace a).size; gain = gain_of objective (request_at trace b) }
 
--- the eligible intervals that start at request a, among all requests b
+-- the eligible intervals that start at request a
 abbrev pub eligible_from : Objective → ℕ → List Object → ℕ → List Interval
 eligible_from objective capacity trace a = map (interval_of objective trace a) (filter (is_eligible capacity trace a) (numbers_of trace))
 
@@ -26,7 +26,7 @@ eligible_from objective capacity trace a = map (interval_of objective trace a) (
 abbrev pub eligible_intervals : Objective → ℕ → List Object → List Interval
 eligible_intervals objective capacity trace = flat_map (eligible_from objective capacity trace) (numbers_of trace)
 
--- how far the interval's gain, over the denominator, passes the price of its room, and 0 where it doesn't
+-- the gain times the denominator, less the weight times the prices of the steps covered, and 0 where that is negative
 abbrev pub surplus : ℕ → ℕ → List ℕ → Interval → ℕ
 surplus unit denominator prices i =
     denominator * i.gain - (i.size / unit) * sum (slice_range prices i.start i.end)

@@ -5,18 +5,19 @@ use Rattle.cache_model.specs.declared.objects.Object.{Object}
 use Rattle.cache_model.specs.Play.{same_object}
 use Rattle.cache_model.specs.Objects.{request_at}
 
+-- whether request t is kept
 abbrev pub is_kept : List Bool → ℕ → Bool
 is_kept keeps t = slice_index_or keeps t false
 
--- none of the requests after a and before t is of its object
+-- no request after a and before t is of the object of request a
 abbrev pub is_latest : List Object → ℕ → ℕ → Bool
 is_latest trace t a = not (list_any (same_object (request_at trace a)) (slice_range trace (a + 1) t))
 
--- the sum over the latest request before t of each object
+-- the amounts of the latest request before t of each object, summed
 abbrev pub latest_sum : List Object → (ℕ → ℕ) → ℕ → ℕ
 latest_sum trace amount t = sum_by (λ a. if is_latest trace t a then amount a else 0) (range_with_len 0 t)
 
--- request a is kept, and none after it and before t is of its object
+-- request a is kept, and no request after it and before t is of its object
 abbrev pub is_held : List Object → List Bool → ℕ → ℕ → Bool
 is_held trace keeps t a = is_kept keeps a && is_latest trace t a
 

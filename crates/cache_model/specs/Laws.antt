@@ -1,5 +1,5 @@
--- What is proved of the definitions themselves, each a law that a function below carries.
-use Rattle.std.specs.Prelude.{if◌then◌else◌, nat_le, sum_by, map, [], ◌∷◌, ◌++◌, ◌≡◌, ◌↔◌, ℕ, ◌+◌, ◌*◌, ◌<◌, ◌≤◌, ◌==◌, Bool, false, IsTrue, List, length, Contains, AllPairs}
+-- The laws of the definitions, each the contract of a function.
+use Rattle.std.specs.Prelude.{if◌then◌else◌, nat_le, sum_by, map, [], ◌∷◌, ◌++◌, ◌≡◌, ◌↔◌, ℕ, ◌+◌, ◌*◌, ◌<◌, ◌≤◌, ◌==◌, Bool, false, IsTrue, List, length, Contains, All, AllPairs}
 use Rattle.cache_model.specs.declared.objects.Object.{Object}
 use Rattle.cache_model.specs.declared.objects.Objective.{Objective}
 use Rattle.cache_model.specs.declared.intervals.Interval.{Interval}
@@ -11,40 +11,42 @@ use Rattle.cache_model.specs.Play.{IsAllowed, total_size}
 use Rattle.cache_model.specs.Objects.{IsLatest, IsNew}
 use Rattle.cache_model.specs.Intervals.{interval_of, eligible_intervals, bound_of}
 use Rattle.cache_model.specs.Objects.{request_at, IsNext}
-use Rattle.std.specs.List.{list_any}
+use Rattle.std.specs.List.{list_any, AllZip}
 use Rattle.cache_model.specs.Keeps.{latest_sum, held_before, contents_of, is_kept}
 use Rattle.cache_model.specs.Schedules.{load_at, IsFractionalSchedule, flow_value}
+use Rattle.cache_model.specs.Units.{weight, IsUnit, IsLeastWhole, IsLeastCommonMultiple, IsReducedWeight}
 use Rattle.cache_model.specs.Rounding.{IsRounded, IsMaximal, taken_load}
 
 -- two requests of one object that fits, with no request of it between them
 pub record IsEligible (objective : Objective) (capacity : ℕ) (trace : List Object) (i : Interval) : Type 0 where
   pub next : IsNext trace i.start i.end
   pub fits : (request_at trace i.start).size ≤ capacity
-  pub told : i ≡ interval_of objective trace i.start i.end
+  pub numbers : i ≡ interval_of objective trace i.start i.end
 
 -- the list has all and only the eligible intervals, in order of start
 pub record EligibleIntervals (objective : Objective) (capacity : ℕ) (trace : List Object) : Type 0 where
   pub all_and_only : (i : Interval) → Contains (eligible_intervals objective capacity trace) i ↔ IsEligible objective capacity trace i
   pub in_order : AllPairs (λ i j. i.start < j.start) (eligible_intervals objective capacity trace)
 
+-- what is said above holds of every trace
 abbrev pub IntervalsAreEligible : Type 0
 IntervalsAreEligible = (objective : Objective) (capacity : ℕ) (trace : List Object) → EligibleIntervals objective capacity trace
 
--- keeps whose contents fit are allowed
+-- where the contents of keeps fit, they are an allowed play
 abbrev pub KeepsAreAllowed : Type 0
 KeepsAreAllowed =
     (trace : List Object) (capacity : ℕ) (keeps : List Bool)
     → ((t : ℕ) → t ≤ length trace → total_size (held_before trace keeps t) ≤ capacity)
     → IsAllowed capacity trace (contents_of trace keeps)
 
--- over any two denominators, flows are worth at most the bound of any prices
+-- a fractional schedule is worth at most the bound of any prices, whatever the two denominators
 abbrev pub FlowsAreBelowPrices : Type 0
 FlowsAreBelowPrices =
     (intervals : List Interval) (unit units d e : ℕ) (flows prices : List ℕ)
     → IsFractionalSchedule intervals unit units flows
     → e * flow_value intervals unit d flows ≤ d * bound_of intervals unit units e prices
 
--- the contents after request t hold what the intervals that are taken hold over step t
+-- where only starts of eligible intervals are kept, the sizes held after request t are those of the kept intervals over step t
 abbrev pub ContentsWeighTheirIntervals : Type 0
 ContentsWeighTheirIntervals =
     (objective : Objective) (capacity : ℕ) (trace : List Object) (keeps : List Bool) (t : ℕ)
@@ -52,6 +54,7 @@ ContentsWeighTheirIntervals =
     → t < length trace
     → total_size (held_before trace keeps (t + 1)) ≡ taken_load (eligible_intervals objective capacity trace) keeps t
 
+-- rounded keeps are maximal, whatever the order
 abbrev pub RoundedIsMaximal : Type 0
 RoundedIsMaximal =
     (ahead : Interval → Interval → Bool) (intervals : List Interval) (capacity steps : ℕ) (full keeps : List Bool)
@@ -80,6 +83,7 @@ pub record LatestSumGrows (trace : List Object) (x : Object) (amount : ℕ → �
   pub again : (a : ℕ) → IsLatest trace x a
       → latest_sum (trace ++ x ∷ []) amount (length trace + 1) + amount a ≡ latest_sum trace amount (length trace) + amount (length trace)
 
+-- what one more request adds to a sum over the intervals, and to one over the latest requests
 abbrev pub OneMoreRequest : Type 0
 OneMoreRequest =
     (objective : Objective) (capacity : ℕ) (trace : List Object) (x : Object) (of_interval : Interval → ℕ) (of_request : ℕ → ℕ)
@@ -100,3 +104,15 @@ ValidBoundsEveryPlay = (trace : List Object) (h : Header) (records : List Record
 -- a valid certificate of the form exact gives the least bound of all prices over every denominator
 abbrev pub ExactIsLeast : Type 0
 ExactIsLeast = (trace : List Object) (h : Header) (records : List Record) → IsValid trace h records → IsTrue h.exact → IsLeastOverAll trace h records
+
+-- the same intervals have one unit only
+abbrev pub UnitIsOneNumber : Type 0
+UnitIsOneNumber = (intervals : List Interval) (u v : ℕ) → IsUnit intervals u → IsUnit intervals v → u ≡ v
+
+-- the least denominator at which no cost is rounded is the least common multiple of the reduced weights
+abbrev pub LeastWholeIsLeastCommonMultiple : Type 0
+LeastWholeIsLeastCommonMultiple =
+    (intervals : List Interval) (unit denominator : ℕ) (reduced : List ℕ)
+    → All (λ i. 0 < weight unit i) intervals
+    → AllZip (IsReducedWeight unit) intervals reduced
+    → IsLeastWhole intervals unit denominator ↔ IsLeastCommonMultiple reduced denominator

@@ -5,6 +5,7 @@ use Rattle.cache_model.specs.declared.objects.Objective.{Objective}
 use Rattle.cache_model.specs.Play.{IsAllowed, score}
 use Rattle.cache_model.specs.Intervals.{eligible_intervals, bound_of}
 
+-- over the denominator, no allowed contents score more than the priced bound
 abbrev pub NoPlayScoresMore : Type 0
 NoPlayScoresMore =
     (objective : Objective) (capacity unit denominator : ℕ) (trace : List Object) (prices : List ℕ) (contents : List (List Object))

@@ -1,5 +1,5 @@
 -- The objects of a trace, and which requests are of one object.
-use Rattle.std.specs.Prelude.{◌≡◌, ℕ, ◌+◌, ◌<◌, Bool, false, IsTrue, not, List, length, map, take, slice_index_or, filter}
+use Rattle.std.specs.Prelude.{◌≡◌, ℕ, ◌<◌, Bool, false, IsTrue, not, List, length, map, take, slice_index_or, filter}
 use Rattle.std.specs.List.{list_any, range_with_len}
 use Rattle.cache_model.specs.declared.objects.Object.{Object}
 use Rattle.cache_model.specs.Play.{same_object}
@@ -8,6 +8,7 @@ use Rattle.cache_model.specs.Play.{same_object}
 abbrev pub no_object : Object
 no_object = record { volume = 0; id = 0; size = 0 }
 
+-- the object of request t
 abbrev pub request_at : List Object → ℕ → Object
 request_at trace t = slice_index_or trace t no_object
 
@@ -38,12 +39,12 @@ is_first trace t = not (list_any (same_object (request_at trace t)) (take t trac
 abbrev pub objects_of : List Object → List Object
 objects_of trace = map (request_at trace) (filter (is_first trace) (numbers_of trace))
 
--- a is the latest request of the object x, of which one more comes
+-- request a is the last of the trace that is of x
 pub record IsLatest (trace : List Object) (x : Object) (a : ℕ) : Type 0 where
   pub within : a < length trace
   pub same : IsTrue (same_object x (request_at trace a))
   pub others : (k : ℕ) → a < k → k < length trace → same_object x (request_at trace k) ≡ false
 
--- no request is of the object x
+-- no request of the trace is of x
 abbrev pub IsNew : List Object → Object → Type 0
 IsNew trace x = (k : ℕ) → k < length trace → same_object x (request_at trace k) ≡ false

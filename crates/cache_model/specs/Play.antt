@@ -14,6 +14,7 @@ abbrev pub gain_of : Objective → Object → ℕ
 gain_of Hits x = 1
 gain_of Bytes x = x.size
 
+-- the sizes of the objects, summed
 abbrev pub total_size : List Object → ℕ
 total_size objects = sum_by (λ x. x.size) objects
 

@@ -8,7 +8,7 @@ use Rattle.cache_model.specs.Units.{weight}
 abbrev pub covers : ℕ → Interval → Bool
 covers t i = nat_le i.start t && nat_lt t i.end
 
--- what the intervals over step t sum to
+-- the amounts of the intervals over step t, summed
 abbrev pub load_at : List Interval → List ℕ → ℕ → ℕ
 load_at intervals amounts t = sum_by (λ (i, amount). if covers t i then amount else 0) (zip intervals amounts)
 
@@ -17,7 +17,7 @@ pub record IsFractionalSchedule (intervals : List Interval) (unit units : ℕ) (
   pub within_weights : AllZip (λ i f. f ≤ weight unit i) intervals flows
   pub within_units : (t : ℕ) → load_at intervals flows t ≤ units
 
--- the numerator of what the flows of a fractional schedule are worth
+-- the value of the flows, over the denominator, each unit's gain rounded down
 abbrev pub flow_value : List Interval → ℕ → ℕ → List ℕ → ℕ
 flow_value intervals unit denominator flows =
     sum_by (λ (i, f). (denominator * i.gain / weight unit i) * f) (zip intervals flows)

@@ -1,6 +1,5 @@
 -- Units: sizes as weights, costs, and the denominators at which no cost is rounded.
 use Rattle.std.specs.Prelude.{◌≡◌, ◌≢◌, ℕ, ◌*◌, ◌/◌, ◌<◌, List, [], All}
-use Rattle.std.specs.List.{AllZip}
 use Rattle.std.specs.Int.{IsGcd, div_ceil}
 use Prim.Native.Nat.{◌∣◌}
 use Rattle.cache_model.specs.declared.intervals.Interval.{Interval}
@@ -11,10 +10,11 @@ pub record IsUnit (intervals : List Interval) (u : ℕ) : Type 0 where
   pub divides : All (λ i. u ∣ i.size) intervals
   pub greatest : intervals ≢ [] → (v : ℕ) → All (λ i. v ∣ i.size) intervals → v ∣ u
 
+-- the size of an interval in units, rounded down
 abbrev pub weight : ℕ → Interval → ℕ
 weight unit i = i.size / unit
 
--- what a unit of the interval's flow earns
+-- the gain of one unit of weight, over the denominator, rounded up
 abbrev pub cost : ℕ → ℕ → Interval → ℕ
 cost unit denominator i = div_ceil (denominator * i.gain) (weight unit i)
 
@@ -22,7 +22,7 @@ cost unit denominator i = div_ceil (denominator * i.gain) (weight unit i)
 abbrev pub HasWholeCosts : List Interval → ℕ → ℕ → Type 0
 HasWholeCosts intervals unit denominator = All (λ i. weight unit i ∣ denominator * i.gain) intervals
 
--- the denominator at which no cost is rounded that divides every other such denominator
+-- no cost is rounded at the denominator, and it divides every other one where none is
 pub record IsLeastWhole (intervals : List Interval) (unit denominator : ℕ) : Type 0 where
   pub positive : 0 < denominator
   pub whole : HasWholeCosts intervals unit denominator

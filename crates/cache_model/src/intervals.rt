@@ -1,7 +1,7 @@
 //! Intervals between two successive requests of one object.
 
 /// Two requests of one object with no other request of it between them. It covers the steps from `start` to
-/// the one before `end`. The size and, in bytes or hits, the gain of the hit at `end`.
+/// the one before `end`. The size is in bytes; the gain is that of the hit at `end`, in hits or bytes.
 #[derive(Clone, Copy, Debug, PartialEq, Eq)]
 pub struct Interval {
     pub start: u32,

@@ -1,5 +1,5 @@
 //! What is proved of the definitions: each law is the contract of a function that does nothing.
-ghost use Rattle.cache_model.specs.Laws.{ContentsWeighTheirIntervals, ExactIsLeast, FlowsAreBelowPrices, IntervalsAreEligible, KeepsAreAllowed, LoadIsLatestSum, OneMoreRequest, OneReading, RoundedIsMaximal, ValidBoundsEveryPlay};
+ghost use Rattle.cache_model.specs.Laws.{ContentsWeighTheirIntervals, ExactIsLeast, FlowsAreBelowPrices, IntervalsAreEligible, KeepsAreAllowed, LeastWholeIsLeastCommonMultiple, LoadIsLatestSum, OneMoreRequest, OneReading, RoundedIsMaximal, UnitIsOneNumber, ValidBoundsEveryPlay};
 ghost use Rattle.cache_model.specs.NoPlayScoresMore.{NoPlayScoresMore};
 
 /// No contents that the rules allow score more than the bound of any prices.
@@ -55,4 +55,14 @@ pub fn valid_bounds_every_play()
 /// A valid certificate of the form exact gives the least bound of all prices.
 pub fn exact_is_least()
     ensures { ExactIsLeast }
+{}
+
+/// The unit of a list of intervals is one number.
+pub fn unit_is_one_number()
+    ensures { UnitIsOneNumber }
+{}
+
+/// The least denominator at which no cost is rounded is the least common multiple of the reduced weights.
+pub fn least_whole_is_least_common_multiple()
+    ensures { LeastWholeIsLeastCommonMultiple }
 {}

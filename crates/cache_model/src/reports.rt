@@ -1,22 +1,28 @@
 //! What a report of bounds states.
 use crate::certificates::Header;
 
-/// How a solve is cut.
+/// Into which windows the steps are cut before they are solved.
 #[derive(Clone, Copy, Debug, PartialEq, Eq)]
 pub enum Window {
+    /// One window of all steps.
     All,
+    /// Windows of so many steps.
     Steps(u32),
 }
 
 /// Where the prices come from.
 #[derive(Clone, Copy, Debug, PartialEq, Eq)]
 pub enum Mode {
+    /// From a flow of least cost, in one window or in several.
     Flow { window: Window },
+    /// One price for all steps but the last.
     Constant,
+    /// Every price is 0, as in a cache that holds all that fits.
     Infinite,
 }
 
-/// What a report of bounds states.
+/// What a report of bounds states: the header of the certificate, how many different objects and eligible
+/// intervals there are and how many requests were dropped, and the price, which is 0 but in the constant mode.
 #[derive(Clone, Copy, Debug, PartialEq, Eq)]
 pub struct BoundFacts {
     pub header: Header,

@@ -1,0 +1,8 @@
+pub mod Words
+pub mod Reading
+pub mod Refusals
+pub mod Statuses
+pub mod Made
+pub mod Sizes
+pub mod Run
+pub mod Parts

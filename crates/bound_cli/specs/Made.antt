@@ -1,0 +1,40 @@
+-- What bounds makes of a trace: the certificate and the report.
+use Rattle.std.specs.Prelude.{◌≡◌, ℕ, Bool, false, List, length, map, replicate, Ok}
+use Rattle.cache_model.specs.declared.objects.Object.{Object}
+use Rattle.cache_model.specs.declared.objects.Objective.TheVariants.{Object as Hits}
+use Rattle.cache_model.specs.declared.certificates.Header.{Header}
+use Rattle.cache_model.specs.declared.certificates.Record.{Record}
+use Rattle.cache_model.specs.declared.reports.Mode.TheVariants.{Infinite}
+use Rattle.cache_model.specs.declared.reports.BoundFacts.{BoundFacts}
+use Rattle.cache_model.specs.Objects.{objects_of}
+use Rattle.cache_model.specs.Units.{IsUnit}
+use Rattle.cache_model.specs.Certificates.{unpriced, eligible_of, IsValid, BoundsEveryPlay}
+use Rattle.cache_model.specs.Texts.{cert_text, report_text}
+use Rattle.bound_cli.specs.Reading.{reading}
+
+-- one record for each request, without price, flow or keep
+abbrev pub empty_records : List Object → List Record
+empty_records trace = map unpriced (replicate (length trace) false)
+
+-- a valid certificate of the trace in hits, with the greatest unit, over 1, without prices, flows or keeps
+pub record IsMade (capacity : ℕ) (trace : List Object) (h : Header) (records : List Record) : Type 0 where
+  pub valid : IsValid trace h records
+  pub of_capacity : h.capacity ≡ capacity
+  pub of_objective : h.objective ≡ Hits
+  pub unit : IsUnit (eligible_of trace h) h.unit
+  pub denominator : h.denominator ≡ 1
+  pub plain : h.exact ≡ false
+  pub empty : records ≡ empty_records trace
+  pub bounds : BoundsEveryPlay trace h
+
+-- what the report states beside the header
+abbrev pub facts_of : List Object → Header → BoundFacts
+facts_of trace h = record { header = h; objects = length (objects_of trace); dropped = 0; mode = Infinite; price = 0; intervals = length (eligible_of trace h) }
+
+-- the certificate and the report are the texts of what is made of the trace
+pub record AreTexts (capacity : ℕ) (trace : List Object) (cert report : List ℕ) : Type 0 where
+  pub header : Header
+  pub records : List Record
+  pub made : IsMade capacity trace header records
+  pub cert_is : cert ≡ cert_text header records
+  pub report_is : report ≡ report_text (facts_of trace header)

@@ -1,0 +1,74 @@
+//! Eligible intervals, and their unit.
+ghost use Rattle.std.specs.Prelude.{◌≡◌, ◌<◌, ◌≤◌, ◌^◌, ◌∷◌, [], length, All, IfOk, MatchOption};
+ghost use Rattle.cache_model.specs.Intervals.{eligible_from, eligible_intervals};
+ghost use Rattle.cache_model.specs.Play.{gain_of};
+ghost use Rattle.cache_model.specs.Units.{IsUnit};
+ghost use Rattle.bound_cli.specs.Sizes.{IsSizeWithin};
+
+use bound_base::{NoMemory, gcd};
+use cache_model::Interval;
+use cache_rules::{Object, Objective, Trace};
+use std::alloc::Global;
+
+fn gain(objective: Objective, object: &Object) -> u64
+    ensures { result ≡ gain_of objective object.now }
+{
+    match objective {
+        Objective::Object => 1,
+        Objective::Bytes => object.size,
+    }
+}
+
+// The eligible interval that starts at a request.
+fn starting(trace: &Trace, t: u32, capacity: u64, objective: Objective) -> Option<Interval>
+    requires { t < length trace.now }
+    ensures { MatchOption result (eligible_from objective capacity trace.now t ≡ [])
+        (λ i. (eligible_from objective capacity trace.now t ≡ i ∷ []) × IsSizeWithin capacity i) }
+{
+    let object = trace.object(trace.request(t));
+    if capacity < object.size {
+        return None;
+    }
+    match trace.next(t) {
+        Some(end) => Some(Interval {
+            start: t,
+            end,
+            size: object.size,
+            gain: gain(objective, &object),
+        }),
+        None => None,
+    }
+}
+
+/// The eligible intervals, in order of start. Takes time in the number of requests.
+pub fn make(
+    alloc: Global,
+    trace: &Trace,
+    capacity: u64,
+    objective: Objective,
+) -> Result<Vec<Interval>, NoMemory>
+    ensures intervals { IfOk result (λ v. v.items ≡ eligible_intervals objective capacity trace.now) }
+    ensures sizes { IfOk result (λ v. All (IsSizeWithin capacity) v.items) }
+{
+    let mut intervals = Vec::new(alloc);
+    for t in 0..trace.len() {
+        match starting(trace, t, capacity, objective) {
+            Some(interval) => intervals.push(interval)?,
+            None => {}
+        }
+    }
+    Ok(intervals)
+}
+
+/// The greatest common divisor of the sizes, and 1 where there is none.
+pub fn unit_of(intervals: &[Interval]) -> u64
+    requires { All (λ i. 1 ≤ i.size) intervals.now }
+    ensures unit { IsUnit intervals.now result }
+    ensures positive { 1 ≤ result }
+{
+    let mut unit = 0;
+    for interval in intervals {
+        unit = gcd(unit, interval.size);
+    }
+    if unit == 0 { 1 } else { unit }
+}

@@ -1,0 +1,62 @@
+//! Bounds on the hits of offline caching, with certificates.
+//!
+//! The words, the files and the texts are described in README.md, and the rules in docs/DEFINITIONS.md.
+#![tactic(auto)]
+
+use bound_io::{FileSink, FileSource};
+use status::Status;
+use std::alloc::Global;
+use std::env;
+use std::process::ExitCode;
+use std::rt::{Env, Files};
+use words::paths_of;
+
+mod bounds;
+mod certificate;
+mod intervals;
+mod reading;
+mod refusal;
+mod report;
+mod status;
+mod text;
+mod top;
+mod words;
+
+// The exit status where the system doesn't give the words of the command line.
+const NO_WORDS: u8 = 11;
+
+// Makes the real sources and sinks, and runs.
+fn run_files<R: Files + Input + Print>(rt: &R, alloc: Global, words: &[String]) -> Status {
+    let paths = paths_of(words);
+    let Ok(mut trace) = FileSource::new(rt, alloc, paths.trace) else {
+        return Status::NoMemory;
+    };
+    let Ok(mut cert) = FileSource::new(rt, alloc, paths.cert) else {
+        return Status::NoMemory;
+    };
+    let Ok(mut report) = FileSink::new(rt, alloc, "-") else {
+        return Status::NoMemory;
+    };
+    let Ok(mut made) = FileSink::new(rt, alloc, paths.made) else {
+        return Status::NoMemory;
+    };
+    top::run(alloc, words, &mut trace, &mut cert, &mut report, &mut made)
+}
+
+// The exit status of a run with the words after the program's name.
+fn run_words<R: Files + Input + Print + Env>(rt: &R, alloc: Global) -> u8 {
+    let Ok(words) = env::args(rt) else {
+        return NO_WORDS;
+    };
+    match words.skip(1).collect(alloc) {
+        Ok(words) => run_files(rt, alloc, &words).code(),
+        Err(_) => Status::NoMemory.code(),
+    }
+}
+
+fn main(rt: HostRuntime) -> ExitCode {
+    ExitCode::from(run_words(&rt, rt.alloc()))
+}
+
+#[cfg(test)]
+mod tests;

@@ -1,0 +1,124 @@
+//! The text of a report of bounds.
+ghost use Rattle.std.specs.Prelude.{◌≡◌, ◌<◌, ◌++◌, OnOk, IfOk};
+ghost use Rattle.cache_model.specs.Texts.{capacity_line, entry, line, flow_line, mode_line, ratio, report_text, trace_line, unit_line, upper_line, window_word};
+
+use crate::certificate::{word_of_form, word_of_objective};
+use crate::text::{push, push_entry, push_entry_line, push_line, push_number};
+use bound_base::NoMemory;
+use cache_model::{BoundFacts, Header, Mode, Objective, Window};
+use std::alloc::Global;
+
+fn push_trace_line(
+    text: &mut Vec<u8>,
+    requests: u32,
+    objects: u32,
+    dropped: u64,
+) -> Result<(), NoMemory>
+    ensures { OnOk result (text.new.items ≡ text.old.items ++ line (trace_line requests objects dropped)) }
+{
+    push_entry(text, b"trace requests", requests as u128)?;
+    push_entry(text, b" objects", objects as u128)?;
+    push_entry_line(text, b" dropped", dropped as u128)
+}
+
+fn push_capacity_line(
+    text: &mut Vec<u8>,
+    capacity: u64,
+    objective: Objective,
+) -> Result<(), NoMemory>
+    ensures { OnOk result (text.new.items ≡ text.old.items ++ line (capacity_line capacity objective)) }
+{
+    push_entry(text, b"capacity", capacity as u128)?;
+    push(text, b" objective ")?;
+    push_line(text, word_of_objective(objective))
+}
+
+fn push_window(text: &mut Vec<u8>, window: Window) -> Result<(), NoMemory>
+    ensures { OnOk result (text.new.items ≡ text.old.items ++ window_word window) }
+{
+    match window {
+        Window::All => push(text, b"all"),
+        Window::Steps(width) => push_number(text, width as u128),
+    }
+}
+
+fn push_mode_line(
+    text: &mut Vec<u8>,
+    mode: Mode,
+    price: u128,
+    exact: bool,
+) -> Result<(), NoMemory>
+    ensures { OnOk result (text.new.items ≡ text.old.items ++ line (mode_line mode price exact)) }
+{
+    match mode {
+        Mode::Flow { window } => {
+            push(text, b"mode flow window ")?;
+            push_window(text, window)?;
+            push(text, b" form ")?;
+            push_line(text, word_of_form(exact))
+        }
+        Mode::Constant => {
+            push_entry(text, b"mode constant price", price)?;
+            push_line(text, b" form plain")?;
+            Ok(())
+        }
+        Mode::Infinite => push_line(text, b"mode infinite form plain"),
+    }
+}
+
+fn push_unit_line(text: &mut Vec<u8>, header: &Header) -> Result<(), NoMemory>
+    requires { 0 < header.now.unit }
+    ensures { OnOk result (text.new.items ≡ text.old.items ++ line (unit_line header.now)) }
+{
+    push_entry(text, b"unit", header.unit as u128)?;
+    push_entry(text, b" units", (header.capacity / header.unit) as u128)?;
+    push_entry_line(text, b" denominator", header.denominator as u128)
+}
+
+// A value over the denominator.
+fn push_ratio(
+    text: &mut Vec<u8>,
+    word: &[u8],
+    value: u128,
+    denominator: u64,
+) -> Result<(), NoMemory>
+    ensures { OnOk result (text.new.items ≡ text.old.items ++ ratio word.now value denominator) }
+{
+    push_entry(text, word, value)?;
+    push(text, b"/")?;
+    push_number(text, denominator as u128)
+}
+
+fn push_upper_line(text: &mut Vec<u8>, header: &Header) -> Result<(), NoMemory>
+    requires { 0 < header.now.denominator }
+    ensures { OnOk result (text.new.items ≡ text.old.items ++ line (upper_line header.now)) }
+{
+    push_ratio(text, b"upper", header.upper, header.denominator)?;
+    push_entry_line(text, b" floor", header.upper / header.denominator as u128)
+}
+
+fn push_flow_line(text: &mut Vec<u8>, header: &Header) -> Result<(), NoMemory>
+    ensures { OnOk result (text.new.items ≡ text.old.items ++ line (flow_line header.now)) }
+{
+    push_ratio(text, b"flow", header.flow, header.denominator)?;
+    push_line(text, b"")
+}
+
+/// The report of bounds.
+pub fn report_text(alloc: Global, facts: &BoundFacts) -> Result<Vec<u8>, NoMemory>
+    requires unit { 0 < facts.now.header.unit }
+    requires denominator { 0 < facts.now.header.denominator }
+    ensures { IfOk result (λ text. text.items ≡ report_text facts.now) }
+{
+    let header = &facts.header;
+    let mut text = Vec::new(alloc);
+    push_trace_line(&mut text, header.requests, facts.objects, facts.dropped)?;
+    push_capacity_line(&mut text, header.capacity, header.objective)?;
+    push_mode_line(&mut text, facts.mode, facts.price, header.exact)?;
+    push_unit_line(&mut text, header)?;
+    push_entry_line(&mut text, b"intervals", facts.intervals as u128)?;
+    push_upper_line(&mut text, header)?;
+    push_flow_line(&mut text, header)?;
+    push_entry_line(&mut text, b"lower", header.lower)?;
+    Ok(text)
+}

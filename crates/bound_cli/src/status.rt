@@ -1,0 +1,60 @@
+//! How a run ends.
+ghost use Rattle.std.specs.Prelude.{◌≡◌};
+ghost use Rattle.bound_cli.specs.Statuses.{code_of};
+
+use crate::refusal::Refusal;
+use crate::words::WordFault;
+use trace_webcache::LineKind;
+
+/// How a run ends, each with the exit status of the program.
+#[derive(Clone, Copy, Debug, PartialEq, Eq)]
+pub enum Status {
+    /// All was read to its end, and written.
+    Done,
+    /// A word of the command line is refused.
+    Words(WordFault),
+    /// A line of the trace is refused. Lines count from 1.
+    BadLine { line: u64, kind: LineKind },
+    /// A read of the trace failed.
+    TraceFault,
+    /// A write of the report failed.
+    ReportFault,
+    /// A write of the certificate failed.
+    MadeFault,
+    /// There was not enough memory.
+    NoMemory,
+}
+
+impl Status {
+    /// The exit status of the program.
+    pub fn code(&self) -> u8
+        ensures { result ≡ code_of self.now }
+    {
+        match self {
+            Status::Done => 0,
+            Status::Words(_) => 2,
+            Status::BadLine { .. } => 3,
+            Status::TraceFault => 5,
+            Status::ReportFault => 7,
+            Status::MadeFault => 8,
+            Status::NoMemory => 9,
+        }
+    }
+}
+
+impl From<Refusal> for Status {
+    ghost use Rattle.std.specs.Prelude.{◌≡◌};
+    ghost use Rattle.bound_cli.specs.Statuses.{status_of};
+
+    ghost from_gives = { λ r s. s ≡ status_of r };
+
+    fn from(refusal: Refusal) -> Self {
+        match refusal {
+            Refusal::Words { place, kind } => Status::Words(WordFault { place, kind }),
+            Refusal::BadLine { line, kind } => Status::BadLine { line, kind },
+            Refusal::TraceFault => Status::TraceFault,
+            Refusal::MadeFault => Status::MadeFault,
+            Refusal::NoMemory => Status::NoMemory,
+        }
+    }
+}

@@ -1,0 +1,90 @@
+//! All that the program does, over any sources and sinks.
+ghost use Rattle.std.specs.Prelude.{◌≡◌, ◌≤◌, ◌^◌, map, string_bytes, IfOk, IfErr};
+ghost use Rattle.bound_io.specs.Devices.{Gets, device};
+ghost use Rattle.bound_cli.specs.Made.{AreTexts};
+ghost use Rattle.bound_cli.specs.Parts.{IsReady, RefusesTrace, WritesOut};
+ghost use Rattle.bound_cli.specs.Refusals.{refusal_line};
+ghost use Rattle.bound_cli.specs.Run.{Completes, Explains, devices};
+ghost use Rattle.bound_cli.specs.Statuses.{status_of};
+
+use crate::bounds::{Texts, texts_of};
+use crate::reading::load;
+use crate::refusal::{Refusal, refusal_text};
+use crate::status::Status;
+use crate::words::{Plan, plan_of};
+use bound_io::{Sink, Source, write_all};
+use std::alloc::Global;
+
+// The certificate and the report of all that the source has left.
+fn prepare<T: Source>(alloc: Global, capacity: u64, trace: &mut T) -> Result<Texts, Refusal>
+    requires capacity { (1 ≤ capacity) × (capacity ≤ 2 ^ 56) }
+    ensures ready { IfOk result (λ texts. IsReady capacity (device (T.left trace.old) (T.left trace.new) (T.faults trace.old) (T.faults trace.new)) texts.cert.items texts.report.items) }
+    ensures refused { IfErr result (RefusesTrace (device (T.left trace.old) (T.left trace.new) (T.faults trace.old) (T.faults trace.new))) }
+{
+    let requests = load(alloc, trace)?;
+    Ok(texts_of(alloc, capacity, &requests)?)
+}
+
+// Writes the line that tells why the run stopped, as far as the report takes it.
+fn refuse<R: Sink>(report: &mut R, refusal: Refusal) -> Status
+    ensures status { result ≡ status_of refusal }
+    ensures told { Gets (device (R.written report.old) (R.written report.new) (R.faults report.old) (R.faults report.new)) (refusal_line refusal) }
+{
+    let _ = write_all(report, refusal_text(&refusal).as_bytes());
+    Status::from(refusal)
+}
+
+// Writes the certificate, and then the report.
+fn write_out<R: Sink, K: Sink>(report: &mut R, made: &mut K, texts: &Texts) -> Status
+    ensures { WritesOut
+        (device (R.written report.old) (R.written report.new) (R.faults report.old) (R.faults report.new))
+        (device (K.written made.old) (K.written made.new) (K.faults made.old) (K.faults made.new))
+        texts.now.cert.items texts.now.report.items result }
+{
+    if write_all(made, &texts.cert).is_err() {
+        return refuse(report, Refusal::MadeFault);
+    }
+    if write_all(report, &texts.report).is_err() {
+        return Status::ReportFault;
+    }
+    Status::Done
+}
+
+/// Does all that the program does: reads the words and the trace, and writes the certificate and then the report.
+/// The words are those after the program's name. All memory is taken before the first byte is written.
+pub fn run<T: Source, Q: Source, R: Sink, K: Sink>(
+    alloc: Global,
+    words: &[String],
+    trace: &mut T,
+    _cert: &mut Q,
+    report: &mut R,
+    made: &mut K,
+) -> Status
+    ensures explains { Explains (map string_bytes words.now) (devices
+        (device (T.left trace.old) (T.left trace.new) (T.faults trace.old) (T.faults trace.new))
+        (device (Q.left _cert.old) (Q.left _cert.new) (Q.faults _cert.old) (Q.faults _cert.new))
+        (device (R.written report.old) (R.written report.new) (R.faults report.old) (R.faults report.new))
+        (device (K.written made.old) (K.written made.new) (K.faults made.old) (K.faults made.new))) result }
+    ensures completes { Completes (map string_bytes words.now) (devices
+        (device (T.left trace.old) (T.left trace.new) (T.faults trace.old) (T.faults trace.new))
+        (device (Q.left _cert.old) (Q.left _cert.new) (Q.faults _cert.old) (Q.faults _cert.new))
+        (device (R.written report.old) (R.written report.new) (R.faults report.old) (R.faults report.new))
+        (device (K.written made.old) (K.written made.new) (K.faults made.old) (K.faults made.new))) result }
+{
+    let Plan::Bounds { capacity } = match plan_of(words) {
+        Ok(plan) => plan,
+        Err(fault) => {
+            return refuse(
+                report,
+                Refusal::Words {
+                    place: fault.place,
+                    kind: fault.kind,
+                },
+            );
+        }
+    };
+    match prepare(alloc, capacity, trace) {
+        Ok(texts) => write_out(report, made, &texts),
+        Err(refusal) => refuse(report, refusal),
+    }
+}
