@@ -49,6 +49,7 @@ pub fn make(
 ) -> Result<Vec<Interval>, NoMemory>
     ensures intervals { IfOk result (λ v. v.items ≡ eligible_intervals objective capacity trace.now) }
     ensures sizes { IfOk result (λ v. All (IsSizeWithin capacity) v.items) }
+    ensures few { IfOk result (λ v. length v.items ≤ length trace.now) }
 {
     let mut intervals = Vec::new(alloc);
     for t in 0..trace.len() {

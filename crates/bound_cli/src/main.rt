@@ -44,18 +44,20 @@ fn run_files<R: Files + Input + Print>(rt: &R, alloc: Global, words: &[String]) 
 }
 
 // The exit status of a run with the words after the program's name.
-fn run_words<R: Files + Input + Print + Env>(rt: &R, alloc: Global) -> u8 {
+fn run_words<R: Files + Input + Print + Env + AllocGlobal>(rt: &R) -> u8 {
+    let alloc = rt.alloc();
     let Ok(words) = env::args(rt) else {
         return NO_WORDS;
     };
-    match words.skip(1).collect(alloc) {
+    let words: Result<Vec<String>, _> = words.skip(1).collect(alloc);
+    match words {
         Ok(words) => run_files(rt, alloc, &words).code(),
         Err(_) => Status::NoMemory.code(),
     }
 }
 
 fn main(rt: HostRuntime) -> ExitCode {
-    ExitCode::from(run_words(&rt, rt.alloc()))
+    ExitCode::from(run_words(&rt))
 }
 
 #[cfg(test)]

@@ -42,12 +42,7 @@ fn push_window(text: &mut Vec<u8>, window: Window) -> Result<(), NoMemory>
     }
 }
 
-fn push_mode_line(
-    text: &mut Vec<u8>,
-    mode: Mode,
-    price: u128,
-    exact: bool,
-) -> Result<(), NoMemory>
+fn push_mode_line(text: &mut Vec<u8>, mode: Mode, price: u128, exact: bool) -> Result<(), NoMemory>
     ensures { OnOk result (text.new.items ≡ text.old.items ++ line (mode_line mode price exact)) }
 {
     match mode {

@@ -11,7 +11,7 @@ use crate::bounds::{Texts, texts_of};
 use crate::reading::load;
 use crate::refusal::{Refusal, refusal_text};
 use crate::status::Status;
-use crate::words::{Plan, plan_of};
+use crate::words::plan_of;
 use bound_io::{Sink, Source, write_all};
 use std::alloc::Global;
 
@@ -71,7 +71,7 @@ pub fn run<T: Source, Q: Source, R: Sink, K: Sink>(
         (device (R.written report.old) (R.written report.new) (R.faults report.old) (R.faults report.new))
         (device (K.written made.old) (K.written made.new) (K.faults made.old) (K.faults made.new))) result }
 {
-    let Plan::Bounds { capacity } = match plan_of(words) {
+    let plan = match plan_of(words) {
         Ok(plan) => plan,
         Err(fault) => {
             return refuse(
@@ -83,7 +83,7 @@ pub fn run<T: Source, Q: Source, R: Sink, K: Sink>(
             );
         }
     };
-    match prepare(alloc, capacity, trace) {
+    match prepare(alloc, plan.capacity(), trace) {
         Ok(texts) => write_out(report, made, &texts),
         Err(refusal) => refuse(report, refusal),
     }

@@ -30,6 +30,18 @@ pub enum Plan {
     Bounds { capacity: u64 },
 }
 
+impl Plan {
+    ghost use Rattle.std.specs.Prelude.{◌≡◌};
+
+    /// The capacity that the plan has, in bytes.
+    pub fn capacity(self) -> u64
+        ensures { self ≡ Plan.Bounds result }
+    {
+        let Plan::Bounds { capacity } = self;
+        capacity
+    }
+}
+
 /// The paths of a command, where `-` stands for the standard input or output and for a path that it lacks.
 #[derive(Clone, Copy, Debug, PartialEq, Eq)]
 pub struct Paths<'a> {

@@ -14,3 +14,5 @@ pub mod Latest
 pub mod Loads
 pub mod Headline
 pub mod Units
+pub mod DifferentObjects
+pub mod Unpriced

@@ -1,0 +1,7 @@
+use Rattle.bound_cli.proofs.MadeOf.{made_of}
+use Rattle.bound_cli.proofs.bounds.header_of.Goals as goal
+
+pub returns : goal.returns
+returns c =
+    made_of c.args.capacity c.args.trace.now c.args.intervals.now c.len.result c.unit_of.result c.requires.capacity.0 c.requires.capacity.1 c.requires.intervals c.requires.sizes
+    c.len.ensures.requests c.len.ensures.most c.unit_of.ensures.unit c.unit_of.ensures.positive

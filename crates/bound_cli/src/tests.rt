@@ -1,0 +1,257 @@
+//! Whole runs over sources and sinks in memory. The expected texts and numbers were made by hand.
+ghost use Rattle.std.specs.Prelude.{◌≡◌};
+
+use crate::status::Status;
+use crate::top::run;
+use crate::words::{WordFault, WordKind};
+use bound_io::{CalmSource, MemSink, MemSource};
+use std::alloc::{AllocError, Global};
+use std::process::Abort;
+use std::test::Fail;
+use trace_webcache::LineKind;
+
+const WORDS: [&str; 6] = [
+    "bounds",
+    "t",
+    "c",
+    "format=webcache",
+    "capacity=10",
+    "mode=infinite",
+];
+
+const PAIR: &[u8] = b"1 7 4\n2 7 4\n";
+
+const PAIR_CERT: &[u8] =
+    b"cache-bound-certificate 1\nobjective object\ncapacity 10\nrequests 2\nunit 4\n\
+denominator 1\nform plain\nupper 1\nflow 0\nlower 0\nrecords\n0 0 0\n0 0 0\nend\n";
+
+const PAIR_REPORT: &[u8] = b"trace requests 2 objects 1 dropped 0\ncapacity 10 objective object\n\
+mode infinite form plain\nunit 4 units 2 denominator 1\nintervals 1\nupper 1/1 floor 1\nflow 0/1\nlower 0\n";
+
+// A run, and what comes of it. A sink that is written a byte at a time has the step 1.
+struct Row {
+    shows: &'static str,
+    words: &'static [&'static str],
+    trace: &'static [u8],
+    trace_fails: &'static [u64],
+    report_fails: &'static [u64],
+    made_fails: &'static [u64],
+    status: Status,
+    report: &'static [u8],
+    made: &'static [u8],
+}
+
+const GOOD: Row = Row {
+    shows: "two requests of one object",
+    words: &WORDS,
+    trace: PAIR,
+    trace_fails: &[],
+    report_fails: &[],
+    made_fails: &[],
+    status: Status::Done,
+    report: PAIR_REPORT,
+    made: PAIR_CERT,
+};
+
+const ROWS: [Row; 14] = [
+    GOOD,
+    Row {
+        shows: "three objects in turn, of which two fit",
+        words: &[
+            "bounds",
+            "t",
+            "c",
+            "format=webcache",
+            "capacity=2",
+            "mode=infinite",
+        ],
+        trace: b"1 1 1\n2 2 1\n3 3 1\n4 1 1\n5 2 1\n6 3 1\n",
+        report: b"trace requests 6 objects 3 dropped 0\ncapacity 2 objective object\n\
+mode infinite form plain\nunit 1 units 2 denominator 1\nintervals 3\nupper 3/1 floor 3\nflow 0/1\nlower 0\n",
+        made: b"cache-bound-certificate 1\nobjective object\ncapacity 2\nrequests 6\nunit 1\n\
+denominator 1\nform plain\nupper 3\nflow 0\nlower 0\nrecords\n0 0 0\n0 0 0\n0 0 0\n0 0 0\n0 0 0\n0 0 0\nend\n",
+        ..GOOD
+    },
+    Row {
+        shows: "sizes with a common divisor, and one above the capacity",
+        trace: b"1 1 4\n2 2 6\n3 9 11\n4 2 6\n5 1 4\n6 9 11\n",
+        report: b"trace requests 6 objects 3 dropped 0\ncapacity 10 objective object\n\
+mode infinite form plain\nunit 2 units 5 denominator 1\nintervals 2\nupper 2/1 floor 2\nflow 0/1\nlower 0\n",
+        made: b"cache-bound-certificate 1\nobjective object\ncapacity 10\nrequests 6\nunit 2\n\
+denominator 1\nform plain\nupper 2\nflow 0\nlower 0\nrecords\n0 0 0\n0 0 0\n0 0 0\n0 0 0\n0 0 0\n0 0 0\nend\n",
+        ..GOOD
+    },
+    Row {
+        shows: "one id with two sizes is two objects",
+        trace: b"1 1 2\n2 1 3\n",
+        report: b"trace requests 2 objects 2 dropped 0\ncapacity 10 objective object\n\
+mode infinite form plain\nunit 1 units 10 denominator 1\nintervals 0\nupper 0/1 floor 0\nflow 0/1\nlower 0\n",
+        made: b"cache-bound-certificate 1\nobjective object\ncapacity 10\nrequests 2\nunit 1\n\
+denominator 1\nform plain\nupper 0\nflow 0\nlower 0\nrecords\n0 0 0\n0 0 0\nend\n",
+        ..GOOD
+    },
+    Row {
+        shows: "no request at all",
+        trace: b"",
+        report: b"trace requests 0 objects 0 dropped 0\ncapacity 10 objective object\n\
+mode infinite form plain\nunit 1 units 10 denominator 1\nintervals 0\nupper 0/1 floor 0\nflow 0/1\nlower 0\n",
+        made: b"cache-bound-certificate 1\nobjective object\ncapacity 10\nrequests 0\nunit 1\n\
+denominator 1\nform plain\nupper 0\nflow 0\nlower 0\nrecords\nend\n",
+        ..GOOD
+    },
+    Row {
+        shows: "a word that is no number",
+        trace: b"1 7 4\n2 x 4\n",
+        status: Status::BadLine {
+            line: 2,
+            kind: LineKind::NotYet,
+        },
+        report: b"bad line 2: form\n",
+        made: b"",
+        ..GOOD
+    },
+    Row {
+        shows: "a CR before the LF",
+        trace: b"1 7 4\r\n2 7 4",
+        status: Status::BadLine {
+            line: 1,
+            kind: LineKind::NotYet,
+        },
+        report: b"bad line 1: form\n",
+        made: b"",
+        ..GOOD
+    },
+    Row {
+        shows: "a last line without LF",
+        trace: b"1 7 4\n2 7 4",
+        status: Status::BadLine {
+            line: 2,
+            kind: LineKind::NotYet,
+        },
+        report: b"bad line 2: form\n",
+        made: b"",
+        ..GOOD
+    },
+    Row {
+        shows: "no words",
+        words: &[],
+        status: Status::Words(WordFault {
+            place: 1,
+            kind: WordKind::Missing,
+        }),
+        report: b"words: place 1: missing\n",
+        made: b"",
+        ..GOOD
+    },
+    Row {
+        shows: "a capacity is missing",
+        words: &["bounds", "t", "c", "format=webcache"],
+        status: Status::Words(WordFault {
+            place: 5,
+            kind: WordKind::Missing,
+        }),
+        report: b"words: place 5: missing\n",
+        made: b"",
+        ..GOOD
+    },
+    Row {
+        shows: "a capacity of 0, before a trace that would fail",
+        words: &[
+            "bounds",
+            "t",
+            "c",
+            "format=webcache",
+            "capacity=0",
+            "mode=infinite",
+        ],
+        trace_fails: &[1],
+        status: Status::Words(WordFault {
+            place: 5,
+            kind: WordKind::BadValue,
+        }),
+        report: b"words: place 5: bad value\n",
+        made: b"",
+        ..GOOD
+    },
+    Row {
+        shows: "the second read fails",
+        trace_fails: &[2],
+        status: Status::TraceFault,
+        report: b"trace fault\n",
+        made: b"",
+        ..GOOD
+    },
+    Row {
+        shows: "the first write of the report fails",
+        report_fails: &[1],
+        status: Status::ReportFault,
+        report: b"",
+        ..GOOD
+    },
+    Row {
+        shows: "the third write of the certificate fails",
+        made_fails: &[3],
+        status: Status::MadeFault,
+        report: b"made fault\n",
+        made: b"ca",
+        ..GOOD
+    },
+];
+
+fn words_of(alloc: Global, words: &[&str]) -> Result<Vec<String>, AllocError> {
+    let mut all = Vec::new(alloc);
+    for word in words {
+        all.push(String::from_str(alloc, word)?)?;
+    }
+    Ok(all)
+}
+
+// Runs over memory, and checks the status and what the sinks got.
+fn check(rt: &impl Abort, alloc: Global, row: &Row) -> Result<(), Fail> {
+    let words = words_of(alloc, row.words)?;
+    let mut trace = MemSource::new(row.trace.to_vec(alloc)?, row.trace_fails.to_vec(alloc)?, 5);
+    let mut cert = CalmSource::new(Vec::new(alloc));
+    let mut report = MemSink::new(alloc, 4096, row.report_fails.to_vec(alloc)?, 4096)?;
+    let mut made = MemSink::new(alloc, 4096, row.made_fails.to_vec(alloc)?, 1)?;
+    let status = run(alloc, &words, &mut trace, &mut cert, &mut report, &mut made);
+    assert_eq!(rt; status, row.status, "{}", row.shows);
+    assert_eq!(rt; report.written(), row.report, "{}", row.shows);
+    assert_eq!(rt; made.written(), row.made, "{}", row.shows);
+    Ok(())
+}
+
+#[test]
+fn runs_end_as_they_should(rt: HostRuntime) -> Result<(), Fail> {
+    for row in &ROWS {
+        check(&rt, rt.alloc(), row)?;
+    }
+    Ok(())
+}
+
+// Over devices that never fail no run answers a fault of theirs.
+fn run_over_calm(
+    alloc: Global,
+    words: &[String],
+    trace: &mut CalmSource,
+    cert: &mut CalmSource,
+    report: &mut MemSink,
+    made: &mut MemSink,
+) -> Status
+    ensures { result ≡ Status.TraceFault → ⊥ }
+{
+    run(alloc, words, trace, cert, report, made)
+}
+
+#[test]
+fn a_calm_source_gives_no_fault(rt: HostRuntime) -> Result<(), Fail> {
+    let alloc = rt.alloc();
+    let words = words_of(alloc, &WORDS)?;
+    let mut trace = CalmSource::new(PAIR.to_vec(alloc)?);
+    let mut cert = CalmSource::new(Vec::new(alloc));
+    let mut report = MemSink::new(alloc, 4096, Vec::new(alloc), 7)?;
+    let mut made = MemSink::new(alloc, 4096, Vec::new(alloc), 1)?;
+    let status = run_over_calm(alloc, &words, &mut trace, &mut cert, &mut report, &mut made);
+    assert_eq!(rt; status, Status::Done);
+    assert_eq!(rt; made.written(), PAIR_CERT);
+    Ok(())
+}

@@ -1,0 +1,4 @@
+pub mod Insertion
+pub mod Pushed
+pub mod Numbers
+pub mod Appended

@@ -1,0 +1,12 @@
+//! The requests of a trace, and where each object is asked for.
+//!
+//! A builder takes the requests one by one, and the trace that it makes answers which object a request is of and where
+//! the nearest requests of that object are.
+#![tactic(auto)]
+
+mod builder;
+mod trace;
+
+pub use builder::Builder;
+pub use cache_model::{Object, Objective};
+pub use trace::Trace;

@@ -1,0 +1,166 @@
+//! A trace, by the numbers of its objects.
+ghost use Rattle.std.specs.Prelude.{◌≡◌, ◌≤◌, ◌<◌, ◌^◌, ◌++◌, [], ◌∷◌, length, Some, slice_get, slice_index_or, position, OnOk, OnErr, MatchOption};
+ghost use Rattle.std.specs.Vec.{vec_len, vec_capacity};
+ghost use Rattle.cache_model.specs.Objects.{no_object, request_at, objects_of, IsNext, IsLast, IsFirst};
+ghost use Rattle.cache_model.specs.Play.{same_object};
+ghost use Rattle.cache_rules.specs.Stored.{no_request};
+
+use bound_base::NoMemory;
+use cache_model::Object;
+use indexmap::IndexMap;
+use std::alloc::{AllocError, Global};
+use std::marker::Model;
+
+// What stands where an object has no earlier or no later request.
+const NO_REQUEST: u32 = u32::MAX;
+
+/// The requests of a trace. Requests count from 0, and so do its objects, in order of first appearance.
+///
+/// It takes 12 bytes for each request, and one entry of a hash map for each object. Each answer takes constant time.
+#[derive(Debug, Drop)]
+pub struct Trace {
+    latest: IndexMap<Object, u32>,
+    numbers: Vec<u32>,
+    previous: Vec<u32>,
+    following: Vec<u32>,
+}
+
+impl Model for Trace {
+    ghost use Rattle.std.specs.Prelude.{List};
+    ghost use Rattle.cache_model.specs.declared.objects.Object.{Object as Requested};
+
+    ghost Value = { List Requested };
+
+    ghost use Rattle.indexmap.specs.IndexMap.{keys};
+    ghost use Rattle.cache_rules.specs.Stored.{trace_of, IsStored};
+
+    ghost view = { λ s. trace_of (keys s.latest) s.numbers.items };
+
+    ghost invariant = { λ s. IsStored (trace_of (keys s.latest) s.numbers.items) s.latest.entries s.numbers.items s.previous.items s.following.items };
+}
+
+// Makes room for one more number in each list.
+fn make_room(
+    numbers: &mut Vec<u32>,
+    previous: &mut Vec<u32>,
+    following: &mut Vec<u32>,
+) -> Result<(), AllocError>
+    ensures same_numbers { numbers.new.items ≡ numbers.old.items }
+    ensures same_previous { previous.new.items ≡ previous.old.items }
+    ensures same_following { following.new.items ≡ following.old.items }
+    ensures room_of_numbers { OnOk result (vec_len numbers.new < vec_capacity numbers.new) }
+    ensures room_of_previous { OnOk result (vec_len previous.new < vec_capacity previous.new) }
+    ensures room_of_following { OnOk result (vec_len following.new < vec_capacity following.new) }
+{
+    numbers.reserve(1)?;
+    previous.reserve(1)?;
+    following.reserve(1)
+}
+
+// The request that a stored number names, if any.
+fn named_request(stored: u32) -> Option<u32>
+    ensures { MatchOption result (stored ≡ no_request) (λ t. (stored ≡ t) × (t < no_request)) }
+{
+    if stored == NO_REQUEST {
+        None
+    } else {
+        Some(stored)
+    }
+}
+
+impl Trace {
+    // A trace without requests.
+    pub(crate) fn empty(alloc: Global) -> Self
+        ensures { result ≡ [] }
+    {
+        Trace {
+            latest: IndexMap::new(alloc),
+            numbers: Vec::new(alloc),
+            previous: Vec::new(alloc),
+            following: Vec::new(alloc),
+        }
+    }
+
+    // Appends a request. All that can fail comes before the first change.
+    pub(crate) fn append(&mut self, object: Object) -> Result<(), NoMemory>
+        requires few { length self.old < 2 ^ 25 }
+        requires size { (1 ≤ object.size) × (object.size ≤ 2 ^ 48) }
+        ensures ok { OnOk result (self.new ≡ self.old ++ object ∷ []) }
+        ensures err { OnErr result (self.new ≡ self.old) }
+    {
+        let t = self.numbers.len() as u32;
+        make_room(&mut self.numbers, &mut self.previous, &mut self.following)?;
+        let (number, before) = self.latest.insert_full(object, t)?;
+        self.numbers.push_reserved(number as u32);
+        self.following.push_reserved(NO_REQUEST);
+        match before {
+            Some(earlier) => {
+                self.previous.push_reserved(earlier);
+                self.following[earlier as usize] = t;
+            }
+            None => self.previous.push_reserved(NO_REQUEST),
+        }
+        Ok(())
+    }
+
+    /// How many requests there are.
+    pub fn len(&self) -> u32
+        ensures requests { result ≡ length self.now }
+        ensures most { result ≤ 2 ^ 25 }
+    {
+        self.numbers.len() as u32
+    }
+
+    /// How many different objects are asked for.
+    pub fn objects(&self) -> u32
+        ensures different { result ≡ length (objects_of self.now) }
+        ensures no_more { result ≤ length self.now }
+        ensures most { result ≤ 2 ^ 25 }
+    {
+        self.latest.len() as u32
+    }
+
+    /// The number of the object of request `t`.
+    pub fn request(&self, t: u32) -> u32
+        requires within { t < length self.now }
+        ensures number { position (same_object (request_at self.now t)) (objects_of self.now) ≡ Some result }
+        ensures object { slice_get (objects_of self.now) result ≡ Some (request_at self.now t) }
+        ensures known { result < length (objects_of self.now) }
+    {
+        self.numbers[t as usize]
+    }
+
+    /// The nearest earlier request of the object of request `t`.
+    pub fn prev(&self, t: u32) -> Option<u32>
+        requires within { t < length self.now }
+        ensures nearest { MatchOption result (IsFirst self.now t) (λ a. IsNext self.now a t) }
+    {
+        named_request(self.previous[t as usize])
+    }
+
+    /// The nearest later request of the object of request `t`.
+    pub fn next(&self, t: u32) -> Option<u32>
+        requires within { t < length self.now }
+        ensures nearest { MatchOption result (IsLast self.now t) (λ b. IsNext self.now t b) }
+    {
+        named_request(self.following[t as usize])
+    }
+
+    /// The object of this number.
+    pub fn object(&self, number: u32) -> Object
+        requires known { number < length (objects_of self.now) }
+        ensures object { slice_get (objects_of self.now) number ≡ Some result }
+        ensures size { (1 ≤ result.size) × (result.size ≤ 2 ^ 48) }
+    {
+        *self.latest.get_index(number as usize).unwrap().0
+    }
+
+    /// The size of the object of this number, in bytes.
+    pub fn size_of(&self, number: u32) -> u64
+        requires known { number < length (objects_of self.now) }
+        ensures size { result ≡ (slice_index_or (objects_of self.now) number no_object).size }
+        ensures range { (1 ≤ result) × (result ≤ 2 ^ 48) }
+    {
+        self.object(number).size
+    }
+}
