@@ -37,9 +37,7 @@ impl Source for CalmSource {
     /// Takes time in the bytes that it gives, and no memory.
     fn read(&mut self, buf: &mut [u8]) -> Result<usize, Failed>
         ensures bound { ReadsAtMost result buf.new }
-        ensures bytes {
-            ReadConsumes (Some (bytes_left self.old)) (Some (bytes_left self.new)) result buf.new
-        }
+        ensures bytes { ReadConsumes (Some (bytes_left self.old)) (Some (bytes_left self.new)) result buf.new }
         ensures cause { HasCause 0 0 result }
         ensures calm { IsOk result }
         ensures count { IfOk result (λ n. n ≡ min (length (bytes_left self.old)) (length buf.old)) }

@@ -45,9 +45,7 @@ impl Sink for GrowSink {
     fn write(&mut self, bytes: &[u8]) -> Result<usize, Failed>
         ensures bound { IfOk result (λ n. n ≤ length bytes.now) }
         ensures progress { IfOk result (λ n. 0 < length bytes.now → 0 < n) }
-        ensures bytes {
-            WriteAppends (Some (bytes_written self.old)) (Some (bytes_written self.new)) result bytes.now
-        }
+        ensures bytes { WriteAppends (Some (bytes_written self.old)) (Some (bytes_written self.new)) result bytes.now }
         ensures cause { HasCause (fault_count self.old) (fault_count self.new) result }
         ensures whole { IfOk result (λ n. n ≡ length bytes.now) }
         ensures faults { fault_count self.new ≡ count_after result (fault_count self.old) }

@@ -87,10 +87,9 @@ mod tests {
             (b"", None),
         ];
         for (line, numbers) in rows {
-            let wanted = match numbers {
-                Some((id, size)) => Ok(Span::One { id, size }),
-                None => Err(LineKind::NotYet),
-            };
+            let wanted = numbers
+                .map(|(id, size)| Span::One { id, size })
+                .ok_or(LineKind::NotYet);
             assert_eq!(rt; parse(line), wanted, "{}", line.len());
         }
     }
