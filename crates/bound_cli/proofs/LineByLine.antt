@@ -1,5 +1,5 @@
 -- Lines appended one after another.
-use Rattle.std.proofs.Common.{◌≡◌, List, ℕ, [], ◌∷◌, ◌++◌, append_assoc, append-nil, refl}
+use Rattle.std.proofs.Common.{◌≡◌, List, ℕ, [], ◌∷◌, ◌++◌, append_assoc, append-nil}
 use Rattle.cache_model.specs.Texts.{line, text_of}
 
 -- each text is the one before it with one line more

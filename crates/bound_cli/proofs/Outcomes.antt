@@ -1,10 +1,9 @@
 -- How a run ends, from how its parts end.
 use Rattle.std.proofs.Common.{◌≡◌, ◌∙◌, ℕ, ◌<◌, ◌≤◌, sym, ap, refl, ⊎_elim, List, length, ◌++◌, Ok, Err, Some, None, append-nil}
-use Rattle.std.specs.Prelude.{IfSome}
 use Rattle.std.specs.declared.option.Option.{Option}
 use Rattle.std.specs.Io.KnownBytes.{Consumes, IsAtEnd}
 use Rattle.std.proofs.lemmas.Bool.{cases_lt}
-use Rattle.bound_io.specs.Devices.{Device, device, IsUntouched}
+use Rattle.bound_io.specs.Devices.{device, IsUntouched}
 use Rattle.trace_webcache.specs.declared.line.LineKind.{LineKind}
 use Rattle.trace_webcache.specs.declared.line.LineKind.TheVariants.{NotYet}
 use Rattle.bound_cli.specs.declared.words.Plan.TheVariants.{Bounds}

@@ -1,5 +1,5 @@
 -- What bounds makes of a trace: the certificate and the report.
-use Rattle.std.specs.Prelude.{◌≡◌, ℕ, Bool, false, List, length, map, replicate, Ok}
+use Rattle.std.specs.Prelude.{◌≡◌, ℕ, false, List, length, map, replicate}
 use Rattle.cache_model.specs.declared.objects.Object.{Object}
 use Rattle.cache_model.specs.declared.objects.Objective.TheVariants.{Object as Hits}
 use Rattle.cache_model.specs.declared.certificates.Header.{Header}
@@ -10,7 +10,6 @@ use Rattle.cache_model.specs.Objects.{objects_of}
 use Rattle.cache_model.specs.Units.{IsUnit}
 use Rattle.cache_model.specs.Certificates.{unpriced, eligible_of, IsValid, BoundsEveryPlay}
 use Rattle.cache_model.specs.Texts.{cert_text, report_text}
-use Rattle.bound_cli.specs.Reading.{reading}
 
 -- one record for each request, without price, flow or keep
 abbrev pub empty_records : List Object → List Record

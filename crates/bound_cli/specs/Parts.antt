@@ -1,6 +1,5 @@
 -- How the parts of a run end.
-use Rattle.std.specs.Prelude.{ℕ, ◌≡◌, List, Ok, Err, IfSome}
-use Rattle.std.specs.declared.option.Option.{Option}
+use Rattle.std.specs.Prelude.{ℕ, ◌≡◌, List, Ok, Err}
 use Rattle.std.specs.Io.KnownBytes.{Appends}
 use Rattle.bound_io.specs.Writing.{AppendsProperFront}
 use Rattle.bound_io.specs.Devices.{Device, HasFailed, Gets}

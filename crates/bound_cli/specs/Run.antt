@@ -2,7 +2,6 @@
 use Rattle.std.specs.Prelude.{◌≡◌, ℕ, ◌⊎◌, List, [], Ok, Err, None, Some, IfSome}
 use Rattle.std.specs.declared.option.Option.{Option}
 use Rattle.std.specs.Io.KnownBytes.{Appends}
-use Rattle.bound_io.specs.Causes.{Rose}
 use Rattle.bound_io.specs.Writing.{AppendsProperFront}
 use Rattle.bound_io.specs.Devices.{Device, HasFailed, Gets, IsUntouched}
 use Rattle.cache_model.specs.declared.objects.Object.{Object}

@@ -1,6 +1,5 @@
 -- The ends of a run.
 use Rattle.std.specs.Prelude.{ℕ}
-use Rattle.bound_cli.specs.declared.words.WordFault.{WordFault}
 use Rattle.bound_cli.specs.declared.refusal.Refusal.{Refusal}
 use Rattle.bound_cli.specs.declared.refusal.Refusal.TheVariants as refusal
 use Rattle.bound_cli.specs.declared.status.Status.{Status}

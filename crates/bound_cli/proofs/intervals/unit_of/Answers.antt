@@ -1,4 +1,3 @@
-use Rattle.std.proofs.Common.{[]}
 use Rattle.cache_model.specs.declared.intervals.Interval.{Interval}
 use Rattle.bound_cli.proofs.Divisors.{one_more_size, unit_of_none, unit_of_some, whole_greatest}
 use Rattle.bound_cli.proofs.intervals.unit_of.Goals as goal

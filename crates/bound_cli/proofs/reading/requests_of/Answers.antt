@@ -1,6 +1,5 @@
-use Rattle.std.proofs.Common.{◌≡◌, ◌∙◌, ◌<◌, ◌+◌, ◌≤◌, ◌*◌, ap, sym, arith, length, length-append, ◌∷◌, [], ◌++◌}
+use Rattle.std.proofs.Common.{◌≡◌, ◌∙◌, ◌+◌, ap, sym, arith, length, length-append, ◌∷◌, []}
 use Rattle.cache_model.specs.declared.objects.Object.{Object}
-use Rattle.bound_cli.specs.Parts.{RefusesBytes}
 use Rattle.bound_cli.proofs.ReadingSteps.{next_request, bad_line, unfinished, sizes_of_cut, accepted_line}
 use Rattle.bound_cli.proofs.reading.requests_of.Goals as goal
 
