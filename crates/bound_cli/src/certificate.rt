@@ -57,10 +57,10 @@ pub fn push_header(text: &mut Vec<u8>, header: &Header) -> Result<(), NoMemory>
 }
 
 /// Appends the line of a record.
-pub fn push_record(text: &mut Vec<u8>, record: &Record) -> Result<(), NoMemory>
-    ensures { OnOk result (text.new.items ≡ text.old.items ++ line (record_line record.now)) }
+pub fn push_record(text: &mut Vec<u8>, entry: &Record) -> Result<(), NoMemory>
+    ensures { OnOk result (text.new.items ≡ text.old.items ++ line (record_line entry.now)) }
 {
-    push_number(text, record.price)?;
-    push_entry(text, b"", record.keep as u128)?;
-    push_entry_line(text, b"", record.flow as u128)
+    push_number(text, entry.price)?;
+    push_entry(text, b"", entry.keep as u128)?;
+    push_entry_line(text, b"", entry.flow as u128)
 }
