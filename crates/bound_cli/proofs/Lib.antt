@@ -1,5 +1,7 @@
 pub mod LineByLine
 pub mod Starting
+pub mod Taken
+pub mod Written
 pub mod Divisors
 pub mod ReadingSteps
 pub mod Fronts

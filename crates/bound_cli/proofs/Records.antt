@@ -1,7 +1,6 @@
 -- The lines of a certificate, one record after another.
-use Rattle.std.proofs.Common.{◌≡◌, ℕ, ◌+◌, false, List, [], ◌∷◌, ◌++◌, map, codes, append_assoc, append-nil}
-use Rattle.std.specs.Prelude.{replicate}
-use Rattle.std.proofs.lemmas.List.{map-append, replicate_more}
+use Rattle.std.proofs.Common.{◌≡◌, ℕ, ◌+◌, ◌<◌, Bool, false, length, take, get_or, List, [], ◌∷◌, ◌++◌, map, codes, append_assoc, append-nil}
+use Rattle.std.proofs.lemmas.List.{map-append, take_more}
 use Rattle.std.proofs.lemmas.List.Concat.{flat_map-append}
 use Rattle.cache_model.specs.declared.certificates.Header.{Header}
 use Rattle.cache_model.specs.declared.certificates.Record.{Record}
@@ -9,11 +8,11 @@ use Rattle.cache_model.specs.Certificates.{unpriced}
 use Rattle.cache_model.specs.Texts.{line, text_of, header_lines, record_line, cert_text}
 
 -- one record more
-pub empty_records_more : (t u v : List ℕ) (n : ℕ)
-    → u ≡ t ++ text_of (map record_line (map unpriced (replicate n false)))
-    → v ≡ u ++ line (record_line (unpriced false))
-    → v ≡ t ++ text_of (map record_line (map unpriced (replicate (n + 1) false)))
-empty_records_more t u v n so_far more = rw (more, so_far, ← (replicate_more n false), map-append, map-append, flat_map-append) (simp (append_assoc, append-nil))
+pub records_more : (t u v : List ℕ) (keeps : List Bool) (k : ℕ) → k < length keeps
+    → u ≡ t ++ text_of (map record_line (map unpriced (take k keeps)))
+    → v ≡ u ++ line (record_line (unpriced (get_or keeps k false)))
+    → v ≡ t ++ text_of (map record_line (map unpriced (take (k + 1) keeps)))
+records_more t u v keeps k within so_far more = rw (more, so_far, take_more keeps k false within, map-append, map-append, flat_map-append) (simp (append_assoc, append-nil))
 
 -- the texts of three parts
 three_parts : (a b : List (List ℕ)) (end : List ℕ) → (text_of a ++ text_of b) ++ line end ≡ text_of (a ++ b ++ end ∷ [])

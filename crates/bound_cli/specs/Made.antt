@@ -1,5 +1,5 @@
 -- What bounds makes of a trace: the certificate and the report.
-use Rattle.std.specs.Prelude.{◌≡◌, ℕ, false, List, length, map, replicate}
+use Rattle.std.specs.Prelude.{◌≡◌, ℕ, Bool, false, List, length, map, replicate}
 use Rattle.cache_model.specs.declared.objects.Object.{Object}
 use Rattle.cache_model.specs.declared.objects.Objective.TheVariants.{Object as Hits}
 use Rattle.cache_model.specs.declared.certificates.Header.{Header}
@@ -8,14 +8,16 @@ use Rattle.cache_model.specs.declared.reports.Mode.TheVariants.{Infinite}
 use Rattle.cache_model.specs.declared.reports.BoundFacts.{BoundFacts}
 use Rattle.cache_model.specs.Objects.{objects_of}
 use Rattle.cache_model.specs.Units.{IsUnit}
-use Rattle.cache_model.specs.Certificates.{unpriced, eligible_of, IsValid, BoundsEveryPlay}
+use Rattle.cache_model.specs.Certificates.{unpriced, eligible_of, keeps_of, IsValid, BoundsEveryPlay}
+use Rattle.cache_model.specs.Rounding.{IsRounded, by_start}
+use Rattle.cache_model.specs.declared.intervals.Interval.{Interval}
 use Rattle.cache_model.specs.Texts.{cert_text, report_text}
 
--- one record for each request, without price, flow or keep
-abbrev pub empty_records : List Object → List Record
-empty_records trace = map unpriced (replicate (length trace) false)
+-- the keeps take eligible intervals in order of start, each where it fits at every step that it covers
+abbrev pub IsTakenByStart : List Interval → ℕ → ℕ → List Bool → Type 0
+IsTakenByStart intervals capacity steps keeps = IsRounded by_start intervals capacity steps (replicate (length intervals) false) keeps
 
--- a valid certificate of the trace in hits, with the greatest unit, over 1, without prices, flows or keeps
+-- a valid certificate of the trace in hits, with the greatest unit, over 1, without prices and flows, and with the keeps above
 pub record IsMade (capacity : ℕ) (trace : List Object) (h : Header) (records : List Record) : Type 0 where
   pub valid : IsValid trace h records
   pub of_capacity : h.capacity ≡ capacity
@@ -23,7 +25,8 @@ pub record IsMade (capacity : ℕ) (trace : List Object) (h : Header) (records :
   pub unit : IsUnit (eligible_of trace h) h.unit
   pub denominator : h.denominator ≡ 1
   pub plain : h.exact ≡ false
-  pub empty : records ≡ empty_records trace
+  pub without_prices_and_flows : records ≡ map unpriced (keeps_of records)
+  pub keeps : IsTakenByStart (eligible_of trace h) capacity (length trace) (keeps_of records)
   pub bounds : BoundsEveryPlay trace h
 
 -- what the report states beside the header

@@ -1,23 +1,13 @@
 //! Eligible intervals, and their unit.
 ghost use Rattle.std.specs.Prelude.{◌≡◌, ◌<◌, ◌≤◌, ◌^◌, ◌∷◌, [], length, All, IfOk, MatchOption};
 ghost use Rattle.cache_model.specs.Intervals.{eligible_from, eligible_intervals};
-ghost use Rattle.cache_model.specs.Play.{gain_of};
 ghost use Rattle.cache_model.specs.Units.{IsUnit};
 ghost use Rattle.bound_cli.specs.Sizes.{IsSizeWithin};
 
 use bound_base::{NoMemory, gcd};
 use cache_model::Interval;
-use cache_rules::{Object, Objective, Trace};
+use cache_rules::{Objective, Trace, gain};
 use std::alloc::Global;
-
-fn gain(objective: Objective, object: &Object) -> u64
-    ensures { result ≡ gain_of objective object.now }
-{
-    match objective {
-        Objective::Object => 1,
-        Objective::Bytes => object.size,
-    }
-}
 
 // The eligible interval that starts at a request.
 fn starting(trace: &Trace, t: u32, capacity: u64, objective: Objective) -> Option<Interval>

@@ -17,6 +17,7 @@ mod intervals;
 mod reading;
 mod refusal;
 mod report;
+mod schedule;
 mod status;
 mod text;
 mod top;

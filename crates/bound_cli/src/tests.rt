@@ -23,25 +23,26 @@ const PAIR: &[u8] = b"1 7 4\n2 7 4\n";
 
 const PAIR_CERT: &[u8] =
     b"cache-bound-certificate 1\nobjective object\ncapacity 10\nrequests 2\nunit 4\n\
-denominator 1\nform plain\nupper 1\nflow 0\nlower 0\nrecords\n0 0 0\n0 0 0\nend\n";
+denominator 1\nform plain\nupper 1\nflow 0\nlower 1\nrecords\n0 1 0\n0 0 0\nend\n";
 
 const PAIR_REPORT: &[u8] = b"trace requests 2 objects 1 dropped 0\ncapacity 10 objective object\n\
-mode infinite form plain\nunit 4 units 2 denominator 1\nintervals 1\nupper 1/1 floor 1\nflow 0/1\nlower 0\n";
+mode infinite form plain\nunit 4 units 2 denominator 1\nintervals 1\nupper 1/1 floor 1\nflow 0/1\nlower 1\n";
 
-// A run, and what comes of it. A sink that is written a byte at a time has the step 1.
-struct Row {
-    shows: &'static str,
-    words: &'static [&'static str],
-    trace: &'static [u8],
-    trace_fails: &'static [u64],
-    report_fails: &'static [u64],
-    made_fails: &'static [u64],
+// A run, and what comes of it. Each source gives and each sink takes a byte a call.
+#[derive(Clone, Copy)]
+struct Row<'a> {
+    shows: &'a str,
+    words: &'a [&'a str],
+    trace: &'a [u8],
+    trace_fails: &'a [u64],
+    report_fails: &'a [u64],
+    made_fails: &'a [u64],
     status: Status,
-    report: &'static [u8],
-    made: &'static [u8],
+    report: &'a [u8],
+    made: &'a [u8],
 }
 
-const GOOD: Row = Row {
+const GOOD: Row<'static> = Row {
     shows: "two requests of one object",
     words: &WORDS,
     trace: PAIR,
@@ -53,7 +54,7 @@ const GOOD: Row = Row {
     made: PAIR_CERT,
 };
 
-const ROWS: [Row; 14] = [
+const ROWS: [Row<'static>; 14] = [
     GOOD,
     Row {
         shows: "three objects in turn, of which two fit",
@@ -67,18 +68,18 @@ const ROWS: [Row; 14] = [
         ],
         trace: b"1 1 1\n2 2 1\n3 3 1\n4 1 1\n5 2 1\n6 3 1\n",
         report: b"trace requests 6 objects 3 dropped 0\ncapacity 2 objective object\n\
-mode infinite form plain\nunit 1 units 2 denominator 1\nintervals 3\nupper 3/1 floor 3\nflow 0/1\nlower 0\n",
+mode infinite form plain\nunit 1 units 2 denominator 1\nintervals 3\nupper 3/1 floor 3\nflow 0/1\nlower 2\n",
         made: b"cache-bound-certificate 1\nobjective object\ncapacity 2\nrequests 6\nunit 1\n\
-denominator 1\nform plain\nupper 3\nflow 0\nlower 0\nrecords\n0 0 0\n0 0 0\n0 0 0\n0 0 0\n0 0 0\n0 0 0\nend\n",
+denominator 1\nform plain\nupper 3\nflow 0\nlower 2\nrecords\n0 1 0\n0 1 0\n0 0 0\n0 0 0\n0 0 0\n0 0 0\nend\n",
         ..GOOD
     },
     Row {
         shows: "sizes with a common divisor, and one above the capacity",
         trace: b"1 1 4\n2 2 6\n3 9 11\n4 2 6\n5 1 4\n6 9 11\n",
         report: b"trace requests 6 objects 3 dropped 0\ncapacity 10 objective object\n\
-mode infinite form plain\nunit 2 units 5 denominator 1\nintervals 2\nupper 2/1 floor 2\nflow 0/1\nlower 0\n",
+mode infinite form plain\nunit 2 units 5 denominator 1\nintervals 2\nupper 2/1 floor 2\nflow 0/1\nlower 2\n",
         made: b"cache-bound-certificate 1\nobjective object\ncapacity 10\nrequests 6\nunit 2\n\
-denominator 1\nform plain\nupper 2\nflow 0\nlower 0\nrecords\n0 0 0\n0 0 0\n0 0 0\n0 0 0\n0 0 0\n0 0 0\nend\n",
+denominator 1\nform plain\nupper 2\nflow 0\nlower 2\nrecords\n0 1 0\n0 1 0\n0 0 0\n0 0 0\n0 0 0\n0 0 0\nend\n",
         ..GOOD
     },
     Row {
@@ -207,11 +208,11 @@ fn words_of(alloc: Global, words: &[&str]) -> Result<Vec<String>, AllocError> {
 }
 
 // Runs over memory, and checks the status and what the sinks got.
-fn check(rt: &impl Abort, alloc: Global, row: &Row) -> Result<(), Fail> {
+fn check(rt: &impl Abort, alloc: Global, row: &Row<'_>) -> Result<(), Fail> {
     let words = words_of(alloc, row.words)?;
-    let mut trace = MemSource::new(row.trace.to_vec(alloc)?, row.trace_fails.to_vec(alloc)?, 5);
+    let mut trace = MemSource::new(row.trace.to_vec(alloc)?, row.trace_fails.to_vec(alloc)?, 1);
     let mut cert = CalmSource::new(Vec::new(alloc));
-    let mut report = MemSink::new(alloc, 4096, row.report_fails.to_vec(alloc)?, 4096)?;
+    let mut report = MemSink::new(alloc, 4096, row.report_fails.to_vec(alloc)?, 1)?;
     let mut made = MemSink::new(alloc, 4096, row.made_fails.to_vec(alloc)?, 1)?;
     let status = run(alloc, &words, &mut trace, &mut cert, &mut report, &mut made);
     assert_eq!(rt; status, row.status, "{}", row.shows);
@@ -224,6 +225,74 @@ fn check(rt: &impl Abort, alloc: Global, row: &Row) -> Result<(), Fail> {
 fn runs_end_as_they_should(rt: HostRuntime) -> Result<(), Fail> {
     for row in &ROWS {
         check(&rt, rt.alloc(), row)?;
+    }
+    Ok(())
+}
+
+#[test]
+fn a_read_that_fails_is_a_trace_fault(rt: HostRuntime) -> Result<(), Fail> {
+    for call in 1..=PAIR.len() as u64 + 1 {
+        let row = Row {
+            shows: "a read that fails",
+            trace_fails: &[call],
+            status: Status::TraceFault,
+            report: b"trace fault\n",
+            made: b"",
+            ..GOOD
+        };
+        check(&rt, rt.alloc(), &row)?;
+    }
+    Ok(())
+}
+
+#[test]
+fn a_write_of_the_certificate_that_fails_is_a_made_fault(rt: HostRuntime) -> Result<(), Fail> {
+    for taken in 0..PAIR_CERT.len() {
+        let row = Row {
+            shows: "a write of the certificate that fails",
+            made_fails: &[taken as u64 + 1],
+            status: Status::MadeFault,
+            report: b"made fault\n",
+            made: &PAIR_CERT[..taken],
+            ..GOOD
+        };
+        check(&rt, rt.alloc(), &row)?;
+    }
+    Ok(())
+}
+
+#[test]
+fn a_write_of_the_report_that_fails_is_a_report_fault(rt: HostRuntime) -> Result<(), Fail> {
+    for taken in 0..PAIR_REPORT.len() {
+        let row = Row {
+            shows: "a write of the report that fails",
+            report_fails: &[taken as u64 + 1],
+            status: Status::ReportFault,
+            report: &PAIR_REPORT[..taken],
+            ..GOOD
+        };
+        check(&rt, rt.alloc(), &row)?;
+    }
+    Ok(())
+}
+
+#[test]
+fn a_refusal_that_is_cut_short_keeps_its_status(rt: HostRuntime) -> Result<(), Fail> {
+    let line = b"bad line 1: form\n";
+    for taken in 0..line.len() {
+        let row = Row {
+            shows: "a refusal that is cut short",
+            trace: b"no trace\n",
+            report_fails: &[taken as u64 + 1],
+            status: Status::BadLine {
+                line: 1,
+                kind: LineKind::NotYet,
+            },
+            report: &line[..taken],
+            made: b"",
+            ..GOOD
+        };
+        check(&rt, rt.alloc(), &row)?;
     }
     Ok(())
 }

@@ -16,3 +16,4 @@ pub mod Headline
 pub mod Units
 pub mod DifferentObjects
 pub mod Unpriced
+pub mod Scores

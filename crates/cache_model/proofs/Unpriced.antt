@@ -28,7 +28,7 @@ use Rattle.cache_model.proofs.Keeps.{contents_of_keeps}
 use Rattle.cache_model.proofs.Members.{All-eligible_intervals, intervals_are_eligible}
 
 -- the keeps of the records are the keeps
-keeps_of-unpriced : (keeps : List Bool) → keeps_of (map unpriced keeps) ≡ keeps
+pub keeps_of-unpriced : (keeps : List Bool) → keeps_of (map unpriced keeps) ≡ keeps
 keeps_of-unpriced [] = refl
 keeps_of-unpriced (keep ∷ keeps) = ap (λ more. keep ∷ more) (keeps_of-unpriced keeps)
 

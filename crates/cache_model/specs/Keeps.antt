@@ -1,8 +1,8 @@
 -- Keeps, one truth value for each request, and the contents that they stand for.
-use Rattle.std.specs.Prelude.{ℕ, ◌+◌, Bool, false, not, ◌&&◌, if◌then◌else◌, List, length, map, slice_index_or, slice_range, filter, sum_by}
+use Rattle.std.specs.Prelude.{◌≡◌, ℕ, ◌+◌, ◌<◌, ◌≤◌, Bool, false, not, ◌&&◌, if◌then◌else◌, List, length, map, slice_index_or, slice_range, filter, sum_by}
 use Rattle.std.specs.List.{list_any, range_with_len}
 use Rattle.cache_model.specs.declared.objects.Object.{Object}
-use Rattle.cache_model.specs.Play.{same_object}
+use Rattle.cache_model.specs.Play.{same_object, total_size}
 use Rattle.cache_model.specs.Objects.{request_at}
 
 -- whether request t is kept
@@ -28,3 +28,14 @@ held_before trace keeps t = map (request_at trace) (filter (is_held trace keeps 
 -- the contents that the keeps stand for
 abbrev pub contents_of : List Object → List Bool → List (List Object)
 contents_of trace keeps = map (held_before trace keeps) (range_with_len 0 (length trace + 1))
+
+-- the size of the contents after request t
+abbrev pub load_after : List Object → List Bool → ℕ → ℕ
+load_after trace keeps t = total_size (held_before trace keeps (t + 1))
+
+-- the load of the step is the first that passes the capacity
+pub record IsFirstOverfull (capacity : ℕ) (trace : List Object) (keeps : List Bool) (step load : ℕ) : Type 0 where
+  pub within : step < length trace
+  pub load_is : load ≡ load_after trace keeps step
+  pub over : capacity < load
+  pub earlier : (t : ℕ) → t < step → load_after trace keeps t ≤ capacity

@@ -1,12 +1,15 @@
 //! The requests of a trace, and where each object is asked for.
 //!
 //! A builder takes the requests one by one, and the trace that it makes answers which object a request is of and where
-//! the nearest requests of that object are.
+//! the nearest requests of that object are. One keep for each request stands for contents, whose score is counted over
+//! the trace.
 #![tactic(auto)]
 
 mod builder;
+mod scoring;
 mod trace;
 
 pub use builder::Builder;
 pub use cache_model::{Object, Objective};
+pub use scoring::{Overfull, gain, score};
 pub use trace::Trace;

@@ -3,5 +3,6 @@ use Rattle.bound_cli.proofs.bounds.header_of.Goals as goal
 
 pub returns : goal.returns
 returns c =
-    made_of c.args.capacity c.args.trace.now c.args.intervals.now c.len.result c.unit_of.result c.requires.capacity.0 c.requires.capacity.1 c.requires.intervals c.requires.sizes
-    c.len.ensures.requests c.len.ensures.most c.unit_of.ensures.unit c.unit_of.ensures.positive
+    made_of c.args.capacity c.args.trace.now c.args.intervals.now c.len.result c.unit_of.result c.args.schedule.now.lower c.args.schedule.now.keeps.items
+    c.requires.capacity.0 c.requires.capacity.1 c.requires.intervals c.requires.sizes
+    c.len.ensures.requests c.len.ensures.most c.unit_of.ensures.unit c.unit_of.ensures.positive c.requires.taken c.requires.allowed c.requires.lower
