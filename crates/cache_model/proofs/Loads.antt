@@ -48,8 +48,8 @@ module _ (o : Objective) (c : ℕ) (trace : List Object) (g : ℕ → ℕ) (t : 
   unfolding share own
   started a b low high n fits =
       let i : Interval = interval_of o trace a b in
-      let row : eligible_from o c trace a ≡ i ∷ [] = eligible_from_next o c trace a b n ∙ ap (λ s. cond s (i ∷ []) []) (le-leb (request_at trace a).size c fits) in
-      let one : sum_by share (eligible_from o c trace a) ≡ cond (covers t i) (g a) 0 = ap (sum_by share) row ∙ (omega (arith, sum_by-cons share i [])) in
+      let of_start : eligible_from o c trace a ≡ i ∷ [] = eligible_from_next o c trace a b n ∙ ap (λ s. cond s (i ∷ []) []) (le-leb (request_at trace a).size c fits) in
+      let one : sum_by share (eligible_from o c trace a) ≡ cond (covers t i) (g a) 0 = ap (sum_by share) of_start ∙ (omega (arith, sum_by-cons share i [])) in
       let p : Object → Bool = same_object (request_at trace a) in
       ⊎_elim
       (λ (before : t < b).
@@ -88,10 +88,10 @@ module _ (o : Objective) (c : ℕ) (trace : List Object) (g : ℕ → ℕ) (t : 
       → t < length trace → load_at (eligible_intervals o c trace) (map (λ i. g i.start) (eligible_intervals o c trace)) t ≡ latest_sum trace g (t + 1)
   unfolding share own
   load-latest only high =
-      let row : ℕ → ℕ = λ a. sum_by share (eligible_from o c trace a) in
+      let of_start : ℕ → ℕ = λ a. sum_by share (eligible_from o c trace a) in
       let size : length trace ≡ (t + 1) + (length trace - (t + 1)) = omega arith in
       load_at-map (λ i. g i.start) t (eligible_intervals o c trace)
       ∙ sum_by-flat_map share (eligible_from o c trace) (range_with_len 0 (length trace))
-      ∙ ap (λ n. sum_by row (range_with_len 0 n)) size
-      ∙ sum_by-range_upto row (t + 1) (length trace - (t + 1)) later_share
-      ∙ sym (sum_by-range_agree own row 0 (t + 1) (λ a low lt. each_share only high a (omega arith)))
+      ∙ ap (λ n. sum_by of_start (range_with_len 0 n)) size
+      ∙ sum_by-range_upto of_start (t + 1) (length trace - (t + 1)) later_share
+      ∙ sym (sum_by-range_agree own of_start 0 (t + 1) (λ a low lt. each_share only high a (omega arith)))

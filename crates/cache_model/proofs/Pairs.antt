@@ -168,8 +168,8 @@ surplus_by_recursion o c u d (r ∷ trace) [] same = absurd (omega arith)
 surplus_by_recursion o c u d (r ∷ trace) (q ∷ prices) same =
     let n : ℕ = length trace in
     let whole : ℕ → ℕ → ℕ = pair_surplus o c u d (r ∷ trace) (q ∷ prices) in
-    let row : ℕ → ℕ = λ a. sum_by (whole a) (range_with_len 0 (suc n)) in
-    let first : row 0 ≡ worth (counted_of o c d) (weight_of u) trace prices r - weight_of u r * q =
+    let of_start : ℕ → ℕ = λ a. sum_by (whole a) (range_with_len 0 (suc n)) in
+    let first : of_start 0 ≡ worth (counted_of o c d) (weight_of u) trace prices r - weight_of u r * q =
     sum_by-range (whole 0) n
     ∙ (omega (
       arith,
@@ -177,17 +177,17 @@ surplus_by_recursion o c u d (r ∷ trace) (q ∷ prices) same =
       sum_by-agree (λ b. whole 0 (suc b)) (first_surplus o c u d r q trace prices) (range_with_len 0 n) (pair_surplus-first o c u d r trace q prices),
       first_surplus_sum o c u d r q trace prices (omega arith),
     )) in
-    let others : (a : ℕ) → row (suc a) ≡ sum_by (pair_surplus o c u d trace prices a) (range_with_len 0 n) = λ a.
+    let others : (a : ℕ) → of_start (suc a) ≡ sum_by (pair_surplus o c u d trace prices a) (range_with_len 0 n) = λ a.
     sum_by-range (whole (suc a)) n
     ∙ (omega (
       arith,
       pair_surplus-zero o c u d (r ∷ trace) (q ∷ prices) (suc a),
       sum_by-agree (λ b. whole (suc a) (suc b)) (pair_surplus o c u d trace prices a) (range_with_len 0 n) (pair_surplus-suc o c u d r trace q prices a),
     )) in
-    sum_by-range row n
+    sum_by-range of_start n
     ∙ omega (
       arith,
       first,
-      sum_by-agree (λ a. row (suc a)) (λ a. sum_by (pair_surplus o c u d trace prices a) (range_with_len 0 n)) (range_with_len 0 n) others,
+      sum_by-agree (λ a. of_start (suc a)) (λ a. sum_by (pair_surplus o c u d trace prices a) (range_with_len 0 n)) (range_with_len 0 n) others,
       surplus_by_recursion o c u d trace prices (omega arith),
     )

@@ -55,8 +55,8 @@ module _ (o : Objective) (c : ℕ) (trace : List Object) (keeps : List Bool) (t 
   kept a b low high n fits e =
       let size : ℕ = (request_at trace a).size in
       let i : Interval = interval_of o trace a b in
-      let row : eligible_from o c trace a ≡ i ∷ [] = eligible_from_next o c trace a b n ∙ ap (λ s. cond s (i ∷ []) []) (le-leb size c fits) in
-      let one : sum_by share (eligible_from o c trace a) ≡ cond (covers t i && is_kept keeps a) size 0 = ap (sum_by share) row ∙ (omega (arith, sum_by-cons share i [])) in
+      let of_start : eligible_from o c trace a ≡ i ∷ [] = eligible_from_next o c trace a b n ∙ ap (λ s. cond s (i ∷ []) []) (le-leb size c fits) in
+      let one : sum_by share (eligible_from o c trace a) ≡ cond (covers t i && is_kept keeps a) size 0 = ap (sum_by share) of_start ∙ (omega (arith, sum_by-cons share i [])) in
       let p : Object → Bool = same_object (request_at trace a) in
       ⊎_elim
       (λ (before : t < b).
@@ -101,13 +101,13 @@ module _ (o : Objective) (c : ℕ) (trace : List Object) (keeps : List Bool) (t 
       → t < length trace → total_size (held_before trace keeps (t + 1)) ≡ taken_load (eligible_intervals o c trace) keeps t
   unfolding share held_share
   held-load only high =
-      let row : ℕ → ℕ = λ a. sum_by share (eligible_from o c trace a) in
+      let of_start : ℕ → ℕ = λ a. sum_by share (eligible_from o c trace a) in
       let size : length trace ≡ (t + 1) + (length trace - (t + 1)) = omega arith in
       sum_by-map (λ (x : Object). x.size) (request_at trace) (filter (is_held trace keeps (t + 1)) (range_with_len 0 (t + 1)))
       ∙ sum_by-filter (λ a. (request_at trace a).size) (is_held trace keeps (t + 1)) (range_with_len 0 (t + 1))
-      ∙ sum_by-range_agree held_share row 0 (t + 1) (λ a low lt. each_share only high a (omega arith))
-      ∙ sym (sum_by-range_upto row (t + 1) (length trace - (t + 1)) later_share)
-      ∙ ap (λ n. sum_by row (range_with_len 0 n)) (sym size)
+      ∙ sum_by-range_agree held_share of_start 0 (t + 1) (λ a low lt. each_share only high a (omega arith))
+      ∙ sym (sum_by-range_upto of_start (t + 1) (length trace - (t + 1)) later_share)
+      ∙ ap (λ n. sum_by of_start (range_with_len 0 n)) (sym size)
       ∙ sym (sum_by-flat_map share (eligible_from o c trace) (range_with_len 0 (length trace)))
 
 -- ---- rounded keeps are maximal
