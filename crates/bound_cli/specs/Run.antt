@@ -23,6 +23,7 @@ pub record Devices : Type 0 where
   pub report : Device
   pub made : Device
 
+-- the four devices, by name
 abbrev pub devices : Device → Device → Device → Device → Devices
 devices trace cert report made = record { trace = trace; cert = cert; report = report; made = made }
 

@@ -2,7 +2,7 @@
 use Rattle.std.specs.Prelude.{ℕ, ◌≤◌, ◌^◌}
 use Rattle.cache_model.specs.declared.intervals.Interval.{Interval}
 
--- the size is from 1 to the capacity, and at most that of an object
+-- the size is from 1 to the capacity, and at most 2^48
 pub record IsSizeWithin (capacity : ℕ) (i : Interval) : Type 0 where
   pub positive : 1 ≤ i.size
   pub fits : i.size ≤ capacity

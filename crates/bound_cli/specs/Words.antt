@@ -35,6 +35,7 @@ abbrev pub capacity_value : ℕ → Result ℕ NumFault → Result ℕ WordFault
 capacity_value place (Err e) = Err (fault place BadValue)
 capacity_value place (Ok n) = if nat_le 1 n && nat_le n (2 ^ 56) then Ok n else Err (fault place BadValue)
 
+-- what stands before the number of a capacity
 abbrev pub capacity_label : List ℕ
 capacity_label = codes "capacity="
 

@@ -54,25 +54,27 @@ const GOOD: Row<'static> = Row {
     made: PAIR_CERT,
 };
 
-const ROWS: [Row<'static>; 14] = [
-    GOOD,
-    Row {
-        shows: "three objects in turn, of which two fit",
-        words: &[
-            "bounds",
-            "t",
-            "c",
-            "format=webcache",
-            "capacity=2",
-            "mode=infinite",
-        ],
-        trace: b"1 1 1\n2 2 1\n3 3 1\n4 1 1\n5 2 1\n6 3 1\n",
-        report: b"trace requests 6 objects 3 dropped 0\ncapacity 2 objective object\n\
+const CYCLE: Row<'static> = Row {
+    shows: "three objects in turn, of which two fit",
+    words: &[
+        "bounds",
+        "t",
+        "c",
+        "format=webcache",
+        "capacity=2",
+        "mode=infinite",
+    ],
+    trace: b"1 1 1\n2 2 1\n3 3 1\n4 1 1\n5 2 1\n6 3 1\n",
+    report: b"trace requests 6 objects 3 dropped 0\ncapacity 2 objective object\n\
 mode infinite form plain\nunit 1 units 2 denominator 1\nintervals 3\nupper 3/1 floor 3\nflow 0/1\nlower 2\n",
-        made: b"cache-bound-certificate 1\nobjective object\ncapacity 2\nrequests 6\nunit 1\n\
+    made: b"cache-bound-certificate 1\nobjective object\ncapacity 2\nrequests 6\nunit 1\n\
 denominator 1\nform plain\nupper 3\nflow 0\nlower 2\nrecords\n0 1 0\n0 1 0\n0 0 0\n0 0 0\n0 0 0\n0 0 0\nend\n",
-        ..GOOD
-    },
+    ..GOOD
+};
+
+const ROWS: [Row<'static>; 17] = [
+    GOOD,
+    CYCLE,
     Row {
         shows: "sizes with a common divisor, and one above the capacity",
         trace: b"1 1 4\n2 2 6\n3 9 11\n4 2 6\n5 1 4\n6 9 11\n",
@@ -156,15 +158,8 @@ denominator 1\nform plain\nupper 0\nflow 0\nlower 0\nrecords\nend\n",
         ..GOOD
     },
     Row {
-        shows: "a capacity of 0, before a trace that would fail",
-        words: &[
-            "bounds",
-            "t",
-            "c",
-            "format=webcache",
-            "capacity=0",
-            "mode=infinite",
-        ],
+        shows: "a capacity of 0, before a word that is missing and a trace that would fail",
+        words: &["bounds", "t", "c", "format=webcache", "capacity=0"],
         trace_fails: &[1],
         status: Status::Words(WordFault {
             place: 5,
@@ -175,19 +170,67 @@ denominator 1\nform plain\nupper 0\nflow 0\nlower 0\nrecords\nend\n",
         ..GOOD
     },
     Row {
+        shows: "an empty path",
+        words: &["bounds", "t", "", "format=webcache", "capacity=0"],
+        status: Status::Words(WordFault {
+            place: 3,
+            kind: WordKind::BadValue,
+        }),
+        report: b"words: place 3: bad value\n",
+        made: b"",
+        ..GOOD
+    },
+    Row {
+        shows: "a mode that is not built",
+        words: &[
+            "bounds",
+            "t",
+            "c",
+            "format=webcache",
+            "capacity=10",
+            "mode=flow",
+        ],
+        status: Status::Words(WordFault {
+            place: 6,
+            kind: WordKind::Unknown,
+        }),
+        report: b"words: place 6: unknown\n",
+        made: b"",
+        ..GOOD
+    },
+    Row {
+        shows: "a seventh word",
+        words: &[
+            "bounds",
+            "t",
+            "c",
+            "format=webcache",
+            "capacity=10",
+            "mode=infinite",
+            "more",
+        ],
+        status: Status::Words(WordFault {
+            place: 7,
+            kind: WordKind::Unknown,
+        }),
+        report: b"words: place 7: unknown\n",
+        made: b"",
+        ..GOOD
+    },
+    Row {
         shows: "the second read fails",
         trace_fails: &[2],
         status: Status::TraceFault,
         report: b"trace fault\n",
         made: b"",
-        ..GOOD
+        ..CYCLE
     },
     Row {
         shows: "the first write of the report fails",
         report_fails: &[1],
         status: Status::ReportFault,
         report: b"",
-        ..GOOD
+        ..CYCLE
     },
     Row {
         shows: "the third write of the certificate fails",
@@ -195,7 +238,7 @@ denominator 1\nform plain\nupper 0\nflow 0\nlower 0\nrecords\nend\n",
         status: Status::MadeFault,
         report: b"made fault\n",
         made: b"ca",
-        ..GOOD
+        ..CYCLE
     },
 ];
 
@@ -297,7 +340,7 @@ fn a_refusal_that_is_cut_short_keeps_its_status(rt: HostRuntime) -> Result<(), F
     Ok(())
 }
 
-// Over devices that never fail no run answers a fault of theirs.
+// Over a trace source that never fails no run answers a fault of it.
 fn run_over_calm(
     alloc: Global,
     words: &[String],

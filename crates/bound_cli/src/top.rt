@@ -56,18 +56,18 @@ pub fn run<T: Source, Q: Source, R: Sink, K: Sink>(
     alloc: Global,
     words: &[String],
     trace: &mut T,
-    _cert: &mut Q,
+    cert: &mut Q,
     report: &mut R,
     made: &mut K,
 ) -> Status
     ensures explains { Explains (map string_bytes words.now) (devices
         (device (T.left trace.old) (T.left trace.new) (T.faults trace.old) (T.faults trace.new))
-        (device (Q.left _cert.old) (Q.left _cert.new) (Q.faults _cert.old) (Q.faults _cert.new))
+        (device (Q.left cert.old) (Q.left cert.new) (Q.faults cert.old) (Q.faults cert.new))
         (device (R.written report.old) (R.written report.new) (R.faults report.old) (R.faults report.new))
         (device (K.written made.old) (K.written made.new) (K.faults made.old) (K.faults made.new))) result }
     ensures completes { Completes (map string_bytes words.now) (devices
         (device (T.left trace.old) (T.left trace.new) (T.faults trace.old) (T.faults trace.new))
-        (device (Q.left _cert.old) (Q.left _cert.new) (Q.faults _cert.old) (Q.faults _cert.new))
+        (device (Q.left cert.old) (Q.left cert.new) (Q.faults cert.old) (Q.faults cert.new))
         (device (R.written report.old) (R.written report.new) (R.faults report.old) (R.faults report.new))
         (device (K.written made.old) (K.written made.new) (K.faults made.old) (K.faults made.new))) result }
 {

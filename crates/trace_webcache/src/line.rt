@@ -17,7 +17,7 @@ pub enum Span {
 /// Why a line is refused.
 #[derive(Clone, Copy, Debug, PartialEq, Eq)]
 pub enum LineKind {
-    /// It is not of the one form that is read so far.
+    /// It is not of the one form that is read so far, or, in a trace, too long, without its LF or past the limit.
     NotYet,
 }
 
