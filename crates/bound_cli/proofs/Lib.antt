@@ -3,8 +3,8 @@ pub mod Starting
 pub mod Taken
 pub mod Written
 pub mod Divisors
-pub mod ReadingSteps
-pub mod Fronts
 pub mod Outcomes
 pub mod Records
 pub mod MadeOf
+pub mod Operands
+pub mod WordRows

@@ -1,5 +1,4 @@
 pub mod Words
-pub mod Reading
 pub mod Refusals
 pub mod Statuses
 pub mod Made

@@ -1,7 +1,7 @@
 -- What bounds makes of a trace: the certificate and the report.
 use Rattle.std.specs.Prelude.{◌≡◌, ℕ, Bool, false, List, length, map, replicate}
 use Rattle.cache_model.specs.declared.objects.Object.{Object}
-use Rattle.cache_model.specs.declared.objects.Objective.TheVariants.{Object as Hits}
+use Rattle.cache_model.specs.declared.objects.Objective.{Objective}
 use Rattle.cache_model.specs.declared.certificates.Header.{Header}
 use Rattle.cache_model.specs.declared.certificates.Record.{Record}
 use Rattle.cache_model.specs.declared.reports.Mode.TheVariants.{Infinite}
@@ -17,11 +17,11 @@ use Rattle.cache_model.specs.Texts.{cert_text, report_text}
 abbrev pub IsTakenByStart : List Interval → ℕ → ℕ → List Bool → Type 0
 IsTakenByStart intervals capacity steps keeps = IsRounded by_start intervals capacity steps (replicate (length intervals) false) keeps
 
--- a valid certificate of the trace in hits, with the greatest unit, over 1, without prices and flows, and with the keeps above
-pub record IsMade (capacity : ℕ) (trace : List Object) (h : Header) (records : List Record) : Type 0 where
+-- a valid certificate of the trace, with the greatest unit, over 1, without prices and flows, and with the keeps above
+pub record IsMade (objective : Objective) (capacity : ℕ) (trace : List Object) (h : Header) (records : List Record) : Type 0 where
   pub valid : IsValid trace h records
   pub of_capacity : h.capacity ≡ capacity
-  pub of_objective : h.objective ≡ Hits
+  pub of_objective : h.objective ≡ objective
   pub unit : IsUnit (eligible_of trace h) h.unit
   pub denominator : h.denominator ≡ 1
   pub plain : h.exact ≡ false
@@ -30,13 +30,13 @@ pub record IsMade (capacity : ℕ) (trace : List Object) (h : Header) (records :
   pub bounds : BoundsEveryPlay trace h
 
 -- what the report states beside the header
-abbrev pub facts_of : List Object → Header → BoundFacts
-facts_of trace h = record { header = h; objects = length (objects_of trace); dropped = 0; mode = Infinite; price = 0; intervals = length (eligible_of trace h) }
+abbrev pub facts_of : List Object → ℕ → Header → BoundFacts
+facts_of trace dropped h = record { header = h; objects = length (objects_of trace); dropped = dropped; mode = Infinite; price = 0; intervals = length (eligible_of trace h) }
 
 -- the certificate and the report are the texts of what is made of the trace
-pub record AreTexts (capacity : ℕ) (trace : List Object) (cert report : List ℕ) : Type 0 where
+pub record AreTexts (objective : Objective) (capacity : ℕ) (trace : List Object) (dropped : ℕ) (cert report : List ℕ) : Type 0 where
   pub header : Header
   pub records : List Record
-  pub made : IsMade capacity trace header records
+  pub made : IsMade objective capacity trace header records
   pub cert_is : cert ≡ cert_text header records
-  pub report_is : report ≡ report_text (facts_of trace header)
+  pub report_is : report ≡ report_text (facts_of trace dropped header)

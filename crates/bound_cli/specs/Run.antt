@@ -2,18 +2,24 @@
 use Rattle.std.specs.Prelude.{◌≡◌, ℕ, ◌⊎◌, List, [], Ok, Err, None, Some, IfSome}
 use Rattle.std.specs.declared.option.Option.{Option}
 use Rattle.std.specs.Io.KnownBytes.{Appends}
+use Rattle.bound_io.specs.Reading.{LosesFront}
 use Rattle.bound_io.specs.Writing.{AppendsProperFront}
 use Rattle.bound_io.specs.Devices.{Device, HasFailed, Gets, IsUntouched}
 use Rattle.cache_model.specs.declared.objects.Object.{Object}
-use Rattle.trace_webcache.specs.declared.line.LineKind.{LineKind}
-use Rattle.trace_webcache.specs.declared.line.LineKind.TheVariants.{NotYet}
+use Rattle.cache_model.specs.declared.objects.Objective.{Objective}
+use Rattle.trace_any.specs.declared.fault.TraceFault.{TraceFault as FaultOfTrace}
+use Rattle.trace_any.specs.declared.fault.TraceFault.TheVariants as trace
+use Rattle.trace_any.specs.declared.format.Format.{Format}
+use Rattle.trace_any.specs.Readings.{reading, full_limits}
+use Rattle.trace_any.specs.Readers.{IsWhole}
+use Rattle.bound_cli.specs.declared.words.Plan.{Plan}
 use Rattle.bound_cli.specs.declared.words.Plan.TheVariants.{Bounds}
+use Rattle.bound_cli.specs.declared.refusal.LimitName.TheVariants.{Requests, TraceBytes}
 use Rattle.bound_cli.specs.declared.refusal.Refusal.TheVariants as refusal
 use Rattle.bound_cli.specs.declared.status.Status.{Status}
-use Rattle.bound_cli.specs.declared.status.Status.TheVariants.{Done, Words, BadLine, TraceFault, ReportFault, MadeFault, NoMemory}
+use Rattle.bound_cli.specs.declared.status.Status.TheVariants.{Done, Words, BadLine, Limit, TraceFault, ReportFault, MadeFault, NoMemory}
 use Rattle.bound_cli.specs.Words.{plan}
 use Rattle.bound_cli.specs.Refusals.{refusal_line}
-use Rattle.bound_cli.specs.Reading.{reading}
 use Rattle.bound_cli.specs.Made.{AreTexts}
 
 -- what is seen of the four devices of a run
@@ -29,47 +35,63 @@ devices trace cert report made = record { trace = trace; cert = cert; report = r
 
 -- the words ask for something
 abbrev pub IsPlanned : List (List ℕ) → Type 0
-IsPlanned words = (capacity : ℕ) × (plan words ≡ Ok (Bounds capacity))
+IsPlanned words = (asked : Plan) × (plan words ≡ Ok asked)
 
--- all that the source had left was read, and is these bytes, where the source tells them
-pub record IsReadWhole (source : Device) (bytes : List ℕ) : Type 0 where
-  pub bytes_are : IfSome source.before (λ told. told ≡ bytes)
-  pub nothing_left : IfSome source.before (λ told. source.after ≡ Some [])
+-- the form of the trace that a plan reads
+abbrev pub format_of_plan : Plan → Format
+format_of_plan (Bounds format capacity objective) = format
 
--- the bytes that the source has left, which are those that it tells, are refused at this line
-abbrev pub IsRefusedAt : Option (List ℕ) → ℕ → LineKind → Type 0
-IsRefusedAt left line kind = (bytes : List ℕ) × IfSome left (λ told. told ≡ bytes) × (reading bytes ≡ Err line) × (kind ≡ NotYet)
+-- all that the source had left was read, and is a trace of these requests and so many dropped lines, where the source tells what it has left
+pub record IsLoaded (format : Format) (source : Device) (requests : List Object) (dropped : ℕ) : Type 0 where
+  pub read : IfSome source.before (λ bytes. IsWhole (reading format full_limits bytes) requests dropped)
+  pub nothing_left : IfSome source.before (λ bytes. source.after ≡ Some [])
+
+-- what the source had left is refused so, where the source tells it, and no more than a front of it is gone
+pub record IsRefused (format : Format) (source : Device) (fault : FaultOfTrace) : Type 0 where
+  pub refused : IfSome source.before (λ bytes. (reading format full_limits bytes).refused ≡ Some fault)
+  pub lost : LosesFront source.before source.after
+
+-- the certificate and the report of all that the source had left
+pub record IsReady (format : Format) (capacity : ℕ) (objective : Objective) (source : Device) (cert report : List ℕ) : Type 0 where
+  pub requests : List Object
+  pub dropped : ℕ
+  pub loaded : IsLoaded format source requests dropped
+  pub texts : AreTexts objective capacity requests dropped cert report
 
 -- the words were accepted, the trace was read whole, and these are its certificate and its report
 pub record IsPrepared (words : List (List ℕ)) (source : Device) (cert report : List ℕ) : Type 0 where
+  pub format : Format
   pub capacity : ℕ
-  pub bytes : List ℕ
-  pub trace : List Object
-  pub planned : plan words ≡ Ok (Bounds capacity)
-  pub read : IsReadWhole source bytes
-  pub accepted : reading bytes ≡ Ok trace
-  pub texts : AreTexts capacity trace cert report
+  pub objective : Objective
+  pub planned : plan words ≡ Ok (Bounds format capacity objective)
+  pub ready : IsReady format capacity objective source cert report
+
+-- the words were accepted, and the trace is refused
+abbrev pub RefusesPlanned : List (List ℕ) → Device → FaultOfTrace → Type 0
+RefusesPlanned words source fault = (asked : Plan) × (plan words ≡ Ok asked) × IsRefused (format_of_plan asked) source fault
 
 -- why a run ends in a status, and what the sinks got then
 abbrev pub Causes : List (List ℕ) → Devices → Status → Type 0
 Causes words d Done = (cert : List ℕ) × (report : List ℕ) × IsPrepared words d.trace cert report × Appends d.made.before d.made.after cert × Appends d.report.before d.report.after report
 Causes words d (Words fault) = (plan words ≡ Err fault) × Gets d.report (refusal_line (refusal.Words fault.place fault.kind)) × IsUntouched d.made × IsUntouched d.trace
-Causes words d (BadLine line kind) = IsPlanned words × IsRefusedAt d.trace.before line kind × Gets d.report (refusal_line (refusal.BadLine line kind)) × IsUntouched d.made
-Causes words d TraceFault = IsPlanned words × HasFailed d.trace × Gets d.report (refusal_line refusal.TraceFault) × IsUntouched d.made
+Causes words d (BadLine line kind) = RefusesPlanned words d.trace (trace.BadLine line kind) × Gets d.report (refusal_line (refusal.BadLine line kind)) × IsUntouched d.made
+Causes words d (Limit Requests) = RefusesPlanned words d.trace trace.TooManyRequests × Gets d.report (refusal_line (refusal.Limit Requests)) × IsUntouched d.made
+Causes words d (Limit TraceBytes) = RefusesPlanned words d.trace trace.InputTooLong × Gets d.report (refusal_line (refusal.Limit TraceBytes)) × IsUntouched d.made
+Causes words d TraceFault = IsPlanned words × HasFailed d.trace × LosesFront d.trace.before d.trace.after × Gets d.report (refusal_line refusal.TraceFault) × IsUntouched d.made
 Causes words d ReportFault = (cert : List ℕ) × (report : List ℕ) × IsPrepared words d.trace cert report × HasFailed d.report × Appends d.made.before d.made.after cert × AppendsProperFront d.report.before d.report.after report
 Causes words d MadeFault = (cert : List ℕ) × (report : List ℕ) × IsPrepared words d.trace cert report × HasFailed d.made × AppendsProperFront d.made.before d.made.after cert × Gets d.report (refusal_line refusal.MadeFault)
-Causes words d NoMemory = IsPlanned words × Gets d.report (refusal_line refusal.NoMemory) × IsUntouched d.made
+Causes words d NoMemory = IsPlanned words × LosesFront d.trace.before d.trace.after × Gets d.report (refusal_line refusal.NoMemory) × IsUntouched d.made
 
--- the status has its cause, and nothing was asked of the certificate source
+-- the status has its cause, and nothing of the certificate source changed
 pub record Explains (words : List (List ℕ)) (d : Devices) (status : Status) : Type 0 where
   pub cert_untouched : IsUntouched d.cert
   pub cause : Causes words d status
 
--- the bytes are told, and are a trace
-abbrev pub IsGoodTrace : Option (List ℕ) → Type 0
-IsGoodTrace None = ⊥
-IsGoodTrace (Some bytes) = (trace : List Object) × (reading bytes ≡ Ok trace)
+-- the bytes are told, and are a trace of this form within the limits
+abbrev pub IsGoodTrace : Format → Option (List ℕ) → Type 0
+IsGoodTrace format None = ⊥
+IsGoodTrace format (Some bytes) = (reading format full_limits bytes).refused ≡ None
 
 -- good words, a good trace and no fault lead to Done, unless memory ran out
 abbrev pub Completes : List (List ℕ) → Devices → Status → Type 0
-Completes words d status = IsPlanned words → IsGoodTrace d.trace.before → ¬ (HasFailed d.trace) → ¬ (HasFailed d.report) → ¬ (HasFailed d.made) → (status ≡ Done) ⊎ (status ≡ NoMemory)
+Completes words d status = (asked : Plan) → plan words ≡ Ok asked → IsGoodTrace (format_of_plan asked) d.trace.before → ¬ (HasFailed d.trace) → ¬ (HasFailed d.report) → ¬ (HasFailed d.made) → (status ≡ Done) ⊎ (status ≡ NoMemory)

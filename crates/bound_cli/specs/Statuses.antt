@@ -2,14 +2,18 @@
 use Rattle.std.specs.Prelude.{ℕ}
 use Rattle.bound_cli.specs.declared.refusal.Refusal.{Refusal}
 use Rattle.bound_cli.specs.declared.refusal.Refusal.TheVariants as refusal
+use Rattle.trace_any.specs.declared.fault.TraceFault.{TraceFault as FaultOfTrace}
+use Rattle.trace_any.specs.declared.fault.TraceFault.TheVariants as trace
+use Rattle.bound_cli.specs.declared.refusal.LimitName.TheVariants.{Requests, TraceBytes}
 use Rattle.bound_cli.specs.declared.status.Status.{Status}
-use Rattle.bound_cli.specs.declared.status.Status.TheVariants.{Done, Words, BadLine, TraceFault, ReportFault, MadeFault, NoMemory}
+use Rattle.bound_cli.specs.declared.status.Status.TheVariants.{Done, Words, BadLine, Limit, TraceFault, ReportFault, MadeFault, NoMemory}
 
 -- the exit status of the program
 abbrev pub code_of : Status → ℕ
 code_of Done = 0
 code_of (Words fault) = 2
 code_of (BadLine line kind) = 3
+code_of (Limit name) = 4
 code_of TraceFault = 5
 code_of ReportFault = 7
 code_of MadeFault = 8
@@ -19,6 +23,15 @@ code_of NoMemory = 9
 abbrev pub status_of : Refusal → Status
 status_of (refusal.Words place kind) = Words (record { place = place; kind = kind })
 status_of (refusal.BadLine line kind) = BadLine line kind
+status_of (refusal.Limit name) = Limit name
 status_of refusal.TraceFault = TraceFault
 status_of refusal.MadeFault = MadeFault
 status_of refusal.NoMemory = NoMemory
+
+-- the refusal that a fault of the trace leads to
+abbrev pub refusal_of : FaultOfTrace → Refusal
+refusal_of (trace.BadLine line kind) = refusal.BadLine line kind
+refusal_of trace.ReadFault = refusal.TraceFault
+refusal_of trace.InputTooLong = refusal.Limit TraceBytes
+refusal_of trace.TooManyRequests = refusal.Limit Requests
+refusal_of trace.NoMemory = refusal.NoMemory

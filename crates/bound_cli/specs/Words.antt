@@ -1,14 +1,20 @@
 -- The words of the command line.
-use Rattle.std.specs.Prelude.{ℕ, ◌^◌, ◌≤◌, List, length, take, drop, ◌==◌, nat_le, ◌&&◌, if◌then◌else◌, codes, slice_get, Result, Ok, Err, None, Some}
+use Rattle.std.specs.Prelude.{ℕ, ◌^◌, ◌+◌, ◌≤◌, List, [], ◌∷◌, ◌++◌, length, ◌==◌, nat_le, Bool, not, ◌&&◌, ◌||◌, if◌then◌else◌, codes, slice_get, Result, Ok, Err, None, Some, unwrap_or, option_and_then, find}
 use Rattle.std.specs.declared.option.Option.{Option}
+use Rattle.std.specs.List.{list_any, before_first, after_first}
+use Rattle.std.specs.Option.{is_some, option_map, option_or}
 use Rattle.std.specs.Str.{bytes_eq}
 use Rattle.bound_base.specs.Digits.{number_of}
 use Rattle.bound_base.specs.declared.digits.NumFault.{NumFault}
+use Rattle.cache_model.specs.declared.objects.Objective.{Objective}
+use Rattle.cache_model.specs.declared.objects.Objective.TheVariants.{Object as Hits, Bytes}
+use Rattle.trace_any.specs.declared.format.Format.{Format}
+use Rattle.trace_any.specs.declared.format.Format.TheVariants.{Webcache}
 use Rattle.bound_cli.specs.declared.words.Plan.{Plan}
 use Rattle.bound_cli.specs.declared.words.Plan.TheVariants.{Bounds}
 use Rattle.bound_cli.specs.declared.words.WordFault.{WordFault}
 use Rattle.bound_cli.specs.declared.words.WordKind.{WordKind}
-use Rattle.bound_cli.specs.declared.words.WordKind.TheVariants.{Missing, Unknown, BadValue}
+use Rattle.bound_cli.specs.declared.words.WordKind.TheVariants.{Missing, Unknown, Twice, BadValue}
 
 -- go on with the value, or stop at the fault
 infixl 10 ◌>>=◌
@@ -20,50 +26,128 @@ abbrev pub ◌>>=◌ : {A B : Type 0} → Result A WordFault → (A → Result B
 abbrev pub fault : ℕ → WordKind → WordFault
 fault place kind = record { place = place; kind = kind }
 
--- the word at a place has to be this one
-abbrev pub fixed : ℕ → List ℕ → Option (List ℕ) → Result (Unit {0}) WordFault
-fixed place wanted None = Err (fault place Missing)
-fixed place wanted (Some word) = if bytes_eq word wanted then Ok tt else Err (fault place Unknown)
+-- the first word has to be a command
+abbrev pub command : Option (List ℕ) → Result (Unit {0}) WordFault
+command None = Err (fault 1 Missing)
+command (Some word) = if bytes_eq word (codes "bounds") then Ok tt else Err (fault 1 Unknown)
 
 -- a path is any word but the empty one
 abbrev pub path : ℕ → Option (List ℕ) → Result (Unit {0}) WordFault
 path place None = Err (fault place Missing)
 path place (Some word) = if length word == 0 then Err (fault place BadValue) else Ok tt
 
+-- the operands are the words after the command and its two paths
+abbrev pub operands_of : List (List ℕ) → List (List ℕ)
+operands_of (command ∷ trace ∷ cert ∷ operands) = operands
+operands_of words = []
+
+-- whether a word has a `=`
+abbrev pub has_equals : List ℕ → Bool
+has_equals word = list_any (λ b. b == 61) word
+
+-- the name of an operand is what stands before its first `=`
+abbrev pub name_of : List ℕ → List ℕ
+name_of word = before_first (λ b. b == 61) word
+
+-- the value of an operand is what stands after its first `=`
+abbrev pub value_of : List ℕ → List ℕ
+value_of word = after_first (λ b. b == 61) word
+
+-- the form of a trace that a value names
+abbrev pub format_of : List ℕ → Option Format
+format_of value = if bytes_eq value (codes "webcache") then Some Webcache else None
+
 -- a capacity is from 1 to 2^56
-abbrev pub capacity_value : ℕ → Result ℕ NumFault → Result ℕ WordFault
-capacity_value place (Err e) = Err (fault place BadValue)
-capacity_value place (Ok n) = if nat_le 1 n && nat_le n (2 ^ 56) then Ok n else Err (fault place BadValue)
+abbrev pub checked_capacity : Result ℕ NumFault → Option ℕ
+checked_capacity (Err e) = None
+checked_capacity (Ok n) = if nat_le 1 n && nat_le n (2 ^ 56) then Some n else None
 
--- what stands before the number of a capacity
-abbrev pub capacity_label : List ℕ
-capacity_label = codes "capacity="
+-- the capacity that a value names
+abbrev pub capacity_of : List ℕ → Option ℕ
+capacity_of value = checked_capacity (number_of (2 ^ 64) value)
 
--- the capacity that the word at a place gives
-abbrev pub capacity : ℕ → Option (List ℕ) → Result ℕ WordFault
-capacity place None = Err (fault place Missing)
-capacity place (Some word) = if bytes_eq (take 9 word) capacity_label then capacity_value place (number_of (2 ^ 64) (drop 9 word)) else Err (fault place Unknown)
+-- the objective that a value names
+abbrev pub objective_of : List ℕ → Option Objective
+objective_of value =
+    if bytes_eq value (codes "object") then Some Hits
+    else (if bytes_eq value (codes "bytes") then Some Bytes
+    else None)
 
--- no word stands at a place
-abbrev pub nothing : ℕ → Option (List ℕ) → Result (Unit {0}) WordFault
-nothing place None = Ok tt
-nothing place (Some word) = Err (fault place Unknown)
+-- whether an operand has this name
+abbrev pub is_operand : List ℕ → Bool
+is_operand name =
+    bytes_eq name (codes "format")
+    || bytes_eq name (codes "capacity")
+    || bytes_eq name (codes "objective")
+    || bytes_eq name (codes "mode")
+
+-- whether the operand of this name may have this value
+abbrev pub is_value : List ℕ → List ℕ → Bool
+is_value name value =
+    (bytes_eq name (codes "format") && is_some (format_of value))
+    || (bytes_eq name (codes "capacity") && is_some (capacity_of value))
+    || (bytes_eq name (codes "objective") && is_some (objective_of value))
+    || (bytes_eq name (codes "mode") && bytes_eq value (codes "infinite"))
+
+-- the value that the operands give to a name
+abbrev pub value_given : List ℕ → List (List ℕ) → Option (List ℕ)
+value_given name operands = option_map value_of (find (λ word. bytes_eq (name_of word) name) operands)
+
+-- why a word is refused that stands after these operands: it is none, it repeats one, or its value is none of the operand's
+abbrev pub operand_fault : List (List ℕ) → List ℕ → Option WordKind
+operand_fault before word =
+    if not (has_equals word && is_operand (name_of word)) then Some Unknown
+    else (if is_some (value_given (name_of word) before) then Some Twice
+    else (if is_value (name_of word) (value_of word) then None
+    else Some BadValue))
+
+-- the first of the words that is refused, the first of which stands at this place after these operands
+abbrev pub operands_fault : ℕ → List (List ℕ) → List (List ℕ) → Option WordFault
+operands_fault place before [] = None
+operands_fault place before (word ∷ words) = option_or (option_map (fault place) (operand_fault before word)) (operands_fault (place + 1) (before ++ word ∷ []) words)
+
+-- no fault lets the words pass
+abbrev pub passed : Option WordFault → Result (Unit {0}) WordFault
+passed None = Ok tt
+passed (Some e) = Err e
+
+-- what has to be given is missing at the place after the last word
+abbrev pub required : {A : Type 0} → ℕ → Option A → Result A WordFault
+required end None = Err (fault end Missing)
+required end (Some x) = Ok x
+
+-- the form of the trace that the operands give
+abbrev pub format_given : List (List ℕ) → Option Format
+format_given operands = option_and_then format_of (value_given (codes "format") operands)
+
+-- the capacity that the operands give
+abbrev pub capacity_given : List (List ℕ) → Option ℕ
+capacity_given operands = option_and_then capacity_of (value_given (codes "capacity") operands)
+
+-- the objective that the operands give, and hits where they give none
+abbrev pub objective_given : List (List ℕ) → Objective
+objective_given operands = unwrap_or (option_and_then objective_of (value_given (codes "objective") operands)) Hits
+
+-- the plan that accepted operands give, where the words end before this place
+abbrev pub bounds_plan : ℕ → List (List ℕ) → Result Plan WordFault
+bounds_plan end operands = do
+  format ← required end (format_given operands)
+  capacity ← required end (capacity_given operands)
+  mode ← required end (value_given (codes "mode") operands)
+  Ok (Bounds format capacity (objective_given operands))
 
 -- what the words ask for, or the first fault in them
 unfoldable pub plan : List (List ℕ) → Result Plan WordFault
 plan words = do
-  command ← fixed 1 (codes "bounds") (slice_get words 0)
+  first ← command (slice_get words 0)
   trace ← path 2 (slice_get words 1)
   cert ← path 3 (slice_get words 2)
-  format ← fixed 4 (codes "format=webcache") (slice_get words 3)
-  n ← capacity 5 (slice_get words 4)
-  mode ← fixed 6 (codes "mode=infinite") (slice_get words 5)
-  end ← nothing 7 (slice_get words 6)
-  Ok (Bounds n)
+  accepted ← passed (operands_fault 4 [] (operands_of words))
+  bounds_plan (length words + 1) (operands_of words)
 
 -- the capacity is from 1 to 2^56
 abbrev pub IsPlanInRange : Plan → Type 0
-IsPlanInRange (Bounds capacity) = (1 ≤ capacity) × (capacity ≤ 2 ^ 56)
+IsPlanInRange (Bounds format capacity objective) = (1 ≤ capacity) × (capacity ≤ 2 ^ 56)
 
 -- the word, or a dash where there is none
 abbrev pub word_or_dash : Option (List ℕ) → List ℕ

@@ -1,5 +1,5 @@
 //! Eligible intervals, and their unit.
-ghost use Rattle.std.specs.Prelude.{◌≡◌, ◌<◌, ◌≤◌, ◌^◌, ◌∷◌, [], length, All, IfOk, MatchOption};
+ghost use Rattle.std.specs.Prelude.{◌≡◌, ◌<◌, ◌≤◌, ◌*◌, ◌^◌, ◌∷◌, [], length, sum_by, All, IfOk, MatchOption};
 ghost use Rattle.cache_model.specs.Intervals.{eligible_from, eligible_intervals};
 ghost use Rattle.cache_model.specs.Units.{IsUnit};
 ghost use Rattle.bound_cli.specs.Sizes.{IsSizeWithin};
@@ -62,4 +62,16 @@ pub fn unit_of(intervals: &[Interval]) -> u64
         unit = gcd(unit, interval.size);
     }
     if unit == 0 { 1 } else { unit }
+}
+
+/// The gains, summed.
+pub fn gains_of(intervals: &[Interval]) -> u128
+    ensures sum { result ≡ sum_by (λ i. i.gain) intervals.now }
+    ensures most { result ≤ length intervals.now * 2 ^ 64 }
+{
+    let mut gains = 0;
+    for interval in intervals {
+        gains += interval.gain as u128;
+    }
+    gains
 }

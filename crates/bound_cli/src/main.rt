@@ -14,7 +14,6 @@ use words::paths_of;
 mod bounds;
 mod certificate;
 mod intervals;
-mod reading;
 mod refusal;
 mod report;
 mod schedule;

@@ -1,13 +1,22 @@
 //! The line that tells why a run stopped. It takes no memory.
 ghost use Rattle.std.specs.Prelude.{◌≡◌, ◌+◌, ◌≤◌, List, ℕ, [], ◌++◌, length, take, decimal};
-ghost use Rattle.bound_cli.specs.Refusals.{line_kind_text, refusal_line, word_kind_text};
+ghost use Rattle.bound_cli.specs.Refusals.{limit_text, line_kind_text, refusal_line, word_kind_text};
 
 use crate::words::WordKind;
 use bound_base::NoMemory;
-use bound_io::ReadFault;
 use itoa::Buffer;
 use std::marker::Model;
-use trace_webcache::LineKind;
+use trace_any::TraceFault;
+use trace_lines::LineKind;
+
+/// A limit of the program.
+#[derive(Clone, Copy, Debug, PartialEq, Eq)]
+pub enum LimitName {
+    /// 2^25 requests of a trace.
+    Requests,
+    /// 2^36 bytes of a trace.
+    TraceBytes,
+}
 
 /// Why a run stopped.
 #[derive(Clone, Copy, Debug, PartialEq, Eq)]
@@ -16,6 +25,8 @@ pub enum Refusal {
     Words { place: u64, kind: WordKind },
     /// A line of the trace is refused. Lines count from 1.
     BadLine { line: u64, kind: LineKind },
+    /// The trace passes a limit.
+    Limit(LimitName),
     /// A read of the trace failed.
     TraceFault,
     /// A write of the certificate failed.
@@ -35,16 +46,19 @@ impl From<NoMemory> for Refusal {
     }
 }
 
-impl From<ReadFault> for Refusal {
+impl From<TraceFault> for Refusal {
     ghost use Rattle.std.specs.Prelude.{◌≡◌};
-    ghost use Rattle.bound_cli.specs.Parts.{from_read};
+    ghost use Rattle.bound_cli.specs.Statuses.{refusal_of};
 
-    ghost from_gives = { λ e r. r ≡ from_read e };
+    ghost from_gives = { λ f r. r ≡ refusal_of f };
 
-    fn from(fault: ReadFault) -> Self {
+    fn from(fault: TraceFault) -> Self {
         match fault {
-            ReadFault::Failed => Refusal::TraceFault,
-            ReadFault::NoMemory => Refusal::NoMemory,
+            TraceFault::BadLine { line, kind } => Refusal::BadLine { line, kind },
+            TraceFault::ReadFault => Refusal::TraceFault,
+            TraceFault::InputTooLong => Refusal::Limit(LimitName::TraceBytes),
+            TraceFault::TooManyRequests => Refusal::Limit(LimitName::Requests),
+            TraceFault::NoMemory => Refusal::NoMemory,
         }
     }
 }
@@ -109,16 +123,38 @@ fn word_text(kind: WordKind) -> &'static [u8]
     match kind {
         WordKind::Missing => b"missing\n",
         WordKind::Unknown => b"unknown\n",
+        WordKind::Twice => b"twice\n",
         WordKind::BadValue => b"bad value\n",
     }
 }
 
-fn line_text(kind: LineKind) -> &'static [u8]
-    ensures text { result.now ≡ line_kind_text kind }
-    ensures short { length result.now ≤ 20 }
+fn limit_text(name: LimitName) -> &'static [u8]
+    ensures text { result.now ≡ limit_text name }
+    ensures short { length result.now ≤ 30 }
+{
+    match name {
+        LimitName::Requests => b"requests 33554432\n",
+        LimitName::TraceBytes => b"trace bytes 68719476736\n",
+    }
+}
+
+// Why a line is refused.
+fn push_line_kind(text: &mut RefusalText, kind: LineKind)
+    requires { length text.old ≤ 100 }
+    ensures { text.new ≡ text.old ++ line_kind_text kind }
 {
     match kind {
-        LineKind::NotYet => b"form\n",
+        LineKind::TooFewWords => text.push(b"too few words\n"),
+        LineKind::BadNumber { word } => {
+            text.push(b"number in word ");
+            text.push_number(word as u64);
+            text.push(b"\n");
+        }
+        LineKind::SizeTooLarge => text.push(b"size too large\n"),
+        LineKind::BadRange => text.push(b"block range\n"),
+        LineKind::BadType => text.push(b"type\n"),
+        LineKind::QuoteByte => text.push(b"quote\n"),
+        LineKind::TooLong => text.push(b"line too long\n"),
     }
 }
 
@@ -138,7 +174,11 @@ pub fn refusal_text(refusal: &Refusal) -> RefusalText
             text.push(b"bad line ");
             text.push_number(*line);
             text.push(b": ");
-            text.push(line_text(*kind));
+            push_line_kind(&mut text, *kind);
+        }
+        Refusal::Limit(name) => {
+            text.push(b"limit: ");
+            text.push(limit_text(*name));
         }
         Refusal::TraceFault => text.push(b"trace fault\n"),
         Refusal::MadeFault => text.push(b"made fault\n"),

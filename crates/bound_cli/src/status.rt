@@ -2,9 +2,9 @@
 ghost use Rattle.std.specs.Prelude.{◌≡◌};
 ghost use Rattle.bound_cli.specs.Statuses.{code_of};
 
-use crate::refusal::Refusal;
+use crate::refusal::{LimitName, Refusal};
 use crate::words::WordFault;
-use trace_webcache::LineKind;
+use trace_lines::LineKind;
 
 /// How a run ends, each with the exit status of the program.
 #[derive(Clone, Copy, Debug, PartialEq, Eq)]
@@ -15,6 +15,8 @@ pub enum Status {
     Words(WordFault),
     /// A line of the trace is refused. Lines count from 1.
     BadLine { line: u64, kind: LineKind },
+    /// The trace passes a limit.
+    Limit(LimitName),
     /// A read of the trace failed.
     TraceFault,
     /// A write of the report failed.
@@ -34,6 +36,7 @@ impl Status {
             Status::Done => 0,
             Status::Words(_) => 2,
             Status::BadLine { .. } => 3,
+            Status::Limit(_) => 4,
             Status::TraceFault => 5,
             Status::ReportFault => 7,
             Status::MadeFault => 8,
@@ -52,6 +55,7 @@ impl From<Refusal> for Status {
         match refusal {
             Refusal::Words { place, kind } => Status::Words(WordFault { place, kind }),
             Refusal::BadLine { line, kind } => Status::BadLine { line, kind },
+            Refusal::Limit(name) => Status::Limit(name),
             Refusal::TraceFault => Status::TraceFault,
             Refusal::MadeFault => Status::MadeFault,
             Refusal::NoMemory => Status::NoMemory,

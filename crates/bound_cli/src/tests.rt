@@ -1,5 +1,5 @@
 //! Whole runs over sources and sinks in memory. The expected texts and numbers were made by hand.
-ghost use Rattle.std.specs.Prelude.{◌≡◌};
+ghost use Rattle.std.specs.Prelude.{◌≡◌, ◌≤◌};
 
 use crate::status::Status;
 use crate::top::run;
@@ -8,7 +8,7 @@ use bound_io::{CalmSource, MemSink, MemSource};
 use std::alloc::{AllocError, Global};
 use std::process::Abort;
 use std::test::Fail;
-use trace_webcache::LineKind;
+use trace_lines::LineKind;
 
 const WORDS: [&str; 6] = [
     "bounds",
@@ -103,39 +103,6 @@ denominator 1\nform plain\nupper 0\nflow 0\nlower 0\nrecords\nend\n",
         ..GOOD
     },
     Row {
-        shows: "a word that is no number",
-        trace: b"1 7 4\n2 x 4\n",
-        status: Status::BadLine {
-            line: 2,
-            kind: LineKind::NotYet,
-        },
-        report: b"bad line 2: form\n",
-        made: b"",
-        ..GOOD
-    },
-    Row {
-        shows: "a CR before the LF",
-        trace: b"1 7 4\r\n2 7 4",
-        status: Status::BadLine {
-            line: 1,
-            kind: LineKind::NotYet,
-        },
-        report: b"bad line 1: form\n",
-        made: b"",
-        ..GOOD
-    },
-    Row {
-        shows: "a last line without LF",
-        trace: b"1 7 4\n2 7 4",
-        status: Status::BadLine {
-            line: 2,
-            kind: LineKind::NotYet,
-        },
-        report: b"bad line 2: form\n",
-        made: b"",
-        ..GOOD
-    },
-    Row {
         shows: "no words",
         words: &[],
         status: Status::Words(WordFault {
@@ -192,9 +159,9 @@ denominator 1\nform plain\nupper 0\nflow 0\nlower 0\nrecords\nend\n",
         ],
         status: Status::Words(WordFault {
             place: 6,
-            kind: WordKind::Unknown,
+            kind: WordKind::BadValue,
         }),
-        report: b"words: place 6: unknown\n",
+        report: b"words: place 6: bad value\n",
         made: b"",
         ..GOOD
     },
@@ -215,6 +182,48 @@ denominator 1\nform plain\nupper 0\nflow 0\nlower 0\nrecords\nend\n",
         }),
         report: b"words: place 7: unknown\n",
         made: b"",
+        ..GOOD
+    },
+    Row {
+        shows: "a capacity that stood before",
+        words: &[
+            "bounds",
+            "t",
+            "c",
+            "format=webcache",
+            "capacity=10",
+            "capacity=10",
+        ],
+        status: Status::Words(WordFault {
+            place: 6,
+            kind: WordKind::Twice,
+        }),
+        report: b"words: place 6: twice\n",
+        made: b"",
+        ..GOOD
+    },
+    Row {
+        shows: "a mode is missing after the last word",
+        words: &["bounds", "t", "c", "capacity=10", "format=webcache"],
+        status: Status::Words(WordFault {
+            place: 6,
+            kind: WordKind::Missing,
+        }),
+        report: b"words: place 6: missing\n",
+        made: b"",
+        ..GOOD
+    },
+    Row {
+        shows: "operands in another order, with the objective",
+        words: &[
+            "bounds",
+            "t",
+            "c",
+            "objective=object",
+            "mode=infinite",
+            "capacity=010",
+            "format=webcache",
+        ],
         ..GOOD
     },
     Row {
@@ -242,6 +251,98 @@ denominator 1\nform plain\nupper 0\nflow 0\nlower 0\nrecords\nend\n",
     },
 ];
 
+// Traces of every form, and the lines that are refused.
+const TRACE_ROWS: [Row<'static>; 9] = [
+    Row {
+        shows: "a CR before the LF, and no LF at the end",
+        trace: b"1 7 4\r\n2 7 4",
+        ..GOOD
+    },
+    Row {
+        shows: "a line that asks for no byte",
+        trace: b"1 7 4\n5 7 0\n6 7 4\n",
+        report: b"trace requests 2 objects 1 dropped 1\ncapacity 10 objective object\n\
+mode infinite form plain\nunit 4 units 2 denominator 1\nintervals 1\nupper 1/1 floor 1\nflow 0/1\nlower 1\n",
+        ..GOOD
+    },
+    Row {
+        shows: "tabs, further words, leading zeros, a time that is no number, and blank lines",
+        trace: b"\n \t\nnoon\t7  04 GET\n\r\n\t2 007\t4\t\r\n",
+        ..GOOD
+    },
+    Row {
+        shows: "a hit gains its bytes",
+        words: &[
+            "bounds",
+            "t",
+            "c",
+            "objective=bytes",
+            "format=webcache",
+            "capacity=5",
+            "mode=infinite",
+        ],
+        trace: b"1 1 2\n2 2 3\n3 1 2\n4 2 3\n",
+        report: b"trace requests 4 objects 2 dropped 0\ncapacity 5 objective bytes\n\
+mode infinite form plain\nunit 1 units 5 denominator 1\nintervals 2\nupper 5/1 floor 5\nflow 0/1\nlower 5\n",
+        made: b"cache-bound-certificate 1\nobjective bytes\ncapacity 5\nrequests 4\nunit 1\n\
+denominator 1\nform plain\nupper 5\nflow 0\nlower 5\nrecords\n0 1 0\n0 1 0\n0 0 0\n0 0 0\nend\n",
+        ..GOOD
+    },
+    Row {
+        shows: "the largest size, above the capacity",
+        trace: b"1 7 281474976710656\n",
+        report: b"trace requests 1 objects 1 dropped 0\ncapacity 10 objective object\n\
+mode infinite form plain\nunit 1 units 10 denominator 1\nintervals 0\nupper 0/1 floor 0\nflow 0/1\nlower 0\n",
+        made: b"cache-bound-certificate 1\nobjective object\ncapacity 10\nrequests 1\nunit 1\n\
+denominator 1\nform plain\nupper 0\nflow 0\nlower 0\nrecords\n0 0 0\nend\n",
+        ..GOOD
+    },
+    Row {
+        shows: "a size past the largest",
+        trace: b"1 7 281474976710657\n",
+        status: Status::BadLine {
+            line: 1,
+            kind: LineKind::SizeTooLarge,
+        },
+        report: b"bad line 1: size too large\n",
+        made: b"",
+        ..GOOD
+    },
+    Row {
+        shows: "an id that is no number",
+        trace: b"1 7 4\n2 x 4\n",
+        status: Status::BadLine {
+            line: 2,
+            kind: LineKind::BadNumber { word: 2 },
+        },
+        report: b"bad line 2: number in word 2\n",
+        made: b"",
+        ..GOOD
+    },
+    Row {
+        shows: "a size that is no number, after a line that is skipped",
+        trace: b"1 7 4\n\n3 7 4x\n4 x 4\n",
+        status: Status::BadLine {
+            line: 3,
+            kind: LineKind::BadNumber { word: 3 },
+        },
+        report: b"bad line 3: number in word 3\n",
+        made: b"",
+        ..GOOD
+    },
+    Row {
+        shows: "a line of two words",
+        trace: b"1 7",
+        status: Status::BadLine {
+            line: 1,
+            kind: LineKind::TooFewWords,
+        },
+        report: b"bad line 1: too few words\n",
+        made: b"",
+        ..GOOD
+    },
+];
+
 fn words_of(alloc: Global, words: &[&str]) -> Result<Vec<String>, AllocError> {
     let mut all = Vec::new(alloc);
     for word in words {
@@ -261,6 +362,14 @@ fn check(rt: &impl Abort, alloc: Global, row: &Row<'_>) -> Result<(), Fail> {
     assert_eq!(rt; status, row.status, "{}", row.shows);
     assert_eq!(rt; report.written(), row.report, "{}", row.shows);
     assert_eq!(rt; made.written(), row.made, "{}", row.shows);
+    Ok(())
+}
+
+#[test]
+fn traces_are_read_or_refused_at_their_line(rt: HostRuntime) -> Result<(), Fail> {
+    for row in &TRACE_ROWS {
+        check(&rt, rt.alloc(), row)?;
+    }
     Ok(())
 }
 
@@ -321,7 +430,7 @@ fn a_write_of_the_report_that_fails_is_a_report_fault(rt: HostRuntime) -> Result
 
 #[test]
 fn a_refusal_that_is_cut_short_keeps_its_status(rt: HostRuntime) -> Result<(), Fail> {
-    let line = b"bad line 1: form\n";
+    let line = b"bad line 1: too few words\n";
     for taken in 0..line.len() {
         let row = Row {
             shows: "a refusal that is cut short",
@@ -329,7 +438,7 @@ fn a_refusal_that_is_cut_short_keeps_its_status(rt: HostRuntime) -> Result<(), F
             report_fails: &[taken as u64 + 1],
             status: Status::BadLine {
                 line: 1,
-                kind: LineKind::NotYet,
+                kind: LineKind::TooFewWords,
             },
             report: &line[..taken],
             made: b"",
@@ -365,5 +474,48 @@ fn a_calm_source_gives_no_fault(rt: HostRuntime) -> Result<(), Fail> {
     let status = run_over_calm(alloc, &words, &mut trace, &mut cert, &mut report, &mut made);
     assert_eq!(rt; status, Status::Done);
     assert_eq!(rt; made.written(), PAIR_CERT);
+    Ok(())
+}
+
+// A line of one request, whose text has so many bytes.
+fn padded(alloc: Global, bytes: usize) -> Result<Vec<u8>, AllocError> {
+    let mut text = b"1 7 4".to_vec(alloc)?;
+    for _ in text.len()..bytes {
+        text.push(b' ')?;
+    }
+    text.push(b'\n')?;
+    Ok(text)
+}
+
+// The report of a run over a calm source of these bytes, read in steps.
+fn check_long(
+    rt: &impl Abort,
+    alloc: Global,
+    bytes: usize,
+    step: usize,
+    status: Status,
+) -> Result<(), Fail>
+    requires { 1 ≤ step }
+{
+    let words = words_of(alloc, &WORDS)?;
+    let mut trace = MemSource::new(padded(alloc, bytes)?, Vec::new(alloc), step);
+    let mut cert = CalmSource::new(Vec::new(alloc));
+    let mut report = MemSink::new(alloc, 4096, Vec::new(alloc), 4096)?;
+    let mut made = MemSink::new(alloc, 4096, Vec::new(alloc), 4096)?;
+    let found = run(alloc, &words, &mut trace, &mut cert, &mut report, &mut made);
+    assert_eq!(rt; found, status, "{bytes} bytes, step {step}");
+    Ok(())
+}
+
+#[test]
+fn a_text_has_at_most_65535_bytes(rt: HostRuntime) -> Result<(), Fail> {
+    let too_long = Status::BadLine {
+        line: 1,
+        kind: LineKind::TooLong,
+    };
+    for step in [7, 65535, 65536, 65537] {
+        check_long(&rt, rt.alloc(), 65535, step, Status::Done)?;
+        check_long(&rt, rt.alloc(), 65536, step, too_long)?;
+    }
     Ok(())
 }

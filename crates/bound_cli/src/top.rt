@@ -1,28 +1,49 @@
 //! All that the program does, over any sources and sinks.
 ghost use Rattle.std.specs.Prelude.{◌≡◌, ◌≤◌, ◌^◌, map, string_bytes, IfOk, IfErr};
 ghost use Rattle.bound_io.specs.Devices.{Gets, device};
-ghost use Rattle.bound_cli.specs.Made.{AreTexts};
-ghost use Rattle.bound_cli.specs.Parts.{IsReady, RefusesTrace, WritesOut};
+ghost use Rattle.bound_io.specs.Reading.{LosesFront};
+ghost use Rattle.bound_cli.specs.Parts.{RefusesTrace, WritesOut};
 ghost use Rattle.bound_cli.specs.Refusals.{refusal_line};
-ghost use Rattle.bound_cli.specs.Run.{Completes, Explains, devices};
+ghost use Rattle.bound_cli.specs.Run.{Completes, Explains, IsLoaded, IsReady, devices};
 ghost use Rattle.bound_cli.specs.Statuses.{status_of};
 
 use crate::bounds::{Texts, texts_of};
-use crate::reading::load;
 use crate::refusal::{Refusal, refusal_text};
 use crate::status::Status;
 use crate::words::plan_of;
 use bound_io::{Sink, Source, write_all};
+use cache_rules::{Objective, Trace};
 use std::alloc::Global;
+use trace_any::{Format, Limits, RequestReader, load};
+
+// The requests of all that the source has left, and how many lines of it were dropped.
+fn load_all<T: Source>(
+    alloc: Global,
+    format: Format,
+    trace: &mut T,
+) -> Result<(Trace, u64), Refusal>
+    ensures loaded { IfOk result (λ read. IsLoaded format (device (T.left trace.old) (T.left trace.new) (T.faults trace.old) (T.faults trace.new)) read.0 read.1) }
+    ensures refused { IfErr result (RefusesTrace format (device (T.left trace.old) (T.left trace.new) (T.faults trace.old) (T.faults trace.new))) }
+    ensures source { LosesFront (T.left trace.old) (T.left trace.new) }
+{
+    let mut reader = RequestReader::new(alloc, format, Limits::full())?;
+    Ok(load(alloc, &mut reader, trace)?)
+}
 
 // The certificate and the report of all that the source has left.
-fn prepare<T: Source>(alloc: Global, capacity: u64, trace: &mut T) -> Result<Texts, Refusal>
+fn prepare<T: Source>(
+    alloc: Global,
+    format: Format,
+    capacity: u64,
+    objective: Objective,
+    trace: &mut T,
+) -> Result<Texts, Refusal>
     requires capacity { (1 ≤ capacity) × (capacity ≤ 2 ^ 56) }
-    ensures ready { IfOk result (λ texts. IsReady capacity (device (T.left trace.old) (T.left trace.new) (T.faults trace.old) (T.faults trace.new)) texts.cert.items texts.report.items) }
-    ensures refused { IfErr result (RefusesTrace (device (T.left trace.old) (T.left trace.new) (T.faults trace.old) (T.faults trace.new))) }
+    ensures ready { IfOk result (λ texts. IsReady format capacity objective (device (T.left trace.old) (T.left trace.new) (T.faults trace.old) (T.faults trace.new)) texts.cert.items texts.report.items) }
+    ensures refused { IfErr result (RefusesTrace format (device (T.left trace.old) (T.left trace.new) (T.faults trace.old) (T.faults trace.new))) }
 {
-    let requests = load(alloc, trace)?;
-    Ok(texts_of(alloc, capacity, &requests)?)
+    let (requests, dropped) = load_all(alloc, format, trace)?;
+    Ok(texts_of(alloc, capacity, objective, &requests, dropped)?)
 }
 
 // Writes the line that tells why the run stopped, as far as the report takes it.
@@ -83,7 +104,8 @@ pub fn run<T: Source, Q: Source, R: Sink, K: Sink>(
             );
         }
     };
-    match prepare(alloc, plan.capacity(), trace) {
+    let (format, capacity, objective) = plan.bounds();
+    match prepare(alloc, format, capacity, objective, trace) {
         Ok(texts) => write_out(report, made, &texts),
         Err(refusal) => refuse(report, refusal),
     }

@@ -1,5 +1,5 @@
 -- What calls that read leave of a source.
-use Rattle.std.specs.Prelude.{◌≡◌, ℕ, List, ◌++◌, Bool, false, Result, IfOk}
+use Rattle.std.specs.Prelude.{◌≡◌, ℕ, List, ◌++◌, length, Result, IfOk}
 use Rattle.std.specs.declared.option.Option.{Option}
 use Rattle.std.specs.Io.KnownBytes.{Consumes, IsAtEnd}
 
@@ -7,6 +7,6 @@ use Rattle.std.specs.Io.KnownBytes.{Consumes, IsAtEnd}
 abbrev pub LosesFront : Option (List ℕ) → Option (List ℕ) → Type 0
 LosesFront old new = (bytes : List ℕ) × Consumes old new bytes
 
--- new is old with the bytes that were taken from a source; an answer of false means that it is at its end
-abbrev pub ReadsOn : {E : Type 0} → Option (List ℕ) → Option (List ℕ) → List ℕ → List ℕ → Result Bool E → Type 0
-ReadsOn left_old left_new old new result = IfOk result (λ more. ((bytes : List ℕ) × (new ≡ old ++ bytes) × Consumes left_old left_new bytes) × (more ≡ false → IsAtEnd left_new))
+-- new is old with the bytes that were taken from a source, so many as the answer says; none only at its end
+abbrev pub ReadsOn : {E : Type 0} → Option (List ℕ) → Option (List ℕ) → List ℕ → List ℕ → Result ℕ E → Type 0
+ReadsOn left_old left_new old new result = IfOk result (λ n. ((bytes : List ℕ) × (new ≡ old ++ bytes) × (length bytes ≡ n) × Consumes left_old left_new bytes) × (n ≡ 0 → IsAtEnd left_new))

@@ -11,7 +11,6 @@ use Rattle.std.proofs.lemmas.List.Sums.{sum_by-cons, sum_by-take-le}
 use Rattle.std.proofs.lemmas.List.Elements.{All-head, All-tail, All-map, All-weaker}
 use Rattle.cache_model.specs.declared.objects.Object.{Object}
 use Rattle.cache_model.specs.declared.objects.Objective.{Objective}
-use Rattle.cache_model.specs.declared.objects.Objective.TheVariants.{Object as Hits}
 use Rattle.cache_model.specs.declared.intervals.Interval.{Interval}
 use Rattle.cache_model.specs.declared.certificates.Header.{Header}
 use Rattle.cache_model.specs.Play.{holds, gain_of, total_size, IsAllowed, score}
@@ -73,7 +72,7 @@ surplus-unpriced unit denominator keeps i =
     omega (arith, none)
 
 -- without prices the bound is the sum of the gains of the eligible intervals, over the denominator
-pub upper_unpriced : (trace : List Object) (h : Header) (keeps : List Bool) → upper_of trace h (map unpriced keeps) ≡ sum_by (λ i. h.denominator * i.gain) (eligible_of trace h)
+upper_unpriced : (trace : List Object) (h : Header) (keeps : List Bool) → upper_of trace h (map unpriced keeps) ≡ sum_by (λ i. h.denominator * i.gain) (eligible_of trace h)
 upper_unpriced trace h keeps =
     let prices : List ℕ = prices_of (map unpriced keeps) in
     let none : units_of h * sum prices ≡ units_of h * 0 = ap (λ n. units_of h * n) (sum-unpriced keeps) in
@@ -81,22 +80,11 @@ upper_unpriced trace h keeps =
     sum_by-agree (surplus h.unit h.denominator prices) (λ i. h.denominator * i.gain) (eligible_of trace h) (surplus-unpriced h.unit h.denominator keeps) in
     omega (arith, none, whole)
 
--- a sum of terms that are 1 is their number
-sum_by-one : {X : Type 0} (f : X → ℕ) (xs : List X) → All (λ x. f x ≡ 1) xs → sum_by f xs ≡ length xs
-sum_by-one f [] each = refl
-sum_by-one f (x ∷ xs) each = omega (arith, sum_by-cons f x xs, All-head (λ y. f y ≡ 1) x xs each, sum_by-one f xs (All-tail (λ y. f y ≡ 1) x xs each))
-
--- without prices, over the denominator 1, the bound on hits is the number of eligible intervals
-pub upper_of_hits : (trace : List Object) (h : Header) (keeps : List Bool) → h.objective ≡ Hits → h.denominator ≡ 1 → upper_of trace h (map unpriced keeps) ≡ length (eligible_of trace h)
-upper_of_hits trace h keeps hits one =
+-- without prices, over the denominator 1, the bound is the sum of the gains of the eligible intervals
+pub upper_of_gains : (trace : List Object) (h : Header) (keeps : List Bool) → h.denominator ≡ 1 → upper_of trace h (map unpriced keeps) ≡ sum_by (λ i. i.gain) (eligible_of trace h)
+upper_of_gains trace h keeps one =
     upper_unpriced trace h keeps
-    ∙ sum_by-one (λ i. h.denominator * i.gain) (eligible_of trace h)
-    (All-weaker (IsEligible h.objective h.capacity trace) (λ i. h.denominator * i.gain ≡ 1) each (eligible_of trace h) (All-eligible_intervals h.objective h.capacity trace))
-  where
-    each : (i : Interval) → IsEligible h.objective h.capacity trace i → h.denominator * i.gain ≡ 1
-    each i e =
-        let gain : i.gain ≡ 1 = ap (λ j. j.gain) e.numbers ∙ ap (λ o. gain_of o (request_at trace i.end)) hits in
-        ap (λ d. d * i.gain) one ∙ ap (λ g. 1 * g) gain
+    ∙ sum_by-agree (λ i. h.denominator * i.gain) (λ i. i.gain) (eligible_of trace h) (λ i. ap (λ d. d * i.gain) one ∙ omega arith)
 
 -- each flow is at most its interval's weight
 flows_within_weights : (unit : ℕ) (keeps : List Bool) (intervals : List Interval) → AllZip (λ i f. f ≤ weight unit i) intervals (flows_of intervals (map unpriced keeps))

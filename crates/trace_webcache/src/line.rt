@@ -1,65 +1,47 @@
 //! What a line asks for.
-ghost use Rattle.std.specs.Prelude.{◌≡◌};
-ghost use Rattle.std.specs.List.{list_all};
-ghost use Rattle.std.specs.Char.{is_ascii_digit};
-ghost use Rattle.trace_webcache.specs.Lines.{is_numeral, line_numbers, line_span};
+ghost use Rattle.std.specs.Prelude.{◌≡◌, ◌≤◌, ◌↔◌, [], length, slice_index_or, IsSome, IfSome};
+ghost use Rattle.trace_lines.specs.Lines.{words};
+ghost use Rattle.trace_webcache.specs.Lines.{line_span};
 
-use crate::cut::cut_at;
 use bound_base::read_u64;
+use trace_lines::{LineKind, Span, first_word};
 
-/// What a line asks for.
-#[derive(Clone, Copy, Debug, PartialEq, Eq)]
-pub enum Span {
-    /// One request. The size is in bytes.
-    One { id: u64, size: u64 },
-}
-
-/// Why a line is refused.
-#[derive(Clone, Copy, Debug, PartialEq, Eq)]
-pub enum LineKind {
-    /// It is not of the one form that is read so far, or, in a trace, too long, without its LF or past the limit.
-    NotYet,
-}
-
+/// The bytes that an object may have.
 const MOST_SIZE: u64 = 1 << 48;
 
-fn is_all_digits(text: &[u8]) -> bool
-    ensures { result ≡ list_all is_ascii_digit text.now }
+// The second and the third word, or None where there are fewer.
+fn id_and_size(line: &[u8]) -> Option<(&[u8], &[u8])>
+    ensures enough { IsSome result ↔ (3 ≤ length (words line.now)) }
+    ensures id { IfSome result (λ found. found.0.now ≡ slice_index_or (words line.now) 1 []) }
+    ensures size { IfSome result (λ found. found.1.now ≡ slice_index_or (words line.now) 2 []) }
 {
-    text.iter().all(|byte| byte.is_ascii_digit())
+    let (_, from_id) = first_word(line)?;
+    let (id, from_size) = first_word(from_id)?;
+    let (size, _) = first_word(from_size)?;
+    Some((id, size))
 }
 
-fn is_number(text: &[u8]) -> bool
-    ensures { result ≡ is_numeral text.now }
-{
-    !text.is_empty() && is_all_digits(text)
-}
-
-// The id and the size of a line.
-fn numbers_of(text: &[u8]) -> Option<(u64, u64)>
-    ensures { result ≡ line_numbers text.now }
-{
-    let (time, others) = cut_at(b' ', text)?;
-    let (id, size) = cut_at(b' ', others)?;
-    if !is_number(time) {
-        return None;
-    }
-    let id = read_u64(id).ok()?;
-    let size = read_u64(size).ok()?;
-    if size >= 1 && size <= MOST_SIZE {
-        Some((id, size))
-    } else {
-        None
-    }
-}
-
-/// What the line asks for, or why it is refused. The text is without its end of line.
+/// What the line asks for, or why it is refused. The text is without its end of line, and without a CR there. Takes
+/// time in the bytes up to the end of the third word.
 pub fn parse(line: &[u8]) -> Result<Span, LineKind>
     ensures { result ≡ line_span line.now }
 {
-    match numbers_of(line) {
-        Some((id, size)) => Ok(Span::One { id, size }),
-        None => Err(LineKind::NotYet),
+    let Some((id, size)) = id_and_size(line) else {
+        return Err(LineKind::TooFewWords);
+    };
+    let Ok(id) = read_u64(id) else {
+        return Err(LineKind::BadNumber { word: 2 });
+    };
+    let Ok(size) = read_u64(size) else {
+        return Err(LineKind::BadNumber { word: 3 });
+    };
+    if size > MOST_SIZE {
+        return Err(LineKind::SizeTooLarge);
+    }
+    if size == 0 {
+        Ok(Span::Nothing)
+    } else {
+        Ok(Span::One { id, size })
     }
 }
 
@@ -68,29 +50,59 @@ mod tests {
     use super::*;
 
     #[test]
-    fn reads_three_numbers(rt: HostRuntime) {
-        let rows: [(&[u8], Option<(u64, u64)>); 12] = [
-            (b"1 7 4", Some((7, 4))),
+    fn reads_an_id_and_a_size(rt: HostRuntime) {
+        let rows: [(&[u8], Span); 11] = [
+            (b"1 7 4", Span::One { id: 7, size: 4 }),
+            (b"1\t7\t4", Span::One { id: 7, size: 4 }),
+            (b" \t1  7 \t4\t ", Span::One { id: 7, size: 4 }),
+            (b"1 7 4 get 200", Span::One { id: 7, size: 4 }),
+            (b"x 7 4", Span::One { id: 7, size: 4 }),
+            (b"1.5 007 0004", Span::One { id: 7, size: 4 }),
+            (b"1 0 1", Span::One { id: 0, size: 1 }),
             (
-                b"007 18446744073709551615 281474976710656",
-                Some((18446744073709551615, 281474976710656)),
+                b"1 18446744073709551615 4",
+                Span::One {
+                    id: 18446744073709551615,
+                    size: 4,
+                },
             ),
-            (b"99999999999999999999999 0 01", Some((0, 1))),
-            (b"1 18446744073709551616 4", None),
-            (b"1 7 281474976710657", None),
-            (b"1 7 0", None),
-            (b"1 7", None),
-            (b"1 7 4 ", None),
-            (b"1  7 4", None),
-            (b" 1 7 4", None),
-            (b"1 7 4\r", None),
-            (b"", None),
+            (
+                b"1 7 281474976710656",
+                Span::One {
+                    id: 7,
+                    size: 281474976710656,
+                },
+            ),
+            (b"1 7 0", Span::Nothing),
+            (b"1 7 000", Span::Nothing),
         ];
-        for (line, numbers) in rows {
-            let wanted = numbers
-                .map(|(id, size)| Span::One { id, size })
-                .ok_or(LineKind::NotYet);
-            assert_eq!(rt; parse(line), wanted, "{}", line.len());
+        for (line, span) in rows {
+            assert_eq!(rt; parse(line), Ok(span), "at {line:?}");
+        }
+    }
+
+    #[test]
+    fn names_the_first_check_that_fails(rt: HostRuntime) {
+        let rows: [(&[u8], LineKind); 16] = [
+            (b"", LineKind::TooFewWords),
+            (b"  ", LineKind::TooFewWords),
+            (b"1", LineKind::TooFewWords),
+            (b"1 7", LineKind::TooFewWords),
+            (b"1 x ", LineKind::TooFewWords),
+            (b"1 x 4", LineKind::BadNumber { word: 2 }),
+            (b"1 x y", LineKind::BadNumber { word: 2 }),
+            (b"1 -7 4", LineKind::BadNumber { word: 2 }),
+            (b"1 18446744073709551616 4", LineKind::BadNumber { word: 2 }),
+            (b"1 18446744073709551616 0", LineKind::BadNumber { word: 2 }),
+            (b"1 7 y", LineKind::BadNumber { word: 3 }),
+            (b"1 7 4,5", LineKind::BadNumber { word: 3 }),
+            (b"1 7 4\r", LineKind::BadNumber { word: 3 }),
+            (b"1 7 18446744073709551616", LineKind::BadNumber { word: 3 }),
+            (b"1 7 281474976710657", LineKind::SizeTooLarge),
+            (b"1 7 18446744073709551615", LineKind::SizeTooLarge),
+        ];
+        for (line, kind) in rows {
+            assert_eq!(rt; parse(line), Err(kind), "at {line:?}");
         }
     }
 }

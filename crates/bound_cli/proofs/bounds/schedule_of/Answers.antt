@@ -1,7 +1,7 @@
 use Rattle.std.proofs.Common.{ℕ, ◌≤◌, arith, Bool, List}
 use Rattle.std.specs.Prelude.{length}
 use Rattle.cache_model.specs.declared.objects.Object.{Object}
-use Rattle.cache_model.specs.declared.objects.Objective.TheVariants.{Object as Hits}
+use Rattle.cache_model.specs.declared.objects.Objective.{Objective}
 use Rattle.cache_model.specs.Intervals.{eligible_intervals}
 use Rattle.cache_model.specs.Keeps.{IsFirstOverfull}
 use Rattle.cache_model.specs.Rounding.{taken_load}
@@ -11,21 +11,21 @@ use Rattle.bound_cli.proofs.Taken.{eligible_in_shape}
 use Rattle.bound_cli.proofs.bounds.schedule_of.Goals as goal
 
 pub round-requires-clause-order : goal.round-requires-clause-order
-round-requires-clause-order c = rw c.requires.intervals (eligible_in_shape Hits c.args.capacity c.args.trace.now).order
+round-requires-clause-order c = rw c.requires.intervals (eligible_in_shape c.args.objective c.args.capacity c.args.trace.now).order
 
 pub round-requires-clause-within : goal.round-requires-clause-within
-round-requires-clause-within c = rw (c.requires.intervals, c.len.ensures.requests) (eligible_in_shape Hits c.args.capacity c.args.trace.now).within
+round-requires-clause-within c = rw (c.requires.intervals, c.len.ensures.requests) (eligible_in_shape c.args.objective c.args.capacity c.args.trace.now).within
 
 -- contents that weigh what their intervals do overfill no step
-never_overfull : (capacity : ℕ) (trace : List Object) (keeps : List Bool) (step load : ℕ)
-    → IsTakenByStart (eligible_intervals Hits capacity trace) capacity (length trace) keeps
-    → ((t : ℕ) → taken_load (eligible_intervals Hits capacity trace) keeps t ≤ capacity)
+never_overfull : (objective : Objective) (capacity : ℕ) (trace : List Object) (keeps : List Bool) (step load : ℕ)
+    → IsTakenByStart (eligible_intervals objective capacity trace) capacity (length trace) keeps
+    → ((t : ℕ) → taken_load (eligible_intervals objective capacity trace) keeps t ≤ capacity)
     → IsFirstOverfull capacity trace keeps step load → ⊥
-never_overfull capacity trace keeps step load taken fits over =
-    omega (arith, over.over, over.load_is, held-load Hits capacity trace keeps step taken.only_starts over.within, fits step)
+never_overfull objective capacity trace keeps step load taken fits over =
+    omega (arith, over.over, over.load_is, held-load objective capacity trace keeps step taken.only_starts over.within, fits step)
 
 pub unreachable-requires : goal.unreachable-requires
 unreachable-requires c =
     let over = rw c.deref.ensures.value at c.in-Err.ensures.overfull in
-    never_overfull c.args.capacity c.args.trace.now c.in_ok-keeps.keeps.items _ _
+    never_overfull c.args.objective c.args.capacity c.args.trace.now c.in_ok-keeps.keeps.items _ _
     (rw (c.requires.intervals, c.len.ensures.requests) at c.in_ok-keeps.ensures.rounded) (λ t. rw c.requires.intervals at (c.in_ok-keeps.ensures.fits t)) over

@@ -1,0 +1,13 @@
+use Rattle.std.proofs.Common.{refl, append_assoc, ◌++◌, ◌∙◌, codes}
+use Rattle.std.specs.Prelude.{decimal}
+use Rattle.bound_cli.proofs.refusal.push_line_kind.Goals as goal
+
+pub returns-in-BadNumber : goal.returns-in-BadNumber
+returns-in-BadNumber c =
+    rw (c.in-BadNumber.is, c.push-in-BadNumber-2.ensures, c.push_number.ensures.text, c.push-in-BadNumber.ensures) (append_assoc (c.args.text.now ++ codes "number in word ") (decimal c.in-BadNumber.word) (codes "\n") ∙ append_assoc c.args.text.now (codes "number in word ") (decimal c.in-BadNumber.word ++ codes "\n"))
+
+pub returns-in-SizeTooLarge : goal.returns-in-SizeTooLarge
+returns-in-SizeTooLarge c = rw (c.in-SizeTooLarge.is, c.push-in-SizeTooLarge.ensures) refl
+
+pub returns-in-BadRange : goal.returns-in-BadRange
+returns-in-BadRange c = rw (c.in-BadRange.is, c.push-in-BadRange.ensures) refl

@@ -1,0 +1,29 @@
+-- Lines of bytes, and what a reader of lines stands in.
+use Rattle.std.specs.Prelude.{ℕ, ◌+◌, List, ◌++◌, take, drop, Bool, ◌==◌}
+use Rattle.std.specs.declared.option.Option.{Option}
+use Rattle.std.specs.List.{position_or_len}
+use Rattle.std.specs.Option.{option_map}
+
+-- the byte that ends a line
+abbrev pub is_lf : ℕ → Bool
+is_lf byte = byte == 10
+
+-- how many bytes stand before the first LF, or in all where there is none
+abbrev pub text_len : List ℕ → ℕ
+text_len bytes = position_or_len is_lf bytes
+
+-- the text of the first line
+abbrev pub first_text : List ℕ → List ℕ
+first_text bytes = take (text_len bytes) bytes
+
+-- the first line with its LF, where it has one
+abbrev pub first_line : List ℕ → List ℕ
+first_line bytes = take (text_len bytes + 1) bytes
+
+-- what stands after the first line
+abbrev pub after_line : List ℕ → List ℕ
+after_line bytes = drop (text_len bytes + 1) bytes
+
+-- the bytes that are held, and then those that the source has left, where it tells them
+abbrev pub stands_in : List ℕ → Option (List ℕ) → Option (List ℕ)
+stands_in held left = option_map (λ rest. held ++ rest) left

@@ -1,0 +1,78 @@
+-- Where a reader of lines stands.
+use Rattle.std.specs.Prelude.{◌≡◌, ℕ, ◌+◌, ◌≤◌, ◌<◌, List, [], length, None, Some, IfSome, Result, Ok, Err}
+use Rattle.std.specs.declared.option.Option.{Option}
+use Rattle.std.specs.Io.KnownBytes.{IsAtEnd, Keeps}
+use Rattle.bound_io.specs.Causes.{Rose}
+use Rattle.bound_io.specs.Lines.{text_len, first_line, first_text, after_line}
+use Rattle.bound_io.specs.declared.line_reader.LineFault.{LineFault}
+use Rattle.bound_io.specs.declared.line_reader.LineFault.TheVariants.{ReadFault, LineTooLong, InputTooLong}
+use Rattle.bound_io.specs.declared.line_reader.WholeLine.{WholeLine}
+use Rattle.bound_io.specs.declared.line_reader.WholeLine.TheVariants.{Whole, Unended, AtEnd}
+
+-- the most bytes that its lines may have, the bytes and the number of the lines given, the bytes taken from the source of which no line was given yet, and the fault that was answered
+pub record Position : Type 0 where
+  pub limit : ℕ
+  pub consumed : ℕ
+  pub line : ℕ
+  pub held : List ℕ
+  pub fault : Option LineFault
+
+-- a position with these bytes held
+abbrev pub with_held : Position → List ℕ → Position
+with_held at held = record at { held = held }
+
+-- a position after this fault
+abbrev pub with_fault : Position → LineFault → Position
+with_fault at fault = record at { fault = Some fault }
+
+-- why the first line of the bytes that a reader stands in, where they are told, isn't given; and a failed read only where the count of faults rose
+abbrev pub IsRefused : Position → Option (List ℕ) → ℕ → ℕ → LineFault → Type 0
+IsRefused at told faults_before faults_after ReadFault = Rose faults_before faults_after
+IsRefused at told faults_before faults_after (LineTooLong line) = (line ≡ at.line + 1) × IfSome told (λ bytes. 65535 < text_len bytes)
+IsRefused at told faults_before faults_after InputTooLong = IfSome told (λ bytes. (text_len bytes ≤ 65535) × (at.limit < at.consumed + length (first_line bytes)))
+
+-- one line was given: it is gone from what the reader stands in, told before and after
+pub record GivesLine (old new : Position) (before after : Option (List ℕ)) : Type 0 where
+  pub limit : new.limit ≡ old.limit
+  pub line : new.line ≡ old.line + 1
+  pub some : old.consumed < new.consumed
+  pub within : new.consumed ≤ new.limit
+  pub fault : new.fault ≡ None
+  pub consumed : IfSome before (λ bytes. new.consumed ≡ old.consumed + length (first_line bytes))
+  pub rest : IfSome before (λ bytes. after ≡ Some (after_line bytes))
+
+-- no line is left to give
+pub record GivesNone (old new : Position) (before after : Option (List ℕ)) : Type 0 where
+  pub still : new ≡ with_held old []
+  pub fault : old.fault ≡ None
+  pub nothing : IsAtEnd before
+  pub rest : Keeps before after
+
+-- no line is given for a fault, which is kept: nothing of what the reader stands in is lost, and nothing changes where the fault was answered before
+pub record Stops (old new : Position) (before after : Option (List ℕ)) (fault : LineFault) : Type 0 where
+  pub still : new ≡ with_fault (with_held old new.held) fault
+  pub rest : Keeps before after
+  pub again : IfSome old.fault (λ _. new ≡ old)
+
+-- what a call that gives the next line, if there is one, leaves
+abbrev pub NextLine : {A : Type 0} → Position → Position → Option (List ℕ) → Option (List ℕ) → Result (Option A) LineFault → Type 0
+NextLine old new before after (Ok (Some text)) = GivesLine old new before after
+NextLine old new before after (Ok None) = GivesNone old new before after
+NextLine old new before after (Err fault) = Stops old new before after fault
+
+-- the text of a line is that of the first line of these bytes, and tells whether it ends in LF
+abbrev pub IsLine : WholeLine → List ℕ → Type 0
+IsLine (Whole text) bytes = (text.now ≡ first_text bytes) × (text_len bytes < length bytes)
+IsLine (Unended text) bytes = (text.now ≡ bytes) × (text_len bytes ≡ length bytes) × (0 < length bytes)
+IsLine AtEnd bytes = bytes ≡ []
+
+-- the line that was given, if one was
+abbrev pub given : WholeLine → Option (List ℕ)
+given (Whole text) = Some text.now
+given (Unended text) = Some text.now
+given AtEnd = None
+
+-- the line that was given, if one was, or the fault
+abbrev pub given_by : Result WholeLine LineFault → Result (Option (List ℕ)) LineFault
+given_by (Ok line) = Ok (given line)
+given_by (Err fault) = Err fault

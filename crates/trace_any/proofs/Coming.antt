@@ -1,0 +1,213 @@
+-- What is to come of a reader, after one line more and after one request more.
+use Rattle.std.proofs.Common.{◌≡◌, ℕ, zero, suc, ◌+◌, ◌-◌, ◌≤◌, ◌<◌, ◌∙◌, sym, refl, ap, List, [], ◌∷◌, ◌++◌, append_assoc, length, arith, not, length-take, Option, Some, None, Result, Ok, Err, IfSome, Bool}
+use Rattle.std.specs.Result.{IsErr, IsErrAnd, is_ok}
+use Rattle.std.proofs.lemmas.Bool.{le-ltb, lt-ltb, false≢true, true≢false}
+use Rattle.std.proofs.lemmas.List.Folds.{length-prefix_len}
+use Rattle.std.proofs.lemmas.List.Sums.{prefix_len-le-length}
+use Rattle.std.specs.Io.KnownBytes.{IsAtEnd}
+use Rattle.bound_io.specs.Lines.{text_len, first_text, first_line, after_line, is_lf}
+use Rattle.bound_io.specs.Positions.{Position, GivesLine, IsRefused}
+use Rattle.bound_io.specs.declared.line_reader.LineFault.{LineFault}
+use Rattle.bound_io.specs.declared.line_reader.LineFault.TheVariants as line
+use Rattle.cache_model.specs.declared.objects.Object.{Object}
+use Rattle.trace_lines.specs.declared.line.Span.{Span}
+use Rattle.trace_lines.specs.declared.line.Span.TheVariants.{Nothing, One, Blocks}
+use Rattle.trace_lines.specs.declared.line.LineKind.{LineKind}
+use Rattle.trace_lines.specs.declared.line.LineKind.TheVariants.{TooLong}
+use Rattle.trace_any.specs.declared.fault.TraceFault.{TraceFault}
+use Rattle.trace_any.specs.declared.fault.TraceFault.TheVariants.{BadLine, InputTooLong, TooManyRequests}
+use Rattle.trace_any.specs.Readings.{Reading, stopped, requested, text_asked, taken_up, read_line, read_on, reading, nothing_read, fault_of}
+use Rattle.trace_any.specs.declared.format.Format.{Format}
+use Rattle.trace_any.specs.declared.format.Limits.{Limits}
+use Rattle.trace_any.specs.Readers.{Reader, fresh, room_left, so_far, to_come, onto, after, with_span, GoesOn, IsOver, IsStopped, LineTaken}
+use Rattle.trace_any.proofs.ReadingSteps.{plain, read_on-first, read_on-stopped, read_on-onto, requested-next, requested-none, requested-full}
+
+-- no block is left of the last line
+to_come_lines : (r : Reader) (bytes : List ℕ) → r.ahead.count ≡ 0 → to_come r bytes ≡ read_on r.format (room_left r) (so_far r) bytes
+to_come_lines r bytes none =
+    ap (λ n. read_on r.format (room_left r) (requested (r.limits.requests - r.given) (so_far r) r.ahead.volume r.ahead.first n r.ahead.size) bytes) none
+    ∙ ap (λ s. read_on r.format (room_left r) s bytes) (requested-none (r.limits.requests - r.given) r.dropped r.lines.line r.lines.consumed r.ahead.volume r.ahead.first r.ahead.size)
+
+pub length-text : (bytes : List ℕ) → length (first_text bytes) ≡ text_len bytes
+length-text bytes = length-prefix_len _ bytes
+
+-- the first line is read, whatever comes of it
+to_come_line : (r : Reader) (bytes : List ℕ) → r.ahead.count ≡ 0 → 0 < length bytes
+    → to_come r bytes ≡ read_on r.format (room_left r) (read_line r.format (room_left r) (so_far r) (first_text bytes, length (first_line bytes))) (after_line bytes)
+to_come_line r bytes none some = to_come_lines r bytes none ∙ read_on-first r.format (room_left r) (so_far r) bytes some
+
+-- a line that is neither too long nor past the limit is taken up
+line_taken_up : (r : Reader) (bytes : List ℕ) (line consumed : ℕ) → r.ahead.count ≡ 0 → 0 < length bytes → text_len bytes ≤ 65535 → consumed ≤ r.limits.bytes
+    → line ≡ r.lines.line + 1 → consumed ≡ r.lines.consumed + length (first_line bytes)
+    → to_come r bytes ≡ read_on r.format (room_left r) (taken_up (r.limits.requests - r.given) (plain r.dropped line consumed) (text_asked r.format (first_text bytes))) (after_line bytes)
+line_taken_up r bytes line consumed none some short within line_is consumed_is =
+    to_come_line r bytes none some
+    ∙ rw (line_is, consumed_is, le-ltb 65535 (length (first_text bytes)) (omega (arith, length-text bytes, short)), le-ltb r.limits.bytes (r.lines.consumed + length (first_line bytes)) (omega (arith, within, consumed_is))) refl
+
+-- a reader after its lines have moved
+abbrev pub with_lines : Reader → Position → Reader
+with_lines r lines = record r { lines = lines }
+
+-- the first line is taken up, and the rest is still there
+abbrev pub TakesUp : Reader → Reader → Result (Option Span) LineKind → List ℕ → Option (List ℕ) → Type 0
+TakesUp r new said bytes after = (rest : List ℕ) × (after ≡ Some rest) × (to_come r bytes ≡ read_on r.format (room_left r) (taken_up (r.limits.requests - r.given) (so_far new) said) rest)
+
+pub takes_up : (r : Reader) (l : Position) (before after : Option (List ℕ)) (text : List ℕ) → r.ahead.count ≡ 0 → r.lines.limit ≡ r.limits.bytes → GivesLine r.lines l before after
+    → IfSome before (λ bytes. (text ≡ first_text bytes) × (0 < length bytes)) → length text ≤ 65535 → IfSome before (λ bytes. TakesUp r (with_lines r l) (text_asked r.format text) bytes after)
+takes_up r l None after text none limit gives texts short = tt
+takes_up r l (Some bytes) after text none limit gives texts short =
+    let within : l.consumed ≤ r.limits.bytes = omega (arith, gives.within, gives.limit, limit) in
+    let text_short : text_len bytes ≤ 65535 = omega (arith, length-text bytes, ap length (texts.0), short) in
+    (after_line bytes, gives.rest, rw (texts.0) (line_taken_up r bytes l.line l.consumed none (texts.1) text_short within gives.line gives.consumed))
+
+-- a line without a word changes nothing
+pub goes_blank : (r : Reader) (l : Position) (before after : Option (List ℕ)) (said : Result (Option Span) LineKind) → said ≡ Ok None → r.ahead.count ≡ 0
+    → IfSome before (λ bytes. TakesUp r (with_lines r l) said bytes after) → IfSome before (λ bytes. GoesOn (λ s. s) r (with_lines r l) bytes after)
+goes_blank r l None after said blank none takes = tt
+goes_blank r l (Some bytes) after said blank none takes =
+    (takes.0, takes.1, takes.2 ∙ (ap (λ t. read_on r.format (room_left r) (taken_up (r.limits.requests - r.given) (so_far (with_lines r l)) t) takes.0) blank ∙ sym (to_come_lines (with_lines r l) takes.0 none)))
+
+-- the blocks that a line asks for are those to come next
+asked_next : (r : Reader) (span : Span) (rest : List ℕ) → r.ahead.count ≡ 0 → read_on r.format (room_left r) (taken_up (r.limits.requests - r.given) (so_far r) (Ok (Some span))) rest ≡ to_come (with_span r span) rest
+asked_next r Nothing rest none = sym (to_come_lines (with_span r Nothing) rest none)
+asked_next r (One id size) rest none = refl
+asked_next r (Blocks first count size) rest none = refl
+
+-- what a line asks for is no matter of the lines
+pub lines_asked : (r : Reader) (span : Span) → (with_span r span).lines ≡ r.lines
+lines_asked r Nothing = refl
+lines_asked r (One id size) = refl
+lines_asked r (Blocks first count size) = refl
+
+pub goes_asked : (r : Reader) (l : Position) (span : Span) (before after : Option (List ℕ)) (said : Result (Option Span) LineKind) → said ≡ Ok (Some span) → r.ahead.count ≡ 0
+    → IfSome before (λ bytes. TakesUp r (with_lines r l) said bytes after) → IfSome before (λ bytes. GoesOn (λ s. s) r (with_span (with_lines r l) span) bytes after)
+goes_asked r l Nothing None after said asks none takes = tt
+goes_asked r l (One id size) None after said asks none takes = tt
+goes_asked r l (Blocks first count size) None after said asks none takes = tt
+goes_asked r l Nothing (Some bytes) after said asks none takes = (takes.0, takes.1, takes.2 ∙ (ap (λ t. read_on r.format (room_left r) (taken_up (r.limits.requests - r.given) (so_far (with_lines r l)) t) takes.0) asks ∙ asked_next (with_lines r l) Nothing takes.0 none))
+goes_asked r l (One id size) (Some bytes) after said asks none takes = (takes.0, takes.1, takes.2 ∙ (ap (λ t. read_on r.format (room_left r) (taken_up (r.limits.requests - r.given) (so_far (with_lines r l)) t) takes.0) asks ∙ asked_next (with_lines r l) (One id size) takes.0 none))
+goes_asked r l (Blocks first count size) (Some bytes) after said asks none takes = (takes.0, takes.1, takes.2 ∙ (ap (λ t. read_on r.format (room_left r) (taken_up (r.limits.requests - r.given) (so_far (with_lines r l)) t) takes.0) asks ∙ asked_next (with_lines r l) (Blocks first count size) takes.0 none))
+
+-- a line that is refused ends the reading
+pub refused_line : (r : Reader) (l : Position) (kind : LineKind) (before after : Option (List ℕ)) (said : Result (Option Span) LineKind) → said ≡ Err kind
+    → IfSome before (λ bytes. TakesUp r (with_lines r l) said bytes after) → IfSome before (λ bytes. IsOver (to_come r bytes) r.dropped (Some (BadLine l.line kind)))
+refused_line r l kind None after said refused takes = tt
+refused_line r l kind (Some bytes) after said refused takes =
+    let now = so_far (with_lines r l) in
+    let stop : to_come r bytes ≡ stopped now (BadLine l.line kind) = takes.2 ∙ (ap (λ t. read_on r.format (room_left r) (taken_up (r.limits.requests - r.given) now t) takes.0) refused ∙ read_on-stopped r.format (room_left r) now (BadLine l.line kind) takes.0) in
+    record { requests = ap (λ s. s.requests) stop; dropped_lines = ap (λ s. s.dropped) stop; stop = ap (λ s. s.refused) stop }
+
+some_text : (bytes : List ℕ) → 0 < text_len bytes → 0 < length bytes
+some_text bytes some = omega (arith, prefix_len-le-length (λ b. not (is_lf b)) bytes, some)
+
+pub too_long : (r : Reader) (line : ℕ) (before : Option (List ℕ)) → r.ahead.count ≡ 0 → line ≡ r.lines.line + 1 → IfSome before (λ bytes. 65535 < text_len bytes) → IfSome before (λ bytes. IsOver (to_come r bytes) r.dropped (Some (BadLine line TooLong)))
+too_long r line None none line_is long = tt
+too_long r line (Some bytes) none line_is long =
+    let now = plain r.dropped (r.lines.line + 1) (r.lines.consumed + length (first_line bytes)) in
+    let read : read_line r.format (room_left r) (so_far r) (first_text bytes, length (first_line bytes)) ≡ stopped now (BadLine (r.lines.line + 1) TooLong)
+        = rw (lt-ltb 65535 (length (first_text bytes)) (omega (arith, length-text bytes, long))) refl in
+    let stop : to_come r bytes ≡ stopped now (BadLine (r.lines.line + 1) TooLong) = to_come_line r bytes none (some_text bytes (omega (arith, long)))
+        ∙ (ap (λ t. read_on r.format (room_left r) t (after_line bytes)) read ∙ read_on-stopped r.format (room_left r) now (BadLine (r.lines.line + 1) TooLong) (after_line bytes)) in
+    rw line_is (record { requests = ap (λ s. s.requests) stop; dropped_lines = ap (λ s. s.dropped) stop; stop = ap (λ s. s.refused) stop })
+
+pub past_limit : (r : Reader) (before : Option (List ℕ)) → r.ahead.count ≡ 0 → r.lines.limit ≡ r.limits.bytes → r.lines.consumed ≤ r.limits.bytes
+    → IfSome before (λ bytes. (text_len bytes ≤ 65535) × (r.lines.limit < r.lines.consumed + length (first_line bytes))) → IfSome before (λ bytes. IsOver (to_come r bytes) r.dropped (Some InputTooLong))
+past_limit r None none limit within past = tt
+past_limit r (Some bytes) none limit within past =
+    let size = length (first_line bytes) in
+    let now = plain r.dropped (r.lines.line + 1) (r.lines.consumed + size) in
+    let some : 0 < length bytes = omega (arith, length-take (text_len bytes + 1) bytes, past.1, limit, within) in
+    let read : read_line r.format (room_left r) (so_far r) (first_text bytes, size) ≡ stopped now InputTooLong
+        = rw (le-ltb 65535 (length (first_text bytes)) (omega (arith, length-text bytes, past.0)), lt-ltb r.limits.bytes (r.lines.consumed + size) (omega (arith, past.1, limit))) refl in
+    let stop : to_come r bytes ≡ stopped now InputTooLong = to_come_line r bytes none some
+        ∙ (ap (λ t. read_on r.format (room_left r) t (after_line bytes)) read ∙ read_on-stopped r.format (room_left r) now InputTooLong (after_line bytes)) in
+    record { requests = ap (λ s. s.requests) stop; dropped_lines = ap (λ s. s.dropped) stop; stop = ap (λ s. s.refused) stop }
+
+-- no line is left
+pub no_line : (r : Reader) (before : Option (List ℕ)) → r.ahead.count ≡ 0 → IsAtEnd before → IfSome before (λ bytes. IsOver (to_come r bytes) r.dropped None)
+no_line r None none end = tt
+no_line r (Some bytes) none end =
+    let over : to_come r bytes ≡ so_far r = to_come_lines r bytes none ∙ ap (λ b. read_on r.format (room_left r) (so_far r) b) end in
+    record { requests = ap (λ s. s.requests) over; dropped_lines = ap (λ s. s.dropped) over; stop = ap (λ s. s.refused) over }
+
+-- a reader that has given the first of its blocks, where the next one is this
+abbrev pub with_given : Reader → ℕ → Reader
+with_given r next = record r { given = r.given + 1; ahead = record { volume = r.ahead.volume; first = next; count = r.ahead.count - 1; size = r.ahead.size } }
+
+same_blocks : (most dropped lines bytes volume first next count size : ℕ) → (0 < count → next ≡ first) → requested most (plain dropped lines bytes) volume first count size ≡ requested most (plain dropped lines bytes) volume next count size
+same_blocks most dropped lines bytes volume first next zero size same = requested-none most dropped lines bytes volume first size ∙ sym (requested-none most dropped lines bytes volume next size)
+same_blocks most dropped lines bytes volume first next (suc count) size same = ap (λ n. requested most (plain dropped lines bytes) volume n (suc count) size) (sym (same (omega arith)))
+
+-- the first of the blocks is given
+pub gives_block : (r : Reader) (next : ℕ) (bytes : List ℕ) → r.given < r.limits.requests → 0 < r.ahead.count → (1 < r.ahead.count → next ≡ r.ahead.first + 1)
+    → to_come r bytes ≡ onto (record { volume = r.ahead.volume; id = r.ahead.first; size = r.ahead.size }) (to_come (with_given r next) bytes)
+gives_block r next bytes room some follows =
+    let a = r.ahead in
+    let most = r.limits.requests - (r.given + 1) in
+    let count = a.count - 1 in
+    let x : Object = record { volume = a.volume; id = a.first; size = a.size } in
+    let places : r.limits.requests - r.given ≡ most + 1 = omega (arith, room) in
+    let blocks : a.count ≡ count + 1 = omega (arith, some) in
+    let d = r.dropped in let l = r.lines.line in let c = r.lines.consumed in
+    let start : requested (r.limits.requests - r.given) (plain d l c) a.volume a.first a.count a.size ≡ onto x (requested most (plain d l c) a.volume next count a.size)
+        = ap (λ n. requested n (plain d l c) a.volume a.first a.count a.size) places
+        ∙ (ap (λ n. requested (most + 1) (plain d l c) a.volume a.first n a.size) blocks
+        ∙ (requested-next most d l c a.volume a.first count a.size
+        ∙ ap (onto x) (same_blocks most d l c a.volume (a.first + 1) next count a.size (λ h. follows (omega (arith, h, blocks)))))) in
+    ap (λ s. read_on r.format (room_left r) s bytes) start
+    ∙ (ap (λ n. read_on r.format (record { requests = n; bytes = r.limits.bytes }) (onto x (requested most (plain d l c) a.volume next count a.size)) bytes) places
+    ∙ read_on-onto r.format most r.limits.bytes x (requested most (plain d l c) a.volume next count a.size) bytes)
+
+-- no request more is allowed
+pub no_room : (r : Reader) (bytes : List ℕ) → r.given ≡ r.limits.requests → 0 < r.ahead.count → IsOver (to_come r bytes) r.dropped (Some TooManyRequests)
+no_room r bytes full some =
+    let a = r.ahead in
+    let now = so_far r in
+    let none : r.limits.requests - r.given ≡ 0 = omega (arith, full) in
+    let start = ap (λ n. requested n now a.volume a.first a.count a.size) none ∙ requested-full r.dropped r.lines.line r.lines.consumed a.volume a.first a.count a.size some in
+    let stop : to_come r bytes ≡ stopped now TooManyRequests = ap (λ s. read_on r.format (room_left r) s bytes) start ∙ read_on-stopped r.format (room_left r) now TooManyRequests bytes in
+    record { requests = ap (λ s. s.requests) stop; dropped_lines = ap (λ s. s.dropped) stop; stop = ap (λ s. s.refused) stop }
+
+-- a fault of the lines is that fault of the trace
+pub lines_refused : (r new : Reader) (before : Option (List ℕ)) (faults_before faults_after : ℕ) (fault : LineFault) → r.ahead.count ≡ 0 → r.lines.limit ≡ r.limits.bytes → r.lines.consumed ≤ r.limits.bytes → new.dropped ≡ r.dropped
+    → IsRefused r.lines before faults_before faults_after fault → IsStopped r new before faults_before faults_after (fault_of fault)
+lines_refused r new before faults_before faults_after line.ReadFault none limit within same refused = refused
+lines_refused r new before faults_before faults_after (line.LineTooLong n) none limit within same refused = rw same (too_long r n before none (refused.0) (refused.1))
+lines_refused r new before faults_before faults_after line.InputTooLong none limit within same refused = rw same (past_limit r before none limit within refused)
+
+pub taken_err : (r new : Reader) (before after : Option (List ℕ)) (faults_before faults_after : ℕ) (fault : TraceFault) (result : Result Bool TraceFault) → IsErr result → IsErrAnd result (λ e. e ≡ fault)
+    → IsStopped r new before faults_before faults_after fault → LineTaken r new before after faults_before faults_after result
+taken_err r new before after faults_before faults_after fault (Ok b) err is why = absurd (false≢true err)
+taken_err r new before after faults_before faults_after fault (Err e) err is why = rw is why
+
+-- one line taken up after others
+pub goes_then : (first second third : Reader) (before between after : Option (List ℕ)) → IfSome before (λ bytes. GoesOn (λ r. r) first second bytes between) → IfSome between (λ bytes. GoesOn (λ r. r) second third bytes after)
+    → IfSome before (λ bytes. GoesOn (λ r. r) first third bytes after)
+goes_then first second third None between after one other = tt
+goes_then first second third (Some bytes) between after one other =
+    let next = rw (one.1) at other in
+    (next.0, next.1, one.2 ∙ next.2)
+
+-- one request more after some
+pub loads_one : (first second third : Reader) (given : List Object) (x : Object) (before between later : Option (List ℕ)) → IfSome before (λ bytes. GoesOn (after given) first second bytes between)
+    → IfSome between (λ bytes. GoesOn (onto x) second third bytes later) → IfSome before (λ bytes. GoesOn (after (given ++ x ∷ [])) first third bytes later)
+loads_one first second third given x None between later one other = tt
+loads_one first second third given x (Some bytes) between later one other =
+    let next = rw (one.1) at other in
+    let coming = to_come third next.0 in
+    (next.0, next.1, one.2 ∙ (ap (after given) (next.2) ∙ ap (λ requests. record coming { requests = requests }) (sym (append_assoc given (x ∷ []) coming.requests))))
+
+-- no fault is one that can't be
+pub no_fault : (fault : Option TraceFault) (P : TraceFault → Type 0) → IfSome fault P → ((f : TraceFault) → P f → ⊥) → fault ≡ None
+no_fault None P again not = refl
+no_fault (Some f) P again not = absurd (not f again)
+
+-- an answer is no error
+pub no_error : {A : Type 0} (x : A) (f : TraceFault) → Ok x ≡ Err f → ⊥
+no_error x f same = true≢false (ap is_ok same)
+
+-- of a reader that has read nothing the whole reading is to come
+pub fresh_to_come : (format : Format) (limits : Limits) (bytes : List ℕ) → to_come (fresh format limits) bytes ≡ reading format limits bytes
+fresh_to_come format limits bytes =
+    let all : limits.requests - 0 ≡ limits.requests = omega arith in
+    to_come_lines (fresh format limits) bytes refl ∙ ap (λ n. read_on format (record { requests = n; bytes = limits.bytes }) nothing_read bytes) all

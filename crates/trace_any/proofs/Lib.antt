@@ -1,0 +1,4 @@
+pub mod ReadingRows
+pub mod FirstLines
+pub mod ReadingSteps
+pub mod Coming

@@ -1,0 +1,116 @@
+-- One line more, and one request more, of a reading.
+use Rattle.std.proofs.Common.{◌≡◌, ℕ, suc, ◌+◌, ◌-◌, ◌≤◌, ◌<◌, ◌∙◌, sym, refl, ap, Bool, true, false, cond, nat_lt, if◌then◌else◌, List, [], ◌∷◌, ◌++◌, length, min, fold, arith, inl, inr, ◌⊎◌, Option, Some, None, Result, Ok, Err}
+use Rattle.std.proofs.lemmas.Bool.{cases_lt, lt-ltb, le-ltb}
+use Rattle.std.specs.Option.{is_some}
+use Rattle.std.specs.List.{range_with_len}
+use Rattle.bound_io.specs.Lines.{first_text, first_line, after_line}
+use Rattle.cache_model.specs.declared.objects.Object.{Object}
+use Rattle.trace_lines.specs.Lines.{without_cr, is_blank}
+use Rattle.trace_lines.specs.declared.line.Span.{Span}
+use Rattle.trace_lines.specs.declared.line.Span.TheVariants.{Nothing, One, Blocks}
+use Rattle.trace_lines.specs.declared.line.LineKind.{LineKind}
+use Rattle.trace_lines.specs.declared.line.LineKind.TheVariants.{TooLong}
+use Rattle.trace_any.specs.declared.fault.TraceFault.{TraceFault}
+use Rattle.trace_any.specs.declared.fault.TraceFault.TheVariants.{BadLine, InputTooLong, TooManyRequests}
+use Rattle.trace_any.specs.declared.format.Format.{Format}
+use Rattle.trace_any.specs.declared.format.Limits.{Limits}
+use Rattle.trace_any.specs.Readings.{Reading, nothing_read, stopped, blocks, requested, asked, text_asked, taken_up, read_line, lines_of, read_on, reading}
+use Rattle.trace_any.specs.Readers.{onto}
+use Rattle.trace_any.proofs.FirstLines.{lines_of-first}
+
+-- the first line, and then the others
+pub read_on-first : (format : Format) (limits : Limits) (r : Reading) (bytes : List ℕ) → 0 < length bytes
+    → read_on format limits r bytes ≡ read_on format limits (read_line format limits r (first_text bytes, length (first_line bytes))) (after_line bytes)
+read_on-first format limits r bytes some = ap (λ lines. fold (read_line format limits) r lines) (lines_of-first bytes some)
+
+-- a reading that has stopped stays as it is
+stays : (format : Format) (limits : Limits) (r : Reading) (lines : List (List ℕ × ℕ)) → is_some r.refused ≡ true → fold (read_line format limits) r lines ≡ r
+stays format limits r [] stop = refl
+stays format limits r ((text, size) ∷ lines) stop = ap (λ s. fold (read_line format limits) s lines) (still stop) ∙ stays format limits r lines stop
+  where
+    still : is_some r.refused ≡ true → read_line format limits r (text, size) ≡ r
+    still e = rw e refl
+
+pub read_on-stopped : (format : Format) (limits : Limits) (r : Reading) (fault : TraceFault) (bytes : List ℕ) → read_on format limits (stopped r fault) bytes ≡ stopped r fault
+read_on-stopped format limits r fault bytes = stays format limits (stopped r fault) (lines_of bytes) refl
+
+-- room for so many requests, and these bytes
+abbrev pub room : ℕ → ℕ → Limits
+room requests bytes = record { requests = requests; bytes = bytes }
+
+onto_either : (b : Bool) (x : Object) (s t : Reading) → cond b (onto x s) (onto x t) ≡ onto x (cond b s t)
+onto_either true x s t = refl
+onto_either false x s t = refl
+
+lt-next : (m n : ℕ) → nat_lt (m + 1) (n + 1) ≡ nat_lt m n
+lt-next m n = by (cases_lt m n)
+  where
+    by : m < n ⊎ n ≤ m → nat_lt (m + 1) (n + 1) ≡ nat_lt m n
+    by (inl less) = lt-ltb (m + 1) (n + 1) (omega (arith, less)) ∙ sym (lt-ltb m n less)
+    by (inr more) = le-ltb (m + 1) (n + 1) (omega (arith, more)) ∙ sym (le-ltb m n more)
+
+-- a request more in front takes one place of the room
+requested-onto : (most : ℕ) (x : Object) (r : Reading) (volume first count size : ℕ) → requested (most + 1) (onto x r) volume first count size ≡ onto x (requested most r volume first count size)
+requested-onto most x r volume first count size =
+    let places = most - length r.requests in
+    let taken : Reading = record r { requests = r.requests ++ blocks volume first (min count places) size } in
+    let same : most + 1 - length (x ∷ r.requests) ≡ places = omega arith in
+    rw same (onto_either (nat_lt places count) x (stopped taken TooManyRequests) taken)
+
+taken_up-onto : (most : ℕ) (x : Object) (r : Reading) (said : Result (Option Span) LineKind) → taken_up (most + 1) (onto x r) said ≡ onto x (taken_up most r said)
+taken_up-onto most x r (Ok None) = refl
+taken_up-onto most x r (Ok (Some Nothing)) = refl
+taken_up-onto most x r (Ok (Some (One id size))) = requested-onto most x r 0 id 1 size
+taken_up-onto most x r (Ok (Some (Blocks first count size))) = requested-onto most x r 0 first count size
+taken_up-onto most x r (Err kind) = refl
+
+read_line-onto : (format : Format) (most bytes : ℕ) (x : Object) (r : Reading) (line : List ℕ × ℕ) → read_line format (room (most + 1) bytes) (onto x r) line ≡ onto x (read_line format (room most bytes) r line)
+read_line-onto format most bytes x r (text, size) =
+    let now : Reading = record r { lines = r.lines + 1; bytes = r.bytes + size } in
+    let long = nat_lt 65535 (length text) in
+    let past = nat_lt bytes now.bytes in
+    let said = text_asked format text in
+    let up = taken_up most now said in
+    let within = cond past (stopped now InputTooLong) up in
+    let short = cond long (stopped now (BadLine now.lines TooLong)) within in
+    rw (taken_up-onto most x now said)
+      (ap (λ t. cond (is_some r.refused) (onto x r) (cond long (onto x (stopped now (BadLine now.lines TooLong))) t)) (onto_either past x (stopped now InputTooLong) up)
+      ∙ (ap (λ t. cond (is_some r.refused) (onto x r) t) (onto_either long x (stopped now (BadLine now.lines TooLong)) within)
+      ∙ onto_either (is_some r.refused) x r short))
+
+fold-onto : (format : Format) (most bytes : ℕ) (x : Object) (r : Reading) (lines : List (List ℕ × ℕ)) → fold (read_line format (room (most + 1) bytes)) (onto x r) lines ≡ onto x (fold (read_line format (room most bytes)) r lines)
+fold-onto format most bytes x r [] = refl
+fold-onto format most bytes x r (line ∷ lines) =
+    ap (λ s. fold (read_line format (room (most + 1) bytes)) s lines) (read_line-onto format most bytes x r line) ∙ fold-onto format most bytes x (read_line format (room most bytes) r line) lines
+
+-- a reading with a request more in front and one place more
+pub read_on-onto : (format : Format) (most bytes : ℕ) (x : Object) (r : Reading) (rest : List ℕ) → read_on format (room (most + 1) bytes) (onto x r) rest ≡ onto x (read_on format (room most bytes) r rest)
+read_on-onto format most bytes x r rest = fold-onto format most bytes x r (lines_of rest)
+
+-- a reading without requests, which has not stopped
+abbrev pub plain : ℕ → ℕ → ℕ → Reading
+plain dropped lines bytes = record { requests = []; dropped = dropped; lines = lines; bytes = bytes; refused = None }
+
+-- the first of some blocks, where there is room for it
+pub requested-next : (most dropped lines bytes volume first count size : ℕ)
+    → requested (most + 1) (plain dropped lines bytes) volume first (count + 1) size ≡ onto (record { volume = volume; id = first; size = size }) (requested most (plain dropped lines bytes) volume (first + 1) count size)
+requested-next most dropped lines bytes volume first count size =
+    let x : Object = record { volume = volume; id = first; size = size } in
+    let r = plain dropped lines bytes in
+    let taken : Reading = record r { requests = blocks volume (first + 1) (min count most) size } in
+    let places : most + 1 - 0 ≡ most + 1 = omega arith in
+    let before : most - 0 ≡ most = omega arith in
+    let some : min (count + 1) (most + 1) ≡ suc (min count most) = omega arith in
+    rw (places, before, some, lt-next most count) (onto_either (nat_lt most count) x (stopped taken TooManyRequests) taken)
+
+-- no block is left
+pub requested-none : (most dropped lines bytes volume first size : ℕ) → requested most (plain dropped lines bytes) volume first 0 size ≡ plain dropped lines bytes
+requested-none most dropped lines bytes volume first size =
+    let none : min 0 (most - 0) ≡ 0 = omega arith in
+    rw (none, le-ltb (most - 0) 0 (omega arith)) refl
+
+-- there is no room for one
+pub requested-full : (dropped lines bytes volume first count size : ℕ) → 0 < count → requested 0 (plain dropped lines bytes) volume first count size ≡ stopped (plain dropped lines bytes) TooManyRequests
+requested-full dropped lines bytes volume first count size some =
+    let none : min count (0 - 0) ≡ 0 = omega arith in
+    rw (none, lt-ltb 0 count some) refl

@@ -1,0 +1,32 @@
+use Rattle.std.proofs.Common.{◌≡◌, ◌+◌, ◌≤◌, ◌∙◌, sym, refl, arith, ap, length, length-append, None, List, [], ◌∷◌, IfSome}
+use Rattle.bound_io.proofs.KnownLemmas.{loses_then}
+use Rattle.trace_any.proofs.Coming.{loads_one, no_error, no_fault}
+use Rattle.trace_any.proofs.loading.load.Goals as goal
+
+pub returns-in_err-object-clause-source : goal.returns-in_err-object-clause-source
+returns-in_err-object-clause-source g c = loses_then _ _ _ (c.next.ensures.source.0) (c.loop-requests.invariant.source) (c.next.ensures.source.1)
+
+pub loop-requests-preserved : goal.loop-requests-preserved
+loop-requests-preserved g c =
+    let i = c.loop-requests.invariant in
+    let n = c.next.ensures in
+    let object = c.in-Some.object in
+    let given = c.loop-requests.requests in
+    let none : c.loop-requests.reader.fault ≡ None = no_fault c.loop-requests.reader.fault _ (c.in_ok-object.ensures.again) (λ f again. no_error c.in_ok-object.field-0 f again.0) in
+    let next = rw (c.in-Some.is) at (c.in_ok-object.ensures.next none) in
+    let pushed = c.in_ok-push.ensures.ok in
+    record {
+      limits = n.few.0 ∙ i.limits;
+      fault = c.in_ok-object.ensures.fault none ∙ (sym none ∙ i.fault);
+      given = rw pushed (omega (arith, next.0, i.given, length-append given (object ∷ [])));
+      goes_on = λ fresh. rw pushed (loads_one c.args.reader.now c.loop-requests.reader c.next.new.self given object _ _ _ (i.goes_on fresh) (next.1));
+      unread = rw (← i.fault, none) tt;
+      source = loses_then _ _ _ (n.source.0) i.source (n.source.1);
+      later = omega (arith, i.later, n.later);
+    }
+
+pub returns-in_err-push-clause-source : goal.returns-in_err-push-clause-source
+returns-in_err-push-clause-source g c = loses_then _ _ _ (c.next.ensures.source.0) (c.loop-requests.invariant.source) (c.next.ensures.source.1)
+
+pub returns-clause-source : goal.returns-clause-source
+returns-clause-source g c = loses_then _ _ _ (c.next.ensures.source.0) (c.loop-requests.invariant.source) (c.next.ensures.source.1)

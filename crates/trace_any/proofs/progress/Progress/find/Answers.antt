@@ -1,0 +1,31 @@
+use Rattle.std.proofs.Common.{◌≡◌, ◌+◌, ◌≤◌, ◌<◌, ◌∙◌, arith, ap}
+use Rattle.bound_io.proofs.KnownLemmas.{loses_then}
+use Rattle.trace_any.proofs.Coming.{goes_then}
+use Rattle.trace_any.proofs.progress.Progress.find.Goals as goal
+
+pub returns-in_err-take_line-clause-source : goal.returns-in_err-take_line-clause-source
+returns-in_err-take_line-clause-source g c = loses_then _ _ _ (c.in_err-take_line.ensures.source.0) (c.loop-self.invariant.source) (c.in_err-take_line.ensures.source.1)
+
+pub returns-then-not-branch-clause-source : goal.returns-then-not-branch-clause-source
+returns-then-not-branch-clause-source g c = loses_then _ _ _ (c.take_line.ensures.source.0) (c.loop-self.invariant.source) (c.take_line.ensures.source.1)
+
+pub loop-self-smaller : goal.loop-self-smaller
+loop-self-smaller g c =
+    let taken = rw (c.if-not-branch.false) at c.in_ok-take_line.ensures.taken in
+    omega (arith, taken.0, c.take_line.ensures.within.0, ap (λ limits. limits.bytes) (c.take_line.ensures.still.1))
+
+pub loop-self-preserved : goal.loop-self-preserved
+loop-self-preserved g c =
+    let i = c.loop-self.invariant in
+    let t = c.take_line.ensures in
+    let taken = c.in_ok-take_line.ensures in
+    let new = rw (c.if-not-branch.false) at taken.taken in
+    record {
+      format = t.still.0 ∙ i.format;
+      limits = t.still.1 ∙ i.limits;
+      given = t.still.2 ∙ i.given;
+      no_fault = taken.no_fault;
+      goes_on = goes_then (c.args.self.now) (c.loop-self.self) (c.take_line.new.self) _ _ _ i.goes_on (new.1);
+      source = loses_then _ _ _ (t.source.0) i.source (t.source.1);
+      later = omega (arith, i.later, t.later);
+    }

@@ -1,0 +1,18 @@
+use Rattle.std.proofs.Common.{◌≡◌, ◌+◌, ◌-◌, ◌≤◌, length, None, IfSome}
+use Rattle.bound_io.specs.Reading.{LosesFront}
+use Rattle.trace_any.specs.Readers.{GoesOn, told}
+use Rattle.trace_any.proofs.progress.Progress.find.Given as goal
+
+abbrev pub invariant-loop-self : goal.invariant-loop-self
+invariant-loop-self g l = record {
+  format : l.self.format ≡ l.initial.self.format;
+  limits : l.self.limits ≡ l.initial.self.limits;
+  given : l.self.given ≡ l.initial.self.given;
+  no_fault : l.self.lines.fault ≡ None;
+  goes_on : IfSome (told l.initial.self (g.S.Source.left l.initial.source)) (λ bytes. GoesOn (λ r. r) l.initial.self l.self bytes (told l.self (g.S.Source.left l.source)));
+  source : LosesFront (g.S.Source.left l.initial.source) (g.S.Source.left l.source);
+  later : g.S.Source.faults l.initial.source ≤ g.S.Source.faults l.source;
+}
+
+abbrev pub decreases-loop-self : goal.decreases-loop-self
+decreases-loop-self g l = l.self.limits.bytes - l.self.lines.consumed

@@ -1,0 +1,134 @@
+-- What a reader of requests has still to give.
+use Rattle.std.specs.Prelude.{◌≡◌, ℕ, ◌+◌, ◌-◌, ◌<◌, List, [], ◌∷◌, ◌++◌, Bool, true, false, Result, Ok, Err, None, Some, IfSome}
+use Rattle.trace_lines.specs.declared.line.Span.{Span}
+use Rattle.trace_lines.specs.declared.line.Span.TheVariants.{Nothing, One, Blocks}
+use Rattle.std.specs.declared.option.Option.{Option}
+use Rattle.bound_io.specs.Causes.{Rose}
+use Rattle.bound_io.specs.Positions.{Position}
+use Rattle.bound_io.specs.Lines.{stands_in}
+use Rattle.cache_model.specs.declared.objects.Object.{Object}
+use Rattle.trace_any.specs.declared.fault.TraceFault.{TraceFault}
+use Rattle.trace_any.specs.declared.fault.TraceFault.TheVariants.{BadLine, ReadFault, InputTooLong, TooManyRequests, NoMemory}
+use Rattle.trace_any.specs.declared.format.Format.{Format}
+use Rattle.trace_any.specs.declared.format.Limits.{Limits}
+use Rattle.trace_any.specs.Readings.{Reading, requested, read_on}
+
+-- what is left of the blocks that the last line asked for
+pub record Ahead : Type 0 where
+  pub volume : ℕ
+  pub first : ℕ
+  pub count : ℕ
+  pub size : ℕ
+
+-- no block is left
+abbrev pub nothing_ahead : Ahead
+nothing_ahead = record { volume = 0; first = 0; count = 0; size = 0 }
+
+-- where a reader of requests stands: its lines, the number of requests given and of lines dropped, the blocks of the last line, and the fault that was answered
+pub record Reader : Type 0 where
+  pub format : Format
+  pub limits : Limits
+  pub lines : Position
+  pub given : ℕ
+  pub dropped : ℕ
+  pub ahead : Ahead
+  pub fault : Option TraceFault
+
+-- a reader that has read nothing
+abbrev pub fresh : Format → Limits → Reader
+fresh format limits = record {
+  format = format;
+  limits = limits;
+  lines = record { limit = limits.bytes; consumed = 0; line = 0; held = []; fault = None };
+  given = 0;
+  dropped = 0;
+  ahead = nothing_ahead;
+  fault = None;
+}
+
+-- a reader with this fault
+abbrev pub with_fault : Reader → Option TraceFault → Reader
+with_fault r fault = record r { fault = fault }
+
+-- the fault of an answer, if it is one
+abbrev pub err_of : {A : Type 0} → Result A TraceFault → Option TraceFault
+err_of (Ok x) = None
+err_of (Err fault) = Some fault
+
+-- the requests that may still be given
+abbrev pub room_left : Reader → Limits
+room_left r = record { requests = r.limits.requests - r.given; bytes = r.limits.bytes }
+
+-- a reading that has come as far as a reader, whose requests so far are left out
+abbrev pub so_far : Reader → Reading
+so_far r = record { requests = []; dropped = r.dropped; lines = r.lines.line; bytes = r.lines.consumed; refused = None }
+
+-- the blocks of the last line, as far as there is room
+abbrev pub with_ahead : Reader → Reading
+with_ahead r = requested (r.limits.requests - r.given) (so_far r) r.ahead.volume r.ahead.first r.ahead.count r.ahead.size
+
+-- the reading of what is still to come, where the reader stands in these bytes: the requests after those given, the dropped lines in all, and why it stops
+abbrev pub to_come : Reader → List ℕ → Reading
+to_come r bytes = read_on r.format (room_left r) (with_ahead r) bytes
+
+-- a request before the others of a reading
+abbrev pub onto : Object → Reading → Reading
+onto x r = record r { requests = x ∷ r.requests }
+
+-- requests before the others of a reading
+abbrev pub after : List Object → Reading → Reading
+after given r = record r { requests = given ++ r.requests }
+
+-- the reading has no more requests, these dropped lines, and stops for this or not at all
+pub record IsOver (r : Reading) (dropped : ℕ) (refused : Option TraceFault) : Type 0 where
+  pub requests : r.requests ≡ []
+  pub dropped_lines : r.dropped ≡ dropped
+  pub stop : r.refused ≡ refused
+
+-- the bytes that a reader stands in, where the source tells those that it has left
+abbrev pub told : Reader → Option (List ℕ) → Option (List ℕ)
+told r left = stands_in r.lines.held left
+
+-- why the next request is not given: what is to come is a refusal, or the source's faults rose; want of memory is free
+abbrev pub IsStopped : Reader → Reader → Option (List ℕ) → ℕ → ℕ → TraceFault → Type 0
+IsStopped old new before faults_before faults_after (BadLine line kind) = IfSome before (λ bytes. IsOver (to_come old bytes) new.dropped (Some (BadLine line kind)))
+IsStopped old new before faults_before faults_after InputTooLong = IfSome before (λ bytes. IsOver (to_come old bytes) new.dropped (Some InputTooLong))
+IsStopped old new before faults_before faults_after TooManyRequests = IfSome before (λ bytes. IsOver (to_come old bytes) new.dropped (Some TooManyRequests))
+IsStopped old new before faults_before faults_after ReadFault = Rose faults_before faults_after
+IsStopped old new before faults_before faults_after NoMemory = Unit {0}
+
+-- the reader goes on from these bytes to those after, and what is to come is what was, without the request that was given
+abbrev pub GoesOn : (Reading → Reading) → Reader → Reader → List ℕ → Option (List ℕ) → Type 0
+GoesOn with_given old new bytes after = (rest : List ℕ) × (after ≡ Some rest) × (to_come old bytes ≡ with_given (to_come new rest))
+
+-- how the next request is given: it is the first of those to come; at the end none is to come, and nothing is left
+abbrev pub NextRequest : Reader → Reader → Option (List ℕ) → Option (List ℕ) → ℕ → ℕ → Result (Option Object) TraceFault → Type 0
+NextRequest old new before after faults_before faults_after (Ok (Some x)) = (new.given ≡ old.given + 1) × IfSome before (λ bytes. GoesOn (onto x) old new bytes after)
+NextRequest old new before after faults_before faults_after (Ok None) = IfSome before (λ bytes. IsOver (to_come old bytes) new.dropped None × (after ≡ Some []))
+NextRequest old new before after faults_before faults_after (Err fault) = IsStopped old new before faults_before faults_after fault
+
+-- how the next line is taken up: nothing that is to come changes by it
+abbrev pub LineTaken : Reader → Reader → Option (List ℕ) → Option (List ℕ) → ℕ → ℕ → Result Bool TraceFault → Type 0
+LineTaken old new before after faults_before faults_after (Ok true) = (old.lines.consumed < new.lines.consumed) × IfSome before (λ bytes. GoesOn (λ r. r) old new bytes after)
+LineTaken old new before after faults_before faults_after (Ok false) = IfSome before (λ bytes. IsOver (to_come old bytes) new.dropped None × (after ≡ Some []))
+LineTaken old new before after faults_before faults_after (Err fault) = IsStopped old new before faults_before faults_after fault
+
+-- a reader whose last line asked for this
+abbrev pub with_span : Reader → Span → Reader
+with_span r Nothing = record r { dropped = r.dropped + 1 }
+with_span r (One id size) = record r { ahead = record { volume = 0; first = id; count = 1; size = size } }
+with_span r (Blocks first count size) = record r { ahead = record { volume = 0; first = first; count = count; size = size } }
+
+-- a reading that was not refused has these requests and dropped lines
+pub record IsWhole (r : Reading) (trace : List Object) (dropped : ℕ) : Type 0 where
+  pub requests : r.requests ≡ trace
+  pub dropped_lines : r.dropped ≡ dropped
+  pub stop : r.refused ≡ None
+
+-- why no trace is loaded: the reading of what is to come is refused so, or the source's faults rose; want of memory is free
+abbrev pub IsNotLoaded : Reader → Option (List ℕ) → ℕ → ℕ → TraceFault → Type 0
+IsNotLoaded old before faults_before faults_after (BadLine line kind) = IfSome before (λ bytes. (to_come old bytes).refused ≡ Some (BadLine line kind))
+IsNotLoaded old before faults_before faults_after InputTooLong = IfSome before (λ bytes. (to_come old bytes).refused ≡ Some InputTooLong)
+IsNotLoaded old before faults_before faults_after TooManyRequests = IfSome before (λ bytes. (to_come old bytes).refused ≡ Some TooManyRequests)
+IsNotLoaded old before faults_before faults_after ReadFault = Rose faults_before faults_after
+IsNotLoaded old before faults_before faults_after NoMemory = Unit {0}

@@ -1,0 +1,111 @@
+-- The reading of a trace, over all its bytes at once.
+use Rattle.std.specs.Prelude.{ℕ, ◌+◌, ◌-◌, ◌^◌, ◌≤◌, List, [], ◌∷◌, ◌++◌, length, map, min, fold, ◌==◌, nat_lt, if◌then◌else◌, Result, Ok, Err, None, Some}
+use Rattle.std.specs.declared.option.Option.{Option}
+use Rattle.std.specs.Option.{is_some}
+use Rattle.std.specs.List.{slice_split, range_with_len}
+use Rattle.bound_io.specs.Lines.{is_lf}
+use Rattle.bound_io.specs.declared.line_reader.LineFault.{LineFault}
+use Rattle.bound_io.specs.declared.line_reader.LineFault.TheVariants as line
+use Rattle.cache_model.specs.declared.objects.Object.{Object}
+use Rattle.trace_lines.specs.Lines.{without_cr, is_blank}
+use Rattle.trace_lines.specs.declared.line.Span.{Span}
+use Rattle.trace_lines.specs.declared.line.Span.TheVariants.{Nothing, One, Blocks}
+use Rattle.trace_lines.specs.declared.line.LineKind.{LineKind}
+use Rattle.trace_lines.specs.declared.line.LineKind.TheVariants.{TooLong}
+use Rattle.trace_webcache.specs.Lines.{line_span}
+use Rattle.trace_any.specs.declared.fault.TraceFault.{TraceFault}
+use Rattle.trace_any.specs.declared.fault.TraceFault.TheVariants.{BadLine, ReadFault, InputTooLong, TooManyRequests}
+use Rattle.trace_any.specs.declared.format.Format.{Format}
+use Rattle.trace_any.specs.declared.format.Format.TheVariants.{Webcache}
+use Rattle.trace_any.specs.declared.format.Limits.{Limits}
+
+-- the most requests and bytes that this program reads
+abbrev pub full_limits : Limits
+full_limits = record { requests = 2 ^ 25; bytes = 2 ^ 36 }
+
+-- the requests so far, how many lines were dropped, how many lines there were and their bytes, and why the reading stopped, if it did
+pub record Reading : Type 0 where
+  pub requests : List Object
+  pub dropped : ℕ
+  pub lines : ℕ
+  pub bytes : ℕ
+  pub refused : Option TraceFault
+
+-- before the first line
+abbrev pub nothing_read : Reading
+nothing_read = record { requests = []; dropped = 0; lines = 0; bytes = 0; refused = None }
+
+-- the reading stops
+abbrev pub stopped : Reading → TraceFault → Reading
+stopped r fault = record r { refused = Some fault }
+
+-- a request for each block of a range
+abbrev pub blocks : ℕ → ℕ → ℕ → ℕ → List Object
+blocks volume first count size = map (λ n. record { volume = volume; id = n; size = size }) (range_with_len first count)
+
+-- a range of blocks is requested, of which no more are taken than there is room for
+abbrev pub requested : ℕ → Reading → ℕ → ℕ → ℕ → ℕ → Reading
+requested most r volume first count size =
+    let room = most - length r.requests in
+    let taken : Reading = record r { requests = r.requests ++ blocks volume first (min count room) size } in
+    if nat_lt room count then stopped taken TooManyRequests else taken
+
+-- what a line asks for, by the form of the trace
+abbrev pub asked : Format → List ℕ → Result Span LineKind
+asked Webcache text = line_span text
+
+-- what is asked for is something
+abbrev pub some_asked : Result Span LineKind → Result (Option Span) LineKind
+some_asked (Ok span) = Ok (Some span)
+some_asked (Err kind) = Err kind
+
+-- what a text asks for, once a CR at its end is dropped; one without a word asks for nothing at all
+abbrev pub text_asked : Format → List ℕ → Result (Option Span) LineKind
+text_asked format text = if is_blank (without_cr text) then Ok None else some_asked (asked format (without_cr text))
+
+-- one more line asks for something, is dropped, or is refused
+abbrev pub taken_up : ℕ → Reading → Result (Option Span) LineKind → Reading
+taken_up most r (Ok None) = r
+taken_up most r (Ok (Some Nothing)) = record r { dropped = r.dropped + 1 }
+taken_up most r (Ok (Some (One id size))) = requested most r 0 id 1 size
+taken_up most r (Ok (Some (Blocks first count size))) = requested most r 0 first count size
+taken_up most r (Err kind) = stopped r (BadLine r.lines kind)
+
+-- one more line, of a text and so many bytes, where the reading has not stopped
+abbrev pub read_line : Format → Limits → Reading → List ℕ × ℕ → Reading
+read_line format limits r (text, size) =
+    let now : Reading = record r { lines = r.lines + 1; bytes = r.bytes + size } in
+    if is_some r.refused then r
+    else (if nat_lt 65535 (length text) then stopped now (BadLine now.lines TooLong)
+    else (if nat_lt limits.bytes now.bytes then stopped now InputTooLong
+    else taken_up limits.requests now (text_asked format text)))
+
+-- the texts between the LFs, each with the bytes of its line; what stands after the last LF is a line if it isn't empty
+abbrev pub ended : List (List ℕ) → List (List ℕ × ℕ)
+ended [] = []
+ended (rest ∷ []) = if length rest == 0 then [] else (rest, length rest) ∷ []
+ended (text ∷ next ∷ more) = (text, length text + 1) ∷ ended (next ∷ more)
+
+-- the lines of some bytes
+abbrev pub lines_of : List ℕ → List (List ℕ × ℕ)
+lines_of bytes = ended (slice_split is_lf bytes)
+
+-- the reading goes on with these bytes
+abbrev pub read_on : Format → Limits → Reading → List ℕ → Reading
+read_on format limits r bytes = fold (read_line format limits) r (lines_of bytes)
+
+-- the reading of all the bytes of a trace
+abbrev pub reading : Format → Limits → List ℕ → Reading
+reading format limits bytes = read_on format limits nothing_read bytes
+
+-- the fault of a trace that a fault of its lines is
+abbrev pub fault_of : LineFault → TraceFault
+fault_of line.ReadFault = ReadFault
+fault_of (line.LineTooLong n) = BadLine n TooLong
+fault_of line.InputTooLong = InputTooLong
+
+-- a request has a size, and a range has a block and ends below 2^64
+abbrev pub IsSpan : Span → Type 0
+IsSpan Nothing = Unit {0}
+IsSpan (One id size) = (1 ≤ size) × (size ≤ 2 ^ 48)
+IsSpan (Blocks first count size) = (1 ≤ count) × (first + count ≤ 2 ^ 64) × (1 ≤ size) × (size ≤ 2 ^ 48)

@@ -1,0 +1,29 @@
+//! The forms of a trace, and how much of one is read.
+ghost use Rattle.std.specs.Prelude.{◌≡◌};
+ghost use Rattle.trace_any.specs.Readings.{full_limits};
+
+/// The form of a trace.
+#[derive(Clone, Copy, Debug, PartialEq, Eq)]
+pub enum Format {
+    /// A line is a time, an id, a size in bytes, and any further words.
+    Webcache,
+}
+
+/// The most requests and the most bytes that a trace may have.
+#[derive(Clone, Copy, Debug, PartialEq, Eq)]
+pub struct Limits {
+    pub requests: u32,
+    pub bytes: u64,
+}
+
+impl Limits {
+    /// The limits of this program: 2^25 requests and 2^36 bytes.
+    pub fn full() -> Limits
+        ensures { result ≡ full_limits }
+    {
+        Limits {
+            requests: 1 << 25,
+            bytes: 1 << 36,
+        }
+    }
+}

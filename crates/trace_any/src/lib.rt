@@ -1,0 +1,15 @@
+//! The requests of a source: its lines in the form of a trace, whatever the pieces in which they come.
+//!
+//! The rules are "A line of a trace" and "The reading of a trace" in docs/DEFINITIONS.md.
+#![tactic(auto)]
+
+mod fault;
+mod format;
+mod loading;
+mod progress;
+mod requests;
+
+pub use fault::TraceFault;
+pub use format::{Format, Limits};
+pub use loading::load;
+pub use requests::RequestReader;

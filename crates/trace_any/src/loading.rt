@@ -1,0 +1,32 @@
+//! Whole traces.
+ghost use Rattle.std.specs.Prelude.{◌≡◌, ◌≤◌, ◌⊎◌, Some, [], None, Err, IfOk, IfErr, IfSome};
+ghost use Rattle.bound_io.specs.Reading.{LosesFront};
+ghost use Rattle.trace_any.specs.Readers.{IsNotLoaded, IsWhole, to_come, told};
+
+use crate::fault::TraceFault;
+use crate::requests::RequestReader;
+use bound_io::Source;
+use cache_rules::{Builder, Trace};
+use std::alloc::Global;
+
+/// The trace of all that the reader has still to give, and how many lines of it were dropped in all.
+///
+/// It takes memory for the requests and the different objects, and none for the text.
+pub fn load<S: Source>(
+    alloc: Global,
+    reader: &mut RequestReader,
+    source: &mut S,
+) -> Result<(Trace, u64), TraceFault>
+    ensures whole { reader.old.fault ≡ None → IfOk result (λ loaded. IfSome (told reader.old (S.left source.old)) (λ bytes. IsWhole (to_come reader.old bytes) loaded.0 loaded.1)) }
+    ensures end { reader.old.fault ≡ None → IfOk result (λ _. IfSome (told reader.old (S.left source.old)) (λ _. told reader.new (S.left source.new) ≡ Some [])) }
+    ensures refused { reader.old.fault ≡ None → IfErr result (IsNotLoaded reader.old (told reader.old (S.left source.old)) (S.faults source.old) (S.faults source.new)) }
+    ensures again { IfSome reader.old.fault (λ fault. ((result ≡ Err fault) ⊎ (result ≡ Err TraceFault.NoMemory)) × (S.left source.new ≡ S.left source.old)) }
+    ensures source { LosesFront (S.left source.old) (S.left source.new) }
+    ensures later { S.faults source.old ≤ S.faults source.new }
+{
+    let mut requests = Builder::new(alloc)?;
+    while let Some(object) = reader.next(alloc, source)? {
+        requests.push(object)?;
+    }
+    Ok((requests.finish(), reader.dropped()))
+}

@@ -1,0 +1,203 @@
+//! How far the reading of a trace has come.
+ghost use Rattle.std.specs.Prelude.{List, ℕ, ◌≡◌, ◌+◌, ◌≤◌, ◌<◌, ◌^◌, None, Some, Err, true, false, length, IfOk, IfErr, IfSome, IfNone, OnOk};
+ghost use Rattle.bound_io.specs.Causes.{Rose};
+ghost use Rattle.bound_io.specs.Reading.{LosesFront};
+ghost use Rattle.trace_any.specs.Readings.{IsSpan, text_asked};
+
+use crate::fault::TraceFault;
+use crate::format::{Format, Limits};
+use bound_base::NoMemory;
+use bound_io::{LineReader, Source};
+use cache_rules::Object;
+use std::alloc::Global;
+use std::marker::Model;
+use trace_lines::{LineKind, Span, is_blank, trim_cr};
+use trace_webcache::parse;
+
+// The blocks of the last line whose requests are still to be given.
+#[derive(Clone, Copy)]
+struct Range {
+    volume: u32,
+    first: u64,
+    count: u64,
+    size: u64,
+}
+
+/// The lines and the requests of a trace so far.
+#[derive(Drop)]
+pub struct Progress {
+    format: Format,
+    limits: Limits,
+    lines: LineReader,
+    given: u32,
+    dropped: u64,
+    ahead: Range,
+}
+
+impl Model for Progress {
+    ghost use Rattle.std.specs.Prelude.{◌≡◌, ◌≤◌, ◌^◌, ◌+◌, None, length};
+    ghost use Rattle.trace_any.specs.Readers.{Reader};
+
+    ghost Value = { Reader };
+
+    ghost view = { λ r. record {
+        format = r.format;
+        limits = r.limits;
+        lines = r.lines;
+        given = r.given;
+        dropped = r.dropped;
+        ahead = record { volume = r.ahead.volume; first = r.ahead.first; count = r.ahead.count; size = r.ahead.size };
+        fault = None } };
+
+    ghost invariant = { λ r.
+        (r.limits.requests ≤ 2 ^ 25) × (r.limits.bytes ≤ 2 ^ 36) × (r.lines.limit ≡ r.limits.bytes) × (r.lines.consumed ≤ r.limits.bytes)
+        × (r.lines.line ≤ r.lines.consumed) × (length r.lines.held ≤ 65536) × (r.given ≤ r.limits.requests) × (r.dropped ≤ r.lines.line)
+        × (1 ≤ r.ahead.count → (1 ≤ r.ahead.size) × (r.ahead.size ≤ 2 ^ 48) × (r.ahead.first + r.ahead.count ≤ 2 ^ 64)) };
+}
+
+// What the text of a line asks for, where it has a word.
+fn asked_of(format: Format, text: &[u8]) -> Result<Option<Span>, LineKind>
+    ensures asked { result ≡ text_asked format text.now }
+    ensures range { IfOk result (λ found. IfSome found IsSpan) }
+{
+    let text = trim_cr(text);
+    if is_blank(text) {
+        return Ok(None);
+    }
+    match format {
+        Format::Webcache => Ok(Some(parse(text)?)),
+    }
+}
+
+impl Progress {
+    ghost use Rattle.trace_any.specs.Readers.{GoesOn, IsOver, IsStopped, LineTaken, NextRequest, fresh, onto, to_come, told, with_span};
+
+    /// Nothing is read yet. The memory is taken here.
+    pub fn new(alloc: Global, format: Format, limits: Limits) -> Result<Self, NoMemory>
+        requires requests { limits.requests ≤ 2 ^ 25 }
+        requires bytes { limits.bytes ≤ 2 ^ 36 }
+        ensures { IfOk result (λ progress. progress ≡ fresh format limits) }
+    {
+        Ok(Progress {
+            format,
+            limits,
+            lines: LineReader::new(alloc, limits.bytes)?,
+            given: 0,
+            dropped: 0,
+            ahead: Range {
+                volume: 0,
+                first: 0,
+                count: 0,
+                size: 0,
+            },
+        })
+    }
+
+    /// How many lines were dropped.
+    pub fn dropped(&self) -> u64
+        ensures { result ≡ self.now.dropped }
+    {
+        self.dropped
+    }
+
+    // Keeps the blocks that a line asks for.
+    fn keep(&mut self, span: Span)
+        requires span { IsSpan span }
+        requires nothing_ahead { self.old.ahead.count ≡ 0 }
+        requires room { self.old.dropped < self.old.lines.line }
+        ensures { self.new ≡ with_span self.old span }
+    {
+        match span {
+            Span::Nothing => self.dropped += 1,
+            Span::One { id, size } => {
+                self.ahead = Range {
+                    volume: 0,
+                    first: id,
+                    count: 1,
+                    size,
+                };
+            }
+            Span::Blocks { first, count, size } => {
+                self.ahead = Range {
+                    volume: 0,
+                    first,
+                    count,
+                    size,
+                };
+            }
+        }
+    }
+
+    // Takes up the next line, and says whether there was one.
+    fn take_line<S: Source>(&mut self, source: &mut S) -> Result<bool, TraceFault>
+        requires no_fault { self.old.lines.fault ≡ None }
+        requires nothing_ahead { self.old.ahead.count ≡ 0 }
+        ensures still { (self.new.format ≡ self.old.format) × (self.new.limits ≡ self.old.limits) × (self.new.given ≡ self.old.given) }
+        ensures no_fault { OnOk result (self.new.lines.fault ≡ None) }
+        ensures within { (self.new.lines.consumed ≤ self.new.limits.bytes) × (length self.new.lines.held ≤ 65536) }
+        ensures few { (self.new.given ≤ self.new.limits.requests) × (self.new.limits.requests ≤ 2 ^ 25) }
+        ensures taken { LineTaken self.old self.new (told self.old (S.left source.old)) (told self.new (S.left source.new)) (S.faults source.old) (S.faults source.new) result }
+        ensures source { LosesFront (S.left source.old) (S.left source.new) }
+        ensures later { S.faults source.old ≤ S.faults source.new }
+    {
+        let Some(text) = self.lines.next_line(source)? else {
+            return Ok(false);
+        };
+        let asked = match asked_of(self.format, text) {
+            Ok(asked) => asked,
+            Err(kind) => {
+                return Err(TraceFault::BadLine {
+                    line: self.lines.line(),
+                    kind,
+                });
+            }
+        };
+        if let Some(span) = asked {
+            self.keep(span);
+        }
+        Ok(true)
+    }
+
+    // Gives the first of the blocks that are left.
+    fn give(&mut self) -> Result<Object, TraceFault>
+        requires some { 0 < self.old.ahead.count }
+        ensures still { (self.new.format ≡ self.old.format) × (self.new.limits ≡ self.old.limits) × (self.new.lines ≡ self.old.lines) × (self.new.dropped ≡ self.old.dropped) }
+        ensures few { (self.new.given ≤ self.new.limits.requests) × (self.new.limits.requests ≤ 2 ^ 25) }
+        ensures size { IfOk result (λ x. (1 ≤ x.size) × (x.size ≤ 2 ^ 48)) }
+        ensures given { IfOk result (λ x. (self.new.given ≡ self.old.given + 1) × ((bytes : List ℕ) → to_come self.old bytes ≡ onto x (to_come self.new bytes))) }
+        ensures full { IfErr result (λ fault. (fault ≡ TraceFault.TooManyRequests) × ((bytes : List ℕ) → IsOver (to_come self.old bytes) self.new.dropped (Some fault))) }
+    {
+        if self.given == self.limits.requests {
+            return Err(TraceFault::TooManyRequests);
+        }
+        let object = Object {
+            volume: self.ahead.volume,
+            id: self.ahead.first,
+            size: self.ahead.size,
+        };
+        self.given += 1;
+        self.ahead.first = self.ahead.first.saturating_add(1);
+        self.ahead.count -= 1;
+        Ok(object)
+    }
+
+    /// Gives the next request, or None at the end.
+    pub fn find<S: Source>(&mut self, source: &mut S) -> Result<Option<Object>, TraceFault>
+        requires no_fault { self.old.lines.fault ≡ None }
+        ensures still { (self.new.format ≡ self.old.format) × (self.new.limits ≡ self.old.limits) }
+        ensures no_fault { OnOk result (self.new.lines.fault ≡ None) }
+        ensures size { IfOk result (λ found. IfSome found (λ x. (1 ≤ x.size) × (x.size ≤ 2 ^ 48))) }
+        ensures few { (self.new.given ≤ self.new.limits.requests) × (self.new.limits.requests ≤ 2 ^ 25) }
+        ensures ahead { length self.new.lines.held ≤ 65536 }
+        ensures next { NextRequest self.old self.new (told self.old (S.left source.old)) (told self.new (S.left source.new)) (S.faults source.old) (S.faults source.new) result }
+        ensures source { LosesFront (S.left source.old) (S.left source.new) }
+        ensures later { S.faults source.old ≤ S.faults source.new }
+    {
+        while self.ahead.count == 0 {
+            if !self.take_line(source)? {
+                return Ok(None);
+            }
+        }
+        Ok(Some(self.give()?))
+    }
+}

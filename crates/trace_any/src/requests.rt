@@ -1,0 +1,84 @@
+//! A reader of requests.
+ghost use Rattle.std.specs.Prelude.{◌≡◌, ◌≤◌, ◌^◌, None, Some, Err, IfOk, IfSome, OnOk, length};
+ghost use Rattle.bound_io.specs.Reading.{LosesFront};
+
+use crate::fault::TraceFault;
+use crate::format::{Format, Limits};
+use crate::progress::Progress;
+use bound_base::NoMemory;
+use bound_io::Source;
+use cache_rules::Object;
+use std::alloc::Global;
+use std::marker::Model;
+
+/// Gives the requests of a source one by one, from its lines.
+///
+/// It doesn't keep the source: each reading call is given it. Over one source the requests are those of all its
+/// bytes, in whatever pieces it gives them. A reader that has answered a fault answers the same from then on, and
+/// reads nothing more.
+#[derive(Drop)]
+pub struct RequestReader {
+    progress: Progress,
+    fault: Option<TraceFault>,
+}
+
+impl Model for RequestReader {
+    ghost use Rattle.std.specs.Prelude.{◌≡◌, ◌≤◌, ◌^◌, None, length};
+    ghost use Rattle.trace_any.specs.Readers.{Reader, with_fault};
+
+    ghost Value = { Reader };
+
+    ghost view = { λ r. with_fault r.progress r.fault };
+
+    ghost invariant = { λ r.
+        (r.fault ≡ None → r.progress.lines.fault ≡ None) × (r.progress.given ≤ r.progress.limits.requests) × (r.progress.limits.requests ≤ 2 ^ 25)
+        × (length r.progress.lines.held ≤ 65536) };
+}
+
+impl RequestReader {
+    ghost use Rattle.trace_any.specs.Readers.{NextRequest, err_of, fresh, told};
+
+    /// A reader of a trace of this form, within these limits, which takes its memory here.
+    pub fn new(alloc: Global, format: Format, limits: Limits) -> Result<Self, NoMemory>
+        requires requests { limits.requests ≤ 2 ^ 25 }
+        requires bytes { limits.bytes ≤ 2 ^ 36 }
+        ensures { IfOk result (λ reader. reader ≡ fresh format limits) }
+    {
+        Ok(RequestReader {
+            progress: Progress::new(alloc, format, limits)?,
+            fault: None,
+        })
+    }
+
+    /// How many lines were dropped, since they ask for no byte.
+    pub fn dropped(&self) -> u64
+        ensures { result ≡ self.now.dropped }
+    {
+        self.progress.dropped()
+    }
+
+    /// The next request, or None at the end.
+    pub fn next<S: Source>(
+        &mut self,
+        _alloc: Global,
+        source: &mut S,
+    ) -> Result<Option<Object>, TraceFault>
+        ensures next { self.old.fault ≡ None → NextRequest self.old self.new (told self.old (S.left source.old)) (told self.new (S.left source.new)) (S.faults source.old) (S.faults source.new) result }
+        ensures fault { self.old.fault ≡ None → self.new.fault ≡ err_of result }
+        ensures again { IfSome self.old.fault (λ fault. (result ≡ Err fault) × (self.new ≡ self.old) × (S.left source.new ≡ S.left source.old) × (S.faults source.new ≡ S.faults source.old)) }
+        ensures size { IfOk result (λ found. IfSome found (λ x. (1 ≤ x.size) × (x.size ≤ 2 ^ 48))) }
+        ensures few { (self.new.limits ≡ self.old.limits) × (self.new.given ≤ self.new.limits.requests) × (self.new.limits.requests ≤ 2 ^ 25) }
+        ensures ahead { length self.new.lines.held ≤ 65536 }
+        ensures source { LosesFront (S.left source.old) (S.left source.new) }
+        ensures later { S.faults source.old ≤ S.faults source.new }
+    {
+        if let Some(fault) = self.fault {
+            return Err(fault);
+        }
+        let found = self.progress.find(source);
+        if let Err(fault) = found {
+            self.fault = Some(fault);
+        }
+        found
+    }
+}

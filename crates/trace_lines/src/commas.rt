@@ -1,0 +1,60 @@
+//! Fields, which stand between commas.
+ghost use Rattle.std.specs.Prelude.{◌≡◌, ◌∷◌, [], ◌-◌, ◌≤◌, slice_get, MatchOption};
+ghost use Rattle.std.specs.Option.{option_copied};
+ghost use Rattle.trace_lines.specs.Lines.{fields};
+
+use memchr::memchr;
+
+// The first field and what stands after its comma, or None where there is no comma.
+fn cut_at_comma(text: &[u8]) -> Option<(&[u8], &[u8])>
+    ensures { MatchOption result (fields text.now ≡ text.now ∷ []) (λ parts. fields text.now ≡ parts.0.now ∷ fields parts.1.now) }
+{
+    let comma = memchr(b',', text)?;
+    let (first, _) = text.split_at(comma);
+    let (_, rest) = text.split_at(comma + 1);
+    Some((first, rest))
+}
+
+/// The field with this number, counted from 1, or None where there are fewer. Empty fields count. Takes time in the
+/// bytes up to its end.
+pub fn field(line: &[u8], number: usize) -> Option<&[u8]>
+    requires { 1 ≤ number }
+    ensures { option_copied result ≡ slice_get (fields line.now) (number - 1) }
+{
+    let mut rest = line;
+    for _place in 1..number {
+        let (_, others) = cut_at_comma(rest)?;
+        rest = others;
+    }
+    match cut_at_comma(rest) {
+        Some((found, _)) => Some(found),
+        None => Some(rest),
+    }
+}
+
+#[cfg(test)]
+mod tests {
+    use super::*;
+
+    #[test]
+    fn finds_fields_by_number(rt: HostRuntime) {
+        let rows: [(&[u8], usize, Option<&[u8]>); 13] = [
+            (b"1,7,4", 1, Some(b"1")),
+            (b"1,7,4", 2, Some(b"7")),
+            (b"1,7,4", 3, Some(b"4")),
+            (b"1,7,4", 4, None),
+            (b",a,", 1, Some(b"")),
+            (b",a,", 2, Some(b"a")),
+            (b",a,", 3, Some(b"")),
+            (b",a,", 4, None),
+            (b"a,,b", 2, Some(b"")),
+            (b"a,,b", 3, Some(b"b")),
+            (b" a\t,b", 1, Some(b" a\t")),
+            (b"", 1, Some(b"")),
+            (b"", 2, None),
+        ];
+        for (line, number, found) in rows {
+            assert_eq!(rt; field(line, number), found, "field {number} of {line:?}");
+        }
+    }
+}
