@@ -1,4 +1,4 @@
-//! Bounds on the hits of offline caching, with certificates.
+//! Bounds on the score of offline caching, in hits or in bytes, with certificates.
 //!
 //! The words, the files and the texts are described in README.md, and the rules in docs/DEFINITIONS.md.
 #![tactic(auto)]

@@ -28,7 +28,7 @@ denominator 1\nform plain\nupper 1\nflow 0\nlower 1\nrecords\n0 1 0\n0 0 0\nend\
 const PAIR_REPORT: &[u8] = b"trace requests 2 objects 1 dropped 0\ncapacity 10 objective object\n\
 mode infinite form plain\nunit 4 units 2 denominator 1\nintervals 1\nupper 1/1 floor 1\nflow 0/1\nlower 1\n";
 
-// A run, and what comes of it. Each source gives and each sink takes a byte a call.
+// A run, and what comes of it. Each sink takes a byte a call.
 #[derive(Clone, Copy)]
 struct Row<'a> {
     shows: &'a str,
@@ -251,7 +251,7 @@ denominator 1\nform plain\nupper 0\nflow 0\nlower 0\nrecords\nend\n",
     },
 ];
 
-// Traces of every form, and the lines that are refused.
+// Traces with all that a line may have, and the lines that are refused.
 const TRACE_ROWS: [Row<'static>; 9] = [
     Row {
         shows: "a CR before the LF, and no LF at the end",
@@ -351,10 +351,21 @@ fn words_of(alloc: Global, words: &[&str]) -> Result<Vec<String>, AllocError> {
     Ok(all)
 }
 
-// Runs over memory, and checks the status and what the sinks got.
+// Runs over memory, a byte a call.
 fn check(rt: &impl Abort, alloc: Global, row: &Row<'_>) -> Result<(), Fail> {
+    check_at(rt, alloc, row, 1)
+}
+
+// Runs over memory, where a read gives so many bytes, and checks the status and what the sinks got.
+fn check_at(rt: &impl Abort, alloc: Global, row: &Row<'_>, step: usize) -> Result<(), Fail>
+    requires { 1 ≤ step }
+{
     let words = words_of(alloc, row.words)?;
-    let mut trace = MemSource::new(row.trace.to_vec(alloc)?, row.trace_fails.to_vec(alloc)?, 1);
+    let mut trace = MemSource::new(
+        row.trace.to_vec(alloc)?,
+        row.trace_fails.to_vec(alloc)?,
+        step,
+    );
     let mut cert = CalmSource::new(Vec::new(alloc));
     let mut report = MemSink::new(alloc, 4096, row.report_fails.to_vec(alloc)?, 1)?;
     let mut made = MemSink::new(alloc, 4096, row.made_fails.to_vec(alloc)?, 1)?;
@@ -368,7 +379,9 @@ fn check(rt: &impl Abort, alloc: Global, row: &Row<'_>) -> Result<(), Fail> {
 #[test]
 fn traces_are_read_or_refused_at_their_line(rt: HostRuntime) -> Result<(), Fail> {
     for row in &TRACE_ROWS {
-        check(&rt, rt.alloc(), row)?;
+        for step in [1, 2, 7, 65535, 65536, 65537] {
+            check_at(&rt, rt.alloc(), row, step)?;
+        }
     }
     Ok(())
 }
@@ -487,7 +500,7 @@ fn padded(alloc: Global, bytes: usize) -> Result<Vec<u8>, AllocError> {
     Ok(text)
 }
 
-// The report of a run over a calm source of these bytes, read in steps.
+// The status of a run over a trace of one line with so many bytes of text, read in steps.
 fn check_long(
     rt: &impl Abort,
     alloc: Global,

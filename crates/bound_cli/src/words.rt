@@ -30,7 +30,7 @@ pub struct WordFault {
 /// What the words ask for.
 #[derive(Clone, Copy, Debug, PartialEq, Eq)]
 pub enum Plan {
-    /// Bounds on what every policy earns on a trace of this form, at a capacity in bytes.
+    /// Bounds on the best score on a trace of this form, at a capacity in bytes.
     Bounds {
         format: Format,
         capacity: u64,

@@ -16,7 +16,7 @@ use Rattle.trace_lines.specs.declared.line.LineKind.{LineKind}
 use Rattle.trace_lines.specs.declared.line.LineKind.TheVariants.{TooLong}
 use Rattle.trace_any.specs.declared.fault.TraceFault.{TraceFault}
 use Rattle.trace_any.specs.declared.fault.TraceFault.TheVariants.{BadLine, InputTooLong, TooManyRequests}
-use Rattle.trace_any.specs.Readings.{Reading, stopped, requested, text_asked, taken_up, read_line, read_on, reading, nothing_read, fault_of}
+use Rattle.trace_any.specs.Readings.{stopped, requested, text_asked, taken_up, read_line, read_on, reading, nothing_read, fault_of}
 use Rattle.trace_any.specs.declared.format.Format.{Format}
 use Rattle.trace_any.specs.declared.format.Limits.{Limits}
 use Rattle.trace_any.specs.Readers.{Reader, fresh, room_left, so_far, to_come, onto, after, with_span, GoesOn, IsOver, IsStopped, LineTaken}
@@ -105,9 +105,9 @@ too_long r line None none line_is long = tt
 too_long r line (Some bytes) none line_is long =
     let now = plain r.dropped (r.lines.line + 1) (r.lines.consumed + length (first_line bytes)) in
     let read : read_line r.format (room_left r) (so_far r) (first_text bytes, length (first_line bytes)) ≡ stopped now (BadLine (r.lines.line + 1) TooLong)
-        = rw (lt-ltb 65535 (length (first_text bytes)) (omega (arith, length-text bytes, long))) refl in
+    = rw (lt-ltb 65535 (length (first_text bytes)) (omega (arith, length-text bytes, long))) refl in
     let stop : to_come r bytes ≡ stopped now (BadLine (r.lines.line + 1) TooLong) = to_come_line r bytes none (some_text bytes (omega (arith, long)))
-        ∙ (ap (λ t. read_on r.format (room_left r) t (after_line bytes)) read ∙ read_on-stopped r.format (room_left r) now (BadLine (r.lines.line + 1) TooLong) (after_line bytes)) in
+    ∙ (ap (λ t. read_on r.format (room_left r) t (after_line bytes)) read ∙ read_on-stopped r.format (room_left r) now (BadLine (r.lines.line + 1) TooLong) (after_line bytes)) in
     rw line_is (record { requests = ap (λ s. s.requests) stop; dropped_lines = ap (λ s. s.dropped) stop; stop = ap (λ s. s.refused) stop })
 
 pub past_limit : (r : Reader) (before : Option (List ℕ)) → r.ahead.count ≡ 0 → r.lines.limit ≡ r.limits.bytes → r.lines.consumed ≤ r.limits.bytes
@@ -118,9 +118,9 @@ past_limit r (Some bytes) none limit within past =
     let now = plain r.dropped (r.lines.line + 1) (r.lines.consumed + size) in
     let some : 0 < length bytes = omega (arith, length-take (text_len bytes + 1) bytes, past.1, limit, within) in
     let read : read_line r.format (room_left r) (so_far r) (first_text bytes, size) ≡ stopped now InputTooLong
-        = rw (le-ltb 65535 (length (first_text bytes)) (omega (arith, length-text bytes, past.0)), lt-ltb r.limits.bytes (r.lines.consumed + size) (omega (arith, past.1, limit))) refl in
+    = rw (le-ltb 65535 (length (first_text bytes)) (omega (arith, length-text bytes, past.0)), lt-ltb r.limits.bytes (r.lines.consumed + size) (omega (arith, past.1, limit))) refl in
     let stop : to_come r bytes ≡ stopped now InputTooLong = to_come_line r bytes none some
-        ∙ (ap (λ t. read_on r.format (room_left r) t (after_line bytes)) read ∙ read_on-stopped r.format (room_left r) now InputTooLong (after_line bytes)) in
+    ∙ (ap (λ t. read_on r.format (room_left r) t (after_line bytes)) read ∙ read_on-stopped r.format (room_left r) now InputTooLong (after_line bytes)) in
     record { requests = ap (λ s. s.requests) stop; dropped_lines = ap (λ s. s.dropped) stop; stop = ap (λ s. s.refused) stop }
 
 -- no line is left
@@ -150,10 +150,10 @@ gives_block r next bytes room some follows =
     let blocks : a.count ≡ count + 1 = omega (arith, some) in
     let d = r.dropped in let l = r.lines.line in let c = r.lines.consumed in
     let start : requested (r.limits.requests - r.given) (plain d l c) a.volume a.first a.count a.size ≡ onto x (requested most (plain d l c) a.volume next count a.size)
-        = ap (λ n. requested n (plain d l c) a.volume a.first a.count a.size) places
-        ∙ (ap (λ n. requested (most + 1) (plain d l c) a.volume a.first n a.size) blocks
-        ∙ (requested-next most d l c a.volume a.first count a.size
-        ∙ ap (onto x) (same_blocks most d l c a.volume (a.first + 1) next count a.size (λ h. follows (omega (arith, h, blocks)))))) in
+    = ap (λ n. requested n (plain d l c) a.volume a.first a.count a.size) places
+    ∙ (ap (λ n. requested (most + 1) (plain d l c) a.volume a.first n a.size) blocks
+    ∙ (requested-next most d l c a.volume a.first count a.size
+    ∙ ap (onto x) (same_blocks most d l c a.volume (a.first + 1) next count a.size (λ h. follows (omega (arith, h, blocks)))))) in
     ap (λ s. read_on r.format (room_left r) s bytes) start
     ∙ (ap (λ n. read_on r.format (record { requests = n; bytes = r.limits.bytes }) (onto x (requested most (plain d l c) a.volume next count a.size)) bytes) places
     ∙ read_on-onto r.format most r.limits.bytes x (requested most (plain d l c) a.volume next count a.size) bytes)

@@ -1,6 +1,6 @@
 -- The first line of some bytes, and the lines after it.
-use Rattle.std.proofs.Common.{◌≡◌, ℕ, suc, ◌+◌, ◌-◌, ◌≤◌, ◌<◌, ◌∙◌, sym, refl, ap, Bool, true, false, not, cond, List, [], ◌∷◌, ◌++◌, length, min, take, drop, arith, length-take, inl, inr, ◌⊎◌}
-use Rattle.std.specs.List.{slice_split, position_or_len, count_by, onto_first}
+use Rattle.std.proofs.Common.{◌≡◌, ℕ, suc, ◌+◌, ◌≤◌, ◌<◌, ◌∙◌, refl, ap, Bool, true, false, not, cond, List, [], ◌∷◌, length, arith, length-take, inl, inr, ◌⊎◌}
+use Rattle.std.specs.List.{slice_split, onto_first}
 use Rattle.std.proofs.lemmas.Bool.{cases_lt, ne_eqb}
 use Rattle.std.proofs.lemmas.List.{take_all, drop_all}
 use Rattle.std.proofs.lemmas.List.Sums.{prefix_len-le-length}

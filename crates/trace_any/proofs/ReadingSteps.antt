@@ -1,11 +1,9 @@
 -- One line more, and one request more, of a reading.
-use Rattle.std.proofs.Common.{◌≡◌, ℕ, suc, ◌+◌, ◌-◌, ◌≤◌, ◌<◌, ◌∙◌, sym, refl, ap, Bool, true, false, cond, nat_lt, if◌then◌else◌, List, [], ◌∷◌, ◌++◌, length, min, fold, arith, inl, inr, ◌⊎◌, Option, Some, None, Result, Ok, Err}
+use Rattle.std.proofs.Common.{◌≡◌, ℕ, suc, ◌+◌, ◌-◌, ◌≤◌, ◌<◌, ◌∙◌, sym, refl, ap, Bool, true, false, cond, nat_lt, List, [], ◌∷◌, ◌++◌, length, min, fold, arith, inl, inr, ◌⊎◌, Option, Some, None, Result, Ok, Err}
 use Rattle.std.proofs.lemmas.Bool.{cases_lt, lt-ltb, le-ltb}
 use Rattle.std.specs.Option.{is_some}
-use Rattle.std.specs.List.{range_with_len}
 use Rattle.bound_io.specs.Lines.{first_text, first_line, after_line}
 use Rattle.cache_model.specs.declared.objects.Object.{Object}
-use Rattle.trace_lines.specs.Lines.{without_cr, is_blank}
 use Rattle.trace_lines.specs.declared.line.Span.{Span}
 use Rattle.trace_lines.specs.declared.line.Span.TheVariants.{Nothing, One, Blocks}
 use Rattle.trace_lines.specs.declared.line.LineKind.{LineKind}
@@ -14,7 +12,7 @@ use Rattle.trace_any.specs.declared.fault.TraceFault.{TraceFault}
 use Rattle.trace_any.specs.declared.fault.TraceFault.TheVariants.{BadLine, InputTooLong, TooManyRequests}
 use Rattle.trace_any.specs.declared.format.Format.{Format}
 use Rattle.trace_any.specs.declared.format.Limits.{Limits}
-use Rattle.trace_any.specs.Readings.{Reading, nothing_read, stopped, blocks, requested, asked, text_asked, taken_up, read_line, lines_of, read_on, reading}
+use Rattle.trace_any.specs.Readings.{Reading, stopped, blocks, requested, text_asked, taken_up, read_line, lines_of, read_on}
 use Rattle.trace_any.specs.Readers.{onto}
 use Rattle.trace_any.proofs.FirstLines.{lines_of-first}
 
@@ -74,9 +72,9 @@ read_line-onto format most bytes x r (text, size) =
     let within = cond past (stopped now InputTooLong) up in
     let short = cond long (stopped now (BadLine now.lines TooLong)) within in
     rw (taken_up-onto most x now said)
-      (ap (λ t. cond (is_some r.refused) (onto x r) (cond long (onto x (stopped now (BadLine now.lines TooLong))) t)) (onto_either past x (stopped now InputTooLong) up)
-      ∙ (ap (λ t. cond (is_some r.refused) (onto x r) t) (onto_either long x (stopped now (BadLine now.lines TooLong)) within)
-      ∙ onto_either (is_some r.refused) x r short))
+    (ap (λ t. cond (is_some r.refused) (onto x r) (cond long (onto x (stopped now (BadLine now.lines TooLong))) t)) (onto_either past x (stopped now InputTooLong) up)
+    ∙ (ap (λ t. cond (is_some r.refused) (onto x r) t) (onto_either long x (stopped now (BadLine now.lines TooLong)) within)
+    ∙ onto_either (is_some r.refused) x r short))
 
 fold-onto : (format : Format) (most bytes : ℕ) (x : Object) (r : Reading) (lines : List (List ℕ × ℕ)) → fold (read_line format (room (most + 1) bytes)) (onto x r) lines ≡ onto x (fold (read_line format (room most bytes)) r lines)
 fold-onto format most bytes x r [] = refl

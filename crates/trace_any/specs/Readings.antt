@@ -59,7 +59,7 @@ abbrev pub some_asked : Result Span LineKind → Result (Option Span) LineKind
 some_asked (Ok span) = Ok (Some span)
 some_asked (Err kind) = Err kind
 
--- what a text asks for, once a CR at its end is dropped; one without a word asks for nothing at all
+-- what a text asks for, once a CR at its end is dropped; one without a word is skipped
 abbrev pub text_asked : Format → List ℕ → Result (Option Span) LineKind
 text_asked format text = if is_blank (without_cr text) then Ok None else some_asked (asked format (without_cr text))
 

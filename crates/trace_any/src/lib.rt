@@ -13,3 +13,6 @@ pub use fault::TraceFault;
 pub use format::{Format, Limits};
 pub use loading::load;
 pub use requests::RequestReader;
+
+#[cfg(test)]
+mod tests;

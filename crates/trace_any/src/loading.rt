@@ -20,7 +20,7 @@ pub fn load<S: Source>(
     ensures whole { reader.old.fault ≡ None → IfOk result (λ loaded. IfSome (told reader.old (S.left source.old)) (λ bytes. IsWhole (to_come reader.old bytes) loaded.0 loaded.1)) }
     ensures end { reader.old.fault ≡ None → IfOk result (λ _. IfSome (told reader.old (S.left source.old)) (λ _. told reader.new (S.left source.new) ≡ Some [])) }
     ensures refused { reader.old.fault ≡ None → IfErr result (IsNotLoaded reader.old (told reader.old (S.left source.old)) (S.faults source.old) (S.faults source.new)) }
-    ensures again { IfSome reader.old.fault (λ fault. ((result ≡ Err fault) ⊎ (result ≡ Err TraceFault.NoMemory)) × (S.left source.new ≡ S.left source.old)) }
+    ensures again { IfSome reader.old.fault (λ fault. ((result ≡ Err fault) ⊎ (result ≡ Err TraceFault.NoMemory)) × (S.left source.new ≡ S.left source.old) × (S.faults source.new ≡ S.faults source.old)) }
     ensures source { LosesFront (S.left source.old) (S.left source.new) }
     ensures later { S.faults source.old ≤ S.faults source.new }
 {

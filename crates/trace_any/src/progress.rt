@@ -41,13 +41,14 @@ impl Model for Progress {
     ghost Value = { Reader };
 
     ghost view = { λ r. record {
-        format = r.format;
-        limits = r.limits;
-        lines = r.lines;
-        given = r.given;
-        dropped = r.dropped;
-        ahead = record { volume = r.ahead.volume; first = r.ahead.first; count = r.ahead.count; size = r.ahead.size };
-        fault = None } };
+      format = r.format;
+      limits = r.limits;
+      lines = r.lines;
+      given = r.given;
+      dropped = r.dropped;
+      ahead = record { volume = r.ahead.volume; first = r.ahead.first; count = r.ahead.count; size = r.ahead.size };
+      fault = None;
+    } };
 
     ghost invariant = { λ r.
         (r.limits.requests ≤ 2 ^ 25) × (r.limits.bytes ≤ 2 ^ 36) × (r.lines.limit ≡ r.limits.bytes) × (r.lines.consumed ≤ r.limits.bytes)

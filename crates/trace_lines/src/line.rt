@@ -1,6 +1,6 @@
 //! What a line of a trace asks for, and why it is refused.
 
-/// Why a line of a trace is refused, in the order of their numbers.
+/// Why a line of a trace is refused.
 #[derive(Clone, Copy, Debug, PartialEq, Eq)]
 pub enum LineKind {
     /// It has fewer words or fields than its form wants.

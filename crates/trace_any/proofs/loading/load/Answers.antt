@@ -1,4 +1,4 @@
-use Rattle.std.proofs.Common.{◌≡◌, ◌+◌, ◌≤◌, ◌∙◌, sym, refl, arith, ap, length, length-append, None, List, [], ◌∷◌, IfSome}
+use Rattle.std.proofs.Common.{◌≡◌, ◌∙◌, sym, arith, length-append, None, [], ◌∷◌}
 use Rattle.bound_io.proofs.KnownLemmas.{loses_then}
 use Rattle.trace_any.proofs.Coming.{loads_one, no_error, no_fault}
 use Rattle.trace_any.proofs.loading.load.Goals as goal

@@ -9,7 +9,7 @@ invariant-loop-requests g l = record {
   fault : l.reader.fault ≡ l.initial.reader.fault;
   given : l.reader.given ≡ l.initial.reader.given + length l.requests;
   goes_on : l.initial.reader.fault ≡ None → IfSome (told l.initial.reader (g.S.Source.left l.initial.source)) (λ bytes. GoesOn (after l.requests) l.initial.reader l.reader bytes (told l.reader (g.S.Source.left l.source)));
-  unread : IfSome l.initial.reader.fault (λ _. g.S.Source.left l.source ≡ g.S.Source.left l.initial.source);
+  unread : IfSome l.initial.reader.fault (λ _. (g.S.Source.left l.source ≡ g.S.Source.left l.initial.source) × (g.S.Source.faults l.source ≡ g.S.Source.faults l.initial.source));
   source : LosesFront (g.S.Source.left l.initial.source) (g.S.Source.left l.source);
   later : g.S.Source.faults l.initial.source ≤ g.S.Source.faults l.source;
 }

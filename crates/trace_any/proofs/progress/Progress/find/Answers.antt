@@ -1,4 +1,4 @@
-use Rattle.std.proofs.Common.{◌≡◌, ◌+◌, ◌≤◌, ◌<◌, ◌∙◌, arith, ap}
+use Rattle.std.proofs.Common.{◌∙◌, arith, ap}
 use Rattle.bound_io.proofs.KnownLemmas.{loses_then}
 use Rattle.trace_any.proofs.Coming.{goes_then}
 use Rattle.trace_any.proofs.progress.Progress.find.Goals as goal

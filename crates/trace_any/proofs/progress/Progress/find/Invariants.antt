@@ -1,4 +1,4 @@
-use Rattle.std.proofs.Common.{◌≡◌, ◌+◌, ◌-◌, ◌≤◌, length, None, IfSome}
+use Rattle.std.proofs.Common.{◌≡◌, ◌-◌, ◌≤◌, None, IfSome}
 use Rattle.bound_io.specs.Reading.{LosesFront}
 use Rattle.trace_any.specs.Readers.{GoesOn, told}
 use Rattle.trace_any.proofs.progress.Progress.find.Given as goal

@@ -1,5 +1,5 @@
-use Rattle.std.proofs.Common.{◌≡◌, ◌+◌, ◌≤◌, ◌<◌, refl, arith, ap, sym, ◌∙◌, subst, List, ℕ, IfSome, Some, None, Ok}
-use Rattle.trace_any.specs.Readers.{Reader, LineTaken, IsOver, GoesOn, told, to_come, with_span}
+use Rattle.std.proofs.Common.{◌≡◌, ◌<◌, refl, arith, ap, sym, ◌∙◌, subst, IfSome, Some, None, Ok}
+use Rattle.trace_any.specs.Readers.{LineTaken, IsOver, GoesOn, told, to_come, with_span}
 use Rattle.bound_io.specs.Lines.{stands_in}
 use Rattle.trace_any.specs.Readings.{fault_of}
 use Rattle.trace_any.specs.declared.fault.TraceFault.TheVariants.{BadLine}
@@ -18,7 +18,7 @@ returns-in_err-text-clause-taken g c =
     let new = with_lines s l in
     let why = lines_refused s new _ _ _ c.in_err-text.field-0.0 none (c.self.invariant.2) (c.self.invariant.3) refl (f.refused fault) in
     subst (λ r. LineTaken r new (told r (g.S.Source.left c.args.source.now)) (told new (g.S.Source.left c.next_line.new.source)) (g.S.Source.faults c.args.source.now) (g.S.Source.faults c.next_line.new.source) c.from_residual.result) is
-        (taken_err s new _ _ _ _ (fault_of c.in_err-text.field-0.0) c.from_residual.result (c.from_residual.ensures.0) (c.from_residual.ensures.1) why)
+    (taken_err s new _ _ _ _ (fault_of c.in_err-text.field-0.0) c.from_residual.result (c.from_residual.ensures.0) (c.from_residual.ensures.1) why)
 
 pub returns-in-Err-clause-taken : goal.returns-in-Err-clause-taken
 returns-in-Err-clause-taken g c =
@@ -31,7 +31,7 @@ returns-in-Err-clause-taken g c =
     let takes = takes_up s l _ _ c.in-Some.text.now none (c.self.invariant.2) gives (rw (c.in-Some.is) at f.text) (rw (c.in-Some.is) at f.short) in
     let said = sym (c.asked_of.ensures.asked) ∙ c.in-Err.is in
     subst (λ r. IfSome (told r (g.S.Source.left c.args.source.now)) (λ bytes. IsOver (to_come r bytes) s.dropped (Some (BadLine c.line.result c.in-Err.kind)))) is
-        (rw (c.line.ensures) (refused_line s l c.in-Err.kind _ _ _ said takes))
+    (rw (c.line.ensures) (refused_line s l c.in-Err.kind _ _ _ said takes))
 
 pub returns-in-Some-asked-clause-taken : goal.returns-in-Some-asked-clause-taken
 returns-in-Some-asked-clause-taken g c =
@@ -50,7 +50,7 @@ returns-in-Some-asked-clause-taken g c =
     let further = subst (λ p. s.lines.consumed < p.consumed) lines (gives.some) in
     let still = subst (λ p. IfSome before (λ bytes. GoesOn (λ x. x) s new bytes (stands_in p.held (g.S.Source.left c.next_line.new.source)))) lines goes in
     subst (λ r. (r.lines.consumed < c.keep.new.self.lines.consumed) × IfSome (told r (g.S.Source.left c.args.source.now)) (λ bytes. GoesOn (λ x. x) r c.keep.new.self bytes (told c.keep.new.self (g.S.Source.left c.next_line.new.source)))) is
-        (subst (λ n. (s.lines.consumed < n.lines.consumed) × IfSome before (λ bytes. GoesOn (λ x. x) s n bytes (told n (g.S.Source.left c.next_line.new.source)))) (sym c.keep.ensures) (further, still))
+    (subst (λ n. (s.lines.consumed < n.lines.consumed) × IfSome before (λ bytes. GoesOn (λ x. x) s n bytes (told n (g.S.Source.left c.next_line.new.source)))) (sym c.keep.ensures) (further, still))
 
 pub returns-in_default-asked-clause-taken : goal.returns-in_default-asked-clause-taken
 returns-in_default-asked-clause-taken g c =
@@ -65,4 +65,4 @@ returns-in_default-asked-clause-taken g c =
     let blank : c.in-Ok.asked ≡ None = c.in_default-asked.is in
     let goes = goes_blank s l _ _ _ (said ∙ ap Ok blank) none takes in
     subst (λ r. (r.lines.consumed < l.consumed) × IfSome (told r (g.S.Source.left c.args.source.now)) (λ bytes. GoesOn (λ x. x) r (with_lines s l) bytes (told (with_lines s l) (g.S.Source.left c.next_line.new.source)))) is
-        (gives.some, goes)
+    (gives.some, goes)
