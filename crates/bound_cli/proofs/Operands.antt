@@ -1,12 +1,12 @@
 -- Operands found by name, and looked at one by one.
 use Rattle.std.proofs.Common.{◌≡◌, ◌∙◌, ℕ, ◌+◌, ◌<◌, ap, sym, refl, arith, Bool, true, false, cond, List, [], ◌∷◌, ◌++◌, take, drop, length, map, get_or, Some, None}
 use Rattle.std.specs.declared.option.Option.{Option}
-use Rattle.std.specs.List.{find}
+use Rattle.std.specs.List.{find, position_from}
 use Rattle.std.specs.Option.{option_map, option_or}
 use Rattle.std.specs.Str.{bytes_eq}
 use Rattle.std.proofs.lemmas.List.{take_more, drop_more, take-map, get_or-map, length-map}
 use Rattle.bound_cli.specs.declared.words.WordKind.{WordKind}
-use Rattle.bound_cli.specs.Words.{fault, name_of, operand_fault, operands_fault, value_given, value_of}
+use Rattle.bound_cli.specs.Words.{fault, name_of, operand_fault, operands_fault, place_given, value_given, value_of}
 
 -- a choice among images
 choice_mapped : {A B : Type 0} (f : A → B) (b : Bool) (x : A) (xs : Option A) (ys : Option B) → ys ≡ option_map f xs → cond b (Some (f x)) ys ≡ option_map f (cond b (Some x) xs)
@@ -28,6 +28,20 @@ pub value_given_by : {A : Type 0} (f : A → List ℕ) (name : List ℕ) (items 
     → found ≡ find (λ x. bytes_eq (name_of (f x)) name) items → value_given name (map f items) ≡ option_map (λ x. value_of (f x)) found
 value_given_by f name items found is =
     ap (option_map value_of) (find-map f (λ word. bytes_eq (name_of word) name) items ∙ ap (option_map f) (sym is)) ∙ value_of_found f found
+
+-- a place among the images, counted on from a start
+place_mapped : {A : Type 0} (f : A → List ℕ) (p : List ℕ → Bool) (at start : ℕ) (items : List A)
+    → position_from p (at + start) (map f items) ≡ option_map (λ n. n + start) (position_from (λ x. p (f x)) at items)
+place_mapped f p at start [] = refl
+place_mapped f p at start (x ∷ xs) =
+    let next : at + start + 1 ≡ at + 1 + start = omega arith in
+    ap (λ n. cond (p (f x)) (Some (at + start)) (position_from p n (map f xs))) next
+    ∙ choice_mapped (λ n. n + start) (p (f x)) at _ _ (place_mapped f p (at + 1) start xs)
+
+-- the place that the items give to a name is that of the first item of the name
+pub place_given_by : {A : Type 0} (f : A → List ℕ) (name : List ℕ) (items : List A) (found : Option ℕ)
+    → found ≡ position_from (λ x. bytes_eq (name_of (f x)) name) 0 items → place_given name (map f items) ≡ option_map (λ n. n + 4) found
+place_given_by f name items found is = place_mapped f (λ word. bytes_eq (name_of word) name) 0 4 items ∙ ap (option_map (λ n. n + 4)) (sym is)
 
 -- the operands from one on are refused at that one, or from the next one on
 next_operand : (place at : ℕ) (words : List (List ℕ)) → at < length words

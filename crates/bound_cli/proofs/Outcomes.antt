@@ -1,7 +1,10 @@
 -- How a run ends, from how its parts end.
-use Rattle.std.proofs.Common.{◌≡◌, ◌∙◌, ℕ, ◌≤◌, refl, sym, ap, List, [], ◌++◌, Ok, Err, Some, None, IfSome}
+use Rattle.std.proofs.Common.{◌≡◌, ◌∙◌, ℕ, ◌≤◌, refl, sym, ap, arith, length, length-append, List, [], ◌++◌, Ok, Err, Some, None, IfSome}
 use Rattle.std.specs.declared.option.Option.{Option}
-use Rattle.bound_io.specs.Causes.{Rose}
+use Rattle.std.specs.Option.{is_some, unwrap_or}
+use Rattle.std.proofs.lemmas.Bool.{false≢true}
+use Rattle.std.proofs.lemmas.List.{nil_from_length}
+use Rattle.bound_io.specs.Lines.{stands_in}
 use Rattle.bound_io.specs.Devices.{device, Device, Gets, IsUntouched}
 use Rattle.bound_io.specs.Reading.{LosesFront}
 use Rattle.cache_model.specs.declared.objects.Object.{Object}
@@ -23,6 +26,17 @@ use Rattle.bound_cli.specs.Statuses.{refusal_of, status_of}
 use Rattle.bound_cli.specs.Words.{plan}
 use Rattle.bound_cli.specs.Run.{Devices, IsLoaded, IsReady, IsRefused, IsPrepared, Causes, Explains}
 use Rattle.bound_cli.specs.Parts.{RefusesTrace, WritesOut}
+
+-- where nothing is left to stand in, the source has nothing left
+left_nothing : (held : List ℕ) (left : Option (List ℕ)) → stands_in held left ≡ Some [] → left ≡ Some []
+left_nothing held None end = absurd (false≢true (ap is_some end))
+left_nothing held (Some rest) end =
+    let all : held ++ rest ≡ [] = ap (λ o. unwrap_or o []) end in
+    ap (λ l. Some l) (nil_from_length rest (omega (arith, length-append held rest, ap length all)))
+
+pub nothing_left : (before left : Option (List ℕ)) (held : List ℕ) → IfSome before (λ _. stands_in held left ≡ Some []) → IfSome before (λ _. left ≡ Some [])
+nothing_left None left held end = tt
+nothing_left (Some bytes) left held end = left_nothing held left end
 
 -- what a reader that has read nothing loads is the trace of all that the source had left
 pub loaded_all : (format : Format) (before after : Option (List ℕ)) (faults_before faults_after : ℕ) (requests : List Object) (dropped : ℕ)

@@ -1,7 +1,7 @@
 -- The words of the command line, at small rows, computed.
 use Rattle.std.proofs.Common.{◌≡◌, ℕ, List, [], ◌∷◌, codes, Ok, Err, refl}
 use Rattle.cache_model.specs.declared.objects.Objective.TheVariants.{Object as Hits, Bytes}
-use Rattle.trace_any.specs.declared.format.Format.TheVariants.{Webcache}
+use Rattle.trace_any.specs.declared.format.Format.TheVariants.{Webcache, Arc, Msr}
 use Rattle.bound_cli.specs.declared.words.Plan.TheVariants.{Bounds}
 use Rattle.bound_cli.specs.declared.words.WordKind.TheVariants.{Missing, Unknown, Twice, BadValue}
 use Rattle.bound_cli.specs.Words.{fault, plan}
@@ -15,8 +15,8 @@ all_required : plan (bounds_with (codes "format=webcache" ∷ codes "capacity=10
 unfolding plan
 all_required = refl
 
--- another order, and another objective
-another_order : plan (bounds_with (codes "objective=bytes" ∷ codes "mode=infinite" ∷ codes "capacity=010" ∷ codes "format=webcache" ∷ [])) ≡ Ok (Bounds Webcache 10 Bytes)
+-- another order, another objective, and another form of the trace
+another_order : plan (bounds_with (codes "objective=bytes" ∷ codes "mode=infinite" ∷ codes "capacity=010" ∷ codes "format=arc" ∷ [])) ≡ Ok (Bounds Arc 10 Bytes)
 unfolding plan
 another_order = refl
 
@@ -25,20 +25,35 @@ twice_first : plan (bounds_with (codes "capacity=2" ∷ codes "capacity=x" ∷ [
 unfolding plan
 twice_first = refl
 
--- a word that is no operand, though one is missing
-unknown_first : plan (bounds_with (codes "format=webcache" ∷ codes "mode" ∷ [])) ≡ Err (fault 5 Unknown)
-unfolding plan
-unknown_first = refl
-
 -- the first `=` ends the name
 two_equals : plan (bounds_with (codes "format==webcache" ∷ codes "=x" ∷ [])) ≡ Err (fault 4 BadValue)
 unfolding plan
 two_equals = refl
 
--- an operand that isn't there is missing after the last word
-missing_last : plan (bounds_with (codes "mode=infinite" ∷ codes "format=webcache" ∷ [])) ≡ Err (fault 6 Missing)
+-- a block before its form of the trace
+block_first : plan (bounds_with (codes "block=8192" ∷ codes "format=msr" ∷ codes "capacity=1" ∷ codes "mode=infinite" ∷ [])) ≡ Ok (Bounds (Msr 8192) 1 Hits)
 unfolding plan
-missing_last = refl
+block_first = refl
+
+-- the block where it isn't given
+usual_block : plan (bounds_with (codes "format=msr" ∷ codes "capacity=1" ∷ codes "mode=infinite" ∷ [])) ≡ Ok (Bounds (Msr 4096) 1 Hits)
+unfolding plan
+usual_block = refl
+
+-- a block beside a form that takes none, though an operand is missing
+block_unknown : plan (bounds_with (codes "mode=infinite" ∷ codes "block=512" ∷ codes "format=webcache" ∷ [])) ≡ Err (fault 5 Unknown)
+unfolding plan
+block_unknown = refl
+
+-- a later word that is refused by itself comes before such a block
+block_later : plan (bounds_with (codes "block=512" ∷ codes "format=webcache" ∷ codes "x=1" ∷ [])) ≡ Err (fault 6 Unknown)
+unfolding plan
+block_later = refl
+
+-- a block with no form of the trace passes
+block_alone : plan (bounds_with (codes "block=512" ∷ codes "capacity=2" ∷ [])) ≡ Err (fault 6 Missing)
+unfolding plan
+block_alone = refl
 
 -- the command and its paths come before the operands
 no_path : plan (codes "bounds" ∷ codes "t" ∷ []) ≡ Err (fault 3 Missing)

@@ -1,15 +1,16 @@
 -- The words of the command line.
-use Rattle.std.specs.Prelude.{ℕ, ◌^◌, ◌+◌, ◌≤◌, List, [], ◌∷◌, ◌++◌, length, ◌==◌, nat_le, Bool, not, ◌&&◌, ◌||◌, if◌then◌else◌, codes, slice_get, Result, Ok, Err, None, Some, unwrap_or, option_and_then, find}
+use Rattle.std.specs.Prelude.{ℕ, ◌^◌, ◌+◌, ◌≤◌, List, [], ◌∷◌, ◌++◌, length, ◌==◌, nat_le, Bool, false, not, ◌&&◌, ◌||◌, if◌then◌else◌, codes, slice_get, Result, Ok, Err, None, Some, unwrap_or, option_and_then, find}
 use Rattle.std.specs.declared.option.Option.{Option}
-use Rattle.std.specs.List.{list_any, before_first, after_first}
+use Rattle.std.specs.List.{list_any, before_first, after_first, position_from}
 use Rattle.std.specs.Option.{is_some, option_map, option_or}
 use Rattle.std.specs.Str.{bytes_eq}
 use Rattle.bound_base.specs.Digits.{number_of}
 use Rattle.bound_base.specs.declared.digits.NumFault.{NumFault}
 use Rattle.cache_model.specs.declared.objects.Objective.{Objective}
 use Rattle.cache_model.specs.declared.objects.Objective.TheVariants.{Object as Hits, Bytes}
+use Rattle.trace_any.specs.Readings.{IsFormat}
 use Rattle.trace_any.specs.declared.format.Format.{Format}
-use Rattle.trace_any.specs.declared.format.Format.TheVariants.{Webcache}
+use Rattle.trace_any.specs.declared.format.Format.TheVariants.{Webcache, Arc, Msr}
 use Rattle.bound_cli.specs.declared.words.Plan.{Plan}
 use Rattle.bound_cli.specs.declared.words.Plan.TheVariants.{Bounds}
 use Rattle.bound_cli.specs.declared.words.WordFault.{WordFault}
@@ -53,9 +54,22 @@ name_of word = before_first (λ b. b == 61) word
 abbrev pub value_of : List ℕ → List ℕ
 value_of word = after_first (λ b. b == 61) word
 
--- the form of a trace that a value names
-abbrev pub format_of : List ℕ → Option Format
-format_of value = if bytes_eq value (codes "webcache") then Some Webcache else None
+-- a block is from 1 to 2^48 bytes
+abbrev pub checked_block : Result ℕ NumFault → Option ℕ
+checked_block (Err e) = None
+checked_block (Ok n) = if nat_le 1 n && nat_le n (2 ^ 48) then Some n else None
+
+-- the bytes of a block that a value names
+abbrev pub block_of : List ℕ → Option ℕ
+block_of value = checked_block (number_of (2 ^ 64) value)
+
+-- the form of a trace that a value names, where a block has so many bytes
+abbrev pub format_of : List ℕ → ℕ → Option Format
+format_of value block =
+    if bytes_eq value (codes "webcache") then Some Webcache
+    else (if bytes_eq value (codes "arc") then Some Arc
+    else (if bytes_eq value (codes "msr") then Some (Msr block)
+    else None))
 
 -- a capacity is from 1 to 2^56
 abbrev pub checked_capacity : Result ℕ NumFault → Option ℕ
@@ -77,6 +91,7 @@ objective_of value =
 abbrev pub is_operand : List ℕ → Bool
 is_operand name =
     bytes_eq name (codes "format")
+    || bytes_eq name (codes "block")
     || bytes_eq name (codes "capacity")
     || bytes_eq name (codes "objective")
     || bytes_eq name (codes "mode")
@@ -84,7 +99,8 @@ is_operand name =
 -- whether the operand of this name may have this value
 abbrev pub is_value : List ℕ → List ℕ → Bool
 is_value name value =
-    (bytes_eq name (codes "format") && is_some (format_of value))
+    (bytes_eq name (codes "format") && is_some (format_of value 4096))
+    || (bytes_eq name (codes "block") && is_some (block_of value))
     || (bytes_eq name (codes "capacity") && is_some (capacity_of value))
     || (bytes_eq name (codes "objective") && is_some (objective_of value))
     || (bytes_eq name (codes "mode") && bytes_eq value (codes "infinite"))
@@ -106,6 +122,23 @@ abbrev pub operands_fault : ℕ → List (List ℕ) → List (List ℕ) → Opti
 operands_fault place before [] = None
 operands_fault place before (word ∷ words) = option_or (option_map (fault place) (operand_fault before word)) (operands_fault (place + 1) (before ++ word ∷ []) words)
 
+-- the place of the operand of this name, where the first operand is at place 4
+abbrev pub place_given : List ℕ → List (List ℕ) → Option ℕ
+place_given name operands = position_from (λ word. bytes_eq (name_of word) name) 4 operands
+
+-- the operand of this name, if it is given, is unknown
+abbrev pub unknown_operand : List ℕ → List (List ℕ) → Option WordFault
+unknown_operand name operands = option_map (λ place. fault place Unknown) (place_given name operands)
+
+-- whether a form of the trace is given that takes no block
+abbrev pub takes_no_block : Option (List ℕ) → Bool
+takes_no_block None = false
+takes_no_block (Some format) = not (bytes_eq format (codes "msr"))
+
+-- a block is unknown beside a form of the trace that takes none
+abbrev pub block_fault : List (List ℕ) → Option WordFault
+block_fault operands = if takes_no_block (value_given (codes "format") operands) then unknown_operand (codes "block") operands else None
+
 -- no fault lets the words pass
 abbrev pub passed : Option WordFault → Result (Unit {0}) WordFault
 passed None = Ok tt
@@ -116,9 +149,13 @@ abbrev pub required : {A : Type 0} → ℕ → Option A → Result A WordFault
 required end None = Err (fault end Missing)
 required end (Some x) = Ok x
 
+-- the bytes of a block that the operands give, and 4096 where they give none
+abbrev pub block_given : List (List ℕ) → ℕ
+block_given operands = unwrap_or (option_and_then block_of (value_given (codes "block") operands)) 4096
+
 -- the form of the trace that the operands give
 abbrev pub format_given : List (List ℕ) → Option Format
-format_given operands = option_and_then format_of (value_given (codes "format") operands)
+format_given operands = option_and_then (λ value. format_of value (block_given operands)) (value_given (codes "format") operands)
 
 -- the capacity that the operands give
 abbrev pub capacity_given : List (List ℕ) → Option ℕ
@@ -143,11 +180,12 @@ plan words = do
   trace ← path 2 (slice_get words 1)
   cert ← path 3 (slice_get words 2)
   accepted ← passed (operands_fault 4 [] (operands_of words))
+  fitting ← passed (block_fault (operands_of words))
   bounds_plan (length words + 1) (operands_of words)
 
--- the capacity is from 1 to 2^56
+-- the form of the trace is in its range, and the capacity is from 1 to 2^56
 abbrev pub IsPlanInRange : Plan → Type 0
-IsPlanInRange (Bounds format capacity objective) = (1 ≤ capacity) × (capacity ≤ 2 ^ 56)
+IsPlanInRange (Bounds format capacity objective) = IsFormat format × (1 ≤ capacity) × (capacity ≤ 2 ^ 56)
 
 -- the word, or a dash where there is none
 abbrev pub word_or_dash : Option (List ℕ) → List ℕ

@@ -72,7 +72,7 @@ denominator 1\nform plain\nupper 3\nflow 0\nlower 2\nrecords\n0 1 0\n0 1 0\n0 0 
     ..GOOD
 };
 
-const ROWS: [Row<'static>; 17] = [
+const ROWS: [Row<'static>; 18] = [
     GOOD,
     CYCLE,
     Row {
@@ -144,6 +144,18 @@ denominator 1\nform plain\nupper 0\nflow 0\nlower 0\nrecords\nend\n",
             kind: WordKind::BadValue,
         }),
         report: b"words: place 3: bad value\n",
+        made: b"",
+        ..GOOD
+    },
+    Row {
+        shows: "a block beside a form of the trace that takes none, before a word that is missing",
+        words: &["bounds", "t", "c", "block=512", "format=webcache"],
+        trace_fails: &[1],
+        status: Status::Words(WordFault {
+            place: 4,
+            kind: WordKind::Unknown,
+        }),
+        report: b"words: place 4: unknown\n",
         made: b"",
         ..GOOD
     },

@@ -2,6 +2,7 @@
 ghost use Rattle.std.specs.Prelude.{◌≡◌, ◌≤◌, ◌^◌, map, string_bytes, IfOk, IfErr};
 ghost use Rattle.bound_io.specs.Devices.{Gets, device};
 ghost use Rattle.bound_io.specs.Reading.{LosesFront};
+ghost use Rattle.trace_any.specs.Readings.{IsFormat};
 ghost use Rattle.bound_cli.specs.Parts.{RefusesTrace, WritesOut};
 ghost use Rattle.bound_cli.specs.Refusals.{refusal_line};
 ghost use Rattle.bound_cli.specs.Run.{Completes, Explains, IsLoaded, IsReady, devices};
@@ -22,6 +23,7 @@ fn load_all<T: Source>(
     format: Format,
     trace: &mut T,
 ) -> Result<(Trace, u64), Refusal>
+    requires { IsFormat format }
     ensures loaded { IfOk result (λ read. IsLoaded format (device (T.left trace.old) (T.left trace.new) (T.faults trace.old) (T.faults trace.new)) read.0 read.1) }
     ensures refused { IfErr result (RefusesTrace format (device (T.left trace.old) (T.left trace.new) (T.faults trace.old) (T.faults trace.new))) }
     ensures source { LosesFront (T.left trace.old) (T.left trace.new) }
@@ -38,6 +40,7 @@ fn prepare<T: Source>(
     objective: Objective,
     trace: &mut T,
 ) -> Result<Texts, Refusal>
+    requires format { IsFormat format }
     requires capacity { (1 ≤ capacity) × (capacity ≤ 2 ^ 56) }
     ensures ready { IfOk result (λ texts. IsReady format capacity objective (device (T.left trace.old) (T.left trace.new) (T.faults trace.old) (T.faults trace.new)) texts.cert.items texts.report.items) }
     ensures refused { IfErr result (RefusesTrace format (device (T.left trace.old) (T.left trace.new) (T.faults trace.old) (T.faults trace.new))) }

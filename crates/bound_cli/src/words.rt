@@ -1,7 +1,8 @@
 //! The words of the command line.
 ghost use Rattle.std.specs.Prelude.{◌≡◌, ◌≤◌, ◌^◌, [], map, slice_get, string_bytes, IfOk, IfSome};
 ghost use Rattle.std.specs.Option.{option_copied};
-ghost use Rattle.bound_cli.specs.Words.{IsPlanInRange, bounds_plan, capacity_given, capacity_of, command, format_given, format_of, has_equals, is_operand, is_value, name_of, objective_given, objective_of, operand_fault, operands_fault, operands_of, passed, path, path_at, plan, required, value_given, value_of};
+ghost use Rattle.trace_any.specs.Readings.{IsFormat};
+ghost use Rattle.bound_cli.specs.Words.{IsPlanInRange, block_fault, block_given, block_of, bounds_plan, capacity_given, capacity_of, command, format_given, format_of, has_equals, is_operand, is_value, name_of, objective_given, objective_of, operand_fault, operands_fault, operands_of, passed, path, path_at, place_given, plan, required, unknown_operand, value_given, value_of};
 
 use bound_base::read_u64;
 use cache_rules::Objective;
@@ -67,6 +68,12 @@ const OPERANDS_AT: usize = 3;
 
 /// The largest capacity, in bytes.
 const MOST_CAPACITY: u64 = 1 << 56;
+
+/// The largest block, in bytes.
+const MOST_BLOCK: u64 = 1 << 48;
+
+/// The bytes of a block where no operand gives them.
+const USUAL_BLOCK: u64 = 4096;
 
 fn refuse<T: Drop>(place: u64, kind: WordKind) -> Result<T, WordFault>
     ensures { result ≡ Err (record { place = place; kind = kind }) }
@@ -136,11 +143,28 @@ fn capacity_of(value: &str) -> Option<u64>
     }
 }
 
-fn format_of(value: &str) -> Option<Format>
-    ensures { result ≡ format_of value.now }
+fn block_of(value: &str) -> Option<u64>
+    ensures value { result ≡ block_of value.now }
+    ensures range { IfSome result (λ n. (1 ≤ n) × (n ≤ 2 ^ 48)) }
+{
+    match read_u64(value.as_bytes()) {
+        Ok(block) if block >= 1 && block <= MOST_BLOCK => Some(block),
+        _ => None,
+    }
+}
+
+// The form that a value names, where a block has so many bytes.
+fn format_of(value: &str, block: u64) -> Option<Format>
+    requires block { (1 ≤ block) × (block ≤ 2 ^ 48) }
+    ensures value { result ≡ format_of value.now block }
+    ensures range { IfSome result IsFormat }
 {
     if value == "webcache" {
         Some(Format::Webcache)
+    } else if value == "arc" {
+        Some(Format::Arc)
+    } else if value == "msr" {
+        Some(Format::Msr { block })
     } else {
         None
     }
@@ -161,13 +185,18 @@ fn objective_of(value: &str) -> Option<Objective>
 fn is_operand(name: &str) -> bool
     ensures { result ≡ is_operand name.now }
 {
-    name == "format" || name == "capacity" || name == "objective" || name == "mode"
+    name == "format"
+        || name == "block"
+        || name == "capacity"
+        || name == "objective"
+        || name == "mode"
 }
 
 fn is_value(name: &str, value: &str) -> bool
     ensures { result ≡ is_value name.now value.now }
 {
-    (name == "format" && format_of(value).is_some())
+    (name == "format" && format_of(value, USUAL_BLOCK).is_some())
+        || (name == "block" && block_of(value).is_some())
         || (name == "capacity" && capacity_of(value).is_some())
         || (name == "objective" && objective_of(value).is_some())
         || (name == "mode" && value == "infinite")
@@ -179,6 +208,16 @@ fn value_given<'a>(name: &str, operands: &'a [String]) -> Option<&'a str>
 {
     let word = operands.iter().find(|word| name_of(word.as_str()) == name)?;
     Some(value_of(word.as_str()))
+}
+
+// The place of the operand of a name.
+fn place_given(name: &str, operands: &[String]) -> Option<u64>
+    ensures { result ≡ place_given name.now (map string_bytes operands.now) }
+{
+    let at = operands
+        .iter()
+        .position(|word| name_of(word.as_str()) == name)?;
+    Some((at + OPERANDS_AT) as u64 + 1)
 }
 
 // Why a word is refused that stands after these operands.
@@ -216,6 +255,36 @@ fn check_operands(operands: &[String]) -> Result<(), WordFault>
     Ok(())
 }
 
+// An operand that may not stand there, if it is given.
+fn unknown_operand(name: &str, operands: &[String]) -> Option<WordFault>
+    ensures { result ≡ unknown_operand name.now (map string_bytes operands.now) }
+{
+    let place = place_given(name, operands)?;
+    Some(WordFault {
+        place,
+        kind: WordKind::Unknown,
+    })
+}
+
+// A block may stand only where the trace isn't of another form than msr.
+fn block_fault(operands: &[String]) -> Option<WordFault>
+    ensures { result ≡ block_fault (map string_bytes operands.now) }
+{
+    match value_given("format", operands) {
+        Some(format) if format != "msr" => unknown_operand("block", operands),
+        _ => None,
+    }
+}
+
+fn passed(fault: Option<WordFault>) -> Result<(), WordFault>
+    ensures { result ≡ passed fault }
+{
+    match fault {
+        None => Ok(()),
+        Some(fault) => Err(fault),
+    }
+}
+
 fn required<T: Drop>(end: u64, given: Option<T>) -> Result<T, WordFault>
     ensures { result ≡ required end given }
 {
@@ -225,10 +294,21 @@ fn required<T: Drop>(end: u64, given: Option<T>) -> Result<T, WordFault>
     }
 }
 
-fn format_given(operands: &[String]) -> Option<Format>
-    ensures { result ≡ format_given (map string_bytes operands.now) }
+fn block_given(operands: &[String]) -> u64
+    ensures value { result ≡ block_given (map string_bytes operands.now) }
+    ensures range { (1 ≤ result) × (result ≤ 2 ^ 48) }
 {
-    format_of(value_given("format", operands)?)
+    match value_given("block", operands) {
+        Some(value) => block_of(value).unwrap_or(USUAL_BLOCK),
+        None => USUAL_BLOCK,
+    }
+}
+
+fn format_given(operands: &[String]) -> Option<Format>
+    ensures value { result ≡ format_given (map string_bytes operands.now) }
+    ensures range { IfSome result IsFormat }
+{
+    format_of(value_given("format", operands)?, block_given(operands))
 }
 
 fn capacity_given(operands: &[String]) -> Option<u64>
@@ -274,6 +354,7 @@ pub fn plan_of(words: &[String]) -> Result<Plan, WordFault>
     expect_path(3, word_at(words, 2))?;
     let operands = operands_of(words);
     check_operands(operands)?;
+    passed(block_fault(operands))?;
     bounds_plan(words.len() as u64 + 1, operands)
 }
 
@@ -372,6 +453,85 @@ mod tests {
     }
 
     #[test]
+    fn takes_each_form_of_a_trace(rt: HostRuntime) -> Result<(), Fail> {
+        let msr = |block| Format::Msr { block };
+        let rows: [(&str, Format); 12] = [
+            ("format=webcache capacity=1 mode=infinite", Format::Webcache),
+            ("format=arc capacity=1 mode=infinite", Format::Arc),
+            ("mode=infinite capacity=1 format=arc", Format::Arc),
+            ("format=msr capacity=1 mode=infinite", msr(4096)),
+            ("mode=infinite capacity=1 format=msr", msr(4096)),
+            ("format=msr block=8192 capacity=1 mode=infinite", msr(8192)),
+            ("block=8192 format=msr capacity=1 mode=infinite", msr(8192)),
+            ("block=8192 capacity=1 mode=infinite format=msr", msr(8192)),
+            ("format=msr capacity=1 mode=infinite block=0512", msr(512)),
+            ("format=msr block=1 capacity=1 mode=infinite", msr(1)),
+            (
+                "format=msr block=281474976710655 capacity=1 mode=infinite",
+                msr((1 << 48) - 1),
+            ),
+            (
+                "format=msr block=281474976710656 capacity=1 mode=infinite",
+                msr(1 << 48),
+            ),
+        ];
+        for (operands, format) in rows {
+            let plan = Plan::Bounds {
+                format,
+                capacity: 1,
+                objective: Objective::Object,
+            };
+            let text = format!(in rt.alloc(); "bounds t c {operands}")?;
+            check(&rt, rt.alloc(), &text, Ok(plan))?;
+        }
+        Ok(())
+    }
+
+    #[test]
+    fn names_what_is_refused_beside_a_block(rt: HostRuntime) -> Result<(), Fail> {
+        let (missing, unknown) = (WordKind::Missing, WordKind::Unknown);
+        let (twice, bad_value) = (WordKind::Twice, WordKind::BadValue);
+        let rows: [(&str, u64, WordKind); 27] = [
+            ("format=arc block=512 capacity=1 mode=infinite", 5, unknown),
+            ("block=512 format=arc capacity=1 mode=infinite", 4, unknown),
+            ("capacity=1 mode=infinite block=512 format=arc", 6, unknown),
+            (
+                "format=webcache capacity=1 mode=infinite block=4096",
+                7,
+                unknown,
+            ),
+            ("block=512 format=webcache", 4, unknown),
+            ("block=512 format=webcache x=1", 6, unknown),
+            ("block=512 format=webcache capacity=0", 6, bad_value),
+            ("block=512 format=webcache mode=infinite mode", 7, unknown),
+            ("block=0 format=arc", 4, bad_value),
+            ("format=arc block=0", 5, bad_value),
+            ("block=512 format=arc block=512", 6, twice),
+            ("block=512 format=arc format=msr", 6, twice),
+            ("block=512", 5, missing),
+            ("block=512 capacity=2", 6, missing),
+            ("block=512 capacity=2 mode=infinite", 7, missing),
+            ("block=512 format=msr", 6, missing),
+            ("format=msr block=512 capacity=2", 7, missing),
+            ("block=512 block=512", 5, twice),
+            ("block=512 format=msr block=x", 6, twice),
+            ("block=", 4, bad_value),
+            ("block=0", 4, bad_value),
+            ("block=4k", 4, bad_value),
+            ("format=msr block=281474976710657", 5, bad_value),
+            ("block=18446744073709551616", 4, bad_value),
+            ("block", 4, unknown),
+            ("format=Msr block=512", 4, bad_value),
+            ("format=arcs", 4, bad_value),
+        ];
+        for (operands, place, kind) in rows {
+            let text = format!(in rt.alloc(); "bounds t c {operands}")?;
+            check(&rt, rt.alloc(), &text, Err(WordFault { place, kind }))?;
+        }
+        Ok(())
+    }
+
+    #[test]
     fn names_the_first_of_the_command_and_its_paths(rt: HostRuntime) -> Result<(), Fail> {
         let (missing, unknown) = (WordKind::Missing, WordKind::Unknown);
         let bad_value = WordKind::BadValue;
@@ -415,7 +575,7 @@ mod tests {
             ("forma=webcache", 4, unknown),
             ("formats=webcache", 4, unknown),
             ("format =webcache", 4, unknown),
-            ("block=4096", 4, unknown),
+            ("blocks=4096", 4, unknown),
             ("window=3", 4, unknown),
             ("denominator=2", 4, unknown),
             ("format=webcache more", 5, unknown),

@@ -1,25 +1,22 @@
 -- Where the text of a line ends, and what a buffer shows.
-use Rattle.std.proofs.Common.{◌≡◌, ℕ, ◌+◌, ◌-◌, ◌≤◌, ◌<◌, List, ◌++◌, Option, None, Some, Bool, true, false, length, take, drop, refl, arith, length-drop, length-take, length-append, ◌∙◌, sym, Vec, Global, [], ap, append-nil}
+use Rattle.std.proofs.Common.{◌≡◌, ℕ, ◌+◌, ◌-◌, ◌≤◌, ◌<◌, List, ◌++◌, Option, None, Some, length, take, drop, refl, arith, length-drop, length-take, length-append, ◌∙◌, sym, Vec, Global, [], ap, append-nil}
 use Rattle.std.proofs.lemmas.List.{take-append-le, take-append-drop, drop-drop, drop-take, drop_all, with_items_is, length-take-le}
 use Rattle.std.proofs.Math.Seq.{take-append-add, drop-append_seam}
 use Rattle.std.proofs.lemmas.List.Folds.{prefix_len-append}
 use Rattle.std.proofs.lemmas.List.Sums.{prefix_len-le-length, position_or_len_is}
-use Rattle.std.proofs.lemmas.Bool.{eq-eqb, ne_eqb}
+use Rattle.std.proofs.lemmas.Bool.{eq-eqb, false_from_ne_true, ne_eqb}
 use Rattle.std.specs.Option.{unwrap_or}
 use Rattle.std.specs.Vec.{with_items}
 use Rattle.std.specs.Prelude.{vec_len}
 use Rattle.memchr.specs.Find.{IsFirstByte, is_byte}
 use Rattle.bound_io.specs.Lines.{is_lf, text_len}
 
-false_unless_true : (b : Bool) → (b ≡ true → ⊥) → b ≡ false
-false_unless_true true h = absurd (h refl)
-false_unless_true false h = refl
-
--- where the first LF was found, or that there is none
+-- the place where the first LF was found, or the number of the bytes where none was
 pub text_len_is : (bytes : List ℕ) (found : Option ℕ) → IsFirstByte (is_byte 10) bytes found → unwrap_or found (length bytes) ≡ text_len bytes
-text_len_is bytes None nowhere = sym (position_or_len_is is_lf bytes (length bytes) 0 (omega arith) (λ j below. false_unless_true _ (nowhere j (omega arith) below)) (λ above. absurd (omega (arith, above))))
-text_len_is bytes (Some k) (none, passes) = sym (position_or_len_is is_lf bytes k 0 (omega (arith, none.high)) (λ j below. false_unless_true _ (none.before j (omega arith) below)) (λ _. passes))
+text_len_is bytes None nowhere = sym (position_or_len_is is_lf bytes (length bytes) 0 (omega arith) (λ j below. false_from_ne_true _ (nowhere j (omega arith) below)) (λ above. absurd (omega (arith, above))))
+text_len_is bytes (Some k) (none, passes) = sym (position_or_len_is is_lf bytes k 0 (omega (arith, none.high)) (λ j below. false_from_ne_true _ (none.before j (omega arith) below)) (λ _. passes))
 
+-- a text has no more bytes than there are
 pub text_len-le : (bytes : List ℕ) → text_len bytes ≤ length bytes
 text_len-le bytes = prefix_len-le-length _ bytes
 
@@ -32,7 +29,7 @@ pub text_len_goes_on : (xs ys : List ℕ) → text_len xs ≡ length xs → text
 text_len_goes_on xs ys none = rw (prefix_len-append, eq-eqb (text_len xs) (length xs) none) refl
 
 -- some bytes from the front, and then some that were put behind them
-pub front_more : (old buf post : List ℕ) (end count : ℕ) → end ≤ length old → count ≤ length buf → take (end + count) (take end old ++ (buf ++ post)) ≡ take end old ++ take count buf
+front_more : (old buf post : List ℕ) (end count : ℕ) → end ≤ length old → count ≤ length buf → take (end + count) (take end old ++ (buf ++ post)) ≡ take end old ++ take count buf
 front_more old buf post end count within some =
     rw (length-take-le end old within, take-append-le count buf post some) at (take-append-add (take end old) (buf ++ post) count)
 
@@ -49,7 +46,7 @@ shows_rest bytes start end line within =
     let left : end - start ≡ line + (end - (start + line)) = omega (arith, length-take (end - start) (drop start bytes)) in
     rw (left, drop-take, drop-drop) refl
 
--- the text so far and then the rest of it
+-- the text of a line that has no LF so far, once more bytes came: what was seen, and the text of the rest
 pub text_len_later : (held more : List ℕ) (seen : ℕ) → text_len held ≡ length held → seen ≡ length held → text_len (held ++ more) ≡ seen + text_len (drop seen (held ++ more))
 text_len_later held more seen none all = rw (all, drop-append_seam) (text_len_goes_on held more none)
 

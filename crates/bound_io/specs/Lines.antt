@@ -1,5 +1,5 @@
 -- Lines of bytes, and what a reader of lines stands in.
-use Rattle.std.specs.Prelude.{ℕ, ◌+◌, List, ◌++◌, take, drop, Bool, ◌==◌}
+use Rattle.std.specs.Prelude.{◌≡◌, ℕ, ◌+◌, List, ◌++◌, length, take, drop, Bool, ◌==◌}
 use Rattle.std.specs.declared.option.Option.{Option}
 use Rattle.std.specs.List.{position_or_len}
 use Rattle.std.specs.Option.{option_map}
@@ -19,6 +19,10 @@ first_text bytes = take (text_len bytes) bytes
 -- the first line with its LF, where it has one
 abbrev pub first_line : List ℕ → List ℕ
 first_line bytes = take (text_len bytes + 1) bytes
+
+-- the text of the first line has so many bytes, and the line with its LF, where it has one, so many
+abbrev pub HasExtent : ℕ → ℕ → List ℕ → Type 0
+HasExtent text line bytes = (text ≡ text_len bytes) × (line ≡ length (first_line bytes))
 
 -- what stands after the first line
 abbrev pub after_line : List ℕ → List ℕ

@@ -25,6 +25,15 @@ with_held at held = record at { held = held }
 abbrev pub with_fault : Position → LineFault → Position
 with_fault at fault = record at { fault = Some fault }
 
+-- a line of so many bytes, and its text of so many, stands in the held bytes and passes no limit; it has none only where none is held
+pub record Fits (at : Position) (held : List ℕ) (text line : ℕ) : Type 0 where
+  pub in_line : text ≤ line
+  pub one_lf : line ≤ text + 1
+  pub in_held : line ≤ length held
+  pub short : text ≤ 65535
+  pub within : at.consumed + line ≤ at.limit
+  pub none : line ≡ 0 → length held ≡ 0
+
 -- why the first line of the bytes that a reader stands in, where they are told, isn't given; and a failed read only where the count of faults rose
 abbrev pub IsRefused : Position → Option (List ℕ) → ℕ → ℕ → LineFault → Type 0
 IsRefused at told faults_before faults_after ReadFault = Rose faults_before faults_after

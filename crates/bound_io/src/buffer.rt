@@ -1,7 +1,7 @@
 //! The bytes that a reader of lines holds.
-ghost use Rattle.std.specs.Prelude.{◌≡◌, ◌+◌, ◌-◌, ◌≤◌, ◌<◌, ◌⊎◌, ◌++◌, List, ℕ, [], length, take, drop, min, false, IfOk, IfErr, OnErr, vec_len};
+ghost use Rattle.std.specs.Prelude.{◌≡◌, ◌-◌, ◌≤◌, ◌<◌, ◌⊎◌, List, ℕ, [], length, take, drop, IfOk, OnErr, vec_len};
 ghost use Rattle.std.specs.Io.KnownBytes.{IsAtEnd, Keeps};
-ghost use Rattle.bound_io.specs.Causes.{HasCause, Rose};
+ghost use Rattle.bound_io.specs.Causes.{HasCause};
 ghost use Rattle.bound_io.specs.Lines.{stands_in, text_len};
 ghost use Rattle.bound_io.specs.Reading.{LosesFront, ReadsOn};
 
@@ -11,7 +11,7 @@ use memchr::memchr;
 use std::alloc::{AllocError, Global};
 use std::marker::Model;
 
-/// How many bytes a buffer has room for.
+/// How many bytes a buffer has room for: the longest text of a line, and its LF.
 const ROOM: usize = 65536;
 
 /// Bytes that were taken from a source, in a buffer of 65,536 bytes.
@@ -104,8 +104,8 @@ impl Buffer {
         Ok(count)
     }
 
-    /// Reads on until the first line stands in the buffer, or what there is of it fills the buffer, and gives the
-    /// length of its text.
+    /// Reads on until the first line stands in the buffer, fills it or ends with the source, and gives the length of
+    /// its text, as far as that is held. Searches each byte once.
     pub fn find_text<S: Source>(&mut self, source: &mut S) -> Result<usize, Failed>
         ensures text { IfOk result (λ n. n ≡ text_len self.new) }
         ensures whole { IfOk result (λ n. n < length self.new ⊎ ((length self.new ≡ 65536) ⊎ IsAtEnd (S.left source.new))) }
@@ -126,7 +126,7 @@ impl Buffer {
         }
     }
 
-    /// Lends the text of the first line, which is given with its LF if it has one.
+    /// Lends the first `text` bytes, and gives up the first `line`.
     pub fn give(&mut self, text: usize, line: usize) -> &[u8]
         requires text { text ≤ line }
         requires line { line ≤ length self.old }

@@ -1,8 +1,7 @@
 //! A reader of lines.
-ghost use Rattle.std.specs.Prelude.{◌≡◌, ◌≢◌, ◌+◌, ◌≤◌, ◌<◌, ◌^◌, ◌⊎◌, None, Some, [], length, take, if◌then◌else◌, IfOk, IfErr, IfSome, IfNone, OnErr, Err};
+ghost use Rattle.std.specs.Prelude.{◌≡◌, ◌+◌, ◌≤◌, ◌<◌, ◌^◌, [], length, IfOk, IfErr, IfSome, IfNone};
 ghost use Rattle.std.specs.Io.KnownBytes.{IsAtEnd, Keeps};
-ghost use Rattle.bound_io.specs.Causes.{Rose};
-ghost use Rattle.bound_io.specs.Lines.{after_line, first_line, first_text, stands_in, text_len};
+ghost use Rattle.bound_io.specs.Lines.{HasExtent, first_text, stands_in};
 ghost use Rattle.bound_io.specs.Reading.{LosesFront};
 
 use crate::buffer::Buffer;
@@ -18,7 +17,7 @@ pub enum LineFault {
     ReadFault,
     /// The text of this line has more than 65,535 bytes. Lines count from 1.
     LineTooLong { line: u64 },
-    /// The bytes through this line pass the reader's limit.
+    /// The bytes through this line, its LF counted, pass the reader's limit, and its text is not too long.
     InputTooLong,
 }
 
@@ -33,7 +32,7 @@ pub enum WholeLine<'a> {
     AtEnd,
 }
 
-/// The bytes that the text of a line may have.
+/// The most bytes that the text of a line may have.
 const MOST_TEXT: usize = 65535;
 
 // The first line: how many bytes its text has, and how many with its LF.
@@ -44,6 +43,8 @@ struct Extent {
 }
 
 /// Gives the lines of a source one by one, from a buffer of 65,536 bytes.
+///
+/// A line ends at LF, which its text lacks; a CR before the LF stays in the text. The last line may lack its LF.
 ///
 /// It doesn't keep the source: each reading call is given it. Over one source the lines are those of all its bytes,
 /// in whatever pieces it gives them. A reader that has answered a fault answers the same from then on, and reads
@@ -72,7 +73,7 @@ impl LineReader {
     ghost use Rattle.bound_io.specs.contracts.line_reader.LineReader.{the_row};
     ghost use Rattle.std.specs.Io.BufRead.{Rests};
     ghost use Rattle.std.specs.Borrow.{sem};
-    ghost use Rattle.bound_io.specs.Positions.{IsLine, IsRefused, NextLine, Stops, given, given_by, with_held};
+    ghost use Rattle.bound_io.specs.Positions.{Fits, IsLine, IsRefused, NextLine, Stops, given, given_by, with_held};
 
     /// A reader of lines of at most `limit` bytes in all, which takes its buffer here.
     pub fn new(alloc: Global, limit: u64) -> Result<Self, NoMemory>
@@ -96,7 +97,7 @@ impl LineReader {
         self.consumed + self.buffer.len() as u64
     }
 
-    /// How many bytes the lines given have.
+    /// How many bytes the lines given have, with their LFs.
     pub fn consumed(&self) -> u64
         ensures { result ≡ self.now.consumed }
     {
@@ -112,8 +113,8 @@ impl LineReader {
 
     // The extent of the first line, once the line stands in the buffer, or why none is given.
     fn look<S: Source>(&mut self, source: &mut S) -> Result<Extent, LineFault>
-        ensures extent { IfOk result (λ e. IfSome (stands_in self.old.held (S.left source.old)) (λ bytes. (e.text ≡ text_len bytes) × (e.line ≡ length (first_line bytes)))) }
-        ensures within { IfOk result (λ e. (e.text ≤ e.line) × (e.line ≤ e.text + 1) × (e.line ≤ length self.new.held) × (e.text ≤ 65535) × (self.old.consumed + e.line ≤ self.old.limit) × (e.line ≡ 0 → length self.new.held ≡ 0)) }
+        ensures extent { IfOk result (λ e. IfSome (stands_in self.old.held (S.left source.old)) (HasExtent e.text e.line)) }
+        ensures within { IfOk result (λ e. Fits self.old self.new.held e.text e.line) }
         ensures refused { IfErr result (IsRefused self.old (stands_in self.old.held (S.left source.old)) (S.faults source.old) (S.faults source.new)) }
         ensures still { self.new ≡ with_held self.old self.new.held }
         ensures room { length self.new.held ≤ 65536 }
@@ -138,8 +139,8 @@ impl LineReader {
 
     // The extent of the first line, or the fault that ended the reading, which is kept.
     fn find_line<S: Source>(&mut self, source: &mut S) -> Result<Extent, LineFault>
-        ensures extent { IfOk result (λ e. IfSome (stands_in self.old.held (S.left source.old)) (λ bytes. (e.text ≡ text_len bytes) × (e.line ≡ length (first_line bytes)))) }
-        ensures within { IfOk result (λ e. (e.text ≤ e.line) × (e.line ≤ e.text + 1) × (e.line ≤ length self.new.held) × (e.text ≤ 65535) × (self.old.consumed + e.line ≤ self.old.limit) × (e.line ≡ 0 → length self.new.held ≡ 0)) }
+        ensures extent { IfOk result (λ e. IfSome (stands_in self.old.held (S.left source.old)) (HasExtent e.text e.line)) }
+        ensures within { IfOk result (λ e. Fits self.old self.new.held e.text e.line) }
         ensures still { IfOk result (λ e. (self.new ≡ with_held self.old self.new.held) × (self.old.fault ≡ None)) }
         ensures refused { self.old.fault ≡ None → IfErr result (IsRefused self.old (stands_in self.old.held (S.left source.old)) (S.faults source.old) (S.faults source.new)) }
         ensures stops { IfErr result (Stops self.old self.new (stands_in self.old.held (S.left source.old)) (stands_in self.new.held (S.left source.new))) }
@@ -186,6 +187,7 @@ impl LineReader {
     /// The text of the next line, or None at the end. The text is lent until the next call.
     pub fn next_line<S: Source>(&mut self, source: &mut S) -> Result<Option<&[u8]>, LineFault>
         ensures text { IfOk result (λ found. IfSome found (λ text. IfSome (stands_in self.old.held (S.left source.old)) (λ bytes. (text.now ≡ first_text bytes) × (0 < length bytes)))) }
+        ensures end { IfOk result (λ found. IfNone found (IsAtEnd (stands_in self.old.held (S.left source.old)))) }
         ensures short { IfOk result (λ found. IfSome found (λ text. length text.now ≤ 65535)) }
         ensures refused { self.old.fault ≡ None → IfErr result (IsRefused self.old (stands_in self.old.held (S.left source.old)) (S.faults source.old) (S.faults source.new)) }
         ensures again { IfSome self.old.fault (λ fault. (result ≡ Err fault) × (S.left source.new ≡ S.left source.old) × (S.faults source.new ≡ S.faults source.old)) }

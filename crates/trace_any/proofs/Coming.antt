@@ -1,7 +1,8 @@
 -- What is to come of a reader, after one line more and after one request more.
-use Rattle.std.proofs.Common.{◌≡◌, ℕ, zero, suc, ◌+◌, ◌-◌, ◌≤◌, ◌<◌, ◌∙◌, sym, refl, ap, List, [], ◌∷◌, ◌++◌, append_assoc, length, arith, not, length-take, Option, Some, None, Result, Ok, Err, IfSome, Bool}
+use Rattle.std.proofs.Common.{◌≡◌, ℕ, zero, suc, ◌+◌, ◌-◌, ◌≤◌, ◌<◌, ◌∙◌, sym, refl, ap, List, [], ◌∷◌, ◌++◌, append_assoc, length, take, drop, subst, inl, inr, ◌⊎◌, arith, not, length-take, Option, Some, None, Result, Ok, Err, IfSome, Bool}
 use Rattle.std.specs.Result.{IsErr, IsErrAnd, is_ok}
-use Rattle.std.proofs.lemmas.Bool.{le-ltb, lt-ltb, false≢true, true≢false}
+use Rattle.std.proofs.lemmas.List.{drop_all, drop-drop}
+use Rattle.std.proofs.lemmas.Bool.{cases_lt, le-ltb, lt-ltb, false≢true, true≢false}
 use Rattle.std.proofs.lemmas.List.Folds.{length-prefix_len}
 use Rattle.std.proofs.lemmas.List.Sums.{prefix_len-le-length}
 use Rattle.std.specs.Io.KnownBytes.{IsAtEnd}
@@ -16,17 +17,18 @@ use Rattle.trace_lines.specs.declared.line.LineKind.{LineKind}
 use Rattle.trace_lines.specs.declared.line.LineKind.TheVariants.{TooLong}
 use Rattle.trace_any.specs.declared.fault.TraceFault.{TraceFault}
 use Rattle.trace_any.specs.declared.fault.TraceFault.TheVariants.{BadLine, InputTooLong, TooManyRequests}
-use Rattle.trace_any.specs.Readings.{stopped, requested, text_asked, taken_up, read_line, read_on, reading, nothing_read, fault_of}
+use Rattle.trace_any.specs.Volumes.{Volume}
+use Rattle.trace_any.specs.Readings.{Asked, spanned, stopped, requested, text_asked, taken_up, read_line, read_on, reading, nothing_read, fault_of}
 use Rattle.trace_any.specs.declared.format.Format.{Format}
 use Rattle.trace_any.specs.declared.format.Limits.{Limits}
-use Rattle.trace_any.specs.Readers.{Reader, fresh, room_left, so_far, to_come, onto, after, with_span, GoesOn, IsOver, IsStopped, LineTaken}
+use Rattle.trace_any.specs.Readers.{Reader, Ahead, fresh, room_left, so_far, to_come, onto, after, with_ahead_by, ahead_by, noted_by, number_by, bytes_after, GoesOn, IsOver, IsStopped, LineTaken}
 use Rattle.trace_any.proofs.ReadingSteps.{plain, read_on-first, read_on-stopped, read_on-onto, requested-next, requested-none, requested-full}
 
 -- no block is left of the last line
 to_come_lines : (r : Reader) (bytes : List ℕ) → r.ahead.count ≡ 0 → to_come r bytes ≡ read_on r.format (room_left r) (so_far r) bytes
 to_come_lines r bytes none =
     ap (λ n. read_on r.format (room_left r) (requested (r.limits.requests - r.given) (so_far r) r.ahead.volume r.ahead.first n r.ahead.size) bytes) none
-    ∙ ap (λ s. read_on r.format (room_left r) s bytes) (requested-none (r.limits.requests - r.given) r.dropped r.lines.line r.lines.consumed r.ahead.volume r.ahead.first r.ahead.size)
+    ∙ ap (λ s. read_on r.format (room_left r) s bytes) (requested-none r.volumes (r.limits.requests - r.given) r.dropped r.lines.line r.lines.consumed r.ahead.volume r.ahead.first r.ahead.size)
 
 pub length-text : (bytes : List ℕ) → length (first_text bytes) ≡ text_len bytes
 length-text bytes = length-prefix_len _ bytes
@@ -39,7 +41,7 @@ to_come_line r bytes none some = to_come_lines r bytes none ∙ read_on-first r.
 -- a line that is neither too long nor past the limit is taken up
 line_taken_up : (r : Reader) (bytes : List ℕ) (line consumed : ℕ) → r.ahead.count ≡ 0 → 0 < length bytes → text_len bytes ≤ 65535 → consumed ≤ r.limits.bytes
     → line ≡ r.lines.line + 1 → consumed ≡ r.lines.consumed + length (first_line bytes)
-    → to_come r bytes ≡ read_on r.format (room_left r) (taken_up (r.limits.requests - r.given) (plain r.dropped line consumed) (text_asked r.format (first_text bytes))) (after_line bytes)
+    → to_come r bytes ≡ read_on r.format (room_left r) (taken_up (r.limits.requests - r.given) (plain r.volumes r.dropped line consumed) (text_asked r.format (first_text bytes))) (after_line bytes)
 line_taken_up r bytes line consumed none some short within line_is consumed_is =
     to_come_line r bytes none some
     ∙ rw (line_is, consumed_is, le-ltb 65535 (length (first_text bytes)) (omega (arith, length-text bytes, short)), le-ltb r.limits.bytes (r.lines.consumed + length (first_line bytes)) (omega (arith, within, consumed_is))) refl
@@ -49,8 +51,18 @@ abbrev pub with_lines : Reader → Position → Reader
 with_lines r lines = record r { lines = lines }
 
 -- the first line is taken up, and the rest is still there
-abbrev pub TakesUp : Reader → Reader → Result (Option Span) LineKind → List ℕ → Option (List ℕ) → Type 0
-TakesUp r new said bytes after = (rest : List ℕ) × (after ≡ Some rest) × (to_come r bytes ≡ read_on r.format (room_left r) (taken_up (r.limits.requests - r.given) (so_far new) said) rest)
+pub record TakesUp (r new : Reader) (said : Result (Option Asked) LineKind) (bytes : List ℕ) (after : Option (List ℕ)) : Type 0 where
+  pub further : r.lines.consumed ≤ new.lines.consumed
+  pub rest : after ≡ Some (bytes_after r new bytes)
+  pub coming : to_come r bytes ≡ read_on r.format (room_left r) (taken_up (r.limits.requests - r.given) (so_far new) said) (bytes_after r new bytes)
+
+-- as many bytes as there are of so many from the front
+drop_taken : (n : ℕ) (bytes : List ℕ) → drop (length (take n bytes)) bytes ≡ drop n bytes
+drop_taken n bytes = by (cases_lt n (length bytes))
+  where
+    by : n < length bytes ⊎ length bytes ≤ n → drop (length (take n bytes)) bytes ≡ drop n bytes
+    by (inl some) = ap (λ k. drop k bytes) (omega (arith, length-take n bytes, some))
+    by (inr all) = drop_all (length (take n bytes)) bytes (omega (arith, length-take n bytes, all)) ∙ sym (drop_all n bytes all)
 
 pub takes_up : (r : Reader) (l : Position) (before after : Option (List ℕ)) (text : List ℕ) → r.ahead.count ≡ 0 → r.lines.limit ≡ r.limits.bytes → GivesLine r.lines l before after
     → IfSome before (λ bytes. (text ≡ first_text bytes) × (0 < length bytes)) → length text ≤ 65535 → IfSome before (λ bytes. TakesUp r (with_lines r l) (text_asked r.format text) bytes after)
@@ -58,43 +70,74 @@ takes_up r l None after text none limit gives texts short = tt
 takes_up r l (Some bytes) after text none limit gives texts short =
     let within : l.consumed ≤ r.limits.bytes = omega (arith, gives.within, gives.limit, limit) in
     let text_short : text_len bytes ≤ 65535 = omega (arith, length-text bytes, ap length (texts.0), short) in
-    (after_line bytes, gives.rest, rw (texts.0) (line_taken_up r bytes l.line l.consumed none (texts.1) text_short within gives.line gives.consumed))
+    let size : l.consumed - r.lines.consumed ≡ length (first_line bytes) = omega (arith, gives.consumed) in
+    let past : after_line bytes ≡ bytes_after r (with_lines r l) bytes = sym (ap (λ n. drop n bytes) size ∙ drop_taken (text_len bytes + 1) bytes) in
+    let taken = line_taken_up r bytes l.line l.consumed none (texts.1) text_short within gives.line gives.consumed in
+    record {
+      further = omega (arith, gives.some);
+      rest = gives.rest ∙ ap (λ rest. Some rest) past;
+      coming = taken ∙ (ap (λ t. read_on r.format (room_left r) (taken_up (r.limits.requests - r.given) (plain r.volumes r.dropped l.line l.consumed) (text_asked r.format t)) (after_line bytes)) (sym (texts.0))
+          ∙ ap (λ rest. read_on r.format (room_left r) (taken_up (r.limits.requests - r.given) (plain r.volumes r.dropped l.line l.consumed) (text_asked r.format text)) rest) past);
+    }
 
 -- a line without a word changes nothing
-pub goes_blank : (r : Reader) (l : Position) (before after : Option (List ℕ)) (said : Result (Option Span) LineKind) → said ≡ Ok None → r.ahead.count ≡ 0
+pub goes_blank : (r : Reader) (l : Position) (before after : Option (List ℕ)) (said : Result (Option Asked) LineKind) → said ≡ Ok None → r.ahead.count ≡ 0
     → IfSome before (λ bytes. TakesUp r (with_lines r l) said bytes after) → IfSome before (λ bytes. GoesOn (λ s. s) r (with_lines r l) bytes after)
 goes_blank r l None after said blank none takes = tt
 goes_blank r l (Some bytes) after said blank none takes =
-    (takes.0, takes.1, takes.2 ∙ (ap (λ t. read_on r.format (room_left r) (taken_up (r.limits.requests - r.given) (so_far (with_lines r l)) t) takes.0) blank ∙ sym (to_come_lines (with_lines r l) takes.0 none)))
+    let rest = bytes_after r (with_lines r l) bytes in
+    record {
+      further = takes.further;
+      rest = takes.rest;
+      coming = takes.coming ∙ (ap (λ t. read_on r.format (room_left r) (taken_up (r.limits.requests - r.given) (so_far (with_lines r l)) t) rest) blank ∙ sym (to_come_lines (with_lines r l) rest none));
+    }
+
+-- a reader whose last line asked for this
+abbrev pub with_asked : Reader → Option Volume → Span → Reader
+with_asked r volume span = with_ahead_by (record r { volumes = noted_by span r.volumes volume }) (ahead_by (number_by span r.volumes volume) span)
 
 -- the blocks that a line asks for are those to come next
-asked_next : (r : Reader) (span : Span) (rest : List ℕ) → r.ahead.count ≡ 0 → read_on r.format (room_left r) (taken_up (r.limits.requests - r.given) (so_far r) (Ok (Some span))) rest ≡ to_come (with_span r span) rest
-asked_next r Nothing rest none = sym (to_come_lines (with_span r Nothing) rest none)
-asked_next r (One id size) rest none = refl
-asked_next r (Blocks first count size) rest none = refl
+asked_next : (r : Reader) (volume : Option Volume) (span : Span) (rest : List ℕ) → r.ahead.count ≡ 0
+    → read_on r.format (room_left r) (spanned (r.limits.requests - r.given) (so_far r) volume span) rest ≡ to_come (with_asked r volume span) rest
+asked_next r volume Nothing rest none = sym (to_come_lines (with_asked r volume Nothing) rest none)
+asked_next r volume (One id size) rest none = refl
+asked_next r volume (Blocks first count size) rest none = refl
 
 -- what a line asks for is no matter of the lines
-pub lines_asked : (r : Reader) (span : Span) → (with_span r span).lines ≡ r.lines
-lines_asked r Nothing = refl
-lines_asked r (One id size) = refl
-lines_asked r (Blocks first count size) = refl
+pub lines_asked : (r : Reader) (volume : Option Volume) (span : Span) → (with_asked r volume span).lines ≡ r.lines
+lines_asked r volume Nothing = refl
+lines_asked r volume (One id size) = refl
+lines_asked r volume (Blocks first count size) = refl
 
-pub goes_asked : (r : Reader) (l : Position) (span : Span) (before after : Option (List ℕ)) (said : Result (Option Span) LineKind) → said ≡ Ok (Some span) → r.ahead.count ≡ 0
-    → IfSome before (λ bytes. TakesUp r (with_lines r l) said bytes after) → IfSome before (λ bytes. GoesOn (λ s. s) r (with_span (with_lines r l) span) bytes after)
-goes_asked r l Nothing None after said asks none takes = tt
-goes_asked r l (One id size) None after said asks none takes = tt
-goes_asked r l (Blocks first count size) None after said asks none takes = tt
-goes_asked r l Nothing (Some bytes) after said asks none takes = (takes.0, takes.1, takes.2 ∙ (ap (λ t. read_on r.format (room_left r) (taken_up (r.limits.requests - r.given) (so_far (with_lines r l)) t) takes.0) asks ∙ asked_next (with_lines r l) Nothing takes.0 none))
-goes_asked r l (One id size) (Some bytes) after said asks none takes = (takes.0, takes.1, takes.2 ∙ (ap (λ t. read_on r.format (room_left r) (taken_up (r.limits.requests - r.given) (so_far (with_lines r l)) t) takes.0) asks ∙ asked_next (with_lines r l) (One id size) takes.0 none))
-goes_asked r l (Blocks first count size) (Some bytes) after said asks none takes = (takes.0, takes.1, takes.2 ∙ (ap (λ t. read_on r.format (room_left r) (taken_up (r.limits.requests - r.given) (so_far (with_lines r l)) t) takes.0) asks ∙ asked_next (with_lines r l) (Blocks first count size) takes.0 none))
+-- a reader that holds the volumes and the blocks of what was asked
+pub is_asked : (r : Reader) (volume : Option Volume) (span : Span) (number : ℕ) (volumes : List Volume) (ahead : Option Ahead) → number ≡ number_by span r.volumes volume → volumes ≡ noted_by span r.volumes volume → ahead_by number span ≡ ahead
+    → with_asked r volume span ≡ with_ahead_by (record r { volumes = volumes }) ahead
+is_asked r volume span number volumes ahead number_is volumes_are ahead_is =
+    ap (λ v. with_ahead_by (record r { volumes = v }) (ahead_by (number_by span r.volumes volume) span)) (sym volumes_are)
+    ∙ ap (λ a. with_ahead_by (record r { volumes = volumes }) a) (ap (λ n. ahead_by n span) (sym number_is) ∙ ahead_is)
+
+-- goes on where the lines have come to this position
+abbrev GoesAt : Reader → Reader → List ℕ → Option (List ℕ) → Position → Type 0
+GoesAt r new bytes after p = (r.lines.consumed ≤ p.consumed) × (after ≡ Some (drop (p.consumed - r.lines.consumed) bytes)) × (to_come r bytes ≡ to_come new (drop (p.consumed - r.lines.consumed) bytes))
+
+pub goes_asked : (r : Reader) (l : Position) (what : Asked) (before after : Option (List ℕ)) (said : Result (Option Asked) LineKind) → said ≡ Ok (Some what) → r.ahead.count ≡ 0
+    → IfSome before (λ bytes. TakesUp r (with_lines r l) said bytes after) → IfSome before (λ bytes. GoesOn (λ s. s) r (with_asked (with_lines r l) what.volume what.span) bytes after)
+goes_asked r l what None after said asks none takes = tt
+goes_asked r l what (Some bytes) after said asks none takes =
+    let next = with_lines r l in
+    let rest = bytes_after r next bytes in
+    let coming = takes.coming ∙ (ap (λ t. read_on r.format (room_left r) (taken_up (r.limits.requests - r.given) (so_far next) t) rest) asks ∙ asked_next next what.volume what.span rest none) in
+    let lines = sym (lines_asked next what.volume what.span) in
+    let goes = subst (λ p. GoesAt r (with_asked next what.volume what.span) bytes after p) lines (takes.further, takes.rest, coming) in
+    record { further = goes.0; rest = goes.1; coming = goes.2 }
 
 -- a line that is refused ends the reading
-pub refused_line : (r : Reader) (l : Position) (kind : LineKind) (before after : Option (List ℕ)) (said : Result (Option Span) LineKind) → said ≡ Err kind
+pub refused_line : (r : Reader) (l : Position) (kind : LineKind) (before after : Option (List ℕ)) (said : Result (Option Asked) LineKind) → said ≡ Err kind
     → IfSome before (λ bytes. TakesUp r (with_lines r l) said bytes after) → IfSome before (λ bytes. IsOver (to_come r bytes) r.dropped (Some (BadLine l.line kind)))
 refused_line r l kind None after said refused takes = tt
 refused_line r l kind (Some bytes) after said refused takes =
     let now = so_far (with_lines r l) in
-    let stop : to_come r bytes ≡ stopped now (BadLine l.line kind) = takes.2 ∙ (ap (λ t. read_on r.format (room_left r) (taken_up (r.limits.requests - r.given) now t) takes.0) refused ∙ read_on-stopped r.format (room_left r) now (BadLine l.line kind) takes.0) in
+    let stop : to_come r bytes ≡ stopped now (BadLine l.line kind) = takes.coming ∙ (ap (λ t. read_on r.format (room_left r) (taken_up (r.limits.requests - r.given) now t) (bytes_after r (with_lines r l) bytes)) refused ∙ read_on-stopped r.format (room_left r) now (BadLine l.line kind) (bytes_after r (with_lines r l) bytes)) in
     record { requests = ap (λ s. s.requests) stop; dropped_lines = ap (λ s. s.dropped) stop; stop = ap (λ s. s.refused) stop }
 
 some_text : (bytes : List ℕ) → 0 < text_len bytes → 0 < length bytes
@@ -103,7 +146,7 @@ some_text bytes some = omega (arith, prefix_len-le-length (λ b. not (is_lf b)) 
 pub too_long : (r : Reader) (line : ℕ) (before : Option (List ℕ)) → r.ahead.count ≡ 0 → line ≡ r.lines.line + 1 → IfSome before (λ bytes. 65535 < text_len bytes) → IfSome before (λ bytes. IsOver (to_come r bytes) r.dropped (Some (BadLine line TooLong)))
 too_long r line None none line_is long = tt
 too_long r line (Some bytes) none line_is long =
-    let now = plain r.dropped (r.lines.line + 1) (r.lines.consumed + length (first_line bytes)) in
+    let now = plain r.volumes r.dropped (r.lines.line + 1) (r.lines.consumed + length (first_line bytes)) in
     let read : read_line r.format (room_left r) (so_far r) (first_text bytes, length (first_line bytes)) ≡ stopped now (BadLine (r.lines.line + 1) TooLong)
     = rw (lt-ltb 65535 (length (first_text bytes)) (omega (arith, length-text bytes, long))) refl in
     let stop : to_come r bytes ≡ stopped now (BadLine (r.lines.line + 1) TooLong) = to_come_line r bytes none (some_text bytes (omega (arith, long)))
@@ -115,7 +158,7 @@ pub past_limit : (r : Reader) (before : Option (List ℕ)) → r.ahead.count ≡
 past_limit r None none limit within past = tt
 past_limit r (Some bytes) none limit within past =
     let size = length (first_line bytes) in
-    let now = plain r.dropped (r.lines.line + 1) (r.lines.consumed + size) in
+    let now = plain r.volumes r.dropped (r.lines.line + 1) (r.lines.consumed + size) in
     let some : 0 < length bytes = omega (arith, length-take (text_len bytes + 1) bytes, past.1, limit, within) in
     let read : read_line r.format (room_left r) (so_far r) (first_text bytes, size) ≡ stopped now InputTooLong
     = rw (le-ltb 65535 (length (first_text bytes)) (omega (arith, length-text bytes, past.0)), lt-ltb r.limits.bytes (r.lines.consumed + size) (omega (arith, past.1, limit))) refl in
@@ -134,9 +177,9 @@ no_line r (Some bytes) none end =
 abbrev pub with_given : Reader → ℕ → Reader
 with_given r next = record r { given = r.given + 1; ahead = record { volume = r.ahead.volume; first = next; count = r.ahead.count - 1; size = r.ahead.size } }
 
-same_blocks : (most dropped lines bytes volume first next count size : ℕ) → (0 < count → next ≡ first) → requested most (plain dropped lines bytes) volume first count size ≡ requested most (plain dropped lines bytes) volume next count size
-same_blocks most dropped lines bytes volume first next zero size same = requested-none most dropped lines bytes volume first size ∙ sym (requested-none most dropped lines bytes volume next size)
-same_blocks most dropped lines bytes volume first next (suc count) size same = ap (λ n. requested most (plain dropped lines bytes) volume n (suc count) size) (sym (same (omega arith)))
+same_blocks : (volumes : List Volume) (most dropped lines bytes volume first next count size : ℕ) → (0 < count → next ≡ first) → requested most (plain volumes dropped lines bytes) volume first count size ≡ requested most (plain volumes dropped lines bytes) volume next count size
+same_blocks volumes most dropped lines bytes volume first next zero size same = requested-none volumes most dropped lines bytes volume first size ∙ sym (requested-none volumes most dropped lines bytes volume next size)
+same_blocks volumes most dropped lines bytes volume first next (suc count) size same = ap (λ n. requested most (plain volumes dropped lines bytes) volume n (suc count) size) (sym (same (omega arith)))
 
 -- the first of the blocks is given
 pub gives_block : (r : Reader) (next : ℕ) (bytes : List ℕ) → r.given < r.limits.requests → 0 < r.ahead.count → (1 < r.ahead.count → next ≡ r.ahead.first + 1)
@@ -148,15 +191,15 @@ gives_block r next bytes room some follows =
     let x : Object = record { volume = a.volume; id = a.first; size = a.size } in
     let places : r.limits.requests - r.given ≡ most + 1 = omega (arith, room) in
     let blocks : a.count ≡ count + 1 = omega (arith, some) in
-    let d = r.dropped in let l = r.lines.line in let c = r.lines.consumed in
-    let start : requested (r.limits.requests - r.given) (plain d l c) a.volume a.first a.count a.size ≡ onto x (requested most (plain d l c) a.volume next count a.size)
-    = ap (λ n. requested n (plain d l c) a.volume a.first a.count a.size) places
-    ∙ (ap (λ n. requested (most + 1) (plain d l c) a.volume a.first n a.size) blocks
-    ∙ (requested-next most d l c a.volume a.first count a.size
-    ∙ ap (onto x) (same_blocks most d l c a.volume (a.first + 1) next count a.size (λ h. follows (omega (arith, h, blocks)))))) in
+    let v = r.volumes in let d = r.dropped in let l = r.lines.line in let c = r.lines.consumed in
+    let start : requested (r.limits.requests - r.given) (plain v d l c) a.volume a.first a.count a.size ≡ onto x (requested most (plain v d l c) a.volume next count a.size)
+    = ap (λ n. requested n (plain v d l c) a.volume a.first a.count a.size) places
+    ∙ (ap (λ n. requested (most + 1) (plain v d l c) a.volume a.first n a.size) blocks
+    ∙ (requested-next v most d l c a.volume a.first count a.size
+    ∙ ap (onto x) (same_blocks v most d l c a.volume (a.first + 1) next count a.size (λ h. follows (omega (arith, h, blocks)))))) in
     ap (λ s. read_on r.format (room_left r) s bytes) start
-    ∙ (ap (λ n. read_on r.format (record { requests = n; bytes = r.limits.bytes }) (onto x (requested most (plain d l c) a.volume next count a.size)) bytes) places
-    ∙ read_on-onto r.format most r.limits.bytes x (requested most (plain d l c) a.volume next count a.size) bytes)
+    ∙ (ap (λ n. read_on r.format (record { requests = n; bytes = r.limits.bytes }) (onto x (requested most (plain v d l c) a.volume next count a.size)) bytes) places
+    ∙ read_on-onto r.format most r.limits.bytes x (requested most (plain v d l c) a.volume next count a.size) bytes)
 
 -- no request more is allowed
 pub no_room : (r : Reader) (bytes : List ℕ) → r.given ≡ r.limits.requests → 0 < r.ahead.count → IsOver (to_come r bytes) r.dropped (Some TooManyRequests)
@@ -164,7 +207,7 @@ no_room r bytes full some =
     let a = r.ahead in
     let now = so_far r in
     let none : r.limits.requests - r.given ≡ 0 = omega (arith, full) in
-    let start = ap (λ n. requested n now a.volume a.first a.count a.size) none ∙ requested-full r.dropped r.lines.line r.lines.consumed a.volume a.first a.count a.size some in
+    let start = ap (λ n. requested n now a.volume a.first a.count a.size) none ∙ requested-full r.volumes r.dropped r.lines.line r.lines.consumed a.volume a.first a.count a.size some in
     let stop : to_come r bytes ≡ stopped now TooManyRequests = ap (λ s. read_on r.format (room_left r) s bytes) start ∙ read_on-stopped r.format (room_left r) now TooManyRequests bytes in
     record { requests = ap (λ s. s.requests) stop; dropped_lines = ap (λ s. s.dropped) stop; stop = ap (λ s. s.refused) stop }
 
@@ -180,22 +223,35 @@ pub taken_err : (r new : Reader) (before after : Option (List ℕ)) (faults_befo
 taken_err r new before after faults_before faults_after fault (Ok b) err is why = absurd (false≢true err)
 taken_err r new before after faults_before faults_after fault (Err e) err is why = rw is why
 
+past_both : (m n k : ℕ) (bytes : List ℕ) → k ≡ m + n → drop n (drop m bytes) ≡ drop k bytes
+past_both m n k bytes all = rw (all, drop-drop) refl
+
 -- one line taken up after others
 pub goes_then : (first second third : Reader) (before between after : Option (List ℕ)) → IfSome before (λ bytes. GoesOn (λ r. r) first second bytes between) → IfSome between (λ bytes. GoesOn (λ r. r) second third bytes after)
     → IfSome before (λ bytes. GoesOn (λ r. r) first third bytes after)
 goes_then first second third None between after one other = tt
 goes_then first second third (Some bytes) between after one other =
-    let next = rw (one.1) at other in
-    (next.0, next.1, one.2 ∙ next.2)
+    let next = rw (one.rest) at other in
+    let same = past_both (second.lines.consumed - first.lines.consumed) (third.lines.consumed - second.lines.consumed) (third.lines.consumed - first.lines.consumed) bytes (omega (arith, one.further, next.further)) in
+    record {
+      further = omega (arith, one.further, next.further);
+      rest = next.rest ∙ ap (λ rest. Some rest) same;
+      coming = one.coming ∙ (next.coming ∙ ap (to_come third) same);
+    }
 
 -- one request more after some
 pub loads_one : (first second third : Reader) (given : List Object) (x : Object) (before between later : Option (List ℕ)) → IfSome before (λ bytes. GoesOn (after given) first second bytes between)
     → IfSome between (λ bytes. GoesOn (onto x) second third bytes later) → IfSome before (λ bytes. GoesOn (after (given ++ x ∷ [])) first third bytes later)
 loads_one first second third given x None between later one other = tt
 loads_one first second third given x (Some bytes) between later one other =
-    let next = rw (one.1) at other in
-    let coming = to_come third next.0 in
-    (next.0, next.1, one.2 ∙ (ap (after given) (next.2) ∙ ap (λ requests. record coming { requests = requests }) (sym (append_assoc given (x ∷ []) coming.requests))))
+    let next = rw (one.rest) at other in
+    let same = past_both (second.lines.consumed - first.lines.consumed) (third.lines.consumed - second.lines.consumed) (third.lines.consumed - first.lines.consumed) bytes (omega (arith, one.further, next.further)) in
+    let coming = to_come third (bytes_after second third (bytes_after first second bytes)) in
+    record {
+      further = omega (arith, one.further, next.further);
+      rest = next.rest ∙ ap (λ rest. Some rest) same;
+      coming = one.coming ∙ (ap (after given) next.coming ∙ (ap (λ requests. record coming { requests = requests }) (sym (append_assoc given (x ∷ []) coming.requests)) ∙ ap (λ rest. after (given ++ x ∷ []) (to_come third rest)) same));
+    }
 
 -- no fault is one that can't be
 pub no_fault : (fault : Option TraceFault) (P : TraceFault → Type 0) → IfSome fault P → ((f : TraceFault) → P f → ⊥) → fault ≡ None

@@ -2,3 +2,4 @@ pub mod ReadingRows
 pub mod FirstLines
 pub mod ReadingSteps
 pub mod Coming
+pub mod VolumeSteps

@@ -14,15 +14,15 @@ abbrev few : ℕ → ℕ → Limits
 few requests bytes = record { requests = requests; bytes = bytes }
 
 -- a line that asks for no bytes is dropped
-dropped_line : reading Webcache full_limits (codes "1 7 4\n5 7 0\n6 7 4\n") ≡ record { requests = ob 7 4 ∷ ob 7 4 ∷ []; dropped = 1; lines = 3; bytes = 18; refused = None }
+dropped_line : reading Webcache full_limits (codes "1 7 4\n5 7 0\n6 7 4\n") ≡ record { requests = ob 7 4 ∷ ob 7 4 ∷ []; volumes = []; dropped = 1; lines = 3; bytes = 18; refused = None }
 dropped_line = refl
 
 -- a CR before the LF, and no LF at the end
-last_line : reading Webcache full_limits (codes "1 7 4\r\n2 7 4") ≡ record { requests = ob 7 4 ∷ ob 7 4 ∷ []; dropped = 0; lines = 2; bytes = 12; refused = None }
+last_line : reading Webcache full_limits (codes "1 7 4\r\n2 7 4") ≡ record { requests = ob 7 4 ∷ ob 7 4 ∷ []; volumes = []; dropped = 0; lines = 2; bytes = 12; refused = None }
 last_line = refl
 
 -- the first line that is refused ends the reading
-bad_line : reading Webcache full_limits (codes "1 7 4\n2 x 4\n3 7 4\n") ≡ record { requests = ob 7 4 ∷ []; dropped = 0; lines = 2; bytes = 12; refused = Some (BadLine 2 (BadNumber 2)) }
+bad_line : reading Webcache full_limits (codes "1 7 4\n2 x 4\n3 7 4\n") ≡ record { requests = ob 7 4 ∷ []; volumes = []; dropped = 0; lines = 2; bytes = 12; refused = Some (BadLine 2 (BadNumber 2)) }
 bad_line = refl
 
 few_words : (reading Webcache full_limits (codes "1 7")).refused ≡ Some (BadLine 1 TooFewWords)
@@ -32,11 +32,11 @@ large : (reading Webcache full_limits (codes "1 7 281474976710657")).refused ≡
 large = refl
 
 -- blank lines are counted and skipped
-blank_lines : reading Webcache full_limits (codes "\n \t\n\r\n1 7 4") ≡ record { requests = ob 7 4 ∷ []; dropped = 0; lines = 4; bytes = 11; refused = None }
+blank_lines : reading Webcache full_limits (codes "\n \t\n\r\n1 7 4") ≡ record { requests = ob 7 4 ∷ []; volumes = []; dropped = 0; lines = 4; bytes = 11; refused = None }
 blank_lines = refl
 
 -- a third request where two are allowed
-third_request : reading Webcache (few 2 1000) (codes "1 1 1\n\t \n2 2 1\n3 3 1\n4 x 1\n") ≡ record { requests = ob 1 1 ∷ ob 2 1 ∷ []; dropped = 0; lines = 4; bytes = 21; refused = Some TooManyRequests }
+third_request : reading Webcache (few 2 1000) (codes "1 1 1\n\t \n2 2 1\n3 3 1\n4 x 1\n") ≡ record { requests = ob 1 1 ∷ ob 2 1 ∷ []; volumes = []; dropped = 0; lines = 4; bytes = 21; refused = Some TooManyRequests }
 third_request = refl
 
 -- the bytes through a line, its LF counted
@@ -46,5 +46,5 @@ bytes_limit = refl
 unended_limit : (reading Webcache (few 9 11) (codes "1 7 4\n2 7 4")).refused ≡ None
 unended_limit = refl
 
-no_bytes : reading Webcache full_limits [] ≡ record { requests = []; dropped = 0; lines = 0; bytes = 0; refused = None }
+no_bytes : reading Webcache full_limits [] ≡ record { requests = []; volumes = []; dropped = 0; lines = 0; bytes = 0; refused = None }
 no_bytes = refl

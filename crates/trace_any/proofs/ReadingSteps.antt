@@ -12,7 +12,8 @@ use Rattle.trace_any.specs.declared.fault.TraceFault.{TraceFault}
 use Rattle.trace_any.specs.declared.fault.TraceFault.TheVariants.{BadLine, InputTooLong, TooManyRequests}
 use Rattle.trace_any.specs.declared.format.Format.{Format}
 use Rattle.trace_any.specs.declared.format.Limits.{Limits}
-use Rattle.trace_any.specs.Readings.{Reading, stopped, blocks, requested, text_asked, taken_up, read_line, lines_of, read_on}
+use Rattle.trace_any.specs.Readings.{Reading, stopped, blocks, requested, Asked, spanned, noted, number_of, text_asked, taken_up, read_line, lines_of, read_on}
+use Rattle.trace_any.specs.Volumes.{Volume}
 use Rattle.trace_any.specs.Readers.{onto}
 use Rattle.trace_any.proofs.FirstLines.{lines_of-first}
 
@@ -55,11 +56,14 @@ requested-onto most x r volume first count size =
     let same : most + 1 - length (x ∷ r.requests) ≡ places = omega arith in
     rw same (onto_either (nat_lt places count) x (stopped taken TooManyRequests) taken)
 
-taken_up-onto : (most : ℕ) (x : Object) (r : Reading) (said : Result (Option Span) LineKind) → taken_up (most + 1) (onto x r) said ≡ onto x (taken_up most r said)
+spanned-onto : (most : ℕ) (x : Object) (r : Reading) (volume : Option Volume) (span : Span) → spanned (most + 1) (onto x r) volume span ≡ onto x (spanned most r volume span)
+spanned-onto most x r volume Nothing = refl
+spanned-onto most x r volume (One id size) = requested-onto most x (record r { volumes = noted r.volumes volume }) (number_of r.volumes volume) id 1 size
+spanned-onto most x r volume (Blocks first count size) = requested-onto most x (record r { volumes = noted r.volumes volume }) (number_of r.volumes volume) first count size
+
+taken_up-onto : (most : ℕ) (x : Object) (r : Reading) (said : Result (Option Asked) LineKind) → taken_up (most + 1) (onto x r) said ≡ onto x (taken_up most r said)
 taken_up-onto most x r (Ok None) = refl
-taken_up-onto most x r (Ok (Some Nothing)) = refl
-taken_up-onto most x r (Ok (Some (One id size))) = requested-onto most x r 0 id 1 size
-taken_up-onto most x r (Ok (Some (Blocks first count size))) = requested-onto most x r 0 first count size
+taken_up-onto most x r (Ok (Some what)) = spanned-onto most x r what.volume what.span
 taken_up-onto most x r (Err kind) = refl
 
 read_line-onto : (format : Format) (most bytes : ℕ) (x : Object) (r : Reading) (line : List ℕ × ℕ) → read_line format (room (most + 1) bytes) (onto x r) line ≡ onto x (read_line format (room most bytes) r line)
@@ -86,15 +90,15 @@ pub read_on-onto : (format : Format) (most bytes : ℕ) (x : Object) (r : Readin
 read_on-onto format most bytes x r rest = fold-onto format most bytes x r (lines_of rest)
 
 -- a reading without requests, which has not stopped
-abbrev pub plain : ℕ → ℕ → ℕ → Reading
-plain dropped lines bytes = record { requests = []; dropped = dropped; lines = lines; bytes = bytes; refused = None }
+abbrev pub plain : List Volume → ℕ → ℕ → ℕ → Reading
+plain volumes dropped lines bytes = record { requests = []; volumes = volumes; dropped = dropped; lines = lines; bytes = bytes; refused = None }
 
 -- the first of some blocks, where there is room for it
-pub requested-next : (most dropped lines bytes volume first count size : ℕ)
-    → requested (most + 1) (plain dropped lines bytes) volume first (count + 1) size ≡ onto (record { volume = volume; id = first; size = size }) (requested most (plain dropped lines bytes) volume (first + 1) count size)
-requested-next most dropped lines bytes volume first count size =
+pub requested-next : (volumes : List Volume) (most dropped lines bytes volume first count size : ℕ)
+    → requested (most + 1) (plain volumes dropped lines bytes) volume first (count + 1) size ≡ onto (record { volume = volume; id = first; size = size }) (requested most (plain volumes dropped lines bytes) volume (first + 1) count size)
+requested-next volumes most dropped lines bytes volume first count size =
     let x : Object = record { volume = volume; id = first; size = size } in
-    let r = plain dropped lines bytes in
+    let r = plain volumes dropped lines bytes in
     let taken : Reading = record r { requests = blocks volume (first + 1) (min count most) size } in
     let places : most + 1 - 0 ≡ most + 1 = omega arith in
     let before : most - 0 ≡ most = omega arith in
@@ -102,13 +106,13 @@ requested-next most dropped lines bytes volume first count size =
     rw (places, before, some, lt-next most count) (onto_either (nat_lt most count) x (stopped taken TooManyRequests) taken)
 
 -- no block is left
-pub requested-none : (most dropped lines bytes volume first size : ℕ) → requested most (plain dropped lines bytes) volume first 0 size ≡ plain dropped lines bytes
-requested-none most dropped lines bytes volume first size =
+pub requested-none : (volumes : List Volume) (most dropped lines bytes volume first size : ℕ) → requested most (plain volumes dropped lines bytes) volume first 0 size ≡ plain volumes dropped lines bytes
+requested-none volumes most dropped lines bytes volume first size =
     let none : min 0 (most - 0) ≡ 0 = omega arith in
     rw (none, le-ltb (most - 0) 0 (omega arith)) refl
 
 -- there is no room for one
-pub requested-full : (dropped lines bytes volume first count size : ℕ) → 0 < count → requested 0 (plain dropped lines bytes) volume first count size ≡ stopped (plain dropped lines bytes) TooManyRequests
-requested-full dropped lines bytes volume first count size some =
+pub requested-full : (volumes : List Volume) (dropped lines bytes volume first count size : ℕ) → 0 < count → requested 0 (plain volumes dropped lines bytes) volume first count size ≡ stopped (plain volumes dropped lines bytes) TooManyRequests
+requested-full volumes dropped lines bytes volume first count size some =
     let none : min count (0 - 0) ≡ 0 = omega arith in
     rw (none, lt-ltb 0 count some) refl

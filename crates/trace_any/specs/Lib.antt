@@ -1,2 +1,4 @@
+pub mod Volumes
 pub mod Readings
+pub mod Wanted
 pub mod Readers

@@ -1,5 +1,5 @@
 -- What a reader of requests has still to give.
-use Rattle.std.specs.Prelude.{◌≡◌, ℕ, ◌+◌, ◌-◌, ◌<◌, List, [], ◌∷◌, ◌++◌, Bool, true, false, Result, Ok, Err, None, Some, IfSome}
+use Rattle.std.specs.Prelude.{◌≡◌, ℕ, ◌+◌, ◌-◌, ◌<◌, ◌≤◌, drop, List, [], ◌∷◌, ◌++◌, Bool, true, false, Result, Ok, Err, None, Some, IfSome}
 use Rattle.trace_lines.specs.declared.line.Span.{Span}
 use Rattle.trace_lines.specs.declared.line.Span.TheVariants.{Nothing, One, Blocks}
 use Rattle.std.specs.declared.option.Option.{Option}
@@ -11,7 +11,8 @@ use Rattle.trace_any.specs.declared.fault.TraceFault.{TraceFault}
 use Rattle.trace_any.specs.declared.fault.TraceFault.TheVariants.{BadLine, ReadFault, InputTooLong, TooManyRequests, NoMemory}
 use Rattle.trace_any.specs.declared.format.Format.{Format}
 use Rattle.trace_any.specs.declared.format.Limits.{Limits}
-use Rattle.trace_any.specs.Readings.{Reading, requested, read_on}
+use Rattle.trace_any.specs.Volumes.{Volume}
+use Rattle.trace_any.specs.Readings.{Reading, requested, read_on, noted, number_of}
 
 -- what is left of the blocks that the last line asked for
 pub record Ahead : Type 0 where
@@ -24,13 +25,14 @@ pub record Ahead : Type 0 where
 abbrev pub nothing_ahead : Ahead
 nothing_ahead = record { volume = 0; first = 0; count = 0; size = 0 }
 
--- where a reader of requests stands: its lines, the number of requests given and of lines dropped, the blocks of the last line, and the fault that was answered
+-- where a reader of requests stands: its lines, the number of requests given and of lines dropped, the volumes named, the blocks of the last line, and the fault that was answered
 pub record Reader : Type 0 where
   pub format : Format
   pub limits : Limits
   pub lines : Position
   pub given : ℕ
   pub dropped : ℕ
+  pub volumes : List Volume
   pub ahead : Ahead
   pub fault : Option TraceFault
 
@@ -42,6 +44,7 @@ fresh format limits = record {
   lines = record { limit = limits.bytes; consumed = 0; line = 0; held = []; fault = None };
   given = 0;
   dropped = 0;
+  volumes = [];
   ahead = nothing_ahead;
   fault = None;
 }
@@ -61,7 +64,7 @@ room_left r = record { requests = r.limits.requests - r.given; bytes = r.limits.
 
 -- a reading that has come as far as a reader, whose requests so far are left out
 abbrev pub so_far : Reader → Reading
-so_far r = record { requests = []; dropped = r.dropped; lines = r.lines.line; bytes = r.lines.consumed; refused = None }
+so_far r = record { requests = []; volumes = r.volumes; dropped = r.dropped; lines = r.lines.line; bytes = r.lines.consumed; refused = None }
 
 -- the blocks of the last line, as far as there is room
 abbrev pub with_ahead : Reader → Reading
@@ -97,9 +100,15 @@ IsStopped old new before faults_before faults_after TooManyRequests = IfSome bef
 IsStopped old new before faults_before faults_after ReadFault = Rose faults_before faults_after
 IsStopped old new before faults_before faults_after NoMemory = Unit {0}
 
--- the reader goes on from these bytes to those after, and what is to come is what was, without the request that was given
-abbrev pub GoesOn : (Reading → Reading) → Reader → Reader → List ℕ → Option (List ℕ) → Type 0
-GoesOn with_given old new bytes after = (rest : List ℕ) × (after ≡ Some rest) × (to_come old bytes ≡ with_given (to_come new rest))
+-- the bytes after those that a reader has given the lines of
+abbrev pub bytes_after : Reader → Reader → List ℕ → List ℕ
+bytes_after old new bytes = drop (new.lines.consumed - old.lines.consumed) bytes
+
+-- the reader goes on from these bytes past the lines that it gave, and what is to come is what was, without the request that was given
+pub record GoesOn (with_given : Reading → Reading) (old new : Reader) (bytes : List ℕ) (after : Option (List ℕ)) : Type 0 where
+  pub further : old.lines.consumed ≤ new.lines.consumed
+  pub rest : after ≡ Some (bytes_after old new bytes)
+  pub coming : to_come old bytes ≡ with_given (to_come new (bytes_after old new bytes))
 
 -- how the next request is given: it is the first of those to come; at the end none is to come, and nothing is left
 abbrev pub NextRequest : Reader → Reader → Option (List ℕ) → Option (List ℕ) → ℕ → ℕ → Result (Option Object) TraceFault → Type 0
@@ -113,11 +122,28 @@ LineTaken old new before after faults_before faults_after (Ok true) = (old.lines
 LineTaken old new before after faults_before faults_after (Ok false) = IfSome before (λ bytes. IsOver (to_come old bytes) new.dropped None × (after ≡ Some []))
 LineTaken old new before after faults_before faults_after (Err fault) = IsStopped old new before faults_before faults_after fault
 
--- a reader whose last line asked for this
-abbrev pub with_span : Reader → Span → Reader
-with_span r Nothing = record r { dropped = r.dropped + 1 }
-with_span r (One id size) = record r { ahead = record { volume = 0; first = id; count = 1; size = size } }
-with_span r (Blocks first count size) = record r { ahead = record { volume = 0; first = first; count = count; size = size } }
+-- the blocks that a line with this span asks for of the volume with this number, if any
+abbrev pub ahead_by : ℕ → Span → Option Ahead
+ahead_by volume Nothing = None
+ahead_by volume (One id size) = Some (record { volume = volume; first = id; count = 1; size = size })
+ahead_by volume (Blocks first count size) = Some (record { volume = volume; first = first; count = count; size = size })
+
+-- a reader whose last line asked for these blocks, or for nothing
+abbrev pub with_ahead_by : Reader → Option Ahead → Reader
+with_ahead_by r (Some ahead) = record r { ahead = ahead }
+with_ahead_by r None = record r { dropped = r.dropped + 1 }
+
+-- the volumes after a line with this span
+abbrev pub noted_by : Span → List Volume → Option Volume → List Volume
+noted_by Nothing volumes volume = volumes
+noted_by (One id size) volumes volume = noted volumes volume
+noted_by (Blocks first count size) volumes volume = noted volumes volume
+
+-- the number of the volume of a line with this span, which is 0 where it asks for nothing
+abbrev pub number_by : Span → List Volume → Option Volume → ℕ
+number_by Nothing volumes volume = 0
+number_by (One id size) volumes volume = number_of volumes volume
+number_by (Blocks first count size) volumes volume = number_of volumes volume
 
 -- a reading that was not refused has these requests and dropped lines
 pub record IsWhole (r : Reading) (trace : List Object) (dropped : ℕ) : Type 0 where

@@ -12,20 +12,25 @@ use Rattle.trace_lines.specs.declared.line.Span.{Span}
 use Rattle.trace_lines.specs.declared.line.Span.TheVariants.{Nothing, One, Blocks}
 use Rattle.trace_lines.specs.declared.line.LineKind.{LineKind}
 use Rattle.trace_lines.specs.declared.line.LineKind.TheVariants.{TooLong}
-use Rattle.trace_webcache.specs.Lines.{line_span}
+use Rattle.trace_webcache.specs.Lines as webcache
+use Rattle.trace_arc.specs.Lines as arc
+use Rattle.trace_msr.specs.Lines as msr
+use Rattle.trace_msr.specs.Lines.{Parts}
 use Rattle.trace_any.specs.declared.fault.TraceFault.{TraceFault}
 use Rattle.trace_any.specs.declared.fault.TraceFault.TheVariants.{BadLine, ReadFault, InputTooLong, TooManyRequests}
 use Rattle.trace_any.specs.declared.format.Format.{Format}
-use Rattle.trace_any.specs.declared.format.Format.TheVariants.{Webcache}
+use Rattle.trace_any.specs.declared.format.Format.TheVariants.{Webcache, Arc, Msr}
 use Rattle.trace_any.specs.declared.format.Limits.{Limits}
+use Rattle.trace_any.specs.Volumes.{Volume, volume_number, with_volume}
 
 -- the most requests and bytes that this program reads
 abbrev pub full_limits : Limits
 full_limits = record { requests = 2 ^ 25; bytes = 2 ^ 36 }
 
--- the requests so far, how many lines were dropped, how many lines there were and their bytes, and why the reading stopped, if it did
+-- the requests so far and the volumes of those that name one, how many lines were dropped, how many lines there were and their bytes, and why the reading stopped, if it did
 pub record Reading : Type 0 where
   pub requests : List Object
+  pub volumes : List Volume
   pub dropped : ℕ
   pub lines : ℕ
   pub bytes : ℕ
@@ -33,7 +38,7 @@ pub record Reading : Type 0 where
 
 -- before the first line
 abbrev pub nothing_read : Reading
-nothing_read = record { requests = []; dropped = 0; lines = 0; bytes = 0; refused = None }
+nothing_read = record { requests = []; volumes = []; dropped = 0; lines = 0; bytes = 0; refused = None }
 
 -- the reading stops
 abbrev pub stopped : Reading → TraceFault → Reading
@@ -50,25 +55,56 @@ requested most r volume first count size =
     let taken : Reading = record r { requests = r.requests ++ blocks volume first (min count room) size } in
     if nat_lt room count then stopped taken TooManyRequests else taken
 
+-- what a line asks for, and of which volume, where its form names volumes
+pub record Asked : Type 0 where
+  pub span : Span
+  pub volume : Option Volume
+
+-- what a line of a form without volumes asks for
+abbrev pub of_no_volume : Result Span LineKind → Result Asked LineKind
+of_no_volume (Ok span) = Ok (record { span = span; volume = None })
+of_no_volume (Err kind) = Err kind
+
+-- what a line of a form with volumes asks for
+abbrev pub of_volume : Result Parts LineKind → Result Asked LineKind
+of_volume (Ok parts) = Ok (record { span = parts.span; volume = Some (record { host = parts.host; disk = parts.disk }) })
+of_volume (Err kind) = Err kind
+
 -- what a line asks for, by the form of the trace
-abbrev pub asked : Format → List ℕ → Result Span LineKind
-asked Webcache text = line_span text
+abbrev pub asked : Format → List ℕ → Result Asked LineKind
+asked Webcache text = of_no_volume (webcache.line_span text)
+asked Arc text = of_no_volume (arc.line_span text)
+asked (Msr block) text = of_volume (msr.line_parts block text)
 
 -- what is asked for is something
-abbrev pub some_asked : Result Span LineKind → Result (Option Span) LineKind
-some_asked (Ok span) = Ok (Some span)
+abbrev pub some_asked : Result Asked LineKind → Result (Option Asked) LineKind
+some_asked (Ok what) = Ok (Some what)
 some_asked (Err kind) = Err kind
 
 -- what a text asks for, once a CR at its end is dropped; one without a word is skipped
-abbrev pub text_asked : Format → List ℕ → Result (Option Span) LineKind
+abbrev pub text_asked : Format → List ℕ → Result (Option Asked) LineKind
 text_asked format text = if is_blank (without_cr text) then Ok None else some_asked (asked format (without_cr text))
 
--- one more line asks for something, is dropped, or is refused
-abbrev pub taken_up : ℕ → Reading → Result (Option Span) LineKind → Reading
+-- the number of a volume after these, where one is named, and else 0
+abbrev pub number_of : List Volume → Option Volume → ℕ
+number_of volumes None = 0
+number_of volumes (Some v) = volume_number volumes v
+
+-- the volumes with the one that is named, if any
+abbrev pub noted : List Volume → Option Volume → List Volume
+noted volumes None = volumes
+noted volumes (Some v) = with_volume volumes v
+
+-- a line asks for nothing and is dropped, or for some blocks of its volume, which is noted
+abbrev pub spanned : ℕ → Reading → Option Volume → Span → Reading
+spanned most r volume Nothing = record r { dropped = r.dropped + 1 }
+spanned most r volume (One id size) = requested most (record r { volumes = noted r.volumes volume }) (number_of r.volumes volume) id 1 size
+spanned most r volume (Blocks first count size) = requested most (record r { volumes = noted r.volumes volume }) (number_of r.volumes volume) first count size
+
+-- one more line is skipped, asks for something or nothing, or is refused
+abbrev pub taken_up : ℕ → Reading → Result (Option Asked) LineKind → Reading
 taken_up most r (Ok None) = r
-taken_up most r (Ok (Some Nothing)) = record r { dropped = r.dropped + 1 }
-taken_up most r (Ok (Some (One id size))) = requested most r 0 id 1 size
-taken_up most r (Ok (Some (Blocks first count size))) = requested most r 0 first count size
+taken_up most r (Ok (Some what)) = spanned most r what.volume what.span
 taken_up most r (Err kind) = stopped r (BadLine r.lines kind)
 
 -- one more line, of a text and so many bytes, where the reading has not stopped
@@ -104,8 +140,8 @@ fault_of line.ReadFault = ReadFault
 fault_of (line.LineTooLong n) = BadLine n TooLong
 fault_of line.InputTooLong = InputTooLong
 
--- a request has a size, and a range has a block and ends below 2^64
-abbrev pub IsSpan : Span → Type 0
-IsSpan Nothing = Unit {0}
-IsSpan (One id size) = (1 ≤ size) × (size ≤ 2 ^ 48)
-IsSpan (Blocks first count size) = (1 ≤ count) × (first + count ≤ 2 ^ 64) × (1 ≤ size) × (size ≤ 2 ^ 48)
+-- the blocks of a form have from 1 to 2^48 bytes
+abbrev pub IsFormat : Format → Type 0
+IsFormat Webcache = Unit {0}
+IsFormat Arc = Unit {0}
+IsFormat (Msr block) = (1 ≤ block) × (block ≤ 2 ^ 48)

@@ -7,6 +7,11 @@ ghost use Rattle.trace_any.specs.Readings.{full_limits};
 pub enum Format {
     /// A line is a time, an id, a size in bytes, and any further words.
     Webcache,
+    /// A line is a first block, how many blocks, and any further words. A block has 512 bytes.
+    Arc,
+    /// A line is of fields with commas between them: a timestamp, a host, a disk, a type, an offset and a size in
+    /// bytes, and any further fields. Each block of this many bytes that it touches is a request.
+    Msr { block: u64 },
 }
 
 /// The most requests and the most bytes that a trace may have.

@@ -8,6 +8,8 @@ mod format;
 mod loading;
 mod progress;
 mod requests;
+mod volumes;
+mod wanted;
 
 pub use fault::TraceFault;
 pub use format::{Format, Limits};

@@ -2,17 +2,21 @@
 ghost use Rattle.std.specs.Prelude.{List, ℕ, ◌≡◌, ◌+◌, ◌≤◌, ◌<◌, ◌^◌, None, Some, Err, true, false, length, IfOk, IfErr, IfSome, IfNone, OnOk};
 ghost use Rattle.bound_io.specs.Causes.{Rose};
 ghost use Rattle.bound_io.specs.Reading.{LosesFront};
-ghost use Rattle.trace_any.specs.Readings.{IsSpan, text_asked};
+ghost use Rattle.std.specs.Option.{option_map};
+ghost use Rattle.trace_lines.specs.Lines.{IsSpan};
+ghost use Rattle.trace_any.specs.Readings.{IsFormat};
+ghost use Rattle.trace_any.specs.Readers.{ahead_by};
 
 use crate::fault::TraceFault;
 use crate::format::{Format, Limits};
+use crate::volumes::Volumes;
+use crate::wanted::{number_of, wanted_of};
 use bound_base::NoMemory;
 use bound_io::{LineReader, Source};
 use cache_rules::Object;
 use std::alloc::Global;
 use std::marker::Model;
-use trace_lines::{LineKind, Span, is_blank, trim_cr};
-use trace_webcache::parse;
+use trace_lines::Span;
 
 // The blocks of the last line whose requests are still to be given.
 #[derive(Clone, Copy)]
@@ -31,12 +35,14 @@ pub struct Progress {
     lines: LineReader,
     given: u32,
     dropped: u64,
+    volumes: Volumes,
     ahead: Range,
 }
 
 impl Model for Progress {
     ghost use Rattle.std.specs.Prelude.{◌≡◌, ◌≤◌, ◌^◌, ◌+◌, None, length};
     ghost use Rattle.trace_any.specs.Readers.{Reader};
+    ghost use Rattle.trace_any.specs.Readings.{IsFormat};
 
     ghost Value = { Reader };
 
@@ -46,35 +52,42 @@ impl Model for Progress {
       lines = r.lines;
       given = r.given;
       dropped = r.dropped;
+      volumes = r.volumes;
       ahead = record { volume = r.ahead.volume; first = r.ahead.first; count = r.ahead.count; size = r.ahead.size };
       fault = None;
     } };
 
     ghost invariant = { λ r.
-        (r.limits.requests ≤ 2 ^ 25) × (r.limits.bytes ≤ 2 ^ 36) × (r.lines.limit ≡ r.limits.bytes) × (r.lines.consumed ≤ r.limits.bytes)
-        × (r.lines.line ≤ r.lines.consumed) × (length r.lines.held ≤ 65536) × (r.given ≤ r.limits.requests) × (r.dropped ≤ r.lines.line)
+        IsFormat r.format × (r.limits.requests ≤ 2 ^ 25) × (r.limits.bytes ≤ 2 ^ 36) × (r.lines.limit ≡ r.limits.bytes) × (r.lines.consumed ≤ r.limits.bytes)
+        × (r.lines.line ≤ r.lines.consumed) × (length r.lines.held ≤ 65536) × (r.given ≤ r.limits.requests) × (r.dropped ≤ r.lines.line) × (length r.volumes ≤ r.given + 1) × (r.ahead.count ≡ 0 → length r.volumes ≤ r.given)
         × (1 ≤ r.ahead.count → (1 ≤ r.ahead.size) × (r.ahead.size ≤ 2 ^ 48) × (r.ahead.first + r.ahead.count ≤ 2 ^ 64)) };
 }
 
-// What the text of a line asks for, where it has a word.
-fn asked_of(format: Format, text: &[u8]) -> Result<Option<Span>, LineKind>
-    ensures asked { result ≡ text_asked format text.now }
-    ensures range { IfOk result (λ found. IfSome found IsSpan) }
+// The blocks that a line asks for, if any.
+fn range_of(volume: u32, span: Span) -> Option<Range>
+    requires { IsSpan span }
+    ensures ahead { option_map (λ r. record { volume = r.volume; first = r.first; count = r.count; size = r.size }) result ≡ ahead_by volume span }
+    ensures range { IfSome result (λ r. (1 ≤ r.count) × (1 ≤ r.size) × (r.size ≤ 2 ^ 48) × (r.first + r.count ≤ 2 ^ 64)) }
 {
-    let text = trim_cr(text);
-    if is_blank(text) {
-        return Ok(None);
-    }
-    match format {
-        Format::Webcache => Ok(Some(parse(text)?)),
-    }
+    let (first, count, size) = match span {
+        Span::Nothing => return None,
+        Span::One { id, size } => (id, 1, size),
+        Span::Blocks { first, count, size } => (first, count, size),
+    };
+    Some(Range {
+        volume,
+        first,
+        count,
+        size,
+    })
 }
 
 impl Progress {
-    ghost use Rattle.trace_any.specs.Readers.{GoesOn, IsOver, IsStopped, LineTaken, NextRequest, fresh, onto, to_come, told, with_span};
+    ghost use Rattle.trace_any.specs.Readers.{GoesOn, IsOver, IsStopped, LineTaken, NextRequest, fresh, onto, to_come, told};
 
     /// Nothing is read yet. The memory is taken here.
     pub fn new(alloc: Global, format: Format, limits: Limits) -> Result<Self, NoMemory>
+        requires format { IsFormat format }
         requires requests { limits.requests ≤ 2 ^ 25 }
         requires bytes { limits.bytes ≤ 2 ^ 36 }
         ensures { IfOk result (λ progress. progress ≡ fresh format limits) }
@@ -85,6 +98,7 @@ impl Progress {
             lines: LineReader::new(alloc, limits.bytes)?,
             given: 0,
             dropped: 0,
+            volumes: Volumes::new(alloc),
             ahead: Range {
                 volume: 0,
                 first: 0,
@@ -101,36 +115,8 @@ impl Progress {
         self.dropped
     }
 
-    // Keeps the blocks that a line asks for.
-    fn keep(&mut self, span: Span)
-        requires span { IsSpan span }
-        requires nothing_ahead { self.old.ahead.count ≡ 0 }
-        requires room { self.old.dropped < self.old.lines.line }
-        ensures { self.new ≡ with_span self.old span }
-    {
-        match span {
-            Span::Nothing => self.dropped += 1,
-            Span::One { id, size } => {
-                self.ahead = Range {
-                    volume: 0,
-                    first: id,
-                    count: 1,
-                    size,
-                };
-            }
-            Span::Blocks { first, count, size } => {
-                self.ahead = Range {
-                    volume: 0,
-                    first,
-                    count,
-                    size,
-                };
-            }
-        }
-    }
-
     // Takes up the next line, and says whether there was one.
-    fn take_line<S: Source>(&mut self, source: &mut S) -> Result<bool, TraceFault>
+    fn take_line<S: Source>(&mut self, alloc: Global, source: &mut S) -> Result<bool, TraceFault>
         requires no_fault { self.old.lines.fault ≡ None }
         requires nothing_ahead { self.old.ahead.count ≡ 0 }
         ensures still { (self.new.format ≡ self.old.format) × (self.new.limits ≡ self.old.limits) × (self.new.given ≡ self.old.given) }
@@ -144,8 +130,8 @@ impl Progress {
         let Some(text) = self.lines.next_line(source)? else {
             return Ok(false);
         };
-        let asked = match asked_of(self.format, text) {
-            Ok(asked) => asked,
+        let wanted = match wanted_of(self.format, text) {
+            Ok(wanted) => wanted,
             Err(kind) => {
                 return Err(TraceFault::BadLine {
                     line: self.lines.line(),
@@ -153,8 +139,13 @@ impl Progress {
                 });
             }
         };
-        if let Some(span) = asked {
-            self.keep(span);
+        if let Some(wanted) = wanted {
+            let span = wanted.span;
+            let volume = number_of(&mut self.volumes, alloc, &wanted)?;
+            match range_of(volume, span) {
+                Some(range) => self.ahead = range,
+                None => self.dropped += 1,
+            }
         }
         Ok(true)
     }
@@ -183,7 +174,11 @@ impl Progress {
     }
 
     /// Gives the next request, or None at the end.
-    pub fn find<S: Source>(&mut self, source: &mut S) -> Result<Option<Object>, TraceFault>
+    pub fn find<S: Source>(
+        &mut self,
+        alloc: Global,
+        source: &mut S,
+    ) -> Result<Option<Object>, TraceFault>
         requires no_fault { self.old.lines.fault ≡ None }
         ensures still { (self.new.format ≡ self.old.format) × (self.new.limits ≡ self.old.limits) }
         ensures no_fault { OnOk result (self.new.lines.fault ≡ None) }
@@ -195,7 +190,7 @@ impl Progress {
         ensures later { S.faults source.old ≤ S.faults source.new }
     {
         while self.ahead.count == 0 {
-            if !self.take_line(source)? {
+            if !self.take_line(alloc, source)? {
                 return Ok(None);
             }
         }

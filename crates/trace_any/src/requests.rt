@@ -1,6 +1,7 @@
 //! A reader of requests.
 ghost use Rattle.std.specs.Prelude.{◌≡◌, ◌≤◌, ◌^◌, None, Some, Err, IfOk, IfSome, OnOk, length};
 ghost use Rattle.bound_io.specs.Reading.{LosesFront};
+ghost use Rattle.trace_any.specs.Readings.{IsFormat};
 
 use crate::fault::TraceFault;
 use crate::format::{Format, Limits};
@@ -40,6 +41,7 @@ impl RequestReader {
 
     /// A reader of a trace of this form, within these limits, which takes its memory here.
     pub fn new(alloc: Global, format: Format, limits: Limits) -> Result<Self, NoMemory>
+        requires format { IsFormat format }
         requires requests { limits.requests ≤ 2 ^ 25 }
         requires bytes { limits.bytes ≤ 2 ^ 36 }
         ensures { IfOk result (λ reader. reader ≡ fresh format limits) }
@@ -60,7 +62,7 @@ impl RequestReader {
     /// The next request, or None at the end.
     pub fn next<S: Source>(
         &mut self,
-        _alloc: Global,
+        alloc: Global,
         source: &mut S,
     ) -> Result<Option<Object>, TraceFault>
         ensures next { self.old.fault ≡ None → NextRequest self.old self.new (told self.old (S.left source.old)) (told self.new (S.left source.new)) (S.faults source.old) (S.faults source.new) result }
@@ -75,7 +77,7 @@ impl RequestReader {
         if let Some(fault) = self.fault {
             return Err(fault);
         }
-        let found = self.progress.find(source);
+        let found = self.progress.find(alloc, source);
         if let Err(fault) = found {
             self.fault = Some(fault);
         }

@@ -1,5 +1,6 @@
 //! Requests over sources in memory. The expected requests and refusals were made by hand.
-ghost use Rattle.std.specs.Prelude.{◌≡◌, ◌≤◌, ◌^◌, None, Err};
+ghost use Rattle.std.specs.Prelude.{◌≡◌, ◌≤◌, ◌^◌, None, Err, All};
+ghost use Rattle.trace_any.specs.Readings.{IsFormat};
 
 use crate::fault::TraceFault;
 use crate::format::{Format, Limits};
@@ -14,27 +15,29 @@ use trace_lines::LineKind;
 
 const STEPS: [usize; 6] = [1, 2, 7, 65535, 65536, 65537];
 
-// A trace, the limits of its reading, the ids and sizes of the requests, and how it ends.
+// A form and a trace of it, the limits of its reading, the volumes, ids and sizes of the requests, and how it ends.
 #[derive(Clone, Copy)]
 struct Row<'a> {
+    format: Format,
     trace: &'a [u8],
     requests: u32,
     bytes: u64,
-    given: &'a [(u64, u64)],
+    given: &'a [(u32, u64, u64)],
     dropped: u64,
     end: Result<Option<Object>, TraceFault>,
 }
 
 const PAIR: Row<'static> = Row {
+    format: Format::Webcache,
     trace: b"1 7 4\n2 7 4\n",
     requests: 1000,
     bytes: 1000000,
-    given: &[(7, 4), (7, 4)],
+    given: &[(0, 7, 4), (0, 7, 4)],
     dropped: 0,
     end: Ok(None),
 };
 
-const ROWS: [Row<'static>; 13] = [
+const ROWS: [Row<'static>; 5] = [
     PAIR,
     Row {
         trace: b"1 7 4\r\n2 7 4",
@@ -54,17 +57,21 @@ const ROWS: [Row<'static>; 13] = [
         given: &[],
         ..PAIR
     },
+];
+
+// Traces that pass a limit, or have a line that is refused.
+const REFUSED_ROWS: [Row<'static>; 8] = [
     Row {
         trace: b"1 1 1\n2 2 1\n3 3 1\n4 x 1\n",
         requests: 2,
-        given: &[(1, 1), (2, 1)],
+        given: &[(0, 1, 1), (0, 2, 1)],
         end: Err(TraceFault::TooManyRequests),
         ..PAIR
     },
     Row {
         trace: b"1 1 1\n2 2 1\n",
         requests: 2,
-        given: &[(1, 1), (2, 1)],
+        given: &[(0, 1, 1), (0, 2, 1)],
         ..PAIR
     },
     Row {
@@ -76,20 +83,20 @@ const ROWS: [Row<'static>; 13] = [
     Row { bytes: 12, ..PAIR },
     Row {
         bytes: 11,
-        given: &[(7, 4)],
+        given: &[(0, 7, 4)],
         end: Err(TraceFault::InputTooLong),
         ..PAIR
     },
     Row {
         trace: b"1 7 4\n2 x 4\n",
         bytes: 11,
-        given: &[(7, 4)],
+        given: &[(0, 7, 4)],
         end: Err(TraceFault::InputTooLong),
         ..PAIR
     },
     Row {
         trace: b"1 18446744073709551615 281474976710656\n\n2 7 281474976710657\n",
-        given: &[(18446744073709551615, 281474976710656)],
+        given: &[(0, 18446744073709551615, 281474976710656)],
         end: Err(TraceFault::BadLine {
             line: 3,
             kind: LineKind::SizeTooLarge,
@@ -98,7 +105,7 @@ const ROWS: [Row<'static>; 13] = [
     },
     Row {
         trace: b"1 7 4\n5 7 0\n1 7\n",
-        given: &[(7, 4)],
+        given: &[(0, 7, 4)],
         dropped: 1,
         end: Err(TraceFault::BadLine {
             line: 3,
@@ -108,8 +115,123 @@ const ROWS: [Row<'static>; 13] = [
     },
 ];
 
+const ARC: Row<'static> = Row {
+    format: Format::Arc,
+    trace: b"10 3 0 1\n11 2 0 2\n",
+    given: &[
+        (0, 10, 512),
+        (0, 11, 512),
+        (0, 12, 512),
+        (0, 11, 512),
+        (0, 12, 512),
+    ],
+    ..PAIR
+};
+
+const ARC_ROWS: [Row<'static>; 5] = [
+    ARC,
+    Row {
+        trace: b"0 18446744073709551615 0 1\n",
+        requests: 3,
+        given: &[(0, 0, 512), (0, 1, 512), (0, 2, 512)],
+        end: Err(TraceFault::TooManyRequests),
+        ..ARC
+    },
+    Row {
+        trace: b"18446744073709551615 1\r\n7 0\n\n18446744073709551615 2 0 1\n",
+        given: &[(0, 18446744073709551615, 512)],
+        dropped: 1,
+        end: Err(TraceFault::BadLine {
+            line: 4,
+            kind: LineKind::BadRange,
+        }),
+        ..ARC
+    },
+    Row {
+        trace: b"x 0\n",
+        given: &[],
+        end: Err(TraceFault::BadLine {
+            line: 1,
+            kind: LineKind::BadNumber { word: 1 },
+        }),
+        ..ARC
+    },
+    Row {
+        trace: b"10",
+        given: &[],
+        end: Err(TraceFault::BadLine {
+            line: 1,
+            kind: LineKind::TooFewWords,
+        }),
+        ..ARC
+    },
+];
+
+const MSR: Row<'static> = Row {
+    format: Format::Msr { block: 4096 },
+    trace: b"1,h,0,read,0,4096,9\n2,h,1,WRITE,0,4096\n3,h,0,Read,0,0,9\n",
+    given: &[(1, 0, 4096), (2, 0, 4096)],
+    dropped: 1,
+    ..PAIR
+};
+
+const MSR_ROWS: [Row<'static>; 6] = [
+    MSR,
+    Row {
+        trace: b"9,g,7,Read,5,0,9\n1,h,0,Read,4095,2,9\n2,,0,Read,8192,1\n3,h,0,Read,0,1,9",
+        given: &[(1, 0, 4096), (1, 1, 4096), (2, 2, 4096), (1, 0, 4096)],
+        ..MSR
+    },
+    Row {
+        trace: b"128166372003061629,usr,0,Read,7014609920,24576,41286\n",
+        given: &[
+            (1, 1712551, 4096),
+            (1, 1712552, 4096),
+            (1, 1712553, 4096),
+            (1, 1712554, 4096),
+            (1, 1712555, 4096),
+            (1, 1712556, 4096),
+            (1, 1712557, 4096),
+        ],
+        dropped: 0,
+        ..MSR
+    },
+    Row {
+        trace: b"1,h,0,Trim,0,512,1\n",
+        given: &[],
+        dropped: 0,
+        end: Err(TraceFault::BadLine {
+            line: 1,
+            kind: LineKind::BadType,
+        }),
+        ..MSR
+    },
+    Row {
+        trace: b" \n1,\"h\",0,Read,0,512,1\n",
+        given: &[],
+        dropped: 0,
+        end: Err(TraceFault::BadLine {
+            line: 2,
+            kind: LineKind::QuoteByte,
+        }),
+        ..MSR
+    },
+    Row {
+        format: Format::Msr { block: 1 },
+        trace: b"1,h,0,Read,18446744073709551614,2\n1,h,0,Read,18446744073709551615,2",
+        given: &[(1, 18446744073709551614, 1), (1, 18446744073709551615, 1)],
+        dropped: 0,
+        end: Err(TraceFault::BadLine {
+            line: 2,
+            kind: LineKind::BadRange,
+        }),
+        ..MSR
+    },
+];
+
 // The requests of the row, however its bytes are cut, and the end of it twice.
 fn check(rt: &impl Abort, alloc: Global, row: &Row<'_>) -> Result<(), Fail>
+    requires format { IsFormat row.now.format }
     requires requests { row.now.requests ≤ 2 ^ 25 }
     requires bytes { row.now.bytes ≤ 2 ^ 36 }
 {
@@ -119,10 +241,10 @@ fn check(rt: &impl Abort, alloc: Global, row: &Row<'_>) -> Result<(), Fail>
     };
     for step in STEPS {
         let mut source = MemSource::new(row.trace.to_vec(alloc)?, Vec::new(alloc), step);
-        let mut reader = RequestReader::new(alloc, Format::Webcache, limits)?;
-        for (id, size) in row.given {
+        let mut reader = RequestReader::new(alloc, row.format, limits)?;
+        for (volume, id, size) in row.given {
             let object = Object {
-                volume: 0,
+                volume: *volume,
                 id: *id,
                 size: *size,
             };
@@ -139,14 +261,30 @@ fn check(rt: &impl Abort, alloc: Global, row: &Row<'_>) -> Result<(), Fail>
     Ok(())
 }
 
-#[test]
-fn gives_the_requests_of_the_bytes(rt: HostRuntime) -> Result<(), Fail> {
-    for row in ROWS {
-        if row.requests <= 1000 && row.bytes <= 1000000 {
-            check(&rt, rt.alloc(), &row)?;
-        }
+// The rows of a form.
+fn check_all(rt: &impl Abort, alloc: Global, rows: &[Row<'_>]) -> Result<(), Fail>
+    requires { All (λ row. IsFormat row.format × (row.requests ≤ 2 ^ 25) × (row.bytes ≤ 2 ^ 36)) rows.now }
+{
+    for row in rows {
+        check(rt, alloc, row)?;
     }
     Ok(())
+}
+
+#[test]
+fn gives_the_requests_of_webcache_lines(rt: HostRuntime) -> Result<(), Fail> {
+    check_all(&rt, rt.alloc(), &ROWS)?;
+    check_all(&rt, rt.alloc(), &REFUSED_ROWS)
+}
+
+#[test]
+fn gives_a_request_for_each_block_of_arc_lines(rt: HostRuntime) -> Result<(), Fail> {
+    check_all(&rt, rt.alloc(), &ARC_ROWS)
+}
+
+#[test]
+fn numbers_the_volumes_of_msr_lines(rt: HostRuntime) -> Result<(), Fail> {
+    check_all(&rt, rt.alloc(), &MSR_ROWS)
 }
 
 #[test]
@@ -159,7 +297,7 @@ fn a_long_line_is_refused_before_its_bytes_are_counted(rt: HostRuntime) -> Resul
     let row = Row {
         trace: &trace,
         bytes: 100,
-        given: &[(7, 4)],
+        given: &[(0, 7, 4)],
         end: Err(TraceFault::BadLine {
             line: 2,
             kind: LineKind::TooLong,

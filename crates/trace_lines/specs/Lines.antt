@@ -1,6 +1,8 @@
--- The words and the fields of a line.
-use Rattle.std.specs.Prelude.{ℕ, ◌-◌, List, length, take, filter, slice_index_or, ◌==◌, Bool, not, ◌||◌, if◌then◌else◌}
+-- The words and the fields of a line, and what it may ask for.
+use Rattle.std.specs.Prelude.{ℕ, ◌+◌, ◌-◌, ◌^◌, ◌≤◌, List, length, take, filter, slice_index_or, ◌==◌, Bool, not, ◌||◌, if◌then◌else◌}
 use Rattle.std.specs.List.{list_all, slice_split}
+use Rattle.trace_lines.specs.declared.line.Span.{Span}
+use Rattle.trace_lines.specs.declared.line.Span.TheVariants.{Nothing, One, Blocks}
 
 -- a space or a tab
 abbrev pub is_gap : ℕ → Bool
@@ -21,3 +23,9 @@ without_cr text = if slice_index_or text (length text - 1) 0 == 13 then take (le
 -- a line of nothing but spaces and tabs, or of nothing at all
 abbrev pub is_blank : List ℕ → Bool
 is_blank line = list_all is_gap line
+
+-- a request has a size, and a range has a block and ends below 2^64
+abbrev pub IsSpan : Span → Type 0
+IsSpan Nothing = Unit {0}
+IsSpan (One id size) = (1 ≤ size) × (size ≤ 2 ^ 48)
+IsSpan (Blocks first count size) = (1 ≤ count) × (first + count ≤ 2 ^ 64) × (1 ≤ size) × (size ≤ 2 ^ 48)

@@ -15,6 +15,16 @@ fn cut_at_comma(text: &[u8]) -> Option<(&[u8], &[u8])>
     Some((first, rest))
 }
 
+/// The first field, and what stands after its comma where it has one. Takes time in the length of the field.
+pub fn first_field(line: &[u8]) -> (&[u8], Option<&[u8]>)
+    ensures { MatchOption result.1 (fields line.now ≡ result.0.now ∷ []) (λ rest. fields line.now ≡ result.0.now ∷ fields rest.now) }
+{
+    match cut_at_comma(line) {
+        Some((first, rest)) => (first, Some(rest)),
+        None => (line, None),
+    }
+}
+
 /// The field with this number, counted from 1, or None where there are fewer. Empty fields count. Takes time in the
 /// bytes up to its end.
 pub fn field(line: &[u8], number: usize) -> Option<&[u8]>
@@ -55,6 +65,22 @@ mod tests {
         ];
         for (line, number, found) in rows {
             assert_eq!(rt; field(line, number), found, "field {number} of {line:?}");
+        }
+    }
+
+    #[test]
+    fn takes_the_first_field_off(rt: HostRuntime) {
+        let rows: [(&[u8], (&[u8], Option<&[u8]>)); 7] = [
+            (b"1,7,4", (b"1", Some(b"7,4"))),
+            (b" a\t,b", (b" a\t", Some(b"b"))),
+            (b",a", (b"", Some(b"a"))),
+            (b",,", (b"", Some(b","))),
+            (b"12,", (b"12", Some(b""))),
+            (b"12", (b"12", None)),
+            (b"", (b"", None)),
+        ];
+        for (line, parts) in rows {
+            assert_eq!(rt; first_field(line), parts, "at {line:?}");
         }
     }
 }

@@ -8,7 +8,7 @@ mod gaps;
 mod last;
 mod line;
 
-pub use commas::field;
+pub use commas::{field, first_field};
 pub use gaps::{first_word, is_blank, word};
 pub use last::trim_cr;
 pub use line::{LineKind, Span};

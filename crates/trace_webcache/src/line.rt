@@ -1,6 +1,6 @@
 //! What a line asks for.
-ghost use Rattle.std.specs.Prelude.{◌≡◌, ◌≤◌, ◌↔◌, [], length, slice_index_or, IsSome, IfSome};
-ghost use Rattle.trace_lines.specs.Lines.{words};
+ghost use Rattle.std.specs.Prelude.{◌≡◌, ◌≤◌, ◌↔◌, [], length, slice_index_or, IsSome, IfSome, IfOk};
+ghost use Rattle.trace_lines.specs.Lines.{words, IsSpan};
 ghost use Rattle.trace_webcache.specs.Lines.{line_span};
 
 use bound_base::read_u64;
@@ -24,7 +24,8 @@ fn id_and_size(line: &[u8]) -> Option<(&[u8], &[u8])>
 /// What the line asks for, or why it is refused. The text is without its end of line, and without a CR there. Takes
 /// time in the bytes up to the end of the third word.
 pub fn parse(line: &[u8]) -> Result<Span, LineKind>
-    ensures { result ≡ line_span line.now }
+    ensures span { result ≡ line_span line.now }
+    ensures range { IfOk result (λ s. IsSpan s) }
 {
     let Some((id, size)) = id_and_size(line) else {
         return Err(LineKind::TooFewWords);

@@ -6,6 +6,6 @@ use Rattle.bound_io.proofs.writing.write_all.Goals as goal
 pub loop-at-preserved : goal.loop-at-preserved
 loop-at-preserved g c = record {
   within = omega (arith, c.in_ok-at.ensures.bound);
-  so_far = appends_more _ _ _ _ _ _ c.loop-at.invariant.within c.loop-at.invariant.so_far (rw take_rest at c.in_ok-at.ensures.bytes);
+  so_far = appends_more _ _ _ _ _ _ c.loop-at.invariant.so_far (rw take_rest at c.in_ok-at.ensures.bytes);
   later = omega (arith, c.write.ensures.cause.later);
 }

@@ -29,4 +29,11 @@ returns-clause-within g c =
     let line : c.min-line.result ≡ min (length c.find_text.new.self) (c.in-Ok.text + 1) = omega (arith, c.min-line.ensures, c.len.ensures.len) in
     let short : c.in-Ok.text ≤ length c.find_text.new.self = omega (arith, c.in-Ok.ensures.text, text_len-le c.find_text.new.self) in
     let room : c.args.self.now.consumed + c.min-line.result ≤ c.args.self.now.limit = omega (arith, c.if-line-self.false, ap (λ p. p.limit) c.self.view_is, ap (λ p. p.consumed) c.self.view_is, c.self.invariant) in
-    (omega (arith, line, short), omega (arith, line), omega (arith, line), omega (arith, c.if-text-gt-MOST_TEXT.false), room, λ none. omega (arith, line, none))
+    record {
+      in_line = omega (arith, line, short);
+      one_lf = omega (arith, line);
+      in_held = omega (arith, line);
+      short = omega (arith, c.if-text-gt-MOST_TEXT.false);
+      within = room;
+      none = λ empty. omega (arith, line, empty);
+    }

@@ -15,7 +15,7 @@ returns-clause-given c =
     let next = c.saturating_add-self-inside.result in
     let room : self.given < self.limits.requests = omega (arith, c.if-self.false, c.self.invariant, ap (λ r. r.given) is, ap (λ r. r.limits.requests) is) in
     let some : 0 < c.self.inside.ahead.count = omega (arith, c.requires.some, ap (λ r. r.ahead.count) is) in
-    let range = c.self.invariant.8 some in
+    let range = c.self.invariant.11 some in
     let follows : 1 < self.ahead.count → next ≡ self.ahead.first + 1 = λ more. omega (arith, more, c.saturating_add-self-inside.ensures, range.2, ap (λ r. r.ahead.first) is, ap (λ r. r.ahead.count) is) in (
       ap (λ r. r.given + 1) is,
       λ bytes. gives_block self next bytes room (c.requires.some) follows ∙ ap (λ r. onto (record { volume = r.ahead.volume; id = r.ahead.first; size = r.ahead.size }) (to_come (with_given r next) bytes)) (sym is),

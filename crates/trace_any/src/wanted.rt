@@ -1,0 +1,72 @@
+//! What a line asks for, by the form of the trace.
+ghost use Rattle.std.specs.Prelude.{◌≡◌, ◌+◌, ◌≤◌, ◌^◌, None, Some, length, IfOk, IfSome, OnOk, OnErr};
+ghost use Rattle.trace_any.specs.Readers.{noted_by, number_by};
+ghost use Rattle.trace_any.specs.Readings.{IsFormat, text_asked};
+ghost use Rattle.trace_lines.specs.Lines.{IsSpan};
+ghost use Rattle.trace_any.specs.Wanted.{answer_of, volume_of};
+
+use crate::format::Format;
+use crate::volumes::Volumes;
+use bound_base::NoMemory;
+use std::alloc::Global;
+use trace_lines::{LineKind, Span, is_blank, trim_cr};
+use trace_msr::MsrLine;
+
+/// What a line asks for, and the host and the disk of its volume, where its form names volumes.
+#[derive(Clone, Copy)]
+pub struct Wanted<'a> {
+    pub span: Span,
+    pub volume: Option<(&'a [u8], u64)>,
+}
+
+// What a line of a form without volumes asks for.
+fn of_no_volume(span: Span) -> Wanted<'static>
+    ensures { result ≡ record { span = span; volume = None } }
+{
+    Wanted { span, volume: None }
+}
+
+// What a line of a form with volumes asks for.
+fn of_volume(line: MsrLine<'_>) -> Wanted<'_>
+    ensures span { result.span ≡ line.entry.span }
+    ensures volume { volume_of result.volume ≡ Some (record { host = line.entry.host.now; disk = line.entry.disk }) }
+{
+    Wanted {
+        span: line.span,
+        volume: Some((line.host, line.disk)),
+    }
+}
+
+/// What the text of a line asks for, where it has a word.
+pub fn wanted_of(format: Format, text: &[u8]) -> Result<Option<Wanted<'_>>, LineKind>
+    requires { IsFormat format }
+    ensures asked { answer_of result ≡ text_asked format text.now }
+    ensures range { IfOk result (λ found. IfSome found (λ wanted. IsSpan wanted.span)) }
+{
+    let text = trim_cr(text);
+    if is_blank(text) {
+        return Ok(None);
+    }
+    match format {
+        Format::Webcache => Ok(Some(of_no_volume(trace_webcache::parse(text)?))),
+        Format::Arc => Ok(Some(of_no_volume(trace_arc::parse(text)?))),
+        Format::Msr { block } => Ok(Some(of_volume(trace_msr::parse(text, block)?))),
+    }
+}
+
+/// The number of the volume of a line, which is 0 where it names none or asks for nothing.
+pub fn number_of(volumes: &mut Volumes, alloc: Global, wanted: &Wanted<'_>) -> Result<u32, NoMemory>
+    requires few { length volumes.old ≤ 2 ^ 25 }
+    ensures number { IfOk result (λ n. n ≡ number_by wanted.now.span volumes.old (volume_of wanted.now.volume)) }
+    ensures volumes { OnOk result (volumes.new ≡ noted_by wanted.now.span volumes.old (volume_of wanted.now.volume)) }
+    ensures err { OnErr result (volumes.new ≡ volumes.old) }
+    ensures most { length volumes.new ≤ length volumes.old + 1 }
+{
+    if wanted.span == Span::Nothing {
+        return Ok(0);
+    }
+    match wanted.volume {
+        Some((host, disk)) => volumes.number(alloc, host, disk),
+        None => Ok(0),
+    }
+}

@@ -1,0 +1,10 @@
+//! One line of an MSR trace: a host, a disk and a range of bytes.
+//!
+//! The rule is "A line of an MSR trace" in docs/DEFINITIONS.md.
+#![tactic(auto)]
+
+mod blocks;
+mod line;
+mod used;
+
+pub use line::{MsrLine, parse};
