@@ -19,6 +19,15 @@ const WORDS: [&str; 6] = [
     "mode=infinite",
 ];
 
+const MSR_WORDS: [&str; 6] = [
+    "bounds",
+    "t",
+    "c",
+    "format=msr",
+    "capacity=12288",
+    "mode=infinite",
+];
+
 const PAIR: &[u8] = b"1 7 4\n2 7 4\n";
 
 const PAIR_CERT: &[u8] =
@@ -355,6 +364,82 @@ denominator 1\nform plain\nupper 0\nflow 0\nlower 0\nrecords\n0 0 0\nend\n",
     },
 ];
 
+// Block traces, and the lines of them that are refused.
+const BLOCK_ROWS: [Row<'static>; 5] = [
+    Row {
+        shows: "ranges of blocks",
+        words: &[
+            "bounds",
+            "t",
+            "c",
+            "format=arc",
+            "capacity=1024",
+            "mode=infinite",
+        ],
+        trace: b"10 3 0 1\n11 2 0 2\n",
+        report: b"trace requests 5 objects 3 dropped 0\ncapacity 1024 objective object\n\
+mode infinite form plain\nunit 512 units 2 denominator 1\nintervals 2\nupper 2/1 floor 2\nflow 0/1\nlower 2\n",
+        made: b"cache-bound-certificate 1\nobjective object\ncapacity 1024\nrequests 5\nunit 512\n\
+denominator 1\nform plain\nupper 2\nflow 0\nlower 2\nrecords\n0 0 0\n0 1 0\n0 1 0\n0 0 0\n0 0 0\nend\n",
+        ..GOOD
+    },
+    Row {
+        shows: "the blocks of two reads, of the usual size",
+        words: &MSR_WORDS,
+        trace: b"128166372003061629,usr,0,Read,7014609920,24576,41286\n\
+128166372003061629,usr,0,Read,7014609920,24576,41286\n",
+        report: b"trace requests 14 objects 7 dropped 0\ncapacity 12288 objective object\n\
+mode infinite form plain\nunit 4096 units 3 denominator 1\nintervals 7\nupper 7/1 floor 7\nflow 0/1\nlower 3\n",
+        made: b"cache-bound-certificate 1\nobjective object\ncapacity 12288\nrequests 14\nunit 4096\n\
+denominator 1\nform plain\nupper 7\nflow 0\nlower 3\nrecords\n0 1 0\n0 1 0\n0 1 0\n0 0 0\n0 0 0\n0 0 0\n\
+0 0 0\n0 0 0\n0 0 0\n0 0 0\n0 0 0\n0 0 0\n0 0 0\n0 0 0\nend\n",
+        ..GOOD
+    },
+    Row {
+        shows: "a range past the last block",
+        words: &[
+            "bounds",
+            "t",
+            "c",
+            "format=arc",
+            "capacity=1024",
+            "mode=infinite",
+        ],
+        trace: b"18446744073709551615 2 0 1\n",
+        status: Status::BadLine {
+            line: 1,
+            kind: LineKind::BadRange,
+        },
+        report: b"bad line 1: block range\n",
+        made: b"",
+        ..GOOD
+    },
+    Row {
+        shows: "a type that is none",
+        words: &MSR_WORDS,
+        trace: b"1,h,0,Trim,0,512,1\n",
+        status: Status::BadLine {
+            line: 1,
+            kind: LineKind::BadType,
+        },
+        report: b"bad line 1: type\n",
+        made: b"",
+        ..GOOD
+    },
+    Row {
+        shows: "a quote",
+        words: &MSR_WORDS,
+        trace: b"1,\"h\",0,Read,0,512,1\n",
+        status: Status::BadLine {
+            line: 1,
+            kind: LineKind::QuoteByte,
+        },
+        report: b"bad line 1: quote\n",
+        made: b"",
+        ..GOOD
+    },
+];
+
 fn words_of(alloc: Global, words: &[&str]) -> Result<Vec<String>, AllocError> {
     let mut all = Vec::new(alloc);
     for word in words {
@@ -388,12 +473,26 @@ fn check_at(rt: &impl Abort, alloc: Global, row: &Row<'_>, step: usize) -> Resul
     Ok(())
 }
 
+// The same, however the bytes of the trace are cut.
+fn check_steps(rt: &impl Abort, alloc: Global, row: &Row<'_>) -> Result<(), Fail> {
+    for step in [1, 2, 7, 65535, 65536, 65537] {
+        check_at(rt, alloc, row, step)?;
+    }
+    Ok(())
+}
+
 #[test]
 fn traces_are_read_or_refused_at_their_line(rt: HostRuntime) -> Result<(), Fail> {
     for row in &TRACE_ROWS {
-        for step in [1, 2, 7, 65535, 65536, 65537] {
-            check_at(&rt, rt.alloc(), row, step)?;
-        }
+        check_steps(&rt, rt.alloc(), row)?;
+    }
+    Ok(())
+}
+
+#[test]
+fn block_traces_are_read_or_refused_at_their_line(rt: HostRuntime) -> Result<(), Fail> {
+    for row in &BLOCK_ROWS {
+        check_steps(&rt, rt.alloc(), row)?;
     }
     Ok(())
 }

@@ -412,7 +412,7 @@ mod tests {
     }
 
     #[test]
-    fn takes_three_operands_or_four(rt: HostRuntime) -> Result<(), Fail> {
+    fn takes_what_is_required_and_what_is_not(rt: HostRuntime) -> Result<(), Fail> {
         let (object, bytes) = (Objective::Object, Objective::Bytes);
         let rows: [(&str, u64, Objective); 6] = [
             ("format=webcache capacity=1 mode=infinite", 1, object),

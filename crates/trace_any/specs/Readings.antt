@@ -27,7 +27,7 @@ use Rattle.trace_any.specs.Volumes.{Volume, volume_number, with_volume}
 abbrev pub full_limits : Limits
 full_limits = record { requests = 2 ^ 25; bytes = 2 ^ 36 }
 
--- the requests so far and the volumes of those that name one, how many lines were dropped, how many lines there were and their bytes, and why the reading stopped, if it did
+-- the requests so far, the volumes named by lines that ask for one, how many lines were dropped, how many lines there were and their bytes, and why the reading stopped, if it did
 pub record Reading : Type 0 where
   pub requests : List Object
   pub volumes : List Volume

@@ -10,7 +10,7 @@ pub enum Format {
     /// A line is a first block, how many blocks, and any further words. A block has 512 bytes.
     Arc,
     /// A line is of fields with commas between them: a timestamp, a host, a disk, a type, an offset and a size in
-    /// bytes, and any further fields. Each block of this many bytes that it touches is a request.
+    /// bytes, and any further fields. Each block of this many bytes, from 1 to 2^48, that it touches is a request.
     Msr { block: u64 },
 }
 

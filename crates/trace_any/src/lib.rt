@@ -1,6 +1,6 @@
 //! The requests of a source: its lines in the form of a trace, whatever the pieces in which they come.
 //!
-//! The rules are "A line of a trace" and "The reading of a trace" in docs/DEFINITIONS.md.
+//! The rules are "A line of a trace", "The reading of a trace", "Volume" and "What is to come" in docs/DEFINITIONS.md.
 #![tactic(auto)]
 
 mod fault;

@@ -11,7 +11,7 @@ use std::alloc::Global;
 
 /// The trace of all that the reader has still to give, and how many lines of it were dropped in all.
 ///
-/// It takes memory for the requests and the different objects, and none for the text.
+/// It takes memory for the requests, the different objects and the hosts of the volumes, and none for the text.
 pub fn load<S: Source>(
     alloc: Global,
     reader: &mut RequestReader,

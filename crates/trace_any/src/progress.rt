@@ -85,7 +85,7 @@ fn range_of(volume: u32, span: Span) -> Option<Range>
 impl Progress {
     ghost use Rattle.trace_any.specs.Readers.{GoesOn, IsOver, IsStopped, LineTaken, NextRequest, fresh, onto, to_come, told};
 
-    /// Nothing is read yet. The memory is taken here.
+    /// Nothing is read yet. The buffer is taken here.
     pub fn new(alloc: Global, format: Format, limits: Limits) -> Result<Self, NoMemory>
         requires format { IsFormat format }
         requires requests { limits.requests ≤ 2 ^ 25 }

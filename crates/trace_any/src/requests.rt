@@ -39,7 +39,8 @@ impl Model for RequestReader {
 impl RequestReader {
     ghost use Rattle.trace_any.specs.Readers.{NextRequest, err_of, fresh, told};
 
-    /// A reader of a trace of this form, within these limits, which takes its memory here.
+    /// A reader of a trace of this form, within these limits. It takes its buffer here, and later memory for each
+    /// volume alone.
     pub fn new(alloc: Global, format: Format, limits: Limits) -> Result<Self, NoMemory>
         requires format { IsFormat format }
         requires requests { limits.requests ≤ 2 ^ 25 }

@@ -49,7 +49,7 @@ abbrev pub parts_of : List ℕ → Result ℕ NumFault → Bool → Result Span 
 parts_of host (Err fault) known asked = Err (BadNumber 3)
 parts_of host (Ok disk) known asked = if known then with_span host disk asked else Err BadType
 
--- the parts of a line without a quote: its second field is the host, its third the disk, its fourth the type, its fifth the offset and its sixth the size in bytes, and the first and any further fields are not looked at
+-- the parts of a line, which has no quote: its second field is the host, its third the disk, its fourth the type, its fifth the offset and its sixth the size in bytes, and the first and any further fields are not looked at
 abbrev pub line_parts : ℕ → List ℕ → Result Parts LineKind
 line_parts block line =
     let cells = fields line in
