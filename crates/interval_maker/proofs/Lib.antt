@@ -1,0 +1,4 @@
+pub mod Starting
+pub mod Places
+pub mod Timelines
+pub mod Made
