@@ -1,4 +1,7 @@
 //! What a certificate states.
+ghost use Rattle.std.specs.Prelude.{◌↔◌, IsTrue};
+ghost use Rattle.cache_model.specs.Certificates.{IsHeaderInRange, IsRecordInRange};
+
 use crate::objects::Objective;
 
 /// The head of a certificate. The upper bound and the flow value are numerators over the denominator.
@@ -15,6 +18,22 @@ pub struct Header {
     pub lower: u128,
 }
 
+impl Header {
+    /// Whether each number is in the range that the text of a certificate has for it.
+    pub fn in_range(&self) -> bool
+        ensures { IsTrue result ↔ IsHeaderInRange self.now }
+    {
+        let counts = self.requests <= 1 << 25
+            && (1..=1 << 56).contains(&self.capacity)
+            && (1..=self.capacity).contains(&self.unit)
+            && (1..=1 << 48).contains(&self.denominator);
+        counts
+            && [self.upper, self.flow, self.lower]
+                .iter()
+                .all(|value| *value < 1 << 127)
+    }
+}
+
 /// What a certificate says of one request: the price of its step, whether its object is kept, and the
 /// flow of the interval that starts there.
 #[derive(Clone, Copy, Debug, PartialEq, Eq)]
@@ -22,4 +41,13 @@ pub struct Record {
     pub price: u128,
     pub keep: bool,
     pub flow: u64,
+}
+
+impl Record {
+    /// Whether the price and the flow are in the ranges that the text of a certificate has for them.
+    pub fn in_range(&self) -> bool
+        ensures { IsTrue result ↔ IsRecordInRange self.now }
+    {
+        self.price <= 1 << 126 && self.flow <= 1 << 48
+    }
 }
