@@ -69,6 +69,8 @@ fn sums_no_further_than_the_limit(rt: HostRuntime) -> Result<(), Fail> {
 #[test]
 fn bounds_and_values_are_over_the_denominator(rt: HostRuntime) -> Result<(), Fail> {
     let intervals = intervals_of(&rt, rt.alloc(), &[2, 3, 2, 3], Objective::Object)?;
+    assert_eq!(rt; intervals.steps(), 4);
+    assert_eq!(rt; intervals.as_slice().len(), 2);
     let exact = denominator_for(&intervals, 1, DenominatorChoice::Exact);
     assert_eq!(rt; exact.map(|d| (d.value, d.exact)), Ok((6, true)));
     let given = denominator_for(&intervals, 1, DenominatorChoice::Given(4));
