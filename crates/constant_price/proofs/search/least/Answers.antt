@@ -1,0 +1,17 @@
+use Rattle.std.proofs.Common.{◌≡◌, ◌-◌, ◌*◌, ap, ◌∙◌, arith}
+use Rattle.constant_price.specs.Constants.{IsLeastConstant}
+use Rattle.constant_price.proofs.Bounds.{least_found, sum-within}
+use Rattle.constant_price.proofs.search.least.Goals as goal
+
+-- the price that the search finds
+found : (c : goal.After-least_within) → IsLeastConstant c.args.intervals.now c.args.unit c.args.units c.args.denominator c.least_within.result
+found c =
+    let grown : c.from.result * c.from-2.result ≡ c.args.units * (c.args.intervals.now.steps - 1) = cc in
+    least_found c.args.intervals.now c.args.unit c.args.units c.args.denominator c.least_within.result (c.from.result * c.from-2.result) c.as_slice.result.now c.as_slice.ensures.timeline c.as_slice.ensures.items grown c.least_within.ensures.within c.least_within.ensures.first
+
+pub returns-clause-least : goal.returns-clause-least
+returns-clause-least c = found c
+
+pub returns-clause-sum : goal.returns-clause-sum
+returns-clause-sum c =
+    sum-within c.args.intervals.now c.args.unit c.args.units c.args.denominator c.least_within.result (omega arith) c.as_slice.ensures.timeline (found c)
