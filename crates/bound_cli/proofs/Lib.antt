@@ -1,10 +1,8 @@
 pub mod LineByLine
-pub mod Starting
-pub mod Taken
-pub mod Written
-pub mod Divisors
+pub mod ByStart
 pub mod Outcomes
 pub mod Records
+pub mod Flowless
 pub mod MadeOf
-pub mod Operands
+pub mod GivenByName
 pub mod WordRows

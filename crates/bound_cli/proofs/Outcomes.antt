@@ -1,5 +1,5 @@
 -- How a run ends, from how its parts end.
-use Rattle.std.proofs.Common.{◌≡◌, ◌∙◌, ℕ, ◌≤◌, refl, sym, ap, arith, length, length-append, List, [], ◌++◌, Ok, Err, Some, None, IfSome}
+use Rattle.std.proofs.Common.{◌≡◌, ◌∙◌, ℕ, ◌≤◌, refl, sym, ap, subst, inl, inr, arith, length, length-append, List, [], ◌++◌, Ok, Err, Some, None, IfSome}
 use Rattle.std.specs.declared.option.Option.{Option}
 use Rattle.std.specs.Option.{is_some, unwrap_or}
 use Rattle.std.proofs.lemmas.Bool.{false≢true}
@@ -15,17 +15,22 @@ use Rattle.trace_any.specs.declared.format.Format.{Format}
 use Rattle.trace_any.specs.Readings.{reading, full_limits}
 use Rattle.trace_any.specs.Readers.{IsNotLoaded, IsWhole, fresh, to_come, told}
 use Rattle.trace_any.proofs.Coming.{fresh_to_come}
-use Rattle.bound_cli.specs.declared.words.Plan.TheVariants.{Bounds}
+use Rattle.bound_cli.specs.declared.bounds.Asked.{Asked}
+use Rattle.bound_cli.specs.declared.bounds.BoundsFault.{BoundsFault}
+use Rattle.bound_cli.specs.declared.bounds.BoundsFault.TheVariants as bounds
+use Rattle.bound_cli.specs.BoundsFaults.{FailsBounds}
+use Rattle.bound_cli.specs.Made.{AreTexts, RefusesDenominator}
+use Rattle.bound_cli.specs.declared.words.Plan.{Plan}
 use Rattle.bound_cli.specs.declared.status.Status.{Status}
 use Rattle.bound_cli.specs.declared.status.Status.TheVariants.{Done, Words, BadLine, Limit, TraceFault, ReportFault, MadeFault, NoMemory}
-use Rattle.bound_cli.specs.declared.refusal.LimitName.TheVariants.{Requests, TraceBytes}
+use Rattle.bound_cli.specs.declared.refusal.LimitName.TheVariants.{Requests, TraceBytes, Denominator}
 use Rattle.bound_cli.specs.declared.refusal.Refusal.{Refusal}
 use Rattle.bound_cli.specs.declared.refusal.Refusal.TheVariants as refusal
 use Rattle.bound_cli.specs.Refusals.{refusal_line}
-use Rattle.bound_cli.specs.Statuses.{refusal_of, status_of}
+use Rattle.bound_cli.specs.Statuses.{refusal_of, refusal_of_bounds, status_of}
 use Rattle.bound_cli.specs.Words.{plan}
-use Rattle.bound_cli.specs.Run.{Devices, IsLoaded, IsReady, IsRefused, IsPrepared, Causes, Explains}
-use Rattle.bound_cli.specs.Parts.{RefusesTrace, WritesOut}
+use Rattle.bound_cli.specs.Run.{Devices, IsGoodTrace, IsLoaded, IsPastDenominator, IsReady, IsRefused, IsPrepared, Causes, Explains, asked_of_plan, format_of_plan, plan_of_bounds}
+use Rattle.bound_cli.specs.Parts.{RefusesLoading, RefusesTrace, WritesOut}
 
 -- where nothing is left to stand in, the source has nothing left
 left_nothing : (held : List ℕ) (left : Option (List ℕ)) → stands_in held left ≡ Some [] → left ≡ Some []
@@ -53,7 +58,7 @@ refused_all format (Some bytes) after faults_before faults_after fault refused l
 -- why nothing is loaded, as the refusal of a run
 pub not_loaded : (format : Format) (before after : Option (List ℕ)) (faults_before faults_after : ℕ) (fault : FaultOfTrace)
     → IsNotLoaded (fresh format full_limits) (told (fresh format full_limits) before) faults_before faults_after fault → LosesFront before after
-    → RefusesTrace format (device before after faults_before faults_after) (refusal_of fault)
+    → RefusesLoading format (device before after faults_before faults_after) (refusal_of fault)
 not_loaded format before after faults_before faults_after (trace.BadLine line kind) why lost = refused_all format before after faults_before faults_after (trace.BadLine line kind) why lost
 not_loaded format before after faults_before faults_after trace.ReadFault why lost = (why, lost)
 not_loaded format before after faults_before faults_after trace.InputTooLong why lost = refused_all format before after faults_before faults_after trace.InputTooLong why lost
@@ -61,12 +66,12 @@ not_loaded format before after faults_before faults_after trace.TooManyRequests 
 not_loaded format before after faults_before faults_after trace.NoMemory why lost = lost
 
 -- a run that wrote, or failed to
-pub written_out : (words : List (List ℕ)) (d : Devices) (format : Format) (capacity : ℕ) (objective : Objective) (cert report : List ℕ) (status : Status)
-    → plan words ≡ Ok (Bounds format capacity objective) → IsReady format capacity objective d.trace cert report → IsUntouched d.cert → WritesOut d.report d.made cert report status → Explains words d status
-written_out words d format capacity objective cert report status planned ready untouched wrote = record { cert_untouched = untouched; cause = at status wrote }
+pub written_out : (words : List (List ℕ)) (d : Devices) (asked : Plan) (cert report : List ℕ) (status : Status)
+    → plan words ≡ Ok asked → IsReady asked d.trace cert report → IsUntouched d.cert → WritesOut d.report d.made cert report status → Explains words d status
+written_out words d asked cert report status planned ready untouched wrote = record { cert_untouched = untouched; cause = at status wrote }
   where
     prepared : IsPrepared words d.trace cert report
-    prepared = record { format = format; capacity = capacity; objective = objective; planned = planned; ready = ready }
+    prepared = record { asked = asked; planned = planned; ready = ready }
 
     at : (s : Status) → WritesOut d.report d.made cert report s → Causes words d s
     at Done w = (cert, report, prepared, w.0, w.1)
@@ -78,16 +83,43 @@ written_out words d format capacity objective cert report status planned ready u
     at MadeFault w = (cert, report, prepared, w.0, w.1, w.2)
     at NoMemory w = absurd w
 
--- a run whose trace is refused
-pub refused_out : (words : List (List ℕ)) (d : Devices) (format : Format) (capacity : ℕ) (objective : Objective) (why : Refusal)
-    → plan words ≡ Ok (Bounds format capacity objective) → RefusesTrace format d.trace why → IsUntouched d.cert → IsUntouched d.made → Gets d.report (refusal_line why) → Explains words d (status_of why)
-refused_out words d format capacity objective why planned refused cert made told = record { cert_untouched = cert; cause = at why refused told }
+-- a run whose trace or denominator is refused
+pub refused_out : (words : List (List ℕ)) (d : Devices) (asked : Plan) (why : Refusal)
+    → plan words ≡ Ok asked → RefusesTrace asked d.trace why → IsUntouched d.cert → IsUntouched d.made → Gets d.report (refusal_line why) → Explains words d (status_of why)
+refused_out words d asked why planned refused cert made told = record { cert_untouched = cert; cause = elim refused [ inl loading ↦ at why loading told | inr past ↦ past_limit past.0 past.1 ] }
   where
-    at : (r : Refusal) → RefusesTrace format d.trace r → Gets d.report (refusal_line r) → Causes words d (status_of r)
-    at (refusal.BadLine line kind) e t = ((Bounds format capacity objective, planned, e), t, made)
-    at (refusal.Limit Requests) e t = ((Bounds format capacity objective, planned, e), t, made)
-    at (refusal.Limit TraceBytes) e t = ((Bounds format capacity objective, planned, e), t, made)
-    at refusal.TraceFault e t = ((Bounds format capacity objective, planned), e.0, e.1, t, made)
-    at refusal.NoMemory e t = ((Bounds format capacity objective, planned), e, t, made)
+    at : (r : Refusal) → RefusesLoading (format_of_plan asked) d.trace r → Gets d.report (refusal_line r) → Causes words d (status_of r)
+    at (refusal.BadLine line kind) e t = ((asked, planned, e), t, made)
+    at (refusal.Limit Requests) e t = ((asked, planned, e), t, made)
+    at (refusal.Limit TraceBytes) e t = ((asked, planned, e), t, made)
+    at (refusal.Limit Denominator) e t = absurd e
+    at refusal.TraceFault e t = ((asked, planned), e.0, e.1, t, made)
+    at refusal.NoMemory e t = ((asked, planned), e, t, made)
     at (refusal.Words place kind) e t = absurd e
     at refusal.MadeFault e t = absurd e
+
+    past_limit : why ≡ refusal.Limit Denominator → IsPastDenominator asked d.trace → Causes words d (status_of why)
+    past_limit is past = subst (λ r. Causes words d (status_of r)) (sym is) ((asked, planned, past), subst (λ r. Gets d.report (refusal_line r)) is told, made)
+
+-- ---- a plan that is made
+
+-- the bounds of a trace, once it is loaded
+pub ready_of : (format : Format) (asked : Asked) (d : Device) (requests : List Object) (dropped : ℕ) (cert report : List ℕ)
+    → IsLoaded format d requests dropped → AreTexts asked requests dropped cert report → IsReady (plan_of_bounds format asked) d cert report
+ready_of format asked d requests dropped cert report loaded texts = record { requests = requests; dropped = dropped; loaded = loaded; texts = texts }
+
+-- what refuses the bounds of a trace that is loaded
+pub refused_of : (format : Format) (asked : Asked) (d : Device) (requests : List Object) (dropped : ℕ) (fault : BoundsFault)
+    → IsLoaded format d requests dropped → LosesFront d.before d.after → FailsBounds asked requests fault → RefusesTrace (plan_of_bounds format asked) d (refusal_of_bounds fault)
+refused_of format asked d requests dropped bounds.Denominator loaded lost refused = inr (refl, record { requests = requests; dropped = dropped; loaded = loaded; refused = refused; lost = lost })
+refused_of format asked d requests dropped bounds.NoMemory loaded lost refused = inl lost
+
+-- ---- completeness
+
+-- a good trace has no denominator past its limit
+pub good_denominator : (asked : Plan) (d : Device) → IsGoodTrace asked d.before → IsPastDenominator asked d → ⊥
+good_denominator asked d good past = at d.before good past.loaded.read
+  where
+    at : (before : Option (List ℕ)) → IsGoodTrace asked before → IfSome before (λ bytes. IsWhole (reading (format_of_plan asked) full_limits bytes) past.requests past.dropped) → ⊥
+    at None told whole = told
+    at (Some bytes) told whole = told.1 (subst (RefusesDenominator (asked_of_plan asked)) (sym whole.requests) past.refused)

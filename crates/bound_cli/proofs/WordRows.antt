@@ -1,6 +1,8 @@
 -- The words of the command line, at small rows, computed.
 use Rattle.std.proofs.Common.{◌≡◌, ℕ, List, [], ◌∷◌, codes, Ok, Err, refl}
 use Rattle.cache_model.specs.declared.objects.Objective.TheVariants.{Object as Hits, Bytes}
+use Rattle.cache_model.specs.declared.reports.Mode.TheVariants.{Constant, Infinite}
+use Rattle.relaxation.specs.declared.denominators.DenominatorChoice.TheVariants.{Exact, Given}
 use Rattle.trace_any.specs.declared.format.Format.TheVariants.{Webcache, Arc, Msr}
 use Rattle.bound_cli.specs.declared.words.Plan.TheVariants.{Bounds}
 use Rattle.bound_cli.specs.declared.words.WordKind.TheVariants.{Missing, Unknown, Twice, BadValue}
@@ -11,14 +13,28 @@ abbrev bounds_with : List (List ℕ) → List (List ℕ)
 bounds_with operands = codes "bounds" ∷ codes "t" ∷ codes "c" ∷ operands
 
 -- three operands, and the objective where it isn't given
-all_required : plan (bounds_with (codes "format=webcache" ∷ codes "capacity=10" ∷ codes "mode=infinite" ∷ [])) ≡ Ok (Bounds Webcache 10 Hits)
+all_required : plan (bounds_with (codes "format=webcache" ∷ codes "capacity=10" ∷ codes "mode=infinite" ∷ [])) ≡ Ok (Bounds Webcache 10 Hits Infinite (Given 1))
 unfolding plan
 all_required = refl
 
 -- another order, another objective, and another form of the trace
-another_order : plan (bounds_with (codes "objective=bytes" ∷ codes "mode=infinite" ∷ codes "capacity=010" ∷ codes "format=arc" ∷ [])) ≡ Ok (Bounds Arc 10 Bytes)
+another_order : plan (bounds_with (codes "objective=bytes" ∷ codes "mode=infinite" ∷ codes "capacity=010" ∷ codes "format=arc" ∷ [])) ≡ Ok (Bounds Arc 10 Bytes Infinite (Given 1))
 unfolding plan
 another_order = refl
+
+-- the usual denominator of mode constant, and one that is chosen
+usual_denominator : plan (bounds_with (codes "format=arc" ∷ codes "capacity=1" ∷ codes "mode=constant" ∷ [])) ≡ Ok (Bounds Arc 1 Hits Constant (Given 281474976710656))
+unfolding plan
+usual_denominator = refl
+
+chosen_denominator : plan (bounds_with (codes "denominator=exact" ∷ codes "format=arc" ∷ codes "capacity=1" ∷ codes "mode=constant" ∷ [])) ≡ Ok (Bounds Arc 1 Hits Constant Exact)
+unfolding plan
+chosen_denominator = refl
+
+-- a window, which there is not yet
+no_window : plan (bounds_with (codes "format=webcache" ∷ codes "capacity=2" ∷ codes "window=3" ∷ codes "mode=constant" ∷ [])) ≡ Err (fault 6 Unknown)
+unfolding plan
+no_window = refl
 
 -- a name that stood before, though its value is none of the operand's
 twice_first : plan (bounds_with (codes "capacity=2" ∷ codes "capacity=x" ∷ [])) ≡ Err (fault 5 Twice)
@@ -31,12 +47,12 @@ unfolding plan
 two_equals = refl
 
 -- a block before its form of the trace
-block_first : plan (bounds_with (codes "block=8192" ∷ codes "format=msr" ∷ codes "capacity=1" ∷ codes "mode=infinite" ∷ [])) ≡ Ok (Bounds (Msr 8192) 1 Hits)
+block_first : plan (bounds_with (codes "block=8192" ∷ codes "format=msr" ∷ codes "capacity=1" ∷ codes "mode=infinite" ∷ [])) ≡ Ok (Bounds (Msr 8192) 1 Hits Infinite (Given 1))
 unfolding plan
 block_first = refl
 
 -- the block where it isn't given
-usual_block : plan (bounds_with (codes "format=msr" ∷ codes "capacity=1" ∷ codes "mode=infinite" ∷ [])) ≡ Ok (Bounds (Msr 4096) 1 Hits)
+usual_block : plan (bounds_with (codes "format=msr" ∷ codes "capacity=1" ∷ codes "mode=infinite" ∷ [])) ≡ Ok (Bounds (Msr 4096) 1 Hits Infinite (Given 1))
 unfolding plan
 usual_block = refl
 

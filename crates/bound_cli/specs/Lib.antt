@@ -2,6 +2,7 @@ pub mod Words
 pub mod Refusals
 pub mod Statuses
 pub mod Made
-pub mod Sizes
+pub mod BoundsFaults
+pub mod Kept
 pub mod Run
 pub mod Parts

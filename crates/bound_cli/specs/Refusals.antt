@@ -3,7 +3,7 @@ use Rattle.std.specs.Prelude.{ℕ, List, ◌++◌, codes, decimal}
 use Rattle.trace_lines.specs.declared.line.LineKind.{LineKind}
 use Rattle.trace_lines.specs.declared.line.LineKind.TheVariants.{TooFewWords, BadNumber, SizeTooLarge, BadRange, BadType, QuoteByte, TooLong}
 use Rattle.bound_cli.specs.declared.refusal.LimitName.{LimitName}
-use Rattle.bound_cli.specs.declared.refusal.LimitName.TheVariants.{Requests, TraceBytes}
+use Rattle.bound_cli.specs.declared.refusal.LimitName.TheVariants.{Requests, TraceBytes, Denominator}
 use Rattle.bound_cli.specs.declared.words.WordKind.{WordKind}
 use Rattle.bound_cli.specs.declared.words.WordKind.TheVariants.{Missing, Unknown, Twice, BadValue}
 use Rattle.bound_cli.specs.declared.refusal.Refusal.{Refusal}
@@ -30,6 +30,7 @@ line_kind_text TooLong = codes "line too long\n"
 abbrev pub limit_text : LimitName → List ℕ
 limit_text Requests = codes "requests 33554432\n"
 limit_text TraceBytes = codes "trace bytes 68719476736\n"
+limit_text Denominator = codes "denominator 281474976710656\n"
 
 -- the line that tells why a run stopped
 abbrev pub refusal_line : Refusal → List ℕ

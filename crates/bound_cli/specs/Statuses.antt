@@ -4,7 +4,9 @@ use Rattle.bound_cli.specs.declared.refusal.Refusal.{Refusal}
 use Rattle.bound_cli.specs.declared.refusal.Refusal.TheVariants as refusal
 use Rattle.trace_any.specs.declared.fault.TraceFault.{TraceFault as FaultOfTrace}
 use Rattle.trace_any.specs.declared.fault.TraceFault.TheVariants as trace
-use Rattle.bound_cli.specs.declared.refusal.LimitName.TheVariants.{Requests, TraceBytes}
+use Rattle.bound_cli.specs.declared.refusal.LimitName.TheVariants.{Requests, TraceBytes, Denominator}
+use Rattle.bound_cli.specs.declared.bounds.BoundsFault.{BoundsFault}
+use Rattle.bound_cli.specs.declared.bounds.BoundsFault.TheVariants as bounds
 use Rattle.bound_cli.specs.declared.status.Status.{Status}
 use Rattle.bound_cli.specs.declared.status.Status.TheVariants.{Done, Words, BadLine, Limit, TraceFault, ReportFault, MadeFault, NoMemory}
 
@@ -35,3 +37,8 @@ refusal_of trace.ReadFault = refusal.TraceFault
 refusal_of trace.InputTooLong = refusal.Limit TraceBytes
 refusal_of trace.TooManyRequests = refusal.Limit Requests
 refusal_of trace.NoMemory = refusal.NoMemory
+
+-- the refusal that a want of bounds leads to
+abbrev pub refusal_of_bounds : BoundsFault → Refusal
+refusal_of_bounds bounds.Denominator = refusal.Limit Denominator
+refusal_of_bounds bounds.NoMemory = refusal.NoMemory

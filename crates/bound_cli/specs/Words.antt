@@ -8,6 +8,11 @@ use Rattle.bound_base.specs.Digits.{number_of}
 use Rattle.bound_base.specs.declared.digits.NumFault.{NumFault}
 use Rattle.cache_model.specs.declared.objects.Objective.{Objective}
 use Rattle.cache_model.specs.declared.objects.Objective.TheVariants.{Object as Hits, Bytes}
+use Rattle.cache_model.specs.declared.reports.Mode.{Mode}
+use Rattle.cache_model.specs.declared.reports.Mode.TheVariants.{Flow, Constant, Infinite}
+use Rattle.relaxation.specs.Denominators.{IsChoice}
+use Rattle.relaxation.specs.declared.denominators.DenominatorChoice.{DenominatorChoice}
+use Rattle.relaxation.specs.declared.denominators.DenominatorChoice.TheVariants.{Auto, Exact, Given}
 use Rattle.trace_any.specs.Readings.{IsFormat}
 use Rattle.trace_any.specs.declared.format.Format.{Format}
 use Rattle.trace_any.specs.declared.format.Format.TheVariants.{Webcache, Arc, Msr}
@@ -54,14 +59,18 @@ name_of word = before_first (λ b. b == 61) word
 abbrev pub value_of : List ℕ → List ℕ
 value_of word = after_first (λ b. b == 61) word
 
--- a block is from 1 to 2^48 bytes
-abbrev pub checked_block : Result ℕ NumFault → Option ℕ
-checked_block (Err e) = None
-checked_block (Ok n) = if nat_le 1 n && nat_le n (2 ^ 48) then Some n else None
+-- a number from 1 to the most that is allowed
+abbrev pub checked : ℕ → Result ℕ NumFault → Option ℕ
+checked most (Err e) = None
+checked most (Ok n) = if nat_le 1 n && nat_le n most then Some n else None
 
--- the bytes of a block that a value names
+-- the number from 1 to the most that a value names
+abbrev pub number_to : ℕ → List ℕ → Option ℕ
+number_to most value = checked most (number_of (2 ^ 64) value)
+
+-- a block has 1 to 2^48 bytes
 abbrev pub block_of : List ℕ → Option ℕ
-block_of value = checked_block (number_of (2 ^ 64) value)
+block_of value = number_to (2 ^ 48) value
 
 -- the form of a trace that a value names, where a block has so many bytes
 abbrev pub format_of : List ℕ → ℕ → Option Format
@@ -71,14 +80,9 @@ format_of value block =
     else (if bytes_eq value (codes "msr") then Some (Msr block)
     else None))
 
--- a capacity is from 1 to 2^56
-abbrev pub checked_capacity : Result ℕ NumFault → Option ℕ
-checked_capacity (Err e) = None
-checked_capacity (Ok n) = if nat_le 1 n && nat_le n (2 ^ 56) then Some n else None
-
--- the capacity that a value names
+-- a capacity has 1 to 2^56 bytes
 abbrev pub capacity_of : List ℕ → Option ℕ
-capacity_of value = checked_capacity (number_of (2 ^ 64) value)
+capacity_of value = number_to (2 ^ 56) value
 
 -- the objective that a value names
 abbrev pub objective_of : List ℕ → Option Objective
@@ -86,6 +90,32 @@ objective_of value =
     if bytes_eq value (codes "object") then Some Hits
     else (if bytes_eq value (codes "bytes") then Some Bytes
     else None)
+
+-- the mode that a value names
+abbrev pub mode_of : List ℕ → Option Mode
+mode_of value =
+    if bytes_eq value (codes "constant") then Some Constant
+    else (if bytes_eq value (codes "infinite") then Some Infinite
+    else None)
+
+-- the denominator that a value names: a word for how it is chosen, or a number from 1 to 2^48
+abbrev pub denominator_of : List ℕ → Option DenominatorChoice
+denominator_of value =
+    if bytes_eq value (codes "auto") then Some Auto
+    else (if bytes_eq value (codes "exact") then Some Exact
+    else option_map Given (number_to (2 ^ 48) value))
+
+-- the denominator of a mode where none is given
+abbrev pub usual_denominator : Mode → DenominatorChoice
+usual_denominator (Flow window) = Auto
+usual_denominator Constant = Given (2 ^ 48)
+usual_denominator Infinite = Given 1
+
+-- the modes that there are as yet
+abbrev pub IsBuilt : Mode → Type 0
+IsBuilt (Flow window) = ⊥
+IsBuilt Constant = Unit {0}
+IsBuilt Infinite = Unit {0}
 
 -- whether an operand has this name
 abbrev pub is_operand : List ℕ → Bool
@@ -95,15 +125,17 @@ is_operand name =
     || bytes_eq name (codes "capacity")
     || bytes_eq name (codes "objective")
     || bytes_eq name (codes "mode")
+    || bytes_eq name (codes "denominator")
 
 -- whether the operand of this name may have this value
 abbrev pub is_value : List ℕ → List ℕ → Bool
 is_value name value =
-    (bytes_eq name (codes "format") && is_some (format_of value 4096))
-    || (bytes_eq name (codes "block") && is_some (block_of value))
-    || (bytes_eq name (codes "capacity") && is_some (capacity_of value))
-    || (bytes_eq name (codes "objective") && is_some (objective_of value))
-    || (bytes_eq name (codes "mode") && bytes_eq value (codes "infinite"))
+    if bytes_eq name (codes "format") then is_some (format_of value 4096)
+    else (if bytes_eq name (codes "block") then is_some (block_of value)
+    else (if bytes_eq name (codes "capacity") then is_some (capacity_of value)
+    else (if bytes_eq name (codes "objective") then is_some (objective_of value)
+    else (if bytes_eq name (codes "mode") then is_some (mode_of value)
+    else bytes_eq name (codes "denominator") && is_some (denominator_of value)))))
 
 -- the value that the operands give to a name
 abbrev pub value_given : List ℕ → List (List ℕ) → Option (List ℕ)
@@ -165,13 +197,21 @@ capacity_given operands = option_and_then capacity_of (value_given (codes "capac
 abbrev pub objective_given : List (List ℕ) → Objective
 objective_given operands = unwrap_or (option_and_then objective_of (value_given (codes "objective") operands)) Hits
 
+-- the mode that the operands give
+abbrev pub mode_given : List (List ℕ) → Option Mode
+mode_given operands = option_and_then mode_of (value_given (codes "mode") operands)
+
+-- the denominator that the operands give, and the usual one of the mode where they give none
+abbrev pub denominator_given : Mode → List (List ℕ) → DenominatorChoice
+denominator_given mode operands = unwrap_or (option_and_then denominator_of (value_given (codes "denominator") operands)) (usual_denominator mode)
+
 -- the plan that accepted operands give, where the words end before this place
 abbrev pub bounds_plan : ℕ → List (List ℕ) → Result Plan WordFault
 bounds_plan end operands = do
   format ← required end (format_given operands)
   capacity ← required end (capacity_given operands)
-  mode ← required end (value_given (codes "mode") operands)
-  Ok (Bounds format capacity (objective_given operands))
+  mode ← required end (mode_given operands)
+  Ok (Bounds format capacity (objective_given operands) mode (denominator_given mode operands))
 
 -- what the words ask for, or the first fault in them
 unfoldable pub plan : List (List ℕ) → Result Plan WordFault
@@ -183,9 +223,9 @@ plan words = do
   fitting ← passed (block_fault (operands_of words))
   bounds_plan (length words + 1) (operands_of words)
 
--- the form of the trace is in its range, and the capacity is from 1 to 2^56
+-- the form of the trace, the capacity and the denominator are in their ranges
 abbrev pub IsPlanInRange : Plan → Type 0
-IsPlanInRange (Bounds format capacity objective) = IsFormat format × (1 ≤ capacity) × (capacity ≤ 2 ^ 56)
+IsPlanInRange (Bounds format capacity objective mode denominator) = IsFormat format × (1 ≤ capacity) × (capacity ≤ 2 ^ 56) × IsBuilt mode × IsChoice denominator
 
 -- the word, or a dash where there is none
 abbrev pub word_or_dash : Option (List ℕ) → List ℕ

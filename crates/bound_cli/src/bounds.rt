@@ -1,22 +1,48 @@
 //! The bounds of a trace, and their texts.
-ghost use Rattle.std.specs.Prelude.{◌≡◌, ◌≤◌, ◌^◌, ◌++◌, length, map, All, IfOk, OnOk};
-ghost use Rattle.cache_model.specs.Certificates.{unpriced};
-ghost use Rattle.cache_model.specs.Intervals.{eligible_intervals};
+ghost use Rattle.std.specs.Prelude.{◌≡◌, ◌≤◌, ◌<◌, ◌+◌, ◌*◌, ◌/◌, ◌^◌, ◌==◌, if◌then◌else◌, false, length, slice_index_or, sum, All, IfOk, IfErr};
+ghost use Rattle.cache_model.specs.Intervals.{bound_of};
+ghost use Rattle.cache_model.specs.Certificates.{eligible_of};
 ghost use Rattle.cache_model.specs.Keeps.{contents_of};
+ghost use Rattle.cache_model.specs.Units.{IsUnit};
 ghost use Rattle.cache_model.specs.Play.{IsAllowed, score};
-ghost use Rattle.cache_model.specs.Texts.{cert_text, record_line, report_text, text_of};
-ghost use Rattle.bound_cli.specs.Made.{AreTexts, IsMade, IsTakenByStart};
-ghost use Rattle.bound_cli.specs.Sizes.{IsSizeWithin};
+ghost use Rattle.cache_model.specs.Texts.{cert_text};
+ghost use Rattle.constant_price.specs.Constants.{constant_prices};
+ghost use Rattle.interval_maker.specs.Timelines.{timeline_of};
+ghost use Rattle.relaxation.specs.Denominators.{IsChoice, IsChosen};
+ghost use Rattle.relaxation.specs.Prices.{most_paid};
+ghost use Rattle.bound_cli.specs.BoundsFaults.{FailsBounds};
+ghost use Rattle.bound_cli.specs.Made.{AreTexts, IsMade, IsPriceOf, IsTakenByStart, constant_records};
+ghost use Rattle.bound_cli.specs.Words.{IsBuilt};
 
 use crate::certificate::{push_header, push_record};
-use crate::intervals::{gains_of, make, unit_of};
 use crate::report::report_text;
 use crate::schedule::round;
 use crate::text::push_line;
 use bound_base::NoMemory;
-use cache_model::{BoundFacts, Header, Interval, Mode, Record};
+use cache_model::{BoundFacts, Header, Mode, Record};
 use cache_rules::{Objective, Trace, score};
+use constant_price::least;
+use interval_maker::{Intervals, make};
+use relaxation::{DenominatorChoice, PriceFault, Sums, bound_of, denominator_for, unit_of};
 use std::alloc::Global;
+
+/// Which bounds are asked for. The capacity is in bytes.
+#[derive(Clone, Copy, Debug, PartialEq, Eq)]
+pub struct Asked {
+    pub capacity: u64,
+    pub objective: Objective,
+    pub mode: Mode,
+    pub denominator: DenominatorChoice,
+}
+
+/// Why there are no bounds.
+#[derive(Clone, Copy, Debug, PartialEq, Eq)]
+pub enum BoundsFault {
+    /// The least denominator that rounds no cost passes 2^48, and no other may be taken.
+    Denominator,
+    /// There was not enough memory.
+    NoMemory,
+}
 
 /// The certificate and the report.
 #[derive(Drop)]
@@ -32,110 +58,222 @@ struct Schedule {
     lower: u128,
 }
 
+// A certificate: its header, the price of all steps but the last, and what its schedule keeps. Its flows are 0.
+#[derive(Drop)]
+struct Bounds {
+    header: Header,
+    price: u128,
+    keeps: Vec<bool>,
+    intervals: u32,
+}
+
+impl From<NoMemory> for BoundsFault {
+    ghost use Rattle.std.specs.Prelude.{◌≡◌};
+    ghost use Rattle.bound_cli.specs.declared.bounds.BoundsFault.TheVariants.{NoMemory};
+
+    ghost from_gives = { λ _ f. f ≡ NoMemory };
+
+    fn from(_: NoMemory) -> Self {
+        BoundsFault::NoMemory
+    }
+}
+
+// The price of the steps but the last.
+fn price_of(
+    mode: Mode,
+    intervals: &Intervals,
+    unit: u64,
+    units: u64,
+    denominator: u64,
+) -> u128
+    requires mode { IsBuilt mode }
+    requires unit { 1 ≤ unit }
+    requires denominator { denominator ≤ 2 ^ 48 }
+    ensures price { IsPriceOf mode intervals.now unit units denominator result }
+    ensures small { result ≤ 2 ^ 96 }
+    ensures paid { units * sum (constant_prices result intervals.now.steps) ≤ most_paid }
+{
+    match mode {
+        Mode::Constant => least(intervals, unit, units, denominator),
+        Mode::Infinite => 0,
+        Mode::Flow { .. } => unreachable!(),
+    }
+}
+
+// A price on each step but the last, and 0 there.
+fn constant_prices(alloc: Global, price: u128, steps: u32) -> Result<Vec<u128>, NoMemory>
+    ensures { IfOk result (λ prices. prices.items ≡ constant_prices price steps) }
+{
+    let mut prices = vec![in alloc; price; steps as usize]?;
+    let len = prices.len();
+    if len > 0 {
+        prices[len - 1] = 0;
+    }
+    Ok(prices)
+}
+
+// The bound of one price.
+fn upper_of(
+    alloc: Global,
+    intervals: &Intervals,
+    unit: u64,
+    units: u64,
+    denominator: u64,
+    price: u128,
+) -> Result<u128, NoMemory>
+    requires unit { 1 ≤ unit }
+    requires units { 1 ≤ units }
+    requires denominator { denominator ≤ 2 ^ 48 }
+    requires paid { units * sum (constant_prices price intervals.now.steps) ≤ most_paid }
+    ensures bound { IfOk result (λ u. u ≡ bound_of intervals.now.items unit units denominator (constant_prices price intervals.now.steps)) }
+    ensures small { IfOk result (λ u. u < 2 ^ 127) }
+{
+    let prices = constant_prices(alloc, price, intervals.steps())?;
+    match Sums::new(alloc, &prices, units) {
+        Ok(sums) => Ok(bound_of(intervals, unit, units, denominator, &sums)),
+        Err(PriceFault::NoMemory) => Err(NoMemory),
+        Err(PriceFault::SumLimit { .. }) => unreachable!(),
+    }
+}
+
 // The schedule that takes the intervals in order of start.
 fn schedule_of(
     alloc: Global,
-    capacity: u64,
-    objective: Objective,
+    asked: &Asked,
     trace: &Trace,
-    intervals: &[Interval],
+    intervals: &Intervals,
 ) -> Result<Schedule, NoMemory>
-    requires capacity { (1 ≤ capacity) × (capacity ≤ 2 ^ 56) }
-    requires intervals { intervals.now ≡ eligible_intervals objective capacity trace.now }
-    requires sizes { All (IsSizeWithin capacity) intervals.now }
-    ensures taken { IfOk result (λ s. IsTakenByStart intervals.now capacity (length trace.now) s.keeps.items) }
-    ensures allowed { IfOk result (λ s. IsAllowed capacity trace.now (contents_of trace.now s.keeps.items)) }
-    ensures lower { IfOk result (λ s. s.lower ≡ score objective trace.now (contents_of trace.now s.keeps.items)) }
+    requires capacity { (1 ≤ asked.now.capacity) × (asked.now.capacity ≤ 2 ^ 56) }
+    requires intervals { intervals.now ≡ timeline_of asked.now.objective asked.now.capacity trace.now }
+    requires fit { All (λ i. i.size ≤ asked.now.capacity) intervals.now.items }
+    ensures taken { IfOk result (λ s. IsTakenByStart intervals.now.items asked.now.capacity (length trace.now) s.keeps.items) }
+    ensures allowed { IfOk result (λ s. IsAllowed asked.now.capacity trace.now (contents_of trace.now s.keeps.items)) }
+    ensures lower { IfOk result (λ s. s.lower ≡ score asked.now.objective trace.now (contents_of trace.now s.keeps.items)) }
 {
-    let keeps = round(alloc, intervals, trace.len(), capacity)?;
-    match score(trace, capacity, objective, &keeps) {
+    let keeps = round(alloc, intervals, asked.capacity)?;
+    match score(trace, asked.capacity, asked.objective, &keeps) {
         Ok(lower) => Ok(Schedule { keeps, lower }),
         Err(_) => unreachable!(),
     }
 }
 
-// The header of the bounds without prices and flows.
-fn header_of(
-    capacity: u64,
-    objective: Objective,
+// The denominator that is asked for.
+fn denominator_of(
+    asked: &Asked,
     trace: &Trace,
-    intervals: &[Interval],
-    schedule: &Schedule,
-) -> Header
-    requires capacity { (1 ≤ capacity) × (capacity ≤ 2 ^ 56) }
-    requires intervals { intervals.now ≡ eligible_intervals objective capacity trace.now }
-    requires sizes { All (IsSizeWithin capacity) intervals.now }
-    requires taken { IsTakenByStart intervals.now capacity (length trace.now) schedule.now.keeps.items }
-    requires allowed { IsAllowed capacity trace.now (contents_of trace.now schedule.now.keeps.items) }
-    requires lower { schedule.now.lower ≡ score objective trace.now (contents_of trace.now schedule.now.keeps.items) }
-    ensures { IsMade objective capacity trace.now result (map unpriced schedule.now.keeps.items) }
+    intervals: &Intervals,
+    unit: u64,
+) -> Result<u64, BoundsFault>
+    requires choice { IsChoice asked.now.denominator }
+    requires intervals { intervals.now ≡ timeline_of asked.now.objective asked.now.capacity trace.now }
+    requires unit { IsUnit intervals.now.items unit }
+    requires positive { 1 ≤ unit }
+    ensures chosen { IfOk result (λ d. IsChosen asked.now.denominator intervals.now.items unit d) }
+    ensures range { IfOk result (λ d. (1 ≤ d) × (d ≤ 2 ^ 48)) }
+    ensures refused { IfErr result (FailsBounds asked.now trace.now) }
 {
-    Header {
-        objective,
-        capacity,
-        requests: trace.len(),
-        unit: unit_of(intervals),
-        denominator: 1,
-        exact: false,
-        upper: gains_of(intervals),
+    match denominator_for(intervals, unit, asked.denominator) {
+        Ok(denominator) => Ok(denominator.value),
+        Err(_) => Err(BoundsFault::Denominator),
+    }
+}
+
+// The certificate of a trace, in parts.
+fn bounds_of(alloc: Global, asked: &Asked, trace: &Trace) -> Result<Bounds, BoundsFault>
+    requires capacity { (1 ≤ asked.now.capacity) × (asked.now.capacity ≤ 2 ^ 56) }
+    requires mode { IsBuilt asked.now.mode }
+    requires choice { IsChoice asked.now.denominator }
+    ensures made { IfOk result (λ b. IsMade asked.now trace.now b.price b.header (constant_records b.price b.keeps.items)) }
+    ensures intervals { IfOk result (λ b. b.intervals ≡ length (eligible_of trace.now b.header)) }
+    ensures keeps { IfOk result (λ b. length b.keeps.items ≡ length trace.now) }
+    ensures refused { IfErr result (FailsBounds asked.now trace.now) }
+{
+    let intervals = make(alloc, trace, asked.capacity, asked.objective)?;
+    let unit = unit_of(&intervals);
+    let units = asked.capacity / unit;
+    let denominator = denominator_of(asked, trace, &intervals, unit)?;
+    let price = price_of(asked.mode, &intervals, unit, units, denominator);
+    let upper = upper_of(alloc, &intervals, unit, units, denominator, price)?;
+    let schedule = schedule_of(alloc, asked, trace, &intervals)?;
+    Ok(Bounds {
+        header: Header {
+            objective: asked.objective,
+            capacity: asked.capacity,
+            requests: trace.len(),
+            unit,
+            denominator,
+            exact: false,
+            upper,
+            flow: 0,
+            lower: schedule.lower,
+        },
+        price,
+        keeps: schedule.keeps,
+        intervals: intervals.as_slice().len() as u32,
+    })
+}
+
+// The price of a step: that of all but the last, which has none.
+fn price_at(bounds: &Bounds, t: usize) -> u128
+    requires { t < length bounds.now.keeps.items }
+    ensures { result ≡ (if t + 1 == length bounds.now.keeps.items then 0 else bounds.now.price) }
+{
+    if t + 1 == bounds.keeps.len() {
+        0
+    } else {
+        bounds.price
+    }
+}
+
+// The record of a request of so many: its keep, and the price unless it is the last.
+fn record_at(bounds: &Bounds, t: usize) -> Record
+    requires { t < length bounds.now.keeps.items }
+    ensures { result ≡ slice_index_or (constant_records bounds.now.price bounds.now.keeps.items) t (record { price = 0; keep = false; flow = 0 }) }
+{
+    Record {
+        price: price_at(bounds, t),
+        keep: bounds.keeps[t],
         flow: 0,
-        lower: schedule.lower,
     }
 }
 
-// Appends a record for each keep, without price and flow.
-fn push_records(text: &mut Vec<u8>, keeps: &[bool]) -> Result<(), NoMemory>
-    ensures { OnOk result (text.new.items ≡ text.old.items ++ text_of (map record_line (map unpriced keeps.now))) }
-{
-    for keep in keeps {
-        push_record(
-            text,
-            &Record {
-                price: 0,
-                keep: *keep,
-                flow: 0,
-            },
-        )?;
-    }
-    Ok(())
-}
-
-// The certificate of a header and keeps, without prices and flows.
-fn cert_of(alloc: Global, header: &Header, keeps: &[bool]) -> Result<Vec<u8>, NoMemory>
-    ensures { IfOk result (λ text. text.items ≡ cert_text header.now (map unpriced keeps.now)) }
+// The text of the certificate.
+fn cert_of(alloc: Global, bounds: &Bounds) -> Result<Vec<u8>, NoMemory>
+    ensures { IfOk result (λ text. text.items ≡ cert_text bounds.now.header (constant_records bounds.now.price bounds.now.keeps.items)) }
 {
     let mut text = Vec::new(alloc);
-    push_header(&mut text, header)?;
-    push_records(&mut text, keeps)?;
+    push_header(&mut text, &bounds.header)?;
+    for t in 0..bounds.keeps.len() {
+        push_record(&mut text, &record_at(bounds, t))?;
+    }
     push_line(&mut text, b"end")?;
     Ok(text)
 }
 
-/// The certificate and the report of a trace at a capacity in bytes, for an objective, with the number of lines of the
-/// trace that were dropped.
+/// The certificate and the report of a trace as asked for, with the number of lines of the trace that were dropped.
 pub fn texts_of(
     alloc: Global,
-    capacity: u64,
-    objective: Objective,
+    asked: &Asked,
     trace: &Trace,
     dropped: u64,
-) -> Result<Texts, NoMemory>
-    requires { (1 ≤ capacity) × (capacity ≤ 2 ^ 56) }
-    ensures { IfOk result (λ texts. AreTexts objective capacity trace.now dropped texts.cert.items texts.report.items) }
+) -> Result<Texts, BoundsFault>
+    requires capacity { (1 ≤ asked.now.capacity) × (asked.now.capacity ≤ 2 ^ 56) }
+    requires mode { IsBuilt asked.now.mode }
+    requires choice { IsChoice asked.now.denominator }
+    ensures texts { IfOk result (λ texts. AreTexts asked.now trace.now dropped texts.cert.items texts.report.items) }
+    ensures refused { IfErr result (FailsBounds asked.now trace.now) }
 {
-    let intervals = make(alloc, trace, capacity, objective)?;
-    let schedule = schedule_of(alloc, capacity, objective, trace, &intervals)?;
-    let header = header_of(capacity, objective, trace, &intervals, &schedule);
+    let bounds = bounds_of(alloc, asked, trace)?;
     let facts = BoundFacts {
-        header,
+        header: bounds.header,
         objects: trace.objects(),
         dropped,
-        mode: Mode::Infinite,
-        price: 0,
-        intervals: intervals.len() as u32,
+        mode: asked.mode,
+        price: bounds.price,
+        intervals: bounds.intervals,
     };
     Ok(Texts {
-        cert: cert_of(alloc, &header, &schedule.keeps)?,
+        cert: cert_of(alloc, &bounds)?,
         report: report_text(alloc, &facts)?,
     })
 }
@@ -254,7 +392,15 @@ mode infinite form plain\nunit 3 units 1 denominator 1\nintervals 1\nupper 3/1 f
     fn check(rt: &impl Abort, alloc: Global, row: &Row<'_>) -> Result<(), Fail> {
         assert!(rt; row.capacity >= 1 && row.capacity <= 9);
         let trace = trace_of(rt, alloc, row.requests)?;
-        let texts = texts_of(alloc, row.capacity, row.objective, &trace, row.dropped)?;
+        let asked = Asked {
+            capacity: row.capacity,
+            objective: row.objective,
+            mode: Mode::Infinite,
+            denominator: DenominatorChoice::Given(1),
+        };
+        let Ok(texts) = texts_of(alloc, &asked, &trace, row.dropped) else {
+            return Err(Fail::from("no bounds"));
+        };
         assert_eq!(rt; texts.cert.as_slice(), row.cert, "{}", row.shows);
         assert_eq!(rt; texts.report.as_slice(), row.report, "{}", row.shows);
         Ok(())

@@ -13,7 +13,7 @@ use words::paths_of;
 
 mod bounds;
 mod certificate;
-mod intervals;
+mod operands;
 mod refusal;
 mod report;
 mod schedule;

@@ -2,6 +2,7 @@
 ghost use Rattle.std.specs.Prelude.{◌≡◌, ◌+◌, ◌≤◌, List, ℕ, [], ◌++◌, length, take, decimal};
 ghost use Rattle.bound_cli.specs.Refusals.{limit_text, line_kind_text, refusal_line, word_kind_text};
 
+use crate::bounds::BoundsFault;
 use crate::words::WordKind;
 use bound_base::NoMemory;
 use itoa::Buffer;
@@ -16,6 +17,8 @@ pub enum LimitName {
     Requests,
     /// 2^36 bytes of a trace.
     TraceBytes,
+    /// 2^48 of a denominator.
+    Denominator,
 }
 
 /// Why a run stopped.
@@ -43,6 +46,20 @@ impl From<NoMemory> for Refusal {
 
     fn from(_: NoMemory) -> Self {
         Refusal::NoMemory
+    }
+}
+
+impl From<BoundsFault> for Refusal {
+    ghost use Rattle.std.specs.Prelude.{◌≡◌};
+    ghost use Rattle.bound_cli.specs.Statuses.{refusal_of_bounds};
+
+    ghost from_gives = { λ f r. r ≡ refusal_of_bounds f };
+
+    fn from(fault: BoundsFault) -> Self {
+        match fault {
+            BoundsFault::Denominator => Refusal::Limit(LimitName::Denominator),
+            BoundsFault::NoMemory => Refusal::NoMemory,
+        }
     }
 }
 
@@ -135,6 +152,7 @@ fn limit_text(name: LimitName) -> &'static [u8]
     match name {
         LimitName::Requests => b"requests 33554432\n",
         LimitName::TraceBytes => b"trace bytes 68719476736\n",
+        LimitName::Denominator => b"denominator 281474976710656\n",
     }
 }
 

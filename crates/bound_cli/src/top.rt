@@ -3,17 +3,19 @@ ghost use Rattle.std.specs.Prelude.{◌≡◌, ◌≤◌, ◌^◌, map, string_b
 ghost use Rattle.bound_io.specs.Devices.{Gets, device};
 ghost use Rattle.bound_io.specs.Reading.{LosesFront};
 ghost use Rattle.trace_any.specs.Readings.{IsFormat};
-ghost use Rattle.bound_cli.specs.Parts.{RefusesTrace, WritesOut};
+ghost use Rattle.relaxation.specs.Denominators.{IsChoice};
+ghost use Rattle.bound_cli.specs.Parts.{RefusesLoading, RefusesTrace, WritesOut};
 ghost use Rattle.bound_cli.specs.Refusals.{refusal_line};
-ghost use Rattle.bound_cli.specs.Run.{Completes, Explains, IsLoaded, IsReady, devices};
+ghost use Rattle.bound_cli.specs.Run.{Completes, Explains, IsLoaded, IsReady, devices, plan_of_bounds};
 ghost use Rattle.bound_cli.specs.Statuses.{status_of};
+ghost use Rattle.bound_cli.specs.Words.{IsBuilt};
 
-use crate::bounds::{Texts, texts_of};
+use crate::bounds::{Asked, Texts, texts_of};
 use crate::refusal::{Refusal, refusal_text};
 use crate::status::Status;
 use crate::words::plan_of;
 use bound_io::{Sink, Source, write_all};
-use cache_rules::{Objective, Trace};
+use cache_rules::Trace;
 use std::alloc::Global;
 use trace_any::{Format, Limits, RequestReader, load};
 
@@ -25,7 +27,7 @@ fn load_all<T: Source>(
 ) -> Result<(Trace, u64), Refusal>
     requires { IsFormat format }
     ensures loaded { IfOk result (λ read. IsLoaded format (device (T.left trace.old) (T.left trace.new) (T.faults trace.old) (T.faults trace.new)) read.0 read.1) }
-    ensures refused { IfErr result (RefusesTrace format (device (T.left trace.old) (T.left trace.new) (T.faults trace.old) (T.faults trace.new))) }
+    ensures refused { IfErr result (RefusesLoading format (device (T.left trace.old) (T.left trace.new) (T.faults trace.old) (T.faults trace.new))) }
     ensures source { LosesFront (T.left trace.old) (T.left trace.new) }
 {
     let mut reader = RequestReader::new(alloc, format, Limits::full())?;
@@ -36,17 +38,18 @@ fn load_all<T: Source>(
 fn prepare<T: Source>(
     alloc: Global,
     format: Format,
-    capacity: u64,
-    objective: Objective,
+    asked: &Asked,
     trace: &mut T,
 ) -> Result<Texts, Refusal>
     requires format { IsFormat format }
-    requires capacity { (1 ≤ capacity) × (capacity ≤ 2 ^ 56) }
-    ensures ready { IfOk result (λ texts. IsReady format capacity objective (device (T.left trace.old) (T.left trace.new) (T.faults trace.old) (T.faults trace.new)) texts.cert.items texts.report.items) }
-    ensures refused { IfErr result (RefusesTrace format (device (T.left trace.old) (T.left trace.new) (T.faults trace.old) (T.faults trace.new))) }
+    requires capacity { (1 ≤ asked.now.capacity) × (asked.now.capacity ≤ 2 ^ 56) }
+    requires mode { IsBuilt asked.now.mode }
+    requires choice { IsChoice asked.now.denominator }
+    ensures ready { IfOk result (λ texts. IsReady (plan_of_bounds format asked.now) (device (T.left trace.old) (T.left trace.new) (T.faults trace.old) (T.faults trace.new)) texts.cert.items texts.report.items) }
+    ensures refused { IfErr result (RefusesTrace (plan_of_bounds format asked.now) (device (T.left trace.old) (T.left trace.new) (T.faults trace.old) (T.faults trace.new))) }
 {
     let (requests, dropped) = load_all(alloc, format, trace)?;
-    Ok(texts_of(alloc, capacity, objective, &requests, dropped)?)
+    Ok(texts_of(alloc, asked, &requests, dropped)?)
 }
 
 // Writes the line that tells why the run stopped, as far as the report takes it.
@@ -107,8 +110,8 @@ pub fn run<T: Source, Q: Source, R: Sink, K: Sink>(
             );
         }
     };
-    let (format, capacity, objective) = plan.bounds();
-    match prepare(alloc, format, capacity, objective, trace) {
+    let (format, asked) = plan.bounds();
+    match prepare(alloc, format, &asked, trace) {
         Ok(texts) => write_out(report, made, &texts),
         Err(refusal) => refuse(report, refusal),
     }

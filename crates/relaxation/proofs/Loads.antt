@@ -20,7 +20,7 @@ use Rattle.relaxation.specs.declared.flows.FlowFault.TheVariants.{AboveWeight, O
 use Rattle.relaxation.specs.Faults.{HasNoFault, amount_of, fault_from, load_fault, no_interval, weight_at}
 
 -- the flows of the intervals whose key is t, summed
-abbrev flow_with : (Interval → ℕ) → List Interval → List ℕ → ℕ → ℕ
+abbrev pub flow_with : (Interval → ℕ) → List Interval → List ℕ → ℕ → ℕ
 flow_with key intervals flows t = sum_by (λ (i, f). cond (key i == t) f 0) (zip intervals flows)
 
 -- a place counted from one further on is one further on
@@ -134,7 +134,7 @@ carried_none (i ∷ intervals) (f ∷ flows) =
 -- ---- one step of a timeline
 
 -- starts differ, and so do ends
-starts_differ : (line : Timeline) → IsTimeline line → AllPairs (λ i j. i.start ≢ j.start) line.items
+pub starts_differ : (line : Timeline) → IsTimeline line → AllPairs (λ i j. i.start ≢ j.start) line.items
 starts_differ line is_line = λ m n d low high. λ same. let rising : (get_or line.items m d).start < (get_or line.items n d).start = is_line.order m n d low high in omega arith
 
 in_order : (line : Timeline) → IsTimeline line → All (λ i. i.start < i.end) line.items
@@ -185,7 +185,7 @@ step_low intervals unit units flows t (Some m) none =
     (cases_lt (weight_at intervals unit m) (get_or flows m 0))
 
 -- the interval that starts where interval n does is interval n
-starting_at_start : (line : Timeline) (n : ℕ) → IsTimeline line → n < length line.items → starting_at line.items (get_or line.items n no_interval).start ≡ Some n
+pub starting_at_start : (line : Timeline) (n : ℕ) → IsTimeline line → n < length line.items → starting_at line.items (get_or line.items n no_interval).start ≡ Some n
 starting_at_start line n is_line within =
     let t : ℕ = (get_or line.items n no_interval).start in
     let place : position_or_len (λ i. i.start == t) line.items ≡ n =

@@ -7,14 +7,7 @@ use Rattle.cache_model.specs.Keeps.{IsFirstOverfull}
 use Rattle.cache_model.specs.Rounding.{taken_load}
 use Rattle.cache_model.proofs.Rounding.{held-load}
 use Rattle.bound_cli.specs.Made.{IsTakenByStart}
-use Rattle.bound_cli.proofs.Taken.{eligible_in_shape}
 use Rattle.bound_cli.proofs.bounds.schedule_of.Goals as goal
-
-pub round-requires-clause-order : goal.round-requires-clause-order
-round-requires-clause-order c = rw c.requires.intervals (eligible_in_shape c.args.objective c.args.capacity c.args.trace.now).order
-
-pub round-requires-clause-within : goal.round-requires-clause-within
-round-requires-clause-within c = rw (c.requires.intervals, c.len.ensures.requests) (eligible_in_shape c.args.objective c.args.capacity c.args.trace.now).within
 
 -- contents that weigh what their intervals do overfill no step
 never_overfull : (objective : Objective) (capacity : ℕ) (trace : List Object) (keeps : List Bool) (step load : ℕ)
@@ -27,5 +20,5 @@ never_overfull objective capacity trace keeps step load taken fits over =
 pub unreachable-requires : goal.unreachable-requires
 unreachable-requires c =
     let over = rw c.deref.ensures.value at c.in-Err.ensures.overfull in
-    never_overfull c.args.objective c.args.capacity c.args.trace.now c.in_ok-keeps.keeps.items _ _
-    (rw (c.requires.intervals, c.len.ensures.requests) at c.in_ok-keeps.ensures.rounded) (λ t. rw c.requires.intervals at (c.in_ok-keeps.ensures.fits t)) over
+    never_overfull c.args.asked.now.objective c.args.asked.now.capacity c.args.trace.now c.in_ok-keeps.keeps.items _ _
+    (rw c.requires.intervals at c.in_ok-keeps.ensures.rounded) (λ t. rw c.requires.intervals at (c.in_ok-keeps.ensures.fits t)) over

@@ -1,43 +1,47 @@
-use Rattle.std.proofs.Common.{◌≡◌, ◌∙◌, ◌+◌, true, set, sym, ap, arith, cond, length, get_or}
-use Rattle.std.proofs.lemmas.List.{with_items_is}
-use Rattle.cache_model.specs.declared.intervals.Interval.{Interval}
-use Rattle.cache_model.specs.Schedules.{covers}
-use Rattle.bound_cli.proofs.Taken.{IsInShape, IsTaken, fits_beside_loads, no_interval, one_taken, one_refused, all_taken, room_at}
+use Rattle.std.proofs.Common.{◌∙◌, sym, ap, subst, arith, replicate, false}
+use Rattle.relaxation.proofs.Loads.{carried_none}
+use Rattle.bound_cli.proofs.ByStart.{IsTakenTo, kept_sizes, taken_none, load_here, size_small, with_more, with_refused, with_same, taken_all}
 use Rattle.bound_cli.proofs.schedule.round.Goals as goal
-use Rattle.bound_cli.proofs.schedule.round.Goals.{then-fits, else-fits}
+use Rattle.bound_cli.proofs.schedule.round.Goals.{in-Some+then-load-size, in-Some+else-load-size, in-None}
 
-pub add-requires-clause-room : goal.add-requires-clause-room
-add-requires-clause-room c = λ t low high.
-    let here : Interval = get_or c.args.intervals.now c.loop-interval.interval-index no_interval in
-    let fit : fits_beside_loads c.loop-interval.loads.items c.args.capacity here ≡ true
-    = ap (λ loads. fits_beside_loads loads c.args.capacity here) (sym c.deref.ensures.value) ∙ sym c.fits.ensures ∙ c.if-fits.true in
-    omega (arith, room_at c.loop-interval.loads.items c.args.capacity here fit t low high, ap (λ loads. get_or loads t 0) c.deref_mut.ensures.value, c.requires.capacity)
+pub loop-step-init : goal.loop-step-init
+loop-step-init c = record {
+  taken = subst (IsTakenTo c.args.intervals.now c.args.capacity 0) (sym (c.in_ok-keeps.ensures ∙ ap (λ n. replicate n false) c.steps.ensures.steps)) (taken_none c.args.intervals.now c.args.capacity);
+  load = sym (carried_none c.args.intervals.now.items (kept_sizes c.in_ok-keeps.keeps.items c.args.intervals.now.items));
+}
 
-pub loop-interval-preserved : goal.loop-interval-preserved
-loop-interval-preserved c =
-    let shape : IsInShape c.args.intervals.now c.args.steps = record { order = c.requires.order; within = c.requires.within } in
-    let here : Interval = get_or c.args.intervals.now c.loop-interval.interval-index no_interval in
-    let tested : fits_beside_loads c.loop-interval.loads.items c.args.capacity here ≡ c.fits.result
-    = ap (λ loads. fits_beside_loads loads c.args.capacity here) (sym c.deref.ensures.value) ∙ sym c.fits.ensures in
-    elim c.if-fits.branch [
-      | then-fits w ↦
-          let same : length w.deref_mut.result.now ≡ length c.loop-interval.loads.items = ap length w.deref_mut.ensures.value in
-          let many : length c.loop-interval.loads.items ≡ c.args.steps = c.loop-interval.invariant.one_load_each in
-          let taken : IsTaken c.args.intervals.now c.args.capacity c.args.steps (c.loop-interval.interval-index + 1) w.add.new.loads (set c.loop-interval.keeps.items here.start true)
-          = one_taken c.args.intervals.now c.args.capacity c.args.steps shape c.loop-interval.interval-index c.loop-interval.loads.items c.loop-interval.keeps.items
-          c.loop-interval.invariant c.loop-interval-test.true w.add.new.loads (tested ∙ w.if-fits.true) (w.add.ensures.steps ∙ same ∙ many)
-          (λ t low. w.add.ensures.loads t (omega arith) ∙ ap (λ loads. get_or loads t 0 + cond (covers t here) here.size 0) w.deref_mut.ensures.value) in
-          let grown : c.if-fits.loads.items ≡ w.add.new.loads
-          = ap (λ v. v.items) w.loads-is ∙ with_items_is c.loop-interval.loads w.add.new.loads (w.add.ensures.steps ∙ w.deref_mut.ensures.len) in
-          rw (grown, w.keeps-is) taken
-      | else-fits w ↦
-          rw (w.loads-is, w.keeps-is)
-          (one_refused c.args.intervals.now c.args.capacity c.args.steps shape c.loop-interval.interval-index c.loop-interval.loads.items c.loop-interval.keeps.items
-          c.loop-interval.invariant c.loop-interval-test.true (tested ∙ w.if-fits.false))
+pub overflow_sub-load : goal.overflow_sub-load
+overflow_sub-load c =
+    let here = load_here c.args.intervals.now c.args.capacity c.loop-step.step c.loop-step.keeps.items c.as_slice-items.ensures.timeline c.loop-step.invariant.taken c.loop-step.load c.kept_size-load.result c.loop-step.invariant.load
+        (rw (c.as_slice-items.ensures.items, c.deref.ensures.value, c.ending.ensures.number) at c.kept_size-load.ensures) in
+    here.0
+
+pub overflow_add-load : goal.overflow_add-load
+overflow_add-load c =
+    let here = load_here c.args.intervals.now c.args.capacity c.loop-step.step c.loop-step.keeps.items c.as_slice-items.ensures.timeline c.loop-step.invariant.taken c.loop-step.load c.kept_size-load.result c.loop-step.invariant.load
+        (rw (c.as_slice-items.ensures.items, c.deref.ensures.value, c.ending.ensures.number) at c.kept_size-load.ensures) in
+    omega (arith, here.1, c.loop-step.invariant.taken.within_capacity c.loop-step.step, size_small c.args.intervals.now c.in-Some.number c.as_slice-items.result.now c.as_slice-items.ensures.timeline c.as_slice-items.ensures.items)
+
+pub loop-step-preserved : goal.loop-step-preserved
+loop-step-preserved c =
+    let here = load_here c.args.intervals.now c.args.capacity c.loop-step.step c.loop-step.keeps.items c.as_slice-items.ensures.timeline c.loop-step.invariant.taken c.loop-step.load c.kept_size-load.result c.loop-step.invariant.load
+        (rw (c.as_slice-items.ensures.items, c.deref.ensures.value, c.ending.ensures.number) at c.kept_size-load.ensures) in
+    let line = c.args.intervals.now in
+    let keeps = c.loop-step.keeps.items in
+    elim c.match-starting.branch [
+      | in-Some+then-load-size w ↦
+          with_more line c.args.capacity c.loop-step.step keeps c.match-starting.keeps.items c.as_slice-items.result.now c.as_slice-items.ensures.timeline c.loop-step.invariant.taken w.in-Some.number
+          (sym c.starting.ensures.number ∙ w.in-Some.is) c.as_slice-items.ensures.items _ c.match-starting.load here.1 w.if-load-size.true (ap (λ v. v.items) w.keeps-is) w.load-is
+      | in-Some+else-load-size w ↦
+          with_refused line c.args.capacity c.loop-step.step keeps c.match-starting.keeps.items c.as_slice-items.result.now c.as_slice-items.ensures.timeline c.loop-step.invariant.taken w.in-Some.number
+          (sym c.starting.ensures.number ∙ w.in-Some.is) c.as_slice-items.ensures.items _ c.match-starting.load here.1 w.if-load-size.false (ap (λ v. v.items) w.keeps-is) w.load-is
+      | in-None w ↦
+          with_same line c.args.capacity c.loop-step.step keeps c.match-starting.keeps.items c.as_slice-items.ensures.timeline c.loop-step.invariant.taken
+          (sym c.starting.ensures.number ∙ w.in-None.is) _ c.match-starting.load here.1 (ap (λ v. v.items) w.keeps-is) w.load-is
     ]
 
 pub returns-clause-rounded : goal.returns-clause-rounded
-returns-clause-rounded c =
-    let shape : IsInShape c.args.intervals.now c.args.steps = record { order = c.requires.order; within = c.requires.within } in
-    all_taken c.args.intervals.now c.args.capacity c.args.steps shape
-    c.loop-interval.interval-index c.loop-interval.loads.items c.loop-interval.keeps.items c.loop-interval-test.false c.loop-interval.invariant
+returns-clause-rounded c = taken_all c.args.intervals.now c.args.capacity c.loop-step.step c.loop-step.keeps.items c.as_slice-items.ensures.timeline (omega (arith, c.steps-step-end.ensures.steps)) c.loop-step.invariant.taken
+
+pub returns-clause-fits : goal.returns-clause-fits
+returns-clause-fits c = c.loop-step.invariant.taken.within_capacity

@@ -1,5 +1,5 @@
-use Rattle.bound_cli.proofs.Taken.{IsTaken}
+use Rattle.bound_cli.proofs.ByStart.{IsTurn}
 use Rattle.bound_cli.proofs.schedule.round.Given as goal
 
-abbrev pub invariant-loop-interval : goal.invariant-loop-interval
-invariant-loop-interval l = IsTaken l.intervals l.capacity l.steps l.interval-index l.loads.items l.keeps.items
+abbrev pub invariant-loop-step : goal.invariant-loop-step
+invariant-loop-step l = IsTurn l.intervals l.capacity l.step l.keeps.items l.load

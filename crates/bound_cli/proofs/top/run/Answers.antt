@@ -4,9 +4,8 @@ use Rattle.bound_cli.proofs.top.run.Goals as goal
 
 pub returns-in-Ok-prepare-clause-explains : goal.returns-in-Ok-prepare-clause-explains
 returns-in-Ok-prepare-clause-explains g c =
-    written_out _ _ _ _ _ _ _ c.write_out.result (sym c.in-Ok.ensures.plan ∙ ap Ok c.bounds-format.ensures) c.in-Ok-prepare.ensures.ready (refl, refl) c.write_out.ensures
+    written_out _ _ _ _ _ c.write_out.result (sym c.in-Ok.ensures.plan ∙ ap Ok c.bounds-format.ensures) c.in-Ok-prepare.ensures.ready (refl, refl) c.write_out.ensures
 
 pub returns-in-Err-prepare-clause-explains : goal.returns-in-Err-prepare-clause-explains
 returns-in-Err-prepare-clause-explains g c =
-    let planned = sym c.in-Ok.ensures.plan ∙ ap Ok c.bounds-format.ensures in
-    rw (c.refuse-in-Err-prepare.ensures.status) (refused_out _ _ _ _ _ c.in-Err-prepare.refusal planned c.in-Err-prepare.ensures.refused (refl, refl) (refl, refl) c.refuse-in-Err-prepare.ensures.told)
+    rw (c.refuse-in-Err-prepare.ensures.status) (refused_out _ _ _ c.in-Err-prepare.refusal (sym c.in-Ok.ensures.plan ∙ ap Ok c.bounds-format.ensures) c.in-Err-prepare.ensures.refused (refl, refl) (refl, refl) c.refuse-in-Err-prepare.ensures.told)

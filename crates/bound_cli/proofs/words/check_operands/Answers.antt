@@ -1,6 +1,6 @@
 use Rattle.std.proofs.Common.{◌≡◌, ◌∙◌, ap, arith, sym, ◌+◌, map, take, string_bytes, Err}
 use Rattle.bound_cli.specs.Words.{fault, operand_fault, passed}
-use Rattle.bound_cli.proofs.Operands.{stops_here, goes_on}
+use Rattle.bound_cli.proofs.GivenByName.{stops_here, goes_on}
 use Rattle.bound_cli.proofs.words.check_operands.Goals as goal
 
 pub returns-in-Some : goal.returns-in-Some

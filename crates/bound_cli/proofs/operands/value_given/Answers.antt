@@ -5,8 +5,8 @@ use Rattle.std.specs.Str.{bytes_eq}
 use Rattle.std.proofs.lemmas.Iterator.{YieldsList-from_slice}
 use Rattle.std.proofs.lemmas.Iterator.Search.{find_from_yields_List}
 use Rattle.bound_cli.specs.Words.{name_of, value_of}
-use Rattle.bound_cli.proofs.Operands.{value_given_by}
-use Rattle.bound_cli.proofs.words.value_given.Goals as goal
+use Rattle.bound_cli.proofs.GivenByName.{value_given_by}
+use Rattle.bound_cli.proofs.operands.value_given.Goals as goal
 
 pub returns-in_err-word : goal.returns-in_err-word
 returns-in_err-word c =

@@ -5,8 +5,8 @@ use Rattle.std.proofs.lemmas.Iterator.{YieldsList-from_slice}
 use Rattle.std.proofs.lemmas.Iterator.Adapters.{position_from-zero}
 use Rattle.std.proofs.lemmas.Iterator.Search.{position_from_yields_List}
 use Rattle.bound_cli.specs.Words.{name_of}
-use Rattle.bound_cli.proofs.Operands.{place_given_by}
-use Rattle.bound_cli.proofs.words.place_given.Goals as goal
+use Rattle.bound_cli.proofs.GivenByName.{place_given_by}
+use Rattle.bound_cli.proofs.operands.place_given.Goals as goal
 
 pub returns-in_err-at : goal.returns-in_err-at
 returns-in_err-at c =

@@ -1,0 +1,245 @@
+//! The operands of the command line: their names and values.
+ghost use Rattle.std.specs.Prelude.{◌≡◌, ◌≤◌, ◌^◌, [], map, string_bytes, IfSome};
+ghost use Rattle.std.specs.Option.{option_copied};
+ghost use Rattle.relaxation.specs.Denominators.{IsChoice};
+ghost use Rattle.trace_any.specs.Readings.{IsFormat};
+ghost use Rattle.bound_cli.specs.Words.{IsBuilt, block_given, block_of, capacity_given, capacity_of, denominator_given, denominator_of, format_given, format_of, has_equals, is_operand, is_value, mode_given, mode_of, name_of, number_to, objective_given, objective_of, place_given, usual_denominator, value_given, value_of};
+
+use bound_base::read_u64;
+use cache_model::Mode;
+use cache_rules::Objective;
+use relaxation::DenominatorChoice;
+use trace_any::Format;
+
+/// The words before the operands: the command and its two paths.
+pub(crate) const OPERANDS_AT: usize = 3;
+
+// The largest capacity, in bytes.
+const MOST_CAPACITY: u64 = 1 << 56;
+
+// The largest block, in bytes.
+const MOST_BLOCK: u64 = 1 << 48;
+
+// The bytes of a block where no operand gives them.
+const USUAL_BLOCK: u64 = 4096;
+
+// The largest denominator.
+const MOST_DENOMINATOR: u64 = 1 << 48;
+
+pub(crate) fn has_equals(word: &str) -> bool
+    ensures { result ≡ has_equals word.now }
+{
+    word.as_bytes().iter().any(|byte| *byte == b'=')
+}
+
+/// What stands before the first `=`, or the whole word.
+pub(crate) fn name_of(word: &str) -> &str
+    ensures { result.now ≡ name_of word.now }
+{
+    match word.split_once('=') {
+        Some((name, _)) => name,
+        None => word,
+    }
+}
+
+/// What stands after the first `=`, or nothing.
+pub(crate) fn value_of(word: &str) -> &str
+    ensures { result.now ≡ value_of word.now }
+{
+    match word.split_once('=') {
+        Some((_, value)) => value,
+        None => "",
+    }
+}
+
+// A number from 1 to the most that is allowed.
+fn number_to(most: u64, value: &str) -> Option<u64>
+    ensures value { result ≡ number_to most value.now }
+    ensures range { IfSome result (λ n. (1 ≤ n) × (n ≤ most)) }
+{
+    match read_u64(value.as_bytes()) {
+        Ok(number) if number >= 1 && number <= most => Some(number),
+        _ => None,
+    }
+}
+
+fn capacity_of(value: &str) -> Option<u64>
+    ensures value { result ≡ capacity_of value.now }
+    ensures range { IfSome result (λ n. (1 ≤ n) × (n ≤ 2 ^ 56)) }
+{
+    number_to(MOST_CAPACITY, value)
+}
+
+fn block_of(value: &str) -> Option<u64>
+    ensures value { result ≡ block_of value.now }
+    ensures range { IfSome result (λ n. (1 ≤ n) × (n ≤ 2 ^ 48)) }
+{
+    number_to(MOST_BLOCK, value)
+}
+
+// The form that a value names, where a block has so many bytes.
+fn format_of(value: &str, block: u64) -> Option<Format>
+    requires block { (1 ≤ block) × (block ≤ 2 ^ 48) }
+    ensures value { result ≡ format_of value.now block }
+    ensures range { IfSome result IsFormat }
+{
+    if value == "webcache" {
+        Some(Format::Webcache)
+    } else if value == "arc" {
+        Some(Format::Arc)
+    } else if value == "msr" {
+        Some(Format::Msr { block })
+    } else {
+        None
+    }
+}
+
+fn objective_of(value: &str) -> Option<Objective>
+    ensures { result ≡ objective_of value.now }
+{
+    if value == "object" {
+        Some(Objective::Object)
+    } else if value == "bytes" {
+        Some(Objective::Bytes)
+    } else {
+        None
+    }
+}
+
+fn mode_of(value: &str) -> Option<Mode>
+    ensures value { result ≡ mode_of value.now }
+    ensures built { IfSome result IsBuilt }
+{
+    if value == "constant" {
+        Some(Mode::Constant)
+    } else if value == "infinite" {
+        Some(Mode::Infinite)
+    } else {
+        None
+    }
+}
+
+fn denominator_of(value: &str) -> Option<DenominatorChoice>
+    ensures value { result ≡ denominator_of value.now }
+    ensures range { IfSome result IsChoice }
+{
+    if value == "auto" {
+        Some(DenominatorChoice::Auto)
+    } else if value == "exact" {
+        Some(DenominatorChoice::Exact)
+    } else {
+        match number_to(MOST_DENOMINATOR, value) {
+            Some(number) => Some(DenominatorChoice::Given(number)),
+            None => None,
+        }
+    }
+}
+
+pub(crate) fn is_operand(name: &str) -> bool
+    ensures { result ≡ is_operand name.now }
+{
+    name == "format"
+        || name == "block"
+        || name == "capacity"
+        || name == "objective"
+        || name == "mode"
+        || name == "denominator"
+}
+
+pub(crate) fn is_value(name: &str, value: &str) -> bool
+    ensures { result ≡ is_value name.now value.now }
+{
+    if name == "format" {
+        format_of(value, USUAL_BLOCK).is_some()
+    } else if name == "block" {
+        block_of(value).is_some()
+    } else if name == "capacity" {
+        capacity_of(value).is_some()
+    } else if name == "objective" {
+        objective_of(value).is_some()
+    } else if name == "mode" {
+        mode_of(value).is_some()
+    } else {
+        name == "denominator" && denominator_of(value).is_some()
+    }
+}
+
+/// The value that the operands give to a name.
+pub(crate) fn value_given<'a>(name: &str, operands: &'a [String]) -> Option<&'a str>
+    ensures { option_copied result ≡ value_given name.now (map string_bytes operands.now) }
+{
+    let word = operands.iter().find(|word| name_of(word.as_str()) == name)?;
+    Some(value_of(word.as_str()))
+}
+
+/// The place of the operand of a name.
+pub(crate) fn place_given(name: &str, operands: &[String]) -> Option<u64>
+    ensures { result ≡ place_given name.now (map string_bytes operands.now) }
+{
+    let at = operands
+        .iter()
+        .position(|word| name_of(word.as_str()) == name)?;
+    Some((at + OPERANDS_AT) as u64 + 1)
+}
+
+fn block_given(operands: &[String]) -> u64
+    ensures value { result ≡ block_given (map string_bytes operands.now) }
+    ensures range { (1 ≤ result) × (result ≤ 2 ^ 48) }
+{
+    match value_given("block", operands) {
+        Some(value) => block_of(value).unwrap_or(USUAL_BLOCK),
+        None => USUAL_BLOCK,
+    }
+}
+
+pub(crate) fn format_given(operands: &[String]) -> Option<Format>
+    ensures value { result ≡ format_given (map string_bytes operands.now) }
+    ensures range { IfSome result IsFormat }
+{
+    format_of(value_given("format", operands)?, block_given(operands))
+}
+
+pub(crate) fn capacity_given(operands: &[String]) -> Option<u64>
+    ensures value { result ≡ capacity_given (map string_bytes operands.now) }
+    ensures range { IfSome result (λ n. (1 ≤ n) × (n ≤ 2 ^ 56)) }
+{
+    capacity_of(value_given("capacity", operands)?)
+}
+
+pub(crate) fn objective_given(operands: &[String]) -> Objective
+    ensures { result ≡ objective_given (map string_bytes operands.now) }
+{
+    match value_given("objective", operands) {
+        Some(value) => objective_of(value).unwrap_or(Objective::Object),
+        None => Objective::Object,
+    }
+}
+
+pub(crate) fn mode_given(operands: &[String]) -> Option<Mode>
+    ensures value { result ≡ mode_given (map string_bytes operands.now) }
+    ensures built { IfSome result IsBuilt }
+{
+    mode_of(value_given("mode", operands)?)
+}
+
+// The denominator of a mode where none is given.
+fn usual_denominator(mode: Mode) -> DenominatorChoice
+    ensures value { result ≡ usual_denominator mode }
+    ensures range { IsChoice result }
+{
+    match mode {
+        Mode::Flow { .. } => DenominatorChoice::Auto,
+        Mode::Constant => DenominatorChoice::Given(MOST_DENOMINATOR),
+        Mode::Infinite => DenominatorChoice::Given(1),
+    }
+}
+
+pub(crate) fn denominator_given(mode: Mode, operands: &[String]) -> DenominatorChoice
+    ensures value { result ≡ denominator_given mode (map string_bytes operands.now) }
+    ensures range { IsChoice result }
+{
+    match value_given("denominator", operands) {
+        Some(value) => denominator_of(value).unwrap_or(usual_denominator(mode)),
+        None => usual_denominator(mode),
+    }
+}
