@@ -1,12 +1,12 @@
 -- Rounding in order of start without flags, one step after another: an interval fits where it fits at its first step.
-use Rattle.std.proofs.Common.{◌≡◌, ◌≢◌, ℕ, suc, zero, ◌+◌, ◌-◌, ◌<◌, ◌≤◌, ◌^◌, ◌∙◌, sym, refl, ap, subst, inl, inr, Bool, true, false, not, ◌&&◌, ◌||◌, ◌==◌, cond, nat_lt, nat_le, List, [], ◌∷◌, length, take, drop, get_or, map, replicate, set, arith, ⊎_elim, All, AllPairs, sum_by, zip}
+use Rattle.std.proofs.Common.{◌≡◌, ◌≢◌, ℕ, suc, zero, ◌+◌, ◌-◌, ◌<◌, ◌≤◌, ◌^◌, ◌∙◌, sym, refl, ap, subst, inl, inr, Bool, true, false, ◌&&◌, ◌||◌, ◌==◌, cond, nat_lt, nat_le, List, [], ◌∷◌, length, get_or, map, replicate, set, arith, ⊎_elim, All, sum_by, zip}
 use Rattle.std.specs.Prelude.{Some, None, ◌⊎◌}
 use Rattle.std.specs.declared.option.Option.{Option}
 use Rattle.std.specs.List.{range_with_len, list_any, list_all, AllZip}
-use Rattle.std.proofs.lemmas.Bool.{cases_Bool, cases_lt, cases_eq, and_parts, and_left, and_right, and_from, or_parts, lt-ltb, le-ltb, le-leb, lt-leb, leb-true, ltb-true, eqb-false, ne_eqb, eq-eqb, both_ways, eqb-true, false_from_ne_true}
+use Rattle.std.proofs.lemmas.Bool.{cases_Bool, cases_lt, cases_eq, and_parts, and_left, and_right, and_from, lt-ltb, le-ltb, le-leb, leb-true, ltb-true, ne_eqb, eq-eqb, both_ways, eqb-true, false_from_ne_true}
 use Rattle.std.proofs.lemmas.List.{get_or-set_same, get_or-set_other, length-set, length-replicate, get_or-replicate, get_or-map, length-map}
-use Rattle.std.proofs.lemmas.List.Elements.{All-head, All-tail, All-weaker, All-from_get_or, All-get_or}
-use Rattle.std.proofs.lemmas.List.Folds.{list_any_none, list_any_at}
+use Rattle.std.proofs.lemmas.List.Elements.{All-head, All-tail, All-from_get_or}
+use Rattle.std.proofs.lemmas.List.Folds.{list_any_at}
 use Rattle.std.proofs.lemmas.List.Quantifiers.{position-Some}
 use Rattle.std.proofs.lemmas.List.Sums.{sum_by-cons}
 use Rattle.std.proofs.Math.ListN.{get_or-eq_default}
@@ -22,7 +22,7 @@ use Rattle.cache_model.proofs.Keeps.{contents_of_keeps}
 use Rattle.cache_model.proofs.Rounding.{held-load}
 use Rattle.interval_maker.specs.Timelines.{Timeline, IsInterval, IsTimeline, starting_at, ending_at}
 use Rattle.relaxation.specs.Faults.{amount_of, no_interval}
-use Rattle.relaxation.proofs.Loads.{carried, carried_next, carried_none, at_step, flow_with, flow_with-position, place_within, starting_at_start, starts_differ}
+use Rattle.relaxation.proofs.Loads.{carried, carried_next, at_step, flow_with, flow_with-position, place_within, starting_at_start, starts_differ}
 use Rattle.bound_cli.specs.Kept.{kept_size, size_kept}
 
 -- two tests that agree at each number of a range
@@ -63,7 +63,6 @@ load-no_flags t (i ∷ intervals) =
 AllZip-no_flags : (R : Interval → Bool → Type 0) (intervals : List Interval) → All (λ i. R i false) intervals → AllZip R intervals (replicate (length intervals) false)
 AllZip-no_flags R [] all = tt
 AllZip-no_flags R (i ∷ intervals) all = (All-head (λ j. R j false) i intervals all, AllZip-no_flags R intervals (All-tail (λ j. R j false) i intervals all))
-
 
 -- ---- the eligible intervals of a trace
 

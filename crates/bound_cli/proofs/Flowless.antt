@@ -1,5 +1,5 @@
 -- Records without flows: what they state of prices and keeps, and when they are a valid certificate.
-use Rattle.std.proofs.Common.{◌≡◌, ◌∙◌, ℕ, zero, suc, ◌+◌, ◌-◌, ◌*◌, ◌/◌, ◌<◌, ◌≤◌, ◌^◌, sym, refl, ap, subst, arith, cond, Bool, true, false, List, [], ◌∷◌, ◌++◌, length, map, zip, get_or, replicate, sum, sum_by, All, lit≤, lit<}
+use Rattle.std.proofs.Common.{◌≡◌, ◌∙◌, ℕ, zero, suc, ◌-◌, ◌*◌, ◌/◌, ◌<◌, ◌≤◌, ◌^◌, sym, refl, ap, arith, cond, Bool, true, false, List, [], ◌∷◌, ◌++◌, length, map, zip, get_or, replicate, sum, All}
 use Rattle.std.specs.List.{AllZip}
 use Prim.Native.Nat.{◌∣◌}
 use Rattle.std.proofs.lemmas.Bool.{false≢true}
@@ -14,7 +14,7 @@ use Rattle.cache_model.specs.declared.certificates.Header.{Header}
 use Rattle.cache_model.specs.declared.certificates.Record.{Record}
 use Rattle.cache_model.specs.Play.{IsAllowed, score}
 use Rattle.cache_model.specs.Keeps.{contents_of}
-use Rattle.cache_model.specs.Schedules.{covers, load_at, flow_value, IsFractionalSchedule}
+use Rattle.cache_model.specs.Schedules.{covers, load_at, flow_value}
 use Rattle.cache_model.specs.Units.{weight}
 use Rattle.cache_model.specs.Certificates.{IsHeaderInRange, IsRecordInRange, IsValid, eligible_of, flow_at, flows_of, keeps_of, prices_of, units_of, upper_of}
 use Rattle.constant_price.specs.Constants.{constant_prices}
@@ -124,8 +124,8 @@ pub flowless_valid : (trace : List Object) (h : Header) (records : List Record)
 flowless_valid trace h records ranged requests each plain none some paid last divides allowed lower flow upper =
     let single : (p : ℕ) → p ≤ units_of h * p = λ p. omega (arith, mul-le-mul_right p some) in
     let small : (t : ℕ) → t < length records → get_or (prices_of records) t 0 ≤ 2 ^ 126 = λ t low.
-        let within : get_or (prices_of records) t 0 ≤ sum (prices_of records) = get_or-le-sum_by (λ (n : ℕ). n) (prices_of records) t 0 (omega (arith, length-map records (λ (r : Record). r.price))) in
-        omega (arith, within, single (sum (prices_of records)), paid) in
+    let within : get_or (prices_of records) t 0 ≤ sum (prices_of records) = get_or-le-sum_by (λ (n : ℕ). n) (prices_of records) t 0 (omega (arith, length-map records (λ (r : Record). r.price))) in
+    omega (arith, within, single (sum (prices_of records)), paid) in
     record {
       certificate = record { header = ranged; count = each ∙ sym requests; each = in_range records none small };
       requests = requests;

@@ -1,5 +1,5 @@
 -- What is found of a trace makes a valid certificate of it.
-use Rattle.std.proofs.Common.{◌≡◌, ◌∙◌, ℕ, ◌*◌, ◌/◌, ◌<◌, ◌≤◌, ◌^◌, Bool, false, ap, subst, sym, refl, arith, lit≤, lit<, List, [], ◌∷◌, ◌-◌, get_or, length, sum, All}
+use Rattle.std.proofs.Common.{◌≡◌, ◌∙◌, ℕ, ◌*◌, ◌/◌, ◌<◌, ◌≤◌, ◌^◌, Bool, false, ap, subst, sym, refl, arith, lit<, List, [], ◌∷◌, ◌-◌, get_or, length, sum, All}
 use Prim.Native.Nat.{◌∣◌}
 use Rattle.std.proofs.lemmas.List.Elements.{All-head}
 use Rattle.std.proofs.lemmas.Nat.{le-div}

@@ -6,7 +6,6 @@ use Rattle.bound_io.specs.Reading.{LosesFront}
 use Rattle.bound_io.specs.Writing.{AppendsProperFront}
 use Rattle.bound_io.specs.Devices.{Device, HasFailed, Gets, IsUntouched}
 use Rattle.cache_model.specs.declared.objects.Object.{Object}
-use Rattle.cache_model.specs.declared.objects.Objective.{Objective}
 use Rattle.trace_any.specs.declared.fault.TraceFault.{TraceFault as FaultOfTrace}
 use Rattle.trace_any.specs.declared.fault.TraceFault.TheVariants as trace
 use Rattle.trace_any.specs.declared.format.Format.{Format}

@@ -79,13 +79,7 @@ impl From<NoMemory> for BoundsFault {
 }
 
 // The price of the steps but the last.
-fn price_of(
-    mode: Mode,
-    intervals: &Intervals,
-    unit: u64,
-    units: u64,
-    denominator: u64,
-) -> u128
+fn price_of(mode: Mode, intervals: &Intervals, unit: u64, units: u64, denominator: u64) -> u128
     requires mode { IsBuilt mode }
     requires unit { 1 ≤ unit }
     requires denominator { denominator ≤ 2 ^ 48 }
@@ -398,9 +392,7 @@ mode infinite form plain\nunit 3 units 1 denominator 1\nintervals 1\nupper 3/1 f
             mode: Mode::Infinite,
             denominator: DenominatorChoice::Given(1),
         };
-        let Ok(texts) = texts_of(alloc, &asked, &trace, row.dropped) else {
-            return Err(Fail::from("no bounds"));
-        };
+        let texts = texts_of(alloc, &asked, &trace, row.dropped)?;
         assert_eq!(rt; texts.cert.as_slice(), row.cert, "{}", row.shows);
         assert_eq!(rt; texts.report.as_slice(), row.report, "{}", row.shows);
         Ok(())

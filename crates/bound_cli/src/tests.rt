@@ -10,6 +10,8 @@ use std::process::Abort;
 use std::test::Fail;
 use trace_lines::LineKind;
 
+mod modes;
+
 const WORDS: [&str; 6] = [
     "bounds",
     "t",
@@ -63,6 +65,8 @@ const GOOD: Row<'static> = Row {
     made: PAIR_CERT,
 };
 
+const CYCLE_TRACE: &[u8] = b"1 1 1\n2 2 1\n3 3 1\n4 1 1\n5 2 1\n6 3 1\n";
+
 const CYCLE: Row<'static> = Row {
     shows: "three objects in turn, of which two fit",
     words: &[
@@ -73,7 +77,7 @@ const CYCLE: Row<'static> = Row {
         "capacity=2",
         "mode=infinite",
     ],
-    trace: b"1 1 1\n2 2 1\n3 3 1\n4 1 1\n5 2 1\n6 3 1\n",
+    trace: CYCLE_TRACE,
     report: b"trace requests 6 objects 3 dropped 0\ncapacity 2 objective object\n\
 mode infinite form plain\nunit 1 units 2 denominator 1\nintervals 3\nupper 3/1 floor 3\nflow 0/1\nlower 2\n",
     made: b"cache-bound-certificate 1\nobjective object\ncapacity 2\nrequests 6\nunit 1\n\

@@ -257,8 +257,8 @@ fn takes_the_operands_in_any_order(rt: HostRuntime) -> Result<(), Fail> {
         format: Format::Webcache,
         capacity: 10,
         objective: Objective::Bytes,
-            mode: Mode::Infinite,
-            denominator: DenominatorChoice::Given(1),
+        mode: Mode::Infinite,
+        denominator: DenominatorChoice::Given(1),
     };
     for place in 0..4 {
         for others in [
@@ -276,6 +276,72 @@ fn takes_the_operands_in_any_order(rt: HostRuntime) -> Result<(), Fail> {
             }
             check(&rt, rt.alloc(), &text, Ok(wanted))?;
         }
+    }
+    Ok(())
+}
+
+#[test]
+fn takes_the_denominator_of_its_mode(rt: HostRuntime) -> Result<(), Fail> {
+    let given = |n| DenominatorChoice::Given(n);
+    let rows: [(&str, Mode, DenominatorChoice); 8] = [
+        ("mode=constant", Mode::Constant, given(1 << 48)),
+        ("mode=infinite", Mode::Infinite, given(1)),
+        ("denominator=03 mode=constant", Mode::Constant, given(3)),
+        ("mode=infinite denominator=5", Mode::Infinite, given(5)),
+        (
+            "mode=infinite denominator=281474976710656",
+            Mode::Infinite,
+            given(1 << 48),
+        ),
+        (
+            "mode=infinite denominator=auto",
+            Mode::Infinite,
+            DenominatorChoice::Auto,
+        ),
+        (
+            "denominator=auto mode=constant",
+            Mode::Constant,
+            DenominatorChoice::Auto,
+        ),
+        (
+            "mode=constant denominator=exact",
+            Mode::Constant,
+            DenominatorChoice::Exact,
+        ),
+    ];
+    for (operands, mode, denominator) in rows {
+        let plan = Plan::Bounds {
+            format: Format::Arc,
+            capacity: 1,
+            objective: Objective::Object,
+            mode,
+            denominator,
+        };
+        let text = format!(in rt.alloc(); "bounds t c format=arc capacity=1 {operands}")?;
+        check(&rt, rt.alloc(), &text, Ok(plan))?;
+    }
+    Ok(())
+}
+
+#[test]
+fn names_what_is_refused_of_a_mode_and_a_denominator(rt: HostRuntime) -> Result<(), Fail> {
+    let rows: [(&str, u64, WordKind); 8] = [
+        ("denominator=0", 4, WordKind::BadValue),
+        ("denominator=", 4, WordKind::BadValue),
+        ("denominator=281474976710657", 4, WordKind::BadValue),
+        ("denominator=Auto", 4, WordKind::BadValue),
+        ("denominator=1 denominator=2", 5, WordKind::Twice),
+        ("mode=constants", 4, WordKind::BadValue),
+        ("mode=constant mode=infinite", 5, WordKind::Twice),
+        (
+            "format=webcache capacity=2 window=3 mode=constant",
+            6,
+            WordKind::Unknown,
+        ),
+    ];
+    for (operands, place, kind) in rows {
+        let text = format!(in rt.alloc(); "bounds t c {operands}")?;
+        check(&rt, rt.alloc(), &text, Err(WordFault { place, kind }))?;
     }
     Ok(())
 }

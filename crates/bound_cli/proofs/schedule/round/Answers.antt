@@ -13,19 +13,19 @@ loop-step-init c = record {
 pub overflow_sub-load : goal.overflow_sub-load
 overflow_sub-load c =
     let here = load_here c.args.intervals.now c.args.capacity c.loop-step.step c.loop-step.keeps.items c.as_slice-items.ensures.timeline c.loop-step.invariant.taken c.loop-step.load c.kept_size-load.result c.loop-step.invariant.load
-        (rw (c.as_slice-items.ensures.items, c.deref.ensures.value, c.ending.ensures.number) at c.kept_size-load.ensures) in
+    (rw (c.as_slice-items.ensures.items, c.deref.ensures.value, c.ending.ensures.number) at c.kept_size-load.ensures) in
     here.0
 
 pub overflow_add-load : goal.overflow_add-load
 overflow_add-load c =
     let here = load_here c.args.intervals.now c.args.capacity c.loop-step.step c.loop-step.keeps.items c.as_slice-items.ensures.timeline c.loop-step.invariant.taken c.loop-step.load c.kept_size-load.result c.loop-step.invariant.load
-        (rw (c.as_slice-items.ensures.items, c.deref.ensures.value, c.ending.ensures.number) at c.kept_size-load.ensures) in
+    (rw (c.as_slice-items.ensures.items, c.deref.ensures.value, c.ending.ensures.number) at c.kept_size-load.ensures) in
     omega (arith, here.1, c.loop-step.invariant.taken.within_capacity c.loop-step.step, size_small c.args.intervals.now c.in-Some.number c.as_slice-items.result.now c.as_slice-items.ensures.timeline c.as_slice-items.ensures.items)
 
 pub loop-step-preserved : goal.loop-step-preserved
 loop-step-preserved c =
     let here = load_here c.args.intervals.now c.args.capacity c.loop-step.step c.loop-step.keeps.items c.as_slice-items.ensures.timeline c.loop-step.invariant.taken c.loop-step.load c.kept_size-load.result c.loop-step.invariant.load
-        (rw (c.as_slice-items.ensures.items, c.deref.ensures.value, c.ending.ensures.number) at c.kept_size-load.ensures) in
+    (rw (c.as_slice-items.ensures.items, c.deref.ensures.value, c.ending.ensures.number) at c.kept_size-load.ensures) in
     let line = c.args.intervals.now in
     let keeps = c.loop-step.keeps.items in
     elim c.match-starting.branch [
