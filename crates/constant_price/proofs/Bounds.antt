@@ -1,6 +1,6 @@
 -- The bound of a constant price is its part for each step and the surplus of all intervals.
-use Rattle.std.proofs.Common.{◌≡◌, ◌≢◌, ℕ, zero, suc, ◌+◌, ◌-◌, ◌*◌, ◌/◌, ◌^◌, ◌<◌, ◌≤◌, ◌⊎◌, inl, inr, ⊎_elim, refl, sym, ap, ◌∙◌, subst, arith, List, [], ◌∷◌, ◌++◌, length, sum, sum_by, replicate, take, drop, slice_range, All}
-use Rattle.std.proofs.Math.Nat.{mul_comm, mul_assoc}
+use Rattle.std.proofs.Common.{◌≡◌, ℕ, zero, suc, ◌+◌, ◌-◌, ◌*◌, ◌/◌, ◌^◌, ◌<◌, ◌≤◌, ⊎_elim, refl, sym, ap, ◌∙◌, subst, arith, List, [], ◌∷◌, ◌++◌, length, sum, sum_by, replicate, take, drop, slice_range, All}
+use Rattle.std.proofs.Math.Nat.{mul_assoc}
 use Rattle.std.proofs.lemmas.Bool.{cases_lt}
 use Rattle.std.proofs.lemmas.Nat.{mul-le}
 use Rattle.std.proofs.lemmas.List.{drop-append-le, take-append-le, drop-replicate, take-replicate, length-replicate}
@@ -8,11 +8,10 @@ use Rattle.std.proofs.lemmas.List.Folds.{sum_by-replicate}
 use Rattle.std.proofs.lemmas.List.Elements.{All-head, All-tail, All-weaker}
 use Rattle.std.proofs.lemmas.List.Sums.{sum_by-cons, sum_by-append, sum_by-le}
 use Rattle.cache_model.specs.declared.intervals.Interval.{Interval}
-use Rattle.cache_model.specs.Intervals.{surplus, bound_of}
-use Rattle.cache_model.specs.Units.{weight}
+use Rattle.cache_model.specs.Intervals.{surplus}
 use Rattle.interval_maker.specs.Timelines.{Timeline, IsInterval, IsTimeline}
 use Rattle.constant_price.specs.Constants.{constant_prices, constant_bound, IsLeastConstant}
-use Rattle.constant_price.specs.Surpluses.{charge, surplus_at, fall_at, surplus_of, fall_of}
+use Rattle.constant_price.specs.Surpluses.{charge, surplus_at, surplus_of, fall_of}
 use Rattle.constant_price.proofs.Convex.{IsConvex, no_smaller_later, smaller_later}
 use Rattle.constant_price.proofs.Falls.{fall_of-later, surplus_of-later, gain_within}
 
@@ -72,10 +71,10 @@ least_from_falls line unit units d price h within above =
     let growth : ℕ = units * (line.steps - 1) in
     let convex : IsConvex bound fall growth = constant_bound-convex line unit units d h in
     let smaller : (q : ℕ) → q < price → bound price < bound q = λ q before.
-        let e : q + (price - 1 - q) ≡ price - 1 = omega arith in
-        let there : growth < fall (q + (price - 1 - q)) = rw e (above (price - 1) (omega arith)) in
-        let whole : q + (price - 1 - q) + 1 ≡ price = omega arith in
-        subst (λ n. bound n < bound q) whole (smaller_later bound fall growth convex q (price - 1 - q) there) in
+    let e : q + (price - 1 - q) ≡ price - 1 = omega arith in
+    let there : growth < fall (q + (price - 1 - q)) = rw e (above (price - 1) (omega arith)) in
+    let whole : q + (price - 1 - q) + 1 ≡ price = omega arith in
+    subst (λ n. bound n < bound q) whole (smaller_later bound fall growth convex q (price - 1 - q) there) in
     record {
       no_smaller_bound = λ q.
           ⊎_elim

@@ -1,3 +1,4 @@
 pub mod Convex
 pub mod Falls
 pub mod Bounds
+mod Rows

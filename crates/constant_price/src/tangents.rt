@@ -83,6 +83,5 @@ pub(crate) fn meeting(low: Tangent, high: Tangent) -> u128
         .surplus
         .saturating_sub(high.surplus)
         .saturating_sub(high.fall.saturating_mul(width));
-    low.price
-        .saturating_add(below / (low.fall - high.fall))
+    low.price.saturating_add(below / (low.fall - high.fall))
 }
