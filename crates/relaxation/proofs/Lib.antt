@@ -1,0 +1,6 @@
+pub mod Divisors
+pub mod Whole
+pub mod RunningSums
+pub mod Bounds
+pub mod Loads
+pub mod Values

@@ -1,0 +1,18 @@
+//! The flow relaxation over the steps of a trace: units, denominators, prices and what they bound, flows and their value.
+//!
+//! The rules are those of "Intervals, units and prices" in docs/DEFINITIONS.md, after Berger, Beckmann and
+//! Harchol-Balter 2018. What is said of prices here holds of every play that the rules allow.
+#![tactic(auto)]
+
+mod denominators;
+mod flows;
+mod prices;
+#[cfg(test)]
+mod tests;
+mod units;
+
+pub use cache_model::Interval;
+pub use denominators::{Denominator, DenominatorChoice, DenominatorLimit, denominator_for};
+pub use flows::{FlowFault, flow_value};
+pub use prices::{PriceFault, Sums, bound_of};
+pub use units::unit_of;
