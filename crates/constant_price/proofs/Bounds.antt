@@ -95,12 +95,16 @@ pub least-within : (line : Timeline) (unit units d price : ℕ) → IsTimeline l
 least-within line unit units d price h least =
     omega (arith, least.no_smaller_bound 0, constant_bound-is line unit units d 0 h)
 
--- the units times all prices are within the surplus of no price
-pub sum-within : (line : Timeline) (unit units d price : ℕ) → d ≤ 2 ^ 48 → IsTimeline line → IsLeastConstant line unit units d price → units * sum (constant_prices price line.steps) ≤ 2 ^ 121
-sum-within line unit units d price small h least =
+-- the least bound is within the surplus of no price
+pub constant_bound-within : (line : Timeline) (unit units d price : ℕ) → d ≤ 2 ^ 48 → IsTimeline line → IsLeastConstant line unit units d price → constant_bound line unit units d price ≤ 2 ^ 121
+constant_bound-within line unit units d price small h least =
     let each : All (λ i. d * i.gain ≤ 2 ^ 96) line.items = All-weaker (IsInterval line.steps) (λ i. d * i.gain ≤ 2 ^ 96) (λ i is. gain_within line.steps d i small is) line.items h.intervals in
     let most : length line.items * 2 ^ 96 ≤ 2 ^ 25 * 2 ^ 96 = mul-le (length line.items) (2 ^ 96) (2 ^ 25) (2 ^ 96) (omega (arith, h.few_intervals, h.few_steps)) (omega arith) in
-    omega (arith, ap (λ n. units * n) (sum-constant_prices price line.steps), constant_bound-is line unit units d price h, least-within line unit units d price h least, surplus_of-within unit d 0 (2 ^ 96) line.items each, most)
+    omega (arith, least-within line unit units d price h least, surplus_of-within unit d 0 (2 ^ 96) line.items each, most)
+
+-- and so are the units times all prices
+pub sum-within : (line : Timeline) (unit units d price : ℕ) → d ≤ 2 ^ 48 → IsTimeline line → IsLeastConstant line unit units d price → units * sum (constant_prices price line.steps) ≤ 2 ^ 121
+sum-within line unit units d price small h least = omega (arith, constant_bound-within line unit units d price small h least)
 
 -- the same of numbers and a list that are equal to these
 pub least_found : (line : Timeline) (unit units d price growth : ℕ) (items : List Interval) → IsTimeline line → items ≡ line.items → growth ≡ units * (line.steps - 1)
