@@ -1,6 +1,6 @@
 -- The bound of a constant price is its part for each step and the surplus of all intervals.
-use Rattle.std.proofs.Common.{◌≡◌, ◌≢◌, ℕ, zero, suc, ◌+◌, ◌-◌, ◌*◌, ◌/◌, ◌^◌, ◌<◌, ◌≤◌, ◌⊎◌, inl, inr, ⊎_elim, refl, sym, ap, ◌∙◌, subst, arith, List, [], ◌∷◌, ◌++◌, length, sum, sum_by, replicate, take, drop, slice_range, All}
-use Rattle.std.proofs.Math.Nat.{mul_comm, mul_assoc}
+use Rattle.std.proofs.Common.{◌≡◌, ℕ, zero, suc, ◌+◌, ◌-◌, ◌*◌, ◌/◌, ◌^◌, ◌<◌, ◌≤◌, ⊎_elim, refl, sym, ap, ◌∙◌, subst, arith, List, [], ◌∷◌, ◌++◌, length, sum, sum_by, replicate, take, drop, slice_range, All}
+use Rattle.std.proofs.Math.Nat.{mul_assoc}
 use Rattle.std.proofs.lemmas.Bool.{cases_lt}
 use Rattle.std.proofs.lemmas.Nat.{mul-le}
 use Rattle.std.proofs.lemmas.List.{drop-append-le, take-append-le, drop-replicate, take-replicate, length-replicate}
@@ -8,11 +8,10 @@ use Rattle.std.proofs.lemmas.List.Folds.{sum_by-replicate}
 use Rattle.std.proofs.lemmas.List.Elements.{All-head, All-tail, All-weaker}
 use Rattle.std.proofs.lemmas.List.Sums.{sum_by-cons, sum_by-append, sum_by-le}
 use Rattle.cache_model.specs.declared.intervals.Interval.{Interval}
-use Rattle.cache_model.specs.Intervals.{surplus, bound_of}
-use Rattle.cache_model.specs.Units.{weight}
+use Rattle.cache_model.specs.Intervals.{surplus}
 use Rattle.interval_maker.specs.Timelines.{Timeline, IsInterval, IsTimeline}
 use Rattle.constant_price.specs.Constants.{constant_prices, constant_bound, IsLeastConstant}
-use Rattle.constant_price.specs.Surpluses.{charge, surplus_at, fall_at, surplus_of, fall_of}
+use Rattle.constant_price.specs.Surpluses.{charge, surplus_at, surplus_of, fall_of}
 use Rattle.constant_price.proofs.Convex.{IsConvex, no_smaller_later, smaller_later}
 use Rattle.constant_price.proofs.Falls.{fall_of-later, surplus_of-later, gain_within}
 
@@ -72,10 +71,10 @@ least_from_falls line unit units d price h within above =
     let growth : ℕ = units * (line.steps - 1) in
     let convex : IsConvex bound fall growth = constant_bound-convex line unit units d h in
     let smaller : (q : ℕ) → q < price → bound price < bound q = λ q before.
-        let e : q + (price - 1 - q) ≡ price - 1 = omega arith in
-        let there : growth < fall (q + (price - 1 - q)) = rw e (above (price - 1) (omega arith)) in
-        let whole : q + (price - 1 - q) + 1 ≡ price = omega arith in
-        subst (λ n. bound n < bound q) whole (smaller_later bound fall growth convex q (price - 1 - q) there) in
+    let e : q + (price - 1 - q) ≡ price - 1 = omega arith in
+    let there : growth < fall (q + (price - 1 - q)) = rw e (above (price - 1) (omega arith)) in
+    let whole : q + (price - 1 - q) + 1 ≡ price = omega arith in
+    subst (λ n. bound n < bound q) whole (smaller_later bound fall growth convex q (price - 1 - q) there) in
     record {
       no_smaller_bound = λ q.
           ⊎_elim
@@ -96,12 +95,16 @@ pub least-within : (line : Timeline) (unit units d price : ℕ) → IsTimeline l
 least-within line unit units d price h least =
     omega (arith, least.no_smaller_bound 0, constant_bound-is line unit units d 0 h)
 
--- the units times all prices are within the surplus of no price
-pub sum-within : (line : Timeline) (unit units d price : ℕ) → d ≤ 2 ^ 48 → IsTimeline line → IsLeastConstant line unit units d price → units * sum (constant_prices price line.steps) ≤ 2 ^ 121
-sum-within line unit units d price small h least =
+-- the least bound is within the surplus of no price
+pub constant_bound-within : (line : Timeline) (unit units d price : ℕ) → d ≤ 2 ^ 48 → IsTimeline line → IsLeastConstant line unit units d price → constant_bound line unit units d price ≤ 2 ^ 121
+constant_bound-within line unit units d price small h least =
     let each : All (λ i. d * i.gain ≤ 2 ^ 96) line.items = All-weaker (IsInterval line.steps) (λ i. d * i.gain ≤ 2 ^ 96) (λ i is. gain_within line.steps d i small is) line.items h.intervals in
     let most : length line.items * 2 ^ 96 ≤ 2 ^ 25 * 2 ^ 96 = mul-le (length line.items) (2 ^ 96) (2 ^ 25) (2 ^ 96) (omega (arith, h.few_intervals, h.few_steps)) (omega arith) in
-    omega (arith, ap (λ n. units * n) (sum-constant_prices price line.steps), constant_bound-is line unit units d price h, least-within line unit units d price h least, surplus_of-within unit d 0 (2 ^ 96) line.items each, most)
+    omega (arith, least-within line unit units d price h least, surplus_of-within unit d 0 (2 ^ 96) line.items each, most)
+
+-- and so are the units times all prices
+pub sum-within : (line : Timeline) (unit units d price : ℕ) → d ≤ 2 ^ 48 → IsTimeline line → IsLeastConstant line unit units d price → units * sum (constant_prices price line.steps) ≤ 2 ^ 121
+sum-within line unit units d price small h least = omega (arith, constant_bound-within line unit units d price small h least)
 
 -- the same of numbers and a list that are equal to these
 pub least_found : (line : Timeline) (unit units d price growth : ℕ) (items : List Interval) → IsTimeline line → items ≡ line.items → growth ≡ units * (line.steps - 1)

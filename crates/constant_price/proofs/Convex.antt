@@ -1,6 +1,5 @@
 -- A sum of which one part grows evenly and the other falls ever more slowly is least where the fall is first within the growth.
-use Rattle.std.proofs.Common.{◌≡◌, ℕ, zero, suc, ◌+◌, ◌<◌, ◌≤◌, ⊎_elim, subst, sym, add-one, arith}
-use Rattle.std.proofs.lemmas.Bool.{cases_lt}
+use Rattle.std.proofs.Common.{◌≡◌, ℕ, zero, suc, ◌+◌, ◌<◌, ◌≤◌, arith}
 
 -- each step of the bound adds the growth and takes the fall away, and the fall never rises
 pub record IsConvex (bound fall : ℕ → ℕ) (growth : ℕ) : Type 0 where

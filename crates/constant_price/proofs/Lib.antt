@@ -1,3 +1,5 @@
 pub mod Convex
 pub mod Falls
 pub mod Bounds
+pub mod Prices
+mod Rows

@@ -1,7 +1,7 @@
 //! The surplus of all intervals at one price, and how it falls.
 ghost use Rattle.std.specs.Prelude.{◌≡◌, ℕ, ◌<◌, ◌≤◌, ◌^◌, ◌*◌, length, All};
 ghost use Rattle.interval_maker.specs.Timelines.{IsInterval};
-ghost use Rattle.constant_price.specs.Surpluses.{charge, fall_at, fall_of, surplus_at, surplus_of};
+ghost use Rattle.constant_price.specs.Surpluses.{fall_at, fall_of, surplus_at, surplus_of};
 
 use cache_model::Interval;
 
@@ -83,6 +83,5 @@ pub(crate) fn meeting(low: Tangent, high: Tangent) -> u128
         .surplus
         .saturating_sub(high.surplus)
         .saturating_sub(high.fall.saturating_mul(width));
-    low.price
-        .saturating_add(below / (low.fall - high.fall))
+    low.price.saturating_add(below / (low.fall - high.fall))
 }

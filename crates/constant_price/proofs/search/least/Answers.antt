@@ -1,4 +1,4 @@
-use Rattle.std.proofs.Common.{◌≡◌, ◌-◌, ◌*◌, ap, ◌∙◌, arith}
+use Rattle.std.proofs.Common.{◌≡◌, ◌-◌, ◌*◌, arith}
 use Rattle.constant_price.specs.Constants.{IsLeastConstant}
 use Rattle.constant_price.proofs.Bounds.{least_found, sum-within}
 use Rattle.constant_price.proofs.search.least.Goals as goal
@@ -7,11 +7,11 @@ use Rattle.constant_price.proofs.search.least.Goals as goal
 found : (c : goal.After-least_within) → IsLeastConstant c.args.intervals.now c.args.unit c.args.units c.args.denominator c.least_within.result
 found c =
     let grown : c.from.result * c.from-2.result ≡ c.args.units * (c.args.intervals.now.steps - 1) = cc in
-    least_found c.args.intervals.now c.args.unit c.args.units c.args.denominator c.least_within.result (c.from.result * c.from-2.result) c.as_slice.result.now c.as_slice.ensures.timeline c.as_slice.ensures.items grown c.least_within.ensures.within c.least_within.ensures.first
+    least_found c.args.intervals.now c.args.unit c.args.units c.args.denominator c.least_within.result (c.from.result * c.from-2.result) c.as_slice-items.result.now c.as_slice-items.ensures.timeline c.as_slice-items.ensures.items grown c.least_within.ensures.within c.least_within.ensures.first
 
 pub returns-clause-least : goal.returns-clause-least
 returns-clause-least c = found c
 
 pub returns-clause-sum : goal.returns-clause-sum
 returns-clause-sum c =
-    sum-within c.args.intervals.now c.args.unit c.args.units c.args.denominator c.least_within.result (omega arith) c.as_slice.ensures.timeline (found c)
+    sum-within c.args.intervals.now c.args.unit c.args.units c.args.denominator c.least_within.result (omega arith) c.as_slice-items.ensures.timeline (found c)

@@ -7,7 +7,6 @@ search-init c = record {
   order = omega (arith, c.tangent_at-low.ensures.price);
   above = omega arith;
   low_fall = cc;
-  turn = omega arith;
   high_price = omega arith;
   within = omega arith;
   high_fall = omega (arith, fall_of-top (2 ^ 25) c.args.unit c.args.denominator c.args.intervals.now c.requires.denominator c.requires.intervals);

@@ -1,4 +1,4 @@
-use Rattle.std.proofs.Common.{◌≡◌, ◌+◌, ◌-◌, ◌^◌, ◌<◌, ◌≤◌}
+use Rattle.std.proofs.Common.{◌≡◌, ◌-◌, ◌^◌, ◌<◌, ◌≤◌}
 use Rattle.constant_price.specs.Surpluses.{fall_of}
 use Rattle.constant_price.proofs.search.least_within.Given as goal
 
@@ -7,7 +7,6 @@ invariant-search l = record {
   order : l.low.price < l.high.price;
   above : l.growth < l.low.fall;
   low_fall : l.low.fall ≡ fall_of l.unit l.denominator l.low.price l.intervals;
-  turn : l.turn < 8;
   high_price : l.high.price ≤ 2 ^ 96;
   within : l.high.fall ≤ l.growth;
   high_fall : fall_of l.unit l.denominator l.high.price l.intervals ≤ l.growth;
