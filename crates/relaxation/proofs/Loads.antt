@@ -1,10 +1,10 @@
 -- The load of a step, as flows begin and end there.
-use Rattle.std.proofs.Common.{◌≡◌, ◌≢◌, ◌∙◌, ℕ, zero, suc, ◌+◌, ◌-◌, ◌<◌, ◌≤◌, sym, ap, refl, subst, arith, ⊎_elim, Bool, true, false, ◌&&◌, ◌==◌, cond, nat_lt, nat_le, List, [], ◌∷◌, length, get_or, All, AllPairs, sum_by, zip}
+use Rattle.std.proofs.Common.{◌≡◌, ◌≢◌, ◌∙◌, ℕ, suc, ◌+◌, ◌-◌, ◌<◌, ◌≤◌, sym, ap, refl, subst, arith, ⊎_elim, Bool, true, false, ◌&&◌, ◌==◌, cond, nat_lt, nat_le, List, [], ◌∷◌, length, get_or, All, AllPairs, sum_by, zip}
 use Rattle.std.specs.Prelude.{Some, None, position}
 use Rattle.std.specs.declared.option.Option.{Option}
 use Rattle.std.specs.List.{position_from, position_or_len, AllZip}
 use Rattle.std.specs.Option.{option_map}
-use Rattle.std.proofs.lemmas.Bool.{cases_Bool, cases_lt, cases_eq, eqb-true, eqb-false, ne_eqb, eq-eqb, lt-ltb, le-ltb, le-leb, lt-leb, leb-true, ltb-true, leb-false, ltb-false, and_right}
+use Rattle.std.proofs.lemmas.Bool.{cases_lt, cases_eq, ne_eqb, eq-eqb, lt-ltb, le-ltb, and_right}
 use Rattle.std.proofs.lemmas.Bool.Decides.{nat_tests}
 use Rattle.std.proofs.lemmas.Iterator.Adapters.{position_from-zero}
 use Rattle.std.proofs.lemmas.List.Quantifiers.{position-Some}
@@ -15,7 +15,6 @@ use Rattle.cache_model.specs.Schedules.{covers, load_at}
 use Rattle.cache_model.specs.Schedules.{IsFractionalSchedule}
 use Rattle.cache_model.specs.Units.{weight}
 use Rattle.interval_maker.specs.Timelines.{Timeline, IsInterval, IsTimeline, starting_at, ending_at}
-use Rattle.relaxation.specs.declared.flows.FlowFault.{FlowFault}
 use Rattle.relaxation.specs.declared.flows.FlowFault.TheVariants.{AboveWeight, Overfull}
 use Rattle.relaxation.specs.Faults.{HasNoFault, amount_of, fault_from, load_fault, no_interval, weight_at}
 

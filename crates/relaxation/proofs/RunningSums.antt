@@ -1,14 +1,13 @@
 -- The sums of prices up to each step, made step by step.
-use Rattle.std.proofs.Common.{◌≡◌, ◌∙◌, ℕ, ◌+◌, ◌-◌, ◌*◌, ◌/◌, ◌<◌, ◌≤◌, sym, ap, refl, subst, arith, List, [], ◌∷◌, ◌++◌, length, take, drop, get_or, sum, sum_by, slice_range, ⊎_elim}
-use Rattle.std.specs.List.{range_with_len}
-use Rattle.std.proofs.lemmas.Bool.{cases_lt, cases_eq}
+use Rattle.std.proofs.Common.{◌≡◌, ◌∙◌, ℕ, ◌+◌, ◌-◌, ◌*◌, ◌/◌, ◌<◌, ◌≤◌, sym, ap, refl, subst, arith, List, [], ◌∷◌, ◌++◌, length, take, drop, get_or, sum, slice_range, ⊎_elim}
+use Rattle.std.proofs.lemmas.Bool.{cases_lt}
 use Rattle.std.proofs.lemmas.List.{get_or_append_left, take_all, take-take, length-append, get_or_default}
 use Rattle.std.proofs.lemmas.List.FromFn.{fill_by_all}
 use Rattle.std.proofs.lemmas.Slice.{between_is}
 use Rattle.std.proofs.lemmas.List.Sums.{sum_by_more, sum_by-take-le, sum_by-take-drop}
 use Rattle.std.proofs.Math.Nat.{mul-le-mul_left, mul-div-le, lt-mul-div-succ}
 use Rattle.std.proofs.Math.Seq.{get_or-append_seam}
-use Rattle.relaxation.specs.Prices.{AreSums, IsFirstPast, Priced, most_paid, paid_through, rises_of}
+use Rattle.relaxation.specs.Prices.{AreSums, IsFirstPast, Priced, most_paid, rises_of}
 
 -- the sums before each of the first k steps and after the last of them, and the newest of them, which is within the limit
 pub record IsRunning (prices : List ℕ) (k limit sum_now : ℕ) (sums : List ℕ) : Type 0 where

@@ -1,17 +1,17 @@
 -- Denominators that round no cost, as intervals are added one by one.
-use Rattle.std.proofs.Common.{⊎_elim, ◌≡◌, ◌≢◌, ◌∙◌, ℕ, ◌+◌, ◌*◌, ◌/◌, ◌%◌, ◌<◌, ◌≤◌, ◌==◌, ◌↔◌, refl, sym, ap, subst, arith, Bool, true, false, List, [], ◌∷◌, ◌++◌, length, take, drop, get_or, min, All}
+use Rattle.std.proofs.Common.{⊎_elim, ◌≡◌, ℕ, ◌+◌, ◌*◌, ◌/◌, ◌%◌, ◌<◌, ◌≤◌, ◌↔◌, refl, sym, ap, subst, arith, true, false, List, [], ◌∷◌, ◌++◌, length, take, get_or, All}
 use Rattle.std.specs.Prelude.{IsTrue, IsNone, Some}
 use Rattle.std.specs.Int.{IsGcd}
 use Rattle.std.specs.List.{list_all}
 use Prim.Native.Nat.{◌∣◌}
 use Rattle.std.proofs.lemmas.Bool.{eqb-true, eq-eqb, cases_lt, false≢true}
-use Rattle.std.proofs.lemmas.List.{take_more, take-take, take_all, length-take-le}
+use Rattle.std.proofs.lemmas.List.{take_more, take-take, take_all}
 use Rattle.std.proofs.lemmas.List.Elements.{All-nil, All-cons, All-head, All-tail, All-push, All-weaker, All-take}
 use Rattle.std.proofs.lemmas.List.Sums.{AllPass-from_list_all, list_all-from_AllPass}
 use Rattle.std.proofs.lemmas.Nat.Gcd.{dvd_trans, le_of_dvd, dvd_of_mod-eq-zero, mod-eq-zero_of_dvd}
 use Rattle.std.proofs.Math.Nat.{mul-dvd-mul_right, one-dvd, div-mul_cancel}
 use Rattle.bound_base.specs.Multiples.{IsLcm}
-use Rattle.bound_base.proofs.Multiples.{gcd_of, lcm_of, IsLcm_positive, IsGcd_positive}
+use Rattle.bound_base.proofs.Multiples.{gcd_of, lcm_of, IsLcm_positive}
 use Rattle.cache_model.specs.declared.intervals.Interval.{Interval}
 use Rattle.cache_model.specs.Units.{weight, HasWholeCosts, IsLeastWhole}
 use Rattle.cache_model.proofs.Units.{weight-dvd_iff}
@@ -138,9 +138,9 @@ first_past intervals unit k d m g in_range weights before gcd passes =
     record {
       within = omega arith;
       past = (
-          lcm.0,
-          subst (λ xs. IsLeastWhole xs unit lcm.0) (sym (take_more intervals k d in_range)) (least_push (take k intervals) x unit m g lcm.0 some before.least_is gcd lcm.1 positive),
-          passes lcm.0 lcm.1,
+        lcm.0,
+        subst (λ xs. IsLeastWhole xs unit lcm.0) (sym (take_more intervals k d in_range)) (least_push (take k intervals) x unit m g lcm.0 some before.least_is gcd lcm.1 positive),
+        passes lcm.0 lcm.1,
       );
       none_before = λ j low past.
           none_past (take k intervals) unit m j before.least_is before.within (subst (λ xs. PassesMost xs unit) (sym (take-take j k intervals (omega arith))) past);

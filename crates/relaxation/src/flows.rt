@@ -61,12 +61,7 @@ fn check_step(
 }
 
 // Whether the flows are a schedule, or else the first fault.
-fn check_flows(
-    intervals: &Intervals,
-    unit: u64,
-    units: u64,
-    flows: &[u64],
-) -> Result<(), FlowFault>
+fn check_flows(intervals: &Intervals, unit: u64, units: u64, flows: &[u64]) -> Result<(), FlowFault>
     requires unit { 1 ≤ unit }
     requires each { length flows.now ≡ length intervals.now.items }
     ensures whole { OnOk result (HasNoFault intervals.now unit units flows.now) }

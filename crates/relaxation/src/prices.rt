@@ -137,13 +137,7 @@ fn surplus_of(interval: &Interval, unit: u64, denominator: u64, sums: &Sums) -> 
 
 /// The numerator, over the denominator, of the bound that the prices give: no play that the rules allow scores more.
 /// It takes one pass over the intervals.
-pub fn bound_of(
-    intervals: &Intervals,
-    unit: u64,
-    units: u64,
-    denominator: u64,
-    sums: &Sums,
-) -> u128
+pub fn bound_of(intervals: &Intervals, unit: u64, units: u64, denominator: u64, sums: &Sums) -> u128
     requires unit { 1 ≤ unit }
     requires units { sums.now.units ≡ units }
     requires denominator { denominator ≤ 2 ^ 48 }

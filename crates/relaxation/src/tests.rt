@@ -84,7 +84,11 @@ fn bounds_and_values_are_over_the_denominator(rt: HostRuntime) -> Result<(), Fai
         (&[2, 3], FlowFault::Overfull { step: 1, load: 5 }),
     ];
     for (flows, fault) in rows {
-        assert_eq!(rt; flow_value(&intervals, 1, 4, 6, flows), Err(fault), "of {flows:?}");
+        assert_eq!(rt;
+            flow_value(&intervals, 1, 4, 6, flows),
+            Err(fault),
+            "of {flows:?}"
+        );
     }
     Ok(())
 }

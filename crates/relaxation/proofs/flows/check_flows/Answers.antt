@@ -19,7 +19,7 @@ check_step-requires-clause-load c =
 pub loop-step-preserved : goal.loop-step-preserved
 loop-step-preserved c =
     let load = (counted c.args.intervals.now c.args.flows.now c.loop-step.step c.loop-step.load c.flow_at.result c.flow_at-in-loop-step.result c.starting-starting.result c.ending-ending.result
-        c.steps-step-end.ensures.timeline c.requires.each c.loop-step.invariant.load c.starting-starting.ensures.number c.ending-ending.ensures.number c.flow_at.ensures c.flow_at-in-loop-step.ensures).1 in
+    c.steps-step-end.ensures.timeline c.requires.each c.loop-step.invariant.load c.starting-starting.ensures.number c.ending-ending.ensures.number c.flow_at.ensures c.flow_at-in-loop-step.ensures).1 in
     let passes = rw (c.as_slice.ensures.items, c.starting-starting.ensures.number) at c.in_ok-check_step.ensures in
     let low = (step_low c.args.intervals.now.items c.args.unit c.args.units c.args.flows.now c.loop-step.step _ passes).1 in
     record {
