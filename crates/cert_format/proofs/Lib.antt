@@ -1,0 +1,4 @@
+pub mod GrammarRows
+pub mod Words
+pub mod Shapes
+pub mod Numbers

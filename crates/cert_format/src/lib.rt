@@ -1,0 +1,12 @@
+//! The text of a certificate, both ways: a header, records and the end are written to a sink, and read from a source
+//! line by line.
+//!
+//! The rules are "The text of a certificate" and "The reading of a certificate" in docs/DEFINITIONS.md.
+#![tactic(auto)]
+
+mod fault;
+mod line;
+mod number;
+
+pub use cache_model::{Header, Objective, Record};
+pub use fault::{CertFault, TextKind};
