@@ -2,3 +2,4 @@ pub mod GrammarRows
 pub mod Words
 pub mod Shapes
 pub mod Numbers
+pub mod Decimals

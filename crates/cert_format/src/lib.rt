@@ -7,6 +7,9 @@
 mod fault;
 mod line;
 mod number;
+mod text;
+mod writing;
 
 pub use cache_model::{Header, Objective, Record};
 pub use fault::{CertFault, TextKind};
+pub use writing::{write_end, write_header, write_record};
