@@ -2,7 +2,7 @@
 use Rattle.std.proofs.Common.{◌≡◌, ◌≢◌, ℕ, suc, ◌+◌, ◌^◌, ◌≤◌, ◌<◌, ◌∙◌, sym, refl, ap, Bool, true, false, not, ◌&&◌, ◌||◌, List, [], ◌∷◌, ◌++◌, length, map, arith, ◌==◌, Some, None, Option, codes, inl, inr, ◌⊎◌, Ok, Err, Result}
 use Rattle.std.specs.List.{list_any}
 use Rattle.std.specs.Prelude.{slice_index_or}
-use Rattle.std.specs.Option.{option_or}
+use Rattle.std.specs.Option.{option_or, is_some}
 use Rattle.std.specs.Result.{is_ok}
 use Rattle.std.specs.Str.{bytes_eq}
 use Rattle.std.proofs.lemmas.Bool.{true≢false, and_parts, and_from, or_cases, or_left, or_right, cases_Bool, ne_eqb, false_from_ne_true}
@@ -241,3 +241,31 @@ fault_of_err (Some other) value fault is = let same : fault ≡ other = cc in ap
 pub none_of_ok : {A F : Type 0} (o : Option F) (value given : A) → Ok given ≡ value_unless o value → (o ≡ None) × (given ≡ value)
 none_of_ok None value given is = let same : given ≡ value = cc in (refl, same)
 none_of_ok (Some other) value given is = absurd (true≢false (ap is_ok is))
+
+-- a keep is written by its digit
+pub keep_word_of : (word : List ℕ) → can_stand keep_slot word ≡ true → (keep : Bool) × (word ≡ (48 + keep_digit keep) ∷ [])
+keep_word_of word stands = by (first_or_second (codes "0") (codes "1") word stands)
+  where
+    by : (word ≡ codes "0") ⊎ (word ≡ codes "1") → (keep : Bool) × (word ≡ (48 + keep_digit keep) ∷ [])
+    by (inl no') = (false, no')
+    by (inr yes') = (true, yes')
+
+-- the line of a record without a fault has these words
+pub text_record : (text : List ℕ) → line_fault record_slots text ≡ None
+    → (p : List ℕ) × (keep : Bool) × (f : List ℕ) × (words text ≡ p ∷ ((48 + keep_digit keep) ∷ []) ∷ f ∷ [])
+    × (number_fault (Within 0 (2 ^ 126)) p ≡ None) × (number_fault (Within 0 (2 ^ 48)) f ≡ None)
+text_record text fits = by (cases_Bool (has_shape record_slots (words text)))
+  where
+    both : (o p : Option TextKind) → option_or o p ≡ None → (o ≡ None) × (p ≡ None)
+    both None p h = (refl, h)
+    both (Some x) p h = let wrong : Some x ≡ None = h in absurd (true≢false (ap is_some wrong))
+    by : (has_shape record_slots (words text) ≡ true) ⊎ (has_shape record_slots (words text) ≡ false)
+        → (p : List ℕ) × (keep : Bool) × (f : List ℕ) × (words text ≡ p ∷ ((48 + keep_digit keep) ∷ []) ∷ f ∷ [])
+        × (number_fault (Within 0 (2 ^ 126)) p ≡ None) × (number_fault (Within 0 (2 ^ 48)) f ≡ None)
+    by (inl shape) =
+        let three = three_shape 0 (2 ^ 126) 0 (2 ^ 48) (words text) shape in
+        let keep = keep_word_of three.1 three.5 in
+        let are : words text ≡ three.0 ∷ ((48 + keep_digit keep.0) ∷ []) ∷ three.2 ∷ [] = three.3 ∙ ap (λ k. three.0 ∷ k ∷ three.2 ∷ []) keep.1 in
+        let numbers = both _ _ (sym (record_text text three.0 three.2 keep.0 are three.4 three.6) ∙ fits) in
+        (three.0, keep.0, three.2, are, numbers.0, numbers.1)
+    by (inr none) = let wrong : Some Shape ≡ None = sym (no_shape record_slots text none) ∙ fits in cc
