@@ -6,3 +6,4 @@ pub mod Decimals
 pub mod Spellings
 pub mod Fronts
 pub mod Headers
+pub mod Wholes

@@ -1,3 +1,4 @@
 pub mod Kinds
 pub mod Grammar
 pub mod Readings
+pub mod Laws

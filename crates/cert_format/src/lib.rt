@@ -5,6 +5,7 @@
 #![tactic(auto)]
 
 mod fault;
+mod laws;
 mod line;
 mod number;
 mod text;
@@ -12,4 +13,5 @@ mod writing;
 
 pub use cache_model::{Header, Objective, Record};
 pub use fault::{CertFault, TextKind};
+pub use laws::{read_is_in_range, read_is_written, written_is_read};
 pub use writing::{write_end, write_header, write_record};

@@ -94,13 +94,13 @@ impl Text {
     }
 
     /// The line of a record.
-    pub fn of_record(record: &Record) -> Self
-        ensures { result ≡ line (record_line record.now) }
+    pub fn of_record(entry: &Record) -> Self
+        ensures { result ≡ line (record_line entry.now) }
     {
         let mut text = Text::new();
-        text.push_number(record.price);
-        text.push(keep_word(record.keep));
-        text.push_number(record.flow);
+        text.push_number(entry.price);
+        text.push(keep_word(entry.keep));
+        text.push_number(entry.flow);
         text.push(b"\n");
         text
     }

@@ -21,13 +21,13 @@ pub fn write_header<K: Sink>(sink: &mut K, header: &Header) -> Result<(), Failed
 }
 
 /// Writes the line of a record.
-pub fn write_record<K: Sink>(sink: &mut K, record: &Record) -> Result<(), Failed>
-    requires { IsRecordInRange record.now }
-    ensures all { OnOk result (Appends (K.written sink.old) (K.written sink.new) (line (record_line record.now))) }
-    ensures front { OnErr result (AppendsProperFront (K.written sink.old) (K.written sink.new) (line (record_line record.now))) }
+pub fn write_record<K: Sink>(sink: &mut K, entry: &Record) -> Result<(), Failed>
+    requires { IsRecordInRange entry.now }
+    ensures all { OnOk result (Appends (K.written sink.old) (K.written sink.new) (line (record_line entry.now))) }
+    ensures front { OnErr result (AppendsProperFront (K.written sink.old) (K.written sink.new) (line (record_line entry.now))) }
     ensures cause { HasCause (K.faults sink.old) (K.faults sink.new) result }
 {
-    write_all(sink, Text::of_record(record).as_bytes())
+    write_all(sink, Text::of_record(entry).as_bytes())
 }
 
 /// Writes the line after the records.
