@@ -7,3 +7,5 @@ pub mod Spellings
 pub mod Fronts
 pub mod Headers
 pub mod Wholes
+pub mod Short
+pub mod Taken

@@ -1,4 +1,5 @@
 pub mod Kinds
 pub mod Grammar
 pub mod Readings
+pub mod Lines
 pub mod Laws

@@ -7,6 +7,7 @@
 mod fault;
 mod laws;
 mod line;
+mod lines;
 mod number;
 mod text;
 mod writing;
