@@ -19,7 +19,7 @@ use Rattle.cert_format.specs.declared.fault.CertFault.{CertFault}
 use Rattle.cert_format.specs.declared.fault.CertFault.TheVariants.{BadText, Truncated, Trailing, ReadFault}
 use Rattle.cert_format.specs.Grammar.{Slot, line_fault, value_unless}
 use Rattle.cert_format.specs.Readings.{first_fault, lines_fault, after_lines, bytes_through, in_line}
-use Rattle.cert_format.specs.Lines.{told, text_given, of_line, IsPast, Passes, IsStopped, IsWithin, ReadsLines}
+use Rattle.cert_format.specs.Lines.{told, text_given, of_line, IsPast, Passes, IsStopped, IsWithin, Reads}
 use Rattle.cert_format.proofs.Fronts.{whole_line, cut_line, long_line}
 use Rattle.cert_format.proofs.Headers.{after_lines-suc, after_lines-zero}
 
@@ -67,10 +67,6 @@ no_value x f same = true≢false (ap is_ok same)
 no_fault : {A F : Type 0} (x : A) (f : F) → Err f ≡ Ok x → ⊥
 no_fault x f same = true≢false (sym (ap is_ok same))
 
--- one line that has a fault
-one_fault : (n : ℕ) (slots : List Slot) (bytes : List ℕ) (fault : CertFault) → first_fault n slots bytes ≡ Some fault → lines_fault n (slots ∷ []) bytes ≡ Some fault
-one_fault n slots bytes fault is = ap (λ o. option_or o None) is
-
 -- a position that no line was given from
 kept_past : (old new : Position) (bytes : List ℕ) → new.line ≡ old.line → new.consumed ≡ old.consumed → IsPast old new bytes
 kept_past old new bytes line consumed =
@@ -86,10 +82,10 @@ one_past old new bytes line consumed =
 -- no line is read: the input ends, the line is too long, or a read failed
 module _ {A : Type 0} (slots : List Slot) (value : List ℕ → A) (old new : Position) (left left' : Option (List ℕ)) (faults_before faults_after : ℕ) (limit : old.limit ≡ 2 ^ 36) (few : old.line < 2 ^ 26) where
   abbrev Stopped : CertFault → Type 0
-  Stopped fault = ReadsLines (slots ∷ []) value old new (told old left) (told new left') faults_before faults_after (Err fault)
+  Stopped fault = Reads (first_fault (old.line + 1) slots) 1 value old new (told old left) (told new left') faults_before faults_after (Err fault)
 
   -- from its parts
-  stops : (fault : CertFault) → (new.limit ≡ old.limit) → (length new.held ≤ 65536) → IsStopped (slots ∷ []) old (told old left) faults_before faults_after fault → IsWithin new.line fault → IfSome (told old left) (IsPast old new) → Stopped fault
+  stops : (fault : CertFault) → (new.limit ≡ old.limit) → (length new.held ≤ 65536) → IsStopped (first_fault (old.line + 1) slots) (told old left) faults_before faults_after fault → IsWithin new.line fault → IfSome (told old left) (IsPast old new) → Stopped fault
   stops fault same held stopped within past = record { limit = same; held = held; given = tt; passes = tt; value_is = tt; stopped = stopped; within = within; past = past }
 
   -- the bytes that the reader of lines stands in are told too
@@ -99,20 +95,20 @@ module _ {A : Type 0} (slots : List Slot) (value : List ℕ → A) (old new : Po
   stop_unended : (text : List ℕ) → length text ≤ 65535 → GivesLine old new (stands_in old.held left) (stands_in new.held left') → length new.held ≤ 65536
       → IfSome (stands_in old.held left) (λ bytes. (text ≡ bytes) × (text_len bytes ≡ length bytes) × (0 < length bytes)) → Stopped (Truncated (old.line + 1))
   stop_unended text short gives held is = stops (Truncated (old.line + 1)) gives.limit held
-      (if_told (told old left) _ (λ bytes e. let whole = in_told _ is bytes e in one_fault (old.line + 1) slots bytes (Truncated (old.line + 1)) (cut_line (old.line + 1) slots bytes (omega (arith, whole.1)) (omega (arith, whole.1, ap length whole.0, short)))))
+      (if_told (told old left) _ (λ bytes e. let whole = in_told _ is bytes e in (cut_line (old.line + 1) slots bytes (omega (arith, whole.1)) (omega (arith, whole.1, ap length whole.0, short)))))
       (omega (arith, gives.line)) (if_told (told old left) _ (λ bytes e. one_past old new bytes gives.line (in_told _ gives.consumed bytes e)))
 
   stop_end : GivesNone old new (stands_in old.held left) (stands_in new.held left') → length new.held ≤ 65536 → IfSome (stands_in old.held left) (λ bytes. bytes ≡ []) → Stopped (Truncated (old.line + 1))
   stop_end gives held is = stops (Truncated (old.line + 1)) (ap (λ p. p.limit) gives.still) held
-      (if_told (told old left) _ (λ bytes e. let none = in_told _ is bytes e in one_fault (old.line + 1) slots bytes (Truncated (old.line + 1)) (rw none refl)))
+      (if_told (told old left) _ (λ bytes e. let none = in_told _ is bytes e in rw none refl))
       (omega (arith, ap (λ p. p.line) gives.still)) (if_told (told old left) _ (λ bytes e. kept_past old new bytes (ap (λ p. p.line) gives.still) (ap (λ p. p.consumed) gives.still)))
 
-  stop_fault : (given : LineFault) (fault : CertFault) → Stops old new (stands_in old.held left) (stands_in new.held left') given → length new.held ≤ 65536 → IsStopped (slots ∷ []) old (told old left) faults_before faults_after fault → IsWithin old.line fault → Stopped fault
+  stop_fault : (given : LineFault) (fault : CertFault) → Stops old new (stands_in old.held left) (stands_in new.held left') given → length new.held ≤ 65536 → IsStopped (first_fault (old.line + 1) slots) (told old left) faults_before faults_after fault → IsWithin old.line fault → Stopped fault
   stop_fault given fault stop held why within = stops fault (ap (λ p. p.limit) stop.still) held why (rw (ap (λ p. p.line) stop.still) within)
       (if_told (told old left) _ (λ bytes e. kept_past old new bytes (ap (λ p. p.line) stop.still) (ap (λ p. p.consumed) stop.still)))
 
   -- a certificate doesn't pass the limit
-  not_past : IfSome (stands_in old.held left) (λ bytes. (text_len bytes ≤ 65535) × (old.limit < old.consumed + length (first_line bytes))) → IsStopped (slots ∷ []) old (told old left) faults_before faults_after (BadText (old.line + 1) TooLong)
+  not_past : IfSome (stands_in old.held left) (λ bytes. (text_len bytes ≤ 65535) × (old.limit < old.consumed + length (first_line bytes))) → IsStopped (first_fault (old.line + 1) slots) (told old left) faults_before faults_after (BadText (old.line + 1) TooLong)
   not_past past = if_told (told old left) _ (λ bytes e.
       let some = told_some old left bytes e in
       let wrong = in_told _ past bytes e in
@@ -132,7 +128,7 @@ module _ {A : Type 0} (slots : List Slot) (value : List ℕ → A) (old new : Po
   stop_line (Err (line.LineTooLong m)) fault gave is =
       let same : BadText (old.line + 1) TooLong ≡ fault = cc in
       subst Stopped same (stop_fault (line.LineTooLong m) (BadText (old.line + 1) TooLong) gave.next gave.held
-      (if_told (told old left) _ (λ bytes e. one_fault (old.line + 1) slots bytes (BadText (old.line + 1) TooLong) (long_line (old.line + 1) slots bytes (in_told _ gave.refused.1 bytes e)))) (omega arith))
+      (if_told (told old left) _ (λ bytes e. long_line (old.line + 1) slots bytes (in_told _ gave.refused.1 bytes e))) (omega arith))
   stop_line (Err line.InputTooLong) fault gave is =
       let same : BadText (old.line + 1) TooLong ≡ fault = cc in
       subst Stopped same (stop_fault line.InputTooLong (BadText (old.line + 1) TooLong) gave.next gave.held (not_past gave.refused) (omega arith))
@@ -143,7 +139,7 @@ length-text bytes = length-prefix_len _ bytes
 -- a whole line is read: its text has this fault, or this value
 module _ {A : Type 0} (slots : List Slot) (value : List ℕ → A) (old new : Position) (left left' : Option (List ℕ)) (faults_before faults_after : ℕ) (text : List ℕ) (short : line_fault slots text ≡ None → length text ≤ 63) where
   abbrev Read : Result A CertFault → Type 0
-  Read result = ReadsLines (slots ∷ []) (λ bytes. value (first_text bytes)) old new (told old left) (told new left') faults_before faults_after result
+  Read result = Reads (first_fault (old.line + 1) slots) 1 (λ bytes. value (first_text bytes)) old new (told old left) (told new left') faults_before faults_after result
 
   -- the first line of the bytes that are told is this text
   abbrev IsFirst : List ℕ → Type 0
@@ -163,7 +159,7 @@ module _ {A : Type 0} (slots : List Slot) (value : List ℕ → A) (old new : Po
         let size = ap length first.0 ∙ length-text bytes in
         let fault : first_fault (old.line + 1) slots bytes ≡ None = whole_line (old.line + 1) slots bytes first.1 (omega (arith, size, long)) ∙ ap (option_map (in_line (old.line + 1))) (ap (line_fault slots) (sym first.0) ∙ fits) in
         record {
-          none = ap (λ o. option_or o None) fault;
+          none = fault;
           rest = told_all new left' (omega (arith, consumed, some.0, gives.line, size, short fits, length-take (text_len bytes + 1) bytes)) ∙ (rest ∙ ap (λ b. Some b) (sym (after_lines-one bytes)));
         });
     value_is = if_told (told old left) _ (λ bytes e. ap value (at_some (stands_in old.held left) bytes IsFirst (told_some old left bytes e).1 is).0);
@@ -180,8 +176,7 @@ module _ {A : Type 0} (slots : List Slot) (value : List ℕ → A) (old new : Po
     stopped = if_told (told old left) _ (λ bytes e.
         let first = at_some (stands_in old.held left) bytes IsFirst (told_some old left bytes e).1 is in
         let size = ap length first.0 ∙ length-text bytes in
-        one_fault (old.line + 1) slots bytes (BadText (old.line + 1) kind)
-        (whole_line (old.line + 1) slots bytes first.1 (omega (arith, size, long)) ∙ ap (option_map (in_line (old.line + 1))) (ap (line_fault slots) (sym first.0) ∙ fault)));
+        whole_line (old.line + 1) slots bytes first.1 (omega (arith, size, long)) ∙ ap (option_map (in_line (old.line + 1))) (ap (line_fault slots) (sym first.0) ∙ fault));
     within = omega (arith, gives.line);
     past = if_told (told old left) _ (λ bytes e. one_past old new bytes gives.line (at_some (stands_in old.held left) bytes _ (told_some old left bytes e).1 gives.consumed));
   }
@@ -197,6 +192,6 @@ module _ {A : Type 0} (slots : List Slot) (value : List ℕ → A) (old new : Po
   read_line (Err line.InputTooLong) gave is = absurd (no_fault text (BadText (old.line + 1) TooLong) is)
 
 -- a result that is another one
-pub reads_as : {A : Type 0} (lines : List (List Slot)) (value : List ℕ → A) (old new : Position) (before after : Option (List ℕ)) (faults_before faults_after : ℕ) (result other : Result A CertFault) → result ≡ other
-    → ReadsLines lines value old new before after faults_before faults_after other → ReadsLines lines value old new before after faults_before faults_after result
-reads_as lines value old new before after faults_before faults_after result other same reads = subst (λ r. ReadsLines lines value old new before after faults_before faults_after r) (sym same) reads
+pub reads_as : {A : Type 0} (fault_of : List ℕ → Option CertFault) (count : ℕ) (value : List ℕ → A) (old new : Position) (before after : Option (List ℕ)) (faults_before faults_after : ℕ) (result other : Result A CertFault) → result ≡ other
+    → Reads fault_of count value old new before after faults_before faults_after other → Reads fault_of count value old new before after faults_before faults_after result
+reads_as fault_of count value old new before after faults_before faults_after result other same reads = subst (λ r. Reads fault_of count value old new before after faults_before faults_after r) (sym same) reads

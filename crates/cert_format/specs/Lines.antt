@@ -12,8 +12,7 @@ use Rattle.cert_format.specs.declared.fault.TextKind.{TextKind}
 use Rattle.cert_format.specs.declared.fault.TextKind.TheVariants.{TooLong}
 use Rattle.cert_format.specs.declared.fault.CertFault.{CertFault}
 use Rattle.cert_format.specs.declared.fault.CertFault.TheVariants.{BadText, Truncated, Trailing, ReadFault}
-use Rattle.cert_format.specs.Grammar.{Slot}
-use Rattle.cert_format.specs.Readings.{lines_fault, after_lines, bytes_through}
+use Rattle.cert_format.specs.Readings.{after_lines, bytes_through}
 
 -- the bytes that a reader stands in, where the source tells those that it has left, and told those of the lines so far, which have at most 64 bytes each
 abbrev pub told : Position → Option (List ℕ) → Option (List ℕ)
@@ -38,17 +37,17 @@ pub record IsPast (old new : Position) (bytes : List ℕ) : Type 0 where
   pub further : old.line ≤ new.line
   pub consumed : new.consumed ≡ old.consumed + bytes_through (new.line - old.line) bytes
 
--- these lines are the next ones, and what stands after them is still there
-pub record Passes (lines : List (List Slot)) (old new : Position) (bytes : List ℕ) (after : Option (List ℕ)) : Type 0 where
-  pub none : lines_fault (old.line + 1) lines bytes ≡ None
-  pub rest : after ≡ Some (after_lines (length lines) bytes)
+-- the bytes begin with so many lines without a fault, and what stands after them is still there
+pub record Passes (fault_of : List ℕ → Option CertFault) (count : ℕ) (bytes : List ℕ) (after : Option (List ℕ)) : Type 0 where
+  pub none : fault_of bytes ≡ None
+  pub rest : after ≡ Some (after_lines count bytes)
 
--- why these lines are not given: it is the first fault of the next lines, or the source's faults rose
-abbrev pub IsStopped : List (List Slot) → Position → Option (List ℕ) → ℕ → ℕ → CertFault → Type 0
-IsStopped lines old before faults_before faults_after ReadFault = Rose faults_before faults_after
-IsStopped lines old before faults_before faults_after (BadText n kind) = IfSome before (λ bytes. lines_fault (old.line + 1) lines bytes ≡ Some (BadText n kind))
-IsStopped lines old before faults_before faults_after (Truncated n) = IfSome before (λ bytes. lines_fault (old.line + 1) lines bytes ≡ Some (Truncated n))
-IsStopped lines old before faults_before faults_after (Trailing n) = ⊥
+-- why lines are not given: the bytes have this fault, or the source's faults rose
+abbrev pub IsStopped : (List ℕ → Option CertFault) → Option (List ℕ) → ℕ → ℕ → CertFault → Type 0
+IsStopped fault_of before faults_before faults_after ReadFault = Rose faults_before faults_after
+IsStopped fault_of before faults_before faults_after (BadText n kind) = IfSome before (λ bytes. fault_of bytes ≡ Some (BadText n kind))
+IsStopped fault_of before faults_before faults_after (Truncated n) = IfSome before (λ bytes. fault_of bytes ≡ Some (Truncated n))
+IsStopped fault_of before faults_before faults_after (Trailing n) = IfSome before (λ bytes. fault_of bytes ≡ Some (Trailing n))
 
 -- no line after that of the fault is given
 abbrev pub IsWithin : ℕ → CertFault → Type 0
@@ -57,13 +56,13 @@ IsWithin given (BadText n kind) = given ≤ n
 IsWithin given (Truncated n) = given ≤ n
 IsWithin given (Trailing n) = given ≤ n
 
--- these lines are read as a value of the bytes, or are not
-pub record ReadsLines {A : Type 0} (lines : List (List Slot)) (value : List ℕ → A) (old new : Position) (before after : Option (List ℕ)) (faults_before faults_after : ℕ) (result : Result A CertFault) : Type 0 where
+-- so many lines are read as a value of the bytes, or are not, for a fault that the bytes have
+pub record Reads {A : Type 0} (fault_of : List ℕ → Option CertFault) (count : ℕ) (value : List ℕ → A) (old new : Position) (before after : Option (List ℕ)) (faults_before faults_after : ℕ) (result : Result A CertFault) : Type 0 where
   pub limit : new.limit ≡ old.limit
   pub held : length new.held ≤ 65536
-  pub given : OnOk result ((new.line ≡ old.line + length lines) × (new.fault ≡ None))
-  pub passes : OnOk result (IfSome before (λ bytes. Passes lines old new bytes after))
+  pub given : OnOk result ((new.line ≡ old.line + count) × (new.fault ≡ None))
+  pub passes : OnOk result (IfSome before (λ bytes. Passes fault_of count bytes after))
   pub value_is : IfOk result (λ v. IfSome before (λ bytes. v ≡ value bytes))
-  pub stopped : IfErr result (IsStopped lines old before faults_before faults_after)
+  pub stopped : IfErr result (IsStopped fault_of before faults_before faults_after)
   pub within : IfErr result (IsWithin new.line)
   pub past : IfSome before (IsPast old new)

@@ -5,8 +5,8 @@ ghost use Rattle.bound_io.specs.Lines.{first_text};
 ghost use Rattle.bound_io.specs.Reading.{LosesFront};
 ghost use Rattle.cache_model.specs.Certificates.{IsRecordInRange};
 ghost use Rattle.cert_format.specs.Grammar.{choice_line, fixed_line, number_at, number_line, record_slots, word_at};
-ghost use Rattle.cert_format.specs.Lines.{ReadsLines, of_line, text_given, told};
-ghost use Rattle.cert_format.specs.Readings.{record_in};
+ghost use Rattle.cert_format.specs.Lines.{Reads, of_line, text_given, told};
+ghost use Rattle.cert_format.specs.Readings.{first_fault, record_in};
 
 use crate::fault::{CertFault, TextKind};
 use crate::line::{choice_after, fixed, number_after, record};
@@ -51,7 +51,7 @@ pub fn read_fixed<S: Source>(
     requires few { lines.old.line < 2 ^ 26 }
     requires no_fault { lines.old.fault ≡ None }
     requires short { length words.now ≤ 63 }
-    ensures read { ReadsLines (fixed_line words.now ∷ []) (λ _. tt) lines.old lines.new (told lines.old (S.left source.old)) (told lines.new (S.left source.new)) (S.faults source.old) (S.faults source.new) result }
+    ensures read { Reads (first_fault (lines.old.line + 1) (fixed_line words.now)) 1 (λ _. tt) lines.old lines.new (told lines.old (S.left source.old)) (told lines.new (S.left source.new)) (S.faults source.old) (S.faults source.new) result }
     ensures source { LosesFront (S.left source.old) (S.left source.new) }
     ensures later { S.faults source.old ≤ S.faults source.new }
 {
@@ -74,7 +74,7 @@ pub fn read_number<S: Source>(
     requires short { length name.now ≤ 20 }
     requires high { high < 2 ^ 127 }
     ensures range { IfOk result (λ n. (low ≤ n) × (n ≤ high)) }
-    ensures read { ReadsLines (number_line name.now low high ∷ []) (λ bytes. number_at 1 (first_text bytes)) lines.old lines.new (told lines.old (S.left source.old)) (told lines.new (S.left source.new)) (S.faults source.old) (S.faults source.new) result }
+    ensures read { Reads (first_fault (lines.old.line + 1) (number_line name.now low high)) 1 (λ bytes. number_at 1 (first_text bytes)) lines.old lines.new (told lines.old (S.left source.old)) (told lines.new (S.left source.new)) (S.faults source.old) (S.faults source.new) result }
     ensures source { LosesFront (S.left source.old) (S.left source.new) }
     ensures later { S.faults source.old ≤ S.faults source.new }
 {
@@ -97,7 +97,7 @@ pub fn read_choice<S: Source>(
     requires name { length name.now ≤ 20 }
     requires first { (0 < length first.now) × (length first.now ≤ 20) }
     requires second { (0 < length second.now) × (length second.now ≤ 20) }
-    ensures read { ReadsLines (choice_line name.now first.now second.now ∷ []) (λ bytes. bytes_eq (word_at 1 (first_text bytes)) first.now) lines.old lines.new (told lines.old (S.left source.old)) (told lines.new (S.left source.new)) (S.faults source.old) (S.faults source.new) result }
+    ensures read { Reads (first_fault (lines.old.line + 1) (choice_line name.now first.now second.now)) 1 (λ bytes. bytes_eq (word_at 1 (first_text bytes)) first.now) lines.old lines.new (told lines.old (S.left source.old)) (told lines.new (S.left source.new)) (S.faults source.old) (S.faults source.new) result }
     ensures source { LosesFront (S.left source.old) (S.left source.new) }
     ensures later { S.faults source.old ≤ S.faults source.new }
 {
@@ -115,7 +115,7 @@ pub fn read_record<S: Source>(
     requires few { lines.old.line < 2 ^ 26 }
     requires no_fault { lines.old.fault ≡ None }
     ensures range { IfOk result IsRecordInRange }
-    ensures read { ReadsLines (record_slots ∷ []) (λ bytes. record_in (first_text bytes)) lines.old lines.new (told lines.old (S.left source.old)) (told lines.new (S.left source.new)) (S.faults source.old) (S.faults source.new) result }
+    ensures read { Reads (first_fault (lines.old.line + 1) record_slots) 1 (λ bytes. record_in (first_text bytes)) lines.old lines.new (told lines.old (S.left source.old)) (told lines.new (S.left source.new)) (S.faults source.old) (S.faults source.new) result }
     ensures source { LosesFront (S.left source.old) (S.left source.new) }
     ensures later { S.faults source.old ≤ S.faults source.new }
 {
