@@ -9,3 +9,5 @@ pub mod Headers
 pub mod Wholes
 pub mod Short
 pub mod Taken
+pub mod Chains
+pub mod HeaderParts

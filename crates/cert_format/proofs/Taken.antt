@@ -6,7 +6,8 @@ use Rattle.std.specs.Result.{is_ok}
 use Rattle.std.proofs.lemmas.Bool.{true≢false, cases_Bool, leb-true, le-leb}
 use Rattle.std.proofs.lemmas.List.Sums.{prefix_len-le-length}
 use Rattle.std.proofs.lemmas.List.Folds.{length-prefix_len}
-use Rattle.bound_io.specs.Causes.{Rose}
+use Rattle.bound_io.specs.Devices.{Device}
+use Rattle.bound_io.specs.Reading.{LosesFront}
 use Rattle.bound_io.specs.Lines.{is_lf, text_len, first_text, first_line, after_line, stands_in}
 use Rattle.bound_io.specs.Positions.{Position, GivesLine, GivesNone, Stops, NextLine, IsRefused, IsLine, given, given_by, with_held, with_fault}
 use Rattle.bound_io.specs.declared.line_reader.LineFault.{LineFault}
@@ -24,12 +25,14 @@ use Rattle.cert_format.proofs.Fronts.{whole_line, cut_line, long_line}
 use Rattle.cert_format.proofs.Headers.{after_lines-suc, after_lines-zero}
 
 -- what a call for the next line tells
-pub record Gave (old new : Position) (left left' : Option (List ℕ)) (faults_before faults_after : ℕ) (r : Result WholeLine LineFault) : Type 0 where
-  pub line : IfOk r (λ w. IfSome (stands_in old.held left) (IsLine w))
-  pub refused : IfErr r (IsRefused old (stands_in old.held left) faults_before faults_after)
-  pub next : NextLine old new (stands_in old.held left) (stands_in new.held left') (given_by r)
+pub record Gave (old new : Position) (source : Device) (r : Result WholeLine LineFault) : Type 0 where
+  pub line : IfOk r (λ w. IfSome (stands_in old.held source.before) (IsLine w))
+  pub refused : IfErr r (IsRefused old (stands_in old.held source.before) source.faults_before source.faults_after)
+  pub next : NextLine old new (stands_in old.held source.before) (stands_in new.held source.after) (given_by r)
   pub short : IfOk r (λ w. IfSome (given w) (λ text. length text ≤ 65535))
   pub held : length new.held ≤ 65536
+  pub loses : LosesFront source.before source.after
+  pub later : source.faults_before ≤ source.faults_after
 
 -- the bytes of no line, and of one
 bytes_through-zero : (bytes : List ℕ) → bytes_through 0 bytes ≡ 0
@@ -57,7 +60,7 @@ pub if_told : (o : Option (List ℕ)) (P : List ℕ → Type 0) → ((bytes : Li
 if_told None P f = tt
 if_told (Some bytes) P f = f bytes refl
 
-at_some : {A : Type 0} (o : Option A) (x : A) (P : A → Type 0) → o ≡ Some x → IfSome o P → P x
+pub at_some : {A : Type 0} (o : Option A) (x : A) (P : A → Type 0) → o ≡ Some x → IfSome o P → P x
 at_some (Some y) x P is h = let same : y ≡ x = cc in subst P same h
 at_some None x P is h = let wrong : None ≡ Some x = is in cc
 
@@ -80,41 +83,41 @@ one_past old new bytes line consumed =
     record { further = omega (arith, line); consumed = omega (arith, consumed, one) }
 
 -- no line is read: the input ends, the line is too long, or a read failed
-module _ {A : Type 0} (slots : List Slot) (value : List ℕ → A) (old new : Position) (left left' : Option (List ℕ)) (faults_before faults_after : ℕ) (limit : old.limit ≡ 2 ^ 36) (few : old.line < 2 ^ 26) where
+module _ {A : Type 0} (slots : List Slot) (value : List ℕ → A) (old new : Position) (source : Device) (limit : old.limit ≡ 2 ^ 36) (few : old.line < 2 ^ 26) (loses : LosesFront source.before source.after) (later : source.faults_before ≤ source.faults_after) where
   abbrev Stopped : CertFault → Type 0
-  Stopped fault = Reads (first_fault (old.line + 1) slots) 1 value old new (told old left) (told new left') faults_before faults_after (Err fault)
+  Stopped fault = Reads (first_fault (old.line + 1) slots) 1 value old new source (Err fault)
 
   -- from its parts
-  stops : (fault : CertFault) → (new.limit ≡ old.limit) → (length new.held ≤ 65536) → IsStopped (first_fault (old.line + 1) slots) (told old left) faults_before faults_after fault → IsWithin new.line fault → IfSome (told old left) (IsPast old new) → Stopped fault
-  stops fault same held stopped within past = record { limit = same; held = held; given = tt; passes = tt; value_is = tt; stopped = stopped; within = within; past = past }
+  stops : (fault : CertFault) → (new.limit ≡ old.limit) → (length new.held ≤ 65536) → IsStopped (first_fault (old.line + 1) slots) (told old source.before) source fault → IsWithin new.line fault → IfSome (told old source.before) (IsPast old new) → Stopped fault
+  stops fault same held stopped within past = record { limit = same; held = held; given = tt; passes = tt; value_is = tt; stopped = stopped; within = within; past = past; loses = loses; later = later }
 
   -- the bytes that the reader of lines stands in are told too
-  in_told : (P : List ℕ → Type 0) → IfSome (stands_in old.held left) P → (bytes : List ℕ) → told old left ≡ Some bytes → P bytes
-  in_told P all bytes is = at_some (stands_in old.held left) bytes P (told_some old left bytes is).1 all
+  in_told : (P : List ℕ → Type 0) → IfSome (stands_in old.held source.before) P → (bytes : List ℕ) → told old source.before ≡ Some bytes → P bytes
+  in_told P all bytes is = at_some (stands_in old.held source.before) bytes P (told_some old source.before bytes is).1 all
 
-  stop_unended : (text : List ℕ) → length text ≤ 65535 → GivesLine old new (stands_in old.held left) (stands_in new.held left') → length new.held ≤ 65536
-      → IfSome (stands_in old.held left) (λ bytes. (text ≡ bytes) × (text_len bytes ≡ length bytes) × (0 < length bytes)) → Stopped (Truncated (old.line + 1))
+  stop_unended : (text : List ℕ) → length text ≤ 65535 → GivesLine old new (stands_in old.held source.before) (stands_in new.held source.after) → length new.held ≤ 65536
+      → IfSome (stands_in old.held source.before) (λ bytes. (text ≡ bytes) × (text_len bytes ≡ length bytes) × (0 < length bytes)) → Stopped (Truncated (old.line + 1))
   stop_unended text short gives held is = stops (Truncated (old.line + 1)) gives.limit held
-      (if_told (told old left) _ (λ bytes e. let whole = in_told _ is bytes e in (cut_line (old.line + 1) slots bytes (omega (arith, whole.1)) (omega (arith, whole.1, ap length whole.0, short)))))
-      (omega (arith, gives.line)) (if_told (told old left) _ (λ bytes e. one_past old new bytes gives.line (in_told _ gives.consumed bytes e)))
+      (if_told (told old source.before) _ (λ bytes e. let whole = in_told _ is bytes e in (cut_line (old.line + 1) slots bytes (omega (arith, whole.1)) (omega (arith, whole.1, ap length whole.0, short)))))
+      (omega (arith, gives.line)) (if_told (told old source.before) _ (λ bytes e. one_past old new bytes gives.line (in_told _ gives.consumed bytes e)))
 
-  stop_end : GivesNone old new (stands_in old.held left) (stands_in new.held left') → length new.held ≤ 65536 → IfSome (stands_in old.held left) (λ bytes. bytes ≡ []) → Stopped (Truncated (old.line + 1))
+  stop_end : GivesNone old new (stands_in old.held source.before) (stands_in new.held source.after) → length new.held ≤ 65536 → IfSome (stands_in old.held source.before) (λ bytes. bytes ≡ []) → Stopped (Truncated (old.line + 1))
   stop_end gives held is = stops (Truncated (old.line + 1)) (ap (λ p. p.limit) gives.still) held
-      (if_told (told old left) _ (λ bytes e. let none = in_told _ is bytes e in rw none refl))
-      (omega (arith, ap (λ p. p.line) gives.still)) (if_told (told old left) _ (λ bytes e. kept_past old new bytes (ap (λ p. p.line) gives.still) (ap (λ p. p.consumed) gives.still)))
+      (if_told (told old source.before) _ (λ bytes e. let none = in_told _ is bytes e in rw none refl))
+      (omega (arith, ap (λ p. p.line) gives.still)) (if_told (told old source.before) _ (λ bytes e. kept_past old new bytes (ap (λ p. p.line) gives.still) (ap (λ p. p.consumed) gives.still)))
 
-  stop_fault : (given : LineFault) (fault : CertFault) → Stops old new (stands_in old.held left) (stands_in new.held left') given → length new.held ≤ 65536 → IsStopped (first_fault (old.line + 1) slots) (told old left) faults_before faults_after fault → IsWithin old.line fault → Stopped fault
+  stop_fault : (given : LineFault) (fault : CertFault) → Stops old new (stands_in old.held source.before) (stands_in new.held source.after) given → length new.held ≤ 65536 → IsStopped (first_fault (old.line + 1) slots) (told old source.before) source fault → IsWithin old.line fault → Stopped fault
   stop_fault given fault stop held why within = stops fault (ap (λ p. p.limit) stop.still) held why (rw (ap (λ p. p.line) stop.still) within)
-      (if_told (told old left) _ (λ bytes e. kept_past old new bytes (ap (λ p. p.line) stop.still) (ap (λ p. p.consumed) stop.still)))
+      (if_told (told old source.before) _ (λ bytes e. kept_past old new bytes (ap (λ p. p.line) stop.still) (ap (λ p. p.consumed) stop.still)))
 
   -- a certificate doesn't pass the limit
-  not_past : IfSome (stands_in old.held left) (λ bytes. (text_len bytes ≤ 65535) × (old.limit < old.consumed + length (first_line bytes))) → IsStopped (first_fault (old.line + 1) slots) (told old left) faults_before faults_after (BadText (old.line + 1) TooLong)
-  not_past past = if_told (told old left) _ (λ bytes e.
-      let some = told_some old left bytes e in
+  not_past : IfSome (stands_in old.held source.before) (λ bytes. (text_len bytes ≤ 65535) × (old.limit < old.consumed + length (first_line bytes))) → IsStopped (first_fault (old.line + 1) slots) (told old source.before) source (BadText (old.line + 1) TooLong)
+  not_past past = if_told (told old source.before) _ (λ bytes e.
+      let some = told_some old source.before bytes e in
       let wrong = in_told _ past bytes e in
       absurd (omega (arith, wrong, some.0, limit, few, length-take (text_len bytes + 1) bytes)))
 
-  pub stop_line : (r : Result WholeLine LineFault) (fault : CertFault) → Gave old new left left' faults_before faults_after r → text_given (old.line + 1) r ≡ Err fault → Stopped fault
+  pub stop_line : (r : Result WholeLine LineFault) (fault : CertFault) → Gave old new source r → text_given (old.line + 1) r ≡ Err fault → Stopped fault
   stop_line (Ok (Whole text)) fault gave is = absurd (no_value text.now fault is)
   stop_line (Ok (Unended text)) fault gave is =
       let same : Truncated (old.line + 1) ≡ fault = cc in
@@ -128,7 +131,7 @@ module _ {A : Type 0} (slots : List Slot) (value : List ℕ → A) (old new : Po
   stop_line (Err (line.LineTooLong m)) fault gave is =
       let same : BadText (old.line + 1) TooLong ≡ fault = cc in
       subst Stopped same (stop_fault (line.LineTooLong m) (BadText (old.line + 1) TooLong) gave.next gave.held
-      (if_told (told old left) _ (λ bytes e. long_line (old.line + 1) slots bytes (in_told _ gave.refused.1 bytes e))) (omega arith))
+      (if_told (told old source.before) _ (λ bytes e. long_line (old.line + 1) slots bytes (in_told _ gave.refused.1 bytes e))) (omega arith))
   stop_line (Err line.InputTooLong) fault gave is =
       let same : BadText (old.line + 1) TooLong ≡ fault = cc in
       subst Stopped same (stop_fault line.InputTooLong (BadText (old.line + 1) TooLong) gave.next gave.held (not_past gave.refused) (omega arith))
@@ -137,35 +140,37 @@ length-text : (bytes : List ℕ) → length (first_text bytes) ≡ text_len byte
 length-text bytes = length-prefix_len _ bytes
 
 -- a whole line is read: its text has this fault, or this value
-module _ {A : Type 0} (slots : List Slot) (value : List ℕ → A) (old new : Position) (left left' : Option (List ℕ)) (faults_before faults_after : ℕ) (text : List ℕ) (short : line_fault slots text ≡ None → length text ≤ 63) where
+module _ {A : Type 0} (slots : List Slot) (value : List ℕ → A) (old new : Position) (source : Device) (text : List ℕ) (short : line_fault slots text ≡ None → length text ≤ 63) (loses : LosesFront source.before source.after) (later : source.faults_before ≤ source.faults_after) where
   abbrev Read : Result A CertFault → Type 0
-  Read result = Reads (first_fault (old.line + 1) slots) 1 (λ bytes. value (first_text bytes)) old new (told old left) (told new left') faults_before faults_after result
+  Read result = Reads (first_fault (old.line + 1) slots) 1 (λ bytes. value (first_text bytes)) old new source result
 
   -- the first line of the bytes that are told is this text
   abbrev IsFirst : List ℕ → Type 0
   IsFirst bytes = (text ≡ first_text bytes) × (text_len bytes < length bytes)
 
-  read_whole : (o : Option TextKind) → line_fault slots text ≡ o → GivesLine old new (stands_in old.held left) (stands_in new.held left') → length new.held ≤ 65536 → length text ≤ 65535 → IfSome (stands_in old.held left) IsFirst
+  read_whole : (o : Option TextKind) → line_fault slots text ≡ o → GivesLine old new (stands_in old.held source.before) (stands_in new.held source.after) → length new.held ≤ 65536 → length text ≤ 65535 → IfSome (stands_in old.held source.before) IsFirst
       → Read (of_line (old.line + 1) (value_unless o (value text)))
   read_whole None fits gives held long is = record {
     limit = gives.limit;
     held = held;
     given = (gives.line, gives.fault);
-    passes = if_told (told old left) _ (λ bytes e.
-        let some = told_some old left bytes e in
-        let first = at_some (stands_in old.held left) bytes IsFirst some.1 is in
-        let consumed = at_some (stands_in old.held left) bytes _ some.1 gives.consumed in
-        let rest = at_some (stands_in old.held left) bytes _ some.1 gives.rest in
+    passes = if_told (told old source.before) _ (λ bytes e.
+        let some = told_some old source.before bytes e in
+        let first = at_some (stands_in old.held source.before) bytes IsFirst some.1 is in
+        let consumed = at_some (stands_in old.held source.before) bytes _ some.1 gives.consumed in
+        let rest = at_some (stands_in old.held source.before) bytes _ some.1 gives.rest in
         let size = ap length first.0 ∙ length-text bytes in
         let fault : first_fault (old.line + 1) slots bytes ≡ None = whole_line (old.line + 1) slots bytes first.1 (omega (arith, size, long)) ∙ ap (option_map (in_line (old.line + 1))) (ap (line_fault slots) (sym first.0) ∙ fits) in
         record {
           none = fault;
-          rest = told_all new left' (omega (arith, consumed, some.0, gives.line, size, short fits, length-take (text_len bytes + 1) bytes)) ∙ (rest ∙ ap (λ b. Some b) (sym (after_lines-one bytes)));
+          rest = told_all new source.after (omega (arith, consumed, some.0, gives.line, size, short fits, length-take (text_len bytes + 1) bytes)) ∙ (rest ∙ ap (λ b. Some b) (sym (after_lines-one bytes)));
         });
-    value_is = if_told (told old left) _ (λ bytes e. ap value (at_some (stands_in old.held left) bytes IsFirst (told_some old left bytes e).1 is).0);
+    value_is = if_told (told old source.before) _ (λ bytes e. ap value (at_some (stands_in old.held source.before) bytes IsFirst (told_some old source.before bytes e).1 is).0);
     stopped = tt;
     within = tt;
-    past = if_told (told old left) _ (λ bytes e. one_past old new bytes gives.line (at_some (stands_in old.held left) bytes _ (told_some old left bytes e).1 gives.consumed));
+    past = if_told (told old source.before) _ (λ bytes e. one_past old new bytes gives.line (at_some (stands_in old.held source.before) bytes _ (told_some old source.before bytes e).1 gives.consumed));
+    loses = loses;
+    later = later;
   }
   read_whole (Some kind) fault gives held long is = record {
     limit = gives.limit;
@@ -173,18 +178,20 @@ module _ {A : Type 0} (slots : List Slot) (value : List ℕ → A) (old new : Po
     given = tt;
     passes = tt;
     value_is = tt;
-    stopped = if_told (told old left) _ (λ bytes e.
-        let first = at_some (stands_in old.held left) bytes IsFirst (told_some old left bytes e).1 is in
+    stopped = if_told (told old source.before) _ (λ bytes e.
+        let first = at_some (stands_in old.held source.before) bytes IsFirst (told_some old source.before bytes e).1 is in
         let size = ap length first.0 ∙ length-text bytes in
         whole_line (old.line + 1) slots bytes first.1 (omega (arith, size, long)) ∙ ap (option_map (in_line (old.line + 1))) (ap (line_fault slots) (sym first.0) ∙ fault));
     within = omega (arith, gives.line);
-    past = if_told (told old left) _ (λ bytes e. one_past old new bytes gives.line (at_some (stands_in old.held left) bytes _ (told_some old left bytes e).1 gives.consumed));
+    past = if_told (told old source.before) _ (λ bytes e. one_past old new bytes gives.line (at_some (stands_in old.held source.before) bytes _ (told_some old source.before bytes e).1 gives.consumed));
+    loses = loses;
+    later = later;
   }
 
-  pub read_line : (r : Result WholeLine LineFault) → Gave old new left left' faults_before faults_after r → text_given (old.line + 1) r ≡ Ok text → Read (of_line (old.line + 1) (value_unless (line_fault slots text) (value text)))
+  pub read_line : (r : Result WholeLine LineFault) → Gave old new source r → text_given (old.line + 1) r ≡ Ok text → Read (of_line (old.line + 1) (value_unless (line_fault slots text) (value text)))
   read_line (Ok (Whole whole)) gave is =
       let same : whole.now ≡ text = cc in
-      read_whole (line_fault slots text) refl gave.next gave.held (omega (arith, gave.short, ap length same)) (subst (λ t. IfSome (stands_in old.held left) (λ bytes. (t ≡ first_text bytes) × (text_len bytes < length bytes))) same gave.line)
+      read_whole (line_fault slots text) refl gave.next gave.held (omega (arith, gave.short, ap length same)) (subst (λ t. IfSome (stands_in old.held source.before) (λ bytes. (t ≡ first_text bytes) × (text_len bytes < length bytes))) same gave.line)
   read_line (Ok (Unended cut)) gave is = absurd (no_fault text (Truncated (old.line + 1)) is)
   read_line (Ok AtEnd) gave is = absurd (no_fault text (Truncated (old.line + 1)) is)
   read_line (Err line.ReadFault) gave is = absurd (no_fault text ReadFault is)
@@ -192,6 +199,6 @@ module _ {A : Type 0} (slots : List Slot) (value : List ℕ → A) (old new : Po
   read_line (Err line.InputTooLong) gave is = absurd (no_fault text (BadText (old.line + 1) TooLong) is)
 
 -- a result that is another one
-pub reads_as : {A : Type 0} (fault_of : List ℕ → Option CertFault) (count : ℕ) (value : List ℕ → A) (old new : Position) (before after : Option (List ℕ)) (faults_before faults_after : ℕ) (result other : Result A CertFault) → result ≡ other
-    → Reads fault_of count value old new before after faults_before faults_after other → Reads fault_of count value old new before after faults_before faults_after result
-reads_as fault_of count value old new before after faults_before faults_after result other same reads = subst (λ r. Reads fault_of count value old new before after faults_before faults_after r) (sym same) reads
+pub reads_as : {A : Type 0} (fault_of : List ℕ → Option CertFault) (count : ℕ) (value : List ℕ → A) (old new : Position) (source : Device) (result other : Result A CertFault) → result ≡ other
+    → Reads fault_of count value old new source other → Reads fault_of count value old new source result
+reads_as fault_of count value old new source result other same reads = subst (λ r. Reads fault_of count value old new source r) (sym same) reads

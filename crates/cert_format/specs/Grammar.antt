@@ -1,5 +1,5 @@
 -- The lines of a certificate, and what may be wrong with one.
-use Rattle.std.specs.Prelude.{ℕ, ◌-◌, ◌^◌, List, [], ◌∷◌, Bool, true, false, not, ◌==◌, ◌&&◌, ◌||◌, nat_le, nat_lt, Result, Ok, Err, if◌then◌else◌, length, map, slice_index, slice_index_or, codes, None, Some}
+use Rattle.std.specs.Prelude.{ℕ, ◌-◌, ◌^◌, List, [], ◌∷◌, ◌++◌, Bool, true, false, not, ◌==◌, ◌&&◌, ◌||◌, nat_le, nat_lt, Result, Ok, Err, if◌then◌else◌, length, map, slice_index, slice_index_or, codes, None, Some}
 use Rattle.std.specs.declared.option.Option.{Option}
 use Rattle.std.specs.Option.{option_or}
 use Rattle.std.specs.List.{list_any, list_all, slice_split}
@@ -30,21 +30,31 @@ choice_line name first second = OneOf (name ∷ []) ∷ OneOf (first ∷ second 
 abbrev pub number_line : List ℕ → ℕ → ℕ → List Slot
 number_line name low high = OneOf (name ∷ []) ∷ Within low high ∷ []
 
+-- the lines of the counts, where the first states this capacity
+abbrev pub count_slots : ℕ → List (List Slot)
+count_slots capacity =
+    number_line (codes "capacity") 1 (2 ^ 56)
+    ∷ number_line (codes "requests") 0 (2 ^ 25)
+    ∷ number_line (codes "unit") 1 capacity
+    ∷ number_line (codes "denominator") 1 (2 ^ 48)
+    ∷ []
+
+-- the lines of the values
+abbrev pub value_slots : List (List Slot)
+value_slots =
+    number_line (codes "upper") 0 (2 ^ 127 - 1)
+    ∷ number_line (codes "flow") 0 (2 ^ 127 - 1)
+    ∷ number_line (codes "lower") 0 (2 ^ 127 - 1)
+    ∷ []
+
 -- the lines before the records, where the third states this capacity
 abbrev pub header_slots : ℕ → List (List Slot)
 header_slots capacity =
     fixed_line (codes "cache-bound-certificate 1")
     ∷ choice_line (codes "objective") (codes "object") (codes "bytes")
-    ∷ number_line (codes "capacity") 1 (2 ^ 56)
-    ∷ number_line (codes "requests") 0 (2 ^ 25)
-    ∷ number_line (codes "unit") 1 capacity
-    ∷ number_line (codes "denominator") 1 (2 ^ 48)
-    ∷ choice_line (codes "form") (codes "exact") (codes "plain")
-    ∷ number_line (codes "upper") 0 (2 ^ 127 - 1)
-    ∷ number_line (codes "flow") 0 (2 ^ 127 - 1)
-    ∷ number_line (codes "lower") 0 (2 ^ 127 - 1)
-    ∷ fixed_line (codes "records")
-    ∷ []
+    ∷ (count_slots capacity
+        ++ choice_line (codes "form") (codes "exact") (codes "plain")
+        ∷ (value_slots ++ fixed_line (codes "records") ∷ []))
 
 -- price, keep and flow
 abbrev pub record_slots : List Slot

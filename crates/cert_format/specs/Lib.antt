@@ -2,4 +2,5 @@ pub mod Kinds
 pub mod Grammar
 pub mod Readings
 pub mod Lines
+pub mod Parts
 pub mod Laws

@@ -1,7 +1,8 @@
 -- How lines of a certificate are read from a source.
 use Rattle.std.specs.Prelude.{◌≡◌, ℕ, ◌+◌, ◌-◌, ◌*◌, ◌≤◌, List, [], ◌∷◌, length, nat_le, if◌then◌else◌, Result, Ok, Err, None, Some, IfSome, IfOk, IfErr, OnOk}
 use Rattle.std.specs.declared.option.Option.{Option}
-use Rattle.bound_io.specs.Causes.{Rose}
+use Rattle.bound_io.specs.Devices.{Device, HasFailed}
+use Rattle.bound_io.specs.Reading.{LosesFront}
 use Rattle.bound_io.specs.Lines.{stands_in}
 use Rattle.bound_io.specs.Positions.{Position}
 use Rattle.bound_io.specs.declared.line_reader.LineFault.{LineFault}
@@ -42,12 +43,12 @@ pub record Passes (fault_of : List ℕ → Option CertFault) (count : ℕ) (byte
   pub none : fault_of bytes ≡ None
   pub rest : after ≡ Some (after_lines count bytes)
 
--- why lines are not given: the bytes have this fault, or the source's faults rose
-abbrev pub IsStopped : (List ℕ → Option CertFault) → Option (List ℕ) → ℕ → ℕ → CertFault → Type 0
-IsStopped fault_of before faults_before faults_after ReadFault = Rose faults_before faults_after
-IsStopped fault_of before faults_before faults_after (BadText n kind) = IfSome before (λ bytes. fault_of bytes ≡ Some (BadText n kind))
-IsStopped fault_of before faults_before faults_after (Truncated n) = IfSome before (λ bytes. fault_of bytes ≡ Some (Truncated n))
-IsStopped fault_of before faults_before faults_after (Trailing n) = IfSome before (λ bytes. fault_of bytes ≡ Some (Trailing n))
+-- why lines are not given: the bytes have this fault, or the source failed
+abbrev pub IsStopped : (List ℕ → Option CertFault) → Option (List ℕ) → Device → CertFault → Type 0
+IsStopped fault_of before source ReadFault = HasFailed source
+IsStopped fault_of before source (BadText n kind) = IfSome before (λ bytes. fault_of bytes ≡ Some (BadText n kind))
+IsStopped fault_of before source (Truncated n) = IfSome before (λ bytes. fault_of bytes ≡ Some (Truncated n))
+IsStopped fault_of before source (Trailing n) = IfSome before (λ bytes. fault_of bytes ≡ Some (Trailing n))
 
 -- no line after that of the fault is given
 abbrev pub IsWithin : ℕ → CertFault → Type 0
@@ -56,13 +57,15 @@ IsWithin given (BadText n kind) = given ≤ n
 IsWithin given (Truncated n) = given ≤ n
 IsWithin given (Trailing n) = given ≤ n
 
--- so many lines are read as a value of the bytes, or are not, for a fault that the bytes have
-pub record Reads {A : Type 0} (fault_of : List ℕ → Option CertFault) (count : ℕ) (value : List ℕ → A) (old new : Position) (before after : Option (List ℕ)) (faults_before faults_after : ℕ) (result : Result A CertFault) : Type 0 where
+-- so many lines are read from a source as a value of the bytes, or are not, for a fault that the bytes have
+pub record Reads {A : Type 0} (fault_of : List ℕ → Option CertFault) (count : ℕ) (value : List ℕ → A) (old new : Position) (source : Device) (result : Result A CertFault) : Type 0 where
   pub limit : new.limit ≡ old.limit
   pub held : length new.held ≤ 65536
   pub given : OnOk result ((new.line ≡ old.line + count) × (new.fault ≡ None))
-  pub passes : OnOk result (IfSome before (λ bytes. Passes fault_of count bytes after))
-  pub value_is : IfOk result (λ v. IfSome before (λ bytes. v ≡ value bytes))
-  pub stopped : IfErr result (IsStopped fault_of before faults_before faults_after)
+  pub passes : OnOk result (IfSome (told old source.before) (λ bytes. Passes fault_of count bytes (told new source.after)))
+  pub value_is : IfOk result (λ v. IfSome (told old source.before) (λ bytes. v ≡ value bytes))
+  pub stopped : IfErr result (IsStopped fault_of (told old source.before) source)
   pub within : IfErr result (IsWithin new.line)
-  pub past : IfSome before (IsPast old new)
+  pub past : IfSome (told old source.before) (IsPast old new)
+  pub loses : LosesFront source.before source.after
+  pub later : source.faults_before ≤ source.faults_after

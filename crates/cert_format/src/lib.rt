@@ -5,6 +5,7 @@
 #![tactic(auto)]
 
 mod fault;
+mod header;
 mod laws;
 mod line;
 mod lines;

@@ -2,10 +2,10 @@
 ghost use Rattle.std.specs.Prelude.{◌≡◌, ◌+◌, ◌<◌, ◌≤◌, ◌^◌, ◌∷◌, [], codes, length, None, Ok, Err, IfOk, MatchResult};
 ghost use Rattle.std.specs.Str.{bytes_eq};
 ghost use Rattle.bound_io.specs.Lines.{first_text};
-ghost use Rattle.bound_io.specs.Reading.{LosesFront};
+ghost use Rattle.bound_io.specs.Devices.{device};
 ghost use Rattle.cache_model.specs.Certificates.{IsRecordInRange};
 ghost use Rattle.cert_format.specs.Grammar.{choice_line, fixed_line, number_at, number_line, record_slots, word_at};
-ghost use Rattle.cert_format.specs.Lines.{Reads, of_line, text_given, told};
+ghost use Rattle.cert_format.specs.Lines.{Reads, of_line, text_given};
 ghost use Rattle.cert_format.specs.Readings.{first_fault, record_in};
 
 use crate::fault::{CertFault, TextKind};
@@ -51,9 +51,7 @@ pub fn read_fixed<S: Source>(
     requires few { lines.old.line < 2 ^ 26 }
     requires no_fault { lines.old.fault ≡ None }
     requires short { length words.now ≤ 63 }
-    ensures read { Reads (first_fault (lines.old.line + 1) (fixed_line words.now)) 1 (λ _. tt) lines.old lines.new (told lines.old (S.left source.old)) (told lines.new (S.left source.new)) (S.faults source.old) (S.faults source.new) result }
-    ensures source { LosesFront (S.left source.old) (S.left source.new) }
-    ensures later { S.faults source.old ≤ S.faults source.new }
+    ensures { Reads (first_fault (lines.old.line + 1) (fixed_line words.now)) 1 (λ _. tt) lines.old lines.new (device (S.left source.old) (S.left source.new) (S.faults source.old) (S.faults source.new)) result }
 {
     let line = lines.line() + 1;
     let text = whole_text(line, lines.next_whole_line(source))?;
@@ -74,9 +72,7 @@ pub fn read_number<S: Source>(
     requires short { length name.now ≤ 20 }
     requires high { high < 2 ^ 127 }
     ensures range { IfOk result (λ n. (low ≤ n) × (n ≤ high)) }
-    ensures read { Reads (first_fault (lines.old.line + 1) (number_line name.now low high)) 1 (λ bytes. number_at 1 (first_text bytes)) lines.old lines.new (told lines.old (S.left source.old)) (told lines.new (S.left source.new)) (S.faults source.old) (S.faults source.new) result }
-    ensures source { LosesFront (S.left source.old) (S.left source.new) }
-    ensures later { S.faults source.old ≤ S.faults source.new }
+    ensures read { Reads (first_fault (lines.old.line + 1) (number_line name.now low high)) 1 (λ bytes. number_at 1 (first_text bytes)) lines.old lines.new (device (S.left source.old) (S.left source.new) (S.faults source.old) (S.faults source.new)) result }
 {
     let line = lines.line() + 1;
     let text = whole_text(line, lines.next_whole_line(source))?;
@@ -97,9 +93,7 @@ pub fn read_choice<S: Source>(
     requires name { length name.now ≤ 20 }
     requires first { (0 < length first.now) × (length first.now ≤ 20) }
     requires second { (0 < length second.now) × (length second.now ≤ 20) }
-    ensures read { Reads (first_fault (lines.old.line + 1) (choice_line name.now first.now second.now)) 1 (λ bytes. bytes_eq (word_at 1 (first_text bytes)) first.now) lines.old lines.new (told lines.old (S.left source.old)) (told lines.new (S.left source.new)) (S.faults source.old) (S.faults source.new) result }
-    ensures source { LosesFront (S.left source.old) (S.left source.new) }
-    ensures later { S.faults source.old ≤ S.faults source.new }
+    ensures { Reads (first_fault (lines.old.line + 1) (choice_line name.now first.now second.now)) 1 (λ bytes. bytes_eq (word_at 1 (first_text bytes)) first.now) lines.old lines.new (device (S.left source.old) (S.left source.new) (S.faults source.old) (S.faults source.new)) result }
 {
     let line = lines.line() + 1;
     let text = whole_text(line, lines.next_whole_line(source))?;
@@ -115,9 +109,7 @@ pub fn read_record<S: Source>(
     requires few { lines.old.line < 2 ^ 26 }
     requires no_fault { lines.old.fault ≡ None }
     ensures range { IfOk result IsRecordInRange }
-    ensures read { Reads (first_fault (lines.old.line + 1) record_slots) 1 (λ bytes. record_in (first_text bytes)) lines.old lines.new (told lines.old (S.left source.old)) (told lines.new (S.left source.new)) (S.faults source.old) (S.faults source.new) result }
-    ensures source { LosesFront (S.left source.old) (S.left source.new) }
-    ensures later { S.faults source.old ≤ S.faults source.new }
+    ensures read { Reads (first_fault (lines.old.line + 1) record_slots) 1 (λ bytes. record_in (first_text bytes)) lines.old lines.new (device (S.left source.old) (S.left source.new) (S.faults source.old) (S.faults source.new)) result }
 {
     let line = lines.line() + 1;
     let text = whole_text(line, lines.next_whole_line(source))?;
