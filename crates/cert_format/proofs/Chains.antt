@@ -9,11 +9,11 @@ use Rattle.bound_io.specs.Positions.{Position}
 use Rattle.bound_io.specs.Reading.{LosesFront}
 use Rattle.cert_format.specs.declared.fault.CertFault.{CertFault}
 use Rattle.cert_format.specs.declared.fault.CertFault.TheVariants.{BadText, Truncated, Trailing, ReadFault}
-use Rattle.cert_format.specs.Grammar.{Slot}
-use Rattle.cert_format.specs.Readings.{first_fault, lines_fault, after_lines, bytes_through}
+use Rattle.cert_format.specs.Grammar.{Slot, end_slots}
+use Rattle.cert_format.specs.Readings.{first_fault, lines_fault, after_lines, bytes_through, end_fault, trailing}
 use Rattle.cert_format.specs.Lines.{told, IsPast, Passes, IsStopped, IsWithin, Reads}
 use Rattle.cert_format.proofs.Headers.{after_lines-suc, after_lines-zero}
-use Rattle.cert_format.proofs.Taken.{at_some, if_told}
+use Rattle.cert_format.proofs.Taken.{at_some, if_told, after_lines-one}
 
 -- some lines after others
 pub after_lines-add : (j k : ℕ) (bytes : List ℕ) → after_lines (j + k) bytes ≡ after_lines k (after_lines j bytes)
@@ -158,6 +158,18 @@ all_done count P old now a b x y whole value_of v came held none is = record {
   later = came.later;
 }
 
+-- the last of several readings
+pub then_last : (count : ℕ) (P : List ℕ → Type 0) (fault_of : ℕ → List ℕ → Option CertFault) (old now new : Position) (a b d : Option (List ℕ)) (x y z : ℕ) (whole : List ℕ → Option CertFault) (r : Result (Unit {0}) CertFault)
+    → Came count P old now (device a b x y) → Reads (fault_of (now.line + 1)) 0 (λ bytes. tt) now new (device b d y z) r
+    → ((bytes : List ℕ) → P bytes → whole bytes ≡ fault_of (old.line + count + 1) (after_lines count bytes)) → Reads whole count (λ bytes. tt) old new (device a d x z) r
+then_last count P fault_of old now new a b d x y z whole (Err fault) came reads same =
+    then_stop count P fault_of 0 (λ bytes. tt) old now new a b d x y z whole count (λ bytes. tt) fault (Err fault) refl came reads (λ bytes p g is. same bytes p ∙ is)
+then_last count P fault_of old now new a b d x y z whole (Ok tt) came reads same =
+    let all = then_more count P fault_of 0 (λ bytes. tt) old now new a b d x y z tt (Ok tt) refl came reads in
+    let none : count + 0 ≡ count = omega arith in
+    subst (λ n. Reads whole n (λ bytes. tt) old new (device a d x z) (Ok tt)) none
+    (all_done (count + 0) _ old new a d x z whole (λ bytes. tt) tt all reads.held (λ bytes p. same bytes p.0 ∙ p.1) (λ bytes p. refl))
+
 -- none of these lines has a fault, after the first k
 abbrev pub NoneFaulty : ℕ → ℕ → List (List Slot) → List ℕ → Type 0
 NoneFaulty n k [] bytes = Unit {0}
@@ -198,3 +210,10 @@ pub lines_none : (n : ℕ) (lines : List (List Slot)) (bytes : List ℕ) → Non
 lines_none n lines bytes none =
     let zero' : n + 1 ≡ n + 0 + 1 = omega arith in
     ap (λ m. lines_fault m lines bytes) zero' ∙ (ap (lines_fault (n + 0 + 1) lines) (sym (after_lines-zero bytes)) ∙ none_after n 0 lines bytes none)
+
+-- the fault of the end, where its line has none
+pub end_after : (n : ℕ) (bytes : List ℕ) → first_fault (n + 0 + 1) end_slots (after_lines 0 bytes) ≡ None → end_fault (n + 1) bytes ≡ trailing (n + 1 + 1) (after_lines 1 bytes)
+end_after n bytes none =
+    let zero' : n + 0 + 1 ≡ n + 1 = omega arith in
+    let here : first_fault (n + 1) end_slots bytes ≡ None = ap (λ m. first_fault m end_slots bytes) (sym zero') ∙ (ap (first_fault (n + 0 + 1) end_slots) (sym (after_lines-zero bytes)) ∙ none) in
+    ap (λ o. option_or o (trailing (n + 1 + 1) (after_line bytes))) here ∙ ap (trailing (n + 1 + 1)) (sym (after_lines-one bytes))

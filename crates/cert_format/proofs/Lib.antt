@@ -11,3 +11,4 @@ pub mod Short
 pub mod Taken
 pub mod Chains
 pub mod HeaderParts
+pub mod Going

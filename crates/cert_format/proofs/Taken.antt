@@ -1,11 +1,12 @@
 -- One line more is read.
-use Rattle.std.proofs.Common.{◌≡◌, ◌≢◌, ℕ, zero, suc, ◌+◌, ◌-◌, ◌*◌, ◌^◌, ◌≤◌, ◌<◌, ◌∙◌, sym, refl, ap, subst, Bool, true, false, cond, List, [], ◌∷◌, length, take, drop, arith, Some, None, Option, Ok, Err, Result, IfSome, IfOk, IfErr, inl, inr, ◌⊎◌, length-take, length-drop}
+use Rattle.std.proofs.Common.{◌≡◌, ◌≢◌, ℕ, zero, suc, ◌+◌, ◌-◌, ◌*◌, ◌^◌, ◌≤◌, ◌<◌, ◌∙◌, sym, refl, ap, subst, Bool, true, false, not, cond, List, [], ◌∷◌, length, take, drop, arith, Some, None, Option, Ok, Err, Result, IfSome, IfOk, IfErr, inl, inr, ◌⊎◌, length-take, length-drop}
 use Rattle.std.specs.Prelude.{nat_le}
 use Rattle.std.specs.Option.{option_map, option_or}
 use Rattle.std.specs.Result.{is_ok}
-use Rattle.std.proofs.lemmas.Bool.{true≢false, cases_Bool, leb-true, le-leb}
+use Rattle.std.proofs.lemmas.Bool.{true≢false, cases_Bool, ne_eqb, leb-true, le-leb}
 use Rattle.std.proofs.lemmas.List.Sums.{prefix_len-le-length}
 use Rattle.std.proofs.lemmas.List.Folds.{length-prefix_len}
+use Rattle.std.specs.Io.KnownBytes.{Keeps}
 use Rattle.bound_io.specs.Devices.{Device}
 use Rattle.bound_io.specs.Reading.{LosesFront}
 use Rattle.bound_io.specs.Lines.{is_lf, text_len, first_text, first_line, after_line, stands_in}
@@ -19,8 +20,8 @@ use Rattle.cert_format.specs.declared.fault.TextKind.TheVariants.{TooLong}
 use Rattle.cert_format.specs.declared.fault.CertFault.{CertFault}
 use Rattle.cert_format.specs.declared.fault.CertFault.TheVariants.{BadText, Truncated, Trailing, ReadFault}
 use Rattle.cert_format.specs.Grammar.{Slot, line_fault, value_unless}
-use Rattle.cert_format.specs.Readings.{first_fault, lines_fault, after_lines, bytes_through, in_line}
-use Rattle.cert_format.specs.Lines.{told, text_given, of_line, IsPast, Passes, IsStopped, IsWithin, Reads}
+use Rattle.cert_format.specs.Readings.{first_fault, lines_fault, after_lines, bytes_through, in_line, trailing}
+use Rattle.cert_format.specs.Lines.{told, text_given, nothing_given, of_line, IsPast, Passes, IsStopped, IsWithin, Reads}
 use Rattle.cert_format.proofs.Fronts.{whole_line, cut_line, long_line}
 use Rattle.cert_format.proofs.Headers.{after_lines-suc, after_lines-zero}
 
@@ -202,3 +203,73 @@ module _ {A : Type 0} (slots : List Slot) (value : List ℕ → A) (old new : Po
 pub reads_as : {A : Type 0} (fault_of : List ℕ → Option CertFault) (count : ℕ) (value : List ℕ → A) (old new : Position) (source : Device) (result other : Result A CertFault) → result ≡ other
     → Reads fault_of count value old new source other → Reads fault_of count value old new source result
 reads_as fault_of count value old new source result other same reads = subst (λ r. Reads fault_of count value old new source r) (sym same) reads
+
+-- whether something follows
+some_trailing : (n : ℕ) (bytes : List ℕ) → 0 < length bytes → trailing n bytes ≡ Some (Trailing n)
+some_trailing n bytes some = ap (λ b. cond b None (Some (Trailing n))) (ne_eqb (length bytes) 0 (λ e. omega (arith, e, some)))
+
+pub same_past : (at : Position) (left : Option (List ℕ)) → IfSome (told at left) (IsPast at at)
+same_past at left = if_told (told at left) _ (λ bytes e. kept_past at at bytes refl refl)
+
+longer : (o : Option (List ℕ)) (P : List ℕ → Type 0) → IfSome o P → ((bytes : List ℕ) → P bytes → 0 < length bytes) → IfSome o (λ bytes. 0 < length bytes)
+longer None P h f = tt
+longer (Some bytes) P h f = f bytes h
+
+-- the next line is looked at where nothing is to come
+module _ (old new : Position) (source : Device) (limit : old.limit ≡ 2 ^ 36) (few : old.line < 2 ^ 26) (loses : LosesFront source.before source.after) (later : source.faults_before ≤ source.faults_after) where
+  abbrev Looked : Result (Unit {0}) CertFault → Type 0
+  Looked result = Reads (trailing (old.line + 1)) 0 (λ bytes. tt) old new source result
+
+  refuses : (fault : CertFault) → (new.limit ≡ old.limit) → (length new.held ≤ 65536) → IsStopped (trailing (old.line + 1)) (told old source.before) source fault → IsWithin new.line fault → IfSome (told old source.before) (IsPast old new) → Looked (Err fault)
+  refuses fault same held stopped within past = record { limit = same; held = held; given = tt; passes = tt; value_is = tt; stopped = stopped; within = within; past = past; loses = loses; later = later }
+
+  told_in : (P : List ℕ → Type 0) → IfSome (stands_in old.held source.before) P → (bytes : List ℕ) → told old source.before ≡ Some bytes → P bytes
+  told_in P all bytes is = at_some (stands_in old.held source.before) bytes P (told_some old source.before bytes is).1 all
+
+  -- a line, whatever it is
+  refuse_line : GivesLine old new (stands_in old.held source.before) (stands_in new.held source.after) → length new.held ≤ 65536 → IfSome (stands_in old.held source.before) (λ bytes. 0 < length bytes) → Looked (Err (Trailing (old.line + 1)))
+  refuse_line gives held some = refuses (Trailing (old.line + 1)) gives.limit held (if_told (told old source.before) _ (λ bytes e. some_trailing (old.line + 1) bytes (told_in _ some bytes e))) (omega (arith, gives.line))
+      (if_told (told old source.before) _ (λ bytes e. one_past old new bytes gives.line (told_in _ gives.consumed bytes e)))
+
+  -- no line, for a fault of the reader of lines
+  refuse_fault : (given : LineFault) (fault : CertFault) → Stops old new (stands_in old.held source.before) (stands_in new.held source.after) given → length new.held ≤ 65536 → IsStopped (trailing (old.line + 1)) (told old source.before) source fault → IsWithin old.line fault → Looked (Err fault)
+  refuse_fault given fault stop held why within = refuses fault (ap (λ p. p.limit) stop.still) held why (rw (ap (λ p. p.line) stop.still) within)
+      (if_told (told old source.before) _ (λ bytes e. kept_past old new bytes (ap (λ p. p.line) stop.still) (ap (λ p. p.consumed) stop.still)))
+
+  keeps_told : GivesNone old new (stands_in old.held source.before) (stands_in new.held source.after) → (bytes : List ℕ) → told old source.before ≡ Some bytes → told new source.after ≡ Some bytes
+  keeps_told gives bytes e =
+      let some = told_some old source.before bytes e in
+      let kept = rw (some.1) at gives.rest in
+      told_all new source.after (omega (arith, some.0, ap (λ p. p.line) gives.still, ap (λ p. p.consumed) gives.still)) ∙ by (stands_in new.held source.after) kept
+    where
+      by : (o : Option (List ℕ)) → Keeps (Some bytes) o → o ≡ Some bytes
+      by None kept = absurd kept
+      by (Some ys) kept = ap (λ b. Some b) kept
+
+  no_line : GivesNone old new (stands_in old.held source.before) (stands_in new.held source.after) → length new.held ≤ 65536 → Looked (Ok tt)
+  no_line gives held = record {
+    limit = ap (λ p. p.limit) gives.still;
+    held = held;
+    given = (omega (arith, ap (λ p. p.line) gives.still), ap (λ p. p.fault) gives.still ∙ gives.fault);
+    passes = if_told (told old source.before) _ (λ bytes e.
+        let none : bytes ≡ [] = rw (told_some old source.before bytes e).1 at gives.nothing in
+        record { none = ap (trailing (old.line + 1)) none; rest = keeps_told gives bytes e ∙ ap (λ b. Some b) (sym (after_lines-zero bytes)) });
+    value_is = if_told (told old source.before) _ (λ bytes e. refl);
+    stopped = tt;
+    within = tt;
+    past = if_told (told old source.before) _ (λ bytes e. kept_past old new bytes (ap (λ p. p.line) gives.still) (ap (λ p. p.consumed) gives.still));
+    loses = loses;
+    later = later;
+  }
+
+  pub look_on : (r : Result WholeLine LineFault) → Gave old new source r → Looked (nothing_given (old.line + 1) r)
+  look_on (Ok (Whole text)) gave = refuse_line gave.next gave.held (longer (stands_in old.held source.before) _ gave.line (λ bytes is. omega (arith, is.1)))
+  look_on (Ok (Unended text)) gave = refuse_line gave.next gave.held (longer (stands_in old.held source.before) _ gave.line (λ bytes is. is.2))
+  look_on (Ok AtEnd) gave = no_line gave.next gave.held
+  look_on (Err line.ReadFault) gave = refuse_fault line.ReadFault ReadFault gave.next gave.held gave.refused tt
+  look_on (Err (line.LineTooLong m)) gave = refuse_fault (line.LineTooLong m) (Trailing (old.line + 1)) gave.next gave.held
+      (if_told (told old source.before) _ (λ bytes e. some_trailing (old.line + 1) bytes (omega (arith, told_in _ gave.refused.1 bytes e, prefix_len-le-length (λ b. not (is_lf b)) bytes)))) (omega arith)
+  look_on (Err line.InputTooLong) gave = refuse_fault line.InputTooLong (Trailing (old.line + 1)) gave.next gave.held
+      (if_told (told old source.before) _ (λ bytes e.
+          let past = told_in _ gave.refused bytes e in
+          some_trailing (old.line + 1) bytes (omega (arith, past.1, (told_some old source.before bytes e).0, limit, few, length-take (text_len bytes + 1) bytes)))) (omega arith)

@@ -15,12 +15,12 @@ use Rattle.cache_model.specs.Texts.{line, text_of, header_lines, record_line, ce
 use Rattle.cert_format.specs.declared.fault.CertFault.{CertFault}
 use Rattle.cert_format.specs.declared.fault.CertFault.TheVariants.{Trailing}
 use Rattle.cert_format.specs.Grammar.{record_slots, end_slots, line_fault}
-use Rattle.cert_format.specs.Readings.{Reading, reading, whole, stopped, unless, onto, under, read_nothing, read_records, first_fault, after_lines, header_fault, header_in, record_in}
+use Rattle.cert_format.specs.Readings.{Reading, reading, whole, stopped, unless, onto, under, trailing, end_fault, read_records, first_fault, after_lines, header_fault, header_in, record_in}
 use Rattle.cert_format.specs.Laws.{IsSpelled}
 use Rattle.cert_format.proofs.Shapes.{fixed_fits, fixed_only}
 use Rattle.cert_format.proofs.Spellings.{record_fits, record_spelled, record_is_line}
 use Rattle.cert_format.proofs.Fronts.{first_fits, fits_first, first_text-line, after_line-line}
-use Rattle.cert_format.proofs.Headers.{header_read, header_spelled}
+use Rattle.cert_format.proofs.Headers.{header_read, header_spelled, no_either}
 
 -- the lines of records, and the end
 abbrev pub records_text : List Record → List ℕ
@@ -72,7 +72,7 @@ no_stop None r none = (refl, none)
 no_stop (Some fault) r none = absurd (true≢false (ap is_some none))
 
 -- nothing follows
-nothing_read : (n : ℕ) (bytes : List ℕ) → (read_nothing n bytes).fault ≡ None → bytes ≡ []
+pub nothing_read : (n : ℕ) (bytes : List ℕ) → trailing n bytes ≡ None → bytes ≡ []
 nothing_read n [] none = refl
 nothing_read n (b ∷ bytes) none = let wrong : Some (Trailing n) ≡ None = rw (ne_eqb (length (b ∷ bytes)) 0 (λ e. omega (arith, e))) at none in absurd (true≢false (ap is_some wrong))
 
@@ -101,12 +101,12 @@ one_more k n bytes fits rest =
 records_spelled : (k n : ℕ) (bytes : List ℕ) → (read_records k n bytes).fault ≡ None → (records : List Record) × SpelledRecords k n bytes records
 unfolding read_records
 records_spelled zero n bytes none =
-    let parts = no_stop (first_fault n end_slots bytes) (read_nothing (n + 1) (after_line bytes)) none in
+    let parts = no_either (first_fault n end_slots bytes) (trailing (n + 1) (after_line bytes)) none in
     let has = fits_first n end_slots bytes parts.0 in
     let nothing = nothing_read (n + 1) (after_line bytes) parts.1 in
     let end = fixed_only (codes "end") (first_text bytes) has.fits in
     ([], record {
-        read = ap (λ o. unless o (read_nothing (n + 1) (after_line bytes))) parts.0 ∙ ap (read_nothing (n + 1)) nothing;
+        read = ap stopped none;
         each = All-nil IsRecordInRange;
         count = refl;
         text = has.is ∙ (ap (λ t. line t ++ after_line bytes) end ∙ ap (λ b. line (codes "end") ++ b) nothing);
@@ -131,11 +131,7 @@ read_written bytes none =
 -- the records before a fault are in range
 records_in_range : (k n : ℕ) (bytes : List ℕ) → All IsRecordInRange (read_records k n bytes).records
 unfolding read_records
-records_in_range zero n bytes = by (first_fault n end_slots bytes)
-  where
-    by : (o : Option CertFault) → All IsRecordInRange (unless o (read_nothing (n + 1) (after_line bytes))).records
-    by None = All-nil IsRecordInRange
-    by (Some fault) = All-nil IsRecordInRange
+records_in_range zero n bytes = All-nil IsRecordInRange
 records_in_range (suc k) n bytes = by (first_fault n record_slots bytes) refl (records_in_range k (n + 1) (after_line bytes))
   where
     by : (o : Option CertFault) → first_fault n record_slots bytes ≡ o → All IsRecordInRange (read_records k (n + 1) (after_line bytes)).records

@@ -3,4 +3,6 @@ pub mod Grammar
 pub mod Readings
 pub mod Lines
 pub mod Parts
+pub mod Finish
+pub mod Readers
 pub mod Laws

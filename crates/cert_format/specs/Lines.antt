@@ -28,6 +28,15 @@ text_given n (Err line.ReadFault) = Err ReadFault
 text_given n (Err (line.LineTooLong m)) = Err (BadText n TooLong)
 text_given n (Err line.InputTooLong) = Err (BadText n TooLong)
 
+-- that no line is left, or what is, where it would be line n
+abbrev pub nothing_given : ℕ → Result WholeLine LineFault → Result (Unit {0}) CertFault
+nothing_given n (Ok (Whole text)) = Err (Trailing n)
+nothing_given n (Ok (Unended text)) = Err (Trailing n)
+nothing_given n (Ok AtEnd) = Ok tt
+nothing_given n (Err line.ReadFault) = Err ReadFault
+nothing_given n (Err (line.LineTooLong m)) = Err (Trailing n)
+nothing_given n (Err line.InputTooLong) = Err (Trailing n)
+
 -- what a text gives, where it is that of line n
 abbrev pub of_line : {A : Type 0} → ℕ → Result A TextKind → Result A CertFault
 of_line n (Ok value) = Ok value

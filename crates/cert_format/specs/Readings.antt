@@ -92,12 +92,16 @@ abbrev pub under : Header → Reading → Reading
 under h r = record r { header = Some h }
 
 -- no byte is to follow, where line n would be
-abbrev pub read_nothing : ℕ → List ℕ → Reading
-read_nothing n bytes = stopped (if length bytes == 0 then None else Some (Trailing n))
+abbrev pub trailing : ℕ → List ℕ → Option CertFault
+trailing n bytes = if length bytes == 0 then None else Some (Trailing n)
 
--- so many records, of which the first is line n, and the line after them, and nothing more
+-- the fault of the line after the records, which is line n, or of what follows it
+abbrev pub end_fault : ℕ → List ℕ → Option CertFault
+end_fault n bytes = option_or (first_fault n end_slots bytes) (trailing (n + 1) (after_line bytes))
+
+-- so many records, of which the first is line n, and the end
 unfoldable pub read_records : ℕ → ℕ → List ℕ → Reading
-read_records zero n bytes = unless (first_fault n end_slots bytes) (read_nothing (n + 1) (after_line bytes))
+read_records zero n bytes = stopped (end_fault n bytes)
 read_records (suc k) n bytes = unless (first_fault n record_slots bytes) (onto (record_in (first_text bytes)) (read_records k (n + 1) (after_line bytes)))
 
 -- the reading of all the bytes of a certificate

@@ -10,10 +10,12 @@ mod laws;
 mod line;
 mod lines;
 mod number;
+mod reader;
 mod text;
 mod writing;
 
 pub use cache_model::{Header, Objective, Record};
 pub use fault::{CertFault, TextKind};
 pub use laws::{read_is_in_range, read_is_written, written_is_read};
+pub use reader::CertReader;
 pub use writing::{write_end, write_header, write_record};

@@ -5,8 +5,8 @@ ghost use Rattle.bound_io.specs.Lines.{first_text};
 ghost use Rattle.bound_io.specs.Devices.{device};
 ghost use Rattle.cache_model.specs.Certificates.{IsRecordInRange};
 ghost use Rattle.cert_format.specs.Grammar.{choice_line, fixed_line, number_at, number_line, record_slots, word_at};
-ghost use Rattle.cert_format.specs.Lines.{Reads, of_line, text_given};
-ghost use Rattle.cert_format.specs.Readings.{first_fault, record_in};
+ghost use Rattle.cert_format.specs.Lines.{Reads, nothing_given, of_line, text_given};
+ghost use Rattle.cert_format.specs.Readings.{end_fault, first_fault, record_in, trailing};
 
 use crate::fault::{CertFault, TextKind};
 use crate::line::{choice_after, fixed, number_after, record};
@@ -28,6 +28,20 @@ fn whole_text<'a>(
             line,
             kind: TextKind::TooLong,
         }),
+    }
+}
+
+// Whether no line is left, where it would be this one.
+fn nothing(line: u64, given: Result<WholeLine<'_>, LineFault>) -> Result<(), CertFault>
+    ensures { result ≡ nothing_given line given.entry }
+{
+    match given {
+        Ok(WholeLine::AtEnd) => Ok(()),
+        Ok(WholeLine::Whole(_) | WholeLine::Unended(_)) => Err(CertFault::Trailing { line }),
+        Err(LineFault::ReadFault) => Err(CertFault::ReadFault),
+        Err(LineFault::LineTooLong { .. } | LineFault::InputTooLong) => {
+            Err(CertFault::Trailing { line })
+        }
     }
 }
 
@@ -114,4 +128,26 @@ pub fn read_record<S: Source>(
     let line = lines.line() + 1;
     let text = whole_text(line, lines.next_whole_line(source))?;
     in_line(line, record(text))
+}
+
+/// Looks whether nothing is left.
+pub fn read_nothing<S: Source>(lines: &mut LineReader, source: &mut S) -> Result<(), CertFault>
+    requires limit { lines.old.limit ≡ 2 ^ 36 }
+    requires few { lines.old.line < 2 ^ 26 }
+    requires no_fault { lines.old.fault ≡ None }
+    ensures { Reads (trailing (lines.old.line + 1)) 0 (λ _. tt) lines.old lines.new (device (S.left source.old) (S.left source.new) (S.faults source.old) (S.faults source.new)) result }
+{
+    let line = lines.line() + 1;
+    nothing(line, lines.next_whole_line(source))
+}
+
+/// Reads the line after the records, and looks whether nothing follows it.
+pub fn read_end<S: Source>(lines: &mut LineReader, source: &mut S) -> Result<(), CertFault>
+    requires limit { lines.old.limit ≡ 2 ^ 36 }
+    requires few { lines.old.line < 2 ^ 25 + 100 }
+    requires no_fault { lines.old.fault ≡ None }
+    ensures { Reads (end_fault (lines.old.line + 1)) 1 (λ _. tt) lines.old lines.new (device (S.left source.old) (S.left source.new) (S.faults source.old) (S.faults source.new)) result }
+{
+    read_fixed(lines, source, b"end")?;
+    read_nothing(lines, source)
 }
