@@ -273,3 +273,7 @@ module _ (old new : Position) (source : Device) (limit : old.limit ≡ 2 ^ 36) (
       (if_told (told old source.before) _ (λ bytes e.
           let past = told_in _ gave.refused bytes e in
           some_trailing (old.line + 1) bytes (omega (arith, past.1, (told_some old source.before bytes e).0, limit, few, length-take (text_len bytes + 1) bytes)))) (omega arith)
+
+-- what is made of the text of a line
+pub read_of_line : {A : Type 0} (n line : ℕ) (result : Result A CertFault) (parsed : Result A TextKind) (fault : Option TextKind) (value : A) → result ≡ of_line (n + 1) parsed → parsed ≡ value_unless fault value → n ≡ line → result ≡ of_line (line + 1) (value_unless fault value)
+read_of_line n line result parsed fault value is parsed_is same = is ∙ (ap (of_line (n + 1)) parsed_is ∙ ap (λ m. of_line (m + 1) (value_unless fault value)) same)
