@@ -1,7 +1,5 @@
 -- What a call of the reader gives of what is to come.
-use Rattle.std.proofs.Common.{◌≡◌, ◌≢◌, ℕ, zero, suc, ◌+◌, ◌-◌, ◌^◌, ◌≤◌, ◌<◌, ◌∙◌, sym, refl, ap, subst, Bool, true, false, List, [], ◌∷◌, ◌++◌, length, arith, Some, None, Option, Ok, Err, Result, IfSome, IfOk, IfErr}
-use Rattle.std.specs.Option.{option_or, is_some}
-use Rattle.std.proofs.lemmas.Bool.{true≢false}
+use Rattle.std.proofs.Common.{◌≡◌, ◌≢◌, ℕ, suc, ◌+◌, ◌-◌, ◌<◌, ◌∙◌, sym, refl, ap, List, [], ◌++◌, arith, Some, None, Option, Ok, Err}
 use Rattle.bound_io.specs.Devices.{Device}
 use Rattle.bound_io.specs.Lines.{first_text, after_line}
 use Rattle.cache_model.specs.declared.certificates.Header.{Header}
@@ -12,10 +10,10 @@ use Rattle.cert_format.specs.declared.fault.CertFault.TheVariants.{BadText, Trun
 use Rattle.cert_format.specs.declared.reader.Stage.{Stage}
 use Rattle.cert_format.specs.declared.reader.Stage.TheVariants.{AtHeader, InRecords, AtEnd}
 use Rattle.cert_format.specs.Grammar.{record_slots, end_slots}
-use Rattle.cert_format.specs.Readings.{Reading, reading, read_records, stopped, unless, onto, under, trailing, end_fault, first_fault, header_fault, header_in, record_in, after_lines}
-use Rattle.cert_format.specs.Lines.{told, IsStopped, Passes, Reads}
+use Rattle.cert_format.specs.Readings.{reading, read_records, stopped, unless, onto, under, trailing, end_fault, first_fault, header_fault, header_in, record_in, after_lines}
+use Rattle.cert_format.specs.Lines.{told, IsStopped, Reads}
 use Rattle.cert_format.specs.Finish.{finish_fault, lines_left}
-use Rattle.cert_format.specs.Readers.{Reader, to_come, GoesOn, IsRefused, HeaderRead, RecordRead, EndRead}
+use Rattle.cert_format.specs.Readers.{Reader, to_come, IsRefused, HeaderRead, RecordRead, EndRead}
 use Rattle.cert_format.proofs.Spellings.{record_spelled}
 use Rattle.cert_format.proofs.Fronts.{fits_first}
 use Rattle.cert_format.proofs.Headers.{header_spelled, after_lines-zero, no_either}
@@ -43,8 +41,11 @@ coming_end old bytes is = rw is refl
 -- the header
 pub header_goes : (old new : Reader) (source : Device) (h : Header) → old.stage ≡ AtHeader → old.lines.line ≡ 0 → new.stage ≡ InRecords → new.left ≡ h.requests → Reads header_fault 11 header_in old.lines new.lines source (Ok h) → HeaderRead old new source (Ok h)
 header_goes old new source h at first now left reads =
-    let eleven : new.lines.line ≡ 11 = omega (arith, reads.given.0, first) in
-    (now, left, eleven, if_told (told old.lines source.before) _ (λ bytes e.
+    let eleven : new.lines.line ≡ 11 = omega (arith, reads.given.0, first) in (
+      now,
+      left,
+      eleven,
+      if_told (told old.lines source.before) _ (λ bytes e.
           let pass = at_some (told old.lines source.before) bytes _ e reads.passes in
           let is = at_some (told old.lines source.before) bytes _ e reads.value_is in
           let spelled = header_spelled bytes pass.none in
@@ -55,7 +56,8 @@ header_goes old new source h at first now left reads =
             rest = pass.rest;
             coming_is = coming_header old bytes at ∙ (ap (λ o. unless o (under (header_in bytes) (read_records (header_in bytes).requests 12 rest))) pass.none
                 ∙ (ap (λ (k : Header). under k (read_records k.requests 12 rest)) (sym is) ∙ ap (under h) (sym new_coming)));
-          }))
+          }),
+    )
 
 pub header_stops : (old new : Reader) (source : Device) (fault : CertFault) → old.stage ≡ AtHeader → Reads header_fault 11 header_in old.lines new.lines source (Err fault) → IsRefused old source fault
 header_stops old new source fault at reads = refused_by old source header_fault fault reads.stopped (λ bytes f is. coming_header old bytes at ∙ ap (λ o. unless o (under (header_in bytes) (read_records (header_in bytes).requests 12 (after_lines 11 bytes)))) is)
@@ -74,8 +76,11 @@ next_record old k bytes at left =
 pub record_goes : (old new : Reader) (source : Device) (r : Record) → old.stage ≡ InRecords → new.stage ≡ InRecords → new.left + 1 ≡ old.left
     → Reads (first_fault (old.lines.line + 1) record_slots) 1 (λ bytes. record_in (first_text bytes)) old.lines new.lines source (Ok r) → RecordRead old new source (Ok r)
 record_goes old new source r at now left reads =
-    let one : new.lines.line ≡ old.lines.line + 1 = reads.given.0 in
-    (now, left, one, if_told (told old.lines source.before) _ (λ bytes e.
+    let one : new.lines.line ≡ old.lines.line + 1 = reads.given.0 in (
+      now,
+      left,
+      one,
+      if_told (told old.lines source.before) _ (λ bytes e.
           let pass = at_some (told old.lines source.before) bytes _ e reads.passes in
           let is = at_some (told old.lines source.before) bytes _ e reads.value_is in
           let has = fits_first (old.lines.line + 1) record_slots bytes pass.none in
@@ -87,7 +92,8 @@ record_goes old new source r at now left reads =
             rest = pass.rest;
             coming_is = next_record old new.left bytes at (sym left) ∙ (ap (λ o. unless o (onto (record_in (first_text bytes)) (read_records new.left (old.lines.line + 1 + 1) (after_line bytes)))) pass.none
                 ∙ (ap (λ q. onto q (read_records new.left (old.lines.line + 1 + 1) (after_line bytes))) (sym is) ∙ ap (onto r) (sym new_coming)));
-          }))
+          }),
+    )
 
 pub record_stops : (old new : Reader) (source : Device) (fault : CertFault) → old.stage ≡ InRecords → 0 < old.left
     → Reads (first_fault (old.lines.line + 1) record_slots) 1 (λ bytes. record_in (first_text bytes)) old.lines new.lines source (Err fault) → IsRefused old source fault
@@ -113,10 +119,13 @@ nothing_after AtEnd n bytes none = after_lines-zero bytes ∙ nothing_read n byt
 
 pub end_goes : (old new : Reader) (source : Device) (stage : Stage) (v : Unit {0}) → old.stage ≡ stage → stage ≢ AtHeader → old.left ≡ 0 → new.stage ≡ AtEnd → new.left ≡ 0
     → Reads (finish_fault stage (old.lines.line + 1)) (lines_left stage) (λ bytes. tt) old.lines new.lines source (Ok v) → EndRead old new source (Ok v)
-end_goes old new source stage v at other none now left reads =
-    (now, left, if_told (told old.lines source.before) _ (λ bytes e.
-          let pass = at_some (told old.lines source.before) bytes _ e reads.passes in
-          (coming_finish old stage bytes at other none ∙ ap stopped pass.none, pass.rest ∙ ap (λ b. Some b) (nothing_after stage (old.lines.line + 1) bytes pass.none))))
+end_goes old new source stage v at other none now left reads = (
+  now,
+  left,
+  if_told (told old.lines source.before) _ (λ bytes e.
+      let pass = at_some (told old.lines source.before) bytes _ e reads.passes in
+      (coming_finish old stage bytes at other none ∙ ap stopped pass.none, pass.rest ∙ ap (λ b. Some b) (nothing_after stage (old.lines.line + 1) bytes pass.none))),
+)
 
 pub end_stops : (old new : Reader) (source : Device) (stage : Stage) (fault : CertFault) → old.stage ≡ stage → stage ≢ AtHeader → old.left ≡ 0
     → Reads {A = Unit {0}} (finish_fault stage (old.lines.line + 1)) (lines_left stage) (λ bytes. tt) old.lines new.lines source (Err fault) → IsRefused old source fault

@@ -1,5 +1,5 @@
 -- What a reader of a certificate has still to give.
-use Rattle.std.specs.Prelude.{◌≡◌, ◌≢◌, ℕ, ◌+◌, ◌^◌, ◌<◌, List, [], ◌++◌, codes, Result, Ok, Err, None, Some, IfSome}
+use Rattle.std.specs.Prelude.{◌≡◌, ℕ, ◌+◌, ◌^◌, List, [], ◌++◌, Result, Ok, Err, None, Some, IfSome}
 use Rattle.std.specs.declared.option.Option.{Option}
 use Rattle.bound_io.specs.Devices.{Device, HasFailed}
 use Rattle.bound_io.specs.Positions.{Position}

@@ -24,11 +24,7 @@ pub enum Stage {
 }
 
 // Reads the end, where it wasn't read yet, and looks whether nothing follows it.
-fn finish<Q: Source>(
-    lines: &mut LineReader,
-    source: &mut Q,
-    stage: Stage,
-) -> Result<(), CertFault>
+fn finish<Q: Source>(lines: &mut LineReader, source: &mut Q, stage: Stage) -> Result<(), CertFault>
     requires limit { lines.old.limit ≡ 2 ^ 36 }
     requires few { lines.old.line < 2 ^ 25 + 100 }
     requires no_fault { lines.old.fault ≡ None }

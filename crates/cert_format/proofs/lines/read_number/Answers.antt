@@ -1,12 +1,9 @@
-use Rattle.std.proofs.Common.{◌≡◌, ◌+◌, ◌≤◌, ◌<◌, ◌^◌, ◌∙◌, sym, refl, ap, subst, ◌∷◌, [], ◌++◌, arith, length, Err, Ok, Result, List, ℕ, codes, decimal, None, inl, inr, ◌⊎◌, length-append}
-use Rattle.std.specs.Str.{bytes_eq}
+use Rattle.std.proofs.Common.{◌≡◌, ◌+◌, ◌≤◌, ◌∙◌, sym, ap, length, None}
 use Rattle.std.proofs.lemmas.Result.{err_from_is_err_and}
 use Rattle.bound_io.specs.Lines.{first_text}
 use Rattle.bound_io.specs.Devices.{device}
-use Rattle.cert_format.specs.declared.fault.CertFault.{CertFault}
-use Rattle.cert_format.specs.Grammar.{fixed_line, choice_line, number_line, record_slots, line_fault, number_at, word_at, value_unless}
-use Rattle.cert_format.specs.Readings.{record_in}
-use Rattle.cert_format.specs.Lines.{of_line, text_given}
+use Rattle.cert_format.specs.Grammar.{number_line, line_fault, number_at}
+use Rattle.cert_format.specs.Lines.{text_given}
 use Rattle.cert_format.proofs.Short.{number_short}
 use Rattle.cert_format.proofs.Taken.{Gave, stop_line, read_line, reads_as, read_of_line}
 use Rattle.cert_format.proofs.lines.read_number.Goals as goal
