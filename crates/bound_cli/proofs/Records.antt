@@ -1,5 +1,8 @@
 -- The lines of a certificate, one record after another.
 use Rattle.std.proofs.Common.{◌≡◌, ◌∙◌, ℕ, zero, suc, ◌+◌, ◌<◌, ◌≤◌, ◌==◌, cond, refl, sym, ap, arith, ⊎_elim, Bool, false, length, take, get_or, zip, replicate, List, [], ◌∷◌, ◌++◌, map, codes, append_assoc, append-nil}
+use Rattle.std.specs.declared.option.Option.{Option}
+use Rattle.std.specs.Io.KnownBytes.{Appends}
+use Rattle.std.proofs.KnownBytes.{Appends-trans}
 use Rattle.std.proofs.lemmas.Bool.{cases_lt, cond-true, cond-false, eq-eqb, ne_eqb}
 use Rattle.std.proofs.Math.Seq.{get_or-append_seam}
 use Rattle.std.proofs.lemmas.List.{map-append, take_more, take_all, get_or_append_left, get_or-replicate, length-replicate}
@@ -11,27 +14,29 @@ use Rattle.bound_cli.specs.Made.{flowless, constant_records}
 use Rattle.bound_cli.proofs.Flowless.{length-constant_prices}
 use Rattle.cache_model.specs.Texts.{line, text_of, header_lines, record_line, cert_text}
 
--- one record more
-pub records_more : (s u v : List ℕ) (records : List Record) (k : ℕ) (d : Record) → k < length records
-    → u ≡ s ++ text_of (map record_line (take k records))
-    → v ≡ u ++ line (record_line (get_or records k d))
-    → v ≡ s ++ text_of (map record_line (take (k + 1) records))
-records_more s u v records k d within so_far more = rw (more, so_far, take_more records k d within, map-append, flat_map-append) (simp (append_assoc, append-nil))
+-- so many records, and then one more
+record_more : (records : List Record) (k : ℕ) (r d : Record) → k < length records → r ≡ get_or records k d
+    → text_of (map record_line (take k records)) ++ line (record_line r) ≡ text_of (map record_line (take (k + 1) records))
+record_more records k r d within is = rw (is, take_more records k d within, map-append, flat_map-append) (simp (append_assoc, append-nil))
+
+-- so many records were written, and then one more
+pub record_written : (old mid new : Option (List ℕ)) (records : List Record) (k : ℕ) (r d : Record) → k < length records → r ≡ get_or records k d
+    → Appends old mid (text_of (map record_line (take k records))) → Appends mid new (line (record_line r))
+    → Appends old new (text_of (map record_line (take (k + 1) records)))
+record_written old mid new records k r d within is so_far more =
+    rw (record_more records k r d within is) at (Appends-trans old mid new _ _ so_far more)
 
 -- the texts of three parts
 three_parts : (a b : List (List ℕ)) (end : List ℕ) → (text_of a ++ text_of b) ++ line end ≡ text_of (a ++ b ++ end ∷ [])
 three_parts a b end = rw (flat_map-append, flat_map-append) (simp append-nil)
 
--- the header, the records and the end make the certificate
-pub whole_certificate : (h : Header) (records : List Record) (s t u v : List ℕ)
-    → s ≡ [] → t ≡ s ++ text_of (header_lines h) → u ≡ t ++ text_of (map record_line records) → v ≡ u ++ line (codes "end") → v ≡ cert_text h records
-whole_certificate h records s t u v empty head middle end = rw (end, middle, head, empty) (three_parts (header_lines h) (map record_line records) (codes "end"))
-
--- once all records stand there
-pub all_records : (h : Header) (records : List Record) (k : ℕ) (u v : List ℕ) → length records ≤ k
-    → u ≡ text_of (header_lines h) ++ text_of (map record_line (take k records)) → v ≡ u ++ line (codes "end") → v ≡ cert_text h records
-all_records h records k u v past middle end =
-    rw (end, middle, take_all k records past) (three_parts (header_lines h) (map record_line records) (codes "end"))
+-- the header, all records and the end
+pub certificate_written : (old head mid new : Option (List ℕ)) (h : Header) (records : List Record) (k : ℕ) → length records ≤ k
+    → Appends old head (text_of (header_lines h)) → Appends head mid (text_of (map record_line (take k records))) → Appends mid new (line (codes "end"))
+    → Appends old new (cert_text h records)
+certificate_written old head mid new h records k past first so_far end =
+    rw (three_parts (header_lines h) (map record_line records) (codes "end"))
+    at (Appends-trans old mid new _ _ (Appends-trans old head mid _ _ first (rw (take_all k records past) at so_far)) end)
 
 -- ---- the records of one price
 

@@ -1,7 +1,8 @@
 //! The bounds of a trace, and their texts.
-ghost use Rattle.std.specs.Prelude.{◌≡◌, ◌≤◌, ◌<◌, ◌+◌, ◌*◌, ◌/◌, ◌^◌, ◌==◌, if◌then◌else◌, false, length, slice_index_or, sum, All, IfOk, IfErr};
+ghost use Rattle.std.specs.Prelude.{◌≡◌, ◌≤◌, ◌<◌, ◌+◌, ◌*◌, ◌/◌, ◌^◌, ◌==◌, if◌then◌else◌, false, length, slice_index_or, sum, All, IfOk, IfErr, OnOk};
+ghost use Rattle.std.specs.Io.KnownBytes.{Appends};
 ghost use Rattle.cache_model.specs.Intervals.{bound_of};
-ghost use Rattle.cache_model.specs.Certificates.{eligible_of};
+ghost use Rattle.cache_model.specs.Certificates.{eligible_of, IsCertificate};
 ghost use Rattle.cache_model.specs.Keeps.{contents_of};
 ghost use Rattle.cache_model.specs.Units.{IsUnit};
 ghost use Rattle.cache_model.specs.Play.{IsAllowed, score};
@@ -14,13 +15,13 @@ ghost use Rattle.bound_cli.specs.BoundsFaults.{FailsBounds};
 ghost use Rattle.bound_cli.specs.Made.{AreTexts, IsMade, IsPriceOf, IsTakenByStart, constant_records};
 ghost use Rattle.bound_cli.specs.Words.{IsBuilt};
 
-use crate::certificate::{push_header, push_record};
 use crate::report::report_text;
 use crate::schedule::round;
-use crate::text::push_line;
 use bound_base::NoMemory;
+use bound_io::{Failed, GrowSink, Sink};
 use cache_model::{BoundFacts, Header, Mode, Record};
 use cache_rules::{Objective, Trace, score};
+use cert_format::{write_end, write_header, write_record};
 use constant_price::least;
 use interval_maker::{Intervals, make};
 use relaxation::{DenominatorChoice, PriceFault, Sums, bound_of, denominator_for, unit_of};
@@ -231,17 +232,29 @@ fn record_at(bounds: &Bounds, t: usize) -> Record
     }
 }
 
+// Writes the certificate.
+fn write_cert<K: Sink>(sink: &mut K, bounds: &Bounds) -> Result<(), Failed>
+    requires { IsCertificate bounds.now.header (constant_records bounds.now.price bounds.now.keeps.items) }
+    ensures { OnOk result (Appends (K.written sink.old) (K.written sink.new) (cert_text bounds.now.header (constant_records bounds.now.price bounds.now.keeps.items))) }
+{
+    write_header(sink, &bounds.header)?;
+    for t in 0..bounds.keeps.len() {
+        write_record(sink, &record_at(bounds, t))?;
+    }
+    write_end(sink)?;
+    Ok(())
+}
+
 // The text of the certificate.
 fn cert_of(alloc: Global, bounds: &Bounds) -> Result<Vec<u8>, NoMemory>
+    requires { IsCertificate bounds.now.header (constant_records bounds.now.price bounds.now.keeps.items) }
     ensures { IfOk result (λ text. text.items ≡ cert_text bounds.now.header (constant_records bounds.now.price bounds.now.keeps.items)) }
 {
-    let mut text = Vec::new(alloc);
-    push_header(&mut text, &bounds.header)?;
-    for t in 0..bounds.keeps.len() {
-        push_record(&mut text, &record_at(bounds, t))?;
+    let mut sink = GrowSink::new(alloc);
+    match write_cert(&mut sink, bounds) {
+        Ok(()) => Ok(sink.into_bytes()),
+        Err(Failed) => Err(NoMemory),
     }
-    push_line(&mut text, b"end")?;
-    Ok(text)
 }
 
 /// The certificate and the report of a trace as asked for, with the number of lines of the trace that were dropped.

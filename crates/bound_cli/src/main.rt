@@ -12,7 +12,6 @@ use std::rt::{Env, Files};
 use words::paths_of;
 
 mod bounds;
-mod certificate;
 mod operands;
 mod refusal;
 mod report;

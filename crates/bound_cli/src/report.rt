@@ -1,12 +1,28 @@
 //! The text of a report of bounds.
 ghost use Rattle.std.specs.Prelude.{◌≡◌, ◌<◌, ◌++◌, OnOk, IfOk};
-ghost use Rattle.cache_model.specs.Texts.{capacity_line, entry, line, flow_line, mode_line, ratio, report_text, trace_line, unit_line, upper_line, window_word};
+ghost use Rattle.cache_model.specs.Texts.{capacity_line, entry, form_word, line, flow_line, mode_line, objective_word, ratio, report_text, trace_line, unit_line, upper_line, window_word};
 
-use crate::certificate::{word_of_form, word_of_objective};
 use crate::text::{push, push_entry, push_entry_line, push_line, push_number};
 use bound_base::NoMemory;
 use cache_model::{BoundFacts, Header, Mode, Objective, Window};
 use std::alloc::Global;
+
+// The word of an objective.
+fn word_of_objective(objective: Objective) -> &'static [u8]
+    ensures { result.now ≡ objective_word objective }
+{
+    match objective {
+        Objective::Object => b"object",
+        Objective::Bytes => b"bytes",
+    }
+}
+
+// The word of the form.
+fn word_of_form(exact: bool) -> &'static [u8]
+    ensures { result.now ≡ form_word exact }
+{
+    if exact { b"exact" } else { b"plain" }
+}
 
 fn push_trace_line(
     text: &mut Vec<u8>,
