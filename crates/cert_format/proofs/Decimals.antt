@@ -25,7 +25,7 @@ folds : FoldsDigits value_after
 folds = search rules
 
 -- the digits and the number of this crate are those of std
-own : IsNumeralModel (λ ds. list_all is_ascii_digit ds ≡ true) number_in
+pub own : IsNumeralModel (λ ds. list_all is_ascii_digit ds ≡ true) number_in
 own = numerals_by_fold _ digits_test value_after folds
 
 -- a number written and read again
@@ -67,7 +67,7 @@ lacks-digits byte (d ∷ ds) low digits =
     or_from (d == byte) (list_any (λ b. b == byte) ds) (ne_eqb d byte (λ same. omega (arith, digit_range d parts.0, same, low))) (lacks-digits byte ds low parts.1)
 
 -- the number of digits with one digit more
-value_after-append : (n : ℕ) (ds : List ℕ) (d : ℕ) → value_after n (ds ++ d ∷ []) ≡ 10 * value_after n ds + (d - 48)
+pub value_after-append : (n : ℕ) (ds : List ℕ) (d : ℕ) → value_after n (ds ++ d ∷ []) ≡ 10 * value_after n ds + (d - 48)
 value_after-append n [] d = refl
 value_after-append n (x ∷ ds) d = value_after-append (10 * n + (x - 48)) ds d
 

@@ -1,9 +1,9 @@
 -- Numbers without leading zeros.
-use Rattle.std.proofs.Common.{◌≡◌, ◌≢◌, ℕ, suc, ◌+◌, ◌≤◌, ◌<◌, ◌∙◌, refl, ap, Bool, true, false, not, cond, ◌&&◌, List, [], ◌∷◌, length, get_or, arith, ◌==◌, Some, None, Ok, Err, Option, Result, inl, inr, ◌⊎◌}
+use Rattle.std.proofs.Common.{◌≡◌, ◌≢◌, ℕ, suc, ◌+◌, ◌≤◌, ◌<◌, ◌∙◌, sym, refl, ap, Bool, true, false, not, cond, ◌&&◌, List, [], ◌∷◌, length, get_or, arith, ◌==◌, Some, None, Ok, Err, Option, Result, inl, inr, ◌⊎◌}
 use Rattle.std.specs.Prelude.{if◌then◌else◌, position, nat_le, nat_lt}
 use Rattle.std.specs.List.{list_all, position_or_len}
 use Rattle.std.specs.Char.{is_ascii_digit}
-use Rattle.std.proofs.lemmas.Bool.{and_from, and_left, and_right, leb-true, and_parts, or_right, or_from, cases_lt, lt-ltb, le-ltb, le-leb, lt-leb, ltb-false, eqb-true, eqb-false, ne_eqb, cond_both, not-true}
+use Rattle.std.proofs.lemmas.Bool.{true≢false, and_from, and_left, and_right, leb-true, and_parts, or_right, or_from, cases_lt, lt-ltb, le-ltb, le-leb, lt-leb, ltb-false, eqb-true, eqb-false, ne_eqb, cond_both, not-true}
 use Rattle.std.proofs.lemmas.List.Folds.{list_all_at}
 use Rattle.std.proofs.lemmas.List.Quantifiers.{position-Some}
 use Rattle.std.proofs.lemmas.List.{nil_from_length}
@@ -121,3 +121,10 @@ refused low high limit word TooLarge is below first =
     some : (word : List ℕ) → 0 < number_in word → 0 < length word
     some [] above = absurd (omega (arith, above))
     some (x ∷ xs) above = omega arith
+
+-- digits whose number is below the limit are read
+pub of_digits : (limit : ℕ) (word : List ℕ) (r : Result ℕ NumFault) → Says limit word r → list_all is_ascii_digit word ≡ true → 0 < length word → number_in word < limit → r ≡ Ok (number_in word)
+of_digits limit word (Ok value) said digits some below = ap Ok said.2
+of_digits limit word (Err Empty) said digits some below = absurd (omega (arith, ap length said, some))
+of_digits limit word (Err (NotDigit place)) said digits some below = absurd (true≢false (sym digits ∙ said))
+of_digits limit word (Err TooLarge) said digits some below = absurd (omega (arith, said.1, below))
