@@ -1,4 +1,3 @@
-pub mod LineByLine
 pub mod ByStart
 pub mod Outcomes
 pub mod Records

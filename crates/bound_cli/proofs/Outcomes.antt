@@ -22,10 +22,10 @@ use Rattle.bound_cli.specs.Made.{AreTexts, RefusesDenominator}
 use Rattle.bound_cli.specs.declared.words.Plan.{Plan}
 use Rattle.bound_cli.specs.declared.status.Status.{Status}
 use Rattle.bound_cli.specs.declared.status.Status.TheVariants.{Done, Words, BadLine, Limit, TraceFault, ReportFault, MadeFault, NoMemory}
-use Rattle.bound_cli.specs.declared.refusal.LimitName.TheVariants.{Requests, TraceBytes, Denominator}
-use Rattle.bound_cli.specs.declared.refusal.Refusal.{Refusal}
-use Rattle.bound_cli.specs.declared.refusal.Refusal.TheVariants as refusal
-use Rattle.bound_cli.specs.Refusals.{refusal_line}
+use Rattle.bound_report.specs.declared.refusal.LimitName.TheVariants.{Requests, TraceBytes, Denominator}
+use Rattle.bound_report.specs.declared.refusal.Refusal.{Refusal}
+use Rattle.bound_report.specs.declared.refusal.Refusal.TheVariants as refusal
+use Rattle.bound_report.specs.Refusals.{refusal_line}
 use Rattle.bound_cli.specs.Statuses.{refusal_of, refusal_of_bounds, status_of}
 use Rattle.bound_cli.specs.Words.{plan}
 use Rattle.bound_cli.specs.Run.{Devices, IsGoodTrace, IsLoaded, IsPastDenominator, IsReady, IsRefused, IsPrepared, Causes, Explains, asked_of_plan, format_of_plan, plan_of_bounds}

@@ -5,7 +5,7 @@ use Rattle.cache_model.specs.declared.reports.Mode.TheVariants.{Constant, Infini
 use Rattle.relaxation.specs.declared.denominators.DenominatorChoice.TheVariants.{Exact, Given}
 use Rattle.trace_any.specs.declared.format.Format.TheVariants.{Webcache, Arc, Msr}
 use Rattle.bound_cli.specs.declared.words.Plan.TheVariants.{Bounds}
-use Rattle.bound_cli.specs.declared.words.WordKind.TheVariants.{Missing, Unknown, Twice, BadValue}
+use Rattle.bound_report.specs.declared.refusal.WordKind.TheVariants.{Missing, Unknown, Twice, BadValue}
 use Rattle.bound_cli.specs.Words.{fault, plan}
 
 -- the command, its two paths and these operands

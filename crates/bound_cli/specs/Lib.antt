@@ -1,5 +1,4 @@
 pub mod Words
-pub mod Refusals
 pub mod Statuses
 pub mod Made
 pub mod BoundsFaults

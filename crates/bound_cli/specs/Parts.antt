@@ -7,12 +7,12 @@ use Rattle.bound_io.specs.Devices.{Device, HasFailed, Gets}
 use Rattle.trace_any.specs.declared.fault.TraceFault.TheVariants as trace
 use Rattle.trace_any.specs.declared.format.Format.{Format}
 use Rattle.bound_cli.specs.declared.words.Plan.{Plan}
-use Rattle.bound_cli.specs.declared.refusal.LimitName.TheVariants.{Requests, TraceBytes, Denominator}
-use Rattle.bound_cli.specs.declared.refusal.Refusal.{Refusal}
-use Rattle.bound_cli.specs.declared.refusal.Refusal.TheVariants as refusal
+use Rattle.bound_report.specs.declared.refusal.LimitName.TheVariants.{Requests, TraceBytes, Denominator}
+use Rattle.bound_report.specs.declared.refusal.Refusal.{Refusal}
+use Rattle.bound_report.specs.declared.refusal.Refusal.TheVariants as refusal
 use Rattle.bound_cli.specs.declared.status.Status.{Status}
 use Rattle.bound_cli.specs.declared.status.Status.TheVariants.{Done, Words, BadLine, Limit, TraceFault, ReportFault, MadeFault, NoMemory}
-use Rattle.bound_cli.specs.Refusals.{refusal_line}
+use Rattle.bound_report.specs.Refusals.{refusal_line}
 use Rattle.bound_cli.specs.Run.{IsRefused, IsPastDenominator, format_of_plan}
 
 -- reading a trace stops at a refused line, a passed limit, a failed read or want of memory

@@ -14,12 +14,12 @@ use Rattle.trace_any.specs.Readers.{IsWhole}
 use Rattle.bound_cli.specs.declared.bounds.Asked.{Asked}
 use Rattle.bound_cli.specs.declared.words.Plan.{Plan}
 use Rattle.bound_cli.specs.declared.words.Plan.TheVariants.{Bounds}
-use Rattle.bound_cli.specs.declared.refusal.LimitName.TheVariants.{Requests, TraceBytes, Denominator}
-use Rattle.bound_cli.specs.declared.refusal.Refusal.TheVariants as refusal
+use Rattle.bound_report.specs.declared.refusal.LimitName.TheVariants.{Requests, TraceBytes, Denominator}
+use Rattle.bound_report.specs.declared.refusal.Refusal.TheVariants as refusal
 use Rattle.bound_cli.specs.declared.status.Status.{Status}
 use Rattle.bound_cli.specs.declared.status.Status.TheVariants.{Done, Words, BadLine, Limit, TraceFault, ReportFault, MadeFault, NoMemory}
 use Rattle.bound_cli.specs.Words.{plan}
-use Rattle.bound_cli.specs.Refusals.{refusal_line}
+use Rattle.bound_report.specs.Refusals.{refusal_line}
 use Rattle.bound_cli.specs.Made.{AreTexts, RefusesDenominator}
 
 -- what is seen of the four devices of a run

@@ -1,10 +1,10 @@
 -- The ends of a run.
 use Rattle.std.specs.Prelude.{ℕ}
-use Rattle.bound_cli.specs.declared.refusal.Refusal.{Refusal}
-use Rattle.bound_cli.specs.declared.refusal.Refusal.TheVariants as refusal
+use Rattle.bound_report.specs.declared.refusal.Refusal.{Refusal}
+use Rattle.bound_report.specs.declared.refusal.Refusal.TheVariants as refusal
 use Rattle.trace_any.specs.declared.fault.TraceFault.{TraceFault as FaultOfTrace}
 use Rattle.trace_any.specs.declared.fault.TraceFault.TheVariants as trace
-use Rattle.bound_cli.specs.declared.refusal.LimitName.TheVariants.{Requests, TraceBytes, Denominator}
+use Rattle.bound_report.specs.declared.refusal.LimitName.TheVariants.{Requests, TraceBytes, Denominator}
 use Rattle.bound_cli.specs.declared.bounds.BoundsFault.{BoundsFault}
 use Rattle.bound_cli.specs.declared.bounds.BoundsFault.TheVariants as bounds
 use Rattle.bound_cli.specs.declared.status.Status.{Status}

@@ -19,8 +19,8 @@ use Rattle.trace_any.specs.declared.format.Format.TheVariants.{Webcache, Arc, Ms
 use Rattle.bound_cli.specs.declared.words.Plan.{Plan}
 use Rattle.bound_cli.specs.declared.words.Plan.TheVariants.{Bounds}
 use Rattle.bound_cli.specs.declared.words.WordFault.{WordFault}
-use Rattle.bound_cli.specs.declared.words.WordKind.{WordKind}
-use Rattle.bound_cli.specs.declared.words.WordKind.TheVariants.{Missing, Unknown, Twice, BadValue}
+use Rattle.bound_report.specs.declared.refusal.WordKind.{WordKind}
+use Rattle.bound_report.specs.declared.refusal.WordKind.TheVariants.{Missing, Unknown, Twice, BadValue}
 
 -- go on with the value, or stop at the fault
 infixl 10 ◌>>=◌

@@ -15,11 +15,11 @@ ghost use Rattle.bound_cli.specs.BoundsFaults.{FailsBounds};
 ghost use Rattle.bound_cli.specs.Made.{AreTexts, IsMade, IsPriceOf, IsTakenByStart, constant_records};
 ghost use Rattle.bound_cli.specs.Words.{IsBuilt};
 
-use crate::report::report_text;
 use crate::schedule::round;
 use bound_base::NoMemory;
 use bound_io::{Failed, GrowSink, Sink};
 use cache_model::{BoundFacts, Header, Mode, Record};
+use bound_report::{LimitName, Refusal, report_text};
 use cache_rules::{Objective, Trace, score};
 use cert_format::{write_end, write_header, write_record};
 use constant_price::least;
@@ -76,6 +76,20 @@ impl From<NoMemory> for BoundsFault {
 
     fn from(_: NoMemory) -> Self {
         BoundsFault::NoMemory
+    }
+}
+
+impl From<BoundsFault> for Refusal {
+    ghost use Rattle.std.specs.Prelude.{◌≡◌};
+    ghost use Rattle.bound_cli.specs.Statuses.{refusal_of_bounds};
+
+    ghost from_gives = { λ f r. r ≡ refusal_of_bounds f };
+
+    fn from(fault: BoundsFault) -> Self {
+        match fault {
+            BoundsFault::Denominator => Refusal::Limit(LimitName::Denominator),
+            BoundsFault::NoMemory => Refusal::NoMemory,
+        }
     }
 }
 

@@ -13,11 +13,8 @@ use words::paths_of;
 
 mod bounds;
 mod operands;
-mod refusal;
-mod report;
 mod schedule;
 mod status;
-mod text;
 mod top;
 mod words;
 

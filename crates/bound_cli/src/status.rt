@@ -1,9 +1,10 @@
 //! How a run ends.
 ghost use Rattle.std.specs.Prelude.{◌≡◌};
-ghost use Rattle.bound_cli.specs.Statuses.{code_of};
+ghost use Rattle.bound_cli.specs.Statuses.{code_of, refusal_of};
 
-use crate::refusal::{LimitName, Refusal};
 use crate::words::WordFault;
+use bound_report::{LimitName, Refusal};
+use trace_any::TraceFault;
 use trace_lines::LineKind;
 
 /// How a run ends, each with the exit status of the program.
@@ -60,5 +61,18 @@ impl From<Refusal> for Status {
             Refusal::MadeFault => Status::MadeFault,
             Refusal::NoMemory => Status::NoMemory,
         }
+    }
+}
+
+/// The refusal that a fault of the trace leads to.
+pub fn refusal_of(fault: TraceFault) -> Refusal
+    ensures { result ≡ refusal_of fault }
+{
+    match fault {
+        TraceFault::BadLine { line, kind } => Refusal::BadLine { line, kind },
+        TraceFault::ReadFault => Refusal::TraceFault,
+        TraceFault::InputTooLong => Refusal::Limit(LimitName::TraceBytes),
+        TraceFault::TooManyRequests => Refusal::Limit(LimitName::Requests),
+        TraceFault::NoMemory => Refusal::NoMemory,
     }
 }

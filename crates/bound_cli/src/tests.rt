@@ -3,8 +3,9 @@ ghost use Rattle.std.specs.Prelude.{◌≡◌, ◌≤◌};
 
 use crate::status::Status;
 use crate::top::run;
-use crate::words::{WordFault, WordKind};
+use crate::words::WordFault;
 use bound_io::{CalmSource, MemSink, MemSource};
+use bound_report::WordKind;
 use std::alloc::{AllocError, Global};
 use std::process::Abort;
 use std::test::Fail;

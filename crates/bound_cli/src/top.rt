@@ -5,16 +5,16 @@ ghost use Rattle.bound_io.specs.Reading.{LosesFront};
 ghost use Rattle.trace_any.specs.Readings.{IsFormat};
 ghost use Rattle.relaxation.specs.Denominators.{IsChoice};
 ghost use Rattle.bound_cli.specs.Parts.{RefusesLoading, RefusesTrace, WritesOut};
-ghost use Rattle.bound_cli.specs.Refusals.{refusal_line};
+ghost use Rattle.bound_report.specs.Refusals.{refusal_line};
 ghost use Rattle.bound_cli.specs.Run.{Completes, Explains, IsLoaded, IsReady, devices, plan_of_bounds};
 ghost use Rattle.bound_cli.specs.Statuses.{status_of};
 ghost use Rattle.bound_cli.specs.Words.{IsBuilt};
 
 use crate::bounds::{Asked, Texts, texts_of};
-use crate::refusal::{Refusal, refusal_text};
-use crate::status::Status;
+use crate::status::{Status, refusal_of};
 use crate::words::plan_of;
 use bound_io::{Sink, Source, write_all};
+use bound_report::{Refusal, refusal_text};
 use cache_rules::Trace;
 use std::alloc::Global;
 use trace_any::{Format, Limits, RequestReader, load};
@@ -31,7 +31,10 @@ fn load_all<T: Source>(
     ensures source { LosesFront (T.left trace.old) (T.left trace.new) }
 {
     let mut reader = RequestReader::new(alloc, format, Limits::full())?;
-    Ok(load(alloc, &mut reader, trace)?)
+    match load(alloc, &mut reader, trace) {
+        Ok(read) => Ok(read),
+        Err(fault) => Err(refusal_of(fault)),
+    }
 }
 
 // The certificate and the report of all that the source has left.

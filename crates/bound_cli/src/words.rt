@@ -8,23 +8,11 @@ use crate::operands::{
     OPERANDS_AT, capacity_given, denominator_given, format_given, has_equals, is_operand, is_value,
     mode_given, name_of, objective_given, place_given, value_given, value_of,
 };
+use bound_report::WordKind;
 use cache_model::Mode;
 use cache_rules::Objective;
 use relaxation::DenominatorChoice;
 use trace_any::Format;
-
-/// Why a word is refused.
-#[derive(Clone, Copy, Debug, PartialEq, Eq)]
-pub enum WordKind {
-    /// No word stands where one is needed.
-    Missing,
-    /// The word is not one that may stand there.
-    Unknown,
-    /// The operand stood before.
-    Twice,
-    /// The value is not one that may stand there.
-    BadValue,
-}
 
 /// The first word that is not as it has to be. Places count from 1, the command being at place 1.
 #[derive(Clone, Copy, Debug, PartialEq, Eq)]

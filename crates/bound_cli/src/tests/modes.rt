@@ -1,7 +1,7 @@
 //! Runs in each mode and over each denominator.
 use super::{CYCLE, CYCLE_TRACE, GOOD, Row, check};
-use crate::refusal::LimitName;
 use crate::status::Status;
+use bound_report::LimitName;
 use std::test::Fail;
 
 // Sizes 2 and 3 by turns.

@@ -2,12 +2,12 @@
 use Rattle.std.specs.Prelude.{ℕ, List, ◌++◌, codes, decimal}
 use Rattle.trace_lines.specs.declared.line.LineKind.{LineKind}
 use Rattle.trace_lines.specs.declared.line.LineKind.TheVariants.{TooFewWords, BadNumber, SizeTooLarge, BadRange, BadType, QuoteByte, TooLong}
-use Rattle.bound_cli.specs.declared.refusal.LimitName.{LimitName}
-use Rattle.bound_cli.specs.declared.refusal.LimitName.TheVariants.{Requests, TraceBytes, Denominator}
-use Rattle.bound_cli.specs.declared.words.WordKind.{WordKind}
-use Rattle.bound_cli.specs.declared.words.WordKind.TheVariants.{Missing, Unknown, Twice, BadValue}
-use Rattle.bound_cli.specs.declared.refusal.Refusal.{Refusal}
-use Rattle.bound_cli.specs.declared.refusal.Refusal.TheVariants.{Words, BadLine, Limit, TraceFault, MadeFault, NoMemory}
+use Rattle.bound_report.specs.declared.refusal.LimitName.{LimitName}
+use Rattle.bound_report.specs.declared.refusal.LimitName.TheVariants.{Requests, TraceBytes, Denominator}
+use Rattle.bound_report.specs.declared.refusal.WordKind.{WordKind}
+use Rattle.bound_report.specs.declared.refusal.WordKind.TheVariants.{Missing, Unknown, Twice, BadValue}
+use Rattle.bound_report.specs.declared.refusal.Refusal.{Refusal}
+use Rattle.bound_report.specs.declared.refusal.Refusal.TheVariants.{Words, BadLine, Limit, TraceFault, MadeFault, NoMemory}
 
 -- why a word is refused, and the end of the line
 abbrev pub word_kind_text : WordKind → List ℕ

@@ -1,6 +1,6 @@
 use Rattle.std.proofs.Common.{refl, append_assoc, ◌++◌, ◌∙◌, codes}
 use Rattle.std.specs.Prelude.{decimal}
-use Rattle.bound_cli.proofs.refusal.push_line_kind.Goals as goal
+use Rattle.bound_report.proofs.refusal.push_line_kind.Goals as goal
 
 pub returns-in-BadNumber : goal.returns-in-BadNumber
 returns-in-BadNumber c =

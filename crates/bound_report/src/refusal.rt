@@ -1,14 +1,24 @@
 //! The line that tells why a run stopped. It takes no memory.
 ghost use Rattle.std.specs.Prelude.{◌≡◌, ◌+◌, ◌≤◌, List, ℕ, [], ◌++◌, length, take, decimal};
-ghost use Rattle.bound_cli.specs.Refusals.{limit_text, line_kind_text, refusal_line, word_kind_text};
+ghost use Rattle.bound_report.specs.Refusals.{limit_text, line_kind_text, refusal_line, word_kind_text};
 
-use crate::bounds::BoundsFault;
-use crate::words::WordKind;
 use bound_base::NoMemory;
 use itoa::Buffer;
 use std::marker::Model;
-use trace_any::TraceFault;
 use trace_lines::LineKind;
+
+/// Why a word of the command line is refused.
+#[derive(Clone, Copy, Debug, PartialEq, Eq)]
+pub enum WordKind {
+    /// No word stands where one is needed.
+    Missing,
+    /// The word is not one that may stand there.
+    Unknown,
+    /// The operand stood before.
+    Twice,
+    /// The value is not one that may stand there.
+    BadValue,
+}
 
 /// A limit of the program.
 #[derive(Clone, Copy, Debug, PartialEq, Eq)]
@@ -40,43 +50,12 @@ pub enum Refusal {
 
 impl From<NoMemory> for Refusal {
     ghost use Rattle.std.specs.Prelude.{◌≡◌};
-    ghost use Rattle.bound_cli.specs.declared.refusal.Refusal.TheVariants.{NoMemory};
+    ghost use Rattle.bound_report.specs.declared.refusal.Refusal.TheVariants.{NoMemory};
 
     ghost from_gives = { λ _ r. r ≡ NoMemory };
 
     fn from(_: NoMemory) -> Self {
         Refusal::NoMemory
-    }
-}
-
-impl From<BoundsFault> for Refusal {
-    ghost use Rattle.std.specs.Prelude.{◌≡◌};
-    ghost use Rattle.bound_cli.specs.Statuses.{refusal_of_bounds};
-
-    ghost from_gives = { λ f r. r ≡ refusal_of_bounds f };
-
-    fn from(fault: BoundsFault) -> Self {
-        match fault {
-            BoundsFault::Denominator => Refusal::Limit(LimitName::Denominator),
-            BoundsFault::NoMemory => Refusal::NoMemory,
-        }
-    }
-}
-
-impl From<TraceFault> for Refusal {
-    ghost use Rattle.std.specs.Prelude.{◌≡◌};
-    ghost use Rattle.bound_cli.specs.Statuses.{refusal_of};
-
-    ghost from_gives = { λ f r. r ≡ refusal_of f };
-
-    fn from(fault: TraceFault) -> Self {
-        match fault {
-            TraceFault::BadLine { line, kind } => Refusal::BadLine { line, kind },
-            TraceFault::ReadFault => Refusal::TraceFault,
-            TraceFault::InputTooLong => Refusal::Limit(LimitName::TraceBytes),
-            TraceFault::TooManyRequests => Refusal::Limit(LimitName::Requests),
-            TraceFault::NoMemory => Refusal::NoMemory,
-        }
     }
 }
 

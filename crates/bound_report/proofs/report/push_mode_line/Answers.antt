@@ -1,7 +1,7 @@
 use Rattle.std.proofs.Common.{codes}
 use Rattle.cache_model.specs.Texts.{entry}
-use Rattle.bound_cli.proofs.LineByLine.{two_pieces}
-use Rattle.bound_cli.proofs.report.push_mode_line.Goals as goal
+use Rattle.bound_report.proofs.LineByLine.{two_pieces}
+use Rattle.bound_report.proofs.report.push_mode_line.Goals as goal
 
 pub returns-in_ok-push_line-in-Constant : goal.returns-in_ok-push_line-in-Constant
 returns-in_ok-push_line-in-Constant c =

@@ -1,0 +1,14 @@
+//! Texts for people: the report of bounds, and the line that tells why a run stopped.
+//!
+//! The rules are "Report of bounds" and "Refusal" in docs/DEFINITIONS.md.
+#![tactic(auto)]
+
+mod refusal;
+mod report;
+#[cfg(test)]
+mod tests;
+mod text;
+
+pub use cache_model::{BoundFacts, Mode, Window};
+pub use refusal::{LimitName, Refusal, RefusalText, WordKind, refusal_text};
+pub use report::report_text;
