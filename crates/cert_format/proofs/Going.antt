@@ -1,5 +1,5 @@
 -- What a call of the reader gives of what is to come.
-use Rattle.std.proofs.Common.{◌≡◌, ◌≢◌, ℕ, suc, ◌+◌, ◌-◌, ◌<◌, ◌∙◌, sym, refl, ap, List, [], ◌++◌, arith, Some, None, Option, Ok, Err}
+use Rattle.std.proofs.Common.{◌∷◌, ◌≡◌, ◌≢◌, ℕ, suc, ◌+◌, ◌-◌, ◌<◌, ◌∙◌, sym, refl, ap, List, [], ◌++◌, arith, Some, None, Option, Ok, Err}
 use Rattle.bound_io.specs.Devices.{Device}
 use Rattle.bound_io.specs.Lines.{first_text, after_line, stands_in}
 use Rattle.bound_io.specs.Positions.{Position}
