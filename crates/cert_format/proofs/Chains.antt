@@ -71,7 +71,7 @@ start at left faults none = record {
     sub_same n = omega arith
 
 -- past some lines, and then past others
-past_both : (first second third : Position) (bytes : List ℕ) (k : ℕ) → second.line ≡ first.line + k → IsPast first second bytes → IsPast second third (after_lines k bytes) → IsPast first third bytes
+pub past_both : (first second third : Position) (bytes : List ℕ) (k : ℕ) → second.line ≡ first.line + k → IsPast first second bytes → IsPast second third (after_lines k bytes) → IsPast first third bytes
 past_both first second third bytes k line one other =
     let here : bytes_through (second.line - first.line) bytes ≡ bytes_through k bytes = ap (λ n. bytes_through n bytes) (omega (arith, line)) in
     let both : bytes_through (third.line - first.line) bytes ≡ bytes_through k bytes + bytes_through (third.line - second.line) (after_lines k bytes)

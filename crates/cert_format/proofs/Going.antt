@@ -1,7 +1,8 @@
 -- What a call of the reader gives of what is to come.
-use Rattle.std.proofs.Common.{◌≡◌, ◌≢◌, ℕ, suc, ◌+◌, ◌-◌, ◌<◌, ◌∙◌, sym, refl, ap, List, [], ◌++◌, arith, Some, None, Option, Ok, Err}
+use Rattle.std.proofs.Common.{◌∷◌, ◌≡◌, ◌≢◌, ℕ, suc, ◌+◌, ◌-◌, ◌<◌, ◌∙◌, sym, refl, ap, List, [], ◌++◌, arith, Some, None, Option, Ok, Err}
 use Rattle.bound_io.specs.Devices.{Device}
-use Rattle.bound_io.specs.Lines.{first_text, after_line}
+use Rattle.bound_io.specs.Lines.{first_text, after_line, stands_in}
+use Rattle.bound_io.specs.Positions.{Position}
 use Rattle.cache_model.specs.declared.certificates.Header.{Header}
 use Rattle.cache_model.specs.declared.certificates.Record.{Record}
 use Rattle.cache_model.specs.Texts.{header_lines, line, record_line, text_of}
@@ -13,11 +14,11 @@ use Rattle.cert_format.specs.Grammar.{record_slots, end_slots}
 use Rattle.cert_format.specs.Readings.{reading, read_records, stopped, unless, onto, under, trailing, end_fault, first_fault, header_fault, header_in, record_in, after_lines}
 use Rattle.cert_format.specs.Lines.{told, IsStopped, Reads}
 use Rattle.cert_format.specs.Finish.{finish_fault, lines_left}
-use Rattle.cert_format.specs.Readers.{Reader, to_come, IsRefused, HeaderRead, RecordRead, EndRead}
+use Rattle.cert_format.specs.Readers.{Reader, fresh, to_come, IsRefused, HeaderRead, RecordRead, EndRead}
 use Rattle.cert_format.proofs.Spellings.{record_spelled}
 use Rattle.cert_format.proofs.Fronts.{fits_first}
 use Rattle.cert_format.proofs.Headers.{header_spelled, after_lines-zero, no_either}
-use Rattle.cert_format.proofs.Taken.{at_some, if_told, after_lines-one}
+use Rattle.cert_format.proofs.Taken.{at_some, if_told, told_some, after_lines-one}
 use Rattle.cert_format.proofs.Wholes.{nothing_read}
 
 -- why lines are not given is why nothing more is read
@@ -117,6 +118,18 @@ nothing_after AtHeader n bytes none = after_lines-one bytes ∙ nothing_read (n 
 nothing_after InRecords n bytes none = after_lines-one bytes ∙ nothing_read (n + 1) (after_line bytes) (no_either (first_fault n end_slots bytes) (trailing (n + 1) (after_line bytes)) none).1
 nothing_after AtEnd n bytes none = after_lines-zero bytes ∙ nothing_read n bytes none
 
+end_of : (a b : List ℕ) → a ++ b ≡ [] → b ≡ []
+end_of [] b is = is
+end_of (x ∷ a) b is = let wrong : x ∷ (a ++ b) ≡ [] = is in cc
+
+-- where nothing is held or left, nothing is left
+nothing_left : (at : Position) (left : Option (List ℕ)) → told at left ≡ Some [] → left ≡ Some []
+nothing_left at left none = by left (told_some at left [] none).1
+  where
+    by : (o : Option (List ℕ)) → stands_in at.held o ≡ Some [] → o ≡ Some []
+    by None is = let wrong : None ≡ Some [] = is in cc
+    by (Some rest) is = let both : at.held ++ rest ≡ [] = cc in ap (λ r. Some r) (end_of at.held rest both)
+
 pub end_goes : (old new : Reader) (source : Device) (stage : Stage) (v : Unit {0}) → old.stage ≡ stage → stage ≢ AtHeader → old.left ≡ 0 → new.stage ≡ AtEnd → new.left ≡ 0
     → Reads (finish_fault stage (old.lines.line + 1)) (lines_left stage) (λ bytes. tt) old.lines new.lines source (Ok v) → EndRead old new source (Ok v)
 end_goes old new source stage v at other none now left reads = (
@@ -124,9 +137,18 @@ end_goes old new source stage v at other none now left reads = (
   left,
   if_told (told old.lines source.before) _ (λ bytes e.
       let pass = at_some (told old.lines source.before) bytes _ e reads.passes in
-      (coming_finish old stage bytes at other none ∙ ap stopped pass.none, pass.rest ∙ ap (λ b. Some b) (nothing_after stage (old.lines.line + 1) bytes pass.none))),
+      let rest = pass.rest ∙ ap (λ b. Some b) (nothing_after stage (old.lines.line + 1) bytes pass.none) in
+      (coming_finish old stage bytes at other none ∙ ap stopped pass.none, rest, nothing_left new.lines source.after rest)),
 )
 
 pub end_stops : (old new : Reader) (source : Device) (stage : Stage) (fault : CertFault) → old.stage ≡ stage → stage ≢ AtHeader → old.left ≡ 0
     → Reads {A = Unit {0}} (finish_fault stage (old.lines.line + 1)) (lines_left stage) (λ bytes. tt) old.lines new.lines source (Err fault) → IsRefused old source fault
 end_stops old new source stage fault at other none reads = refused_by old source (finish_fault stage (old.lines.line + 1)) fault reads.stopped (λ bytes f is. coming_finish old stage bytes at other none ∙ ap stopped is)
+
+-- a reader that has read nothing stands in what the source has left, and all of it is to come
+pub fresh_told : (left : Option (List ℕ)) → told fresh.lines left ≡ left
+fresh_told None = refl
+fresh_told (Some bytes) = refl
+
+pub fresh_coming : (bytes : List ℕ) → to_come fresh bytes ≡ reading bytes
+fresh_coming bytes = refl

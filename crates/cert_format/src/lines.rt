@@ -138,7 +138,7 @@ pub fn read_nothing<S: Source>(lines: &mut LineReader, source: &mut S) -> Result
 /// Reads the line after the records, and looks whether nothing follows it.
 pub fn read_end<S: Source>(lines: &mut LineReader, source: &mut S) -> Result<(), CertFault>
     requires limit { lines.old.limit ≡ 2 ^ 36 }
-    requires few { lines.old.line < 2 ^ 25 + 100 }
+    requires few { lines.old.line + 1 < 2 ^ 26 }
     requires no_fault { lines.old.fault ≡ None }
     ensures { Reads (end_fault (lines.old.line + 1)) 1 (λ _. tt) lines.old lines.new (device (S.left source.old) (S.left source.new) (S.faults source.old) (S.faults source.new)) result }
 {

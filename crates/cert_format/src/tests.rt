@@ -261,6 +261,64 @@ fn a_failed_read_is_answered_again_and_nothing_more_is_read(rt: HostRuntime) -> 
 }
 
 #[test]
+fn at_most_a_buffer_is_taken_ahead(rt: HostRuntime) -> Result<(), Fail> {
+    let alloc = rt.alloc();
+    let header = Header {
+        requests: 20000,
+        exact: false,
+        ..HEADER
+    };
+    let mut sink = MemSink::new(alloc, 200000, Vec::new(alloc), 1000)?;
+    write_header(&mut sink, &header)?;
+    for _ in 0..20000 {
+        write_record(&mut sink, &RECORDS[0])?;
+    }
+    let mut source = MemSource::new(sink.into_bytes(), Vec::new(alloc), 100000);
+    let mut reader = CertReader::new(alloc)?;
+    assert_eq!(rt; reader.header(&mut source), Ok(header));
+    assert_eq!(rt; reader.next_record(&mut source), Ok(RECORDS[0]));
+    // The lines of the header have 133 bytes, that of the record 6.
+    assert_eq!(rt;
+        (reader.line(), reader.consumed(), reader.taken()),
+        (12, 139, 65536)
+    );
+    Ok(())
+}
+
+#[test]
+fn numbers_are_in_range_or_not(rt: HostRuntime) {
+    let rows = [
+        (HEADER, true),
+        (Header { unit: 11, ..HEADER }, false),
+        (
+            Header {
+                capacity: (1 << 56) + 1,
+                ..HEADER
+            },
+            false,
+        ),
+        (
+            Header {
+                lower: 1 << 127,
+                ..HEADER
+            },
+            false,
+        ),
+    ];
+    for (header, want) in rows {
+        assert_eq!(rt; header.in_range(), want, "{header:?}");
+    }
+    assert!(rt; RECORDS[0].in_range());
+    assert!(rt;
+        !Record {
+            price: (1 << 126) + 1,
+            ..RECORDS[0]
+        }
+        .in_range()
+    );
+}
+
+#[test]
 fn what_is_written_is_the_text(rt: HostRuntime) -> Result<(), Fail> {
     let alloc = rt.alloc();
     for step in STEPS {
