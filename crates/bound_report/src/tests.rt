@@ -19,18 +19,16 @@ const HEADER: Header = Header {
 #[test]
 fn reports_each_mode(rt: HostRuntime) -> Result<(), NoMemory> {
     let rows = [
-        (
-            Mode::Infinite,
-            0,
-            b"mode infinite form plain".as_slice(),
-        ),
+        (Mode::Infinite, 0, b"mode infinite form plain".as_slice()),
         (
             Mode::Constant,
             5,
             b"mode constant price 5 form plain".as_slice(),
         ),
         (
-            Mode::Flow { window: Window::All },
+            Mode::Flow {
+                window: Window::All,
+            },
             0,
             b"mode flow window all form exact".as_slice(),
         ),
@@ -52,9 +50,13 @@ fn reports_each_mode(rt: HostRuntime) -> Result<(), NoMemory> {
             intervals: 1,
         };
         let mut want = Vec::new(rt.alloc());
-        want.extend_from_slice(b"trace requests 4 objects 2 dropped 6\ncapacity 7 objective bytes\n")?;
+        want.extend_from_slice(
+            b"trace requests 4 objects 2 dropped 6\ncapacity 7 objective bytes\n",
+        )?;
         want.extend_from_slice(line)?;
-        want.extend_from_slice(b"\nunit 2 units 3 denominator 3\nintervals 1\nupper 14/3 floor 4\nflow 13/3\nlower 4\n")?;
+        want.extend_from_slice(
+            b"\nunit 2 units 3 denominator 3\nintervals 1\nupper 14/3 floor 4\nflow 13/3\nlower 4\n",
+        )?;
         let text = report_text(rt.alloc(), &facts)?;
         assert_eq!(rt; text.as_slice(), want.as_slice());
     }
