@@ -1,5 +1,5 @@
 -- The parts of an instance that is cut into windows.
-use Rattle.std.proofs.Common.{◌≡◌, ℕ, suc, zero, ◌+◌, ◌-◌, ◌*◌, ◌/◌, ◌<◌, ◌≤◌, ◌∙◌, sym, refl, ap, min, max, Bool, true, false, cond, nat_lt, List, [], ◌∷◌, length, filter, take, drop, arith, ⊎_elim, sum, sum_by, slice_range, All}
+use Rattle.std.proofs.Common.{◌≡◌, ℕ, suc, zero, ◌+◌, ◌-◌, ◌*◌, ◌/◌, ◌<◌, ◌≤◌, ◌∙◌, sym, refl, ap, min, max, Bool, true, false, cond, List, [], ◌∷◌, length, filter, take, drop, arith, ⊎_elim, sum, sum_by, slice_range, All}
 use Rattle.std.specs.List.{range_with_len}
 use Rattle.std.proofs.Math.Nat.{mul-le-mul_left}
 use Rattle.std.proofs.lemmas.Bool.{cases_lt, cases_eq, lt-ltb, le-ltb, eq-eqb, ne_eqb}
