@@ -1,0 +1,6 @@
+pub mod Distances
+pub mod Sweeps
+pub mod Guides
+pub mod Paths
+pub mod Routes
+pub mod Ends

@@ -1,0 +1,4 @@
+pub mod Sweeps
+pub mod Searches
+pub mod Rounds
+pub mod Answers

@@ -1,0 +1,48 @@
+//! Rounds: each pushes units along a path on which nothing is lost.
+ghost use Rattle.std.specs.Prelude.{◌≡◌, ℕ, ◌+◌, ◌≤◌, ◌<◌, min, length, slice_index};
+ghost use Rattle.flow_network.specs.States.{IsState};
+ghost use Rattle.flow_solver.specs.Rounds.{Advances};
+ghost use Rattle.flow_solver.specs.Searches.{IsReady, limit_of, lowered};
+
+use crate::route::trace;
+use crate::search::Search;
+use flow_network::{Edge, Network};
+
+// Lowers each potential by what the node is nearer than the last.
+fn lower(network: &mut Network, search: &Search)
+    requires fits { IsState network.old }
+    requires each_distance { length search.now.distances ≡ network.old.instance.steps + 1 }
+    requires enough { (node : ℕ) → node ≤ network.old.instance.steps
+        → limit_of network.old search.now.distances ≤ slice_index network.old.potentials node + min (limit_of network.old search.now.distances) (slice_index search.now.distances node) }
+    ensures lowered { (node : ℕ) → node ≤ network.old.instance.steps → slice_index network.new.potentials node ≡ lowered network.old search.now.distances node }
+    ensures same { network.new ≡ record network.old { potentials = network.new.potentials } }
+    ensures fits { IsState network.new }
+{
+    let last = network.instance().steps();
+    let limit = search.distance(last);
+    if limit == 0 {
+        return;
+    }
+    for node in 0..last + 1 {
+        let fall = limit - search.distance(node).min(limit);
+        let potential = network.potential(node);
+        network.set_potential(node, potential - fall);
+    }
+}
+
+/// Pushes units along a path on which nothing is lost, as many as it takes.
+pub fn augment(network: &mut Network, search: &mut Search, path: &mut [Edge])
+    requires ready { IsReady network.old }
+    requires distances { length search.old.distances ≡ network.old.instance.steps + 1 }
+    requires parents { length search.old.parents ≡ network.old.instance.steps + 1 }
+    requires each_hop { length path.old ≡ network.old.instance.steps }
+    requires left { network.old.pushed < network.old.instance.units }
+    ensures advances { Advances network.old network.new }
+    ensures distances { length search.new.distances ≡ network.old.instance.steps + 1 }
+    ensures parents { length search.new.parents ≡ network.old.instance.steps + 1 }
+{
+    search.run(network);
+    lower(network, search);
+    let route = trace(network, search, path);
+    network.push(&path[route.start..], route.amount);
+}
