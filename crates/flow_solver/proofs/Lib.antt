@@ -1,5 +1,4 @@
 pub mod Distances
-pub mod Sweeps
 pub mod Guides
 pub mod Paths
 pub mod Routes

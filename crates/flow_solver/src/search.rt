@@ -219,8 +219,8 @@ impl Search {
         }
     }
 
-    /// The list of the distances, as room for other numbers. The rest of the search is given back.
-    pub fn into_room(self) -> Vec<u128>
+    /// The list of the distances. The rest of the search is given back.
+    pub fn into_distances(self) -> Vec<u128>
         ensures { length result.items ≡ length self.distances }
     {
         self.distances

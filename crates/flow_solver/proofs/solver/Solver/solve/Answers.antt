@@ -9,11 +9,11 @@ pub returns : goal.returns
 returns c =
     let s = c.loop-network.network in
     let inv = c.loop-network.invariant in
-    let room = c.into_room-prices.result.items in
+    let room = c.into_distances-prices.result.items in
     let old = c.pop.new.self in
     let prices = c.write_prices.new.prices in
-    let room_len : length room ≡ s.instance.steps + 1 = c.into_room-prices.ensures ∙ inv.distances in
-    let old_len : length old.items ≡ s.instance.steps = omega (arith, ap length c.pop.ensures.rest, length-take-le (c.into_room-prices.result.len - 1) room (omega (arith, c.into_room-prices.result.ok.0)), room_len, c.into_room-prices.result.ok.0) in
+    let room_len : length room ≡ s.instance.steps + 1 = c.into_distances-prices.ensures ∙ inv.distances in
+    let old_len : length old.items ≡ s.instance.steps = omega (arith, ap length c.pop.ensures.rest, length-take-le (c.into_distances-prices.result.len - 1) room (omega (arith, c.into_distances-prices.result.ok.0)), room_len, c.into_distances-prices.result.ok.0) in
     let prices_len : length prices ≡ length old.items = omega (arith, c.write_prices.auto.prices, ap length c.deref_mut-2.ensures.value) in
     let whole = written old.items prices old.len prices_len old.ok.0 in
     let all : s.pushed ≡ s.instance.units = omega (arith, c.left.ensures.left, c.loop-network-test.false) in
