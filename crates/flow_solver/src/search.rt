@@ -214,7 +214,11 @@ impl Search {
         let mut forward = true;
         let mut idle = 0u32;
         while idle < 2 && self.distance(last) > 0 {
-            idle = if self.sweep(network, forward) { 0 } else { idle + 1 };
+            idle = if self.sweep(network, forward) {
+                0
+            } else {
+                idle + 1
+            };
             forward = !forward;
         }
     }

@@ -21,8 +21,18 @@ returns-clause-nears c =
     let along : ℕ = c.index-near.result.now + (h.loss + c.potential.result) - (h.gain + c.potential-2.result) in
     let room : 0 < residual n.instance n.flows e = omega (arith, c.residual.ensures.residual) in
     let value : along + (gain n.instance.arcs e + get_or n.potentials (head n.instance.arcs e) 0) ≡ at_tail n d e =
-    omega (arith, near, is.gain, is.loss, c.potential.ensures.potential, c.potential-2.ensures.potential, c.requires.ready.valid e c.requires.edge room,
-    ap (λ k. get_or n.potentials k 0) is.head, ap (λ k. get_or n.potentials k 0) is.tail, ap (λ k. get_or d k 0) is.tail) in
+    omega (
+      arith,
+      near,
+      is.gain,
+      is.loss,
+      c.potential.ensures.potential,
+      c.potential-2.ensures.potential,
+      c.requires.ready.valid e c.requires.edge room,
+      ap (λ k. get_or n.potentials k 0) is.head,
+      ap (λ k. get_or n.potentials k 0) is.tail,
+      ap (λ k. get_or d k 0) is.tail,
+    ) in
     let nearer : along < get_or d (head n.instance.arcs e) 0 = omega (arith, far, ap (λ k. get_or d k 0) is.head) in
     let found_nearer = search_more n found e along c.requires.ready search c.requires.edge room value nearer in
     let less : sum (set d h.head along) < sum d = omega (arith, sum_by-set (λ (k : ℕ). k) d h.head along 0 (omega (arith, search.each_distance, is.ends)), far) in
