@@ -2,4 +2,7 @@ pub mod Distances
 pub mod Guides
 pub mod Paths
 pub mod Routes
-pub mod Ends
+pub mod LastRound
+pub mod Heaps
+pub mod QueueSteps
+pub mod EdgeLists

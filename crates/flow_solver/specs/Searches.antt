@@ -1,14 +1,24 @@
 -- A search for the distance of each node from the first: the length of an edge with room is its negated reduced cost.
-use Rattle.std.specs.Prelude.{◌≡◌, ℕ, ◌+◌, ◌-◌, ◌<◌, ◌≤◌, min, Bool, true, false, List, length, slice_index, sum}
+use Rattle.std.specs.Prelude.{◌≡◌, ℕ, ◌+◌, ◌-◌, ◌*◌, ◌<◌, ◌≤◌, min, List, length, slice_index, sum}
 use Rattle.flow_model.specs.declared.edges.Edge.{Edge}
 use Rattle.flow_model.specs.Networks.{tail, head, gain, loss, residual, IsEdge, IsPotential, IsTight}
 use Rattle.flow_model.specs.Pushes.{edge_at}
 use Rattle.flow_network.specs.States.{State, IsState}
+use Rattle.flow_solver.specs.Queues.{Waiting, Waits, IsQueue}
 
--- how far each node is by a walk that was found, and the last edge of that walk
+-- how far each node is by a walk that was found, the last edge of that walk, and the nodes that wait for their edges to be
+-- looked at
 pub record Found : Type 0 where
   pub distances : List ℕ
   pub parents : List Edge
+  pub waiting : Waiting
+
+-- a distance, a parent and a place for each node of so many steps
+pub record HasRoom (steps : ℕ) (found : Found) : Type 0 where
+  pub distances : length found.distances ≡ steps + 1
+  pub parents : length found.parents ≡ steps + 1
+  pub nodes : length found.waiting.nodes ≡ steps + 1
+  pub places : length found.waiting.places ≡ steps + 1
 
 -- no edge with room has a positive reduced cost, and the last node's potential is 0
 pub record IsReady (state : State) : Type 0 where
@@ -45,19 +55,26 @@ pub record IsParent (state : State) (distances : List ℕ) (times : ℕ → ℕ)
   pub along : at_tail state distances e ≤ at_head state distances e
   pub earlier : at_tail state distances e ≡ at_head state distances e → times (tail state.instance.arcs e) < times node
 
--- each node but the first was found by its parent, at some time
+-- the distance of a node that was not found: farther than any walk
+abbrev pub far : State → ℕ
+far state = slice_index state.potentials 0 + 1
+
+-- each node that was found, but the first, was found by its parent, at some time
 pub record IsSearch (state : State) (found : Found) : Type 0 where
   pub each_distance : length found.distances ≡ state.instance.steps + 1
   pub each_parent : length found.parents ≡ state.instance.steps + 1
   pub start : slice_index found.distances 0 ≡ 0
-  pub small : (node : ℕ) → node ≤ state.instance.steps → slice_index found.distances node + slice_index state.potentials node ≤ slice_index state.potentials 0
-  pub found_by : (times : ℕ → ℕ) × ((node : ℕ) → 0 < node → node ≤ state.instance.steps → IsParent state found.distances times (edge_at found.parents node) node)
+  pub small : (node : ℕ) → node ≤ state.instance.steps → slice_index found.distances node ≤ far state
+  pub found_by : (times : ℕ → ℕ)
+      × ((node : ℕ) → 0 < node → node ≤ state.instance.steps → slice_index found.distances node < far state → IsParent state found.distances times (edge_at found.parents node) node)
+  pub queue : IsQueue found.waiting found.distances
 
--- distances only fell, and all stayed as it was where none is said to have fallen
-pub record Nears (state : State) (old new : Found) (fell : Bool) : Type 0 where
+-- distances only fell, and the nodes whose distance fell wait; so edges out of nodes that don't wait stay settled
+pub record Nears (state : State) (old new : Found) : Type 0 where
   pub search : IsSearch state new
-  pub falls : fell ≡ true → sum new.distances < sum old.distances
-  pub same : fell ≡ false → new ≡ old
+  pub waits : (node : ℕ) → Waits old.waiting node → Waits new.waiting node
+  pub stays : (e : Edge) → IsEdge state.instance e → slice_index new.waiting.places (tail state.instance.arcs e) ≡ 0 → IsSettled state old.distances e → IsSettled state new.distances e
+  pub falls : 2 * sum new.distances + new.waiting.count ≤ 2 * sum old.distances + old.waiting.count
 
 -- the edge is tight and leads to the node, from a node within the limit that was found before
 pub record IsHop (state : State) (distances : List ℕ) (times : ℕ → ℕ) (e : Edge) (node : ℕ) : Type 0 where
