@@ -21,7 +21,7 @@ grows state found e ready settled is_edge room = omega (arith, settled e is_edge
 -- the distances grow from the first node by no more than the potential falls, so the last node was found
 within_first : (state : State) (found : Found) (node : ℕ) → IsReady state → IsSearch state found → ((e : Edge) → IsEdge state.instance e → IsSettled state found.distances e) → node ≤ state.instance.steps
     → within_limit state found node + slice_index state.potentials node ≤ slice_index state.potentials 0
-within_first state found zero ready search settled h = omega (arith, search.start)
+within_first state found zero ready search settled h = omega (arith, search.tree.start)
 within_first state found (suc k) ready search settled h =
     let next : k + 1 ≡ suc k = omega arith in
     omega (
@@ -70,14 +70,14 @@ ready_lowered state found potentials ready settled fits low =
 pub leads_back : (state : State) (found : Found) (potentials : List ℕ) → IsReady state → IsSearch state found → ((e : Edge) → IsEdge state.instance e → IsSettled state found.distances e)
     → AreLowered state found potentials → LeadsBack (record state { potentials = potentials }) found
 leads_back state found potentials ready search settled low =
-    record { each_distance = search.each_distance; each_parent = search.each_parent; hops = (search.found_by.0, hop) }
+    record { each_distance = search.tree.each_distance; each_parent = search.tree.each_parent; hops = (search.tree.found_by.0, hop) }
   where
     hop : (node : ℕ) → 0 < node → node ≤ state.instance.steps → slice_index found.distances node ≤ limit_of state found.distances
-        → IsHop (record state { potentials = potentials }) found.distances search.found_by.0 (edge_at found.parents node) node
+        → IsHop (record state { potentials = potentials }) found.distances search.tree.found_by.0 (edge_at found.parents node) node
     hop node some within near =
         let e : Edge = edge_at found.parents node in
         let last_found : limit_of state found.distances < far state = omega (arith, within_first state found state.instance.steps ready search settled (omega arith)) in
-        let parent = search.found_by.1 node some within (omega (arith, near, last_found)) in
+        let parent = search.tree.found_by.1 node some within (omega (arith, near, last_found)) in
         let ends = ends_within state.instance e ready.fits.in_range parent.is_edge in
         let least = ready.valid e parent.is_edge parent.room in
         let same : slice_index found.distances (head state.instance.arcs e) ≡ slice_index found.distances node = ap (slice_index found.distances) parent.leads in

@@ -3,7 +3,7 @@ use Rattle.std.proofs.lemmas.Bool.{cases_eq, cases_lt}
 use Rattle.flow_model.specs.declared.edges.Edge.{Edge}
 use Rattle.flow_model.specs.Networks.{tail}
 use Rattle.flow_solver.specs.OuterEdges.{edge_of, tail_of}
-use Rattle.flow_solver.specs.Searches.{IsSettled}
+use Rattle.flow_solver.specs.Searches.{IsSettled, Rests}
 use Rattle.flow_solver.proofs.Distances.{Nears-trans}
 use Rattle.flow_solver.proofs.EdgeLists.{is_edge_of}
 use Rattle.flow_solver.proofs.search.Search.relax_outer.Goals as goal
@@ -20,22 +20,18 @@ loop-left-preserved c =
     let within : number < 2 * length arcs = omega (arith, inv.within, c.loop-left-test.true) in
     let own : c.outer_edge.result ≡ edge_of number = c.outer_edge.ensures in
     let here : tail_of arcs number ≡ c.args.node = inv.here c.loop-left-test.true in
-    let out : tail arcs c.outer_edge.result ≡ c.args.node = ap (tail arcs) own ∙ here in
-    let rests : slice_index after.waiting.places c.args.node ≡ 0 =
-    sym (ap (slice_index after.waiting.places) out) ∙ c.relax.ensures.rests (ap (slice_index before.waiting.places) out ∙ inv.rests) in
     let next = c.after-left.ensures in
     record {
       nears = Nears-trans n c.args.self.now before after inv.nears c.relax.ensures.nears;
       within = omega (arith, next, lists.next_low number within);
       here = λ some. ap (λ k. tail_of arcs (k - 1)) next ∙ lists.next_here number within (omega (arith, next, some)) ∙ here;
-      settled = λ k low high at.
+      settled = λ rests k low high at.
           ⊎_elim
           (λ (e : k ≡ number). subst (λ (f : Edge). IsSettled n after.distances f) (own ∙ ap edge_of (sym e)) c.relax.ensures.settled)
           (λ (other : k ≡ number → ⊥).
           ⊎_elim
           (λ (h : k < number). absurd (lists.none_between number k within (omega (arith, next, low)) h (at ∙ sym here)))
-          (λ (h : number ≤ k). c.relax.ensures.nears.stays (edge_of k) (is_edge_of n.instance k high) (ap (slice_index after.waiting.places) at ∙ rests) (inv.settled k (omega arith) high at))
+          (λ (h : number ≤ k). c.relax.ensures.nears.stays (edge_of k) (is_edge_of n.instance k high) (subst (λ (v : ℕ). Rests after v) (sym at) rests) (inv.settled (c.relax.ensures.nears.rests c.args.node rests) k (omega arith) high at))
           (cases_lt k number))
           (cases_eq k number);
-      rests = rests;
     }
