@@ -6,6 +6,7 @@
 
 mod denominators;
 mod flows;
+mod instance;
 mod prices;
 #[cfg(test)]
 mod tests;
@@ -14,5 +15,7 @@ mod units;
 pub use cache_model::Interval;
 pub use denominators::{Denominator, DenominatorChoice, DenominatorLimit, denominator_for};
 pub use flows::{FlowFault, flow_value};
+pub use flow_model::OuterArc;
+pub use instance::Instance;
 pub use prices::{PriceFault, Sums, bound_of};
 pub use units::unit_of;

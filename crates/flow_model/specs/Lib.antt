@@ -1,0 +1,5 @@
+pub mod Instances
+pub mod Windows
+pub mod Networks
+pub mod Pushes
+pub mod Laws

@@ -1,0 +1,14 @@
+//! The residual network of an instance: flows on its arcs and beside them, and a potential of each node.
+//!
+//! The rules are "Network", "Potential" and "Push" in docs/DEFINITIONS.md. The cost of an arc is what one unit of its
+//! flow earns, so the wanted flow is the one of greatest total cost. With every cost negated it is the flow of least
+//! cost.
+#![tactic(auto)]
+
+mod hops;
+mod network;
+mod pushing;
+
+pub use flow_model::Edge;
+pub use hops::Hop;
+pub use network::Network;

@@ -1,0 +1,193 @@
+//! A network: the flows over an instance, and the potentials of its nodes.
+ghost use Rattle.std.specs.Prelude.{◌≡◌, pos, ◌+ℤ◌, ◌+◌, ◌≤◌, ◌^◌, [], ◌∷◌, IfOk, slice_index, slice_set, replicate};
+ghost use Rattle.flow_model.specs.Networks.{IsEdge, residual, tail, head, gain, loss};
+ghost use Rattle.flow_model.specs.Pushes.{CanPush, push_path};
+ghost use Rattle.flow_network.specs.States.{IsState, no_flows};
+
+use crate::hops::{Hop, hop_of};
+use crate::pushing::push_along;
+use bound_base::NoMemory;
+use flow_model::Edge;
+use relaxation::Instance;
+use std::alloc::Global;
+use std::marker::Model;
+
+/// The residual network of an instance, whose nodes are 0 to the number of steps. It has the flow of each arc, the
+/// flow over each step beside the arcs, and the potential of each node.
+#[derive(Debug, Drop)]
+pub struct Network<'a> {
+    instance: &'a Instance,
+    outer: Vec<u64>,
+    inner: Vec<u64>,
+    pushed: u64,
+    potentials: Vec<u128>,
+}
+
+impl<'a> Model for Network<'a> {
+    ghost use Rattle.flow_network.specs.States.{State, IsState};
+
+    ghost Value = { State };
+
+    ghost view = { λ n. record { instance = n.instance.now; flows = record { outer = n.outer.items; inner = n.inner.items }; pushed = n.pushed; potentials = n.potentials.items } };
+
+    ghost invariant = { λ n. IsState (record { instance = n.instance.now; flows = record { outer = n.outer.items; inner = n.inner.items }; pushed = n.pushed; potentials = n.potentials.items }) };
+}
+
+impl<'a> Network<'a> {
+    /// A network without flow, whose potentials are 0. It takes 8 bytes for each arc and 24 for each step.
+    pub fn new(alloc: Global, instance: &'a Instance) -> Result<Network<'a>, NoMemory>
+        ensures { IfOk result (λ n. n ≡ record { instance = instance.now; flows = no_flows instance.now; pushed = 0; potentials = replicate (instance.now.steps + 1) 0 }) }
+    {
+        let steps = instance.steps() as usize;
+        let arcs = instance.arcs().len();
+        let outer = vec![in alloc; 0; arcs]?;
+        let inner = vec![in alloc; 0; steps]?;
+        let potentials = vec![in alloc; 0; steps + 1]?;
+        Ok(Network {
+            instance,
+            outer,
+            inner,
+            pushed: 0,
+            potentials,
+        })
+    }
+
+    /// The instance that the network is of.
+    #[inline(always)]
+    pub fn instance(&self) -> &'a Instance
+        ensures instance { result.now ≡ self.now.instance }
+        ensures state { IsState self.now }
+    {
+        self.instance
+    }
+
+    /// The units that are not pushed yet.
+    pub fn left(&self) -> u64
+        ensures left { result + self.now.pushed ≡ self.now.instance.units }
+        ensures state { IsState self.now }
+    {
+        self.instance.units() - self.pushed
+    }
+
+    /// How many units more can go along the edge. An inner edge has no limit of its own, and answers the units.
+    #[inline(always)]
+    pub fn residual(&self, edge: Edge) -> u64
+        requires { IsEdge self.now.instance edge }
+        ensures residual { result ≡ residual self.now.instance self.now.flows edge }
+        ensures state { IsState self.now }
+    {
+        match edge {
+            Edge::Inner(_) => self.instance.units(),
+            Edge::InnerBack(step) => self.inner[step as usize],
+            Edge::Outer(arc) => {
+                self.instance.arcs()[arc as usize].weight - self.outer[arc as usize]
+            }
+            Edge::OuterBack(arc) => self.outer[arc as usize],
+        }
+    }
+
+    /// The ends and the cost of the edge.
+    #[inline(always)]
+    pub fn hop(&self, edge: Edge) -> Hop
+        requires { IsEdge self.now.instance edge }
+        ensures tail { result.tail ≡ tail self.now.instance.arcs edge }
+        ensures head { result.head ≡ head self.now.instance.arcs edge }
+        ensures gain { result.gain ≡ gain self.now.instance.arcs edge }
+        ensures loss { result.loss ≡ loss self.now.instance.arcs edge }
+        ensures ends { (result.tail ≤ self.now.instance.steps) × (result.head ≤ self.now.instance.steps) }
+        ensures small { (result.gain ≤ 2 ^ 97) × (result.loss ≤ 2 ^ 97) }
+    {
+        hop_of(self.instance, edge)
+    }
+
+    #[inline(always)]
+    pub fn potential(&self, node: u32) -> u128
+        requires { node ≤ self.now.instance.steps }
+        ensures potential { result ≡ slice_index self.now.potentials node }
+        ensures small { result ≤ 2 ^ 122 }
+    {
+        self.potentials[node as usize]
+    }
+
+    pub fn set_potential(&mut self, node: u32, value: u128)
+        requires node { node ≤ self.old.instance.steps }
+        requires value { value ≤ 2 ^ 122 }
+        ensures potential { self.new ≡ record self.old { potentials = slice_set self.old.potentials node value } }
+        ensures state { IsState self.new }
+    {
+        self.potentials[node as usize] = value;
+    }
+
+    /// The cost of the edge, negated for a back edge, plus the potential of its head less that of its tail.
+    pub fn reduced(&self, edge: Edge) -> i128
+        requires { IsEdge self.now.instance edge }
+        ensures { result +ℤ pos (loss self.now.instance.arcs edge + slice_index self.now.potentials (tail self.now.instance.arcs edge))
+            ≡ pos (gain self.now.instance.arcs edge + slice_index self.now.potentials (head self.now.instance.arcs edge)) }
+    {
+        let hop = self.hop(edge);
+        let ahead = hop.gain + self.potential(hop.head);
+        let behind = hop.loss + self.potential(hop.tail);
+        ahead as i128 - behind as i128
+    }
+
+    /// Pushes the amount along the path, which leads from the first node to the last.
+    pub fn push(&mut self, path: &[Edge], amount: u64)
+        requires path { CanPush self.old.instance self.old.flows path.now amount }
+        requires units { self.old.pushed + amount ≤ self.old.instance.units }
+        ensures pushed { self.new ≡ record self.old { flows = push_path amount self.old.flows path.now; pushed = self.old.pushed + amount } }
+        ensures state { IsState self.new }
+    {
+        push_along(path, amount, &mut self.outer, &mut self.inner);
+        self.pushed += amount;
+    }
+
+    /// The flow of each arc. The rest of the network is given back.
+    pub fn into_flows(self) -> Vec<u64>
+        ensures { result.items ≡ self.entry.flows.outer }
+    {
+        self.outer
+    }
+}
+
+#[cfg(test)]
+mod tests {
+    use super::*;
+    use relaxation::OuterArc;
+    use std::test::Fail;
+
+    // Two steps with room for three units, and an arc over both that holds two.
+    fn over_both(alloc: Global) -> Result<Instance, NoMemory>
+        ensures { IfOk result (λ i. i ≡ record { steps = 2; units = 3; arcs = record { start = 0; end = 2; weight = 2; cost = 5 } ∷ [] }) }
+    {
+        let arcs = [OuterArc {
+            start: 0,
+            end: 2,
+            weight: 2,
+            cost: 5,
+        }];
+        Instance::from_arcs(alloc, 2, 3, &arcs)
+    }
+
+    // The numbers are worked out by hand.
+    #[test]
+    fn a_unit_along_the_arc_can_be_taken_back(rt: HostRuntime) -> Result<(), Fail> {
+        let alloc = rt.alloc();
+        let instance = over_both(alloc)?;
+        let mut network = Network::new(alloc, &instance)?;
+        assert_eq!(rt; network.left(), 3);
+        assert_eq!(rt; network.residual(Edge::Inner(1)), 3);
+        assert_eq!(rt; network.residual(Edge::InnerBack(1)), 0);
+        assert_eq!(rt; network.residual(Edge::Outer(0)), 2);
+        assert_eq!(rt; network.residual(Edge::OuterBack(0)), 0);
+        network.set_potential(0, 7);
+        assert_eq!(rt; network.potential(0), 7);
+        assert_eq!(rt; network.reduced(Edge::Outer(0)), -2);
+        assert_eq!(rt; network.reduced(Edge::OuterBack(0)), 2);
+        network.push(&[Edge::Outer(0)], 1);
+        assert_eq!(rt; network.left(), 2);
+        assert_eq!(rt; network.residual(Edge::Outer(0)), 1);
+        assert_eq!(rt; network.residual(Edge::OuterBack(0)), 1);
+        assert_eq!(rt; network.into_flows().as_slice(), [1].as_slice());
+        Ok(())
+    }
+}

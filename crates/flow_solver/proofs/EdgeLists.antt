@@ -1,0 +1,112 @@
+-- The lists of outer edges: one edge more.
+use Rattle.std.proofs.Common.{◌≡◌, ◌≢◌, ℕ, ◌+◌, ◌-◌, ◌*◌, ◌/◌, ◌%◌, ◌<◌, ◌≤◌, ◌∙◌, sym, ap, subst, Bool, cond, List, length, arith, ⊎_elim, get_or, set, length-set, get_or-set_same, get_or-set_other}
+use Rattle.std.proofs.lemmas.Bool.{cases_eq, eq-eqb, ne_eqb}
+use Rattle.flow_model.specs.declared.edges.Edge.{Edge}
+use Rattle.flow_model.specs.declared.edges.Edge.TheVariants.{Inner, InnerBack, Outer, OuterBack}
+use Rattle.flow_model.specs.Instances.{Instance, IsInstance, no_arc, arc_at}
+use Rattle.flow_model.specs.Networks.{tail, IsEdge}
+use Rattle.flow_solver.specs.OuterEdges.{edge_of, tail_of, Lists, AreListed}
+
+pub edge_of-even : (i : ℕ) → edge_of (2 * i) ≡ Outer i
+edge_of-even i =
+    let half : (2 * i) / 2 ≡ i = omega arith in
+    ap (λ b. cond b (Outer ((2 * i) / 2)) (OuterBack ((2 * i) / 2))) (eq-eqb ((2 * i) % 2) 0 (omega arith)) ∙ ap Outer half
+
+pub edge_of-odd : (i : ℕ) → edge_of (2 * i + 1) ≡ OuterBack i
+edge_of-odd i =
+    let half : (2 * i + 1) / 2 ≡ i = omega arith in
+    ap (λ b. cond b (Outer ((2 * i + 1) / 2)) (OuterBack ((2 * i + 1) / 2))) (ne_eqb ((2 * i + 1) % 2) 0 (λ e. omega arith)) ∙ ap OuterBack half
+
+set_at : (xs : List ℕ) (i j x : ℕ) → i < length xs → (j ≡ i → get_or (set xs i x) j 0 ≡ x) × (j ≢ i → get_or (set xs i x) j 0 ≡ get_or xs j 0)
+set_at xs i j x within = (λ e. ap (λ k. get_or (set xs i x) k 0) e ∙ get_or-set_same xs i x 0 within, λ n. get_or-set_other xs i j x 0 n)
+
+-- no edge is listed
+pub none_listed : (instance : Instance) (lists : Lists) → length lists.first ≡ instance.steps + 1 → length lists.next ≡ 2 * length instance.arcs → ((node : ℕ) → get_or lists.first node 0 ≡ 0) → AreListed instance lists 0
+none_listed instance lists nodes edges zeros =
+    record {
+      each_node = nodes;
+      each_edge = edges;
+      first_low = λ node. omega (arith, zeros node);
+      first_here = λ node h some. absurd (omega (arith, zeros node));
+      none_before = λ node k h low high. absurd (omega arith);
+      next_low = λ k h. absurd (omega arith);
+      next_here = λ k h some. absurd (omega arith);
+      none_between = λ k j h low high. absurd (omega arith);
+    }
+
+-- the next edge at the front of its list
+abbrev pub one_more : Lists → ℕ → ℕ → Lists
+one_more lists count node = record { first = set lists.first node (count + 1); next = set lists.next count (get_or lists.first node 0) }
+
+pub one_more_listed : (instance : Instance) (lists : Lists) (count node : ℕ) → AreListed instance lists count → count < 2 * length instance.arcs → node ≤ instance.steps → tail_of instance.arcs count ≡ node
+    → AreListed instance (one_more lists count node) (count + 1)
+one_more_listed instance lists count node listed room within own =
+    record {
+      each_node = length-set lists.first node (count + 1) ∙ listed.each_node;
+      each_edge = length-set lists.next count (get_or lists.first node 0) ∙ listed.each_edge;
+      first_low = λ v.
+          ⊎_elim (λ (e : v ≡ node). omega (arith, (first_at v).0 e)) (λ (n : v ≡ node → ⊥). omega (arith, (first_at v).1 n, listed.first_low v)) (cases_eq v node);
+      first_here = λ v h some.
+          ⊎_elim
+          (λ (e : v ≡ node). let at : get_or (one_more lists count node).first v 0 - 1 ≡ count = omega (arith, (first_at v).0 e) in ap (tail_of instance.arcs) at ∙ own ∙ sym e)
+          (λ (n : v ≡ node → ⊥). ap (λ k. tail_of instance.arcs (k - 1)) ((first_at v).1 n) ∙ listed.first_here v h (omega (arith, (first_at v).1 n, some))) (cases_eq v node);
+      none_before = λ v k h low high.
+          ⊎_elim (λ (e : v ≡ node). absurd (omega (arith, (first_at v).0 e)))
+          (λ (n : v ≡ node → ⊥).
+          ⊎_elim (λ (e : k ≡ count). λ same. n (sym same ∙ ap (tail_of instance.arcs) e ∙ own)) (λ (m : k ≡ count → ⊥). listed.none_before v k h (omega (arith, (first_at v).1 n, low)) (omega arith)) (cases_eq k count))
+          (cases_eq v node);
+      next_low = λ k h.
+          ⊎_elim (λ (e : k ≡ count). omega (arith, (next_at k).0 e, listed.first_low node)) (λ (n : k ≡ count → ⊥). omega (arith, (next_at k).1 n, listed.next_low k (omega arith))) (cases_eq k count);
+      next_here = λ k h some.
+          ⊎_elim
+          (λ (e : k ≡ count).
+          ap (λ j. tail_of instance.arcs (j - 1)) ((next_at k).0 e) ∙ listed.first_here node within (omega (arith, (next_at k).0 e, some)) ∙ sym own ∙ ap (tail_of instance.arcs) (sym e))
+          (λ (n : k ≡ count → ⊥). ap (λ j. tail_of instance.arcs (j - 1)) ((next_at k).1 n) ∙ listed.next_here k (omega arith) (omega (arith, (next_at k).1 n, some))) (cases_eq k count);
+      none_between = λ k j h low high.
+          ⊎_elim
+          (λ (e : k ≡ count). λ same. listed.none_before node j within (omega (arith, (next_at k).0 e, low)) (omega arith) (same ∙ ap (tail_of instance.arcs) e ∙ own))
+          (λ (n : k ≡ count → ⊥). listed.none_between k j (omega arith) (omega (arith, (next_at k).1 n, low)) high) (cases_eq k count);
+    }
+  where
+    first_at : (v : ℕ) → (v ≡ node → get_or (one_more lists count node).first v 0 ≡ count + 1) × (v ≢ node → get_or (one_more lists count node).first v 0 ≡ get_or lists.first v 0)
+    first_at v = set_at lists.first node v (count + 1) (omega (arith, listed.each_node))
+
+    next_at : (k : ℕ) → (k ≡ count → get_or (one_more lists count node).next k 0 ≡ get_or lists.first node 0) × (k ≢ count → get_or (one_more lists count node).next k 0 ≡ get_or lists.next k 0)
+    next_at k = set_at lists.next count k (get_or lists.first node 0) (omega (arith, listed.each_edge))
+
+-- what is numbered is an edge
+pub is_edge_of : (instance : Instance) (k : ℕ) → k < 2 * length instance.arcs → IsEdge instance (edge_of k)
+is_edge_of instance k within =
+    ⊎_elim
+    (λ (e : k % 2 ≡ 0). subst (λ (b : Bool). IsEdge instance (cond b (Outer (k / 2)) (OuterBack (k / 2)))) (sym (eq-eqb (k % 2) 0 e)) half)
+    (λ (n : k % 2 ≡ 0 → ⊥). subst (λ (b : Bool). IsEdge instance (cond b (Outer (k / 2)) (OuterBack (k / 2)))) (sym (ne_eqb (k % 2) 0 n)) half)
+    (cases_eq (k % 2) 0)
+  where
+    half : k / 2 < length instance.arcs
+    half = omega arith
+
+-- an arc and its back edge more
+pub arc_more : (instance : Instance) (lists : Lists) (k : ℕ) → IsInstance instance → k < length instance.arcs → AreListed instance lists (2 * k)
+    → AreListed instance (one_more (one_more lists (2 * k) (arc_at instance.arcs k).start) (2 * k + 1) (arc_at instance.arcs k).end) (2 * (k + 1))
+arc_more instance lists k fits within listed =
+    let arc = fits.arcs_fit k no_arc within in
+    let start : AreListed instance (one_more lists (2 * k) (arc_at instance.arcs k).start) (2 * k + 1) =
+    one_more_listed instance lists (2 * k) (arc_at instance.arcs k).start listed (omega arith) (omega (arith, arc.order, arc.within)) (ap (tail instance.arcs) (edge_of-even k)) in
+    let both = one_more_listed instance (one_more lists (2 * k) (arc_at instance.arcs k).start) (2 * k + 1) (arc_at instance.arcs k).end start (omega arith) arc.within (ap (tail instance.arcs) (edge_of-odd k)) in
+    let count : (2 * k + 1) + 1 ≡ 2 * (k + 1) = omega arith in
+    subst (λ (n : ℕ). AreListed instance (one_more (one_more lists (2 * k) (arc_at instance.arcs k).start) (2 * k + 1) (arc_at instance.arcs k).end) n) count both
+
+-- what holds of the numbered edges and of the inner edges out of a node holds of all edges out of it
+pub each_edge_from : (instance : Instance) (node : ℕ) (P : Edge → Type 0)
+    → ((k : ℕ) → k < 2 * length instance.arcs → tail_of instance.arcs k ≡ node → P (edge_of k))
+    → (node < instance.steps → P (Inner node))
+    → (0 < node → P (InnerBack (node - 1)))
+    → (e : Edge) → IsEdge instance e → tail instance.arcs e ≡ node → P e
+each_edge_from instance node P outer on back (Inner t) is at = subst (λ (k : ℕ). P (Inner k)) (sym at) (on (omega (arith, is, at)))
+each_edge_from instance node P outer on back (InnerBack t) is at =
+    let before : node - 1 ≡ t = omega (arith, at) in
+    subst (λ (k : ℕ). P (InnerBack k)) before (back (omega (arith, at)))
+each_edge_from instance node P outer on back (Outer i) is at =
+    subst (λ (e : Edge). P e) (edge_of-even i) (outer (2 * i) (omega arith) (ap (tail instance.arcs) (edge_of-even i) ∙ at))
+each_edge_from instance node P outer on back (OuterBack i) is at =
+    subst (λ (e : Edge). P e) (edge_of-odd i) (outer (2 * i + 1) (omega arith) (ap (tail instance.arcs) (edge_of-odd i) ∙ at))

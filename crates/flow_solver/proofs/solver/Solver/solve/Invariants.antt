@@ -1,0 +1,17 @@
+use Rattle.std.proofs.Common.{◌≡◌, ◌-◌, ◌*◌, length}
+use Rattle.flow_solver.specs.OuterEdges.{AreListed}
+use Rattle.flow_solver.specs.Searches.{HasRoom, IsReady}
+use Rattle.flow_solver.proofs.solver.Solver.solve.Given as goal
+
+abbrev pub invariant-loop-network : goal.invariant-loop-network
+invariant-loop-network l =
+    record {
+      ready : IsReady l.network;
+      same : l.network.instance ≡ l.initial.network.instance;
+      edges : AreListed l.network.instance l.edges (2 * length l.network.instance.arcs);
+      room : HasRoom l.network.instance.steps l.search;
+      path : length l.path.items ≡ l.network.instance.steps;
+    }
+
+abbrev pub decreases-loop-network : goal.decreases-loop-network
+decreases-loop-network l = l.network.instance.units - l.network.pushed

@@ -1,0 +1,5 @@
+pub mod OuterEdges
+pub mod Queues
+pub mod Searches
+pub mod Rounds
+pub mod Answers

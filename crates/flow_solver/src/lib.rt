@@ -1,0 +1,18 @@
+//! The exact solver of the flow on a chain: paths of greatest cost, pushed one after another.
+//!
+//! The rules are "Solution" and "Potential" in docs/DEFINITIONS.md. Each round finds how far the nodes are from the
+//! first, with the negated reduced costs of the edges as lengths, lowers the potentials by it, and pushes units along
+//! a path on which nothing is then lost. When all units are pushed, the falls of the potentials are prices that the
+//! flows reach.
+#![tactic(auto)]
+
+mod outer_edges;
+mod queue;
+mod rounds;
+mod route;
+mod search;
+mod solution;
+mod solver;
+
+pub use solution::Solution;
+pub use solver::Solver;

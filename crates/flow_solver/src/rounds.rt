@@ -1,0 +1,49 @@
+//! Rounds: each pushes units along a path on which nothing is lost.
+ghost use Rattle.std.specs.Prelude.{◌≡◌, ℕ, ◌+◌, ◌*◌, ◌≤◌, ◌<◌, min, length, slice_index};
+ghost use Rattle.flow_network.specs.States.{IsState};
+ghost use Rattle.flow_solver.specs.OuterEdges.{AreListed};
+ghost use Rattle.flow_solver.specs.Rounds.{Advances};
+ghost use Rattle.flow_solver.specs.Searches.{HasRoom, IsReady, limit_of, lowered};
+
+use crate::outer_edges::OuterEdges;
+use crate::route::trace;
+use crate::search::Search;
+use flow_network::{Edge, Network};
+
+// Lowers each potential by what the node is nearer than the last.
+fn lower(network: &mut Network, search: &Search)
+    requires fits { IsState network.old }
+    requires each_distance { length search.now.distances ≡ network.old.instance.steps + 1 }
+    requires enough { (node : ℕ) → node ≤ network.old.instance.steps
+        → limit_of network.old search.now.distances ≤ slice_index network.old.potentials node + min (limit_of network.old search.now.distances) (slice_index search.now.distances node) }
+    ensures lowered { (node : ℕ) → node ≤ network.old.instance.steps → slice_index network.new.potentials node ≡ lowered network.old search.now.distances node }
+    ensures same { network.new ≡ record network.old { potentials = network.new.potentials } }
+    ensures fits { IsState network.new }
+{
+    let last = network.instance().steps();
+    let limit = search.distance(last);
+    if limit == 0 {
+        return;
+    }
+    for node in 0..last + 1 {
+        let fall = limit - search.distance(node).min(limit);
+        let potential = network.potential(node);
+        network.set_potential(node, potential - fall);
+    }
+}
+
+/// Pushes units along a path on which nothing is lost, as many as it takes.
+pub fn augment(network: &mut Network, edges: &OuterEdges, search: &mut Search, path: &mut [Edge])
+    requires ready { IsReady network.old }
+    requires edges { AreListed network.old.instance edges.now (2 * length network.old.instance.arcs) }
+    requires room { HasRoom network.old.instance.steps search.old }
+    requires each_hop { length path.old ≡ network.old.instance.steps }
+    requires left { network.old.pushed < network.old.instance.units }
+    ensures advances { Advances network.old network.new }
+    ensures room { HasRoom network.old.instance.steps search.new }
+{
+    search.run(network, edges);
+    lower(network, search);
+    let route = trace(network, search, path);
+    network.push(&path[route.start..], route.amount);
+}

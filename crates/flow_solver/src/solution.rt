@@ -1,0 +1,41 @@
+//! What a solver answers.
+ghost use Rattle.std.specs.Prelude.{◌≡◌};
+
+use std::marker::Model;
+
+/// A price of each step and a flow of each arc, whose values are equal.
+#[derive(Debug, Drop)]
+pub struct Solution {
+    prices: Vec<u128>,
+    flows: Vec<u64>,
+}
+
+impl Model for Solution {
+    ghost use Rattle.flow_solver.specs.Answers.{Answer};
+
+    ghost Value = { Answer };
+
+    ghost view = { λ s. record { prices = s.prices.items; flows = s.flows.items } };
+}
+
+impl Solution {
+    pub(crate) fn new(prices: Vec<u128>, flows: Vec<u64>) -> Solution
+        ensures { result ≡ record { prices = prices.items; flows = flows.items } }
+    {
+        Solution { prices, flows }
+    }
+
+    /// The price of each step.
+    pub fn prices(&self) -> &[u128]
+        ensures { result.now ≡ self.now.prices }
+    {
+        &self.prices
+    }
+
+    /// The flow of each arc, in the order of the arcs.
+    pub fn flows(&self) -> &[u64]
+        ensures { result.now ≡ self.now.flows }
+    {
+        &self.flows
+    }
+}
