@@ -204,6 +204,9 @@ impl Search {
         ensures nears { Nears network.now self.old self.new }
         ensures settled { Rests self.new node → (e : FlowEdge) → IsEdge network.now.instance e → tail network.now.instance.arcs e ≡ node → IsSettled network.now self.new.distances e }
     {
+        if self.distance(node) >= self.distance(network.instance().steps()) {
+            return;
+        }
         self.relax_back(network, node);
         self.relax_on(network, node);
         self.relax_outer(network, edges, node);
