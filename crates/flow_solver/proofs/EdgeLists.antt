@@ -1,21 +1,19 @@
 -- The lists of outer edges: one edge more.
-use Rattle.std.proofs.Common.{◌≡◌, ◌≢◌, ℕ, ◌+◌, ◌-◌, ◌*◌, ◌/◌, ◌%◌, ◌<◌, ◌≤◌, ◌∙◌, sym, ap, subst, Bool, cond, List, length, arith, ⊎_elim, get_or, set, length-set, get_or-set_same, get_or-set_other}
-use Rattle.std.proofs.lemmas.Bool.{cases_eq, eq-eqb, ne_eqb}
+use Rattle.std.proofs.Common.{◌≡◌, ◌≢◌, ℕ, ◌+◌, ◌-◌, ◌*◌, ◌<◌, ◌≤◌, ◌∙◌, sym, refl, ap, subst, cond, List, length, arith, ⊎_elim, get_or, set, length-set, get_or-set_same, get_or-set_other}
+use Rattle.std.proofs.lemmas.Bool.{cases_eq, cases_lt, lt-ltb, le-ltb}
 use Rattle.flow_model.specs.declared.edges.Edge.{Edge}
 use Rattle.flow_model.specs.declared.edges.Edge.TheVariants.{Inner, InnerBack, Outer, OuterBack}
-use Rattle.flow_model.specs.Instances.{Instance, IsInstance, no_arc, arc_at}
+use Rattle.flow_model.specs.Instances.{Instance}
 use Rattle.flow_model.specs.Networks.{tail, IsEdge}
 use Rattle.flow_solver.specs.OuterEdges.{edge_of, tail_of, Lists, AreListed}
 
-pub edge_of-even : (i : ℕ) → edge_of (2 * i) ≡ Outer i
-edge_of-even i =
-    let half : (2 * i) / 2 ≡ i = omega arith in
-    ap (λ b. cond b (Outer ((2 * i) / 2)) (OuterBack ((2 * i) / 2))) (eq-eqb ((2 * i) % 2) 0 (omega arith)) ∙ ap Outer half
+pub edge_of-arc : (arcs i : ℕ) → i < arcs → edge_of arcs i ≡ Outer i
+edge_of-arc arcs i low = ap (λ b. cond b (Outer i) (OuterBack (i - arcs))) (lt-ltb i arcs low)
 
-pub edge_of-odd : (i : ℕ) → edge_of (2 * i + 1) ≡ OuterBack i
-edge_of-odd i =
-    let half : (2 * i + 1) / 2 ≡ i = omega arith in
-    ap (λ b. cond b (Outer ((2 * i + 1) / 2)) (OuterBack ((2 * i + 1) / 2))) (ne_eqb ((2 * i + 1) % 2) 0 (λ e. omega arith)) ∙ ap OuterBack half
+pub edge_of-back : (arcs i : ℕ) → edge_of arcs (arcs + i) ≡ OuterBack i
+edge_of-back arcs i =
+    let same : (arcs + i) - arcs ≡ i = omega arith in
+    ap (λ b. cond b (Outer (arcs + i)) (OuterBack ((arcs + i) - arcs))) (le-ltb (arcs + i) arcs (omega arith)) ∙ ap OuterBack same
 
 set_at : (xs : List ℕ) (i j x : ℕ) → i < length xs → (j ≡ i → get_or (set xs i x) j 0 ≡ x) × (j ≢ i → get_or (set xs i x) j 0 ≡ get_or xs j 0)
 set_at xs i j x within = (λ e. ap (λ k. get_or (set xs i x) k 0) e ∙ get_or-set_same xs i x 0 within, λ n. get_or-set_other xs i j x 0 n)
@@ -75,30 +73,20 @@ one_more_listed instance lists count node listed room within own =
     next_at k = set_at lists.next count k (get_or lists.first node 0) (omega (arith, listed.each_edge))
 
 -- what is numbered is an edge
-pub is_edge_of : (instance : Instance) (k : ℕ) → k < 2 * length instance.arcs → IsEdge instance (edge_of k)
+pub is_edge_of : (instance : Instance) (k : ℕ) → k < 2 * length instance.arcs → IsEdge instance (edge_of (length instance.arcs) k)
 is_edge_of instance k within =
+    let arcs : ℕ = length instance.arcs in
     ⊎_elim
-    (λ (e : k % 2 ≡ 0). subst (λ (b : Bool). IsEdge instance (cond b (Outer (k / 2)) (OuterBack (k / 2)))) (sym (eq-eqb (k % 2) 0 e)) half)
-    (λ (n : k % 2 ≡ 0 → ⊥). subst (λ (b : Bool). IsEdge instance (cond b (Outer (k / 2)) (OuterBack (k / 2)))) (sym (ne_eqb (k % 2) 0 n)) half)
-    (cases_eq (k % 2) 0)
-  where
-    half : k / 2 < length instance.arcs
-    half = omega arith
-
--- an arc and its back edge more
-pub arc_more : (instance : Instance) (lists : Lists) (k : ℕ) → IsInstance instance → k < length instance.arcs → AreListed instance lists (2 * k)
-    → AreListed instance (one_more (one_more lists (2 * k) (arc_at instance.arcs k).start) (2 * k + 1) (arc_at instance.arcs k).end) (2 * (k + 1))
-arc_more instance lists k fits within listed =
-    let arc = fits.arcs_fit k no_arc within in
-    let start : AreListed instance (one_more lists (2 * k) (arc_at instance.arcs k).start) (2 * k + 1) =
-    one_more_listed instance lists (2 * k) (arc_at instance.arcs k).start listed (omega arith) (omega (arith, arc.order, arc.within)) (ap (tail instance.arcs) (edge_of-even k)) in
-    let both = one_more_listed instance (one_more lists (2 * k) (arc_at instance.arcs k).start) (2 * k + 1) (arc_at instance.arcs k).end start (omega arith) arc.within (ap (tail instance.arcs) (edge_of-odd k)) in
-    let count : (2 * k + 1) + 1 ≡ 2 * (k + 1) = omega arith in
-    subst (λ (n : ℕ). AreListed instance (one_more (one_more lists (2 * k) (arc_at instance.arcs k).start) (2 * k + 1) (arc_at instance.arcs k).end) n) count both
+    (λ (low : k < arcs). subst (λ (e : Edge). IsEdge instance e) (sym (edge_of-arc arcs k low)) low)
+    (λ (high : arcs ≤ k).
+    let at : arcs + (k - arcs) ≡ k = omega arith in
+    let inside : k - arcs < arcs = omega arith in
+    subst (λ (n : ℕ). IsEdge instance (edge_of arcs n)) at (subst (λ (e : Edge). IsEdge instance e) (sym (edge_of-back arcs (k - arcs))) inside))
+    (cases_lt k arcs)
 
 -- what holds of the numbered edges and of the inner edges out of a node holds of all edges out of it
 pub each_edge_from : (instance : Instance) (node : ℕ) (P : Edge → Type 0)
-    → ((k : ℕ) → k < 2 * length instance.arcs → tail_of instance.arcs k ≡ node → P (edge_of k))
+    → ((k : ℕ) → k < 2 * length instance.arcs → tail_of instance.arcs k ≡ node → P (edge_of (length instance.arcs) k))
     → (node < instance.steps → P (Inner node))
     → (0 < node → P (InnerBack (node - 1)))
     → (e : Edge) → IsEdge instance e → tail instance.arcs e ≡ node → P e
@@ -107,6 +95,7 @@ each_edge_from instance node P outer on back (InnerBack t) is at =
     let before : node - 1 ≡ t = omega (arith, at) in
     subst (λ (k : ℕ). P (InnerBack k)) before (back (omega (arith, at)))
 each_edge_from instance node P outer on back (Outer i) is at =
-    subst (λ (e : Edge). P e) (edge_of-even i) (outer (2 * i) (omega arith) (ap (tail instance.arcs) (edge_of-even i) ∙ at))
+    subst (λ (e : Edge). P e) (edge_of-arc (length instance.arcs) i is) (outer i (omega arith) (ap (tail instance.arcs) (edge_of-arc (length instance.arcs) i is) ∙ at))
 each_edge_from instance node P outer on back (OuterBack i) is at =
-    subst (λ (e : Edge). P e) (edge_of-odd i) (outer (2 * i + 1) (omega arith) (ap (tail instance.arcs) (edge_of-odd i) ∙ at))
+    subst (λ (e : Edge). P e) (edge_of-back (length instance.arcs) i)
+    (outer (length instance.arcs + i) (omega arith) (ap (tail instance.arcs) (edge_of-back (length instance.arcs) i) ∙ at))

@@ -1,18 +1,18 @@
 -- The outer edges that lead out of each node, as lists.
-use Rattle.std.specs.Prelude.{◌≡◌, ◌≢◌, ℕ, ◌+◌, ◌-◌, ◌*◌, ◌/◌, ◌%◌, ◌<◌, ◌≤◌, ◌==◌, if◌then◌else◌, List, length, slice_index}
+use Rattle.std.specs.Prelude.{◌≡◌, ◌≢◌, ℕ, ◌+◌, ◌-◌, ◌*◌, ◌<◌, ◌≤◌, nat_lt, if◌then◌else◌, List, length, slice_index}
 use Rattle.flow_model.specs.declared.arcs.OuterArc.{OuterArc}
 use Rattle.flow_model.specs.declared.edges.Edge.{Edge}
 use Rattle.flow_model.specs.declared.edges.Edge.TheVariants.{Outer, OuterBack}
 use Rattle.flow_model.specs.Instances.{Instance}
 use Rattle.flow_model.specs.Networks.{tail}
 
--- the edge of that number: arc i has the number 2 * i, and its back edge the next one
-abbrev pub edge_of : ℕ → Edge
-edge_of number = if number % 2 == 0 then Outer (number / 2) else OuterBack (number / 2)
+-- the edge of that number, where there are so many arcs: first come the arcs, and then their back edges
+abbrev pub edge_of : ℕ → ℕ → Edge
+edge_of arcs number = if nat_lt number arcs then Outer number else OuterBack (number - arcs)
 
 -- the node that the edge of that number leads out of
 abbrev pub tail_of : List OuterArc → ℕ → ℕ
-tail_of arcs number = tail arcs (edge_of number)
+tail_of arcs number = tail arcs (edge_of (length arcs) number)
 
 -- for each node the number of the first edge in its list, and for each edge that of the next one, each from 1; or 0 where
 -- there is none

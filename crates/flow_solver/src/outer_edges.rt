@@ -1,15 +1,15 @@
 //! The outer edges that lead out of each node.
 ghost use Rattle.std.specs.Prelude.{◌≡◌, ◌+◌, ◌*◌, ◌<◌, ◌≤◌, ◌^◌, IfOk, length, slice_index, slice_set};
-ghost use Rattle.flow_solver.specs.OuterEdges.{AreListed, edge_of};
+ghost use Rattle.flow_solver.specs.OuterEdges.{AreListed, edge_of, tail_of};
 
 use bound_base::NoMemory;
 use flow_network::Edge;
-use relaxation::Instance;
+use relaxation::{Instance, OuterArc};
 use std::alloc::Global;
 use std::marker::Model;
 
-/// The outer edges that lead out of each node, as lists. They are numbered: arc `i` has the number `2 * i`, and its back
-/// edge the next one. In the lists numbers count from 1, and 0 is the end.
+/// The outer edges that lead out of each node, as lists. They are numbered: first come the arcs, and then their back
+/// edges. In the lists numbers count from 1, and 0 is the end.
 #[derive(Debug, Drop)]
 pub struct OuterEdges {
     first: Vec<u32>,
@@ -24,15 +24,28 @@ impl Model for OuterEdges {
     ghost view = { λ e. record { first = e.first.items; next = e.next.items } };
 }
 
-/// The edge of that number.
+/// The edge of that number, where there are so many arcs.
 #[inline(always)]
-pub fn outer_edge(number: u32) -> Edge
-    ensures { result ≡ edge_of number }
+pub fn outer_edge(arcs: u32, number: u32) -> Edge
+    ensures { result ≡ edge_of arcs number }
 {
-    if number % 2 == 0 {
-        Edge::Outer(number / 2)
+    if number < arcs {
+        Edge::Outer(number)
     } else {
-        Edge::OuterBack(number / 2)
+        Edge::OuterBack(number - arcs)
+    }
+}
+
+// The node that the edge of that number leads out of.
+fn tail_at(arcs: &[OuterArc], number: u32) -> u32
+    requires { number < 2 * length arcs.now }
+    ensures { result ≡ tail_of arcs.now number }
+{
+    let number = number as usize;
+    if number < arcs.len() {
+        arcs[number].start
+    } else {
+        arcs[number - arcs.len()].end
     }
 }
 
@@ -45,9 +58,8 @@ impl OuterEdges {
         let first = vec![in alloc; 0; instance.steps() as usize + 1]?;
         let next = vec![in alloc; 0; 2 * arcs.len()]?;
         let mut edges = OuterEdges { first, next };
-        for (number, arc) in arcs.iter().enumerate() {
-            edges.add(2 * number as u32, arc.start);
-            edges.add(2 * number as u32 + 1, arc.end);
+        for number in 0..2 * arcs.len() as u32 {
+            edges.add(number, tail_at(arcs, number));
         }
         Ok(edges)
     }

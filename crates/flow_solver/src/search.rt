@@ -157,12 +157,13 @@ impl Search {
         requires edges { AreListed network.now.instance edges.now (2 * length network.now.instance.arcs) }
         requires node { node ≤ network.now.instance.steps }
         ensures nears { Nears network.now self.old self.new }
-        ensures settled { Rests self.new node → (k : ℕ) → k < 2 * length network.now.instance.arcs → tail_of network.now.instance.arcs k ≡ node → IsSettled network.now self.new.distances (edge_of k) }
+        ensures settled { Rests self.new node → (k : ℕ) → k < 2 * length network.now.instance.arcs → tail_of network.now.instance.arcs k ≡ node → IsSettled network.now self.new.distances (edge_of (length network.now.instance.arcs) k) }
     {
+        let arcs = network.instance().arcs().len() as u32;
         let mut left = edges.first(node);
         while left > 0 {
             let number = left - 1;
-            self.relax(network, outer_edge(number));
+            self.relax(network, outer_edge(arcs, number));
             left = edges.after(number);
         }
     }
@@ -194,7 +195,7 @@ impl Search {
         }
     }
 
-    // Relaxes the edges that lead out of the node. Those that lead on come last, so that their heads come next.
+    // Relaxes the edges that lead out of the node. The arcs come last, so that their ends come next from the stack.
     fn relax_from(&mut self, network: &Network, edges: &OuterEdges, node: u32)
         requires ready { IsReady network.now }
         requires search { IsSearch network.now self.old }
@@ -203,9 +204,12 @@ impl Search {
         ensures nears { Nears network.now self.old self.new }
         ensures settled { Rests self.new node → (e : FlowEdge) → IsEdge network.now.instance e → tail network.now.instance.arcs e ≡ node → IsSettled network.now self.new.distances e }
     {
+        if self.distance(node) >= self.distance(network.instance().steps()) {
+            return;
+        }
         self.relax_back(network, node);
-        self.relax_outer(network, edges, node);
         self.relax_on(network, node);
+        self.relax_outer(network, edges, node);
     }
 
     // Takes the last node from the stack.

@@ -9,7 +9,7 @@ invariant-loop-left l =
       nears : Nears l.network l.initial.self l.self;
       within : l.left ≤ 2 * length l.network.instance.arcs;
       here : 0 < l.left → tail_of l.network.instance.arcs (l.left - 1) ≡ l.node;
-      settled : Rests l.self l.node → (k : ℕ) → l.left ≤ k → k < 2 * length l.network.instance.arcs → tail_of l.network.instance.arcs k ≡ l.node → IsSettled l.network l.self.distances (edge_of k);
+      settled : Rests l.self l.node → (k : ℕ) → l.left ≤ k → k < 2 * length l.network.instance.arcs → tail_of l.network.instance.arcs k ≡ l.node → IsSettled l.network l.self.distances (edge_of (length l.network.instance.arcs) k);
     }
 
 abbrev pub decreases-loop-left : goal.decreases-loop-left
