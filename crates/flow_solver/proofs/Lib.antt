@@ -2,7 +2,4 @@ pub mod Distances
 pub mod Guides
 pub mod Paths
 pub mod Routes
-pub mod LastRound
-pub mod Heaps
-pub mod QueueSteps
-pub mod EdgeLists
+pub mod Ends

@@ -1,5 +1,4 @@
-pub mod OuterEdges
-pub mod Queues
+pub mod Sweeps
 pub mod Searches
 pub mod Rounds
 pub mod Answers

@@ -6,8 +6,6 @@
 //! flows reach.
 #![tactic(auto)]
 
-mod outer_edges;
-mod queue;
 mod rounds;
 mod route;
 mod search;

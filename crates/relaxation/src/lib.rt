@@ -14,8 +14,8 @@ mod units;
 
 pub use cache_model::Interval;
 pub use denominators::{Denominator, DenominatorChoice, DenominatorLimit, denominator_for};
-pub use flows::{FlowFault, flow_value};
 pub use flow_model::OuterArc;
+pub use flows::{FlowFault, flow_value};
 pub use instance::Instance;
 pub use prices::{PriceFault, Sums, bound_of};
 pub use units::unit_of;
