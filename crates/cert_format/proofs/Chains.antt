@@ -1,0 +1,219 @@
+-- Lines that are read one after another.
+use Rattle.std.proofs.Common.{◌≡◌, ℕ, zero, suc, ◌+◌, ◌-◌, ◌*◌, ◌^◌, ◌≤◌, ◌<◌, ◌∙◌, sym, refl, ap, subst, List, [], ◌∷◌, ◌++◌, append_assoc, length, arith, Some, None, Option, Ok, Err, Result, IfSome, IfOk, IfErr, inl, inr, ◌⊎◌, length-drop}
+use Rattle.std.specs.Option.{option_or}
+use Rattle.std.specs.Io.KnownBytes.{Consumes}
+use Rattle.bound_io.specs.Causes.{Rose}
+use Rattle.bound_io.specs.Devices.{Device, device, HasFailed}
+use Rattle.bound_io.specs.Lines.{text_len, after_line}
+use Rattle.bound_io.specs.Positions.{Position}
+use Rattle.bound_io.specs.Reading.{LosesFront}
+use Rattle.cert_format.specs.declared.fault.CertFault.{CertFault}
+use Rattle.cert_format.specs.declared.fault.CertFault.TheVariants.{BadText, Truncated, Trailing, ReadFault}
+use Rattle.cert_format.specs.Grammar.{Slot, end_slots}
+use Rattle.cert_format.specs.Readings.{first_fault, lines_fault, after_lines, bytes_through, end_fault, trailing}
+use Rattle.cert_format.specs.Lines.{told, IsPast, Passes, IsStopped, IsWithin, Reads}
+use Rattle.cert_format.proofs.Headers.{after_lines-suc, after_lines-zero}
+use Rattle.cert_format.proofs.Taken.{at_some, if_told, after_lines-one}
+
+-- some lines after others
+pub after_lines-add : (j k : ℕ) (bytes : List ℕ) → after_lines (j + k) bytes ≡ after_lines k (after_lines j bytes)
+unfolding after_lines
+after_lines-add zero k bytes = let same : zero + k ≡ k = omega arith in ap (λ n. after_lines n bytes) same
+after_lines-add (suc j) k bytes = let same : suc j + k ≡ suc (j + k) = omega arith in ap (λ n. after_lines n bytes) same ∙ after_lines-add j k (after_line bytes)
+
+pub length-after_lines : (k : ℕ) (bytes : List ℕ) → length (after_lines k bytes) ≤ length bytes
+unfolding after_lines
+length-after_lines zero bytes = omega arith
+length-after_lines (suc k) bytes = omega (arith, length-after_lines k (after_line bytes), length-drop (text_len bytes + 1) bytes)
+
+-- the bytes of some lines after others
+pub bytes_through-add : (j k : ℕ) (bytes : List ℕ) → bytes_through (j + k) bytes ≡ bytes_through j bytes + bytes_through k (after_lines j bytes)
+bytes_through-add j k bytes = omega (arith, ap length (after_lines-add j k bytes), length-after_lines j bytes, length-after_lines k (after_lines j bytes))
+
+-- what was lost at two times
+pub loses_both : (a b d : Option (List ℕ)) → LosesFront a b → LosesFront b d → LosesFront a d
+loses_both None b d one other = ([], tt)
+loses_both (Some xs) None d one other = absurd one.1
+loses_both (Some xs) (Some ys) None one other = absurd other.1
+loses_both (Some xs) (Some ys) (Some zs) one other =
+    let first : xs ≡ one.0 ++ ys = one.1 in
+    let second : ys ≡ other.0 ++ zs = other.1 in
+    (one.0 ++ other.0, first ∙ (ap (λ r. one.0 ++ r) second ∙ sym (append_assoc one.0 other.0 zs)))
+
+keeps_front : (a : Option (List ℕ)) → LosesFront a a
+keeps_front None = ([], tt)
+keeps_front (Some xs) = ([], refl)
+
+-- so many lines were read, and this holds of the bytes
+pub record Came (count : ℕ) (P : List ℕ → Type 0) (old now : Position) (source : Device) : Type 0 where
+  pub limit : now.limit ≡ old.limit
+  pub given : now.line ≡ old.line + count
+  pub no_fault : now.fault ≡ None
+  pub tells : IfSome (told old source.before) (λ bytes. P bytes × (told now source.after ≡ Some (after_lines count bytes)))
+  pub past : IfSome (told old source.before) (IsPast old now)
+  pub loses : LosesFront source.before source.after
+  pub later : source.faults_before ≤ source.faults_after
+
+abbrev pub Nothing : List ℕ → Type 0
+Nothing bytes = Unit {0}
+
+pub start : (at : Position) (left : Option (List ℕ)) (faults : ℕ) → at.fault ≡ None → Came 0 Nothing at at (device left left faults faults)
+start at left faults none = record {
+  limit = refl;
+  given = omega arith;
+  no_fault = none;
+  tells = if_told (told at left) _ (λ bytes e. (tt, e ∙ ap (λ b. Some b) (sym (after_lines-zero bytes))));
+  past = if_told (told at left) _ (λ bytes e. record { further = omega arith; consumed = omega (arith, ap (λ n. length (after_lines n bytes)) (sub_same at.line), ap length (after_lines-zero bytes)) });
+  loses = keeps_front left;
+  later = omega arith;
+}
+  where
+    sub_same : (n : ℕ) → n - n ≡ 0
+    sub_same n = omega arith
+
+-- past some lines, and then past others
+past_both : (first second third : Position) (bytes : List ℕ) (k : ℕ) → second.line ≡ first.line + k → IsPast first second bytes → IsPast second third (after_lines k bytes) → IsPast first third bytes
+past_both first second third bytes k line one other =
+    let here : bytes_through (second.line - first.line) bytes ≡ bytes_through k bytes = ap (λ n. bytes_through n bytes) (omega (arith, line)) in
+    let both : bytes_through (third.line - first.line) bytes ≡ bytes_through k bytes + bytes_through (third.line - second.line) (after_lines k bytes)
+    = ap (λ n. bytes_through n bytes) (omega (arith, line, other.further)) ∙ bytes_through-add k (third.line - second.line) bytes in
+    record { further = omega (arith, one.further, other.further); consumed = omega (arith, one.consumed, other.consumed, here, both) }
+
+rose_later : (first second third : ℕ) → first ≤ second → Rose second third → Rose first third
+rose_later first second third later (inl more) = inl (omega (arith, later, more))
+rose_later first second third later (inr last) = inr last
+
+-- some lines more are read
+module _ {A : Type 0} (count : ℕ) (P : List ℕ → Type 0) (fault_of : ℕ → List ℕ → Option CertFault) (more : ℕ) (value : List ℕ → A) (old now new : Position) (a b d : Option (List ℕ)) (x y z : ℕ) where
+  abbrev Then : A → List ℕ → Type 0
+  Then v bytes = P bytes × (fault_of (old.line + count + 1) (after_lines count bytes) ≡ None) × (v ≡ value (after_lines count bytes))
+
+  pub then_more : (v : A) (r : Result A CertFault) → r ≡ Ok v → Came count P old now (device a b x y) → Reads (fault_of (now.line + 1)) more value now new (device b d y z) r → Came (count + more) (Then v) old new (device a d x z)
+  then_more v r is came reads =
+      let given = at_ok (λ _. (new.line ≡ now.line + more) × (new.fault ≡ None)) reads.given in
+      let passes = at_ok (λ _. IfSome (told now b) (λ bytes. Passes (fault_of (now.line + 1)) more bytes (told new d))) reads.passes in
+      let value_is = at_ok (λ w. IfSome (told now b) (λ bytes. w ≡ value bytes)) reads.value_is in
+      record {
+        limit = reads.limit ∙ came.limit;
+        given = omega (arith, given.0, came.given);
+        no_fault = given.1;
+        tells = if_told (told old a) _ (λ bytes e.
+            let so_far = at_some (told old a) bytes _ e came.tells in
+            let pass = at_some (told now b) (after_lines count bytes) _ so_far.1 passes in
+            ((so_far.0, ap (λ n. fault_of n (after_lines count bytes)) (omega (arith, came.given)) ∙ pass.none, at_some (told now b) (after_lines count bytes) _ so_far.1 value_is),
+              pass.rest ∙ ap (λ r. Some r) (sym (after_lines-add count more bytes))));
+        past = if_told (told old a) _ (λ bytes e.
+            let so_far = at_some (told old a) bytes _ e came.tells in
+            past_both old now new bytes count came.given (at_some (told old a) bytes _ e came.past) (at_some (told now b) (after_lines count bytes) _ so_far.1 reads.past));
+        loses = loses_both a b d came.loses reads.loses;
+        later = omega (arith, came.later, reads.later);
+      }
+    where
+      at_ok : (Q : A → Type 0) → IfOk r Q → Q v
+      at_ok Q h = subst (λ s. IfOk s Q) is h
+
+  -- the first of them that isn't read ends the reading
+  pub then_stop : {B : Type 0} (whole : List ℕ → Option CertFault) (total : ℕ) (value_of : List ℕ → B) (fault : CertFault) (r : Result A CertFault) → r ≡ Err fault → Came count P old now (device a b x y) → Reads (fault_of (now.line + 1)) more value now new (device b d y z) r
+      → ((bytes : List ℕ) → P bytes → (g : CertFault) → fault_of (old.line + count + 1) (after_lines count bytes) ≡ Some g → whole bytes ≡ Some g)
+      → Reads whole total value_of old new (device a d x z) (Err fault)
+  then_stop whole total value_of fault r is came reads first = record {
+    limit = reads.limit ∙ came.limit;
+    held = reads.held;
+    given = tt;
+    passes = tt;
+    value_is = tt;
+    stopped = stopped fault (subst (λ s. IfErr s (IsStopped (fault_of (now.line + 1)) (told now b) (device b d y z))) is reads.stopped);
+    within = subst (λ s. IfErr s (IsWithin new.line)) is reads.within;
+    past = if_told (told old a) _ (λ bytes e.
+        let so_far = at_some (told old a) bytes _ e came.tells in
+        past_both old now new bytes count came.given (at_some (told old a) bytes _ e came.past) (at_some (told now b) (after_lines count bytes) _ so_far.1 reads.past));
+    loses = loses_both a b d came.loses reads.loses;
+    later = omega (arith, came.later, reads.later);
+  }
+    where
+      has : (g : CertFault) → IfSome (told now b) (λ bytes. fault_of (now.line + 1) bytes ≡ Some g) → IfSome (told old a) (λ bytes. whole bytes ≡ Some g)
+      has g h = if_told (told old a) _ (λ bytes e.
+          let so_far = at_some (told old a) bytes _ e came.tells in
+          let same : now.line + 1 ≡ old.line + count + 1 = omega (arith, came.given) in
+          first bytes so_far.0 g (ap (λ n. fault_of n (after_lines count bytes)) (sym same) ∙ at_some (told now b) (after_lines count bytes) _ so_far.1 h))
+      stopped : (f : CertFault) → IsStopped (fault_of (now.line + 1)) (told now b) (device b d y z) f → IsStopped whole (told old a) (device a d x z) f
+      stopped ReadFault why = rose_later x y z came.later why
+      stopped (BadText n kind) why = has (BadText n kind) why
+      stopped (Truncated n) why = has (Truncated n) why
+      stopped (Trailing n) why = has (Trailing n) why
+
+-- all of them are read
+pub all_done : {B : Type 0} (count : ℕ) (P : List ℕ → Type 0) (old now : Position) (a b : Option (List ℕ)) (x y : ℕ) (whole : List ℕ → Option CertFault) (value_of : List ℕ → B) (v : B) → Came count P old now (device a b x y) → length now.held ≤ 65536
+    → ((bytes : List ℕ) → P bytes → whole bytes ≡ None) → ((bytes : List ℕ) → P bytes → v ≡ value_of bytes) → Reads whole count value_of old now (device a b x y) (Ok v)
+all_done count P old now a b x y whole value_of v came held none is = record {
+  limit = came.limit;
+  held = held;
+  given = (came.given, came.no_fault);
+  passes = if_told (told old a) _ (λ bytes e. let so_far = at_some (told old a) bytes _ e came.tells in record { none = none bytes so_far.0; rest = so_far.1 });
+  value_is = if_told (told old a) _ (λ bytes e. is bytes (at_some (told old a) bytes _ e came.tells).0);
+  stopped = tt;
+  within = tt;
+  past = came.past;
+  loses = came.loses;
+  later = came.later;
+}
+
+-- the last of several readings
+pub then_last : (count : ℕ) (P : List ℕ → Type 0) (fault_of : ℕ → List ℕ → Option CertFault) (old now new : Position) (a b d : Option (List ℕ)) (x y z : ℕ) (whole : List ℕ → Option CertFault) (r : Result (Unit {0}) CertFault)
+    → Came count P old now (device a b x y) → Reads (fault_of (now.line + 1)) 0 (λ bytes. tt) now new (device b d y z) r
+    → ((bytes : List ℕ) → P bytes → whole bytes ≡ fault_of (old.line + count + 1) (after_lines count bytes)) → Reads whole count (λ bytes. tt) old new (device a d x z) r
+then_last count P fault_of old now new a b d x y z whole (Err fault) came reads same =
+    then_stop count P fault_of 0 (λ bytes. tt) old now new a b d x y z whole count (λ bytes. tt) fault (Err fault) refl came reads (λ bytes p g is. same bytes p ∙ is)
+then_last count P fault_of old now new a b d x y z whole (Ok tt) came reads same =
+    let all = then_more count P fault_of 0 (λ bytes. tt) old now new a b d x y z tt (Ok tt) refl came reads in
+    let none : count + 0 ≡ count = omega arith in
+    subst (λ n. Reads whole n (λ bytes. tt) old new (device a d x z) (Ok tt)) none
+    (all_done (count + 0) _ old new a d x z whole (λ bytes. tt) tt all reads.held (λ bytes p. same bytes p.0 ∙ p.1) (λ bytes p. refl))
+
+-- none of these lines has a fault, after the first k
+abbrev pub NoneFaulty : ℕ → ℕ → List (List Slot) → List ℕ → Type 0
+NoneFaulty n k [] bytes = Unit {0}
+NoneFaulty n k (slots ∷ lines) bytes = (first_fault (n + k + 1) slots (after_lines k bytes) ≡ None) × NoneFaulty n (suc k) lines bytes
+
+next_none : (n k : ℕ) (slots : List Slot) (more : List (List Slot)) (bytes : List ℕ) → first_fault (n + k + 1) slots (after_lines k bytes) ≡ None
+    → lines_fault (n + k + 1) (slots ∷ more) (after_lines k bytes) ≡ lines_fault (n + suc k + 1) more (after_lines (suc k) bytes)
+next_none n k slots more bytes none =
+    let same : n + k + 1 + 1 ≡ n + suc k + 1 = omega arith in
+    ap (λ o. option_or o (lines_fault (n + k + 1 + 1) more (after_line (after_lines k bytes)))) none
+    ∙ (ap (lines_fault (n + k + 1 + 1) more) (sym (after_lines-suc k bytes)) ∙ ap (λ m. lines_fault m more (after_lines (suc k) bytes)) same)
+
+stop_after : (n k : ℕ) (front : List (List Slot)) (slots : List Slot) (more : List (List Slot)) (bytes : List ℕ) (g : CertFault) → NoneFaulty n k front bytes
+    → first_fault (n + (k + length front) + 1) slots (after_lines (k + length front) bytes) ≡ Some g → lines_fault (n + k + 1) (front ++ slots ∷ more) (after_lines k bytes) ≡ Some g
+stop_after n k [] slots more bytes g none is =
+    let same : k + 0 ≡ k = omega arith in
+    let here : first_fault (n + k + 1) slots (after_lines k bytes) ≡ Some g = ap (λ m. first_fault (n + m + 1) slots (after_lines m bytes)) (sym same) ∙ is in
+    ap (λ o. option_or o (lines_fault (n + k + 1 + 1) more (after_line (after_lines k bytes)))) here
+stop_after n k (s ∷ front) slots more bytes g none is =
+    let same : k + suc (length front) ≡ suc k + length front = omega arith in
+    next_none n k s (front ++ slots ∷ more) bytes none.0 ∙ stop_after n (suc k) front slots more bytes g none.1 (ap (λ m. first_fault (n + m + 1) slots (after_lines m bytes)) (sym same) ∙ is)
+
+-- the first fault of some lines
+pub lines_stop : (n : ℕ) (front : List (List Slot)) (slots : List Slot) (more : List (List Slot)) (bytes : List ℕ) (g : CertFault) → NoneFaulty n 0 front bytes
+    → first_fault (n + length front + 1) slots (after_lines (length front) bytes) ≡ Some g → lines_fault (n + 1) (front ++ slots ∷ more) bytes ≡ Some g
+lines_stop n front slots more bytes g none is =
+    let same : 0 + length front ≡ length front = omega arith in
+    let zero' : n + 1 ≡ n + 0 + 1 = omega arith in
+    ap (λ m. lines_fault m (front ++ slots ∷ more) bytes) zero' ∙ (ap (lines_fault (n + 0 + 1) (front ++ slots ∷ more)) (sym (after_lines-zero bytes))
+        ∙ stop_after n 0 front slots more bytes g none (ap (λ m. first_fault (n + m + 1) slots (after_lines m bytes)) same ∙ is))
+
+none_after : (n k : ℕ) (lines : List (List Slot)) (bytes : List ℕ) → NoneFaulty n k lines bytes → lines_fault (n + k + 1) lines (after_lines k bytes) ≡ None
+none_after n k [] bytes none = refl
+none_after n k (slots ∷ lines) bytes none = next_none n k slots lines bytes none.0 ∙ none_after n (suc k) lines bytes none.1
+
+-- no fault of some lines
+pub lines_none : (n : ℕ) (lines : List (List Slot)) (bytes : List ℕ) → NoneFaulty n 0 lines bytes → lines_fault (n + 1) lines bytes ≡ None
+lines_none n lines bytes none =
+    let zero' : n + 1 ≡ n + 0 + 1 = omega arith in
+    ap (λ m. lines_fault m lines bytes) zero' ∙ (ap (lines_fault (n + 0 + 1) lines) (sym (after_lines-zero bytes)) ∙ none_after n 0 lines bytes none)
+
+-- the fault of the end, where its line has none
+pub end_after : (n : ℕ) (bytes : List ℕ) → first_fault (n + 0 + 1) end_slots (after_lines 0 bytes) ≡ None → end_fault (n + 1) bytes ≡ trailing (n + 1 + 1) (after_lines 1 bytes)
+end_after n bytes none =
+    let zero' : n + 0 + 1 ≡ n + 1 = omega arith in
+    let here : first_fault (n + 1) end_slots bytes ≡ None = ap (λ m. first_fault m end_slots bytes) (sym zero') ∙ (ap (first_fault (n + 0 + 1) end_slots) (sym (after_lines-zero bytes)) ∙ none) in
+    ap (λ o. option_or o (trailing (n + 1 + 1) (after_line bytes))) here ∙ ap (trailing (n + 1 + 1)) (sym (after_lines-one bytes))

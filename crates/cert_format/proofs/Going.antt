@@ -1,0 +1,123 @@
+-- What a call of the reader gives of what is to come.
+use Rattle.std.proofs.Common.{◌≡◌, ◌≢◌, ℕ, zero, suc, ◌+◌, ◌-◌, ◌^◌, ◌≤◌, ◌<◌, ◌∙◌, sym, refl, ap, subst, Bool, true, false, List, [], ◌∷◌, ◌++◌, length, arith, Some, None, Option, Ok, Err, Result, IfSome, IfOk, IfErr}
+use Rattle.std.specs.Option.{option_or, is_some}
+use Rattle.std.proofs.lemmas.Bool.{true≢false}
+use Rattle.bound_io.specs.Devices.{Device}
+use Rattle.bound_io.specs.Lines.{first_text, after_line}
+use Rattle.cache_model.specs.declared.certificates.Header.{Header}
+use Rattle.cache_model.specs.declared.certificates.Record.{Record}
+use Rattle.cache_model.specs.Texts.{header_lines, line, record_line, text_of}
+use Rattle.cert_format.specs.declared.fault.CertFault.{CertFault}
+use Rattle.cert_format.specs.declared.fault.CertFault.TheVariants.{BadText, Truncated, Trailing, ReadFault}
+use Rattle.cert_format.specs.declared.reader.Stage.{Stage}
+use Rattle.cert_format.specs.declared.reader.Stage.TheVariants.{AtHeader, InRecords, AtEnd}
+use Rattle.cert_format.specs.Grammar.{record_slots, end_slots}
+use Rattle.cert_format.specs.Readings.{Reading, reading, read_records, stopped, unless, onto, under, trailing, end_fault, first_fault, header_fault, header_in, record_in, after_lines}
+use Rattle.cert_format.specs.Lines.{told, IsStopped, Passes, Reads}
+use Rattle.cert_format.specs.Finish.{finish_fault, lines_left}
+use Rattle.cert_format.specs.Readers.{Reader, to_come, GoesOn, IsRefused, HeaderRead, RecordRead, EndRead}
+use Rattle.cert_format.proofs.Spellings.{record_spelled}
+use Rattle.cert_format.proofs.Fronts.{fits_first}
+use Rattle.cert_format.proofs.Headers.{header_spelled, after_lines-zero, no_either}
+use Rattle.cert_format.proofs.Taken.{at_some, if_told, after_lines-one}
+use Rattle.cert_format.proofs.Wholes.{nothing_read}
+
+-- why lines are not given is why nothing more is read
+refused_by : (old : Reader) (source : Device) (fault_of : List ℕ → Option CertFault) (fault : CertFault) → IsStopped fault_of (told old.lines source.before) source fault
+    → ((bytes : List ℕ) (f : CertFault) → fault_of bytes ≡ Some f → to_come old bytes ≡ stopped (Some f)) → IsRefused old source fault
+refused_by old source fault_of ReadFault why is = why
+refused_by old source fault_of (BadText n kind) why is = if_told (told old.lines source.before) _ (λ bytes e. is bytes (BadText n kind) (at_some (told old.lines source.before) bytes _ e why))
+refused_by old source fault_of (Truncated n) why is = if_told (told old.lines source.before) _ (λ bytes e. is bytes (Truncated n) (at_some (told old.lines source.before) bytes _ e why))
+refused_by old source fault_of (Trailing n) why is = if_told (told old.lines source.before) _ (λ bytes e. is bytes (Trailing n) (at_some (told old.lines source.before) bytes _ e why))
+
+-- what the reader reads next
+coming_header : (old : Reader) (bytes : List ℕ) → old.stage ≡ AtHeader → to_come old bytes ≡ reading bytes
+coming_header old bytes is = rw is refl
+
+coming_records : (old : Reader) (bytes : List ℕ) → old.stage ≡ InRecords → to_come old bytes ≡ read_records old.left (old.lines.line + 1) bytes
+coming_records old bytes is = rw is refl
+
+coming_end : (old : Reader) (bytes : List ℕ) → old.stage ≡ AtEnd → to_come old bytes ≡ stopped (trailing (old.lines.line + 1) bytes)
+coming_end old bytes is = rw is refl
+
+-- the header
+pub header_goes : (old new : Reader) (source : Device) (h : Header) → old.stage ≡ AtHeader → old.lines.line ≡ 0 → new.stage ≡ InRecords → new.left ≡ h.requests → Reads header_fault 11 header_in old.lines new.lines source (Ok h) → HeaderRead old new source (Ok h)
+header_goes old new source h at first now left reads =
+    let eleven : new.lines.line ≡ 11 = omega (arith, reads.given.0, first) in
+    (now, left, eleven, if_told (told old.lines source.before) _ (λ bytes e.
+          let pass = at_some (told old.lines source.before) bytes _ e reads.passes in
+          let is = at_some (told old.lines source.before) bytes _ e reads.value_is in
+          let spelled = header_spelled bytes pass.none in
+          let rest = after_lines 11 bytes in
+          let new_coming : to_come new rest ≡ read_records h.requests 12 rest = coming_records new rest now ∙ (ap (λ k. read_records k (new.lines.line + 1) rest) left ∙ ap (λ n. read_records h.requests (n + 1) rest) eleven) in
+          record {
+            text_is = spelled.1 ∙ ap (λ (k : Header). text_of (header_lines k) ++ rest) (sym is);
+            rest = pass.rest;
+            coming_is = coming_header old bytes at ∙ (ap (λ o. unless o (under (header_in bytes) (read_records (header_in bytes).requests 12 rest))) pass.none
+                ∙ (ap (λ (k : Header). under k (read_records k.requests 12 rest)) (sym is) ∙ ap (under h) (sym new_coming)));
+          }))
+
+pub header_stops : (old new : Reader) (source : Device) (fault : CertFault) → old.stage ≡ AtHeader → Reads header_fault 11 header_in old.lines new.lines source (Err fault) → IsRefused old source fault
+header_stops old new source fault at reads = refused_by old source header_fault fault reads.stopped (λ bytes f is. coming_header old bytes at ∙ ap (λ o. unless o (under (header_in bytes) (read_records (header_in bytes).requests 12 (after_lines 11 bytes)))) is)
+
+-- a record of those that are left
+one_record : (k n : ℕ) (bytes : List ℕ) → read_records (suc k) n bytes ≡ unless (first_fault n record_slots bytes) (onto (record_in (first_text bytes)) (read_records k (n + 1) (after_line bytes)))
+unfolding read_records
+one_record k n bytes = refl
+
+next_record : (old : Reader) (k : ℕ) (bytes : List ℕ) → old.stage ≡ InRecords → old.left ≡ k + 1
+    → to_come old bytes ≡ unless (first_fault (old.lines.line + 1) record_slots bytes) (onto (record_in (first_text bytes)) (read_records k (old.lines.line + 1 + 1) (after_line bytes)))
+next_record old k bytes at left =
+    let more : old.left ≡ suc k = omega (arith, left) in
+    coming_records old bytes at ∙ (ap (λ m. read_records m (old.lines.line + 1) bytes) more ∙ one_record k (old.lines.line + 1) bytes)
+
+pub record_goes : (old new : Reader) (source : Device) (r : Record) → old.stage ≡ InRecords → new.stage ≡ InRecords → new.left + 1 ≡ old.left
+    → Reads (first_fault (old.lines.line + 1) record_slots) 1 (λ bytes. record_in (first_text bytes)) old.lines new.lines source (Ok r) → RecordRead old new source (Ok r)
+record_goes old new source r at now left reads =
+    let one : new.lines.line ≡ old.lines.line + 1 = reads.given.0 in
+    (now, left, one, if_told (told old.lines source.before) _ (λ bytes e.
+          let pass = at_some (told old.lines source.before) bytes _ e reads.passes in
+          let is = at_some (told old.lines source.before) bytes _ e reads.value_is in
+          let has = fits_first (old.lines.line + 1) record_slots bytes pass.none in
+          let spelled = record_spelled (first_text bytes) has.fits in
+          let rest = after_lines 1 bytes in
+          let new_coming : to_come new rest ≡ read_records new.left (old.lines.line + 1 + 1) (after_line bytes) = coming_records new rest now ∙ (ap (λ n. read_records new.left (n + 1) rest) one ∙ ap (read_records new.left (old.lines.line + 1 + 1)) (after_lines-one bytes)) in
+          record {
+            text_is = has.is ∙ (ap (λ t. line t ++ after_line bytes) spelled.1 ∙ (ap (λ q. line (record_line q) ++ after_line bytes) (sym is) ∙ ap (λ b. line (record_line r) ++ b) (sym (after_lines-one bytes))));
+            rest = pass.rest;
+            coming_is = next_record old new.left bytes at (sym left) ∙ (ap (λ o. unless o (onto (record_in (first_text bytes)) (read_records new.left (old.lines.line + 1 + 1) (after_line bytes)))) pass.none
+                ∙ (ap (λ q. onto q (read_records new.left (old.lines.line + 1 + 1) (after_line bytes))) (sym is) ∙ ap (onto r) (sym new_coming)));
+          }))
+
+pub record_stops : (old new : Reader) (source : Device) (fault : CertFault) → old.stage ≡ InRecords → 0 < old.left
+    → Reads (first_fault (old.lines.line + 1) record_slots) 1 (λ bytes. record_in (first_text bytes)) old.lines new.lines source (Err fault) → IsRefused old source fault
+record_stops old new source fault at some reads = refused_by old source (first_fault (old.lines.line + 1) record_slots) fault reads.stopped (λ bytes f is.
+    let k = old.left - 1 in
+    next_record old k bytes at (omega (arith, some)) ∙ ap (λ o. unless o (onto (record_in (first_text bytes)) (read_records k (old.lines.line + 1 + 1) (after_line bytes)))) is)
+
+-- the end
+no_records : (n : ℕ) (bytes : List ℕ) → read_records 0 n bytes ≡ stopped (end_fault n bytes)
+unfolding read_records
+no_records n bytes = refl
+
+coming_finish : (old : Reader) (stage : Stage) (bytes : List ℕ) → old.stage ≡ stage → stage ≢ AtHeader → old.left ≡ 0 → to_come old bytes ≡ stopped (finish_fault stage (old.lines.line + 1) bytes)
+coming_finish old AtHeader bytes at other none = absurd (other refl)
+coming_finish old InRecords bytes at other none = coming_records old bytes at ∙ (ap (λ k. read_records k (old.lines.line + 1) bytes) none ∙ no_records (old.lines.line + 1) bytes)
+coming_finish old AtEnd bytes at other none = coming_end old bytes at
+
+-- nothing is left after the end
+nothing_after : (stage : Stage) (n : ℕ) (bytes : List ℕ) → finish_fault stage n bytes ≡ None → after_lines (lines_left stage) bytes ≡ []
+nothing_after AtHeader n bytes none = after_lines-one bytes ∙ nothing_read (n + 1) (after_line bytes) (no_either (first_fault n end_slots bytes) (trailing (n + 1) (after_line bytes)) none).1
+nothing_after InRecords n bytes none = after_lines-one bytes ∙ nothing_read (n + 1) (after_line bytes) (no_either (first_fault n end_slots bytes) (trailing (n + 1) (after_line bytes)) none).1
+nothing_after AtEnd n bytes none = after_lines-zero bytes ∙ nothing_read n bytes none
+
+pub end_goes : (old new : Reader) (source : Device) (stage : Stage) (v : Unit {0}) → old.stage ≡ stage → stage ≢ AtHeader → old.left ≡ 0 → new.stage ≡ AtEnd → new.left ≡ 0
+    → Reads (finish_fault stage (old.lines.line + 1)) (lines_left stage) (λ bytes. tt) old.lines new.lines source (Ok v) → EndRead old new source (Ok v)
+end_goes old new source stage v at other none now left reads =
+    (now, left, if_told (told old.lines source.before) _ (λ bytes e.
+          let pass = at_some (told old.lines source.before) bytes _ e reads.passes in
+          (coming_finish old stage bytes at other none ∙ ap stopped pass.none, pass.rest ∙ ap (λ b. Some b) (nothing_after stage (old.lines.line + 1) bytes pass.none))))
+
+pub end_stops : (old new : Reader) (source : Device) (stage : Stage) (fault : CertFault) → old.stage ≡ stage → stage ≢ AtHeader → old.left ≡ 0
+    → Reads {A = Unit {0}} (finish_fault stage (old.lines.line + 1)) (lines_left stage) (λ bytes. tt) old.lines new.lines source (Err fault) → IsRefused old source fault
+end_stops old new source stage fault at other none reads = refused_by old source (finish_fault stage (old.lines.line + 1)) fault reads.stopped (λ bytes f is. coming_finish old stage bytes at other none ∙ ap stopped is)

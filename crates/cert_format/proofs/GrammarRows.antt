@@ -1,0 +1,118 @@
+-- Lines and certificates worked out by hand.
+use Rattle.std.proofs.Common.{◌≡◌, ℕ, ◌^◌, Bool, ◌++◌, ◌∷◌, [], List, codes, refl, Some, None, take, true, false}
+use Rattle.std.specs.Prelude.{replicate}
+use Rattle.cache_model.specs.declared.objects.Objective.TheVariants.{Object as Hits}
+use Rattle.cache_model.specs.declared.certificates.Header.{Header}
+use Rattle.cache_model.specs.declared.certificates.Record.{Record}
+use Rattle.cert_format.specs.declared.fault.TextKind.TheVariants.{Shape, Number, Range, TooLong}
+use Rattle.cert_format.specs.declared.fault.CertFault.TheVariants.{BadText, Truncated, Trailing}
+use Rattle.cert_format.specs.Grammar.{line_fault, number_line, choice_line, fixed_line, record_slots}
+use Rattle.cert_format.specs.Readings.{Reading, reading, whole, stopped, header_in, after_lines, read_records}
+
+-- the number of a line is read without a leading zero, in its range
+leading_zero : line_fault (number_line (codes "capacity") 1 (2 ^ 56)) (codes "capacity 010") ≡ Some Number
+leading_zero = refl
+
+past_capacity : line_fault (number_line (codes "unit") 1 10) (codes "unit 11") ≡ Some Range
+past_capacity = refl
+
+at_capacity : line_fault (number_line (codes "unit") 1 10) (codes "unit 10") ≡ None
+at_capacity = refl
+
+zero_unit : line_fault (number_line (codes "unit") 1 10) (codes "unit 0") ≡ Some Range
+zero_unit = refl
+
+-- a canonical number of 71 digits
+wide_number : line_fault (number_line (codes "upper") 0 5) (codes "upper 1" ++ replicate 70 48) ≡ Some Range
+wide_number = refl
+
+no_number : line_fault (number_line (codes "upper") 0 5) (codes "upper ") ≡ Some Shape
+no_number = refl
+
+signed_number : line_fault (number_line (codes "upper") 0 5) (codes "upper +1") ≡ Some Number
+signed_number = refl
+
+-- another version of the text
+other_version : line_fault (fixed_line (codes "cache-bound-certificate 1")) (codes "cache-bound-certificate 3") ≡ Some Shape
+other_version = refl
+
+long_line : line_fault (fixed_line (codes "records")) (codes "records 1") ≡ Some Shape
+long_line = refl
+
+other_word : line_fault (choice_line (codes "form") (codes "exact") (codes "plain")) (codes "form fine") ≡ Some Shape
+other_word = refl
+
+-- two spaces; a keep that is neither 0 nor 1, before a price that is no number
+two_spaces : line_fault record_slots (codes "0  1 1") ≡ Some Shape
+two_spaces = refl
+
+other_keep : line_fault record_slots (codes "x 2 1") ≡ Some Shape
+other_keep = refl
+
+-- the price is out of its range before the flow has a leading zero
+left_to_right : line_fault record_slots (codes "85070591730234615865843651857942052865 1 00") ≡ Some Range
+left_to_right = refl
+
+greatest_price : line_fault record_slots (codes "85070591730234615865843651857942052864 1 281474976710656") ≡ None
+greatest_price = refl
+
+past_flow : line_fault record_slots (codes "0 1 281474976710657") ≡ Some Range
+past_flow = refl
+
+-- the certificate of two requests of one object of 4 bytes
+abbrev head_text : List ℕ
+head_text = codes "cache-bound-certificate 1\nobjective object\ncapacity 10\nrequests 2\nunit 4\ndenominator 1\nform exact\nupper 1\nflow 1\nlower 1\nrecords\n"
+
+abbrev head : Header
+head = record { objective = Hits; capacity = 10; requests = 2; unit = 4; denominator = 1; exact = true; upper = 1; flow = 1; lower = 1 }
+
+abbrev entry : Bool → ℕ → Record
+entry keep flow = record { price = 0; keep = keep; flow = flow }
+
+abbrev both : List Record
+both = entry true 1 ∷ entry false 0 ∷ []
+
+whole_text : reading (head_text ++ codes "0 1 1\n0 0 0\nend\n") ≡ whole head both
+unfolding header_in after_lines read_records
+whole_text = refl
+
+-- cut before the line `end`, within it, and before its LF
+no_end : (reading (head_text ++ codes "0 1 1\n0 0 0\n")).fault ≡ Some (Truncated 14)
+unfolding header_in after_lines read_records
+no_end = refl
+
+cut_end : (reading (head_text ++ codes "0 1 1\n0 0 0\nend")).fault ≡ Some (Truncated 14)
+unfolding header_in after_lines read_records
+cut_end = refl
+
+-- the records before the fault are read
+second_record : reading (head_text ++ codes "0 1 1\n0 2 0\nend\n") ≡ record { header = Some head; records = entry true 1 ∷ []; fault = Some (BadText 13 Shape) }
+unfolding header_in after_lines read_records
+second_record = refl
+
+-- one record too many stands where the end should be
+third_record : (reading (head_text ++ codes "0 1 1\n0 0 0\n0 0 0\nend\n")).fault ≡ Some (BadText 14 Shape)
+unfolding header_in after_lines read_records
+third_record = refl
+
+-- what follows the end
+trailing_byte : reading (head_text ++ codes "0 1 1\n0 0 0\nend\n\n") ≡ record { header = Some head; records = both; fault = Some (Trailing 15) }
+unfolding header_in after_lines read_records
+trailing_byte = refl
+
+no_bytes : reading [] ≡ stopped (Some (Truncated 1))
+unfolding header_in after_lines read_records
+no_bytes = refl
+
+cut_head : reading (take 70 head_text) ≡ stopped (Some (Truncated 5))
+unfolding header_in after_lines read_records
+cut_head = refl
+
+-- a text of 65,536 bytes, and one of one byte fewer
+long_text : reading (replicate 65536 120) ≡ stopped (Some (BadText 1 TooLong))
+unfolding header_in after_lines read_records
+long_text = refl
+
+short_text : reading (replicate 65535 120) ≡ stopped (Some (Truncated 1))
+unfolding header_in after_lines read_records
+short_text = refl

@@ -1,0 +1,14 @@
+pub mod GrammarRows
+pub mod Words
+pub mod Shapes
+pub mod Numbers
+pub mod Decimals
+pub mod Spellings
+pub mod Fronts
+pub mod Headers
+pub mod Wholes
+pub mod Short
+pub mod Taken
+pub mod Chains
+pub mod HeaderParts
+pub mod Going

@@ -1,0 +1,179 @@
+-- Each line has one spelling: what is written is read, and what is read is what is written.
+use Rattle.std.proofs.Common.{◌≡◌, ◌≢◌, ℕ, suc, ◌+◌, ◌-◌, ◌^◌, ◌≤◌, ◌<◌, ◌∙◌, sym, refl, ap, Bool, true, false, not, ◌&&◌, ◌||◌, ◌==◌, List, [], ◌∷◌, ◌++◌, append_assoc, length, arith, decimal, codes, Some, None, Option, inl, inr, ◌⊎◌}
+use Rattle.std.specs.Prelude.{nat_le}
+use Rattle.std.specs.Option.{option_or}
+use Rattle.std.specs.List.{list_all, list_any}
+use Rattle.std.specs.Str.{bytes_eq}
+use Rattle.std.proofs.lemmas.Bool.{cases_Bool, and_parts, leb-true, le-leb, or_from}
+use Rattle.std.proofs.lemmas.List.{length-append}
+use Rattle.std.proofs.lemmas.List.Folds.{list_any-append}
+use Rattle.cache_model.specs.declared.objects.Objective.{Objective}
+use Rattle.cache_model.specs.declared.objects.Objective.TheVariants.{Object as Hits, Bytes}
+use Rattle.cache_model.specs.declared.certificates.Record.{Record}
+use Rattle.cache_model.specs.Certificates.{IsRecordInRange}
+use Rattle.cache_model.specs.Texts.{entry, objective_word, form_word, keep_digit, record_line}
+use Rattle.cert_format.specs.declared.fault.TextKind.{TextKind}
+use Rattle.cert_format.specs.declared.fault.TextKind.TheVariants.{Number, Range}
+use Rattle.cert_format.specs.Grammar.{Slot, Within, words, line_fault, number_line, choice_line, record_slots, number_fault, number_at, number_in, word_at, is_canonical}
+use Rattle.cert_format.specs.Readings.{objective_in, record_in}
+use Rattle.cert_format.proofs.Words.{words-append, words_lone, text_of_two, text_of_three}
+use Rattle.cert_format.proofs.Numbers.{}
+use Rattle.cert_format.proofs.Shapes.{number_text, text_number, text_choice, text_record, record_text, record_of_text}
+use Rattle.cert_format.proofs.Decimals.{keep_text, number_in-decimal, digits-decimal, canonical-decimal, some-decimal, lacks-digits, decimal-number_in, length-decimal}
+
+-- a canonical number within its ends has no fault
+fits_range : (low high n : ℕ) → low ≤ n → n ≤ high → n < 10 ^ 64 → number_fault (Within low high) (decimal n) ≡ None
+fits_range low high n above below small =
+    rw (canonical-decimal n small, number_in-decimal n small, le-leb low n above, le-leb n high below) refl
+
+-- a number without a fault is canonical, and within its ends
+range_fits : (low high : ℕ) (word : List ℕ) → number_fault (Within low high) word ≡ None → (is_canonical word ≡ true) × (low ≤ number_in word) × (number_in word ≤ high)
+range_fits low high word fits = by (cases_Bool (is_canonical word)) (cases_Bool (nat_le low (number_in word) && nat_le (number_in word) high))
+  where
+    by : (is_canonical word ≡ true) ⊎ (is_canonical word ≡ false) → ((nat_le low (number_in word) && nat_le (number_in word) high) ≡ true) ⊎ ((nat_le low (number_in word) && nat_le (number_in word) high) ≡ false)
+        → (is_canonical word ≡ true) × (low ≤ number_in word) × (number_in word ≤ high)
+    by (inr other) within = let wrong : Some Number ≡ None = rw other at fits in cc
+    by (inl canonical) (inl within) =
+        let ends = and_parts (nat_le low (number_in word)) (nat_le (number_in word) high) within in
+        (canonical, leb-true low (number_in word) ends.0, leb-true (number_in word) high ends.1)
+    by (inl canonical) (inr outside) = let wrong : Some Range ≡ None = rw (canonical, outside) at fits in cc
+
+words-decimal : (n : ℕ) → n < 10 ^ 64 → words (decimal n) ≡ decimal n ∷ []
+words-decimal n small = words_lone (decimal n) (lacks-digits 32 (decimal n) (omega arith) (digits-decimal n small))
+
+space_between : (a b : List ℕ) → (a ++ 32 ∷ []) ++ b ≡ a ++ 32 ∷ b
+space_between a b = append_assoc a (32 ∷ []) b
+
+words-entry : (name : List ℕ) (n : ℕ) → words name ≡ name ∷ [] → n < 10 ^ 64 → words (entry name n) ≡ name ∷ decimal n ∷ []
+words-entry name n lone small =
+    ap words (space_between name (decimal n)) ∙ (words-append name (decimal n) ∙ (ap (λ ps. ps ++ words (decimal n)) lone ∙ ap (λ ps. name ∷ ps) (words-decimal n small)))
+
+-- the line of a number
+pub number_fits : (name : List ℕ) (low high n : ℕ) → words name ≡ name ∷ [] → low ≤ n → n ≤ high → n < 10 ^ 64
+    → (line_fault (number_line name low high) (entry name n) ≡ None) × (number_at 1 (entry name n) ≡ n)
+number_fits name low high n lone above below small =
+    let read = number_text name low high (entry name n) (decimal n) (words-entry name n lone small) (some-decimal n small) in
+    (read.0 ∙ fits_range low high n above below small, read.1 ∙ number_in-decimal n small)
+
+pub number_spelled : (name : List ℕ) (low high : ℕ) (text : List ℕ) → line_fault (number_line name low high) text ≡ None → high < 10 ^ 64
+    → (low ≤ number_at 1 text) × (number_at 1 text ≤ high) × (text ≡ entry name (number_at 1 text))
+number_spelled name low high text fits small =
+    let parts = text_number name low high text fits in
+    let word = parts.0 in
+    let range = range_fits low high word parts.3 in
+    let value = (number_text name low high text word parts.1 parts.2).1 in
+    let digits : decimal (number_in word) ≡ word = decimal-number_in word range.0 (omega (arith, range.2, small)) in
+    (omega (arith, value, range.1), omega (arith, value, range.2),
+      text_of_two text name word parts.1 ∙ (ap (λ w. name ++ 32 ∷ w) (sym digits) ∙ (sym (space_between name (decimal (number_in word))) ∙ ap (entry name) (sym value))))
+
+-- the lines of a choice
+pub objective_fits : (o : Objective) → (line_fault (choice_line (codes "objective") (codes "object") (codes "bytes")) (codes "objective " ++ objective_word o) ≡ None) × (objective_in (codes "objective " ++ objective_word o) ≡ o)
+objective_fits Hits = (refl, refl)
+objective_fits Bytes = (refl, refl)
+
+pub form_fits : (exact : Bool) → (line_fault (choice_line (codes "form") (codes "exact") (codes "plain")) (codes "form " ++ form_word exact) ≡ None)
+    × (bytes_eq (word_at 1 (codes "form " ++ form_word exact)) (codes "exact") ≡ exact)
+form_fits true = (refl, refl)
+form_fits false = (refl, refl)
+
+pub objective_spelled : (text : List ℕ) → line_fault (choice_line (codes "objective") (codes "object") (codes "bytes")) text ≡ None → text ≡ codes "objective " ++ objective_word (objective_in text)
+objective_spelled text fits =
+    let parts = text_choice (codes "objective") (codes "object") (codes "bytes") text fits in
+    by parts.0 (text_of_two text (codes "objective") parts.0 parts.1) parts.2
+  where
+    by : (word : List ℕ) → text ≡ codes "objective" ++ 32 ∷ word → (word ≡ codes "object") ⊎ (word ≡ codes "bytes") → text ≡ codes "objective " ++ objective_word (objective_in text)
+    by word is (inl one) = let all : text ≡ codes "objective object" = is ∙ ap (λ w. codes "objective" ++ 32 ∷ w) one in all ∙ ap (λ t. codes "objective " ++ objective_word (objective_in t)) (sym all)
+    by word is (inr other) = let all : text ≡ codes "objective bytes" = is ∙ ap (λ w. codes "objective" ++ 32 ∷ w) other in all ∙ ap (λ t. codes "objective " ++ objective_word (objective_in t)) (sym all)
+
+pub form_spelled : (text : List ℕ) → line_fault (choice_line (codes "form") (codes "exact") (codes "plain")) text ≡ None → text ≡ codes "form " ++ form_word (bytes_eq (word_at 1 text) (codes "exact"))
+form_spelled text fits =
+    let parts = text_choice (codes "form") (codes "exact") (codes "plain") text fits in
+    by parts.0 (text_of_two text (codes "form") parts.0 parts.1) parts.2
+  where
+    by : (word : List ℕ) → text ≡ codes "form" ++ 32 ∷ word → (word ≡ codes "exact") ⊎ (word ≡ codes "plain") → text ≡ codes "form " ++ form_word (bytes_eq (word_at 1 text) (codes "exact"))
+    by word is (inl one) = let all : text ≡ codes "form exact" = is ∙ ap (λ w. codes "form" ++ 32 ∷ w) one in all ∙ ap (λ t. codes "form " ++ form_word (bytes_eq (word_at 1 t) (codes "exact"))) (sym all)
+    by word is (inr other) = let all : text ≡ codes "form plain" = is ∙ ap (λ w. codes "form" ++ 32 ∷ w) other in all ∙ ap (λ t. codes "form " ++ form_word (bytes_eq (word_at 1 t) (codes "exact"))) (sym all)
+
+keep_small : (keep : Bool) → keep_digit keep < 10 ^ 64
+keep_small true = omega arith
+keep_small false = omega arith
+
+keep_lone : (keep : Bool) → words ((48 + keep_digit keep) ∷ []) ≡ ((48 + keep_digit keep) ∷ []) ∷ []
+keep_lone true = refl
+keep_lone false = refl
+
+record_words_of : (p f : List ℕ) (keep : Bool) → words p ≡ p ∷ [] → words f ≡ f ∷ [] → words (p ++ 32 ∷ (((48 + keep_digit keep) ∷ []) ++ 32 ∷ f)) ≡ p ∷ ((48 + keep_digit keep) ∷ []) ∷ f ∷ []
+record_words_of p f keep lone last =
+    words-append p (((48 + keep_digit keep) ∷ []) ++ 32 ∷ f)
+    ∙ (ap (λ ps. ps ++ words (((48 + keep_digit keep) ∷ []) ++ 32 ∷ f)) lone
+        ∙ ap (λ ps. p ∷ ps) (words-append ((48 + keep_digit keep) ∷ []) f ∙ (ap (λ ps. ps ++ words f) (keep_lone keep) ∙ ap (λ ps. ((48 + keep_digit keep) ∷ []) ∷ ps) last)))
+
+two_spaces : (a b d : List ℕ) → ((((a ++ 32 ∷ []) ++ b) ++ 32 ∷ []) ++ d) ≡ a ++ 32 ∷ (b ++ 32 ∷ d)
+two_spaces a b d = simp append_assoc
+
+record_line_is : (r : Record) → record_line r ≡ decimal r.price ++ 32 ∷ (((48 + keep_digit r.keep) ∷ []) ++ 32 ∷ decimal r.flow)
+record_line_is r = two_spaces (decimal r.price) (decimal (keep_digit r.keep)) (decimal r.flow) ∙ ap (λ k. decimal r.price ++ 32 ∷ (k ++ 32 ∷ decimal r.flow)) (keep_text r.keep)
+
+-- the line of a record
+pub record_fits : (r : Record) → IsRecordInRange r → (line_fault record_slots (record_line r) ≡ None) × (record_in (record_line r) ≡ r)
+record_fits r range =
+    let price : r.price < 10 ^ 64 = omega (arith, range.price) in
+    let flow : r.flow < 10 ^ 64 = omega (arith, range.flow) in
+    let are : words (record_line r) ≡ decimal r.price ∷ ((48 + keep_digit r.keep) ∷ []) ∷ decimal r.flow ∷ []
+    = ap words (record_line_is r) ∙ record_words_of (decimal r.price) (decimal r.flow) r.keep (words-decimal r.price price) (words-decimal r.flow flow) in
+    let read = record_text (record_line r) (decimal r.price) (decimal r.flow) r.keep are (some-decimal r.price price) (some-decimal r.flow flow) in
+    let fits = ap (λ o. option_or o (number_fault (Within 0 (2 ^ 48)) (decimal r.flow))) (fits_range 0 (2 ^ 126) r.price (omega arith) range.price price) ∙ fits_range 0 (2 ^ 48) r.flow (omega arith) range.flow flow in
+    (read ∙ fits, record_of_text (record_line r) (decimal r.price) (decimal r.flow) r.keep are ∙ same (number_in-decimal r.price price) (number_in-decimal r.flow flow))
+  where
+    record_from : ℕ → ℕ → Record
+    record_from p f = record { price = p; keep = r.keep; flow = f }
+    same : {p f : ℕ} → p ≡ r.price → f ≡ r.flow → record_from p f ≡ record_from r.price r.flow
+    same {p} {f} e d = ap (λ q. record_from q f) e ∙ ap (record_from r.price) d
+
+pub record_spelled : (text : List ℕ) → line_fault record_slots text ≡ None → IsRecordInRange (record_in text) × (text ≡ record_line (record_in text))
+record_spelled text fits =
+    let parts = text_record text fits in
+    let price = range_fits 0 (2 ^ 126) parts.0 parts.4 in
+    let flow = range_fits 0 (2 ^ 48) parts.2 parts.5 in
+    let is = record_of_text text parts.0 parts.2 parts.1 parts.3 in
+    let first : decimal (number_in parts.0) ≡ parts.0 = decimal-number_in parts.0 price.0 (omega (arith, price.2)) in
+    let last : decimal (number_in parts.2) ≡ parts.2 = decimal-number_in parts.2 flow.0 (omega (arith, flow.2)) in
+    (record { price = omega (arith, ap (λ (r : Record). r.price) is, price.2); flow = omega (arith, ap (λ (r : Record). r.flow) is, flow.2) },
+      text_of_three text parts.0 ((48 + keep_digit parts.1) ∷ []) parts.2 parts.3
+      ∙ (ap (λ p. p ++ 32 ∷ (((48 + keep_digit parts.1) ∷ []) ++ 32 ∷ parts.2)) (sym first)
+          ∙ (ap (λ f. decimal (number_in parts.0) ++ 32 ∷ (((48 + keep_digit parts.1) ∷ []) ++ 32 ∷ f)) (sym last)
+              ∙ (sym (record_line_is (record { price = number_in parts.0; keep = parts.1; flow = number_in parts.2 })) ∙ ap record_line (sym is)))))
+
+-- no line has an LF, and each has few bytes
+abbrev pub IsLine : List ℕ → Type 0
+IsLine text = (list_any (λ b. b == 10) text ≡ false) × (length text ≤ 63)
+
+both_lack : (a b : List ℕ) → list_any (λ x. x == 10) a ≡ false → list_any (λ x. x == 10) b ≡ false → list_any (λ x. x == 10) (a ++ b) ≡ false
+both_lack a b la lb = list_any-append (λ x. x == 10) a b ∙ or_from _ _ la lb
+
+pub entry_line : (name : List ℕ) (n : ℕ) → list_any (λ b. b == 10) name ≡ false → length name ≤ 20 → n < 2 ^ 127 → IsLine (entry name n)
+entry_line name n lacks short small =
+    let digits = digits-decimal n (omega arith) in
+    (both_lack (name ++ codes " ") (decimal n) (both_lack name (codes " ") lacks refl) (lacks-digits 10 (decimal n) (omega arith) digits),
+      omega (arith, length-append (name ++ codes " ") (decimal n), length-append name (codes " "), length-decimal 39 n (omega arith) (omega arith) (omega arith), short))
+
+pub objective_line : (o : Objective) → IsLine (codes "objective " ++ objective_word o)
+objective_line Hits = (refl, omega arith)
+objective_line Bytes = (refl, omega arith)
+
+pub form_line : (exact : Bool) → IsLine (codes "form " ++ form_word exact)
+form_line true = (refl, omega arith)
+form_line false = (refl, omega arith)
+
+keep_one : (keep : Bool) → IsLine ((48 + keep_digit keep) ∷ [])
+keep_one true = (refl, omega arith)
+keep_one false = (refl, omega arith)
+
+pub record_is_line : (r : Record) → IsRecordInRange r → IsLine (record_line r)
+record_is_line r range =
+    let price : list_any (λ b. b == 10) (decimal r.price) ≡ false = lacks-digits 10 (decimal r.price) (omega arith) (digits-decimal r.price (omega (arith, range.price))) in
+    let flow : list_any (λ b. b == 10) (decimal r.flow) ≡ false = lacks-digits 10 (decimal r.flow) (omega arith) (digits-decimal r.flow (omega (arith, range.flow))) in
+    let rest = both_lack ((48 + keep_digit r.keep) ∷ []) (32 ∷ decimal r.flow) (keep_one r.keep).0 flow in
+    (ap (list_any (λ b. b == 10)) (record_line_is r) ∙ both_lack (decimal r.price) (32 ∷ (((48 + keep_digit r.keep) ∷ []) ++ 32 ∷ decimal r.flow)) price rest,
+      omega (arith, ap length (record_line_is r), length-append (decimal r.price) (32 ∷ (((48 + keep_digit r.keep) ∷ []) ++ 32 ∷ decimal r.flow)),
+          length-decimal 38 r.price (omega arith) (omega (arith, range.price)) (omega (arith, range.price)), length-decimal 15 r.flow (omega arith) (omega (arith, range.flow)) (omega (arith, range.flow))))

@@ -1,0 +1,275 @@
+-- One line more is read.
+use Rattle.std.proofs.Common.{◌≡◌, ◌≢◌, ℕ, zero, suc, ◌+◌, ◌-◌, ◌*◌, ◌^◌, ◌≤◌, ◌<◌, ◌∙◌, sym, refl, ap, subst, Bool, true, false, not, cond, List, [], ◌∷◌, length, take, drop, arith, Some, None, Option, Ok, Err, Result, IfSome, IfOk, IfErr, inl, inr, ◌⊎◌, length-take, length-drop}
+use Rattle.std.specs.Prelude.{nat_le}
+use Rattle.std.specs.Option.{option_map, option_or}
+use Rattle.std.specs.Result.{is_ok}
+use Rattle.std.proofs.lemmas.Bool.{true≢false, cases_Bool, ne_eqb, leb-true, le-leb}
+use Rattle.std.proofs.lemmas.List.Sums.{prefix_len-le-length}
+use Rattle.std.proofs.lemmas.List.Folds.{length-prefix_len}
+use Rattle.std.specs.Io.KnownBytes.{Keeps}
+use Rattle.bound_io.specs.Devices.{Device}
+use Rattle.bound_io.specs.Reading.{LosesFront}
+use Rattle.bound_io.specs.Lines.{is_lf, text_len, first_text, first_line, after_line, stands_in}
+use Rattle.bound_io.specs.Positions.{Position, GivesLine, GivesNone, Stops, NextLine, IsRefused, IsLine, given, given_by, with_held, with_fault}
+use Rattle.bound_io.specs.declared.line_reader.LineFault.{LineFault}
+use Rattle.bound_io.specs.declared.line_reader.LineFault.TheVariants as line
+use Rattle.bound_io.specs.declared.line_reader.WholeLine.{WholeLine}
+use Rattle.bound_io.specs.declared.line_reader.WholeLine.TheVariants.{Whole, Unended, AtEnd}
+use Rattle.cert_format.specs.declared.fault.TextKind.{TextKind}
+use Rattle.cert_format.specs.declared.fault.TextKind.TheVariants.{TooLong}
+use Rattle.cert_format.specs.declared.fault.CertFault.{CertFault}
+use Rattle.cert_format.specs.declared.fault.CertFault.TheVariants.{BadText, Truncated, Trailing, ReadFault}
+use Rattle.cert_format.specs.Grammar.{Slot, line_fault, value_unless}
+use Rattle.cert_format.specs.Readings.{first_fault, lines_fault, after_lines, bytes_through, in_line, trailing}
+use Rattle.cert_format.specs.Lines.{told, text_given, nothing_given, of_line, IsPast, Passes, IsStopped, IsWithin, Reads}
+use Rattle.cert_format.proofs.Fronts.{whole_line, cut_line, long_line}
+use Rattle.cert_format.proofs.Headers.{after_lines-suc, after_lines-zero}
+
+-- what a call for the next line tells
+pub record Gave (old new : Position) (source : Device) (r : Result WholeLine LineFault) : Type 0 where
+  pub line : IfOk r (λ w. IfSome (stands_in old.held source.before) (IsLine w))
+  pub refused : IfErr r (IsRefused old (stands_in old.held source.before) source.faults_before source.faults_after)
+  pub next : NextLine old new (stands_in old.held source.before) (stands_in new.held source.after) (given_by r)
+  pub short : IfOk r (λ w. IfSome (given w) (λ text. length text ≤ 65535))
+  pub held : length new.held ≤ 65536
+  pub loses : LosesFront source.before source.after
+  pub later : source.faults_before ≤ source.faults_after
+
+-- the bytes of no line, and of one
+bytes_through-zero : (bytes : List ℕ) → bytes_through 0 bytes ≡ 0
+bytes_through-zero bytes = omega (arith, ap length (after_lines-zero bytes))
+
+pub after_lines-one : (bytes : List ℕ) → after_lines 1 bytes ≡ after_line bytes
+after_lines-one bytes = after_lines-suc 0 bytes ∙ ap after_line (after_lines-zero bytes)
+
+bytes_through-one : (bytes : List ℕ) → bytes_through 1 bytes ≡ length (first_line bytes)
+bytes_through-one bytes = omega (arith, ap length (after_lines-one bytes), length-drop (text_len bytes + 1) bytes, length-take (text_len bytes + 1) bytes)
+
+-- the bytes that are told
+pub told_some : (at : Position) (left : Option (List ℕ)) (bytes : List ℕ) → told at left ≡ Some bytes → (at.consumed ≤ 64 * at.line) × (stands_in at.held left ≡ Some bytes)
+told_some at left bytes is = by (cases_Bool (nat_le at.consumed (64 * at.line)))
+  where
+    by : (nat_le at.consumed (64 * at.line) ≡ true) ⊎ (nat_le at.consumed (64 * at.line) ≡ false) → (at.consumed ≤ 64 * at.line) × (stands_in at.held left ≡ Some bytes)
+    by (inl few) = (leb-true at.consumed (64 * at.line) few, sym (ap (λ b. cond b (stands_in at.held left) None) few) ∙ is)
+    by (inr many) = let wrong : None ≡ Some bytes = sym (ap (λ b. cond b (stands_in at.held left) None) many) ∙ is in cc
+
+pub told_all : (at : Position) (left : Option (List ℕ)) → at.consumed ≤ 64 * at.line → told at left ≡ stands_in at.held left
+told_all at left few = ap (λ b. cond b (stands_in at.held left) None) (le-leb at.consumed (64 * at.line) few)
+
+-- a fact of the bytes that are told
+pub if_told : (o : Option (List ℕ)) (P : List ℕ → Type 0) → ((bytes : List ℕ) → o ≡ Some bytes → P bytes) → IfSome o P
+if_told None P f = tt
+if_told (Some bytes) P f = f bytes refl
+
+pub at_some : {A : Type 0} (o : Option A) (x : A) (P : A → Type 0) → o ≡ Some x → IfSome o P → P x
+at_some (Some y) x P is h = let same : y ≡ x = cc in subst P same h
+at_some None x P is h = let wrong : None ≡ Some x = is in cc
+
+no_value : {A F : Type 0} (x : A) (f : F) → Ok x ≡ Err f → ⊥
+no_value x f same = true≢false (ap is_ok same)
+
+no_fault : {A F : Type 0} (x : A) (f : F) → Err f ≡ Ok x → ⊥
+no_fault x f same = true≢false (sym (ap is_ok same))
+
+-- a position that no line was given from
+kept_past : (old new : Position) (bytes : List ℕ) → new.line ≡ old.line → new.consumed ≡ old.consumed → IsPast old new bytes
+kept_past old new bytes line consumed =
+    let none : bytes_through (new.line - old.line) bytes ≡ 0 = ap (λ n. bytes_through n bytes) (omega (arith, line)) ∙ bytes_through-zero bytes in
+    record { further = omega (arith, line); consumed = omega (arith, consumed, none) }
+
+-- a position that one line was given from
+one_past : (old new : Position) (bytes : List ℕ) → new.line ≡ old.line + 1 → new.consumed ≡ old.consumed + length (first_line bytes) → IsPast old new bytes
+one_past old new bytes line consumed =
+    let one : bytes_through (new.line - old.line) bytes ≡ length (first_line bytes) = ap (λ n. bytes_through n bytes) (omega (arith, line)) ∙ bytes_through-one bytes in
+    record { further = omega (arith, line); consumed = omega (arith, consumed, one) }
+
+-- no line is read: the input ends, the line is too long, or a read failed
+module _ {A : Type 0} (slots : List Slot) (value : List ℕ → A) (old new : Position) (source : Device) (limit : old.limit ≡ 2 ^ 36) (few : old.line < 2 ^ 26) (loses : LosesFront source.before source.after) (later : source.faults_before ≤ source.faults_after) where
+  abbrev Stopped : CertFault → Type 0
+  Stopped fault = Reads (first_fault (old.line + 1) slots) 1 value old new source (Err fault)
+
+  -- from its parts
+  stops : (fault : CertFault) → (new.limit ≡ old.limit) → (length new.held ≤ 65536) → IsStopped (first_fault (old.line + 1) slots) (told old source.before) source fault → IsWithin new.line fault → IfSome (told old source.before) (IsPast old new) → Stopped fault
+  stops fault same held stopped within past = record { limit = same; held = held; given = tt; passes = tt; value_is = tt; stopped = stopped; within = within; past = past; loses = loses; later = later }
+
+  -- the bytes that the reader of lines stands in are told too
+  in_told : (P : List ℕ → Type 0) → IfSome (stands_in old.held source.before) P → (bytes : List ℕ) → told old source.before ≡ Some bytes → P bytes
+  in_told P all bytes is = at_some (stands_in old.held source.before) bytes P (told_some old source.before bytes is).1 all
+
+  stop_unended : (text : List ℕ) → length text ≤ 65535 → GivesLine old new (stands_in old.held source.before) (stands_in new.held source.after) → length new.held ≤ 65536
+      → IfSome (stands_in old.held source.before) (λ bytes. (text ≡ bytes) × (text_len bytes ≡ length bytes) × (0 < length bytes)) → Stopped (Truncated (old.line + 1))
+  stop_unended text short gives held is = stops (Truncated (old.line + 1)) gives.limit held
+      (if_told (told old source.before) _ (λ bytes e. let whole = in_told _ is bytes e in (cut_line (old.line + 1) slots bytes (omega (arith, whole.1)) (omega (arith, whole.1, ap length whole.0, short)))))
+      (omega (arith, gives.line)) (if_told (told old source.before) _ (λ bytes e. one_past old new bytes gives.line (in_told _ gives.consumed bytes e)))
+
+  stop_end : GivesNone old new (stands_in old.held source.before) (stands_in new.held source.after) → length new.held ≤ 65536 → IfSome (stands_in old.held source.before) (λ bytes. bytes ≡ []) → Stopped (Truncated (old.line + 1))
+  stop_end gives held is = stops (Truncated (old.line + 1)) (ap (λ p. p.limit) gives.still) held
+      (if_told (told old source.before) _ (λ bytes e. let none = in_told _ is bytes e in rw none refl))
+      (omega (arith, ap (λ p. p.line) gives.still)) (if_told (told old source.before) _ (λ bytes e. kept_past old new bytes (ap (λ p. p.line) gives.still) (ap (λ p. p.consumed) gives.still)))
+
+  stop_fault : (given : LineFault) (fault : CertFault) → Stops old new (stands_in old.held source.before) (stands_in new.held source.after) given → length new.held ≤ 65536 → IsStopped (first_fault (old.line + 1) slots) (told old source.before) source fault → IsWithin old.line fault → Stopped fault
+  stop_fault given fault stop held why within = stops fault (ap (λ p. p.limit) stop.still) held why (rw (ap (λ p. p.line) stop.still) within)
+      (if_told (told old source.before) _ (λ bytes e. kept_past old new bytes (ap (λ p. p.line) stop.still) (ap (λ p. p.consumed) stop.still)))
+
+  -- a certificate doesn't pass the limit
+  not_past : IfSome (stands_in old.held source.before) (λ bytes. (text_len bytes ≤ 65535) × (old.limit < old.consumed + length (first_line bytes))) → IsStopped (first_fault (old.line + 1) slots) (told old source.before) source (BadText (old.line + 1) TooLong)
+  not_past past = if_told (told old source.before) _ (λ bytes e.
+      let some = told_some old source.before bytes e in
+      let wrong = in_told _ past bytes e in
+      absurd (omega (arith, wrong, some.0, limit, few, length-take (text_len bytes + 1) bytes)))
+
+  pub stop_line : (r : Result WholeLine LineFault) (fault : CertFault) → Gave old new source r → text_given (old.line + 1) r ≡ Err fault → Stopped fault
+  stop_line (Ok (Whole text)) fault gave is = absurd (no_value text.now fault is)
+  stop_line (Ok (Unended text)) fault gave is =
+      let same : Truncated (old.line + 1) ≡ fault = cc in
+      subst Stopped same (stop_unended text.now gave.short gave.next gave.held gave.line)
+  stop_line (Ok AtEnd) fault gave is =
+      let same : Truncated (old.line + 1) ≡ fault = cc in
+      subst Stopped same (stop_end gave.next gave.held gave.line)
+  stop_line (Err line.ReadFault) fault gave is =
+      let same : ReadFault ≡ fault = cc in
+      subst Stopped same (stop_fault line.ReadFault ReadFault gave.next gave.held gave.refused tt)
+  stop_line (Err (line.LineTooLong m)) fault gave is =
+      let same : BadText (old.line + 1) TooLong ≡ fault = cc in
+      subst Stopped same (stop_fault (line.LineTooLong m) (BadText (old.line + 1) TooLong) gave.next gave.held
+      (if_told (told old source.before) _ (λ bytes e. long_line (old.line + 1) slots bytes (in_told _ gave.refused.1 bytes e))) (omega arith))
+  stop_line (Err line.InputTooLong) fault gave is =
+      let same : BadText (old.line + 1) TooLong ≡ fault = cc in
+      subst Stopped same (stop_fault line.InputTooLong (BadText (old.line + 1) TooLong) gave.next gave.held (not_past gave.refused) (omega arith))
+
+length-text : (bytes : List ℕ) → length (first_text bytes) ≡ text_len bytes
+length-text bytes = length-prefix_len _ bytes
+
+-- a whole line is read: its text has this fault, or this value
+module _ {A : Type 0} (slots : List Slot) (value : List ℕ → A) (old new : Position) (source : Device) (text : List ℕ) (short : line_fault slots text ≡ None → length text ≤ 63) (loses : LosesFront source.before source.after) (later : source.faults_before ≤ source.faults_after) where
+  abbrev Read : Result A CertFault → Type 0
+  Read result = Reads (first_fault (old.line + 1) slots) 1 (λ bytes. value (first_text bytes)) old new source result
+
+  -- the first line of the bytes that are told is this text
+  abbrev IsFirst : List ℕ → Type 0
+  IsFirst bytes = (text ≡ first_text bytes) × (text_len bytes < length bytes)
+
+  read_whole : (o : Option TextKind) → line_fault slots text ≡ o → GivesLine old new (stands_in old.held source.before) (stands_in new.held source.after) → length new.held ≤ 65536 → length text ≤ 65535 → IfSome (stands_in old.held source.before) IsFirst
+      → Read (of_line (old.line + 1) (value_unless o (value text)))
+  read_whole None fits gives held long is = record {
+    limit = gives.limit;
+    held = held;
+    given = (gives.line, gives.fault);
+    passes = if_told (told old source.before) _ (λ bytes e.
+        let some = told_some old source.before bytes e in
+        let first = at_some (stands_in old.held source.before) bytes IsFirst some.1 is in
+        let consumed = at_some (stands_in old.held source.before) bytes _ some.1 gives.consumed in
+        let rest = at_some (stands_in old.held source.before) bytes _ some.1 gives.rest in
+        let size = ap length first.0 ∙ length-text bytes in
+        let fault : first_fault (old.line + 1) slots bytes ≡ None = whole_line (old.line + 1) slots bytes first.1 (omega (arith, size, long)) ∙ ap (option_map (in_line (old.line + 1))) (ap (line_fault slots) (sym first.0) ∙ fits) in
+        record {
+          none = fault;
+          rest = told_all new source.after (omega (arith, consumed, some.0, gives.line, size, short fits, length-take (text_len bytes + 1) bytes)) ∙ (rest ∙ ap (λ b. Some b) (sym (after_lines-one bytes)));
+        });
+    value_is = if_told (told old source.before) _ (λ bytes e. ap value (at_some (stands_in old.held source.before) bytes IsFirst (told_some old source.before bytes e).1 is).0);
+    stopped = tt;
+    within = tt;
+    past = if_told (told old source.before) _ (λ bytes e. one_past old new bytes gives.line (at_some (stands_in old.held source.before) bytes _ (told_some old source.before bytes e).1 gives.consumed));
+    loses = loses;
+    later = later;
+  }
+  read_whole (Some kind) fault gives held long is = record {
+    limit = gives.limit;
+    held = held;
+    given = tt;
+    passes = tt;
+    value_is = tt;
+    stopped = if_told (told old source.before) _ (λ bytes e.
+        let first = at_some (stands_in old.held source.before) bytes IsFirst (told_some old source.before bytes e).1 is in
+        let size = ap length first.0 ∙ length-text bytes in
+        whole_line (old.line + 1) slots bytes first.1 (omega (arith, size, long)) ∙ ap (option_map (in_line (old.line + 1))) (ap (line_fault slots) (sym first.0) ∙ fault));
+    within = omega (arith, gives.line);
+    past = if_told (told old source.before) _ (λ bytes e. one_past old new bytes gives.line (at_some (stands_in old.held source.before) bytes _ (told_some old source.before bytes e).1 gives.consumed));
+    loses = loses;
+    later = later;
+  }
+
+  pub read_line : (r : Result WholeLine LineFault) → Gave old new source r → text_given (old.line + 1) r ≡ Ok text → Read (of_line (old.line + 1) (value_unless (line_fault slots text) (value text)))
+  read_line (Ok (Whole whole)) gave is =
+      let same : whole.now ≡ text = cc in
+      read_whole (line_fault slots text) refl gave.next gave.held (omega (arith, gave.short, ap length same)) (subst (λ t. IfSome (stands_in old.held source.before) (λ bytes. (t ≡ first_text bytes) × (text_len bytes < length bytes))) same gave.line)
+  read_line (Ok (Unended cut)) gave is = absurd (no_fault text (Truncated (old.line + 1)) is)
+  read_line (Ok AtEnd) gave is = absurd (no_fault text (Truncated (old.line + 1)) is)
+  read_line (Err line.ReadFault) gave is = absurd (no_fault text ReadFault is)
+  read_line (Err (line.LineTooLong m)) gave is = absurd (no_fault text (BadText (old.line + 1) TooLong) is)
+  read_line (Err line.InputTooLong) gave is = absurd (no_fault text (BadText (old.line + 1) TooLong) is)
+
+-- a result that is another one
+pub reads_as : {A : Type 0} (fault_of : List ℕ → Option CertFault) (count : ℕ) (value : List ℕ → A) (old new : Position) (source : Device) (result other : Result A CertFault) → result ≡ other
+    → Reads fault_of count value old new source other → Reads fault_of count value old new source result
+reads_as fault_of count value old new source result other same reads = subst (λ r. Reads fault_of count value old new source r) (sym same) reads
+
+-- whether something follows
+some_trailing : (n : ℕ) (bytes : List ℕ) → 0 < length bytes → trailing n bytes ≡ Some (Trailing n)
+some_trailing n bytes some = ap (λ b. cond b None (Some (Trailing n))) (ne_eqb (length bytes) 0 (λ e. omega (arith, e, some)))
+
+pub same_past : (at : Position) (left : Option (List ℕ)) → IfSome (told at left) (IsPast at at)
+same_past at left = if_told (told at left) _ (λ bytes e. kept_past at at bytes refl refl)
+
+longer : (o : Option (List ℕ)) (P : List ℕ → Type 0) → IfSome o P → ((bytes : List ℕ) → P bytes → 0 < length bytes) → IfSome o (λ bytes. 0 < length bytes)
+longer None P h f = tt
+longer (Some bytes) P h f = f bytes h
+
+-- the next line is looked at where nothing is to come
+module _ (old new : Position) (source : Device) (limit : old.limit ≡ 2 ^ 36) (few : old.line < 2 ^ 26) (loses : LosesFront source.before source.after) (later : source.faults_before ≤ source.faults_after) where
+  abbrev Looked : Result (Unit {0}) CertFault → Type 0
+  Looked result = Reads (trailing (old.line + 1)) 0 (λ bytes. tt) old new source result
+
+  refuses : (fault : CertFault) → (new.limit ≡ old.limit) → (length new.held ≤ 65536) → IsStopped (trailing (old.line + 1)) (told old source.before) source fault → IsWithin new.line fault → IfSome (told old source.before) (IsPast old new) → Looked (Err fault)
+  refuses fault same held stopped within past = record { limit = same; held = held; given = tt; passes = tt; value_is = tt; stopped = stopped; within = within; past = past; loses = loses; later = later }
+
+  told_in : (P : List ℕ → Type 0) → IfSome (stands_in old.held source.before) P → (bytes : List ℕ) → told old source.before ≡ Some bytes → P bytes
+  told_in P all bytes is = at_some (stands_in old.held source.before) bytes P (told_some old source.before bytes is).1 all
+
+  -- a line, whatever it is
+  refuse_line : GivesLine old new (stands_in old.held source.before) (stands_in new.held source.after) → length new.held ≤ 65536 → IfSome (stands_in old.held source.before) (λ bytes. 0 < length bytes) → Looked (Err (Trailing (old.line + 1)))
+  refuse_line gives held some = refuses (Trailing (old.line + 1)) gives.limit held (if_told (told old source.before) _ (λ bytes e. some_trailing (old.line + 1) bytes (told_in _ some bytes e))) (omega (arith, gives.line))
+      (if_told (told old source.before) _ (λ bytes e. one_past old new bytes gives.line (told_in _ gives.consumed bytes e)))
+
+  -- no line, for a fault of the reader of lines
+  refuse_fault : (given : LineFault) (fault : CertFault) → Stops old new (stands_in old.held source.before) (stands_in new.held source.after) given → length new.held ≤ 65536 → IsStopped (trailing (old.line + 1)) (told old source.before) source fault → IsWithin old.line fault → Looked (Err fault)
+  refuse_fault given fault stop held why within = refuses fault (ap (λ p. p.limit) stop.still) held why (rw (ap (λ p. p.line) stop.still) within)
+      (if_told (told old source.before) _ (λ bytes e. kept_past old new bytes (ap (λ p. p.line) stop.still) (ap (λ p. p.consumed) stop.still)))
+
+  keeps_told : GivesNone old new (stands_in old.held source.before) (stands_in new.held source.after) → (bytes : List ℕ) → told old source.before ≡ Some bytes → told new source.after ≡ Some bytes
+  keeps_told gives bytes e =
+      let some = told_some old source.before bytes e in
+      let kept = rw (some.1) at gives.rest in
+      told_all new source.after (omega (arith, some.0, ap (λ p. p.line) gives.still, ap (λ p. p.consumed) gives.still)) ∙ by (stands_in new.held source.after) kept
+    where
+      by : (o : Option (List ℕ)) → Keeps (Some bytes) o → o ≡ Some bytes
+      by None kept = absurd kept
+      by (Some ys) kept = ap (λ b. Some b) kept
+
+  no_line : GivesNone old new (stands_in old.held source.before) (stands_in new.held source.after) → length new.held ≤ 65536 → Looked (Ok tt)
+  no_line gives held = record {
+    limit = ap (λ p. p.limit) gives.still;
+    held = held;
+    given = (omega (arith, ap (λ p. p.line) gives.still), ap (λ p. p.fault) gives.still ∙ gives.fault);
+    passes = if_told (told old source.before) _ (λ bytes e.
+        let none : bytes ≡ [] = rw (told_some old source.before bytes e).1 at gives.nothing in
+        record { none = ap (trailing (old.line + 1)) none; rest = keeps_told gives bytes e ∙ ap (λ b. Some b) (sym (after_lines-zero bytes)) });
+    value_is = if_told (told old source.before) _ (λ bytes e. refl);
+    stopped = tt;
+    within = tt;
+    past = if_told (told old source.before) _ (λ bytes e. kept_past old new bytes (ap (λ p. p.line) gives.still) (ap (λ p. p.consumed) gives.still));
+    loses = loses;
+    later = later;
+  }
+
+  pub look_on : (r : Result WholeLine LineFault) → Gave old new source r → Looked (nothing_given (old.line + 1) r)
+  look_on (Ok (Whole text)) gave = refuse_line gave.next gave.held (longer (stands_in old.held source.before) _ gave.line (λ bytes is. omega (arith, is.1)))
+  look_on (Ok (Unended text)) gave = refuse_line gave.next gave.held (longer (stands_in old.held source.before) _ gave.line (λ bytes is. is.2))
+  look_on (Ok AtEnd) gave = no_line gave.next gave.held
+  look_on (Err line.ReadFault) gave = refuse_fault line.ReadFault ReadFault gave.next gave.held gave.refused tt
+  look_on (Err (line.LineTooLong m)) gave = refuse_fault (line.LineTooLong m) (Trailing (old.line + 1)) gave.next gave.held
+      (if_told (told old source.before) _ (λ bytes e. some_trailing (old.line + 1) bytes (omega (arith, told_in _ gave.refused.1 bytes e, prefix_len-le-length (λ b. not (is_lf b)) bytes)))) (omega arith)
+  look_on (Err line.InputTooLong) gave = refuse_fault line.InputTooLong (Trailing (old.line + 1)) gave.next gave.held
+      (if_told (told old source.before) _ (λ bytes e.
+          let past = told_in _ gave.refused bytes e in
+          some_trailing (old.line + 1) bytes (omega (arith, past.1, (told_some old source.before bytes e).0, limit, few, length-take (text_len bytes + 1) bytes)))) (omega arith)

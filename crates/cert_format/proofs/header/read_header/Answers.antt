@@ -1,0 +1,75 @@
+use Rattle.std.proofs.Common.{◌≡◌, ◌+◌, ◌-◌, ◌^◌, ◌≤◌, ◌<◌, ◌∙◌, sym, refl, ap, ◌∷◌, ◌++◌, [], arith, length, Err, Ok, Result, List, ℕ, codes, None, Some, Bool}
+use Rattle.std.specs.Str.{bytes_eq}
+use Rattle.std.proofs.lemmas.Result.{err_from_is_err_and}
+use Rattle.bound_io.specs.Lines.{first_text}
+use Rattle.cert_format.specs.declared.fault.CertFault.{CertFault}
+use Rattle.cert_format.specs.Grammar.{Slot, fixed_line, choice_line, number_line, count_slots, value_slots, number_at, word_at}
+use Rattle.cert_format.specs.Readings.{first_fault, lines_fault, after_lines, header_fault, header_in}
+use Rattle.cert_format.specs.Parts.{counts_in, values_in}
+use Rattle.cert_format.proofs.Headers.{after_lines-zero}
+use Rattle.cert_format.proofs.Chains.{start, then_more, then_stop, all_done, Nothing, lines_stop, lines_none}
+use Rattle.cert_format.proofs.HeaderParts.{version, objective, form, last, counts_fault, values_fault, header_parts, stop2, stop3, stop4, stop5, last6, header_same}
+use Rattle.cert_format.proofs.header.read_header.Goals as goal
+
+pub returns-in_err-of_objects-clause-read : goal.returns-in_err-of_objects-clause-read
+returns-in_err-of_objects-clause-read g c =
+    let p = err_from_is_err_and c.from_residual-in_err-of_objects.result c.from_residual-in_err-of_objects.ensures.1 in
+    let c0 = start c.args.lines.now (g.S.Source.left c.args.source.now) (g.S.Source.faults c.args.source.now) c.requires.no_fault in
+    let c1 = then_more 0 Nothing (λ n. first_fault n version) 1 (λ bytes. tt) c.args.lines.now c.args.lines.now c.read_fixed.new.lines (g.S.Source.left c.args.source.now) (g.S.Source.left c.args.source.now) (g.S.Source.left c.read_fixed.new.source) (g.S.Source.faults c.args.source.now) (g.S.Source.faults c.args.source.now) (g.S.Source.faults c.read_fixed.new.source) tt c.read_fixed.result c.in_ok-read_fixed.was c0 c.read_fixed.ensures in
+    rw (p.1, p.2) (then_stop 1 _ (λ n. first_fault n objective) 1 (λ bytes. bytes_eq (word_at 1 (first_text bytes)) (codes "object")) c.args.lines.now c.read_fixed.new.lines c.read_choice.new.lines (g.S.Source.left c.args.source.now) (g.S.Source.left c.read_fixed.new.source) (g.S.Source.left c.read_choice.new.source) (g.S.Source.faults c.args.source.now) (g.S.Source.faults c.read_fixed.new.source) (g.S.Source.faults c.read_choice.new.source) (header_fault) 11 header_in c.in_err-of_objects.field-0.0 c.read_choice.result c.in_err-of_objects.was c1 c.read_choice.ensures
+    (λ bytes p f e. header_parts c.args.lines.now.line bytes c.requires.first ∙ (stop2 f _ _ _ p.1 e)))
+
+pub returns-in_err-counts-clause-read : goal.returns-in_err-counts-clause-read
+returns-in_err-counts-clause-read g c =
+    let p = err_from_is_err_and c.from_residual-in_err-counts.result c.from_residual-in_err-counts.ensures.1 in
+    let c0 = start c.args.lines.now (g.S.Source.left c.args.source.now) (g.S.Source.faults c.args.source.now) c.requires.no_fault in
+    let c1 = then_more 0 Nothing (λ n. first_fault n version) 1 (λ bytes. tt) c.args.lines.now c.args.lines.now c.read_fixed.new.lines (g.S.Source.left c.args.source.now) (g.S.Source.left c.args.source.now) (g.S.Source.left c.read_fixed.new.source) (g.S.Source.faults c.args.source.now) (g.S.Source.faults c.args.source.now) (g.S.Source.faults c.read_fixed.new.source) tt c.read_fixed.result c.in_ok-read_fixed.was c0 c.read_fixed.ensures in
+    let c2 = then_more 1 _ (λ n. first_fault n objective) 1 (λ bytes. bytes_eq (word_at 1 (first_text bytes)) (codes "object")) c.args.lines.now c.read_fixed.new.lines c.read_choice.new.lines (g.S.Source.left c.args.source.now) (g.S.Source.left c.read_fixed.new.source) (g.S.Source.left c.read_choice.new.source) (g.S.Source.faults c.args.source.now) (g.S.Source.faults c.read_fixed.new.source) (g.S.Source.faults c.read_choice.new.source) c.in_ok-of_objects.of_objects c.read_choice.result c.in_ok-of_objects.was c1 c.read_choice.ensures in
+    rw (p.1, p.2) (then_stop 2 _ (counts_fault) 4 (counts_in) c.args.lines.now c.read_choice.new.lines c.read_counts.new.lines (g.S.Source.left c.args.source.now) (g.S.Source.left c.read_choice.new.source) (g.S.Source.left c.read_counts.new.source) (g.S.Source.faults c.args.source.now) (g.S.Source.faults c.read_choice.new.source) (g.S.Source.faults c.read_counts.new.source) (header_fault) 11 header_in c.in_err-counts.field-0.0 c.read_counts.result c.in_err-counts.was c2 c.read_counts.ensures.read
+    (λ bytes p f e. header_parts c.args.lines.now.line bytes c.requires.first ∙ (stop3 f _ _ _ _ p.0.1 p.1 e)))
+
+pub returns-in_err-exact-clause-read : goal.returns-in_err-exact-clause-read
+returns-in_err-exact-clause-read g c =
+    let p = err_from_is_err_and c.from_residual-in_err-exact.result c.from_residual-in_err-exact.ensures.1 in
+    let c0 = start c.args.lines.now (g.S.Source.left c.args.source.now) (g.S.Source.faults c.args.source.now) c.requires.no_fault in
+    let c1 = then_more 0 Nothing (λ n. first_fault n version) 1 (λ bytes. tt) c.args.lines.now c.args.lines.now c.read_fixed.new.lines (g.S.Source.left c.args.source.now) (g.S.Source.left c.args.source.now) (g.S.Source.left c.read_fixed.new.source) (g.S.Source.faults c.args.source.now) (g.S.Source.faults c.args.source.now) (g.S.Source.faults c.read_fixed.new.source) tt c.read_fixed.result c.in_ok-read_fixed.was c0 c.read_fixed.ensures in
+    let c2 = then_more 1 _ (λ n. first_fault n objective) 1 (λ bytes. bytes_eq (word_at 1 (first_text bytes)) (codes "object")) c.args.lines.now c.read_fixed.new.lines c.read_choice.new.lines (g.S.Source.left c.args.source.now) (g.S.Source.left c.read_fixed.new.source) (g.S.Source.left c.read_choice.new.source) (g.S.Source.faults c.args.source.now) (g.S.Source.faults c.read_fixed.new.source) (g.S.Source.faults c.read_choice.new.source) c.in_ok-of_objects.of_objects c.read_choice.result c.in_ok-of_objects.was c1 c.read_choice.ensures in
+    let c3 = then_more 2 _ (counts_fault) 4 (counts_in) c.args.lines.now c.read_choice.new.lines c.read_counts.new.lines (g.S.Source.left c.args.source.now) (g.S.Source.left c.read_choice.new.source) (g.S.Source.left c.read_counts.new.source) (g.S.Source.faults c.args.source.now) (g.S.Source.faults c.read_choice.new.source) (g.S.Source.faults c.read_counts.new.source) c.in_ok-counts.counts c.read_counts.result c.in_ok-counts.was c2 c.read_counts.ensures.read in
+    rw (p.1, p.2) (then_stop 6 _ (λ n. first_fault n form) 1 (λ bytes. bytes_eq (word_at 1 (first_text bytes)) (codes "exact")) c.args.lines.now c.read_counts.new.lines c.read_choice-2.new.lines (g.S.Source.left c.args.source.now) (g.S.Source.left c.read_counts.new.source) (g.S.Source.left c.read_choice-2.new.source) (g.S.Source.faults c.args.source.now) (g.S.Source.faults c.read_counts.new.source) (g.S.Source.faults c.read_choice-2.new.source) (header_fault) 11 header_in c.in_err-exact.field-0.0 c.read_choice-2.result c.in_err-exact.was c3 c.read_choice-2.ensures
+    (λ bytes p f e. header_parts c.args.lines.now.line bytes c.requires.first ∙ (stop4 f _ _ _ _ _ p.0.0.1 p.0.1 p.1 e)))
+
+pub returns-in_err-values-clause-read : goal.returns-in_err-values-clause-read
+returns-in_err-values-clause-read g c =
+    let p = err_from_is_err_and c.from_residual-in_err-values.result c.from_residual-in_err-values.ensures.1 in
+    let c0 = start c.args.lines.now (g.S.Source.left c.args.source.now) (g.S.Source.faults c.args.source.now) c.requires.no_fault in
+    let c1 = then_more 0 Nothing (λ n. first_fault n version) 1 (λ bytes. tt) c.args.lines.now c.args.lines.now c.read_fixed.new.lines (g.S.Source.left c.args.source.now) (g.S.Source.left c.args.source.now) (g.S.Source.left c.read_fixed.new.source) (g.S.Source.faults c.args.source.now) (g.S.Source.faults c.args.source.now) (g.S.Source.faults c.read_fixed.new.source) tt c.read_fixed.result c.in_ok-read_fixed.was c0 c.read_fixed.ensures in
+    let c2 = then_more 1 _ (λ n. first_fault n objective) 1 (λ bytes. bytes_eq (word_at 1 (first_text bytes)) (codes "object")) c.args.lines.now c.read_fixed.new.lines c.read_choice.new.lines (g.S.Source.left c.args.source.now) (g.S.Source.left c.read_fixed.new.source) (g.S.Source.left c.read_choice.new.source) (g.S.Source.faults c.args.source.now) (g.S.Source.faults c.read_fixed.new.source) (g.S.Source.faults c.read_choice.new.source) c.in_ok-of_objects.of_objects c.read_choice.result c.in_ok-of_objects.was c1 c.read_choice.ensures in
+    let c3 = then_more 2 _ (counts_fault) 4 (counts_in) c.args.lines.now c.read_choice.new.lines c.read_counts.new.lines (g.S.Source.left c.args.source.now) (g.S.Source.left c.read_choice.new.source) (g.S.Source.left c.read_counts.new.source) (g.S.Source.faults c.args.source.now) (g.S.Source.faults c.read_choice.new.source) (g.S.Source.faults c.read_counts.new.source) c.in_ok-counts.counts c.read_counts.result c.in_ok-counts.was c2 c.read_counts.ensures.read in
+    let c4 = then_more 6 _ (λ n. first_fault n form) 1 (λ bytes. bytes_eq (word_at 1 (first_text bytes)) (codes "exact")) c.args.lines.now c.read_counts.new.lines c.read_choice-2.new.lines (g.S.Source.left c.args.source.now) (g.S.Source.left c.read_counts.new.source) (g.S.Source.left c.read_choice-2.new.source) (g.S.Source.faults c.args.source.now) (g.S.Source.faults c.read_counts.new.source) (g.S.Source.faults c.read_choice-2.new.source) c.in_ok-exact.exact c.read_choice-2.result c.in_ok-exact.was c3 c.read_choice-2.ensures in
+    rw (p.1, p.2) (then_stop 7 _ (values_fault) 3 (values_in) c.args.lines.now c.read_choice-2.new.lines c.read_values.new.lines (g.S.Source.left c.args.source.now) (g.S.Source.left c.read_choice-2.new.source) (g.S.Source.left c.read_values.new.source) (g.S.Source.faults c.args.source.now) (g.S.Source.faults c.read_choice-2.new.source) (g.S.Source.faults c.read_values.new.source) (header_fault) 11 header_in c.in_err-values.field-0.0 c.read_values.result c.in_err-values.was c4 c.read_values.ensures.read
+    (λ bytes p f e. header_parts c.args.lines.now.line bytes c.requires.first ∙ (stop5 f _ _ _ _ _ _ p.0.0.0.1 p.0.0.1 p.0.1 p.1 e)))
+
+pub returns-in_err-read_fixed-2-clause-read : goal.returns-in_err-read_fixed-2-clause-read
+returns-in_err-read_fixed-2-clause-read g c =
+    let p = err_from_is_err_and c.from_residual-in_err-read_fixed-2.result c.from_residual-in_err-read_fixed-2.ensures.1 in
+    let c0 = start c.args.lines.now (g.S.Source.left c.args.source.now) (g.S.Source.faults c.args.source.now) c.requires.no_fault in
+    let c1 = then_more 0 Nothing (λ n. first_fault n version) 1 (λ bytes. tt) c.args.lines.now c.args.lines.now c.read_fixed.new.lines (g.S.Source.left c.args.source.now) (g.S.Source.left c.args.source.now) (g.S.Source.left c.read_fixed.new.source) (g.S.Source.faults c.args.source.now) (g.S.Source.faults c.args.source.now) (g.S.Source.faults c.read_fixed.new.source) tt c.read_fixed.result c.in_ok-read_fixed.was c0 c.read_fixed.ensures in
+    let c2 = then_more 1 _ (λ n. first_fault n objective) 1 (λ bytes. bytes_eq (word_at 1 (first_text bytes)) (codes "object")) c.args.lines.now c.read_fixed.new.lines c.read_choice.new.lines (g.S.Source.left c.args.source.now) (g.S.Source.left c.read_fixed.new.source) (g.S.Source.left c.read_choice.new.source) (g.S.Source.faults c.args.source.now) (g.S.Source.faults c.read_fixed.new.source) (g.S.Source.faults c.read_choice.new.source) c.in_ok-of_objects.of_objects c.read_choice.result c.in_ok-of_objects.was c1 c.read_choice.ensures in
+    let c3 = then_more 2 _ (counts_fault) 4 (counts_in) c.args.lines.now c.read_choice.new.lines c.read_counts.new.lines (g.S.Source.left c.args.source.now) (g.S.Source.left c.read_choice.new.source) (g.S.Source.left c.read_counts.new.source) (g.S.Source.faults c.args.source.now) (g.S.Source.faults c.read_choice.new.source) (g.S.Source.faults c.read_counts.new.source) c.in_ok-counts.counts c.read_counts.result c.in_ok-counts.was c2 c.read_counts.ensures.read in
+    let c4 = then_more 6 _ (λ n. first_fault n form) 1 (λ bytes. bytes_eq (word_at 1 (first_text bytes)) (codes "exact")) c.args.lines.now c.read_counts.new.lines c.read_choice-2.new.lines (g.S.Source.left c.args.source.now) (g.S.Source.left c.read_counts.new.source) (g.S.Source.left c.read_choice-2.new.source) (g.S.Source.faults c.args.source.now) (g.S.Source.faults c.read_counts.new.source) (g.S.Source.faults c.read_choice-2.new.source) c.in_ok-exact.exact c.read_choice-2.result c.in_ok-exact.was c3 c.read_choice-2.ensures in
+    let c5 = then_more 7 _ (values_fault) 3 (values_in) c.args.lines.now c.read_choice-2.new.lines c.read_values.new.lines (g.S.Source.left c.args.source.now) (g.S.Source.left c.read_choice-2.new.source) (g.S.Source.left c.read_values.new.source) (g.S.Source.faults c.args.source.now) (g.S.Source.faults c.read_choice-2.new.source) (g.S.Source.faults c.read_values.new.source) c.in_ok-values.values c.read_values.result c.in_ok-values.was c4 c.read_values.ensures.read in
+    rw (p.1, p.2) (then_stop 10 _ (λ n. first_fault n last) 1 (λ bytes. tt) c.args.lines.now c.read_values.new.lines c.read_fixed-2.new.lines (g.S.Source.left c.args.source.now) (g.S.Source.left c.read_values.new.source) (g.S.Source.left c.read_fixed-2.new.source) (g.S.Source.faults c.args.source.now) (g.S.Source.faults c.read_values.new.source) (g.S.Source.faults c.read_fixed-2.new.source) (header_fault) 11 header_in c.in_err-read_fixed-2.field-0.0 c.read_fixed-2.result c.in_err-read_fixed-2.was c5 c.read_fixed-2.ensures
+    (λ bytes p f e. header_parts c.args.lines.now.line bytes c.requires.first ∙ (last6 _ _ _ _ _ _ p.0.0.0.0.1 p.0.0.0.1 p.0.0.1 p.0.1 p.1 ∙ e)))
+
+pub returns-clause-read : goal.returns-clause-read
+returns-clause-read g c =
+    let c0 = start c.args.lines.now (g.S.Source.left c.args.source.now) (g.S.Source.faults c.args.source.now) c.requires.no_fault in
+    let c1 = then_more 0 Nothing (λ n. first_fault n version) 1 (λ bytes. tt) c.args.lines.now c.args.lines.now c.read_fixed.new.lines (g.S.Source.left c.args.source.now) (g.S.Source.left c.args.source.now) (g.S.Source.left c.read_fixed.new.source) (g.S.Source.faults c.args.source.now) (g.S.Source.faults c.args.source.now) (g.S.Source.faults c.read_fixed.new.source) tt c.read_fixed.result c.in_ok-read_fixed.was c0 c.read_fixed.ensures in
+    let c2 = then_more 1 _ (λ n. first_fault n objective) 1 (λ bytes. bytes_eq (word_at 1 (first_text bytes)) (codes "object")) c.args.lines.now c.read_fixed.new.lines c.read_choice.new.lines (g.S.Source.left c.args.source.now) (g.S.Source.left c.read_fixed.new.source) (g.S.Source.left c.read_choice.new.source) (g.S.Source.faults c.args.source.now) (g.S.Source.faults c.read_fixed.new.source) (g.S.Source.faults c.read_choice.new.source) c.in_ok-of_objects.of_objects c.read_choice.result c.in_ok-of_objects.was c1 c.read_choice.ensures in
+    let c3 = then_more 2 _ (counts_fault) 4 (counts_in) c.args.lines.now c.read_choice.new.lines c.read_counts.new.lines (g.S.Source.left c.args.source.now) (g.S.Source.left c.read_choice.new.source) (g.S.Source.left c.read_counts.new.source) (g.S.Source.faults c.args.source.now) (g.S.Source.faults c.read_choice.new.source) (g.S.Source.faults c.read_counts.new.source) c.in_ok-counts.counts c.read_counts.result c.in_ok-counts.was c2 c.read_counts.ensures.read in
+    let c4 = then_more 6 _ (λ n. first_fault n form) 1 (λ bytes. bytes_eq (word_at 1 (first_text bytes)) (codes "exact")) c.args.lines.now c.read_counts.new.lines c.read_choice-2.new.lines (g.S.Source.left c.args.source.now) (g.S.Source.left c.read_counts.new.source) (g.S.Source.left c.read_choice-2.new.source) (g.S.Source.faults c.args.source.now) (g.S.Source.faults c.read_counts.new.source) (g.S.Source.faults c.read_choice-2.new.source) c.in_ok-exact.exact c.read_choice-2.result c.in_ok-exact.was c3 c.read_choice-2.ensures in
+    let c5 = then_more 7 _ (values_fault) 3 (values_in) c.args.lines.now c.read_choice-2.new.lines c.read_values.new.lines (g.S.Source.left c.args.source.now) (g.S.Source.left c.read_choice-2.new.source) (g.S.Source.left c.read_values.new.source) (g.S.Source.faults c.args.source.now) (g.S.Source.faults c.read_choice-2.new.source) (g.S.Source.faults c.read_values.new.source) c.in_ok-values.values c.read_values.result c.in_ok-values.was c4 c.read_values.ensures.read in
+    let c6 = then_more 10 _ (λ n. first_fault n last) 1 (λ bytes. tt) c.args.lines.now c.read_values.new.lines c.read_fixed-2.new.lines (g.S.Source.left c.args.source.now) (g.S.Source.left c.read_values.new.source) (g.S.Source.left c.read_fixed-2.new.source) (g.S.Source.faults c.args.source.now) (g.S.Source.faults c.read_values.new.source) (g.S.Source.faults c.read_fixed-2.new.source) tt c.read_fixed-2.result c.in_ok-read_fixed-2.was c5 c.read_fixed-2.ensures in
+    all_done 11 _ c.args.lines.now c.read_fixed-2.new.lines (g.S.Source.left c.args.source.now) (g.S.Source.left c.read_fixed-2.new.source) (g.S.Source.faults c.args.source.now) (g.S.Source.faults c.read_fixed-2.new.source) (header_fault) header_in _ c6 c.read_fixed-2.ensures.held
+    (λ bytes p. header_parts c.args.lines.now.line bytes c.requires.first ∙ (last6 _ _ _ _ _ _ p.0.0.0.0.0.1 p.0.0.0.0.1 p.0.0.0.1 p.0.0.1 p.0.1 ∙ p.1))
+    (λ bytes p. header_same c.objective_of.result c.in_ok-of_objects.of_objects c.in_ok-counts.counts c.in_ok-exact.exact c.in_ok-values.values bytes c.objective_of.ensures p.0.0.0.0.2 p.0.0.0.2 p.0.0.2 p.0.2)

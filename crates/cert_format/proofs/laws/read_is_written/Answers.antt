@@ -1,0 +1,5 @@
+use Rattle.cert_format.proofs.Wholes.{read_written}
+use Rattle.cert_format.proofs.laws.read_is_written.Goals as goal
+
+pub returns : goal.returns
+returns c = read_written

@@ -1,0 +1,22 @@
+use Rattle.std.proofs.Common.{◌≡◌, ◌≢◌, ◌+◌, ◌-◌, ◌<◌, ◌∙◌, sym, refl, ap, subst, arith, None, Some, Ok, Err, Result, IfErr}
+use Rattle.bound_io.specs.Devices.{device}
+use Rattle.cert_format.specs.declared.fault.CertFault.{CertFault}
+use Rattle.cert_format.specs.Lines.{IsStopped, told}
+use Rattle.cert_format.specs.Readers.{HeaderRead, IsRefused}
+use Rattle.cert_format.specs.declared.reader.Stage.TheVariants.{InRecords}
+use Rattle.cert_format.specs.contracts.reader.CertReader.{the_view}
+use Rattle.cert_format.proofs.Taken.{same_past}
+use Rattle.cert_format.proofs.Going.{header_goes, header_stops}
+use Rattle.cert_format.proofs.reader.CertReader.header.Goals as goal
+
+pub returns-in-Some-clause-past : goal.returns-in-Some-clause-past
+returns-in-Some-clause-past g c = same_past c.args.self.now.lines (g.Q.Source.left c.args.source.now)
+
+pub returns-in-Ok-clause-read : goal.returns-in-Ok-clause-read
+returns-in-Ok-clause-read g c = λ none.
+    let old = the_view c.self.inside in
+    let is = c.self.view_is in
+    let at = ap (λ r. r.stage) is ∙ c.requires none in
+    let new = the_view (record { lines = c.read_header-found.new.lines; stage = InRecords; left = c.in-Ok.header.requests; fault = c.self.inside.fault }) in
+    subst (λ r. HeaderRead r new (device (g.Q.Source.left c.args.source.now) (g.Q.Source.left c.read_header-found.new.source) (g.Q.Source.faults c.args.source.now) (g.Q.Source.faults c.read_header-found.new.source)) (Ok c.in-Ok.header)) is
+    (header_goes old new _ c.in-Ok.header at (c.self.invariant.4 c.in_default.is at) refl refl (rw c.in-Ok.is at c.read_header-found.ensures.read))

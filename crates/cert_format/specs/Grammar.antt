@@ -1,0 +1,115 @@
+-- The lines of a certificate, and what may be wrong with one.
+use Rattle.std.specs.Prelude.{ℕ, ◌-◌, ◌^◌, List, [], ◌∷◌, ◌++◌, Bool, true, false, not, ◌==◌, ◌&&◌, ◌||◌, nat_le, nat_lt, Result, Ok, Err, if◌then◌else◌, length, map, slice_index, slice_index_or, codes, None, Some}
+use Rattle.std.specs.declared.option.Option.{Option}
+use Rattle.std.specs.Option.{option_or}
+use Rattle.std.specs.List.{list_any, list_all, slice_split}
+use Rattle.std.specs.Char.{is_ascii_digit}
+use Rattle.std.specs.Str.{bytes_eq}
+use Rattle.bound_base.specs.Digits.{value_after}
+use Rattle.cert_format.specs.declared.fault.TextKind.{TextKind}
+use Rattle.cert_format.specs.declared.fault.TextKind.TheVariants.{Shape, Number, Range}
+
+-- a place of a line, which has one of these words, or a number from low to high
+pub data Slot : Type 0 where
+  OneOf : List (List ℕ) → Slot
+  Within : ℕ → ℕ → Slot
+
+-- the words of a line: what stands between its spaces, which may be empty
+abbrev pub words : List ℕ → List (List ℕ)
+words text = slice_split (λ byte. byte == 32) text
+
+-- a line of fixed words
+abbrev pub fixed_line : List ℕ → List Slot
+fixed_line text = map (λ word. OneOf (word ∷ [])) (words text)
+
+-- a name, and one of two words
+abbrev pub choice_line : List ℕ → List ℕ → List ℕ → List Slot
+choice_line name first second = OneOf (name ∷ []) ∷ OneOf (first ∷ second ∷ []) ∷ []
+
+-- a name, and a number from low to high
+abbrev pub number_line : List ℕ → ℕ → ℕ → List Slot
+number_line name low high = OneOf (name ∷ []) ∷ Within low high ∷ []
+
+-- the lines of the counts, where the first states this capacity
+abbrev pub count_slots : ℕ → List (List Slot)
+count_slots capacity =
+    number_line (codes "capacity") 1 (2 ^ 56)
+    ∷ number_line (codes "requests") 0 (2 ^ 25)
+    ∷ number_line (codes "unit") 1 capacity
+    ∷ number_line (codes "denominator") 1 (2 ^ 48)
+    ∷ []
+
+-- the lines of the values
+abbrev pub value_slots : List (List Slot)
+value_slots =
+    number_line (codes "upper") 0 (2 ^ 127 - 1)
+    ∷ number_line (codes "flow") 0 (2 ^ 127 - 1)
+    ∷ number_line (codes "lower") 0 (2 ^ 127 - 1)
+    ∷ []
+
+-- the lines before the records, where the third states this capacity
+abbrev pub header_slots : ℕ → List (List Slot)
+header_slots capacity =
+    fixed_line (codes "cache-bound-certificate 1")
+    ∷ choice_line (codes "objective") (codes "object") (codes "bytes")
+    ∷ (count_slots capacity
+        ++ choice_line (codes "form") (codes "exact") (codes "plain")
+        ∷ (value_slots ++ fixed_line (codes "records") ∷ []))
+
+-- price, keep and flow
+abbrev pub record_slots : List Slot
+record_slots = Within 0 (2 ^ 126) ∷ OneOf (codes "0" ∷ codes "1" ∷ []) ∷ Within 0 (2 ^ 48) ∷ []
+
+-- the line after the records
+abbrev pub end_slots : List Slot
+end_slots = fixed_line (codes "end")
+
+-- the word may stand there, whatever number it writes
+abbrev pub can_stand : Slot → List ℕ → Bool
+can_stand (OneOf known) word = list_any (bytes_eq word) known
+can_stand (Within low high) word = not (length word == 0)
+
+-- there are as many words as places, and each may stand in its place
+abbrev pub has_shape : List Slot → List (List ℕ) → Bool
+has_shape [] [] = true
+has_shape [] (word ∷ others) = false
+has_shape (slot ∷ slots) [] = false
+has_shape (slot ∷ slots) (word ∷ others) = can_stand slot word && has_shape slots others
+
+-- digits, of which the first is above 0 or the only one
+abbrev pub is_canonical : List ℕ → Bool
+is_canonical word = list_all is_ascii_digit word && ((length word == 1) || nat_lt 48 (slice_index word 0))
+
+-- the number that a word writes
+abbrev pub number_in : List ℕ → ℕ
+number_in word = value_after 0 word
+
+-- what is wrong with the number of a word
+abbrev pub number_fault : Slot → List ℕ → Option TextKind
+number_fault (OneOf known) word = None
+number_fault (Within low high) word =
+    if not (is_canonical word) then Some Number
+    else (if nat_le low (number_in word) && nat_le (number_in word) high then None else Some Range)
+
+-- the first of these words whose number is wrong
+abbrev pub first_number_fault : List Slot → List (List ℕ) → Option TextKind
+first_number_fault [] others = None
+first_number_fault (slot ∷ slots) [] = None
+first_number_fault (slot ∷ slots) (word ∷ others) = option_or (number_fault slot word) (first_number_fault slots others)
+
+-- what is wrong with the text of a line: its shape before its numbers, and those from left to right
+abbrev pub line_fault : List Slot → List ℕ → Option TextKind
+line_fault slots text = if has_shape slots (words text) then first_number_fault slots (words text) else Some Shape
+
+-- a word of a line, of which the first is 0
+abbrev pub word_at : ℕ → List ℕ → List ℕ
+word_at place text = slice_index_or (words text) place []
+
+-- the number of a word of a line
+abbrev pub number_at : ℕ → List ℕ → ℕ
+number_at place text = number_in (word_at place text)
+
+-- the value, unless there is a fault
+abbrev pub value_unless : {A F : Type 0} → Option F → A → Result A F
+value_unless None value = Ok value
+value_unless (Some fault) value = Err fault

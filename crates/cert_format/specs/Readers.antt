@@ -1,0 +1,68 @@
+-- What a reader of a certificate has still to give.
+use Rattle.std.specs.Prelude.{◌≡◌, ◌≢◌, ℕ, ◌+◌, ◌^◌, ◌<◌, List, [], ◌++◌, codes, Result, Ok, Err, None, Some, IfSome}
+use Rattle.std.specs.declared.option.Option.{Option}
+use Rattle.bound_io.specs.Devices.{Device, HasFailed}
+use Rattle.bound_io.specs.Positions.{Position}
+use Rattle.cache_model.specs.declared.certificates.Header.{Header}
+use Rattle.cache_model.specs.declared.certificates.Record.{Record}
+use Rattle.cache_model.specs.Texts.{header_lines, line, record_line, text_of}
+use Rattle.cert_format.specs.declared.fault.CertFault.{CertFault}
+use Rattle.cert_format.specs.declared.fault.CertFault.TheVariants.{BadText, Truncated, Trailing, ReadFault}
+use Rattle.cert_format.specs.declared.reader.Stage.{Stage}
+use Rattle.cert_format.specs.declared.reader.Stage.TheVariants.{AtHeader, InRecords, AtEnd}
+use Rattle.cert_format.specs.Readings.{Reading, reading, read_records, stopped, trailing, onto, under, after_lines}
+use Rattle.cert_format.specs.Lines.{told}
+
+-- where a reader of a certificate stands: its lines, what it reads next, how many records are left, and the fault that was answered
+pub record Reader : Type 0 where
+  pub lines : Position
+  pub stage : Stage
+  pub left : ℕ
+  pub fault : Option CertFault
+
+-- a reader that has read nothing
+abbrev pub fresh : Reader
+fresh = record { lines = record { limit = 2 ^ 36; consumed = 0; line = 0; held = []; fault = None }; stage = AtHeader; left = 0; fault = None }
+
+-- what is to come after so many lines, by what is read next and how many records are left
+abbrev pub coming : Stage → ℕ → ℕ → List ℕ → Reading
+coming AtHeader left line bytes = reading bytes
+coming InRecords left line bytes = read_records left (line + 1) bytes
+coming AtEnd left line bytes = stopped (trailing (line + 1) bytes)
+
+-- the reading of what is still to come, where the reader stands in these bytes
+abbrev pub to_come : Reader → List ℕ → Reading
+to_come r bytes = coming r.stage r.left r.lines.line bytes
+
+-- the fault of an answer, if it is one
+abbrev pub err_of : {A : Type 0} → Result A CertFault → Option CertFault
+err_of (Ok value) = None
+err_of (Err fault) = Some fault
+
+-- the bytes that the reader stands in begin with these lines, which are given, and what is to come is what was, but for what was read
+pub record GoesOn (with_read : Reading → Reading) (count : ℕ) (text : List ℕ) (old new : Reader) (after : Option (List ℕ)) (bytes : List ℕ) : Type 0 where
+  pub text_is : bytes ≡ text ++ after_lines count bytes
+  pub rest : told new.lines after ≡ Some (after_lines count bytes)
+  pub coming_is : to_come old bytes ≡ with_read (to_come new (after_lines count bytes))
+
+-- why nothing more is read: what is to come is this fault, or the source failed
+abbrev pub IsRefused : Reader → Device → CertFault → Type 0
+IsRefused old source ReadFault = HasFailed source
+IsRefused old source (BadText n kind) = IfSome (told old.lines source.before) (λ bytes. to_come old bytes ≡ stopped (Some (BadText n kind)))
+IsRefused old source (Truncated n) = IfSome (told old.lines source.before) (λ bytes. to_come old bytes ≡ stopped (Some (Truncated n)))
+IsRefused old source (Trailing n) = IfSome (told old.lines source.before) (λ bytes. to_come old bytes ≡ stopped (Some (Trailing n)))
+
+-- how the header is read
+abbrev pub HeaderRead : Reader → Reader → Device → Result Header CertFault → Type 0
+HeaderRead old new source (Ok h) = (new.stage ≡ InRecords) × (new.left ≡ h.requests) × (new.lines.line ≡ 11) × IfSome (told old.lines source.before) (GoesOn (under h) 11 (text_of (header_lines h)) old new source.after)
+HeaderRead old new source (Err fault) = IsRefused old source fault
+
+-- how a record is read
+abbrev pub RecordRead : Reader → Reader → Device → Result Record CertFault → Type 0
+RecordRead old new source (Ok r) = (new.stage ≡ InRecords) × (new.left + 1 ≡ old.left) × (new.lines.line ≡ old.lines.line + 1) × IfSome (told old.lines source.before) (GoesOn (onto r) 1 (line (record_line r)) old new source.after)
+RecordRead old new source (Err fault) = IsRefused old source fault
+
+-- how the end is read: nothing is to come, and nothing is left
+abbrev pub EndRead : {A : Type 0} → Reader → Reader → Device → Result A CertFault → Type 0
+EndRead old new source (Ok value) = (new.stage ≡ AtEnd) × (new.left ≡ 0) × IfSome (told old.lines source.before) (λ bytes. (to_come old bytes ≡ stopped None) × (told new.lines source.after ≡ Some []))
+EndRead old new source (Err fault) = IsRefused old source fault

@@ -1,0 +1,102 @@
+//! Reading the lines before the records.
+ghost use Rattle.std.specs.Prelude.{◌≡◌, ◌+◌, ◌<◌, ◌≤◌, ◌^◌, None, IfOk, if◌then◌else◌};
+ghost use Rattle.bound_io.specs.Lines.{first_text};
+ghost use Rattle.bound_io.specs.Devices.{device};
+ghost use Rattle.cache_model.specs.Certificates.{IsHeaderInRange};
+ghost use Rattle.cert_format.specs.Grammar.{count_slots, number_at, value_slots};
+ghost use Rattle.cert_format.specs.Lines.{Reads};
+ghost use Rattle.cert_format.specs.Parts.{IsCountsInRange, IsValuesInRange, counts_in, values_in};
+ghost use Rattle.cert_format.specs.Readings.{header_fault, header_in, lines_fault};
+
+use crate::fault::CertFault;
+use crate::lines::{read_choice, read_fixed, read_number};
+use bound_io::{LineReader, Source};
+use cache_model::{Header, Objective};
+
+/// The counts of a header.
+#[derive(Clone, Copy)]
+struct Counts {
+    capacity: u64,
+    requests: u32,
+    unit: u64,
+    denominator: u64,
+}
+
+/// The values of a header, numerators over its denominator but for the last.
+#[derive(Clone, Copy)]
+struct Values {
+    upper: u128,
+    flow: u128,
+    lower: u128,
+}
+
+fn read_counts<S: Source>(lines: &mut LineReader, source: &mut S) -> Result<Counts, CertFault>
+    requires limit { lines.old.limit ≡ 2 ^ 36 }
+    requires few { lines.old.line < 2 ^ 25 }
+    requires no_fault { lines.old.fault ≡ None }
+    ensures range { IfOk result IsCountsInRange }
+    ensures read { Reads (λ bytes. lines_fault (lines.old.line + 1) (count_slots (number_at 1 (first_text bytes))) bytes) 4 counts_in lines.old lines.new (device (S.left source.old) (S.left source.new) (S.faults source.old) (S.faults source.new)) result }
+{
+    let capacity = read_number(lines, source, b"capacity", 1, 1 << 56)?;
+    let requests = read_number(lines, source, b"requests", 0, 1 << 25)?;
+    let unit = read_number(lines, source, b"unit", 1, capacity)?;
+    let denominator = read_number(lines, source, b"denominator", 1, 1 << 48)?;
+    Ok(Counts {
+        capacity: capacity as u64,
+        requests: requests as u32,
+        unit: unit as u64,
+        denominator: denominator as u64,
+    })
+}
+
+fn read_values<S: Source>(lines: &mut LineReader, source: &mut S) -> Result<Values, CertFault>
+    requires limit { lines.old.limit ≡ 2 ^ 36 }
+    requires few { lines.old.line < 2 ^ 25 }
+    requires no_fault { lines.old.fault ≡ None }
+    ensures range { IfOk result IsValuesInRange }
+    ensures read { Reads (lines_fault (lines.old.line + 1) value_slots) 3 values_in lines.old lines.new (device (S.left source.old) (S.left source.new) (S.faults source.old) (S.faults source.new)) result }
+{
+    let most = (1 << 127) - 1;
+    Ok(Values {
+        upper: read_number(lines, source, b"upper", 0, most)?,
+        flow: read_number(lines, source, b"flow", 0, most)?,
+        lower: read_number(lines, source, b"lower", 0, most)?,
+    })
+}
+
+fn objective_of(of_objects: bool) -> Objective
+    ensures { result ≡ (if of_objects then Objective.Object else Objective.Bytes) }
+{
+    if of_objects {
+        Objective::Object
+    } else {
+        Objective::Bytes
+    }
+}
+
+/// Reads the lines before the records, which are the first ones.
+pub fn read_header<S: Source>(lines: &mut LineReader, source: &mut S) -> Result<Header, CertFault>
+    requires limit { lines.old.limit ≡ 2 ^ 36 }
+    requires first { lines.old.line ≡ 0 }
+    requires no_fault { lines.old.fault ≡ None }
+    ensures range { IfOk result IsHeaderInRange }
+    ensures read { Reads header_fault 11 header_in lines.old lines.new (device (S.left source.old) (S.left source.new) (S.faults source.old) (S.faults source.new)) result }
+{
+    read_fixed(lines, source, b"cache-bound-certificate 1")?;
+    let of_objects = read_choice(lines, source, b"objective", b"object", b"bytes")?;
+    let counts = read_counts(lines, source)?;
+    let exact = read_choice(lines, source, b"form", b"exact", b"plain")?;
+    let values = read_values(lines, source)?;
+    read_fixed(lines, source, b"records")?;
+    Ok(Header {
+        objective: objective_of(of_objects),
+        capacity: counts.capacity,
+        requests: counts.requests,
+        unit: counts.unit,
+        denominator: counts.denominator,
+        exact,
+        upper: values.upper,
+        flow: values.flow,
+        lower: values.lower,
+    })
+}

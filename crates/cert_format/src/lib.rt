@@ -1,0 +1,21 @@
+//! The text of a certificate, both ways: a header, records and the end are written to a sink, and read from a source
+//! line by line.
+//!
+//! The rules are "The text of a certificate" and "The reading of a certificate" in docs/DEFINITIONS.md.
+#![tactic(auto)]
+
+mod fault;
+mod header;
+mod laws;
+mod line;
+mod lines;
+mod number;
+mod reader;
+mod text;
+mod writing;
+
+pub use cache_model::{Header, Objective, Record};
+pub use fault::{CertFault, TextKind};
+pub use laws::{read_is_in_range, read_is_written, written_is_read};
+pub use reader::CertReader;
+pub use writing::{write_end, write_header, write_record};

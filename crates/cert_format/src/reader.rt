@@ -1,0 +1,182 @@
+//! A reader of certificates.
+ghost use Rattle.std.specs.Prelude.{◌≡◌, ◌≢◌, ◌+◌, ◌^◌, ◌<◌, ◌≤◌, IfOk, IfErr, IfSome, length, None, Err};
+ghost use Rattle.bound_io.specs.Devices.{IsUntouched, device};
+ghost use Rattle.bound_io.specs.Reading.{LosesFront};
+ghost use Rattle.cache_model.specs.Certificates.{IsHeaderInRange, IsRecordInRange};
+ghost use Rattle.cert_format.specs.Lines.{IsPast, IsWithin, Reads, told};
+ghost use Rattle.cert_format.specs.Finish.{finish_fault, lines_left};
+
+use crate::fault::CertFault;
+use crate::header::read_header;
+use crate::lines::{read_end, read_nothing, read_record};
+use bound_base::NoMemory;
+use bound_io::{LineReader, Source};
+use cache_model::{Header, Record};
+use std::alloc::Global;
+use std::marker::Model;
+
+/// What a reader reads next.
+#[derive(Clone, Copy, PartialEq, Eq)]
+pub enum Stage {
+    AtHeader,
+    InRecords,
+    AtEnd,
+}
+
+// Reads the end, where it wasn't read yet, and looks whether nothing follows it.
+fn finish<Q: Source>(
+    lines: &mut LineReader,
+    source: &mut Q,
+    stage: Stage,
+) -> Result<(), CertFault>
+    requires limit { lines.old.limit ≡ 2 ^ 36 }
+    requires few { lines.old.line < 2 ^ 25 + 100 }
+    requires no_fault { lines.old.fault ≡ None }
+    ensures { Reads (finish_fault stage (lines.old.line + 1)) (lines_left stage) (λ _. tt) lines.old lines.new (device (Q.left source.old) (Q.left source.new) (Q.faults source.old) (Q.faults source.new)) result }
+{
+    match stage {
+        Stage::AtEnd => read_nothing(lines, source),
+        Stage::AtHeader | Stage::InRecords => read_end(lines, source),
+    }
+}
+
+/// Reads a certificate line by line, through a buffer of 65,536 bytes.
+///
+/// It doesn't keep the source: each reading call is given it. Over one source it reads what all its bytes say, in
+/// whatever pieces it gives them. A reader that has answered a fault answers the same from then on, and reads nothing
+/// more.
+#[derive(Drop)]
+pub struct CertReader {
+    lines: LineReader,
+    stage: Stage,
+    left: u32,
+    fault: Option<CertFault>,
+}
+
+impl Model for CertReader {
+    ghost use Rattle.std.specs.Prelude.{◌≡◌, ◌+◌, ◌≤◌, ◌^◌, None, length};
+    ghost use Rattle.cert_format.specs.declared.reader.Stage.TheVariants.{AtHeader};
+    ghost use Rattle.cert_format.specs.Finish.{lines_left};
+    ghost use Rattle.cert_format.specs.Readers.{Reader};
+
+    ghost Value = { Reader };
+
+    ghost view = { λ r. record { lines = r.lines; stage = r.stage; left = r.left; fault = r.fault } };
+
+    ghost invariant = { λ r.
+        (r.lines.limit ≡ 2 ^ 36) × (length r.lines.held ≤ 65536) × (r.fault ≡ None → r.lines.fault ≡ None)
+        × (r.fault ≡ None → r.lines.line + r.left + lines_left r.stage ≤ 2 ^ 25 + 12) × (r.fault ≡ None → r.stage ≡ AtHeader → r.lines.line ≡ 0) };
+}
+
+impl CertReader {
+    ghost use Rattle.cert_format.specs.declared.reader.Stage.TheVariants.{AtHeader, InRecords};
+    ghost use Rattle.cert_format.specs.Readers.{EndRead, HeaderRead, RecordRead, err_of, fresh};
+
+    /// A reader that has read nothing. It takes all its memory here.
+    pub fn new(alloc: Global) -> Result<Self, NoMemory>
+        ensures { IfOk result (λ reader. reader ≡ fresh) }
+    {
+        Ok(CertReader {
+            lines: LineReader::new(alloc, 1 << 36)?,
+            stage: Stage::AtHeader,
+            left: 0,
+            fault: None,
+        })
+    }
+
+    /// How many bytes were taken from the source.
+    pub fn taken(&self) -> u64
+        ensures taken { result ≡ self.now.lines.consumed + length self.now.lines.held }
+        ensures ahead { result ≤ self.now.lines.consumed + 65536 }
+    {
+        self.lines.taken()
+    }
+
+    /// How many bytes the lines given have, with their LFs.
+    pub fn consumed(&self) -> u64
+        ensures { result ≡ self.now.lines.consumed }
+    {
+        self.lines.consumed()
+    }
+
+    /// How many lines were given.
+    pub fn line(&self) -> u64
+        ensures { result ≡ self.now.lines.line }
+    {
+        self.lines.line()
+    }
+
+    /// The header. This is the first call.
+    pub fn header<Q: Source>(&mut self, source: &mut Q) -> Result<Header, CertFault>
+        requires { self.old.fault ≡ None → self.old.stage ≡ AtHeader }
+        ensures read { self.old.fault ≡ None → HeaderRead self.old self.new (device (Q.left source.old) (Q.left source.new) (Q.faults source.old) (Q.faults source.new)) result }
+        ensures range { IfOk result IsHeaderInRange }
+        ensures fault { self.old.fault ≡ None → self.new.fault ≡ err_of result }
+        ensures again { IfSome self.old.fault (λ fault. (result ≡ Err fault) × (self.new ≡ self.old) × IsUntouched (device (Q.left source.old) (Q.left source.new) (Q.faults source.old) (Q.faults source.new))) }
+        ensures within { self.old.fault ≡ None → IfErr result (IsWithin self.new.lines.line) }
+        ensures past { IfSome (told self.old.lines (Q.left source.old)) (IsPast self.old.lines self.new.lines) }
+        ensures ahead { length self.new.lines.held ≤ 65536 }
+        ensures source { LosesFront (Q.left source.old) (Q.left source.new) }
+        ensures later { Q.faults source.old ≤ Q.faults source.new }
+    {
+        if let Some(fault) = self.fault {
+            return Err(fault);
+        }
+        let found = read_header(&mut self.lines, source);
+        match found {
+            Ok(header) => {
+                self.stage = Stage::InRecords;
+                self.left = header.requests;
+            }
+            Err(fault) => self.fault = Some(fault),
+        }
+        found
+    }
+
+    /// The next record. Fewer records were read than the header says.
+    pub fn next_record<Q: Source>(&mut self, source: &mut Q) -> Result<Record, CertFault>
+        requires { self.old.fault ≡ None → (self.old.stage ≡ InRecords) × (0 < self.old.left) }
+        ensures read { self.old.fault ≡ None → RecordRead self.old self.new (device (Q.left source.old) (Q.left source.new) (Q.faults source.old) (Q.faults source.new)) result }
+        ensures range { IfOk result IsRecordInRange }
+        ensures fault { self.old.fault ≡ None → self.new.fault ≡ err_of result }
+        ensures again { IfSome self.old.fault (λ fault. (result ≡ Err fault) × (self.new ≡ self.old) × IsUntouched (device (Q.left source.old) (Q.left source.new) (Q.faults source.old) (Q.faults source.new))) }
+        ensures within { self.old.fault ≡ None → IfErr result (IsWithin self.new.lines.line) }
+        ensures past { IfSome (told self.old.lines (Q.left source.old)) (IsPast self.old.lines self.new.lines) }
+        ensures ahead { length self.new.lines.held ≤ 65536 }
+        ensures source { LosesFront (Q.left source.old) (Q.left source.new) }
+        ensures later { Q.faults source.old ≤ Q.faults source.new }
+    {
+        if let Some(fault) = self.fault {
+            return Err(fault);
+        }
+        let found = read_record(&mut self.lines, source);
+        match found {
+            Ok(_) => self.left -= 1,
+            Err(fault) => self.fault = Some(fault),
+        }
+        found
+    }
+
+    /// Reads the end, where all records were read, and what follows it, which is nothing.
+    pub fn finish_text<Q: Source>(&mut self, source: &mut Q) -> Result<(), CertFault>
+        requires { self.old.fault ≡ None → (self.old.stage ≢ AtHeader) × (self.old.left ≡ 0) }
+        ensures read { self.old.fault ≡ None → EndRead self.old self.new (device (Q.left source.old) (Q.left source.new) (Q.faults source.old) (Q.faults source.new)) result }
+        ensures fault { self.old.fault ≡ None → self.new.fault ≡ err_of result }
+        ensures again { IfSome self.old.fault (λ fault. (result ≡ Err fault) × (self.new ≡ self.old) × IsUntouched (device (Q.left source.old) (Q.left source.new) (Q.faults source.old) (Q.faults source.new))) }
+        ensures within { self.old.fault ≡ None → IfErr result (IsWithin self.new.lines.line) }
+        ensures past { IfSome (told self.old.lines (Q.left source.old)) (IsPast self.old.lines self.new.lines) }
+        ensures ahead { length self.new.lines.held ≤ 65536 }
+        ensures source { LosesFront (Q.left source.old) (Q.left source.new) }
+        ensures later { Q.faults source.old ≤ Q.faults source.new }
+    {
+        if let Some(fault) = self.fault {
+            return Err(fault);
+        }
+        let finished = finish(&mut self.lines, source, self.stage);
+        match finished {
+            Ok(()) => self.stage = Stage::AtEnd,
+            Err(fault) => self.fault = Some(fault),
+        }
+        finished
+    }
+}
