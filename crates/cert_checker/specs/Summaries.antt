@@ -1,0 +1,58 @@
+-- What a checker keeps, and the requests and records that it stands for.
+use Rattle.std.specs.Prelude.{◌≡◌, ℕ, ◌<◌, ◌≤◌, ◌^◌, List, [], length, take, sum, sum_by, All, None}
+use Rattle.std.specs.declared.option.Option.{Option}
+use Rattle.std.specs.Map.{keys_of}
+use Rattle.cache_model.specs.declared.objects.Object.{Object}
+use Rattle.cache_model.specs.declared.certificates.Header.{Header}
+use Rattle.cache_model.specs.declared.certificates.Record.{Record}
+use Rattle.cache_model.specs.Play.{score, total_size}
+use Rattle.cache_model.specs.Objects.{objects_of, IsLatest}
+use Rattle.cache_model.specs.Keeps.{contents_of, held_before, is_kept, latest_sum}
+use Rattle.cache_model.specs.Intervals.{surplus}
+use Rattle.cache_model.specs.Certificates.{eligible_of, flow_at, flow_of, keeps_of, prices_of, IsHeaderInRange, IsRecordInRange}
+use Rattle.cert_checker.specs.declared.summary.Seen.{Seen}
+use Rattle.cert_checker.specs.declared.summary.Sums.{Sums}
+use Rattle.cert_checker.specs.Rules.{record_fault}
+
+-- what is kept: the header, an entry for each object, and the sums
+pub record Summary : Type 0 where
+  pub header : Header
+  pub entries : List (Object × Seen)
+  pub sums : Sums
+
+-- what is kept of an object is what its latest request and the record of that say
+pub record IsSeen (trace : List Object) (records : List Record) (x : Object) (seen : Seen) : Type 0 where
+  pub latest : IsLatest trace x seen.latest
+  pub price_before : seen.price_before ≡ sum (take seen.latest (prices_of records))
+  pub keep : seen.keep ≡ is_kept (keeps_of records) seen.latest
+  pub flow : seen.flow ≡ flow_at records seen.latest
+
+-- the sums are those of the requests and records
+pub record AreSums (h : Header) (trace : List Object) (records : List Record) (sums : Sums) : Type 0 where
+  pub steps : sums.steps ≡ length trace
+  pub prices : sums.prices ≡ sum (prices_of records)
+  pub load : sums.load ≡ total_size (held_before trace (keeps_of records) (length trace))
+  pub flows : sums.flows ≡ latest_sum trace (flow_at records) (length trace)
+  pub surpluses : sums.surpluses ≡ sum_by (surplus h.unit h.denominator (prices_of records)) (eligible_of trace h)
+  pub values : sums.values ≡ flow_of trace h records
+  pub score : sums.score ≡ score h.objective trace (contents_of trace (keeps_of records))
+
+-- the size of the object is in the range of sizes
+abbrev pub IsSized : Object → Type 0
+IsSized x = (1 ≤ x.size) × (x.size ≤ 2 ^ 48)
+
+-- the header, the requests and the records so far, one for each request, are in range
+pub record IsInput (h : Header) (trace : List Object) (records : List Record) : Type 0 where
+  pub header_in_range : IsHeaderInRange h
+  pub sizes_in_range : All IsSized trace
+  pub records_in_range : All IsRecordInRange records
+  pub one_record_each : length records ≡ length trace
+  pub within : length trace ≤ h.requests
+
+-- no record fails a rule, and what is kept is the summary of the requests and records
+pub record StandsFor (trace : List Object) (records : List Record) (s : Summary) : Type 0 where
+  pub input : IsInput s.header trace records
+  pub no_fault : (t : ℕ) → t < length trace → record_fault s.header trace records t ≡ None
+  pub objects : keys_of s.entries ≡ objects_of trace
+  pub seen : All (λ (x, seen). IsSeen trace records x seen) s.entries
+  pub sums : AreSums s.header trace records s.sums

@@ -1,0 +1,10 @@
+//! The check of a certificate, in one pass over the requests of a trace and the lines of the certificate. It keeps one
+//! entry for each object.
+//!
+//! The rules are "The rules of a certificate" and "The walk of a check" in docs/DEFINITIONS.md.
+#![tactic(auto)]
+
+mod summary;
+
+pub use cert_format::{Header, InvalidKind, Record};
+pub use summary::{Seen, Sums};
