@@ -1,5 +1,5 @@
 -- The rules of a certificate, in their order: those of a record, and those of the end.
-use Rattle.std.specs.Prelude.{ℕ, ◌+◌, ◌*◌, ◌/◌, ◌%◌, ◌^◌, Bool, true, false, not, ◌&&◌, ◌==◌, nat_lt, nat_le, if◌then◌else◌, List, [], ◌∷◌, length, slice_index_or, take, find, sum, None, Some}
+use Rattle.std.specs.Prelude.{ℕ, ◌+◌, ◌*◌, ◌/◌, ◌%◌, ◌^◌, Bool, true, false, not, ◌&&◌, ◌==◌, nat_lt, nat_le, if◌then◌else◌, List, [], ◌∷◌, ◌++◌, length, slice_index_or, take, find, sum, None, Some, Result, Ok, Err}
 use Rattle.std.specs.declared.option.Option.{Option}
 use Rattle.std.specs.Option.{option_map}
 use Rattle.std.specs.List.{list_any}
@@ -10,6 +10,8 @@ use Rattle.cache_model.specs.Play.{same_object, gain_of, score}
 use Rattle.cache_model.specs.Objects.{request_at, numbers_of}
 use Rattle.cache_model.specs.Keeps.{contents_of, is_latest, latest_sum, load_after}
 use Rattle.cache_model.specs.Certificates.{flow_at, flow_of, keeps_of, prices_of, units_of, unpriced, upper_of}
+use Rattle.cert_checker.specs.declared.rules.Figures.{Figures}
+use Rattle.cert_checker.specs.declared.verdict.Counted.{Counted}
 use Rattle.cert_format.specs.declared.invalid.InvalidKind.{InvalidKind}
 use Rattle.cert_format.specs.declared.invalid.InvalidKind.TheVariants.{SumLimit, LastPrice, UnitNotDivisor, NotDivisible, Overfull, FlowAboveWeight, FlowOverfull, Unused, UpperDiffers, FlowDiffers, LowerDiffers, ExactGap}
 
@@ -27,14 +29,6 @@ first_some (Some a ∷ others) = Some a
 abbrev pub divides : ℕ → ℕ → Bool
 divides a b = b % a == 0
 
--- what the requests and records through one of them give: the sum of the prices, whether it is the last, whether its object was requested before, and the loads of the kept objects and of the flows after it
-pub record Figures : Type 0 where
-  pub prices : ℕ
-  pub last : Bool
-  pub again : Bool
-  pub load : ℕ
-  pub flows : ℕ
-
 -- the weight of an object, which is 0 where it does not fit the capacity
 abbrev pub weight_in : Header → Object → ℕ
 weight_in h x = if nat_le x.size h.capacity then x.size / h.unit else 0
@@ -43,17 +37,31 @@ weight_in h x = if nat_le x.size h.capacity then x.size / h.unit else 0
 abbrev pub ends_interval : Header → Object → Figures → Bool
 ends_interval h x now = now.again && nat_le x.size h.capacity
 
--- the rules of a record of a request of x, in their order
-abbrev pub record_rules : Header → Object → Record → Figures → List (Option InvalidKind)
-record_rules h x r now =
+-- the rules of the price
+abbrev pub price_rules : Header → Record → Figures → List (Option InvalidKind)
+price_rules h r now =
     found (nat_lt (2 ^ 126) (units_of h * now.prices)) SumLimit
     ∷ found (now.last && not (r.price == 0)) (LastPrice r.price)
-    ∷ found (ends_interval h x now && not (divides h.unit x.size)) (UnitNotDivisor h.unit x.size)
+    ∷ []
+
+-- the rules of an interval that ends
+abbrev pub interval_rules : Header → Object → Figures → List (Option InvalidKind)
+interval_rules h x now =
+    found (ends_interval h x now && not (divides h.unit x.size)) (UnitNotDivisor h.unit x.size)
     ∷ found (ends_interval h x now && h.exact && not (divides (x.size / h.unit) (h.denominator * gain_of h.objective x))) (NotDivisible (x.size / h.unit))
-    ∷ found (nat_lt h.capacity now.load) (Overfull now.load h.capacity)
+    ∷ []
+
+-- the rules of the loads and of the flow
+abbrev pub load_rules : Header → Object → Record → Figures → List (Option InvalidKind)
+load_rules h x r now =
+    found (nat_lt h.capacity now.load) (Overfull now.load h.capacity)
     ∷ found (nat_lt (weight_in h x) r.flow) (FlowAboveWeight r.flow (weight_in h x))
     ∷ found (nat_lt (units_of h) now.flows) (FlowOverfull now.flows (units_of h))
     ∷ []
+
+-- the rules of a record of a request of x, in their order
+abbrev pub record_rules : Header → Object → Record → Figures → List (Option InvalidKind)
+record_rules h x r now = price_rules h r now ++ interval_rules h x now ++ load_rules h x r now
 
 -- what record t states
 abbrev pub record_at : List Record → ℕ → Record
@@ -81,12 +89,6 @@ record_fault h trace records t = first_some (record_rules h (request_at trace t)
 abbrev pub first_unused : List Object → List Record → Option ℕ
 first_unused trace records = find (λ a. is_latest trace (length trace) a && nat_lt 0 (flow_at records a)) (numbers_of trace)
 
--- the bound of the prices, the value of the flows, and the score of the keeps
-pub record Counted : Type 0 where
-  pub upper : ℕ
-  pub flow : ℕ
-  pub lower : ℕ
-
 -- the rules of the end, in their order
 abbrev pub end_rules : Header → Option ℕ → Counted → List (Option InvalidKind)
 end_rules h unused counted =
@@ -108,3 +110,8 @@ counted_of h trace records = record {
 -- the first rule that the end fails
 abbrev pub end_fault : Header → List Object → List Record → Option InvalidKind
 end_fault h trace records = first_some (end_rules h (first_unused trace records) (counted_of h trace records))
+
+-- the test passes, unless there is a fault
+abbrev pub unless_fault : Option InvalidKind → Result (Unit {0}) InvalidKind
+unless_fault None = Ok tt
+unless_fault (Some kind) = Err kind

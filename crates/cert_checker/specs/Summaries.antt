@@ -1,12 +1,13 @@
 -- What a checker keeps, and the requests and records that it stands for.
-use Rattle.std.specs.Prelude.{◌≡◌, ℕ, ◌<◌, ◌≤◌, ◌^◌, List, [], length, take, sum, sum_by, All, None}
+use Rattle.std.specs.Prelude.{◌≡◌, ℕ, ◌<◌, ◌≤◌, ◌*◌, ◌^◌, List, length, take, sum, sum_by, All, MatchOption, None}
 use Rattle.std.specs.declared.option.Option.{Option}
-use Rattle.std.specs.Map.{keys_of}
+use Rattle.std.specs.List.{IsDistinct}
+use Rattle.std.specs.Map.{keys_of, lookup}
 use Rattle.cache_model.specs.declared.objects.Object.{Object}
 use Rattle.cache_model.specs.declared.certificates.Header.{Header}
 use Rattle.cache_model.specs.declared.certificates.Record.{Record}
-use Rattle.cache_model.specs.Play.{score, total_size}
-use Rattle.cache_model.specs.Objects.{objects_of, IsLatest}
+use Rattle.cache_model.specs.Play.{same_object, score, total_size}
+use Rattle.cache_model.specs.Objects.{objects_of, IsLatest, IsNew}
 use Rattle.cache_model.specs.Keeps.{contents_of, held_before, is_kept, latest_sum}
 use Rattle.cache_model.specs.Intervals.{surplus}
 use Rattle.cache_model.specs.Certificates.{eligible_of, flow_at, flow_of, keeps_of, prices_of, IsHeaderInRange, IsRecordInRange}
@@ -49,10 +50,25 @@ pub record IsInput (h : Header) (trace : List Object) (records : List Record) : 
   pub one_record_each : length records ≡ length trace
   pub within : length trace ≤ h.requests
 
--- no record fails a rule, and what is kept is the summary of the requests and records
-pub record StandsFor (trace : List Object) (records : List Record) (s : Summary) : Type 0 where
-  pub input : IsInput s.header trace records
-  pub no_fault : (t : ℕ) → t < length trace → record_fault s.header trace records t ≡ None
+-- no record fails a rule, and what is kept is the summary of the header, the requests and the records
+pub record StandsFor (h : Header) (trace : List Object) (records : List Record) (s : Summary) : Type 0 where
+  pub header : s.header ≡ h
+  pub input : IsInput h trace records
+  pub no_fault : (t : ℕ) → t < length trace → record_fault h trace records t ≡ None
   pub objects : keys_of s.entries ≡ objects_of trace
-  pub seen : All (λ (x, seen). IsSeen trace records x seen) s.entries
-  pub sums : AreSums s.header trace records s.sums
+  pub seen : (x : Object) → MatchOption (lookup (same_object x) s.entries) (IsNew trace x) (IsSeen trace records x)
+  pub sums : AreSums h trace records s.sums
+
+-- sums stay small: each request adds so much at most
+pub record AreSmall (sums : Sums) : Type 0 where
+  pub surpluses : sums.surpluses ≤ 2 ^ 96 * sums.steps
+  pub values : sums.values ≤ 2 ^ 96 * sums.steps
+  pub score : sums.score ≤ 2 ^ 48 * sums.steps
+
+-- a checker stands for some requests and records, has one entry for each object, and its sums are small
+pub record IsChecker (s : Summary) : Type 0 where
+  pub unique : IsDistinct same_object (keys_of s.entries)
+  pub trace : List Object
+  pub records : List Record
+  pub stands : StandsFor s.header trace records s
+  pub small : AreSmall s.sums

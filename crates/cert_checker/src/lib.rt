@@ -4,7 +4,14 @@
 //! The rules are "The rules of a certificate" and "The walk of a check" in docs/DEFINITIONS.md.
 #![tactic(auto)]
 
+mod checker;
+mod end_check;
+mod record_check;
+mod rules;
+mod stepping;
 mod summary;
+mod verdict;
 
 pub use cert_format::{Header, InvalidKind, Record};
-pub use summary::{Seen, Sums};
+pub use checker::{Checker, StepFault};
+pub use verdict::Verdict;

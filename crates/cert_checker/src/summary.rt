@@ -22,3 +22,11 @@ pub struct Sums {
     pub values: u128,
     pub score: u128,
 }
+
+/// What the interval that ends at a request adds: its surplus, the value of its flow, and the gain if it is a hit.
+#[derive(Clone, Copy, Debug, PartialEq, Eq)]
+pub struct Added {
+    pub surplus: u128,
+    pub value: u128,
+    pub gain: u64,
+}
