@@ -6,6 +6,7 @@
 
 mod checker;
 mod end_check;
+mod laws;
 mod record_check;
 mod rules;
 mod stepping;
@@ -14,4 +15,5 @@ mod verdict;
 
 pub use cert_format::{Header, InvalidKind, Record};
 pub use checker::{Checker, StepFault};
+pub use laws::faultless_is_valid;
 pub use verdict::Verdict;
