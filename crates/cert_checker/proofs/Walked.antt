@@ -1,9 +1,9 @@
 -- A walk without an event, over the readings of a trace and of a certificate.
-use Rattle.std.proofs.Common.{◌≡◌, ◌≢◌, ℕ, suc, zero, ◌+◌, ◌<◌, ◌≤◌, ◌∙◌, sym, refl, ap, subst, Bool, true, false, not, ◌==◌, cond, nat_lt, List, [], ◌∷◌, ◌++◌, length, map, arith, None, Some, is_some, true≢false, unwrap_or, eq-eqb, ⊎_elim}
+use Rattle.std.proofs.Common.{◌≡◌, ◌≢◌, ℕ, suc, zero, ◌+◌, ◌<◌, ◌≤◌, ◌∙◌, sym, refl, ap, subst, Bool, true, false, ◌==◌, cond, nat_lt, List, [], ◌∷◌, ◌++◌, length, map, arith, None, Some, is_some, true≢false, unwrap_or, eq-eqb, ⊎_elim}
 use Rattle.std.specs.declared.option.Option.{Option}
 use Rattle.std.specs.Option.{option_or, option_map}
 use Rattle.std.specs.List.{range_with_len}
-use Rattle.std.proofs.lemmas.Bool.{cases_Bool, cases_eq, cases_lt, eqb-false, eqb-true, le-ltb, ltb-false, ne_eqb}
+use Rattle.std.proofs.lemmas.Bool.{cases_eq, cases_lt, eqb-false, le-ltb, ltb-false, ne_eqb}
 use Rattle.cache_model.specs.declared.objects.Object.{Object}
 use Rattle.cache_model.specs.declared.certificates.Header.{Header}
 use Rattle.cache_model.specs.declared.certificates.Record.{Record}
@@ -14,16 +14,16 @@ use Rattle.trace_any.specs.Readings as traces
 use Rattle.cert_format.specs.declared.fault.TextKind.{TextKind}
 use Rattle.cert_format.specs.declared.fault.TextKind.TheVariants.{TooLong}
 use Rattle.cert_format.specs.declared.fault.CertFault.{CertFault}
-use Rattle.cert_format.specs.declared.fault.CertFault.TheVariants.{BadText, Truncated, Trailing, ReadFault}
+use Rattle.cert_format.specs.declared.fault.CertFault.TheVariants.{BadText, Truncated, Trailing}
 use Rattle.cert_format.specs.declared.invalid.InvalidKind.{InvalidKind}
 use Rattle.cert_format.specs.declared.invalid.InvalidKind.TheVariants.{RequestCount}
 use Rattle.cert_format.specs.Grammar.{Slot, end_slots, header_slots, line_fault, number_at, record_slots}
 use Rattle.cert_format.specs.Laws.{IsSpelled}
-use Rattle.cert_format.specs.Readings.{Reading, after_lines, end_fault as text_end_fault, first_fault, header_fault, header_in, in_line, line_text, lines_fault, onto, read_records, reading, record_in, stopped, trailing, under, unless, whole}
+use Rattle.cert_format.specs.Readings.{Reading, after_lines, first_fault, header_fault, header_in, in_line, line_text, lines_fault, onto, read_records, reading, record_in, trailing, under, unless, whole}
 use Rattle.cert_format.proofs.Wholes.{read_written, written_read}
 use Rattle.cert_checker.specs.Laws.{IsFaultless, PassingIsValid}
 use Rattle.cert_checker.specs.Rules.{end_fault, first_some, found, record_fault}
-use Rattle.cert_checker.specs.Walks.{Event, Invalid, Refused, at_line, closing, refusal_event, text_after, text_event, turn, turns, walk, walk_under}
+use Rattle.cert_checker.specs.Walks.{at_line, closing, refusal_event, text_after, text_event, turn, turns, walk_under}
 use Rattle.cert_checker.proofs.Faultless.{IsFaultless-valid}
 use Rattle.cert_checker.proofs.Passing.{first_some-append, first_some-head, first_some-none, first_some-tail, found-none, found-not}
 use Rattle.cert_checker.proofs.Validity.{IsValid-faultless}
@@ -250,11 +250,14 @@ module _ (trace : traces.Reading) (bytes : List ℕ) (h : Header) (headed : (rea
       let is : IsSpelled bytes spelled.0 spelled.1 = spelled.2 in
       let same : spelled.0 ≡ h = ap (λ o. unwrap_or o h) (sym (ap (λ (r : Reading). r.header) is.read) ∙ headed) in
       let same_records : (reading bytes).records ≡ spelled.1 = ap (λ (r : Reading). r.records) is.read in
-      let cert : IsCertificate h spelled.1 = subst (λ g. IsCertificate g spelled.1) same is.certificate in
-      (h, spelled.1, is.text ∙ ap (λ g. cert_text g spelled.1) same,
+      let cert : IsCertificate h spelled.1 = subst (λ g. IsCertificate g spelled.1) same is.certificate in (
+        h,
+        spelled.1,
+        is.text ∙ ap (λ g. cert_text g spelled.1) same,
         IsValid-faultless h trace.requests spelled.1 cert many
-        (λ t low. ap (λ rs. record_fault h trace.requests rs t) (sym same_records) ∙ (each_turn t low).rules)
-        (ap (end_fault h trace.requests) (sym same_records) ∙ last.rules))
+            (λ t low. ap (λ rs. record_fault h trace.requests rs t) (sym same_records) ∙ (each_turn t low).rules)
+            (ap (end_fault h trace.requests) (sym same_records) ∙ last.rules),
+      )
 
 -- ---- and back
 walk-valid : (trace : traces.Reading) → trace.refused ≡ None → (h : Header) (records : List Record) → IsValid trace.requests h records → walk_under (Some h) trace (whole h records) ≡ None
@@ -282,8 +285,9 @@ walk-passes trace bytes (Some h) headed passes = certificate_of trace bytes h he
 
 -- a walk passes exactly where the certificate is valid
 pub passing_is_valid_lem : PassingIsValid
-passing_is_valid_lem trace bytes whole_trace =
-    (λ passes. walk-passes trace bytes (reading bytes).header refl passes,
-      λ (h, records, text, v).
+passing_is_valid_lem trace bytes whole_trace = (
+  λ passes. walk-passes trace bytes (reading bytes).header refl passes,
+  λ (h, records, text, v).
       let read : reading bytes ≡ whole h records = ap reading text ∙ written_read h records v.certificate in
-      ap (λ (c : Reading). walk_under c.header trace c) read ∙ walk-valid trace whole_trace h records v)
+      ap (λ (c : Reading). walk_under c.header trace c) read ∙ walk-valid trace whole_trace h records v,
+)
