@@ -1,0 +1,37 @@
+-- What a checker answers, for every header, requests and records that it stands for.
+use Rattle.std.specs.Prelude.{◌≡◌, List, [], ◌∷◌, ◌++◌, length, Result, Ok, Err, None, Some}
+use Rattle.std.specs.declared.option.Option.{Option}
+use Rattle.cache_model.specs.declared.objects.Object.{Object}
+use Rattle.cache_model.specs.declared.certificates.Header.{Header}
+use Rattle.cache_model.specs.declared.certificates.Record.{Record}
+use Rattle.cache_model.specs.Objects.{objects_of}
+use Rattle.cache_model.specs.Certificates.{BoundsEveryPlay, IsValid}
+use Rattle.cert_format.specs.declared.invalid.InvalidKind.{InvalidKind}
+use Rattle.cert_checker.specs.declared.checker.StepFault.{StepFault}
+use Rattle.cert_checker.specs.declared.checker.StepFault.TheVariants.{Rule, NoMemory}
+use Rattle.cert_checker.specs.declared.verdict.Verdict.{Verdict}
+use Rattle.cert_checker.specs.Rules.{record_fault, end_fault}
+use Rattle.cert_checker.specs.Summaries.{Summary, StandsFor}
+
+-- the fault of the record after these: the first rule that fails, or want of memory where none does
+abbrev pub IsRuleOr : Option InvalidKind → StepFault → Type 0
+IsRuleOr fault (Rule kind) = fault ≡ Some kind
+IsRuleOr fault NoMemory = fault ≡ None
+
+-- one more request and record: the checker stands for the lists with them, or names the first rule that the record fails
+abbrev pub IsStepped : Header → List Object → List Record → Object → Record → Summary → Result (Unit {0}) StepFault → Type 0
+IsStepped h trace records x r new (Ok done) = StandsFor h (trace ++ x ∷ []) (records ++ r ∷ []) new
+IsStepped h trace records x r new (Err fault) = IsRuleOr (record_fault h (trace ++ x ∷ []) (records ++ r ∷ []) (length trace)) fault
+
+-- a yes: the certificate is valid, so no play scores more than its upper bound
+pub record IsYes (h : Header) (trace : List Object) (records : List Record) (verdict : Verdict) : Type 0 where
+  pub no_fault : end_fault h trace records ≡ None
+  pub header : verdict.header ≡ h
+  pub objects : verdict.objects ≡ length (objects_of trace)
+  pub valid : IsValid trace h records
+  pub bounds_every_play : BoundsEveryPlay trace h
+
+-- the end: a yes, or the first rule that it fails
+abbrev pub IsFinished : Header → List Object → List Record → Result Verdict InvalidKind → Type 0
+IsFinished h trace records (Ok verdict) = IsYes h trace records verdict
+IsFinished h trace records (Err kind) = end_fault h trace records ≡ Some kind

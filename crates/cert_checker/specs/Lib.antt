@@ -1,0 +1,6 @@
+pub mod Rules
+pub mod Walks
+pub mod Summaries
+pub mod Steps
+pub mod Answers
+pub mod Laws

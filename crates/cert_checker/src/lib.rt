@@ -1,0 +1,21 @@
+//! The check of a certificate, in one pass over the requests of a trace and the lines of the certificate. It keeps one
+//! entry for each object.
+//!
+//! The rules are "The rules of a certificate" and "The walk of a check" in docs/DEFINITIONS.md.
+#![tactic(auto)]
+
+mod checker;
+mod end_check;
+mod laws;
+mod record_check;
+mod rules;
+mod stepping;
+mod summary;
+#[cfg(test)]
+mod tests;
+mod verdict;
+
+pub use cert_format::{Header, InvalidKind, Record};
+pub use checker::{Checker, StepFault};
+pub use laws::{faultless_is_valid, passing_is_valid};
+pub use verdict::Verdict;

@@ -1,0 +1,36 @@
+//! The rules of a record.
+ghost use Rattle.std.specs.Prelude.{◌≡◌, ◌≤◌, ◌*◌, ◌^◌};
+ghost use Rattle.cache_model.specs.Certificates.{units_of};
+ghost use Rattle.cache_model.specs.Play.{gain_of};
+
+use cache_model::Object;
+use cache_rules::gain;
+use cert_format::Header;
+
+/// What the requests and records through one of them give: the sum of the prices, whether it is the last, whether its
+/// object was requested before, and after it the sizes of the kept objects and the flows of all objects.
+#[derive(Clone, Copy, Debug, PartialEq, Eq)]
+pub struct Figures {
+    pub prices: u128,
+    pub last: bool,
+    pub again: bool,
+    pub load: u64,
+    pub flows: u64,
+}
+
+/// The capacity in units, rounded down.
+pub fn units(header: &Header) -> u64
+    requires { 1 ≤ header.now.unit }
+    ensures { result ≡ units_of header.now }
+{
+    header.capacity / header.unit
+}
+
+/// The gain of a hit on the object, times the denominator.
+pub fn worth(header: &Header, object: &Object) -> u128
+    requires denominator { header.now.denominator ≤ 2 ^ 48 }
+    requires size { object.now.size ≤ 2 ^ 48 }
+    ensures { result ≡ header.now.denominator * gain_of header.now.objective object.now }
+{
+    header.denominator as u128 * gain(header.objective, object) as u128
+}

@@ -1,0 +1,147 @@
+//! What one more request and its record change.
+ghost use Rattle.std.specs.Prelude.{◌≡◌, ◌≤◌, ◌<◌, ◌+◌, ◌-◌, ◌*◌, ◌/◌, ◌^◌, IfSome, if◌then◌else◌};
+ghost use Rattle.cache_model.specs.Certificates.{IsHeaderInRange};
+ghost use Rattle.cert_checker.specs.Rules.{weight_in};
+ghost use Rattle.cert_checker.specs.Steps.{added, added_by, AreNext, flow_before, seen_at, size_before, sums_after};
+ghost use Rattle.cert_checker.specs.Summaries.{AreSmall};
+
+use crate::rules::{Figures, worth};
+use crate::summary::{Added, Seen, Sums};
+use cache_model::Object;
+use cache_rules::gain;
+use cert_format::{Header, Record};
+
+// The size of the object where it is kept, and else 0.
+fn kept_size(object: &Object, keep: bool) -> u64
+    ensures { result ≡ (if keep then object.now.size else 0) }
+{
+    if keep { object.size } else { 0 }
+}
+
+// What the object has in the load, and its flow in the load of the flows.
+fn shares(object: &Object, before: Option<Seen>) -> (u64, u64)
+    ensures size { result.0 ≡ size_before object.now before }
+    ensures flow { result.1 ≡ flow_before before }
+{
+    match before {
+        Some(seen) => (kept_size(object, seen.keep), seen.flow),
+        None => (0, 0),
+    }
+}
+
+/// The figures after a request of the object and its record, where this is what was kept of the object.
+pub fn figures(
+    header: &Header,
+    sums: &Sums,
+    object: &Object,
+    entry: &Record,
+    before: Option<Seen>,
+) -> Figures
+    requires steps { sums.now.steps < 2 ^ 25 }
+    requires prices { sums.now.prices + entry.now.price < 2 ^ 128 }
+    requires load { sums.now.load + object.now.size < 2 ^ 64 }
+    requires flows { sums.now.flows + entry.now.flow < 2 ^ 64 }
+    requires in_load { size_before object.now before ≤ sums.now.load }
+    requires in_flows { flow_before before ≤ sums.now.flows }
+    ensures { AreNext header.now sums.now object.now entry.now before result }
+{
+    let (size, flow) = shares(object, before);
+    Figures {
+        prices: sums.prices + entry.price,
+        last: sums.steps + 1 == header.requests,
+        again: before.is_some(),
+        load: sums.load - size + kept_size(object, entry.keep),
+        flows: sums.flows - flow + entry.flow,
+    }
+}
+
+// What is above the price of the weight, and 0 where nothing is.
+fn surplus(worth: u128, weight: u64, price: u128) -> u128
+    ensures value { result ≡ worth - weight * price }
+{
+    match (weight as u128).checked_mul(price) {
+        Some(paid) => worth.saturating_sub(paid),
+        None => 0,
+    }
+}
+
+// What the interval that ends at a request of the object adds, where the prices before that have this sum.
+fn added_by_interval(header: &Header, object: &Object, prices: u128, seen: &Seen) -> Added
+    requires header { IsHeaderInRange header.now }
+    requires size { object.now.size ≤ 2 ^ 48 }
+    requires prices { seen.now.price_before ≤ prices }
+    requires flow { seen.now.flow ≤ weight_in header.now object.now }
+    requires weight { object.now.size ≤ header.now.capacity → 1 ≤ object.now.size / header.now.unit }
+    ensures { result ≡ added_by header.now object.now prices seen.now }
+{
+    let gain = if seen.keep {
+        gain(header.objective, object)
+    } else {
+        0
+    };
+    if object.size > header.capacity {
+        return Added {
+            surplus: 0,
+            value: 0,
+            gain,
+        };
+    }
+    let worth = worth(header, object);
+    let weight = object.size / header.unit;
+    Added {
+        surplus: surplus(worth, weight, prices - seen.price_before),
+        value: worth / weight as u128 * seen.flow as u128,
+        gain,
+    }
+}
+
+/// What a request of the object adds, where this is what was kept of the object.
+pub fn added(header: &Header, object: &Object, prices: u128, before: Option<Seen>) -> Added
+    requires header { IsHeaderInRange header.now }
+    requires size { object.now.size ≤ 2 ^ 48 }
+    requires prices { IfSome before (λ seen. seen.price_before ≤ prices) }
+    requires flow { IfSome before (λ seen. seen.flow ≤ weight_in header.now object.now) }
+    requires weight { IfSome before (λ seen. object.now.size ≤ header.now.capacity → 1 ≤ object.now.size / header.now.unit) }
+    ensures sums { result ≡ added header.now object.now prices before }
+    ensures small { (result.surplus ≤ 2 ^ 96) × (result.value ≤ 2 ^ 96) × (result.gain ≤ 2 ^ 48) }
+{
+    match before {
+        Some(seen) => added_by_interval(header, object, prices, &seen),
+        None => Added {
+            surplus: 0,
+            value: 0,
+            gain: 0,
+        },
+    }
+}
+
+/// The sums after a request.
+pub fn sums_with(sums: &Sums, now: &Figures, added: &Added) -> Sums
+    requires steps { sums.now.steps < 2 ^ 25 }
+    requires small { AreSmall sums.now }
+    requires added { (added.now.surplus ≤ 2 ^ 96) × (added.now.value ≤ 2 ^ 96) × (added.now.gain ≤ 2 ^ 48) }
+    ensures sums { result ≡ sums_after sums.now now.now added.now }
+    ensures small { AreSmall result }
+{
+    Sums {
+        steps: sums.steps + 1,
+        prices: now.prices,
+        load: now.load,
+        flows: now.flows,
+        surpluses: sums.surpluses + added.surplus,
+        values: sums.values + added.value,
+        score: sums.score + added.gain as u128,
+    }
+}
+
+/// What is kept of the object of a request with this record, where these are the sums before it.
+pub fn seen_of(sums: &Sums, entry: &Record) -> Seen
+    ensures { result ≡ seen_at sums.now entry.now }
+{
+    Seen {
+        latest: sums.steps,
+        price_before: sums.prices,
+        keep: entry.keep,
+        flow: entry.flow,
+    }
+}
