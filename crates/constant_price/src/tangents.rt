@@ -1,5 +1,5 @@
 //! The surplus of all intervals at one price, and how it falls.
-ghost use Rattle.std.specs.Prelude.{◌≡◌, ℕ, ◌<◌, ◌≤◌, ◌^◌, ◌*◌, length, All};
+ghost use Rattle.std.specs.Prelude.{◌≡◌, ℕ, ◌<◌, ◌≤◌, ◌^◌, ◌*◌, ◌/◌, length, All};
 ghost use Rattle.interval_maker.specs.Timelines.{IsInterval};
 ghost use Rattle.constant_price.specs.Surpluses.{fall_at, fall_of, surplus_at, surplus_of};
 
@@ -14,6 +14,14 @@ pub(crate) struct Tangent {
     pub(crate) price: u128,
     pub(crate) surplus: u128,
     pub(crate) fall: u128,
+}
+
+// The size in units. Where the unit is 1, as in most traces, a division would take longer than all the rest.
+fn weight_of(size: u64, unit: u64) -> u64
+    requires { 1 ≤ unit }
+    ensures { result ≡ size / unit }
+{
+    if unit == 1 { size } else { size / unit }
 }
 
 // The surplus of an interval, and how much of it the next price takes away. What pays more than `most` at price 1
@@ -33,7 +41,8 @@ fn surplus_and_fall(
     ensures surplus { result.0 ≡ surplus_at unit denominator price interval.now }
     ensures fall { result.1 ≡ fall_at unit denominator price interval.now }
 {
-    let charge = u128::from(interval.size / unit) * u128::from(interval.end - interval.start);
+    let charge = u128::from(weight_of(interval.size, unit))
+        * u128::from(interval.end - interval.start);
     if charge > most {
         return (0, 0);
     }
