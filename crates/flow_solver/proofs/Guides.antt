@@ -5,7 +5,7 @@ use Rattle.flow_model.specs.declared.edges.Edge.TheVariants.{Inner}
 use Rattle.flow_model.specs.Networks.{tail, head, gain, loss, residual, IsEdge}
 use Rattle.flow_model.specs.Pushes.{edge_at}
 use Rattle.flow_network.specs.States.{State, IsState}
-use Rattle.flow_solver.specs.Searches.{Found, IsReady, IsSearch, IsSettled, IsHop, LeadsBack, limit_of, lowered, at_tail, at_head}
+use Rattle.flow_solver.specs.Searches.{Found, IsReady, IsSearch, IsSettled, IsHop, LeadsBack, limit_of, lowered, far, at_tail, at_head}
 use Rattle.flow_solver.proofs.Distances.{ends_within}
 
 -- the distance as far as it matters
@@ -17,6 +17,20 @@ pub grows : (state : State) (found : Found) (e : Edge) → IsReady state → ((e
     → within_limit state found (head state.instance.arcs e) + (gain state.instance.arcs e + slice_index state.potentials (head state.instance.arcs e))
     ≤ within_limit state found (tail state.instance.arcs e) + (loss state.instance.arcs e + slice_index state.potentials (tail state.instance.arcs e))
 grows state found e ready settled is_edge room = omega (arith, settled e is_edge room, ready.valid e is_edge room)
+
+-- the distances grow from the first node by no more than the potential falls, so the last node was found
+within_first : (state : State) (found : Found) (node : ℕ) → IsReady state → IsSearch state found → ((e : Edge) → IsEdge state.instance e → IsSettled state found.distances e) → node ≤ state.instance.steps
+    → within_limit state found node + slice_index state.potentials node ≤ slice_index state.potentials 0
+within_first state found zero ready search settled h = omega (arith, search.tree.start)
+within_first state found (suc k) ready search settled h =
+    let next : k + 1 ≡ suc k = omega arith in
+    omega (
+      arith,
+      within_first state found k ready search settled (omega arith),
+      grows state found (Inner k) ready settled (omega arith) ready.fits.in_range.some_units,
+      ap (slice_index found.distances) next,
+      ap (slice_index state.potentials) next,
+    )
 
 -- no potential is lowered below 0
 pub enough : (state : State) (found : Found) (left node : ℕ) → IsReady state → ((e : Edge) → IsEdge state.instance e → IsSettled state found.distances e) → node + left ≡ state.instance.steps
@@ -56,13 +70,14 @@ ready_lowered state found potentials ready settled fits low =
 pub leads_back : (state : State) (found : Found) (potentials : List ℕ) → IsReady state → IsSearch state found → ((e : Edge) → IsEdge state.instance e → IsSettled state found.distances e)
     → AreLowered state found potentials → LeadsBack (record state { potentials = potentials }) found
 leads_back state found potentials ready search settled low =
-    record { each_distance = search.each_distance; each_parent = search.each_parent; hops = (search.found_by.0, hop) }
+    record { each_distance = search.tree.each_distance; each_parent = search.tree.each_parent; hops = (search.tree.found_by.0, hop) }
   where
     hop : (node : ℕ) → 0 < node → node ≤ state.instance.steps → slice_index found.distances node ≤ limit_of state found.distances
-        → IsHop (record state { potentials = potentials }) found.distances search.found_by.0 (edge_at found.parents node) node
+        → IsHop (record state { potentials = potentials }) found.distances search.tree.found_by.0 (edge_at found.parents node) node
     hop node some within near =
         let e : Edge = edge_at found.parents node in
-        let parent = search.found_by.1 node some within in
+        let last_found : limit_of state found.distances < far state = omega (arith, within_first state found state.instance.steps ready search settled (omega arith)) in
+        let parent = search.tree.found_by.1 node some within (omega (arith, near, last_found)) in
         let ends = ends_within state.instance e ready.fits.in_range parent.is_edge in
         let least = ready.valid e parent.is_edge parent.room in
         let same : slice_index found.distances (head state.instance.arcs e) ≡ slice_index found.distances node = ap (slice_index found.distances) parent.leads in

@@ -1,5 +1,9 @@
+pub mod Lists
 pub mod Distances
 pub mod Guides
 pub mod Paths
 pub mod Routes
-pub mod Ends
+pub mod LastRound
+pub mod Heaps
+pub mod QueueSteps
+pub mod EdgeLists

@@ -1,6 +1,6 @@
 -- Routes: the part of a path that was traced back so far.
-use Rattle.std.proofs.Common.{◌≡◌, ℕ, ◌<◌, ◌≤◌, sym, refl, ap, subst, List, [], ◌∷◌, length, arith, All, slice_index}
-use Rattle.std.proofs.lemmas.List.Elements.{All-cons, All-nil, All-weaker}
+use Rattle.std.proofs.Common.{◌≡◌, ℕ, ◌<◌, ◌≤◌, sym, refl, ap, subst, List, ◌∷◌, length, arith, All, slice_index}
+use Rattle.std.proofs.lemmas.List.Elements.{All-cons, All-weaker}
 use Rattle.flow_model.specs.declared.edges.Edge.{Edge}
 use Rattle.flow_model.specs.Networks.{tail, residual, IsTight}
 use Rattle.flow_model.specs.Pushes.{Leads, CanPush, edge_at}
@@ -20,21 +20,6 @@ pub record IsRoute (state : State) (found : Found) (node : ℕ) (path : List Edg
   pub later : All (IsLater state.instance.arcs back.hops.0) path
   pub some : 0 < amount
   pub room : All (λ e. amount ≤ residual state.instance state.flows e) path
-
--- at the last node
-pub route_begins : (state : State) (found : Found) (amount : ℕ) → LeadsBack state found → 0 < amount → IsRoute state found state.instance.steps [] amount
-route_begins state found amount back some =
-    record {
-      back = back;
-      within = omega arith;
-      near = omega arith;
-      leads = refl;
-      tight = All-nil (IsTight state.instance state.flows (slice_index state.potentials));
-      inside = All-nil (IsInside state.instance.arcs state.instance.steps);
-      later = All-nil (IsLater state.instance.arcs back.hops.0);
-      some = some;
-      room = All-nil (λ e. amount ≤ residual state.instance state.flows e);
-    }
 
 -- one edge more, for the amount that it has room for too
 pub route_grows : (state : State) (found : Found) (node : ℕ) (path : List Edge) (amount least : ℕ) → IsState state → IsRoute state found node path amount → 0 < node

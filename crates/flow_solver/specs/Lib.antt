@@ -1,4 +1,5 @@
-pub mod Sweeps
+pub mod OuterEdges
+pub mod Queues
 pub mod Searches
 pub mod Rounds
 pub mod Answers

@@ -1,14 +1,32 @@
 -- A search for the distance of each node from the first: the length of an edge with room is its negated reduced cost.
-use Rattle.std.specs.Prelude.{◌≡◌, ℕ, ◌+◌, ◌-◌, ◌<◌, ◌≤◌, min, Bool, true, false, List, length, slice_index, sum}
+use Rattle.std.specs.Prelude.{◌≡◌, ◌≢◌, ℕ, ◌+◌, ◌-◌, ◌*◌, ◌^◌, ◌<◌, ◌≤◌, ◌⊎◌, min, List, length, slice_index, sum}
 use Rattle.flow_model.specs.declared.edges.Edge.{Edge}
 use Rattle.flow_model.specs.Networks.{tail, head, gain, loss, residual, IsEdge, IsPotential, IsTight}
 use Rattle.flow_model.specs.Pushes.{edge_at}
 use Rattle.flow_network.specs.States.{State, IsState}
+use Rattle.flow_solver.specs.Queues.{Waiting, IsQueue}
 
--- how far each node is by a walk that was found, and the last edge of that walk
+-- how far each node is by a walk that was found, the last edge of that walk, and the nodes that wait for their edges to be
+-- looked at: some in a queue, and the first so many of a list, which come next
 pub record Found : Type 0 where
   pub distances : List ℕ
   pub parents : List Edge
+  pub waiting : Waiting
+  pub stack : List ℕ
+  pub depth : ℕ
+
+-- the node does not wait
+pub record Rests (found : Found) (node : ℕ) : Type 0 where
+  pub unqueued : slice_index found.waiting.places node ≡ 0
+  pub unstacked : (p : ℕ) → p < found.depth → slice_index found.stack p ≢ node
+
+-- a distance, a parent and a place for each node of so many steps
+pub record HasRoom (steps : ℕ) (found : Found) : Type 0 where
+  pub distances : length found.distances ≡ steps + 1
+  pub parents : length found.parents ≡ steps + 1
+  pub nodes : length found.waiting.nodes ≡ steps + 1
+  pub places : length found.waiting.places ≡ steps + 1
+  pub stack : length found.stack ≤ 2 ^ 26
 
 -- no edge with room has a positive reduced cost, and the last node's potential is 0
 pub record IsReady (state : State) : Type 0 where
@@ -45,19 +63,49 @@ pub record IsParent (state : State) (distances : List ℕ) (times : ℕ → ℕ)
   pub along : at_tail state distances e ≤ at_head state distances e
   pub earlier : at_tail state distances e ≡ at_head state distances e → times (tail state.instance.arcs e) < times node
 
--- each node but the first was found by its parent, at some time
-pub record IsSearch (state : State) (found : Found) : Type 0 where
-  pub each_distance : length found.distances ≡ state.instance.steps + 1
-  pub each_parent : length found.parents ≡ state.instance.steps + 1
-  pub start : slice_index found.distances 0 ≡ 0
-  pub small : (node : ℕ) → node ≤ state.instance.steps → slice_index found.distances node + slice_index state.potentials node ≤ slice_index state.potentials 0
-  pub found_by : (times : ℕ → ℕ) × ((node : ℕ) → 0 < node → node ≤ state.instance.steps → IsParent state found.distances times (edge_at found.parents node) node)
+-- the distance of a node that was not found: farther than any walk
+abbrev pub far : State → ℕ
+far state = slice_index state.potentials 0 + 1
 
--- distances only fell, and all stayed as it was where none is said to have fallen
-pub record Nears (state : State) (old new : Found) (fell : Bool) : Type 0 where
+-- each node that was found, but the first, was found by its parent, at some time
+pub record IsTree (state : State) (distances : List ℕ) (parents : List Edge) : Type 0 where
+  pub each_distance : length distances ≡ state.instance.steps + 1
+  pub each_parent : length parents ≡ state.instance.steps + 1
+  pub start : slice_index distances 0 ≡ 0
+  pub small : (node : ℕ) → node ≤ state.instance.steps → slice_index distances node ≤ far state
+  pub found_by : (times : ℕ → ℕ)
+      × ((node : ℕ) → 0 < node → node ≤ state.instance.steps → slice_index distances node < far state → IsParent state distances times (edge_at parents node) node)
+
+-- a tree of the nodes that were found, a queue by their distances, and a stack of nodes
+pub record IsSearch (state : State) (found : Found) : Type 0 where
+  pub tree : IsTree state found.distances found.parents
+  pub queue : IsQueue found.waiting found.distances
+  pub small_stack : length found.stack ≤ 2 ^ 26
+  pub stack_fits : found.depth ≤ length found.stack
+  pub stacked : (p : ℕ) → p < found.depth → slice_index found.stack p ≤ state.instance.steps
+
+-- the node waits, and all else is as it was
+pub record Enters (old new : Found) (node : ℕ) : Type 0 where
+  pub distances : new.distances ≡ old.distances
+  pub parents : new.parents ≡ old.parents
+  pub places : length new.waiting.places ≡ length old.waiting.places
+  pub stack : length new.stack ≡ length old.stack
+  pub fits : new.depth ≤ length old.stack
+  pub more : new.waiting.count + new.depth ≤ old.waiting.count + old.depth + 1
+  pub stacked : (p : ℕ) → p < new.depth → (slice_index new.stack p ≡ node) ⊎ ((p < old.depth) × (slice_index new.stack p ≡ slice_index old.stack p))
+  pub waits : Rests new node → ⊥
+  pub rests : (other : ℕ) → Rests new other → Rests old other
+
+-- the edges out of nodes that don't wait are settled
+abbrev pub AreSettled : State → Found → Type 0
+AreSettled state found = (e : Edge) → IsEdge state.instance e → Rests found (tail state.instance.arcs e) → IsSettled state found.distances e
+
+-- distances only fell, and the nodes whose distance fell wait; so edges out of nodes that rest stay settled
+pub record Nears (state : State) (old new : Found) : Type 0 where
   pub search : IsSearch state new
-  pub falls : fell ≡ true → sum new.distances < sum old.distances
-  pub same : fell ≡ false → new ≡ old
+  pub rests : (node : ℕ) → Rests new node → Rests old node
+  pub stays : (e : Edge) → IsEdge state.instance e → Rests new (tail state.instance.arcs e) → IsSettled state old.distances e → IsSettled state new.distances e
+  pub falls : 2 * sum new.distances + (new.waiting.count + new.depth) ≤ 2 * sum old.distances + (old.waiting.count + old.depth)
 
 -- the edge is tight and leads to the node, from a node within the limit that was found before
 pub record IsHop (state : State) (distances : List ℕ) (times : ℕ → ℕ) (e : Edge) (node : ℕ) : Type 0 where

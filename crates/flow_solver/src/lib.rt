@@ -6,6 +6,8 @@
 //! flows reach.
 #![tactic(auto)]
 
+mod outer_edges;
+mod queue;
 mod rounds;
 mod route;
 mod search;

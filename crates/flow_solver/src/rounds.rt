@@ -1,9 +1,11 @@
 //! Rounds: each pushes units along a path on which nothing is lost.
-ghost use Rattle.std.specs.Prelude.{◌≡◌, ℕ, ◌+◌, ◌≤◌, ◌<◌, min, length, slice_index};
+ghost use Rattle.std.specs.Prelude.{◌≡◌, ℕ, ◌+◌, ◌*◌, ◌≤◌, ◌<◌, min, length, slice_index};
 ghost use Rattle.flow_network.specs.States.{IsState};
+ghost use Rattle.flow_solver.specs.OuterEdges.{AreListed};
 ghost use Rattle.flow_solver.specs.Rounds.{Advances};
-ghost use Rattle.flow_solver.specs.Searches.{IsReady, limit_of, lowered};
+ghost use Rattle.flow_solver.specs.Searches.{HasRoom, IsReady, limit_of, lowered};
 
+use crate::outer_edges::OuterEdges;
 use crate::route::trace;
 use crate::search::Search;
 use flow_network::{Edge, Network};
@@ -31,17 +33,16 @@ fn lower(network: &mut Network, search: &Search)
 }
 
 /// Pushes units along a path on which nothing is lost, as many as it takes.
-pub fn augment(network: &mut Network, search: &mut Search, path: &mut [Edge])
+pub fn augment(network: &mut Network, edges: &OuterEdges, search: &mut Search, path: &mut [Edge])
     requires ready { IsReady network.old }
-    requires distances { length search.old.distances ≡ network.old.instance.steps + 1 }
-    requires parents { length search.old.parents ≡ network.old.instance.steps + 1 }
+    requires edges { AreListed network.old.instance edges.now (2 * length network.old.instance.arcs) }
+    requires room { HasRoom network.old.instance.steps search.old }
     requires each_hop { length path.old ≡ network.old.instance.steps }
     requires left { network.old.pushed < network.old.instance.units }
     ensures advances { Advances network.old network.new }
-    ensures distances { length search.new.distances ≡ network.old.instance.steps + 1 }
-    ensures parents { length search.new.parents ≡ network.old.instance.steps + 1 }
+    ensures room { HasRoom network.old.instance.steps search.new }
 {
-    search.run(network);
+    search.run(network, edges);
     lower(network, search);
     let route = trace(network, search, path);
     network.push(&path[route.start..], route.amount);

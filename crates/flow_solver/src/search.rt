@@ -1,23 +1,33 @@
-//! The search for the distances of the nodes from the first, by correcting them until none falls.
-ghost use Rattle.std.specs.Prelude.{◌≡◌, ℕ, ◌+◌, ◌≤◌, ◌<◌, ◌^◌, true, false, IfOk, length, slice_index};
+//! The search for the distances of the nodes from the first, nearest first.
+ghost use Rattle.std.specs.Prelude.{◌≡◌, ℕ, ◌+◌, ◌-◌, ◌*◌, ◌≤◌, ◌<◌, ◌^◌, ◌↔◌, IfNone, IfOk, IfSome, IsNone, length, slice_index, slice_set, sum};
 ghost use Rattle.flow_model.specs.declared.edges.Edge.{Edge as FlowEdge};
-ghost use Rattle.flow_model.specs.declared.edges.Edge.TheVariants.{Outer, OuterBack};
-ghost use Rattle.flow_model.specs.Networks.{IsEdge};
+ghost use Rattle.flow_model.specs.declared.edges.Edge.TheVariants.{Inner, InnerBack};
+ghost use Rattle.flow_model.specs.Networks.{IsEdge, tail};
 ghost use Rattle.flow_model.specs.Pushes.{edge_at};
-ghost use Rattle.flow_solver.specs.Searches.{IsReady, IsSearch, IsSettled, Nears};
-ghost use Rattle.flow_solver.specs.Sweeps.{EachBack, EachForward, IsDownTo, IsUpTo};
+ghost use Rattle.flow_solver.specs.OuterEdges.{AreListed, edge_of, tail_of};
+ghost use Rattle.flow_solver.specs.Queues.{IsQueue, IsQueueBut, Leaves, Waits};
+ghost use Rattle.flow_solver.specs.Searches.{AreSettled, Enters, HasRoom, far, IsReady, IsSearch, IsSettled, Nears, Rests};
 
+use crate::outer_edges::{OuterEdges, outer_edge};
+use crate::queue::Queue;
 use bound_base::NoMemory;
 use flow_network::{Edge, Network};
 use std::alloc::Global;
 use std::marker::Model;
 
+/// How many nodes can wait on the stack.
+const STACK: usize = 4096;
+
 /// How far each node is from the first, by the walks that were found, and the last edge of the walk to it. The length
-/// of an edge with room is its negated reduced cost. No distance matters beyond that of the last node.
+/// of an edge with room is its negated reduced cost. No distance matters beyond that of the last node. Nodes that were
+/// found as far as the node at hand wait on a stack, as long as it has room, and the others in a queue.
 #[derive(Debug, Drop)]
 pub struct Search {
     distances: Vec<u128>,
     parents: Vec<Edge>,
+    queue: Queue,
+    stack: Vec<u32>,
+    depth: u32,
 }
 
 impl Model for Search {
@@ -25,30 +35,31 @@ impl Model for Search {
 
     ghost Value = { Found };
 
-    ghost view = { λ s. record { distances = s.distances.items; parents = s.parents.items } };
-}
-
-// How far a sweep has come among the arcs, and whether a distance fell.
-#[derive(Clone, Copy)]
-struct Swept {
-    arc: u32,
-    fell: bool,
+    ghost view = { λ s. record { distances = s.distances.items; parents = s.parents.items; waiting = s.queue; stack = s.stack.items; depth = s.depth } };
 }
 
 impl Search {
-    /// Room for a search over so many steps. It takes 24 bytes for each.
+    /// Room for a search over so many steps. It takes 32 bytes for each.
     pub fn new(alloc: Global, steps: u32) -> Result<Search, NoMemory>
         requires { steps ≤ 2 ^ 25 }
-        ensures distances { IfOk result (λ found. length found.distances ≡ steps + 1) }
-        ensures parents { IfOk result (λ found. length found.parents ≡ steps + 1) }
+        ensures { IfOk result (λ found. HasRoom steps found) }
     {
         let nodes = steps as usize + 1;
         let distances = vec![in alloc; 0; nodes]?;
         let parents = vec![in alloc; Edge::Inner(0); nodes]?;
-        Ok(Search { distances, parents })
+        let queue = Queue::new(alloc, steps + 1)?;
+        let stack = vec![in alloc; 0; STACK]?;
+        Ok(Search {
+            distances,
+            parents,
+            queue,
+            stack,
+            depth: 0,
+        })
     }
 
     /// How far the node is.
+    #[inline(always)]
     pub fn distance(&self, node: u32) -> u128
         requires { node < length self.now.distances }
         ensures { result ≡ slice_index self.now.distances node }
@@ -64,162 +75,205 @@ impl Search {
         self.parents[node as usize]
     }
 
-    // Finds each node along the inner edges.
+    // Finds the first node alone.
     fn begin(&mut self, network: &Network)
         requires ready { IsReady network.now }
-        requires distances { length self.old.distances ≡ network.now.instance.steps + 1 }
-        requires parents { length self.old.parents ≡ network.now.instance.steps + 1 }
-        ensures { IsSearch network.now self.new }
+        requires room { HasRoom network.now.instance.steps self.old }
+        ensures search { IsSearch network.now self.new }
+        ensures waits { Waits self.new.waiting 0 }
+        ensures depth { self.new.depth ≡ 0 }
+        ensures far { (node : ℕ) → 0 < node → node ≤ network.now.instance.steps → slice_index self.new.distances node ≡ far network.now }
     {
-        let first = network.potential(0);
-        self.distances[0] = 0;
-        for step in 0..network.instance().steps() {
-            self.distances[step as usize + 1] = first - network.potential(step + 1);
-            self.parents[step as usize + 1] = Edge::Inner(step);
+        let far = network.potential(0) + 1;
+        for distance in self.distances.iter_mut() {
+            *distance = far;
         }
+        self.distances[0] = 0;
+        self.depth = 0;
+        self.queue.clear();
+        self.queue.offer(&self.distances, 0);
     }
 
-    // Lowers the distance of the edge's head to that along the edge, where it is less, and answers whether it is.
+    // Lowers the distance of the edge's head to that along the edge, where it is less and below the last node's.
     #[inline(always)]
-    fn relax(&mut self, network: &Network, edge: Edge) -> bool
+    fn relax(&mut self, network: &Network, edge: Edge)
         requires ready { IsReady network.now }
         requires edge { IsEdge network.now.instance edge }
         requires search { IsSearch network.now self.old }
-        ensures nears { Nears network.now self.old self.new result }
-        ensures settled { result ≡ false → IsSettled network.now self.old.distances edge }
+        ensures nears { Nears network.now self.old self.new }
+        ensures settled { IsSettled network.now self.new.distances edge }
     {
-        let hop = network.hop(edge);
-        let limit = self.distances[network.instance().steps() as usize];
-        let near = self.distances[hop.tail as usize];
-        if near >= limit || near >= self.distances[hop.head as usize] {
-            return false;
-        }
         if network.residual(edge) == 0 {
-            return false;
+            return;
+        }
+        let hop = network.hop(edge);
+        let limit = self.distance(network.instance().steps());
+        let near = self.distance(hop.tail);
+        if near >= limit || near >= self.distance(hop.head) {
+            return;
         }
         let behind = near + (hop.loss + network.potential(hop.tail));
         let along = behind - (hop.gain + network.potential(hop.head));
-        if along >= limit || along >= self.distances[hop.head as usize] {
-            return false;
+        if along >= limit || along >= self.distance(hop.head) {
+            return;
         }
-        self.distances[hop.head as usize] = along;
-        self.parents[hop.head as usize] = edge;
-        true
+        self.lower(hop.head, along, edge);
+        self.enqueue(hop.head, along == near);
     }
 
-    // Relaxes the arcs from `begin` on, while they start at the step or before.
+    // Writes the lesser distance of the node, and the edge that leads to it.
     #[inline(always)]
-    fn relax_arcs_up(&mut self, network: &Network, step: u32, begin: u32) -> Swept
-        requires ready { IsReady network.now }
-        requires search { IsSearch network.now self.old }
-        requires begin { begin ≤ length network.now.instance.arcs }
-        ensures nears { Nears network.now self.old self.new result.fell }
-        ensures settled { result.fell ≡ false → (i : ℕ) → begin ≤ i → i < result.arc → IsSettled network.now self.old.distances (Outer i) }
-        ensures within { (begin ≤ result.arc) × (result.arc ≤ length network.now.instance.arcs) }
-        ensures up { IsUpTo network.now.instance.arcs (step + 1) result.arc }
+    fn lower(&mut self, node: u32, distance: u128, edge: Edge)
+        requires parents { length self.old.parents ≡ length self.old.distances }
+        requires node { node < length self.old.distances }
+        ensures { self.new ≡ record self.old { distances = slice_set self.old.distances node distance; parents = slice_set self.old.parents node edge } }
     {
-        let arcs = network.instance().arcs();
-        let mut arc = begin;
-        let mut fell = false;
-        while (arc as usize) < arcs.len() && arcs[arc as usize].start <= step {
-            fell |= self.relax(network, Edge::Outer(arc));
-            arc += 1;
-        }
-        Swept { arc, fell }
+        self.distances[node as usize] = distance;
+        self.parents[node as usize] = edge;
     }
 
-    // Relaxes the forward edges, from the first step up, and answers whether a distance fell.
-    fn relax_forward(&mut self, network: &Network) -> bool
-        requires ready { IsReady network.now }
-        requires search { IsSearch network.now self.old }
-        ensures nears { Nears network.now self.old self.new result }
-        ensures settled { result ≡ false → EachForward network.now.instance (IsSettled network.now self.old.distances) }
-    {
-        let mut arc = 0;
-        let mut fell = false;
-        for step in 0..network.instance().steps() {
-            fell |= self.relax(network, Edge::Inner(step));
-            let swept = self.relax_arcs_up(network, step, arc);
-            arc = swept.arc;
-            fell |= swept.fell;
-        }
-        fell
-    }
-
-    // Relaxes back along the arcs before `end`, from the last of them down, while they start at the step or later.
+    // Lets the node wait, whose distance may have fallen: on the stack, if it comes next and can.
     #[inline(always)]
-    fn relax_arcs_down(&mut self, network: &Network, step: u32, end: u32) -> Swept
-        requires ready { IsReady network.now }
-        requires search { IsSearch network.now self.old }
-        requires end { end ≤ length network.now.instance.arcs }
-        ensures nears { Nears network.now self.old self.new result.fell }
-        ensures settled { result.fell ≡ false → (i : ℕ) → result.arc ≤ i → i < end → IsSettled network.now self.old.distances (OuterBack i) }
-        ensures within { result.arc ≤ end }
-        ensures down { IsDownTo network.now.instance.arcs step result.arc }
+    fn enqueue(&mut self, node: u32, next: bool)
+        requires queue { IsQueueBut self.old.waiting self.old.distances node }
+        requires node { node < length self.old.distances }
+        requires small { length self.old.stack ≤ 2 ^ 26 }
+        requires fits { self.old.depth ≤ length self.old.stack }
+        ensures enters { Enters self.old self.new node }
+        ensures queue { IsQueue self.new.waiting self.new.distances }
     {
-        let arcs = network.instance().arcs();
-        let mut arc = end;
-        let mut fell = false;
-        while arc > 0 && arcs[arc as usize - 1].start >= step {
-            arc -= 1;
-            fell |= self.relax(network, Edge::OuterBack(arc));
+        if !next || self.depth as usize >= self.stack.len() {
+            self.queue.offer(&self.distances, node);
+            return;
         }
-        Swept { arc, fell }
+        self.queue.withdraw(&self.distances, node);
+        self.stack[self.depth as usize] = node;
+        self.depth += 1;
     }
 
-    // Relaxes the back edges, from the last step down, and answers whether a distance fell.
-    fn relax_back(&mut self, network: &Network) -> bool
+    // Relaxes the outer edges that lead out of the node.
+    fn relax_outer(&mut self, network: &Network, edges: &OuterEdges, node: u32)
         requires ready { IsReady network.now }
         requires search { IsSearch network.now self.old }
-        ensures nears { Nears network.now self.old self.new result }
-        ensures settled { result ≡ false → EachBack network.now.instance (IsSettled network.now self.old.distances) }
+        requires edges { AreListed network.now.instance edges.now (2 * length network.now.instance.arcs) }
+        requires node { node ≤ network.now.instance.steps }
+        ensures nears { Nears network.now self.old self.new }
+        ensures settled { Rests self.new node → (k : ℕ) → k < 2 * length network.now.instance.arcs → tail_of network.now.instance.arcs k ≡ node → IsSettled network.now self.new.distances (edge_of (length network.now.instance.arcs) k) }
     {
-        let mut arc = network.instance().arcs().len() as u32;
-        let mut fell = false;
-        for step in (0..network.instance().steps()).rev() {
-            fell |= self.relax(network, Edge::InnerBack(step));
-            let swept = self.relax_arcs_down(network, step, arc);
-            arc = swept.arc;
-            fell |= swept.fell;
-        }
-        fell
-    }
-
-    // Relaxes the forward edges or the back edges, and answers whether a distance fell.
-    fn sweep(&mut self, network: &Network, forward: bool) -> bool
-        requires ready { IsReady network.now }
-        requires search { IsSearch network.now self.old }
-        ensures nears { Nears network.now self.old self.new result }
-        ensures forward { forward ≡ true → result ≡ false → EachForward network.now.instance (IsSettled network.now self.old.distances) }
-        ensures back { forward ≡ false → result ≡ false → EachBack network.now.instance (IsSettled network.now self.old.distances) }
-    {
-        if forward {
-            self.relax_forward(network)
-        } else {
-            self.relax_back(network)
+        let arcs = network.instance().arcs().len() as u32;
+        let mut left = edges.first(node);
+        while left > 0 {
+            let number = left - 1;
+            self.relax(network, outer_edge(arcs, number));
+            left = edges.after(number);
         }
     }
 
-    /// Finds the distances within that of the last node. It sweeps forward edges and back edges in turn, until two
-    /// sweeps in a row lower nothing or the last node can't be nearer.
-    pub fn run(&mut self, network: &Network)
+    // Relaxes the inner edge that leads on from the node, where there is one.
+    #[inline(always)]
+    fn relax_on(&mut self, network: &Network, node: u32)
         requires ready { IsReady network.now }
-        requires distances { length self.old.distances ≡ network.now.instance.steps + 1 }
-        requires parents { length self.old.parents ≡ network.now.instance.steps + 1 }
+        requires search { IsSearch network.now self.old }
+        ensures nears { Nears network.now self.old self.new }
+        ensures settled { node < network.now.instance.steps → IsSettled network.now self.new.distances (Inner node) }
+    {
+        if node < network.instance().steps() {
+            self.relax(network, Edge::Inner(node));
+        }
+    }
+
+    // Relaxes the inner edge that leads back from the node, where there is one.
+    #[inline(always)]
+    fn relax_back(&mut self, network: &Network, node: u32)
+        requires ready { IsReady network.now }
+        requires search { IsSearch network.now self.old }
+        requires node { node ≤ network.now.instance.steps }
+        ensures nears { Nears network.now self.old self.new }
+        ensures settled { 0 < node → IsSettled network.now self.new.distances (InnerBack (node - 1)) }
+    {
+        if node > 0 {
+            self.relax(network, Edge::InnerBack(node - 1));
+        }
+    }
+
+    // Relaxes the edges that lead out of the node. The arcs come last, so that their ends come next from the stack.
+    fn relax_from(&mut self, network: &Network, edges: &OuterEdges, node: u32)
+        requires ready { IsReady network.now }
+        requires search { IsSearch network.now self.old }
+        requires edges { AreListed network.now.instance edges.now (2 * length network.now.instance.arcs) }
+        requires node { node ≤ network.now.instance.steps }
+        ensures nears { Nears network.now self.old self.new }
+        ensures settled { Rests self.new node → (e : FlowEdge) → IsEdge network.now.instance e → tail network.now.instance.arcs e ≡ node → IsSettled network.now self.new.distances e }
+    {
+        if self.distance(node) >= self.distance(network.instance().steps()) {
+            return;
+        }
+        self.relax_back(network, node);
+        self.relax_on(network, node);
+        self.relax_outer(network, edges, node);
+    }
+
+    // Takes the last node from the stack.
+    #[inline(always)]
+    fn pop(&mut self) -> Option<u32>
+        requires { self.old.depth ≤ length self.old.stack }
+        ensures rest { self.new ≡ record self.old { depth = self.new.depth } }
+        ensures some { IfSome result (λ node. (self.new.depth + 1 ≡ self.old.depth) × (node ≡ slice_index self.old.stack self.new.depth)) }
+        ensures none { IsNone result ↔ (self.old.depth ≡ 0) }
+        ensures same { IfNone result (self.new.depth ≡ self.old.depth) }
+    {
+        if self.depth == 0 {
+            return None;
+        }
+        self.depth -= 1;
+        Some(self.stack[self.depth as usize])
+    }
+
+    // Relaxes from the nodes on the stack, until there is none.
+    fn drain(&mut self, network: &Network, edges: &OuterEdges)
+        requires ready { IsReady network.now }
+        requires search { IsSearch network.now self.old }
+        requires edges { AreListed network.now.instance edges.now (2 * length network.now.instance.arcs) }
+        requires settled { AreSettled network.now self.old }
+        ensures search { IsSearch network.now self.new }
+        ensures settled { AreSettled network.now self.new }
+        ensures depth { self.new.depth ≡ 0 }
+        ensures falls { 2 * sum self.new.distances + (self.new.waiting.count + self.new.depth) ≤ 2 * sum self.old.distances + (self.old.waiting.count + self.old.depth) }
+    {
+        while let Some(node) = self.pop() {
+            self.relax_from(network, edges, node);
+        }
+    }
+
+    // Takes the nearest of the nodes from the queue.
+    fn take_nearest(&mut self) -> Option<u32>
+        requires { IsQueue self.old.waiting self.old.distances }
+        ensures rest { self.new ≡ record self.old { waiting = self.new.waiting } }
+        ensures queue { IsQueue self.new.waiting self.new.distances }
+        ensures some { IfSome result (Leaves self.old.waiting self.new.waiting self.old.distances) }
+        ensures none { IsNone result ↔ (self.old.waiting.count ≡ 0) }
+        ensures same { IfNone result (self.new.waiting ≡ self.old.waiting) }
+    {
+        self.queue.take(&self.distances)
+    }
+
+    /// Finds the distances within that of the last node: it takes the nearest node that waits and looks at the edges out of
+    /// it, until that node is no nearer than the last.
+    pub fn run(&mut self, network: &Network, edges: &OuterEdges)
+        requires ready { IsReady network.now }
+        requires room { HasRoom network.now.instance.steps self.old }
+        requires edges { AreListed network.now.instance edges.now (2 * length network.now.instance.arcs) }
         ensures search { IsSearch network.now self.new }
         ensures settled { (e : FlowEdge) → IsEdge network.now.instance e → IsSettled network.now self.new.distances e }
     {
         let last = network.instance().steps();
         self.begin(network);
-        let mut forward = true;
-        let mut idle = 0u32;
-        while idle < 2 && self.distance(last) > 0 {
-            idle = if self.sweep(network, forward) {
-                0
-            } else {
-                idle + 1
-            };
-            forward = !forward;
+        while let Some(node) = self.take_nearest() {
+            if self.distance(node) >= self.distance(last) {
+                return;
+            }
+            self.relax_from(network, edges, node);
+            self.drain(network, edges);
         }
     }
 

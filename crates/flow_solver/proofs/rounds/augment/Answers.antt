@@ -5,7 +5,7 @@ use Rattle.flow_model.specs.Pushes.{push_path}
 use Rattle.flow_network.specs.States.{State, IsState}
 use Rattle.flow_solver.specs.Searches.{IsReady, LeadsBack}
 use Rattle.flow_solver.proofs.Guides.{enough_at, ready_lowered, leads_back}
-use Rattle.flow_solver.proofs.Ends.{ready_after_push}
+use Rattle.flow_solver.proofs.LastRound.{ready_after_push}
 use Rattle.flow_solver.proofs.rounds.augment.Goals as goal
 
 pub lower-requires-clause-enough : goal.lower-requires-clause-enough

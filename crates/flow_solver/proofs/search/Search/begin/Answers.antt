@@ -1,37 +1,42 @@
-use Rattle.std.proofs.Common.{◌≡◌, ◌≢◌, ℕ, ◌+◌, ◌-◌, ◌<◌, ◌∙◌, arith, ap, length, length-set, get_or-set_same, get_or-set_other, below_more}
-use Rattle.flow_model.specs.declared.edges.Edge.TheVariants.{Inner}
-use Rattle.flow_solver.proofs.Distances.{below_first, first_search}
+use Rattle.std.proofs.Common.{◌≡◌, ◌≢◌, ℕ, ◌∙◌, ◌++◌, List, length, take, drop, set, ap, subst, arith, length-set, get_or-set_same, get_or-set_other, ◌+◌}
+use Rattle.flow_network.proofs.Pushed.{written}
+use Rattle.flow_solver.specs.Queues.{IsQueue}
+use Rattle.flow_solver.specs.Searches.{Found}
+use Rattle.flow_solver.proofs.Distances.{first_tree}
 use Rattle.flow_solver.proofs.search.Search.begin.Goals as goal
 
-pub overflow_sub-first : goal.overflow_sub-first
-overflow_sub-first c =
-    omega (arith, below_first c.args.network.now (c.loop-step.step + 1) c.requires.ready (omega (arith, c.steps-step-end.ensures, ap (λ i. i.steps) c.instance.ensures.instance, c.loop-step-test.true)), c.potential.ensures.potential, c.potential-first.ensures.potential)
+pub returns-clause-far : goal.returns-clause-far
+returns-clause-far c =
+    let old = c.self.inside.distances in
+    let all = c.loop-distance.distance-items in
+    let same : length all ≡ length old.items = omega (arith, c.loop-distance.auto.distance-items, ap length c.deref_mut-distance-items.ensures.value) in
+    let whole : take old.len (all ++ drop (length all) old.items) ≡ all = written old.items all old.len same old.ok.0 in
+    rw whole (λ node some within.
+    let other : node ≢ 0 = omega arith in
+    omega (
+      arith,
+      get_or-set_other all 0 node 0 0 other,
+      c.loop-distance.invariant node (omega (arith, same, c.requires.room.distances, ap (λ (f : Found). length f.distances) c.self.view_is, c.loop-distance-test.false, c.loop-distance.auto.distance-items)),
+      c.potential-far.ensures.potential,
+    ))
 
-pub loop-step-preserved : goal.loop-step-preserved
-loop-step-preserved c =
+pub returns-clause-search : goal.returns-clause-search
+returns-clause-search c =
     let n = c.args.network.now in
-    let t = c.loop-step.step in
-    let inv = c.loop-step.invariant in
-    let d = c.loop-step.self-inside.distances.items in
-    let p = c.loop-step.self-inside.parents.items in
-    let far : ℕ = c.potential-first.result - c.potential.result in
-    let within : t + 1 < length d = omega (arith, inv.distances, c.steps-step-end.ensures, ap (λ i. i.steps) c.instance.ensures.instance, c.loop-step-test.true) in
-    record {
-      distances = length-set d (t + 1) far ∙ inv.distances;
-      parents = length-set p (t + 1) (Inner t) ∙ inv.parents;
-      start = get_or-set_other d (t + 1) 0 far 0 (λ e. omega arith) ∙ inv.start;
-      falls = below_more _ _
-          (λ k h. let other : k + 1 ≢ t + 1 = omega arith in omega (arith, get_or-set_other d (t + 1) (k + 1) far 0 other, inv.falls k h))
-          (omega (arith, get_or-set_same d (t + 1) far 0 within, below_first n (t + 1) c.requires.ready (omega (arith, inv.distances)), c.potential.ensures.potential, c.potential-first.ensures.potential));
-      inner = below_more _ _
-          (λ k h. let other : k + 1 ≢ t + 1 = omega arith in get_or-set_other p (t + 1) (k + 1) (Inner t) (Inner 0) other ∙ inv.inner k h)
-          (get_or-set_same p (t + 1) (Inner t) (Inner 0) (omega (arith, inv.parents, inv.distances)));
-    }
-
-pub returns : goal.returns
-returns c =
-    let n = c.args.network.now in
-    let inv = c.loop-step.invariant in
-    let all : c.loop-step.step ≡ n.instance.steps = omega (arith, c.steps-step-end.ensures, ap (λ i. i.steps) c.instance.ensures.instance, c.loop-step-test.false, c.loop-step.auto.step-end) in
-    first_search n (record { distances = c.loop-step.self-inside.distances.items; parents = c.loop-step.self-inside.parents.items }) c.requires.ready inv.distances inv.parents inv.start
-    (λ k h. inv.falls k (omega arith)) (λ k h. inv.inner k (omega arith))
+    let old = c.self.inside.distances in
+    let all = c.loop-distance.distance-items in
+    let same : length all ≡ length old.items = omega (arith, c.loop-distance.auto.distance-items, ap length c.deref_mut-distance-items.ensures.value) in
+    let whole : take old.len (all ++ drop (length all) old.items) ≡ all = written old.items all old.len same old.ok.0 in
+    let queue : IsQueue c.offer.new.self (set all 0 0) = subst (λ (ds : List ℕ). IsQueue c.offer.new.self ds) (c.deref.ensures.value ∙ ap (λ ds. set ds 0 0) whole) c.offer.ensures.queue in
+    let nodes : length all ≡ n.instance.steps + 1 = omega (arith, same, c.requires.room.distances, ap (λ (f : Found). length f.distances) c.self.view_is) in
+    rw whole (record {
+      tree = first_tree n (set all 0 0) c.self.inside.parents.items (omega (arith, length-set all 0 0, nodes)) (omega (arith, c.requires.room.parents, ap (λ (f : Found). length f.parents) c.self.view_is))
+          (get_or-set_same all 0 0 0 (omega (arith, nodes)))
+          (λ node some within.
+          let other : node ≢ 0 = omega arith in
+          omega (arith, get_or-set_other all 0 node 0 0 other, c.loop-distance.invariant node (omega (arith, nodes, same, c.loop-distance-test.false, c.loop-distance.auto.distance-items)), c.potential-far.ensures.potential));
+      queue = queue;
+      small_stack = omega (arith, c.requires.room.stack, ap (λ (f : Found). length f.stack) c.self.view_is);
+      stack_fits = omega arith;
+      stacked = λ p h. absurd (omega arith);
+    })

@@ -2,7 +2,7 @@ use Rattle.std.proofs.Common.{◌≡◌, ◌+◌, ◌-◌, length, ap, subst, ar
 use Rattle.std.proofs.lemmas.List.{length-take-le}
 use Rattle.flow_model.specs.Instances.{Instance, IsSolution}
 use Rattle.flow_network.proofs.Pushed.{written}
-use Rattle.flow_solver.proofs.Ends.{solved}
+use Rattle.flow_solver.proofs.LastRound.{solved}
 use Rattle.flow_solver.proofs.solver.Solver.solve.Goals as goal
 
 pub returns : goal.returns
@@ -12,7 +12,7 @@ returns c =
     let room = c.into_distances-prices.result.items in
     let old = c.pop.new.self in
     let prices = c.write_prices.new.prices in
-    let room_len : length room ≡ s.instance.steps + 1 = c.into_distances-prices.ensures ∙ inv.distances in
+    let room_len : length room ≡ s.instance.steps + 1 = c.into_distances-prices.ensures ∙ inv.room.distances in
     let old_len : length old.items ≡ s.instance.steps = omega (arith, ap length c.pop.ensures.rest, length-take-le (c.into_distances-prices.result.len - 1) room (omega (arith, c.into_distances-prices.result.ok.0)), room_len, c.into_distances-prices.result.ok.0) in
     let prices_len : length prices ≡ length old.items = omega (arith, c.write_prices.auto.prices, ap length c.deref_mut-2.ensures.value) in
     let whole = written old.items prices old.len prices_len old.ok.0 in

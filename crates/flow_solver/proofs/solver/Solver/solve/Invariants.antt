@@ -1,5 +1,6 @@
-use Rattle.std.proofs.Common.{◌≡◌, ◌+◌, ◌-◌, length}
-use Rattle.flow_solver.specs.Searches.{IsReady}
+use Rattle.std.proofs.Common.{◌≡◌, ◌-◌, ◌*◌, length}
+use Rattle.flow_solver.specs.OuterEdges.{AreListed}
+use Rattle.flow_solver.specs.Searches.{HasRoom, IsReady}
 use Rattle.flow_solver.proofs.solver.Solver.solve.Given as goal
 
 abbrev pub invariant-loop-network : goal.invariant-loop-network
@@ -7,8 +8,8 @@ invariant-loop-network l =
     record {
       ready : IsReady l.network;
       same : l.network.instance ≡ l.initial.network.instance;
-      distances : length l.search.distances ≡ l.network.instance.steps + 1;
-      parents : length l.search.parents ≡ l.network.instance.steps + 1;
+      edges : AreListed l.network.instance l.edges (2 * length l.network.instance.arcs);
+      room : HasRoom l.network.instance.steps l.search;
       path : length l.path.items ≡ l.network.instance.steps;
     }
 

@@ -1,0 +1,38 @@
+use Rattle.std.proofs.Common.{◌≡◌, ℕ, ◌-◌, ◌*◌, ◌<◌, ◌≤◌, ◌∙◌, sym, ap, subst, arith, ⊎_elim, length}
+use Rattle.std.proofs.lemmas.Bool.{cases_eq, cases_lt}
+use Rattle.flow_model.specs.declared.edges.Edge.{Edge}
+use Rattle.flow_model.specs.Instances.{Instance}
+use Rattle.flow_solver.specs.OuterEdges.{edge_of, tail_of}
+use Rattle.flow_solver.specs.Searches.{IsSettled, Rests}
+use Rattle.flow_solver.proofs.Distances.{Nears-trans}
+use Rattle.flow_solver.proofs.EdgeLists.{is_edge_of}
+use Rattle.flow_solver.proofs.search.Search.relax_outer.Goals as goal
+
+pub loop-left-preserved : goal.loop-left-preserved
+loop-left-preserved c =
+    let n = c.args.network.now in
+    let arcs = n.instance.arcs in
+    let lists = c.requires.edges in
+    let before = c.loop-left.self in
+    let after = c.relax.new.self in
+    let inv = c.loop-left.invariant in
+    let number : ℕ = c.loop-left.left - 1 in
+    let within : number < 2 * length arcs = omega (arith, inv.within, c.loop-left-test.true) in
+    let count : ℕ = length arcs in
+    let own : c.outer_edge.result ≡ edge_of count number = c.outer_edge.ensures ∙ ap (λ (n : ℕ). edge_of n number) (ap length c.arcs.ensures.arcs ∙ ap (λ (i : Instance). length i.arcs) c.instance.ensures.instance) in
+    let here : tail_of arcs number ≡ c.args.node = inv.here c.loop-left-test.true in
+    let next = c.after-left.ensures in
+    record {
+      nears = Nears-trans n c.args.self.now before after inv.nears c.relax.ensures.nears;
+      within = omega (arith, next, lists.next_low number within);
+      here = λ some. ap (λ k. tail_of arcs (k - 1)) next ∙ lists.next_here number within (omega (arith, next, some)) ∙ here;
+      settled = λ rests k low high at.
+          ⊎_elim
+          (λ (e : k ≡ number). subst (λ (f : Edge). IsSettled n after.distances f) (own ∙ ap (edge_of count) (sym e)) c.relax.ensures.settled)
+          (λ (other : k ≡ number → ⊥).
+          ⊎_elim
+          (λ (h : k < number). absurd (lists.none_between number k within (omega (arith, next, low)) h (at ∙ sym here)))
+          (λ (h : number ≤ k). c.relax.ensures.nears.stays (edge_of count k) (is_edge_of n.instance k high) (subst (λ (v : ℕ). Rests after v) (sym at) rests) (inv.settled (c.relax.ensures.nears.rests c.args.node rests) k (omega arith) high at))
+          (cases_lt k number))
+          (cases_eq k number);
+    }
