@@ -1,9 +1,8 @@
 -- Lines that are read one after another.
-use Rattle.std.proofs.Common.{◌≡◌, ℕ, zero, suc, ◌+◌, ◌-◌, ◌*◌, ◌^◌, ◌≤◌, ◌<◌, ◌∙◌, sym, refl, ap, subst, List, [], ◌∷◌, ◌++◌, append_assoc, length, arith, Some, None, Option, Ok, Err, Result, IfSome, IfOk, IfErr, inl, inr, ◌⊎◌, length-drop}
+use Rattle.std.proofs.Common.{◌≡◌, ℕ, zero, suc, ◌+◌, ◌-◌, ◌≤◌, ◌∙◌, sym, refl, ap, subst, List, [], ◌∷◌, ◌++◌, append_assoc, length, arith, Some, None, Option, Ok, Err, Result, IfSome, IfOk, IfErr, inl, inr, length-drop}
 use Rattle.std.specs.Option.{option_or}
-use Rattle.std.specs.Io.KnownBytes.{Consumes}
 use Rattle.bound_io.specs.Causes.{Rose}
-use Rattle.bound_io.specs.Devices.{Device, device, HasFailed}
+use Rattle.bound_io.specs.Devices.{Device, device}
 use Rattle.bound_io.specs.Lines.{text_len, after_line}
 use Rattle.bound_io.specs.Positions.{Position}
 use Rattle.bound_io.specs.Reading.{LosesFront}
@@ -72,7 +71,7 @@ start at left faults none = record {
     sub_same n = omega arith
 
 -- past some lines, and then past others
-past_both : (first second third : Position) (bytes : List ℕ) (k : ℕ) → second.line ≡ first.line + k → IsPast first second bytes → IsPast second third (after_lines k bytes) → IsPast first third bytes
+pub past_both : (first second third : Position) (bytes : List ℕ) (k : ℕ) → second.line ≡ first.line + k → IsPast first second bytes → IsPast second third (after_lines k bytes) → IsPast first third bytes
 past_both first second third bytes k line one other =
     let here : bytes_through (second.line - first.line) bytes ≡ bytes_through k bytes = ap (λ n. bytes_through n bytes) (omega (arith, line)) in
     let both : bytes_through (third.line - first.line) bytes ≡ bytes_through k bytes + bytes_through (third.line - second.line) (after_lines k bytes)
@@ -99,9 +98,10 @@ module _ {A : Type 0} (count : ℕ) (P : List ℕ → Type 0) (fault_of : ℕ �
         no_fault = given.1;
         tells = if_told (told old a) _ (λ bytes e.
             let so_far = at_some (told old a) bytes _ e came.tells in
-            let pass = at_some (told now b) (after_lines count bytes) _ so_far.1 passes in
-            ((so_far.0, ap (λ n. fault_of n (after_lines count bytes)) (omega (arith, came.given)) ∙ pass.none, at_some (told now b) (after_lines count bytes) _ so_far.1 value_is),
-              pass.rest ∙ ap (λ r. Some r) (sym (after_lines-add count more bytes))));
+            let pass = at_some (told now b) (after_lines count bytes) _ so_far.1 passes in (
+              (so_far.0, ap (λ n. fault_of n (after_lines count bytes)) (omega (arith, came.given)) ∙ pass.none, at_some (told now b) (after_lines count bytes) _ so_far.1 value_is),
+              pass.rest ∙ ap (λ r. Some r) (sym (after_lines-add count more bytes)),
+            ));
         past = if_told (told old a) _ (λ bytes e.
             let so_far = at_some (told old a) bytes _ e came.tells in
             past_both old now new bytes count came.given (at_some (told old a) bytes _ e came.past) (at_some (told now b) (after_lines count bytes) _ so_far.1 reads.past));
@@ -136,6 +136,7 @@ module _ {A : Type 0} (count : ℕ) (P : List ℕ → Type 0) (fault_of : ℕ �
           let so_far = at_some (told old a) bytes _ e came.tells in
           let same : now.line + 1 ≡ old.line + count + 1 = omega (arith, came.given) in
           first bytes so_far.0 g (ap (λ n. fault_of n (after_lines count bytes)) (sym same) ∙ at_some (told now b) (after_lines count bytes) _ so_far.1 h))
+
       stopped : (f : CertFault) → IsStopped (fault_of (now.line + 1)) (told now b) (device b d y z) f → IsStopped whole (told old a) (device a d x z) f
       stopped ReadFault why = rose_later x y z came.later why
       stopped (BadText n kind) why = has (BadText n kind) why
@@ -199,7 +200,7 @@ lines_stop n front slots more bytes g none is =
     let same : 0 + length front ≡ length front = omega arith in
     let zero' : n + 1 ≡ n + 0 + 1 = omega arith in
     ap (λ m. lines_fault m (front ++ slots ∷ more) bytes) zero' ∙ (ap (lines_fault (n + 0 + 1) (front ++ slots ∷ more)) (sym (after_lines-zero bytes))
-        ∙ stop_after n 0 front slots more bytes g none (ap (λ m. first_fault (n + m + 1) slots (after_lines m bytes)) same ∙ is))
+    ∙ stop_after n 0 front slots more bytes g none (ap (λ m. first_fault (n + m + 1) slots (after_lines m bytes)) same ∙ is))
 
 none_after : (n k : ℕ) (lines : List (List Slot)) (bytes : List ℕ) → NoneFaulty n k lines bytes → lines_fault (n + k + 1) lines (after_lines k bytes) ≡ None
 none_after n k [] bytes none = refl

@@ -1,11 +1,10 @@
 -- Numbers and the digits that write them.
-use Rattle.std.proofs.Common.{◌≡◌, ◌≢◌, ℕ, zero, suc, ◌+◌, ◌-◌, ◌*◌, ◌/◌, ◌%◌, ◌^◌, ◌≤◌, ◌<◌, ◌∙◌, sym, refl, ap, Bool, true, false, ◌&&◌, ◌||◌, ◌==◌, List, [], ◌∷◌, ◌++◌, length, take, get_or, arith, rules, decimal, inl, inr, ◌⊎◌}
+use Rattle.std.proofs.Common.{◌≡◌, ℕ, ◌+◌, ◌-◌, ◌*◌, ◌/◌, ◌%◌, ◌^◌, ◌≤◌, ◌<◌, ◌∙◌, sym, refl, ap, Bool, true, false, ◌||◌, ◌==◌, List, [], ◌∷◌, ◌++◌, length, take, get_or, arith, rules, decimal, inl, inr, ◌⊎◌}
 use Rattle.std.specs.Prelude.{nat_lt}
 use Rattle.std.specs.List.{list_all, list_any}
 use Rattle.std.specs.Char.{is_ascii_digit}
-use Rattle.std.specs.Str.Parse.{AllDigits, digits_value}
-use Rattle.std.proofs.lemmas.Bool.{true≢false, and_parts, and_from, or_cases, or_left, or_right, or_from, cases_lt, eqb-true, eq-eqb, lt-ltb, ltb-true, ne_eqb, le-leb, leb-true}
-use Rattle.std.proofs.lemmas.List.{length-append, take_more, take_all, get_or_append_left, nil_from_length}
+use Rattle.std.proofs.lemmas.Bool.{true≢false, and_parts, and_from, or_cases, or_left, or_right, or_from, cases_lt, eqb-true, eq-eqb, lt-ltb, ltb-true, ne_eqb}
+use Rattle.std.proofs.lemmas.List.{length-append, take_more, take_all, get_or_append_left}
 use Rattle.std.proofs.lemmas.List.Folds.{list_all-append}
 use Rattle.std.proofs.lemmas.Fmt.{decimal_digit, decimal_by_steps_wide, decimal_is_IsNumeral_wide, length-decimal-le_wide}
 use Rattle.std.proofs.lemmas.Str.Parse.{IsNumeralModel, IsDigitsTest, FoldsDigits, numerals_by_fold}
@@ -26,7 +25,7 @@ folds : FoldsDigits value_after
 folds = search rules
 
 -- the digits and the number of this crate are those of std
-own : IsNumeralModel (λ ds. list_all is_ascii_digit ds ≡ true) number_in
+pub own : IsNumeralModel (λ ds. list_all is_ascii_digit ds ≡ true) number_in
 own = numerals_by_fold _ digits_test value_after folds
 
 -- a number written and read again
@@ -68,7 +67,7 @@ lacks-digits byte (d ∷ ds) low digits =
     or_from (d == byte) (list_any (λ b. b == byte) ds) (ne_eqb d byte (λ same. omega (arith, digit_range d parts.0, same, low))) (lacks-digits byte ds low parts.1)
 
 -- the number of digits with one digit more
-value_after-append : (n : ℕ) (ds : List ℕ) (d : ℕ) → value_after n (ds ++ d ∷ []) ≡ 10 * value_after n ds + (d - 48)
+pub value_after-append : (n : ℕ) (ds : List ℕ) (d : ℕ) → value_after n (ds ++ d ∷ []) ≡ 10 * value_after n ds + (d - 48)
 value_after-append n [] d = refl
 value_after-append n (x ∷ ds) d = value_after-append (10 * n + (x - 48)) ds d
 
@@ -90,6 +89,7 @@ canonical_parts word canonical =
     some word (inl one) = omega (arith, eqb-true (length word) 1 one)
     some [] (inr above) = absurd (omega (arith, ltb-true 48 0 above))
     some (x ∷ xs) (inr above) = omega arith
+
     first : ((length word == 1) ≡ true) ⊎ (nat_lt 48 (get_or word 0 0) ≡ true) → 1 < length word → 48 < get_or word 0 0
     first (inl one) long = absurd (omega (arith, eqb-true (length word) 1 one, long))
     first (inr above) long = ltb-true 48 (get_or word 0 0) above

@@ -1,21 +1,19 @@
 -- Bytes that begin with the lines of a certificate.
-use Rattle.std.proofs.Common.{◌≡◌, ◌≢◌, ℕ, zero, suc, ◌+◌, ◌-◌, ◌*◌, ◌^◌, ◌≤◌, ◌<◌, ◌∙◌, sym, refl, ap, Bool, true, false, not, cond, ◌==◌, List, [], ◌∷◌, ◌++◌, append_assoc, length, take, drop, get_or, arith, codes, Some, None, Option, inl, inr, ◌⊎◌, length-take, length-drop}
+use Rattle.std.proofs.Common.{◌≡◌, ℕ, suc, ◌+◌, ◌≤◌, ◌<◌, ◌∙◌, sym, refl, ap, true, false, not, cond, List, [], ◌∷◌, ◌++◌, append_assoc, length, take, drop, get_or, arith, Some, None, Option, inl, inr, ◌⊎◌}
 use Rattle.std.specs.Prelude.{position, nat_lt}
-use Rattle.std.specs.Option.{option_or, option_map, is_some}
-use Rattle.std.specs.List.{list_any, position_or_len}
-use Rattle.std.proofs.lemmas.Bool.{true≢false, false≢true, cases_lt, lt-ltb, le-ltb, or_parts, eqb-true}
+use Rattle.std.specs.Option.{option_map}
+use Rattle.std.specs.List.{list_any}
+use Rattle.std.proofs.lemmas.Bool.{cases_lt, lt-ltb, le-ltb, or_parts, eqb-true}
 use Rattle.std.proofs.Math.Seq.{take-append_seam, drop-append-add}
 use Rattle.std.proofs.lemmas.List.{length-append, take_more, take-append-drop}
-use Rattle.std.proofs.lemmas.List.Sums.{prefix_len-le-length}
 use Rattle.std.proofs.lemmas.List.Quantifiers.{position-Some}
-use Rattle.bound_io.specs.Lines.{is_lf, text_len, first_text, first_line, after_line}
-use Rattle.cache_model.specs.Texts.{line, text_of}
+use Rattle.bound_io.specs.Lines.{is_lf, text_len, first_text, after_line}
+use Rattle.cache_model.specs.Texts.{line}
 use Rattle.cert_format.specs.declared.fault.TextKind.{TextKind}
 use Rattle.cert_format.specs.declared.fault.TextKind.TheVariants.{TooLong}
-use Rattle.cert_format.specs.declared.fault.CertFault.{CertFault}
-use Rattle.cert_format.specs.declared.fault.CertFault.TheVariants.{BadText, Truncated, Trailing}
+use Rattle.cert_format.specs.declared.fault.CertFault.TheVariants.{BadText, Truncated}
 use Rattle.cert_format.specs.Grammar.{Slot, line_fault}
-use Rattle.cert_format.specs.Readings.{first_fault, lines_fault, after_lines, line_text, in_line}
+use Rattle.cert_format.specs.Readings.{first_fault, in_line}
 use Rattle.cert_format.proofs.Spellings.{IsLine}
 
 line-append : (t rest : List ℕ) → line t ++ rest ≡ t ++ 10 ∷ rest

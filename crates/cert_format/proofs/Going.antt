@@ -1,9 +1,8 @@
 -- What a call of the reader gives of what is to come.
-use Rattle.std.proofs.Common.{◌≡◌, ◌≢◌, ℕ, zero, suc, ◌+◌, ◌-◌, ◌^◌, ◌≤◌, ◌<◌, ◌∙◌, sym, refl, ap, subst, Bool, true, false, List, [], ◌∷◌, ◌++◌, length, arith, Some, None, Option, Ok, Err, Result, IfSome, IfOk, IfErr}
-use Rattle.std.specs.Option.{option_or, is_some}
-use Rattle.std.proofs.lemmas.Bool.{true≢false}
+use Rattle.std.proofs.Common.{◌∷◌, ◌≡◌, ◌≢◌, ℕ, suc, ◌+◌, ◌-◌, ◌<◌, ◌∙◌, sym, refl, ap, List, [], ◌++◌, arith, Some, None, Option, Ok, Err}
 use Rattle.bound_io.specs.Devices.{Device}
-use Rattle.bound_io.specs.Lines.{first_text, after_line}
+use Rattle.bound_io.specs.Lines.{first_text, after_line, stands_in}
+use Rattle.bound_io.specs.Positions.{Position}
 use Rattle.cache_model.specs.declared.certificates.Header.{Header}
 use Rattle.cache_model.specs.declared.certificates.Record.{Record}
 use Rattle.cache_model.specs.Texts.{header_lines, line, record_line, text_of}
@@ -12,14 +11,14 @@ use Rattle.cert_format.specs.declared.fault.CertFault.TheVariants.{BadText, Trun
 use Rattle.cert_format.specs.declared.reader.Stage.{Stage}
 use Rattle.cert_format.specs.declared.reader.Stage.TheVariants.{AtHeader, InRecords, AtEnd}
 use Rattle.cert_format.specs.Grammar.{record_slots, end_slots}
-use Rattle.cert_format.specs.Readings.{Reading, reading, read_records, stopped, unless, onto, under, trailing, end_fault, first_fault, header_fault, header_in, record_in, after_lines}
-use Rattle.cert_format.specs.Lines.{told, IsStopped, Passes, Reads}
+use Rattle.cert_format.specs.Readings.{reading, read_records, stopped, unless, onto, under, trailing, end_fault, first_fault, header_fault, header_in, record_in, after_lines}
+use Rattle.cert_format.specs.Lines.{told, IsStopped, Reads}
 use Rattle.cert_format.specs.Finish.{finish_fault, lines_left}
-use Rattle.cert_format.specs.Readers.{Reader, to_come, GoesOn, IsRefused, HeaderRead, RecordRead, EndRead}
+use Rattle.cert_format.specs.Readers.{Reader, fresh, to_come, IsRefused, HeaderRead, RecordRead, EndRead}
 use Rattle.cert_format.proofs.Spellings.{record_spelled}
 use Rattle.cert_format.proofs.Fronts.{fits_first}
 use Rattle.cert_format.proofs.Headers.{header_spelled, after_lines-zero, no_either}
-use Rattle.cert_format.proofs.Taken.{at_some, if_told, after_lines-one}
+use Rattle.cert_format.proofs.Taken.{at_some, if_told, told_some, after_lines-one}
 use Rattle.cert_format.proofs.Wholes.{nothing_read}
 
 -- why lines are not given is why nothing more is read
@@ -43,8 +42,11 @@ coming_end old bytes is = rw is refl
 -- the header
 pub header_goes : (old new : Reader) (source : Device) (h : Header) → old.stage ≡ AtHeader → old.lines.line ≡ 0 → new.stage ≡ InRecords → new.left ≡ h.requests → Reads header_fault 11 header_in old.lines new.lines source (Ok h) → HeaderRead old new source (Ok h)
 header_goes old new source h at first now left reads =
-    let eleven : new.lines.line ≡ 11 = omega (arith, reads.given.0, first) in
-    (now, left, eleven, if_told (told old.lines source.before) _ (λ bytes e.
+    let eleven : new.lines.line ≡ 11 = omega (arith, reads.given.0, first) in (
+      now,
+      left,
+      eleven,
+      if_told (told old.lines source.before) _ (λ bytes e.
           let pass = at_some (told old.lines source.before) bytes _ e reads.passes in
           let is = at_some (told old.lines source.before) bytes _ e reads.value_is in
           let spelled = header_spelled bytes pass.none in
@@ -55,7 +57,8 @@ header_goes old new source h at first now left reads =
             rest = pass.rest;
             coming_is = coming_header old bytes at ∙ (ap (λ o. unless o (under (header_in bytes) (read_records (header_in bytes).requests 12 rest))) pass.none
                 ∙ (ap (λ (k : Header). under k (read_records k.requests 12 rest)) (sym is) ∙ ap (under h) (sym new_coming)));
-          }))
+          }),
+    )
 
 pub header_stops : (old new : Reader) (source : Device) (fault : CertFault) → old.stage ≡ AtHeader → Reads header_fault 11 header_in old.lines new.lines source (Err fault) → IsRefused old source fault
 header_stops old new source fault at reads = refused_by old source header_fault fault reads.stopped (λ bytes f is. coming_header old bytes at ∙ ap (λ o. unless o (under (header_in bytes) (read_records (header_in bytes).requests 12 (after_lines 11 bytes)))) is)
@@ -74,8 +77,11 @@ next_record old k bytes at left =
 pub record_goes : (old new : Reader) (source : Device) (r : Record) → old.stage ≡ InRecords → new.stage ≡ InRecords → new.left + 1 ≡ old.left
     → Reads (first_fault (old.lines.line + 1) record_slots) 1 (λ bytes. record_in (first_text bytes)) old.lines new.lines source (Ok r) → RecordRead old new source (Ok r)
 record_goes old new source r at now left reads =
-    let one : new.lines.line ≡ old.lines.line + 1 = reads.given.0 in
-    (now, left, one, if_told (told old.lines source.before) _ (λ bytes e.
+    let one : new.lines.line ≡ old.lines.line + 1 = reads.given.0 in (
+      now,
+      left,
+      one,
+      if_told (told old.lines source.before) _ (λ bytes e.
           let pass = at_some (told old.lines source.before) bytes _ e reads.passes in
           let is = at_some (told old.lines source.before) bytes _ e reads.value_is in
           let has = fits_first (old.lines.line + 1) record_slots bytes pass.none in
@@ -87,7 +93,8 @@ record_goes old new source r at now left reads =
             rest = pass.rest;
             coming_is = next_record old new.left bytes at (sym left) ∙ (ap (λ o. unless o (onto (record_in (first_text bytes)) (read_records new.left (old.lines.line + 1 + 1) (after_line bytes)))) pass.none
                 ∙ (ap (λ q. onto q (read_records new.left (old.lines.line + 1 + 1) (after_line bytes))) (sym is) ∙ ap (onto r) (sym new_coming)));
-          }))
+          }),
+    )
 
 pub record_stops : (old new : Reader) (source : Device) (fault : CertFault) → old.stage ≡ InRecords → 0 < old.left
     → Reads (first_fault (old.lines.line + 1) record_slots) 1 (λ bytes. record_in (first_text bytes)) old.lines new.lines source (Err fault) → IsRefused old source fault
@@ -111,13 +118,37 @@ nothing_after AtHeader n bytes none = after_lines-one bytes ∙ nothing_read (n 
 nothing_after InRecords n bytes none = after_lines-one bytes ∙ nothing_read (n + 1) (after_line bytes) (no_either (first_fault n end_slots bytes) (trailing (n + 1) (after_line bytes)) none).1
 nothing_after AtEnd n bytes none = after_lines-zero bytes ∙ nothing_read n bytes none
 
+end_of : (a b : List ℕ) → a ++ b ≡ [] → b ≡ []
+end_of [] b is = is
+end_of (x ∷ a) b is = let wrong : x ∷ (a ++ b) ≡ [] = is in cc
+
+-- where nothing is held or left, nothing is left
+nothing_left : (at : Position) (left : Option (List ℕ)) → told at left ≡ Some [] → left ≡ Some []
+nothing_left at left none = by left (told_some at left [] none).1
+  where
+    by : (o : Option (List ℕ)) → stands_in at.held o ≡ Some [] → o ≡ Some []
+    by None is = let wrong : None ≡ Some [] = is in cc
+    by (Some rest) is = let both : at.held ++ rest ≡ [] = cc in ap (λ r. Some r) (end_of at.held rest both)
+
 pub end_goes : (old new : Reader) (source : Device) (stage : Stage) (v : Unit {0}) → old.stage ≡ stage → stage ≢ AtHeader → old.left ≡ 0 → new.stage ≡ AtEnd → new.left ≡ 0
     → Reads (finish_fault stage (old.lines.line + 1)) (lines_left stage) (λ bytes. tt) old.lines new.lines source (Ok v) → EndRead old new source (Ok v)
-end_goes old new source stage v at other none now left reads =
-    (now, left, if_told (told old.lines source.before) _ (λ bytes e.
-          let pass = at_some (told old.lines source.before) bytes _ e reads.passes in
-          (coming_finish old stage bytes at other none ∙ ap stopped pass.none, pass.rest ∙ ap (λ b. Some b) (nothing_after stage (old.lines.line + 1) bytes pass.none))))
+end_goes old new source stage v at other none now left reads = (
+  now,
+  left,
+  if_told (told old.lines source.before) _ (λ bytes e.
+      let pass = at_some (told old.lines source.before) bytes _ e reads.passes in
+      let rest = pass.rest ∙ ap (λ b. Some b) (nothing_after stage (old.lines.line + 1) bytes pass.none) in
+      (coming_finish old stage bytes at other none ∙ ap stopped pass.none, rest, nothing_left new.lines source.after rest)),
+)
 
 pub end_stops : (old new : Reader) (source : Device) (stage : Stage) (fault : CertFault) → old.stage ≡ stage → stage ≢ AtHeader → old.left ≡ 0
     → Reads {A = Unit {0}} (finish_fault stage (old.lines.line + 1)) (lines_left stage) (λ bytes. tt) old.lines new.lines source (Err fault) → IsRefused old source fault
 end_stops old new source stage fault at other none reads = refused_by old source (finish_fault stage (old.lines.line + 1)) fault reads.stopped (λ bytes f is. coming_finish old stage bytes at other none ∙ ap stopped is)
+
+-- a reader that has read nothing stands in what the source has left, and all of it is to come
+pub fresh_told : (left : Option (List ℕ)) → told fresh.lines left ≡ left
+fresh_told None = refl
+fresh_told (Some bytes) = refl
+
+pub fresh_coming : (bytes : List ℕ) → to_come fresh bytes ≡ reading bytes
+fresh_coming bytes = refl

@@ -7,7 +7,7 @@ use Rattle.cache_model.specs.declared.certificates.Record.{Record}
 use Rattle.cert_format.specs.declared.fault.TextKind.TheVariants.{Shape, Number, Range, TooLong}
 use Rattle.cert_format.specs.declared.fault.CertFault.TheVariants.{BadText, Truncated, Trailing}
 use Rattle.cert_format.specs.Grammar.{line_fault, number_line, choice_line, fixed_line, record_slots}
-use Rattle.cert_format.specs.Readings.{Reading, reading, whole, stopped, header_in, after_lines, read_records}
+use Rattle.cert_format.specs.Readings.{reading, whole, stopped, header_in, after_lines, read_records}
 
 -- the number of a line is read without a leading zero, in its range
 leading_zero : line_fault (number_line (codes "capacity") 1 (2 ^ 56)) (codes "capacity 010") ≡ Some Number

@@ -1,5 +1,5 @@
 -- A header in its parts.
-use Rattle.std.proofs.Common.{◌≡◌, ℕ, zero, suc, ◌+◌, ◌-◌, ◌^◌, ◌∙◌, sym, refl, ap, Bool, List, [], ◌∷◌, ◌++◌, length, arith, codes, Some, None, Option}
+use Rattle.std.proofs.Common.{◌≡◌, ℕ, suc, ◌+◌, ◌∙◌, sym, refl, ap, Bool, List, [], ◌∷◌, ◌++◌, length, arith, codes, Some, None, Option}
 use Rattle.std.specs.Option.{option_or}
 use Rattle.bound_io.specs.Lines.{first_text, after_line}
 use Rattle.cert_format.specs.declared.header.Counts.{Counts}
@@ -11,7 +11,7 @@ use Rattle.std.specs.Str.{bytes_eq}
 use Rattle.cert_format.specs.Parts.{counts_in, values_in}
 use Rattle.cache_model.specs.declared.certificates.Header.{Header}
 use Rattle.cert_format.specs.declared.fault.CertFault.{CertFault}
-use Rattle.cert_format.specs.Grammar.{Slot, fixed_line, choice_line, count_slots, value_slots, header_slots, number_at, word_at}
+use Rattle.cert_format.specs.Grammar.{Slot, fixed_line, choice_line, count_slots, value_slots, number_at, word_at}
 use Rattle.cert_format.specs.Readings.{first_fault, lines_fault, after_lines, header_fault, header_in, line_text, objective_in}
 use Rattle.cert_format.proofs.Headers.{after_lines-suc, after_lines-zero}
 use Rattle.cert_format.proofs.Taken.{after_lines-one}
@@ -46,7 +46,7 @@ lines_fault-append n (slots ∷ front) more bytes =
     let same : n + 1 + length front ≡ n + suc (length front) = omega arith in
     ap (option_or (first_fault n slots bytes)) (lines_fault-append (n + 1) front more (after_line bytes))
     ∙ (ap (λ m. option_or (first_fault n slots bytes) (option_or (lines_fault (n + 1) front (after_line bytes)) (lines_fault m more (after_lines (length front) (after_line bytes))))) same
-        ∙ sym (or_assoc (first_fault n slots bytes) (lines_fault (n + 1) front (after_line bytes)) (lines_fault (n + suc (length front)) more (after_lines (length front) (after_line bytes)))))
+    ∙ sym (or_assoc (first_fault n slots bytes) (lines_fault (n + 1) front (after_line bytes)) (lines_fault (n + suc (length front)) more (after_lines (length front) (after_line bytes)))))
 
 -- one line at the end of the lines
 last_line : (n : ℕ) (slots : List Slot) (bytes : List ℕ) → lines_fault n (slots ∷ []) bytes ≡ first_fault n slots bytes
@@ -81,22 +81,22 @@ tail_parts bytes =
     ap (λ b. option_or (first_fault 7 form (after_lines 6 bytes)) (lines_fault 8 (value_slots ++ last ∷ []) b)) (sym (after_lines-suc 6 bytes))
     ∙ ap (option_or (first_fault 7 form (after_lines 6 bytes)))
     (lines_fault-append 8 value_slots (last ∷ []) (after_lines 7 bytes)
-        ∙ (ap (λ b. option_or (values_fault 8 (after_lines 7 bytes)) (lines_fault 11 (last ∷ []) b)) (sym (after_lines-add 7 3 bytes)) ∙ ap (option_or (values_fault 8 (after_lines 7 bytes))) (last_line 11 last (after_lines 10 bytes))))
+    ∙ (ap (λ b. option_or (values_fault 8 (after_lines 7 bytes)) (lines_fault 11 (last ∷ []) b)) (sym (after_lines-add 7 3 bytes)) ∙ ap (option_or (values_fault 8 (after_lines 7 bytes))) (last_line 11 last (after_lines 10 bytes))))
 
 -- the fault of a header is the first one of its parts
 pub header_parts : (n : ℕ) (bytes : List ℕ) → n ≡ 0 → header_fault bytes
     ≡ option_or (first_fault (n + 0 + 1) version (after_lines 0 bytes)) (option_or (first_fault (n + 1 + 1) objective (after_lines 1 bytes)) (option_or (counts_fault (n + 2 + 1) (after_lines 2 bytes))
-      (option_or (first_fault (n + 6 + 1) form (after_lines 6 bytes)) (option_or (values_fault (n + 7 + 1) (after_lines 7 bytes)) (first_fault (n + 10 + 1) last (after_lines 10 bytes))))))
+    (option_or (first_fault (n + 6 + 1) form (after_lines 6 bytes)) (option_or (values_fault (n + 7 + 1) (after_lines 7 bytes)) (first_fault (n + 10 + 1) last (after_lines 10 bytes))))))
 header_parts n bytes zero' =
     let cap = number_at 1 (line_text 3 bytes) in
     let rest = form ∷ (value_slots ++ last ∷ []) in
     rw (zero', after_lines-zero bytes)
     (ap (λ b. option_or (first_fault 1 version bytes) (lines_fault 2 (objective ∷ (count_slots cap ++ rest)) b)) (sym (after_lines-one bytes))
-      ∙ ap (option_or (first_fault 1 version bytes))
-      (ap (λ b. option_or (first_fault 2 objective (after_lines 1 bytes)) (lines_fault 3 (count_slots cap ++ rest) b)) (sym (after_lines-suc 1 bytes))
-        ∙ ap (option_or (first_fault 2 objective (after_lines 1 bytes)))
-        (lines_fault-append 3 (count_slots cap) rest (after_lines 2 bytes)
-            ∙ ap (option_or (counts_fault 3 (after_lines 2 bytes))) (ap (lines_fault 7 rest) (sym (after_lines-add 2 4 bytes)) ∙ tail_parts bytes))))
+    ∙ ap (option_or (first_fault 1 version bytes))
+    (ap (λ b. option_or (first_fault 2 objective (after_lines 1 bytes)) (lines_fault 3 (count_slots cap ++ rest) b)) (sym (after_lines-suc 1 bytes))
+    ∙ ap (option_or (first_fault 2 objective (after_lines 1 bytes)))
+    (lines_fault-append 3 (count_slots cap) rest (after_lines 2 bytes)
+    ∙ ap (option_or (counts_fault 3 (after_lines 2 bytes))) (ap (lines_fault 7 rest) (sym (after_lines-add 2 4 bytes)) ∙ tail_parts bytes))))
 
 -- the counts and the values, by their numbers
 abbrev pub counts_of : ℕ → ℕ → ℕ → ℕ → Counts
@@ -131,6 +131,6 @@ header_same o of_objects n exact v bytes is_o is_first is_n is_exact is_v =
     = is_v ∙ values_same _ _ _ _ _ _ (ap (number_at 1) (line_after 7 0 bytes)) (ap (number_at 1) (line_after 7 1 bytes)) (ap (number_at 1) (line_after 7 2 bytes)) in
     ap (λ p. header_of p n exact v) first
     ∙ (ap (λ m. header_of (objective_in (line_text 2 bytes)) m exact v) counts
-        ∙ (ap (λ b. header_of (objective_in (line_text 2 bytes)) (counts_of (number_at 1 (line_text 3 bytes)) (number_at 1 (line_text 4 bytes)) (number_at 1 (line_text 5 bytes)) (number_at 1 (line_text 6 bytes))) b v) is_exact
-            ∙ ap (λ w. header_of (objective_in (line_text 2 bytes)) (counts_of (number_at 1 (line_text 3 bytes)) (number_at 1 (line_text 4 bytes)) (number_at 1 (line_text 5 bytes)) (number_at 1 (line_text 6 bytes)))
-                (bytes_eq (word_at 1 (line_text 7 bytes)) (codes "exact")) w) values))
+    ∙ (ap (λ b. header_of (objective_in (line_text 2 bytes)) (counts_of (number_at 1 (line_text 3 bytes)) (number_at 1 (line_text 4 bytes)) (number_at 1 (line_text 5 bytes)) (number_at 1 (line_text 6 bytes))) b v) is_exact
+    ∙ ap (λ w. header_of (objective_in (line_text 2 bytes)) (counts_of (number_at 1 (line_text 3 bytes)) (number_at 1 (line_text 4 bytes)) (number_at 1 (line_text 5 bytes)) (number_at 1 (line_text 6 bytes)))
+    (bytes_eq (word_at 1 (line_text 7 bytes)) (codes "exact")) w) values))

@@ -1,16 +1,14 @@
 -- The lines before the records: what is written is read, and what is read is what is written.
-use Rattle.std.proofs.Common.{◌≡◌, ◌≢◌, ℕ, zero, suc, ◌+◌, ◌-◌, ◌*◌, ◌^◌, ◌≤◌, ◌<◌, ◌∙◌, sym, refl, ap, subst, Bool, true, false, List, [], ◌∷◌, ◌++◌, append_assoc, length, get_or, arith, codes, Some, None, Option}
+use Rattle.std.proofs.Common.{◌≡◌, ℕ, zero, suc, ◌+◌, ◌-◌, ◌^◌, ◌<◌, ◌∙◌, sym, refl, ap, Bool, List, [], ◌∷◌, ◌++◌, append_assoc, length, get_or, arith, codes, Some, None, Option}
 use Rattle.std.specs.Option.{option_or, is_some}
-use Rattle.std.specs.List.{list_any}
 use Rattle.std.specs.Str.{bytes_eq}
 use Rattle.std.proofs.lemmas.Bool.{true≢false}
-use Rattle.bound_io.specs.Lines.{is_lf, text_len, first_text, after_line}
+use Rattle.bound_io.specs.Lines.{first_text, after_line}
 use Rattle.cache_model.specs.declared.objects.Objective.{Objective}
 use Rattle.cache_model.specs.declared.certificates.Header.{Header}
 use Rattle.cache_model.specs.Certificates.{IsHeaderInRange}
 use Rattle.cache_model.specs.Texts.{line, text_of, entry, objective_word, form_word, header_lines}
-use Rattle.cert_format.specs.declared.fault.CertFault.{CertFault}
-use Rattle.cert_format.specs.Grammar.{Slot, line_fault, fixed_line, choice_line, number_line, header_slots, number_at, word_at}
+use Rattle.cert_format.specs.Grammar.{Slot, line_fault, header_slots, number_at, word_at}
 use Rattle.cert_format.specs.Readings.{first_fault, lines_fault, after_lines, line_text, header_fault, header_in, objective_in}
 use Rattle.cert_format.proofs.Shapes.{fixed_fits, fixed_only}
 use Rattle.cert_format.proofs.Spellings.{IsLine, number_fits, number_spelled, objective_fits, objective_spelled, form_fits, form_spelled, entry_line, objective_line, form_line}
@@ -82,8 +80,8 @@ header_spelled bytes none =
     let s9 = s8.1 in
     let at9 = number_spelled (codes "lower") 0 (2 ^ 127 - 1) (line_text 10 bytes) s9.0.fits (omega arith) in
     let s10 = s9.1 in
-    let at10 = fixed_only (codes "records") (line_text 11 bytes) s10.0.fits in
-    (record {
+    let at10 = fixed_only (codes "records") (line_text 11 bytes) s10.0.fits in (
+      record {
         capacity = (at2.0, at2.1);
         requests = at3.1;
         unit = (at4.0, at4.1);
@@ -93,13 +91,14 @@ header_spelled bytes none =
         lower = omega (arith, at9.1);
       },
       sym (after_lines-zero bytes)
-      ∙ eleven (codes "cache-bound-certificate 1") (codes "objective " ++ objective_word (objective_in (line_text 2 bytes))) (entry (codes "capacity") (number_at 1 (line_text 3 bytes)))
-      (entry (codes "requests") (number_at 1 (line_text 4 bytes))) (entry (codes "unit") (number_at 1 (line_text 5 bytes))) (entry (codes "denominator") (number_at 1 (line_text 6 bytes)))
-      (codes "form " ++ form_word (bytes_eq (word_at 1 (line_text 7 bytes)) (codes "exact"))) (entry (codes "upper") (number_at 1 (line_text 8 bytes))) (entry (codes "flow") (number_at 1 (line_text 9 bytes)))
-      (entry (codes "lower") (number_at 1 (line_text 10 bytes))) (codes "records")
-      (after_lines 0 bytes) (after_lines 1 bytes) (after_lines 2 bytes) (after_lines 3 bytes) (after_lines 4 bytes) (after_lines 5 bytes) (after_lines 6 bytes) (after_lines 7 bytes) (after_lines 8 bytes) (after_lines 9 bytes) (after_lines 10 bytes) (after_lines 11 bytes)
-      (at_line _ 0 bytes _ stand.0 at0) (at_line _ 1 bytes _ s1.0 at1) (at_line _ 2 bytes _ s2.0 at2.2) (at_line _ 3 bytes _ s3.0 at3.2) (at_line _ 4 bytes _ s4.0 at4.2) (at_line _ 5 bytes _ s5.0 at5.2)
-      (at_line _ 6 bytes _ s6.0 at6) (at_line _ 7 bytes _ s7.0 at7.2) (at_line _ 8 bytes _ s8.0 at8.2) (at_line _ 9 bytes _ s9.0 at9.2) (at_line _ 10 bytes _ s10.0 at10))
+          ∙ eleven (codes "cache-bound-certificate 1") (codes "objective " ++ objective_word (objective_in (line_text 2 bytes))) (entry (codes "capacity") (number_at 1 (line_text 3 bytes)))
+          (entry (codes "requests") (number_at 1 (line_text 4 bytes))) (entry (codes "unit") (number_at 1 (line_text 5 bytes))) (entry (codes "denominator") (number_at 1 (line_text 6 bytes)))
+          (codes "form " ++ form_word (bytes_eq (word_at 1 (line_text 7 bytes)) (codes "exact"))) (entry (codes "upper") (number_at 1 (line_text 8 bytes))) (entry (codes "flow") (number_at 1 (line_text 9 bytes)))
+          (entry (codes "lower") (number_at 1 (line_text 10 bytes))) (codes "records")
+          (after_lines 0 bytes) (after_lines 1 bytes) (after_lines 2 bytes) (after_lines 3 bytes) (after_lines 4 bytes) (after_lines 5 bytes) (after_lines 6 bytes) (after_lines 7 bytes) (after_lines 8 bytes) (after_lines 9 bytes) (after_lines 10 bytes) (after_lines 11 bytes)
+          (at_line _ 0 bytes _ stand.0 at0) (at_line _ 1 bytes _ s1.0 at1) (at_line _ 2 bytes _ s2.0 at2.2) (at_line _ 3 bytes _ s3.0 at3.2) (at_line _ 4 bytes _ s4.0 at4.2) (at_line _ 5 bytes _ s5.0 at5.2)
+          (at_line _ 6 bytes _ s6.0 at6) (at_line _ 7 bytes _ s7.0 at7.2) (at_line _ 8 bytes _ s8.0 at8.2) (at_line _ 9 bytes _ s9.0 at9.2) (at_line _ 10 bytes _ s10.0 at10),
+    )
 
 -- each line has no fault in its place
 abbrev Fit : List (List Slot) → List (List ℕ) → Type 0
@@ -146,17 +145,46 @@ header_fits h range =
     let requests : h.requests < 2 ^ 127 = omega (arith, range.requests) in
     let unit : h.unit < 2 ^ 127 = omega (arith, range.unit, range.capacity) in
     let denominator : h.denominator < 2 ^ 127 = omega (arith, range.denominator) in (
-      (refl, omega arith), fixed_fits (codes "cache-bound-certificate 1"),
-      (objective_line h.objective, (objective_fits h.objective).0,
-        (entry_line (codes "capacity") h.capacity refl (omega arith) capacity, (number_fits (codes "capacity") 1 (2 ^ 56) h.capacity refl range.capacity.0 range.capacity.1 (omega arith)).0,
-          (entry_line (codes "requests") h.requests refl (omega arith) requests, (number_fits (codes "requests") 0 (2 ^ 25) h.requests refl (omega arith) range.requests (omega arith)).0,
-            (entry_line (codes "unit") h.unit refl (omega arith) unit, (number_fits (codes "unit") 1 h.capacity h.unit refl range.unit.0 range.unit.1 (omega arith)).0,
-              (entry_line (codes "denominator") h.denominator refl (omega arith) denominator, (number_fits (codes "denominator") 1 (2 ^ 48) h.denominator refl range.denominator.0 range.denominator.1 (omega arith)).0,
-                (form_line h.exact, (form_fits h.exact).0,
-                  (entry_line (codes "upper") h.upper refl (omega arith) range.upper, (number_fits (codes "upper") 0 (2 ^ 127 - 1) h.upper refl (omega arith) (omega (arith, range.upper)) (omega (arith, range.upper))).0,
-                    (entry_line (codes "flow") h.flow refl (omega arith) range.flow, (number_fits (codes "flow") 0 (2 ^ 127 - 1) h.flow refl (omega arith) (omega (arith, range.flow)) (omega (arith, range.flow))).0,
-                      (entry_line (codes "lower") h.lower refl (omega arith) range.lower, (number_fits (codes "lower") 0 (2 ^ 127 - 1) h.lower refl (omega arith) (omega (arith, range.lower)) (omega (arith, range.lower))).0,
-                        ((refl, omega arith), fixed_fits (codes "records"), tt)))))))))))
+      (refl, omega arith),
+      fixed_fits (codes "cache-bound-certificate 1"),
+      (
+        objective_line h.objective,
+        (objective_fits h.objective).0,
+        (
+          entry_line (codes "capacity") h.capacity refl (omega arith) capacity,
+          (number_fits (codes "capacity") 1 (2 ^ 56) h.capacity refl range.capacity.0 range.capacity.1 (omega arith)).0,
+          (
+            entry_line (codes "requests") h.requests refl (omega arith) requests,
+            (number_fits (codes "requests") 0 (2 ^ 25) h.requests refl (omega arith) range.requests (omega arith)).0,
+            (
+              entry_line (codes "unit") h.unit refl (omega arith) unit,
+              (number_fits (codes "unit") 1 h.capacity h.unit refl range.unit.0 range.unit.1 (omega arith)).0,
+              (
+                entry_line (codes "denominator") h.denominator refl (omega arith) denominator,
+                (number_fits (codes "denominator") 1 (2 ^ 48) h.denominator refl range.denominator.0 range.denominator.1 (omega arith)).0,
+                (
+                  form_line h.exact,
+                  (form_fits h.exact).0,
+                  (
+                    entry_line (codes "upper") h.upper refl (omega arith) range.upper,
+                    (number_fits (codes "upper") 0 (2 ^ 127 - 1) h.upper refl (omega arith) (omega (arith, range.upper)) (omega (arith, range.upper))).0,
+                    (
+                      entry_line (codes "flow") h.flow refl (omega arith) range.flow,
+                      (number_fits (codes "flow") 0 (2 ^ 127 - 1) h.flow refl (omega arith) (omega (arith, range.flow)) (omega (arith, range.flow))).0,
+                      (
+                        entry_line (codes "lower") h.lower refl (omega arith) range.lower,
+                        (number_fits (codes "lower") 0 (2 ^ 127 - 1) h.lower refl (omega arith) (omega (arith, range.lower)) (omega (arith, range.lower))).0,
+                        ((refl, omega arith), fixed_fits (codes "records"), tt),
+                      ),
+                    ),
+                  ),
+                ),
+              ),
+            ),
+          ),
+        ),
+      ),
+    )
 
 header_from : Objective → ℕ → ℕ → ℕ → ℕ → Bool → ℕ → ℕ → ℕ → Header
 header_from o c n u d x v f l = record { objective = o; capacity = c; requests = n; unit = u; denominator = d; exact = x; upper = v; flow = f; lower = l }

@@ -1,19 +1,18 @@
 -- Numbers without leading zeros.
-use Rattle.std.proofs.Common.{◌≡◌, ◌≢◌, ℕ, suc, ◌+◌, ◌-◌, ◌^◌, ◌≤◌, ◌<◌, ◌∙◌, sym, refl, ap, Bool, true, false, not, cond, ◌&&◌, ◌||◌, List, [], ◌∷◌, ◌++◌, length, get_or, arith, ◌==◌, Some, None, Ok, Err, Option, Result, inl, inr, ◌⊎◌}
+use Rattle.std.proofs.Common.{◌≡◌, ◌≢◌, ℕ, suc, ◌+◌, ◌≤◌, ◌<◌, ◌∙◌, sym, refl, ap, Bool, true, false, not, cond, ◌&&◌, List, [], ◌∷◌, length, get_or, arith, ◌==◌, Some, None, Ok, Err, Option, Result, inl, inr, ◌⊎◌}
 use Rattle.std.specs.Prelude.{if◌then◌else◌, position, nat_le, nat_lt}
-use Rattle.std.specs.List.{list_all, position_or_len, prefix_len}
+use Rattle.std.specs.List.{list_all, position_or_len}
 use Rattle.std.specs.Char.{is_ascii_digit}
-use Rattle.std.proofs.lemmas.Bool.{true≢false, and_from, and_left, and_right, leb-true, and_parts, or_left, or_right, or_from, cases_Bool, cases_lt, lt-ltb, le-ltb, le-leb, lt-leb, ltb-true, ltb-false, eqb-true, eqb-false, eq-eqb, ne_eqb, cond_both, not-true, not_from_true}
+use Rattle.std.proofs.lemmas.Bool.{true≢false, and_from, and_left, and_right, leb-true, and_parts, or_right, or_from, cases_lt, lt-ltb, le-ltb, le-leb, lt-leb, ltb-false, eqb-true, eqb-false, ne_eqb, cond_both, not-true}
 use Rattle.std.proofs.lemmas.List.Folds.{list_all_at}
 use Rattle.std.proofs.lemmas.List.Quantifiers.{position-Some}
 use Rattle.std.proofs.lemmas.List.{nil_from_length}
 use Rattle.bound_base.specs.Digits.{is_no_digit, number_of, checked_value, value_below, value_after}
 use Rattle.bound_base.specs.declared.digits.NumFault.{NumFault}
 use Rattle.bound_base.specs.declared.digits.NumFault.TheVariants.{Empty, NotDigit, TooLarge}
-use Rattle.cert_format.specs.declared.fault.TextKind.{TextKind}
 use Rattle.cert_format.specs.declared.fault.TextKind.TheVariants.{Number, Range}
 use Rattle.cert_format.specs.Kinds.{kind_of}
-use Rattle.cert_format.specs.Grammar.{Within, is_canonical, number_in, number_fault, value_unless}
+use Rattle.cert_format.specs.Grammar.{Within, is_canonical, number_in, number_fault}
 
 -- what the answer of a reader of numbers tells of a word
 abbrev pub Says : ℕ → List ℕ → Result ℕ NumFault → Type 0
@@ -122,3 +121,10 @@ refused low high limit word TooLarge is below first =
     some : (word : List ℕ) → 0 < number_in word → 0 < length word
     some [] above = absurd (omega (arith, above))
     some (x ∷ xs) above = omega arith
+
+-- digits whose number is below the limit are read
+pub of_digits : (limit : ℕ) (word : List ℕ) (r : Result ℕ NumFault) → Says limit word r → list_all is_ascii_digit word ≡ true → 0 < length word → number_in word < limit → r ≡ Ok (number_in word)
+of_digits limit word (Ok value) said digits some below = ap Ok said.2
+of_digits limit word (Err Empty) said digits some below = absurd (omega (arith, ap length said, some))
+of_digits limit word (Err (NotDigit place)) said digits some below = absurd (true≢false (sym digits ∙ said))
+of_digits limit word (Err TooLarge) said digits some below = absurd (omega (arith, said.1, below))

@@ -1,6 +1,5 @@
 -- Which texts have the shape of a line.
-use Rattle.std.proofs.Common.{◌≡◌, ◌≢◌, ℕ, suc, ◌+◌, ◌^◌, ◌≤◌, ◌<◌, ◌∙◌, sym, refl, ap, Bool, true, false, not, ◌&&◌, ◌||◌, List, [], ◌∷◌, ◌++◌, length, map, arith, ◌==◌, Some, None, Option, codes, inl, inr, ◌⊎◌, Ok, Err, Result}
-use Rattle.std.specs.List.{list_any}
+use Rattle.std.proofs.Common.{◌≡◌, ◌≢◌, ℕ, ◌+◌, ◌^◌, ◌<◌, ◌∙◌, sym, refl, ap, Bool, true, false, ◌&&◌, ◌||◌, List, [], ◌∷◌, length, map, arith, Some, None, Option, codes, inl, inr, ◌⊎◌, Ok, Err}
 use Rattle.std.specs.Prelude.{slice_index_or}
 use Rattle.std.specs.Option.{option_or, is_some}
 use Rattle.std.specs.Result.{is_ok}
@@ -108,9 +107,10 @@ or_none (Some x) = refl
 pub number_text : (name : List ℕ) (low high : ℕ) (text word : List ℕ) → words text ≡ name ∷ word ∷ [] → 0 < length word
     → (line_fault (number_line name low high) text ≡ number_fault (Within low high) word) × (number_at 1 text ≡ number_in word)
 number_text name low high text word are some =
-    let shape : has_shape (number_line name low high) (words text) ≡ true = rw are (shape_two name (Within low high) word (some_stands low high word some)) in
-    (of_shape (number_line name low high) text shape ∙ (ap (first_number_fault (number_line name low high)) are ∙ or_none (number_fault (Within low high) word)),
-      ap (λ ws. number_in (slice_index_or ws 1 [])) are)
+    let shape : has_shape (number_line name low high) (words text) ≡ true = rw are (shape_two name (Within low high) word (some_stands low high word some)) in (
+      of_shape (number_line name low high) text shape ∙ (ap (first_number_fault (number_line name low high)) are ∙ or_none (number_fault (Within low high) word)),
+      ap (λ ws. number_in (slice_index_or ws 1 [])) are,
+    )
 
 pub no_number_text : (name : List ℕ) (low high : ℕ) (text : List ℕ) → ((word : List ℕ) → words text ≡ name ∷ word ∷ [] → length word ≡ 0) → line_fault (number_line name low high) text ≡ Some Shape
 no_number_text name low high text none = no_shape (number_line name low high) text (false_from_ne_true _ (λ shape.
@@ -259,6 +259,7 @@ text_record text fits = by (cases_Bool (has_shape record_slots (words text)))
     both : (o p : Option TextKind) → option_or o p ≡ None → (o ≡ None) × (p ≡ None)
     both None p h = (refl, h)
     both (Some x) p h = let wrong : Some x ≡ None = h in absurd (true≢false (ap is_some wrong))
+
     by : (has_shape record_slots (words text) ≡ true) ⊎ (has_shape record_slots (words text) ≡ false)
         → (p : List ℕ) × (keep : Bool) × (f : List ℕ) × (words text ≡ p ∷ ((48 + keep_digit keep) ∷ []) ∷ f ∷ [])
         × (number_fault (Within 0 (2 ^ 126)) p ≡ None) × (number_fault (Within 0 (2 ^ 48)) f ≡ None)

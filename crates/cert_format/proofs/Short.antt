@@ -1,7 +1,6 @@
 -- The lines of a certificate have few bytes.
-use Rattle.std.proofs.Common.{◌≡◌, ℕ, ◌+◌, ◌^◌, ◌≤◌, ◌<◌, ◌∙◌, ap, List, ◌∷◌, ◌++◌, [], length, arith, codes, decimal, None, Some, Option, Result, IfOk, sym, refl, subst, inl, inr, ◌⊎◌}
+use Rattle.std.proofs.Common.{◌≡◌, ℕ, ◌+◌, ◌^◌, ◌≤◌, ◌<◌, ap, List, ◌∷◌, ◌++◌, length, arith, codes, decimal, None, Some, Option, Result, IfOk, sym, refl, subst, inl, inr, ◌⊎◌}
 use Rattle.std.proofs.lemmas.List.{length-append}
-use Rattle.cache_model.specs.Texts.{entry}
 use Rattle.cache_model.specs.declared.certificates.Record.{Record}
 use Rattle.cache_model.specs.Certificates.{IsRecordInRange}
 use Rattle.cert_format.specs.declared.fault.TextKind.{TextKind}

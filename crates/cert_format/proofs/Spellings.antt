@@ -1,8 +1,8 @@
 -- Each line has one spelling: what is written is read, and what is read is what is written.
-use Rattle.std.proofs.Common.{◌≡◌, ◌≢◌, ℕ, suc, ◌+◌, ◌-◌, ◌^◌, ◌≤◌, ◌<◌, ◌∙◌, sym, refl, ap, Bool, true, false, not, ◌&&◌, ◌||◌, ◌==◌, List, [], ◌∷◌, ◌++◌, append_assoc, length, arith, decimal, codes, Some, None, Option, inl, inr, ◌⊎◌}
+use Rattle.std.proofs.Common.{◌≡◌, ℕ, ◌+◌, ◌^◌, ◌≤◌, ◌<◌, ◌∙◌, sym, refl, ap, Bool, true, false, ◌&&◌, ◌==◌, List, [], ◌∷◌, ◌++◌, append_assoc, length, arith, decimal, codes, Some, None, inl, inr, ◌⊎◌}
 use Rattle.std.specs.Prelude.{nat_le}
 use Rattle.std.specs.Option.{option_or}
-use Rattle.std.specs.List.{list_all, list_any}
+use Rattle.std.specs.List.{list_any}
 use Rattle.std.specs.Str.{bytes_eq}
 use Rattle.std.proofs.lemmas.Bool.{cases_Bool, and_parts, leb-true, le-leb, or_from}
 use Rattle.std.proofs.lemmas.List.{length-append}
@@ -12,9 +12,8 @@ use Rattle.cache_model.specs.declared.objects.Objective.TheVariants.{Object as H
 use Rattle.cache_model.specs.declared.certificates.Record.{Record}
 use Rattle.cache_model.specs.Certificates.{IsRecordInRange}
 use Rattle.cache_model.specs.Texts.{entry, objective_word, form_word, keep_digit, record_line}
-use Rattle.cert_format.specs.declared.fault.TextKind.{TextKind}
 use Rattle.cert_format.specs.declared.fault.TextKind.TheVariants.{Number, Range}
-use Rattle.cert_format.specs.Grammar.{Slot, Within, words, line_fault, number_line, choice_line, record_slots, number_fault, number_at, number_in, word_at, is_canonical}
+use Rattle.cert_format.specs.Grammar.{Within, words, line_fault, number_line, choice_line, record_slots, number_fault, number_at, number_in, word_at, is_canonical}
 use Rattle.cert_format.specs.Readings.{objective_in, record_in}
 use Rattle.cert_format.proofs.Words.{words-append, words_lone, text_of_two, text_of_three}
 use Rattle.cert_format.proofs.Numbers.{}
@@ -62,9 +61,11 @@ number_spelled name low high text fits small =
     let word = parts.0 in
     let range = range_fits low high word parts.3 in
     let value = (number_text name low high text word parts.1 parts.2).1 in
-    let digits : decimal (number_in word) ≡ word = decimal-number_in word range.0 (omega (arith, range.2, small)) in
-    (omega (arith, value, range.1), omega (arith, value, range.2),
-      text_of_two text name word parts.1 ∙ (ap (λ w. name ++ 32 ∷ w) (sym digits) ∙ (sym (space_between name (decimal (number_in word))) ∙ ap (entry name) (sym value))))
+    let digits : decimal (number_in word) ≡ word = decimal-number_in word range.0 (omega (arith, range.2, small)) in (
+      omega (arith, value, range.1),
+      omega (arith, value, range.2),
+      text_of_two text name word parts.1 ∙ (ap (λ w. name ++ 32 ∷ w) (sym digits) ∙ (sym (space_between name (decimal (number_in word))) ∙ ap (entry name) (sym value))),
+    )
 
 -- the lines of a choice
 pub objective_fits : (o : Objective) → (line_fault (choice_line (codes "objective") (codes "object") (codes "bytes")) (codes "objective " ++ objective_word o) ≡ None) × (objective_in (codes "objective " ++ objective_word o) ≡ o)
@@ -106,7 +107,7 @@ record_words_of : (p f : List ℕ) (keep : Bool) → words p ≡ p ∷ [] → wo
 record_words_of p f keep lone last =
     words-append p (((48 + keep_digit keep) ∷ []) ++ 32 ∷ f)
     ∙ (ap (λ ps. ps ++ words (((48 + keep_digit keep) ∷ []) ++ 32 ∷ f)) lone
-        ∙ ap (λ ps. p ∷ ps) (words-append ((48 + keep_digit keep) ∷ []) f ∙ (ap (λ ps. ps ++ words f) (keep_lone keep) ∙ ap (λ ps. ((48 + keep_digit keep) ∷ []) ∷ ps) last)))
+    ∙ ap (λ ps. p ∷ ps) (words-append ((48 + keep_digit keep) ∷ []) f ∙ (ap (λ ps. ps ++ words f) (keep_lone keep) ∙ ap (λ ps. ((48 + keep_digit keep) ∷ []) ∷ ps) last)))
 
 two_spaces : (a b d : List ℕ) → ((((a ++ 32 ∷ []) ++ b) ++ 32 ∷ []) ++ d) ≡ a ++ 32 ∷ (b ++ 32 ∷ d)
 two_spaces a b d = simp append_assoc
@@ -127,6 +128,7 @@ record_fits r range =
   where
     record_from : ℕ → ℕ → Record
     record_from p f = record { price = p; keep = r.keep; flow = f }
+
     same : {p f : ℕ} → p ≡ r.price → f ≡ r.flow → record_from p f ≡ record_from r.price r.flow
     same {p} {f} e d = ap (λ q. record_from q f) e ∙ ap (record_from r.price) d
 
@@ -137,12 +139,13 @@ record_spelled text fits =
     let flow = range_fits 0 (2 ^ 48) parts.2 parts.5 in
     let is = record_of_text text parts.0 parts.2 parts.1 parts.3 in
     let first : decimal (number_in parts.0) ≡ parts.0 = decimal-number_in parts.0 price.0 (omega (arith, price.2)) in
-    let last : decimal (number_in parts.2) ≡ parts.2 = decimal-number_in parts.2 flow.0 (omega (arith, flow.2)) in
-    (record { price = omega (arith, ap (λ (r : Record). r.price) is, price.2); flow = omega (arith, ap (λ (r : Record). r.flow) is, flow.2) },
+    let last : decimal (number_in parts.2) ≡ parts.2 = decimal-number_in parts.2 flow.0 (omega (arith, flow.2)) in (
+      record { price = omega (arith, ap (λ (r : Record). r.price) is, price.2); flow = omega (arith, ap (λ (r : Record). r.flow) is, flow.2) },
       text_of_three text parts.0 ((48 + keep_digit parts.1) ∷ []) parts.2 parts.3
-      ∙ (ap (λ p. p ++ 32 ∷ (((48 + keep_digit parts.1) ∷ []) ++ 32 ∷ parts.2)) (sym first)
+          ∙ (ap (λ p. p ++ 32 ∷ (((48 + keep_digit parts.1) ∷ []) ++ 32 ∷ parts.2)) (sym first)
           ∙ (ap (λ f. decimal (number_in parts.0) ++ 32 ∷ (((48 + keep_digit parts.1) ∷ []) ++ 32 ∷ f)) (sym last)
-              ∙ (sym (record_line_is (record { price = number_in parts.0; keep = parts.1; flow = number_in parts.2 })) ∙ ap record_line (sym is)))))
+          ∙ (sym (record_line_is (record { price = number_in parts.0; keep = parts.1; flow = number_in parts.2 })) ∙ ap record_line (sym is)))),
+    )
 
 -- no line has an LF, and each has few bytes
 abbrev pub IsLine : List ℕ → Type 0
@@ -153,9 +156,10 @@ both_lack a b la lb = list_any-append (λ x. x == 10) a b ∙ or_from _ _ la lb
 
 pub entry_line : (name : List ℕ) (n : ℕ) → list_any (λ b. b == 10) name ≡ false → length name ≤ 20 → n < 2 ^ 127 → IsLine (entry name n)
 entry_line name n lacks short small =
-    let digits = digits-decimal n (omega arith) in
-    (both_lack (name ++ codes " ") (decimal n) (both_lack name (codes " ") lacks refl) (lacks-digits 10 (decimal n) (omega arith) digits),
-      omega (arith, length-append (name ++ codes " ") (decimal n), length-append name (codes " "), length-decimal 39 n (omega arith) (omega arith) (omega arith), short))
+    let digits = digits-decimal n (omega arith) in (
+      both_lack (name ++ codes " ") (decimal n) (both_lack name (codes " ") lacks refl) (lacks-digits 10 (decimal n) (omega arith) digits),
+      omega (arith, length-append (name ++ codes " ") (decimal n), length-append name (codes " "), length-decimal 39 n (omega arith) (omega arith) (omega arith), short),
+    )
 
 pub objective_line : (o : Objective) → IsLine (codes "objective " ++ objective_word o)
 objective_line Hits = (refl, omega arith)
@@ -173,7 +177,13 @@ pub record_is_line : (r : Record) → IsRecordInRange r → IsLine (record_line 
 record_is_line r range =
     let price : list_any (λ b. b == 10) (decimal r.price) ≡ false = lacks-digits 10 (decimal r.price) (omega arith) (digits-decimal r.price (omega (arith, range.price))) in
     let flow : list_any (λ b. b == 10) (decimal r.flow) ≡ false = lacks-digits 10 (decimal r.flow) (omega arith) (digits-decimal r.flow (omega (arith, range.flow))) in
-    let rest = both_lack ((48 + keep_digit r.keep) ∷ []) (32 ∷ decimal r.flow) (keep_one r.keep).0 flow in
-    (ap (list_any (λ b. b == 10)) (record_line_is r) ∙ both_lack (decimal r.price) (32 ∷ (((48 + keep_digit r.keep) ∷ []) ++ 32 ∷ decimal r.flow)) price rest,
-      omega (arith, ap length (record_line_is r), length-append (decimal r.price) (32 ∷ (((48 + keep_digit r.keep) ∷ []) ++ 32 ∷ decimal r.flow)),
-          length-decimal 38 r.price (omega arith) (omega (arith, range.price)) (omega (arith, range.price)), length-decimal 15 r.flow (omega arith) (omega (arith, range.flow)) (omega (arith, range.flow))))
+    let rest = both_lack ((48 + keep_digit r.keep) ∷ []) (32 ∷ decimal r.flow) (keep_one r.keep).0 flow in (
+      ap (list_any (λ b. b == 10)) (record_line_is r) ∙ both_lack (decimal r.price) (32 ∷ (((48 + keep_digit r.keep) ∷ []) ++ 32 ∷ decimal r.flow)) price rest,
+      omega (
+        arith,
+        ap length (record_line_is r),
+        length-append (decimal r.price) (32 ∷ (((48 + keep_digit r.keep) ∷ []) ++ 32 ∷ decimal r.flow)),
+        length-decimal 38 r.price (omega arith) (omega (arith, range.price)) (omega (arith, range.price)),
+        length-decimal 15 r.flow (omega arith) (omega (arith, range.flow)) (omega (arith, range.flow)),
+      ),
+    )

@@ -1,7 +1,7 @@
 -- One line more is read.
-use Rattle.std.proofs.Common.{◌≡◌, ◌≢◌, ℕ, zero, suc, ◌+◌, ◌-◌, ◌*◌, ◌^◌, ◌≤◌, ◌<◌, ◌∙◌, sym, refl, ap, subst, Bool, true, false, not, cond, List, [], ◌∷◌, length, take, drop, arith, Some, None, Option, Ok, Err, Result, IfSome, IfOk, IfErr, inl, inr, ◌⊎◌, length-take, length-drop}
+use Rattle.std.proofs.Common.{◌≡◌, ℕ, ◌+◌, ◌-◌, ◌*◌, ◌^◌, ◌≤◌, ◌<◌, ◌∙◌, sym, refl, ap, subst, true, false, not, cond, List, [], length, arith, Some, None, Option, Ok, Err, Result, IfSome, IfOk, IfErr, inl, inr, ◌⊎◌, length-take, length-drop}
 use Rattle.std.specs.Prelude.{nat_le}
-use Rattle.std.specs.Option.{option_map, option_or}
+use Rattle.std.specs.Option.{option_map}
 use Rattle.std.specs.Result.{is_ok}
 use Rattle.std.proofs.lemmas.Bool.{true≢false, cases_Bool, ne_eqb, leb-true, le-leb}
 use Rattle.std.proofs.lemmas.List.Sums.{prefix_len-le-length}
@@ -10,7 +10,7 @@ use Rattle.std.specs.Io.KnownBytes.{Keeps}
 use Rattle.bound_io.specs.Devices.{Device}
 use Rattle.bound_io.specs.Reading.{LosesFront}
 use Rattle.bound_io.specs.Lines.{is_lf, text_len, first_text, first_line, after_line, stands_in}
-use Rattle.bound_io.specs.Positions.{Position, GivesLine, GivesNone, Stops, NextLine, IsRefused, IsLine, given, given_by, with_held, with_fault}
+use Rattle.bound_io.specs.Positions.{Position, GivesLine, GivesNone, Stops, NextLine, IsRefused, IsLine, given, given_by}
 use Rattle.bound_io.specs.declared.line_reader.LineFault.{LineFault}
 use Rattle.bound_io.specs.declared.line_reader.LineFault.TheVariants as line
 use Rattle.bound_io.specs.declared.line_reader.WholeLine.{WholeLine}
@@ -20,8 +20,8 @@ use Rattle.cert_format.specs.declared.fault.TextKind.TheVariants.{TooLong}
 use Rattle.cert_format.specs.declared.fault.CertFault.{CertFault}
 use Rattle.cert_format.specs.declared.fault.CertFault.TheVariants.{BadText, Truncated, Trailing, ReadFault}
 use Rattle.cert_format.specs.Grammar.{Slot, line_fault, value_unless}
-use Rattle.cert_format.specs.Readings.{first_fault, lines_fault, after_lines, bytes_through, in_line, trailing}
-use Rattle.cert_format.specs.Lines.{told, text_given, nothing_given, of_line, IsPast, Passes, IsStopped, IsWithin, Reads}
+use Rattle.cert_format.specs.Readings.{first_fault, after_lines, bytes_through, in_line, trailing}
+use Rattle.cert_format.specs.Lines.{told, text_given, nothing_given, of_line, IsPast, IsStopped, IsWithin, Reads}
 use Rattle.cert_format.proofs.Fronts.{whole_line, cut_line, long_line}
 use Rattle.cert_format.proofs.Headers.{after_lines-suc, after_lines-zero}
 
@@ -271,5 +271,9 @@ module _ (old new : Position) (source : Device) (limit : old.limit ≡ 2 ^ 36) (
       (if_told (told old source.before) _ (λ bytes e. some_trailing (old.line + 1) bytes (omega (arith, told_in _ gave.refused.1 bytes e, prefix_len-le-length (λ b. not (is_lf b)) bytes)))) (omega arith)
   look_on (Err line.InputTooLong) gave = refuse_fault line.InputTooLong (Trailing (old.line + 1)) gave.next gave.held
       (if_told (told old source.before) _ (λ bytes e.
-          let past = told_in _ gave.refused bytes e in
-          some_trailing (old.line + 1) bytes (omega (arith, past.1, (told_some old source.before bytes e).0, limit, few, length-take (text_len bytes + 1) bytes)))) (omega arith)
+      let past = told_in _ gave.refused bytes e in
+      some_trailing (old.line + 1) bytes (omega (arith, past.1, (told_some old source.before bytes e).0, limit, few, length-take (text_len bytes + 1) bytes)))) (omega arith)
+
+-- what is made of the text of a line
+pub read_of_line : {A : Type 0} (n line : ℕ) (result : Result A CertFault) (parsed : Result A TextKind) (fault : Option TextKind) (value : A) → result ≡ of_line (n + 1) parsed → parsed ≡ value_unless fault value → n ≡ line → result ≡ of_line (line + 1) (value_unless fault value)
+read_of_line n line result parsed fault value is parsed_is same = is ∙ (ap (of_line (n + 1)) parsed_is ∙ ap (λ m. of_line (m + 1) (value_unless fault value)) same)

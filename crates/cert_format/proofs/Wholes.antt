@@ -1,10 +1,8 @@
 -- Whole certificates: what is written is read, and what is read is what is written.
-use Rattle.std.proofs.Common.{◌≡◌, ◌≢◌, ℕ, zero, suc, ◌+◌, ◌-◌, ◌^◌, ◌≤◌, ◌<◌, ◌∙◌, sym, refl, ap, Bool, true, false, ◌==◌, List, [], ◌∷◌, ◌++◌, append_assoc, append-nil, length, map, arith, codes, Some, None, Option, IfSome, inl, inr, ◌⊎◌}
+use Rattle.std.proofs.Common.{◌≡◌, ℕ, zero, suc, ◌+◌, ◌∙◌, sym, refl, ap, List, [], ◌∷◌, ◌++◌, append_assoc, length, map, arith, codes, Some, None, Option, IfSome}
 use Rattle.std.specs.Prelude.{All}
 use Rattle.std.specs.Option.{is_some}
-use Rattle.std.specs.List.{AllByRecursion}
-use Rattle.std.proofs.lemmas.Bool.{true≢false, cases_eq, eqb-true, ne_eqb, cond-true, cond-false}
-use Rattle.std.proofs.lemmas.List.{nil_from_length}
+use Rattle.std.proofs.lemmas.Bool.{true≢false, ne_eqb}
 use Rattle.std.proofs.lemmas.List.Elements.{All-nil, All-cons, All-head, All-tail}
 use Rattle.std.proofs.lemmas.List.Concat.{flat_map-append}
 use Rattle.bound_io.specs.Lines.{first_text, after_line}
@@ -14,8 +12,8 @@ use Rattle.cache_model.specs.Certificates.{IsCertificate, IsHeaderInRange, IsRec
 use Rattle.cache_model.specs.Texts.{line, text_of, header_lines, record_line, cert_text, cert_lines}
 use Rattle.cert_format.specs.declared.fault.CertFault.{CertFault}
 use Rattle.cert_format.specs.declared.fault.CertFault.TheVariants.{Trailing}
-use Rattle.cert_format.specs.Grammar.{record_slots, end_slots, line_fault}
-use Rattle.cert_format.specs.Readings.{Reading, reading, whole, stopped, unless, onto, under, trailing, end_fault, read_records, first_fault, after_lines, header_fault, header_in, record_in}
+use Rattle.cert_format.specs.Grammar.{record_slots, end_slots}
+use Rattle.cert_format.specs.Readings.{Reading, reading, whole, stopped, unless, onto, under, trailing, read_records, first_fault, after_lines, header_fault, header_in, record_in}
 use Rattle.cert_format.specs.Laws.{IsSpelled}
 use Rattle.cert_format.proofs.Shapes.{fixed_fits, fixed_only}
 use Rattle.cert_format.proofs.Spellings.{record_fits, record_spelled, record_is_line}
@@ -49,7 +47,7 @@ records_read (r ∷ records) n each =
     let there = records_read records (n + 1) (All-tail IsRecordInRange r records each) in
     ap (λ o. unless o (onto (record_in (first_text (line (record_line r) ++ rest))) (read_records (length records) (n + 1) (after_line (line (record_line r) ++ rest))))) fits
     ∙ (ap (λ b. onto (record_in (first_text (line (record_line r) ++ rest))) (read_records (length records) (n + 1) b)) (after_line-line (record_line r) rest is.0)
-        ∙ (ap (λ e. onto e (read_records (length records) (n + 1) rest)) here ∙ ap (onto r) there))
+    ∙ (ap (λ e. onto e (read_records (length records) (n + 1) rest)) here ∙ ap (onto r) there))
 
 cert_text-split : (h : Header) (records : List Record) → cert_text h records ≡ text_of (header_lines h) ++ records_text records
 cert_text-split h records =
@@ -63,9 +61,9 @@ written_read h records c =
     let head = header_read h (records_text records) c.header in
     ap reading (cert_text-split h records)
     ∙ (ap (λ o. unless o (under (header_in bytes) (read_records (header_in bytes).requests 12 (after_lines 11 bytes)))) head.0
-        ∙ (ap (λ (k : Header). under k (read_records k.requests 12 (after_lines 11 bytes))) head.1
-            ∙ (ap (λ b. under h (read_records h.requests 12 b)) head.2
-                ∙ (ap (λ k. under h (read_records k 12 (records_text records))) (sym c.count) ∙ ap (under h) (records_read records 12 c.each)))))
+    ∙ (ap (λ (k : Header). under k (read_records k.requests 12 (after_lines 11 bytes))) head.1
+    ∙ (ap (λ b. under h (read_records h.requests 12 b)) head.2
+    ∙ (ap (λ k. under h (read_records k 12 (records_text records))) (sym c.count) ∙ ap (under h) (records_read records 12 c.each)))))
 
 no_stop : (o : Option CertFault) (r : Reading) → (unless o r).fault ≡ None → (o ≡ None) × (r.fault ≡ None)
 no_stop None r none = (refl, none)
@@ -90,13 +88,15 @@ one_more k n bytes fits rest =
     let has = fits_first n record_slots bytes fits in
     let r = record_in (first_text bytes) in
     let spelled = record_spelled (first_text bytes) has.fits in
-    let records = rest.0 in
-    (r ∷ records, record {
+    let records = rest.0 in (
+      r ∷ records,
+      record {
         read = ap (λ o. unless o (onto r (read_records k (n + 1) (after_line bytes)))) fits ∙ ap (onto r) rest.1.read;
         each = All-cons IsRecordInRange r records spelled.0 rest.1.each;
         count = omega (arith, rest.1.count);
         text = has.is ∙ (ap (λ t. line t ++ after_line bytes) spelled.1 ∙ ap (λ b. line (record_line r) ++ b) rest.1.text);
-      })
+      },
+    )
 
 records_spelled : (k n : ℕ) (bytes : List ℕ) → (read_records k n bytes).fault ≡ None → (records : List Record) × SpelledRecords k n bytes records
 unfolding read_records
@@ -104,13 +104,15 @@ records_spelled zero n bytes none =
     let parts = no_either (first_fault n end_slots bytes) (trailing (n + 1) (after_line bytes)) none in
     let has = fits_first n end_slots bytes parts.0 in
     let nothing = nothing_read (n + 1) (after_line bytes) parts.1 in
-    let end = fixed_only (codes "end") (first_text bytes) has.fits in
-    ([], record {
+    let end = fixed_only (codes "end") (first_text bytes) has.fits in (
+      [],
+      record {
         read = ap stopped none;
         each = All-nil IsRecordInRange;
         count = refl;
         text = has.is ∙ (ap (λ t. line t ++ after_line bytes) end ∙ ap (λ b. line (codes "end") ++ b) nothing);
-      })
+      },
+    )
 records_spelled (suc k) n bytes none =
     let parts = no_stop (first_fault n record_slots bytes) (onto (record_in (first_text bytes)) (read_records k (n + 1) (after_line bytes))) none in
     one_more k n bytes parts.0 (records_spelled k (n + 1) (after_line bytes) parts.1)
@@ -121,12 +123,15 @@ read_written bytes none =
     let h = header_in bytes in
     let parts = no_stop (header_fault bytes) (under h (read_records h.requests 12 (after_lines 11 bytes))) none in
     let head = header_spelled bytes parts.0 in
-    let body = records_spelled h.requests 12 (after_lines 11 bytes) parts.1 in
-    (h, body.0, record {
+    let body = records_spelled h.requests 12 (after_lines 11 bytes) parts.1 in (
+      h,
+      body.0,
+      record {
         read = ap (λ o. unless o (under h (read_records h.requests 12 (after_lines 11 bytes)))) parts.0 ∙ ap (under h) body.1.read;
         certificate = record { header = head.0; count = body.1.count; each = body.1.each };
         text = head.1 ∙ (ap (λ b. text_of (header_lines h) ++ b) body.1.text ∙ sym (cert_text-split h body.0));
-      })
+      },
+    )
 
 -- the records before a fault are in range
 records_in_range : (k n : ℕ) (bytes : List ℕ) → All IsRecordInRange (read_records k n bytes).records

@@ -1,8 +1,8 @@
 -- The words of a line, put together and taken apart.
-use Rattle.std.proofs.Common.{◌≡◌, ◌≢◌, ℕ, suc, ◌+◌, ◌≤◌, ◌<◌, ◌∙◌, sym, refl, ap, Bool, true, false, cond, List, [], ◌∷◌, ◌++◌, length, take, drop, get_or, arith, ◌==◌, not, Some, None, Option, inl, inr, ◌⊎◌}
+use Rattle.std.proofs.Common.{◌≡◌, ℕ, suc, ◌+◌, ◌≤◌, ◌<◌, ◌∙◌, sym, refl, ap, Bool, true, false, cond, List, [], ◌∷◌, ◌++◌, length, take, drop, arith, ◌==◌, not, Some, None, Option, inl, inr, ◌⊎◌}
 use Rattle.std.specs.Prelude.{position, IsTrue}
 use Rattle.std.specs.Option.{is_some}
-use Rattle.std.specs.List.{slice_split, onto_first, join_with_byte, list_any, position_or_len}
+use Rattle.std.specs.List.{onto_first, join_with_byte, list_any, position_or_len}
 use Rattle.std.proofs.lemmas.Bool.{true≢false, or_from, or_parts, cases_lt, lt-ltb, le-ltb}
 use Rattle.std.proofs.lemmas.List.{length-append}
 use Rattle.std.proofs.lemmas.List.Splits.{slice_split-cons_yes, slice_split-cons_no, slice_split_first, join_with_byte-slice_split, length-slice_split}
@@ -139,6 +139,7 @@ is_lone text b said some = (λ yes. (uncut_words text (by (position is_space tex
     by : (o : Option ℕ) → is_some o ≡ false → o ≡ None
     by None h = refl
     by (Some x) h = absurd (true≢false h)
+
     back : (b : Bool) → not b ≡ false → b ≡ true
     back true h = refl
     back false h = absurd (true≢false h)

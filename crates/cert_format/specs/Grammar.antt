@@ -53,8 +53,8 @@ header_slots capacity =
     fixed_line (codes "cache-bound-certificate 1")
     ∷ choice_line (codes "objective") (codes "object") (codes "bytes")
     ∷ (count_slots capacity
-        ++ choice_line (codes "form") (codes "exact") (codes "plain")
-        ∷ (value_slots ++ fixed_line (codes "records") ∷ []))
+    ++ choice_line (codes "form") (codes "exact") (codes "plain")
+    ∷ (value_slots ++ fixed_line (codes "records") ∷ []))
 
 -- price, keep and flow
 abbrev pub record_slots : List Slot

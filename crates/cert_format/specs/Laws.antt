@@ -1,9 +1,9 @@
 -- What is proved of the reading of certificates.
-use Rattle.std.specs.Prelude.{◌≡◌, List, ℕ, ◌++◌, None, Some, IfSome, All}
+use Rattle.std.specs.Prelude.{◌≡◌, List, ℕ, None, IfSome, All}
 use Rattle.cache_model.specs.declared.certificates.Header.{Header}
 use Rattle.cache_model.specs.declared.certificates.Record.{Record}
 use Rattle.cache_model.specs.Certificates.{IsCertificate, IsHeaderInRange, IsRecordInRange}
-use Rattle.cache_model.specs.Texts.{cert_text, header_lines, text_of}
+use Rattle.cache_model.specs.Texts.{cert_text}
 use Rattle.cert_format.specs.Readings.{reading, whole}
 
 -- the text of a certificate is read as that certificate

@@ -1,5 +1,5 @@
 -- The parts of a header that are read one after another.
-use Rattle.std.specs.Prelude.{ℕ, ◌+◌, ◌-◌, ◌^◌, ◌<◌, ◌≤◌, List}
+use Rattle.std.specs.Prelude.{ℕ, ◌^◌, ◌<◌, ◌≤◌, List}
 use Rattle.cert_format.specs.declared.header.Counts.{Counts}
 use Rattle.cert_format.specs.declared.header.Values.{Values}
 use Rattle.cert_format.specs.Grammar.{number_at}

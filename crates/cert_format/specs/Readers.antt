@@ -1,5 +1,5 @@
 -- What a reader of a certificate has still to give.
-use Rattle.std.specs.Prelude.{◌≡◌, ◌≢◌, ℕ, ◌+◌, ◌^◌, ◌<◌, List, [], ◌++◌, codes, Result, Ok, Err, None, Some, IfSome}
+use Rattle.std.specs.Prelude.{◌≡◌, ℕ, ◌+◌, ◌^◌, List, [], ◌++◌, Result, Ok, Err, None, Some, IfSome}
 use Rattle.std.specs.declared.option.Option.{Option}
 use Rattle.bound_io.specs.Devices.{Device, HasFailed}
 use Rattle.bound_io.specs.Positions.{Position}
@@ -62,7 +62,7 @@ abbrev pub RecordRead : Reader → Reader → Device → Result Record CertFault
 RecordRead old new source (Ok r) = (new.stage ≡ InRecords) × (new.left + 1 ≡ old.left) × (new.lines.line ≡ old.lines.line + 1) × IfSome (told old.lines source.before) (GoesOn (onto r) 1 (line (record_line r)) old new source.after)
 RecordRead old new source (Err fault) = IsRefused old source fault
 
--- how the end is read: nothing is to come, and nothing is left
+-- how the end is read: nothing is to come, and nothing is left, neither held nor in the source
 abbrev pub EndRead : {A : Type 0} → Reader → Reader → Device → Result A CertFault → Type 0
-EndRead old new source (Ok value) = (new.stage ≡ AtEnd) × (new.left ≡ 0) × IfSome (told old.lines source.before) (λ bytes. (to_come old bytes ≡ stopped None) × (told new.lines source.after ≡ Some []))
+EndRead old new source (Ok value) = (new.stage ≡ AtEnd) × (new.left ≡ 0) × IfSome (told old.lines source.before) (λ bytes. (to_come old bytes ≡ stopped None) × (told new.lines source.after ≡ Some []) × (source.after ≡ Some []))
 EndRead old new source (Err fault) = IsRefused old source fault

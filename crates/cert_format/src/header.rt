@@ -32,7 +32,7 @@ struct Values {
 
 fn read_counts<S: Source>(lines: &mut LineReader, source: &mut S) -> Result<Counts, CertFault>
     requires limit { lines.old.limit ≡ 2 ^ 36 }
-    requires few { lines.old.line < 2 ^ 25 }
+    requires few { lines.old.line + 4 < 2 ^ 26 }
     requires no_fault { lines.old.fault ≡ None }
     ensures range { IfOk result IsCountsInRange }
     ensures read { Reads (λ bytes. lines_fault (lines.old.line + 1) (count_slots (number_at 1 (first_text bytes))) bytes) 4 counts_in lines.old lines.new (device (S.left source.old) (S.left source.new) (S.faults source.old) (S.faults source.new)) result }
@@ -51,7 +51,7 @@ fn read_counts<S: Source>(lines: &mut LineReader, source: &mut S) -> Result<Coun
 
 fn read_values<S: Source>(lines: &mut LineReader, source: &mut S) -> Result<Values, CertFault>
     requires limit { lines.old.limit ≡ 2 ^ 36 }
-    requires few { lines.old.line < 2 ^ 25 }
+    requires few { lines.old.line + 3 < 2 ^ 26 }
     requires no_fault { lines.old.fault ≡ None }
     ensures range { IfOk result IsValuesInRange }
     ensures read { Reads (lines_fault (lines.old.line + 1) value_slots) 3 values_in lines.old lines.new (device (S.left source.old) (S.left source.new) (S.faults source.old) (S.faults source.new)) result }

@@ -14,10 +14,7 @@ use bound_io::{LineFault, LineReader, Source, WholeLine};
 use cache_model::Record;
 
 // The text of a whole line, which is to be this one. A certificate is too short to pass the limit of its reader.
-fn whole_text<'a>(
-    line: u64,
-    given: Result<WholeLine<'a>, LineFault>,
-) -> Result<&'a [u8], CertFault>
+fn whole_text<'a>(line: u64, given: Result<WholeLine<'a>, LineFault>) -> Result<&'a [u8], CertFault>
     ensures { MatchResult result (λ text. text_given line given.entry ≡ Ok text.now) (λ fault. text_given line given.entry ≡ Err fault) }
 {
     match given {
@@ -115,10 +112,7 @@ pub fn read_choice<S: Source>(
 }
 
 /// Reads the line of a record.
-pub fn read_record<S: Source>(
-    lines: &mut LineReader,
-    source: &mut S,
-) -> Result<Record, CertFault>
+pub fn read_record<S: Source>(lines: &mut LineReader, source: &mut S) -> Result<Record, CertFault>
     requires limit { lines.old.limit ≡ 2 ^ 36 }
     requires few { lines.old.line < 2 ^ 26 }
     requires no_fault { lines.old.fault ≡ None }
@@ -144,7 +138,7 @@ pub fn read_nothing<S: Source>(lines: &mut LineReader, source: &mut S) -> Result
 /// Reads the line after the records, and looks whether nothing follows it.
 pub fn read_end<S: Source>(lines: &mut LineReader, source: &mut S) -> Result<(), CertFault>
     requires limit { lines.old.limit ≡ 2 ^ 36 }
-    requires few { lines.old.line < 2 ^ 25 + 100 }
+    requires few { lines.old.line + 1 < 2 ^ 26 }
     requires no_fault { lines.old.fault ≡ None }
     ensures { Reads (end_fault (lines.old.line + 1)) 1 (λ _. tt) lines.old lines.new (device (S.left source.old) (S.left source.new) (S.faults source.old) (S.faults source.new)) result }
 {

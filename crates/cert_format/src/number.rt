@@ -1,19 +1,38 @@
 //! Numbers of a certificate.
-ghost use Rattle.std.specs.Prelude.{◌≡◌, ◌^◌};
-ghost use Rattle.bound_base.specs.Digits.{number_of};
+ghost use Rattle.std.specs.Prelude.{◌≡◌, ◌^◌, ◌≤◌, true, length, IfSome};
+ghost use Rattle.std.specs.Char.{is_ascii_digit};
+ghost use Rattle.std.specs.List.{list_all};
+ghost use Rattle.bound_base.specs.Digits.{number_of, value_after};
 ghost use Rattle.cert_format.specs.Grammar.{Within, number_fault, number_in, value_unless};
 
 use crate::fault::TextKind;
-use bound_base::{NumFault, read_u64, read_u128};
+use bound_base::{NumFault, read_u128};
 
-// The number that a word writes. Most fit 64 bits, which are faster.
+// The number of a few digits, which fits 64 bits. None where a byte is no digit.
+fn short_value(digits: &[u8]) -> Option<u64>
+    requires { length digits.now ≤ 19 }
+    ensures { IfSome result (λ value. (list_all is_ascii_digit digits.now ≡ true) × (value ≡ value_after 0 digits.now)) }
+{
+    let mut value: u64 = 0;
+    for byte in digits {
+        if !byte.is_ascii_digit() {
+            return None;
+        }
+        value = value * 10 + u64::from(*byte - b'0');
+    }
+    Some(value)
+}
+
+// The number that a word writes, or why it writes none.
 fn value(word: &[u8]) -> Result<u128, NumFault>
     ensures { result ≡ number_of (2 ^ 128) word.now }
 {
-    match read_u64(word) {
-        Ok(value) => Ok(u128::from(value)),
-        Err(NumFault::TooLarge) => read_u128(word),
-        Err(fault) => Err(fault),
+    if word.is_empty() || word.len() > 19 {
+        return read_u128(word);
+    }
+    match short_value(word) {
+        Some(value) => Ok(u128::from(value)),
+        None => read_u128(word),
     }
 }
 

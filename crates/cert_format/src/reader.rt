@@ -18,19 +18,18 @@ use std::marker::Model;
 /// What a reader reads next.
 #[derive(Clone, Copy, PartialEq, Eq)]
 pub enum Stage {
+    /// The lines before the records.
     AtHeader,
+    /// A record, or the end where none is left.
     InRecords,
+    /// Nothing.
     AtEnd,
 }
 
 // Reads the end, where it wasn't read yet, and looks whether nothing follows it.
-fn finish<Q: Source>(
-    lines: &mut LineReader,
-    source: &mut Q,
-    stage: Stage,
-) -> Result<(), CertFault>
+fn finish<Q: Source>(lines: &mut LineReader, source: &mut Q, stage: Stage) -> Result<(), CertFault>
     requires limit { lines.old.limit ≡ 2 ^ 36 }
-    requires few { lines.old.line < 2 ^ 25 + 100 }
+    requires few { lines.old.line + 1 < 2 ^ 26 }
     requires no_fault { lines.old.fault ≡ None }
     ensures { Reads (finish_fault stage (lines.old.line + 1)) (lines_left stage) (λ _. tt) lines.old lines.new (device (Q.left source.old) (Q.left source.new) (Q.faults source.old) (Q.faults source.new)) result }
 {

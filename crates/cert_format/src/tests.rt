@@ -123,13 +123,25 @@ fn a_line_is_refused_for_its_first_fault(rt: HostRuntime) -> Result<(), Fail> {
         (5, b"unit  4", TextKind::Shape),
         (6, b"denominator 281474976710657", TextKind::Range),
         (7, b"form exact ", TextKind::Shape),
-        (8, b"upper 170141183460469231731687303715884105728", TextKind::Range),
-        (9, b"flow 99999999999999999999999999999999999999999", TextKind::Range),
+        (
+            8,
+            b"upper 170141183460469231731687303715884105728",
+            TextKind::Range,
+        ),
+        (
+            9,
+            b"flow 99999999999999999999999999999999999999999",
+            TextKind::Range,
+        ),
         (10, b"lower 1\r", TextKind::Number),
         (11, b"records 2", TextKind::Shape),
         (12, b"0  1 1", TextKind::Shape),
         (12, b"x 2 1", TextKind::Shape),
-        (12, b"85070591730234615865843651857942052865 1 00", TextKind::Range),
+        (
+            12,
+            b"85070591730234615865843651857942052865 1 00",
+            TextKind::Range,
+        ),
         (12, b"1x 1 281474976710657", TextKind::Number),
         (13, b"0 0 281474976710657", TextKind::Range),
         (13, b"0 0 0 0", TextKind::Shape),
@@ -138,7 +150,11 @@ fn a_line_is_refused_for_its_first_fault(rt: HostRuntime) -> Result<(), Fail> {
     ];
     for (line, text, kind) in rows {
         let mut source = MemSource::new(text_with(alloc, line, text)?, Vec::new(alloc), 50);
-        assert_eq!(rt; read_all(alloc, &mut source)?, bad_text(line as u64, kind), "at {text:?}");
+        assert_eq!(rt;
+            read_all(alloc, &mut source)?,
+            bad_text(line as u64, kind),
+            "at {text:?}"
+        );
     }
     Ok(())
 }
@@ -152,12 +168,18 @@ fn a_number_at_the_end_of_its_range_is_read(rt: HostRuntime) -> Result<(), Fail>
         (6, b"denominator 281474976710656"),
         (8, b"upper 170141183460469231731687303715884105727"),
         (9, b"flow 0"),
-        (12, b"85070591730234615865843651857942052864 1 281474976710656"),
+        (
+            12,
+            b"85070591730234615865843651857942052864 1 281474976710656",
+        ),
         (2, b"objective bytes"),
     ];
     for (line, text) in rows {
         let mut source = MemSource::new(text_with(alloc, line, text)?, Vec::new(alloc), 50);
-        assert!(rt; matches!(read_all(alloc, &mut source)?, Read::Whole(..)), "at {text:?}");
+        assert!(rt;
+            matches!(read_all(alloc, &mut source)?, Read::Whole(..)),
+            "at {text:?}"
+        );
     }
     Ok(())
 }
@@ -188,7 +210,12 @@ fn whatever_follows_the_end_is_trailing(rt: HostRuntime) -> Result<(), Fail> {
         text.extend_from_slice(more)?;
         let mut source = MemSource::new(text, Vec::new(alloc), 1000);
         let want = Read::Fault(CertFault::Trailing { line: 15 });
-        assert_eq!(rt; read_all(alloc, &mut source)?, want, "after {} bytes", more.len());
+        assert_eq!(rt;
+            read_all(alloc, &mut source)?,
+            want,
+            "after {} bytes",
+            more.len()
+        );
     }
     Ok(())
 }
@@ -222,12 +249,73 @@ fn a_failed_read_is_answered_again_and_nothing_more_is_read(rt: HostRuntime) -> 
     let mut reader = CertReader::new(alloc)?;
     let fault = Err(CertFault::ReadFault);
     assert_eq!(rt; reader.header(&mut source), fault);
-    assert_eq!(rt; (reader.line(), reader.consumed(), reader.taken()), (7, 98, 100));
+    assert_eq!(rt;
+        (reader.line(), reader.consumed(), reader.taken()),
+        (7, 98, 100)
+    );
     assert_eq!(rt; reader.header(&mut source), fault);
     assert_eq!(rt; reader.next_record(&mut source), Err(CertFault::ReadFault));
     assert_eq!(rt; reader.finish_text(&mut source), Err(CertFault::ReadFault));
     assert_eq!(rt; source.read(&mut [0; 100]), Ok(45));
     Ok(())
+}
+
+#[test]
+fn at_most_a_buffer_is_taken_ahead(rt: HostRuntime) -> Result<(), Fail> {
+    let alloc = rt.alloc();
+    let header = Header {
+        requests: 20000,
+        exact: false,
+        ..HEADER
+    };
+    let mut sink = MemSink::new(alloc, 200000, Vec::new(alloc), 1000)?;
+    write_header(&mut sink, &header)?;
+    for _ in 0..20000 {
+        write_record(&mut sink, &RECORDS[0])?;
+    }
+    let mut source = MemSource::new(sink.into_bytes(), Vec::new(alloc), 100000);
+    let mut reader = CertReader::new(alloc)?;
+    assert_eq!(rt; reader.header(&mut source), Ok(header));
+    assert_eq!(rt; reader.next_record(&mut source), Ok(RECORDS[0]));
+    // The lines of the header have 133 bytes, that of the record 6.
+    assert_eq!(rt;
+        (reader.line(), reader.consumed(), reader.taken()),
+        (12, 139, 65536)
+    );
+    Ok(())
+}
+
+#[test]
+fn numbers_are_in_range_or_not(rt: HostRuntime) {
+    let rows = [
+        (HEADER, true),
+        (Header { unit: 11, ..HEADER }, false),
+        (
+            Header {
+                capacity: (1 << 56) + 1,
+                ..HEADER
+            },
+            false,
+        ),
+        (
+            Header {
+                lower: 1 << 127,
+                ..HEADER
+            },
+            false,
+        ),
+    ];
+    for (header, want) in rows {
+        assert_eq!(rt; header.in_range(), want, "{header:?}");
+    }
+    assert!(rt; RECORDS[0].in_range());
+    assert!(rt;
+        !Record {
+            price: (1 << 126) + 1,
+            ..RECORDS[0]
+        }
+        .in_range()
+    );
 }
 
 #[test]

@@ -1,11 +1,9 @@
-use Rattle.std.proofs.Common.{◌≡◌, ◌+◌, ◌-◌, ◌^◌, ◌≤◌, ◌<◌, ◌∙◌, sym, refl, ap, ◌∷◌, ◌++◌, [], arith, length, Err, Ok, Result, List, ℕ, codes, None, Some, Bool}
-use Rattle.std.specs.Str.{bytes_eq}
+use Rattle.std.proofs.Common.{◌+◌, ◌^◌, ◌∙◌, sym, ap, ◌∷◌, [], codes}
 use Rattle.std.proofs.lemmas.Result.{err_from_is_err_and}
 use Rattle.bound_io.specs.Lines.{first_text}
-use Rattle.cert_format.specs.declared.fault.CertFault.{CertFault}
-use Rattle.cert_format.specs.Grammar.{Slot, fixed_line, choice_line, number_line, count_slots, value_slots, number_at, word_at}
-use Rattle.cert_format.specs.Readings.{first_fault, lines_fault, after_lines, header_fault, header_in}
-use Rattle.cert_format.specs.Parts.{counts_in, values_in}
+use Rattle.cert_format.specs.Grammar.{number_line, count_slots, number_at}
+use Rattle.cert_format.specs.Readings.{first_fault, lines_fault}
+use Rattle.cert_format.specs.Parts.{counts_in}
 use Rattle.cert_format.proofs.Headers.{after_lines-zero}
 use Rattle.cert_format.proofs.Chains.{start, then_more, then_stop, all_done, Nothing, lines_stop, lines_none}
 use Rattle.cert_format.proofs.HeaderParts.{counts_same}

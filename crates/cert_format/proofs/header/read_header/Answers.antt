@@ -1,13 +1,11 @@
-use Rattle.std.proofs.Common.{◌≡◌, ◌+◌, ◌-◌, ◌^◌, ◌≤◌, ◌<◌, ◌∙◌, sym, refl, ap, ◌∷◌, ◌++◌, [], arith, length, Err, Ok, Result, List, ℕ, codes, None, Some, Bool}
+use Rattle.std.proofs.Common.{◌∙◌, codes}
 use Rattle.std.specs.Str.{bytes_eq}
 use Rattle.std.proofs.lemmas.Result.{err_from_is_err_and}
 use Rattle.bound_io.specs.Lines.{first_text}
-use Rattle.cert_format.specs.declared.fault.CertFault.{CertFault}
-use Rattle.cert_format.specs.Grammar.{Slot, fixed_line, choice_line, number_line, count_slots, value_slots, number_at, word_at}
-use Rattle.cert_format.specs.Readings.{first_fault, lines_fault, after_lines, header_fault, header_in}
+use Rattle.cert_format.specs.Grammar.{word_at}
+use Rattle.cert_format.specs.Readings.{first_fault, header_fault, header_in}
 use Rattle.cert_format.specs.Parts.{counts_in, values_in}
-use Rattle.cert_format.proofs.Headers.{after_lines-zero}
-use Rattle.cert_format.proofs.Chains.{start, then_more, then_stop, all_done, Nothing, lines_stop, lines_none}
+use Rattle.cert_format.proofs.Chains.{start, then_more, then_stop, all_done, Nothing}
 use Rattle.cert_format.proofs.HeaderParts.{version, objective, form, last, counts_fault, values_fault, header_parts, stop2, stop3, stop4, stop5, last6, header_same}
 use Rattle.cert_format.proofs.header.read_header.Goals as goal
 

@@ -1,4 +1,4 @@
-use Rattle.std.proofs.Common.{◌≡◌, ◌^◌, ◌∙◌, sym, ap, Some, None}
+use Rattle.std.proofs.Common.{◌^◌, ◌∙◌, sym, ap}
 use Rattle.std.specs.Option.{option_or}
 use Rattle.std.proofs.lemmas.Result.{err_from_is_err_and}
 use Rattle.cert_format.specs.Grammar.{Within, number_fault, number_in, value_unless}

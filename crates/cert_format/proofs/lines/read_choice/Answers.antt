@@ -1,14 +1,12 @@
-use Rattle.std.proofs.Common.{◌≡◌, ◌+◌, ◌≤◌, ◌<◌, ◌^◌, ◌∙◌, sym, refl, ap, subst, ◌∷◌, [], ◌++◌, arith, length, Err, Ok, Result, List, ℕ, codes, decimal, None, inl, inr, ◌⊎◌, length-append}
+use Rattle.std.proofs.Common.{◌≡◌, ◌+◌, ◌≤◌, ◌∙◌, sym, ap, length, List, ℕ, None}
 use Rattle.std.specs.Str.{bytes_eq}
 use Rattle.std.proofs.lemmas.Result.{err_from_is_err_and}
 use Rattle.bound_io.specs.Lines.{first_text}
 use Rattle.bound_io.specs.Devices.{device}
-use Rattle.cert_format.specs.declared.fault.CertFault.{CertFault}
-use Rattle.cert_format.specs.Grammar.{fixed_line, choice_line, number_line, record_slots, line_fault, number_at, word_at, value_unless}
-use Rattle.cert_format.specs.Readings.{record_in}
-use Rattle.cert_format.specs.Lines.{of_line, text_given}
+use Rattle.cert_format.specs.Grammar.{choice_line, line_fault, word_at}
+use Rattle.cert_format.specs.Lines.{text_given}
 use Rattle.cert_format.proofs.Short.{choice_short}
-use Rattle.cert_format.proofs.Taken.{Gave, stop_line, read_line, reads_as}
+use Rattle.cert_format.proofs.Taken.{Gave, stop_line, read_line, reads_as, read_of_line}
 use Rattle.cert_format.proofs.lines.read_choice.Goals as goal
 
 pub returns-in_err-text : goal.returns-in_err-text
@@ -29,5 +27,5 @@ returns g c =
     let line = c.line-line.ensures in
     let text = c.in_ok-text.text.now in
     let short : line_fault (choice_line c.args.name.now c.args.first.now c.args.second.now) text ≡ None → length text ≤ 63 = λ fits. choice_short c.args.name.now c.args.first.now c.args.second.now text fits c.requires.name c.requires.first.1 c.requires.second.1 in
-    reads_as _ _ _ _ _ _ _ _ (c.in_line.ensures ∙ (ap (of_line (c.line-line.result + 1)) c.choice_after.ensures ∙ ap (λ n. of_line (n + 1) (value_unless (line_fault (choice_line c.args.name.now c.args.first.now c.args.second.now) text) ((λ (t : List ℕ). bytes_eq (word_at 1 t) c.args.first.now) text))) line))
+    reads_as _ _ _ _ _ _ _ _ (read_of_line c.line-line.result c.args.lines.now.line c.in_line.result c.choice_after.result (line_fault (choice_line c.args.name.now c.args.first.now c.args.second.now) text) ((λ (t : List ℕ). bytes_eq (word_at 1 t) c.args.first.now) text) c.in_line.ensures c.choice_after.ensures line)
     (read_line (choice_line c.args.name.now c.args.first.now c.args.second.now) (λ (t : List ℕ). bytes_eq (word_at 1 t) c.args.first.now) _ _ _ text short f.source f.later c.next_whole_line.result gave (given ∙ c.in_ok-text.ensures))

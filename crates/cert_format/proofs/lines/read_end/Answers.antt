@@ -1,11 +1,7 @@
-use Rattle.std.proofs.Common.{◌≡◌, ◌+◌, ◌∙◌, sym, ap, None, Some, codes, Option}
-use Rattle.std.specs.Option.{option_or}
-use Rattle.bound_io.specs.Lines.{after_line}
-use Rattle.cert_format.specs.declared.fault.CertFault.{CertFault}
+use Rattle.std.proofs.Common.{◌+◌}
 use Rattle.cert_format.specs.Grammar.{end_slots}
-use Rattle.cert_format.specs.Readings.{first_fault, trailing, end_fault, after_lines}
-use Rattle.cert_format.proofs.Headers.{after_lines-zero}
-use Rattle.cert_format.proofs.Chains.{start, then_last, then_more, then_stop, Nothing, end_after}
+use Rattle.cert_format.specs.Readings.{first_fault, trailing, end_fault}
+use Rattle.cert_format.proofs.Chains.{start, then_last, then_more, Nothing, end_after}
 use Rattle.cert_format.proofs.lines.read_end.Goals as goal
 
 pub returns : goal.returns

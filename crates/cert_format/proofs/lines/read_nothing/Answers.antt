@@ -1,4 +1,4 @@
-use Rattle.std.proofs.Common.{◌≡◌, ◌+◌, ◌∙◌, sym, ap, Result}
+use Rattle.std.proofs.Common.{◌+◌, ◌∙◌, ap}
 use Rattle.bound_io.specs.Devices.{device}
 use Rattle.cert_format.specs.Lines.{nothing_given}
 use Rattle.cert_format.proofs.Taken.{Gave, look_on, reads_as}

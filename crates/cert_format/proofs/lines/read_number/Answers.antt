@@ -1,14 +1,11 @@
-use Rattle.std.proofs.Common.{◌≡◌, ◌+◌, ◌≤◌, ◌<◌, ◌^◌, ◌∙◌, sym, refl, ap, subst, ◌∷◌, [], ◌++◌, arith, length, Err, Ok, Result, List, ℕ, codes, decimal, None, inl, inr, ◌⊎◌, length-append}
-use Rattle.std.specs.Str.{bytes_eq}
+use Rattle.std.proofs.Common.{◌≡◌, ◌+◌, ◌≤◌, ◌∙◌, sym, ap, length, None}
 use Rattle.std.proofs.lemmas.Result.{err_from_is_err_and}
 use Rattle.bound_io.specs.Lines.{first_text}
 use Rattle.bound_io.specs.Devices.{device}
-use Rattle.cert_format.specs.declared.fault.CertFault.{CertFault}
-use Rattle.cert_format.specs.Grammar.{fixed_line, choice_line, number_line, record_slots, line_fault, number_at, word_at, value_unless}
-use Rattle.cert_format.specs.Readings.{record_in}
-use Rattle.cert_format.specs.Lines.{of_line, text_given}
+use Rattle.cert_format.specs.Grammar.{number_line, line_fault, number_at}
+use Rattle.cert_format.specs.Lines.{text_given}
 use Rattle.cert_format.proofs.Short.{number_short}
-use Rattle.cert_format.proofs.Taken.{Gave, stop_line, read_line, reads_as}
+use Rattle.cert_format.proofs.Taken.{Gave, stop_line, read_line, reads_as, read_of_line}
 use Rattle.cert_format.proofs.lines.read_number.Goals as goal
 
 pub returns-in_err-text-clause-read : goal.returns-in_err-text-clause-read
@@ -29,5 +26,5 @@ returns-clause-read g c =
     let line = c.line-line.ensures in
     let text = c.in_ok-text.text.now in
     let short : line_fault (number_line c.args.name.now c.args.low c.args.high) text ≡ None → length text ≤ 63 = λ fits. number_short c.args.name.now c.args.low c.args.high text fits c.requires.short c.requires.high in
-    reads_as _ _ _ _ _ _ _ _ (c.in_line.ensures ∙ (ap (of_line (c.line-line.result + 1)) c.number_after.ensures ∙ ap (λ n. of_line (n + 1) (value_unless (line_fault (number_line c.args.name.now c.args.low c.args.high) text) ((number_at 1) text))) line))
+    reads_as _ _ _ _ _ _ _ _ (read_of_line c.line-line.result c.args.lines.now.line c.in_line.result c.number_after.result (line_fault (number_line c.args.name.now c.args.low c.args.high) text) ((number_at 1) text) c.in_line.ensures c.number_after.ensures line)
     (read_line (number_line c.args.name.now c.args.low c.args.high) (number_at 1) _ _ _ text short f.source f.later c.next_whole_line.result gave (given ∙ c.in_ok-text.ensures))

@@ -1,4 +1,4 @@
-use Rattle.std.proofs.Common.{◌≡◌, refl, true, false}
+use Rattle.std.proofs.Common.{refl, true, false}
 use Rattle.cert_format.proofs.Decimals.{keep_text}
 use Rattle.cert_format.proofs.text.keep_word.Goals as goal
 

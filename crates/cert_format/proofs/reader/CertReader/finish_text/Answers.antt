@@ -1,7 +1,5 @@
-use Rattle.std.proofs.Common.{◌≡◌, ◌≢◌, ◌+◌, ◌-◌, ◌<◌, ◌∙◌, sym, refl, ap, subst, arith, None, Some, Ok, Err, Result, IfErr}
+use Rattle.std.proofs.Common.{◌≢◌, ◌∙◌, sym, refl, ap, subst, Some, Ok}
 use Rattle.bound_io.specs.Devices.{device}
-use Rattle.cert_format.specs.declared.fault.CertFault.{CertFault}
-use Rattle.cert_format.specs.Lines.{IsStopped, told}
 use Rattle.cert_format.specs.Readers.{EndRead, IsRefused}
 use Rattle.cert_format.specs.declared.reader.Stage.TheVariants.{AtHeader, AtEnd}
 use Rattle.cert_format.specs.contracts.reader.CertReader.{the_view}
@@ -20,7 +18,7 @@ returns-in-Ok-clause-read g c = λ none.
     let new = the_view (record { lines = c.finish-finished.new.lines; stage = AtEnd; left = c.self.inside.left; fault = c.self.inside.fault }) in
     rw c.in-Ok.is
     (subst (λ r. EndRead r new (device (g.Q.Source.left c.args.source.now) (g.Q.Source.left c.finish-finished.new.source) (g.Q.Source.faults c.args.source.now) (g.Q.Source.faults c.finish-finished.new.source)) (Ok c.in-Ok.field-0)) is
-        (end_goes old new _ old.stage c.in-Ok.field-0 refl other (ap (λ r. r.left) is ∙ (c.requires none).1) refl (ap (λ r. r.left) is ∙ (c.requires none).1) (rw c.in-Ok.is at c.finish-finished.ensures)))
+    (end_goes old new _ old.stage c.in-Ok.field-0 refl other (ap (λ r. r.left) is ∙ (c.requires none).1) refl (ap (λ r. r.left) is ∙ (c.requires none).1) (rw c.in-Ok.is at c.finish-finished.ensures)))
 
 pub returns-in-Err-clause-read : goal.returns-in-Err-clause-read
 returns-in-Err-clause-read g c = λ none.

@@ -1,12 +1,10 @@
-use Rattle.std.proofs.Common.{◌≡◌, ◌≢◌, ◌+◌, ◌-◌, ◌<◌, ◌∙◌, sym, refl, ap, subst, arith, None, Some, Ok, Err, Result, IfErr}
+use Rattle.std.proofs.Common.{◌∙◌, refl, ap, subst, Ok}
 use Rattle.bound_io.specs.Devices.{device}
-use Rattle.cert_format.specs.declared.fault.CertFault.{CertFault}
-use Rattle.cert_format.specs.Lines.{IsStopped, told}
-use Rattle.cert_format.specs.Readers.{HeaderRead, IsRefused}
+use Rattle.cert_format.specs.Readers.{HeaderRead}
 use Rattle.cert_format.specs.declared.reader.Stage.TheVariants.{InRecords}
 use Rattle.cert_format.specs.contracts.reader.CertReader.{the_view}
 use Rattle.cert_format.proofs.Taken.{same_past}
-use Rattle.cert_format.proofs.Going.{header_goes, header_stops}
+use Rattle.cert_format.proofs.Going.{header_goes}
 use Rattle.cert_format.proofs.reader.CertReader.header.Goals as goal
 
 pub returns-in-Some-clause-past : goal.returns-in-Some-clause-past

@@ -1,7 +1,5 @@
-use Rattle.std.proofs.Common.{◌≡◌, ◌≢◌, ◌+◌, ◌-◌, ◌<◌, ◌∙◌, sym, refl, ap, subst, arith, None, Some, Ok, Err, Result, IfErr}
+use Rattle.std.proofs.Common.{◌-◌, ◌∙◌, ap, subst, arith, Some, Ok}
 use Rattle.bound_io.specs.Devices.{device}
-use Rattle.cert_format.specs.declared.fault.CertFault.{CertFault}
-use Rattle.cert_format.specs.Lines.{IsStopped, told}
 use Rattle.cert_format.specs.Readers.{RecordRead, IsRefused}
 use Rattle.cert_format.specs.contracts.reader.CertReader.{the_view}
 use Rattle.cert_format.proofs.Taken.{same_past}
@@ -19,7 +17,7 @@ returns-in-Ok-clause-read g c = λ none.
     let new = the_view (record { lines = c.read_record-found.new.lines; stage = c.self.inside.stage; left = c.self.inside.left - 1; fault = c.self.inside.fault }) in
     rw c.in-Ok.is
     (subst (λ r. RecordRead r new (device (g.Q.Source.left c.args.source.now) (g.Q.Source.left c.read_record-found.new.source) (g.Q.Source.faults c.args.source.now) (g.Q.Source.faults c.read_record-found.new.source)) (Ok c.in-Ok.field-0)) is
-        (record_goes old new _ c.in-Ok.field-0 at at (omega (arith, ap (λ r. r.left) is, (c.requires none).1)) (rw c.in-Ok.is at c.read_record-found.ensures.read)))
+    (record_goes old new _ c.in-Ok.field-0 at at (omega (arith, ap (λ r. r.left) is, (c.requires none).1)) (rw c.in-Ok.is at c.read_record-found.ensures.read)))
 
 pub returns-in-Err-clause-read : goal.returns-in-Err-clause-read
 returns-in-Err-clause-read g c = λ none.
