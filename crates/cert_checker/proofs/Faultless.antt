@@ -1,15 +1,13 @@
 -- A valid certificate has no fault.
-use Rattle.std.proofs.Common.{◌≡◌, ◌≢◌, ℕ, suc, zero, ◌+◌, ◌-◌, ◌*◌, ◌/◌, ◌%◌, ◌^◌, ◌<◌, ◌≤◌, ◌∙◌, sym, refl, ap, subst, Bool, true, false, not, ◌&&◌, ◌==◌, cond, nat_lt, nat_le, find, List, [], ◌∷◌, ◌++◌, length, map, take, get_or, sum, sum_by, arith, All, Any, Contains, None, Some, ⊎_elim, ◌⊎◌, inl, inr}
-use Rattle.std.specs.Prelude.{IsTrue}
-use Rattle.std.specs.declared.option.Option.{Option}
+use Rattle.std.proofs.Common.{◌≡◌, ℕ, suc, zero, ◌+◌, ◌-◌, ◌*◌, ◌/◌, ◌%◌, ◌^◌, ◌<◌, ◌≤◌, ◌∙◌, sym, refl, ap, subst, Bool, true, false, not, ◌&&◌, ◌==◌, cond, nat_lt, nat_le, List, [], ◌∷◌, length, map, take, get_or, sum, arith, All, Any, None, ◌⊎◌, inl, inr}
 use Rattle.std.specs.List.{AllZip, list_any, range_with_len}
 use Prim.Native.Nat.{◌∣◌}
 use Rattle.std.proofs.Common.{eq-eqb}
 use Rattle.std.proofs.Math.Nat.{mul-le-mul_left}
-use Rattle.std.proofs.lemmas.Bool.{and_left, and_parts, and_right, both_ways, cases_Bool, cases_lt, eqb-true, leb-true, le-leb, le-ltb, lt-ltb, ltb-true, not-true}
-use Rattle.std.proofs.lemmas.List.{get_or-map, length-map, get_or-take}
-use Rattle.std.proofs.lemmas.List.Elements.{All-contains, All-from_get_or}
-use Rattle.std.proofs.lemmas.List.Folds.{Any-from_list_any, list_any_none}
+use Rattle.std.proofs.lemmas.Bool.{and_parts, both_ways, eqb-true, leb-true, le-leb, le-ltb, not-true}
+use Rattle.std.proofs.lemmas.List.{get_or-map}
+use Rattle.std.proofs.lemmas.List.Elements.{All-contains}
+use Rattle.std.proofs.lemmas.List.Folds.{Any-from_list_any}
 use Rattle.std.proofs.lemmas.List.FromFn.{length-range_with_len, get_or-range_with_len}
 use Rattle.std.proofs.lemmas.List.Sums.{sum_by-take-le}
 use Rattle.std.proofs.lemmas.Nat.Gcd.{mod-eq-zero_of_dvd}
@@ -22,19 +20,17 @@ use Rattle.cache_model.specs.Objects.{request_at, no_object, IsFirst, IsNext}
 use Rattle.cache_model.specs.Intervals.{interval_of}
 use Rattle.cache_model.specs.Keeps.{contents_of, held_before, is_latest, latest_sum, load_after}
 use Rattle.cache_model.specs.Laws.{IsEligible}
-use Rattle.cache_model.specs.Schedules.{load_at}
 use Rattle.cache_model.specs.Units.{weight}
-use Rattle.cache_model.specs.Certificates.{eligible_of, flow_at, flows_of, keeps_of, prices_of, units_of, unpriced, IsValid}
+use Rattle.cache_model.specs.Certificates.{eligible_of, flow_at, keeps_of, prices_of, units_of, unpriced, IsValid}
 use Rattle.cache_model.proofs.Duality.{same_object-true}
 use Rattle.cache_model.proofs.DifferentObjects.{is_first-yes}
 use Rattle.cache_model.proofs.Eligible.{list_any-range_true}
 use Rattle.cache_model.proofs.Members.{All-eligible_intervals, Contains-eligible}
 use Rattle.cache_model.proofs.Loads.{load-latest}
 use Rattle.cache_model.proofs.Scores.{first_or_next}
-use Rattle.cert_checker.specs.declared.rules.Figures.{Figures}
 use Rattle.cert_checker.specs.Laws.{FaultlessIsValid, IsFaultless}
-use Rattle.cert_checker.specs.Rules.{counted_of, divides, ends_interval, end_fault, figures_at, first_unused, record_at, record_fault, was_requested, weight_in}
-use Rattle.cert_checker.proofs.Passing.{Passes, none_from_Passes, EndPasses, none_from_EndPasses, and_from_second, not_from_equal}
+use Rattle.cert_checker.specs.Rules.{counted_of, divides, ends_interval, figures_at, first_unused, record_at, record_fault, was_requested, weight_in}
+use Rattle.cert_checker.proofs.Passing.{none_from_Passes, none_from_EndPasses, and_from_second, not_from_equal}
 use Rattle.cert_checker.proofs.Unused.{find-range_none}
 use Rattle.cert_checker.proofs.Validity.{IsValid-faultless}
 

@@ -1,6 +1,6 @@
 -- What it means that no rule of a record fails.
-use Rattle.std.proofs.Common.{◌≡◌, ℕ, ◌+◌, ◌*◌, ◌/◌, ◌%◌, ◌^◌, ◌<◌, ◌≤◌, ◌∙◌, sym, refl, ap, Bool, true, false, not, ◌&&◌, ◌||◌, ◌==◌, cond, nat_lt, nat_le, List, [], ◌∷◌, ◌++◌, length, take, drop, sum, arith, None, Some, is_some, true≢false}
-use Rattle.std.specs.Prelude.{Result, Ok, Err, IsTrue}
+use Rattle.std.proofs.Common.{◌≡◌, ℕ, ◌*◌, ◌/◌, ◌^◌, ◌∙◌, sym, refl, ap, Bool, true, false, not, ◌&&◌, ◌==◌, nat_lt, List, [], ◌∷◌, ◌++◌, drop, None, Some, is_some, true≢false}
+use Rattle.std.specs.Prelude.{Result, Ok, Err}
 use Rattle.std.specs.declared.option.Option.{Option}
 use Rattle.std.specs.Option.{option_or, option_map}
 use Rattle.std.proofs.Common.{eq-eqb}
@@ -14,7 +14,7 @@ use Rattle.cache_model.specs.Play.{gain_of}
 use Rattle.cache_model.specs.Certificates.{units_of}
 use Rattle.cert_format.specs.declared.invalid.InvalidKind.{InvalidKind}
 use Rattle.cert_checker.specs.declared.rules.Figures.{Figures}
-use Rattle.cert_checker.specs.Rules.{found, first_some, divides, ends_interval, weight_in, price_rules, interval_rules, load_rules, record_rules, end_rules, unless_fault}
+use Rattle.cert_checker.specs.Rules.{found, first_some, divides, ends_interval, weight_in, record_rules, end_rules, unless_fault}
 
 -- the first of two lists is that of the first, or else of the second
 pub first_some-append : {A : Type 0} (xs ys : List (Option A)) → first_some (xs ++ ys) ≡ option_or (first_some xs) (first_some ys)

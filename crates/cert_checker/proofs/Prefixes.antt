@@ -1,8 +1,7 @@
 -- What is said of the first requests and records does not change with those that follow.
-use Rattle.std.proofs.Common.{◌≡◌, ℕ, suc, zero, ◌+◌, ◌-◌, ◌*◌, ◌/◌, ◌<◌, ◌≤◌, ◌∙◌, sym, refl, ap, Bool, true, false, not, ◌&&◌, ◌==◌, cond, List, [], ◌∷◌, ◌++◌, length, map, filter, take, drop, slice_range, get_or, sum, sum_by, arith}
+use Rattle.std.proofs.Common.{◌≡◌, ℕ, suc, zero, ◌+◌, ◌-◌, ◌<◌, ◌≤◌, ◌∙◌, refl, ap, Bool, true, false, not, ◌&&◌, ◌==◌, cond, List, ◌∷◌, ◌++◌, length, map, filter, take, drop, slice_range, get_or, sum, arith}
 use Rattle.std.specs.List.{range_with_len, list_any}
-use Rattle.std.specs.declared.option.Option.{Option}
-use Rattle.std.proofs.lemmas.List.{get_or_append_left, length-append, length-drop, length-map, map-append, take-append-le, drop-append-le}
+use Rattle.std.proofs.lemmas.List.{get_or_append_left, length-drop, length-map, map-append, take-append-le, drop-append-le}
 use Rattle.cache_model.specs.declared.objects.Object.{Object}
 use Rattle.cache_model.specs.declared.objects.Objective.{Objective}
 use Rattle.cache_model.specs.declared.certificates.Header.{Header}
@@ -13,7 +12,6 @@ use Rattle.cache_model.specs.Keeps.{is_kept, is_held, is_latest, held_before, la
 use Rattle.cache_model.specs.Certificates.{flow_at, keeps_of, prices_of, unpriced}
 use Rattle.cache_model.proofs.Streams.{sum_by-range_agree}
 use Rattle.cache_model.proofs.Scores.{earned_at}
-use Rattle.cert_format.specs.declared.invalid.InvalidKind.{InvalidKind}
 use Rattle.cert_checker.specs.declared.rules.Figures.{Figures}
 use Rattle.cert_checker.specs.Rules.{first_some, record_rules, record_at, was_requested, figures_at, record_fault}
 

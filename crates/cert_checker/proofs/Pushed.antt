@@ -1,26 +1,25 @@
 -- One more request and its record: what the figures and the sums become.
-use Rattle.std.proofs.Common.{◌≡◌, ◌≢◌, ℕ, suc, zero, ◌+◌, ◌-◌, ◌*◌, ◌/◌, ◌<◌, ◌≤◌, ◌∙◌, sym, refl, ap, Bool, true, false, not, ◌&&◌, ◌==◌, cond, nat_le, List, [], ◌∷◌, ◌++◌, length, map, zip, take, drop, slice_range, get_or, sum, sum_by, arith, All, None, Some}
+use Rattle.std.proofs.Common.{◌≡◌, ℕ, suc, ◌+◌, ◌-◌, ◌*◌, ◌/◌, ◌<◌, ◌≤◌, ◌∙◌, sym, refl, ap, Bool, false, ◌==◌, cond, nat_le, List, [], ◌∷◌, ◌++◌, length, map, zip, take, drop, slice_range, get_or, sum, sum_by, arith, None, Some}
 use Rattle.std.specs.Prelude.{MatchOption}
 use Rattle.std.specs.declared.option.Option.{Option}
 use Rattle.std.specs.Option.{is_some}
 use Rattle.std.specs.List.{range_with_len, list_any}
-use Rattle.std.proofs.lemmas.List.{get_or_append_left, get_or_push, length-append, length-drop, length-map, map-append, take-append-le, take_all}
+use Rattle.std.proofs.lemmas.List.{get_or_push, length-append, length-drop, length-map, map-append, take-append-le, take_all}
 use Rattle.std.proofs.lemmas.List.Elements.{All-from_get_or}
 use Rattle.std.proofs.lemmas.List.Folds.{list_any_at, list_any_none}
 use Rattle.std.proofs.lemmas.List.Sums.{sum_by-cons, sum_by_push, sum_by-take-drop}
 use Rattle.cache_model.specs.declared.objects.Object.{Object}
-use Rattle.cache_model.specs.declared.objects.Objective.{Objective}
 use Rattle.cache_model.specs.declared.intervals.Interval.{Interval}
 use Rattle.cache_model.specs.declared.certificates.Header.{Header}
 use Rattle.cache_model.specs.declared.certificates.Record.{Record}
 use Rattle.cache_model.specs.Play.{same_object, gain_of, holds, score, total_size}
 use Rattle.cache_model.specs.Objects.{request_at, no_object, IsLatest, IsNew}
-use Rattle.cache_model.specs.Intervals.{interval_of, eligible_intervals, surplus}
+use Rattle.cache_model.specs.Intervals.{interval_of, surplus}
 use Rattle.cache_model.specs.Keeps.{contents_of, is_kept, is_latest, held_before, latest_sum, load_after}
 use Rattle.cache_model.specs.Laws.{IsEligible}
 use Rattle.cache_model.specs.Schedules.{flow_value}
 use Rattle.cache_model.specs.Units.{weight}
-use Rattle.cache_model.specs.Certificates.{eligible_of, flow_at, flow_of, flows_of, keeps_of, prices_of, unpriced}
+use Rattle.cache_model.specs.Certificates.{eligible_of, flow_at, flow_of, keeps_of, prices_of, unpriced}
 use Rattle.cache_model.proofs.Duality.{same_object-true}
 use Rattle.cache_model.proofs.Streams.{sum_by-range_agree, eligible_push_first, eligible_push_again}
 use Rattle.cache_model.proofs.Latest.{held-latest, latest_sum_push_first, latest_sum_push_again}
@@ -33,7 +32,7 @@ use Rattle.cert_checker.specs.declared.summary.Sums.{Sums}
 use Rattle.cert_checker.specs.Rules.{figures_at, record_at, was_requested}
 use Rattle.cert_checker.specs.Steps.{added, AreNext, flow_before, size_before}
 use Rattle.cert_checker.specs.Summaries.{AreSums, IsSeen}
-use Rattle.cert_checker.proofs.Prefixes.{earned_at-front, flow_at-front, held_before-front, is_kept-front, latest_sum-front, request_at-front, slice_range-prices, take-prices, prices_of-append}
+use Rattle.cert_checker.proofs.Prefixes.{earned_at-front, flow_at-front, is_kept-front, request_at-front, slice_range-prices, prices_of-append}
 
 -- two sums over a list whose terms agree
 pub sum_by-all_agree : {X : Type 0} (f g : X → ℕ) (xs : List X) → ((k : ℕ) (d : X) → k < length xs → f (get_or xs k d) ≡ g (get_or xs k d)) → sum_by f xs ≡ sum_by g xs
@@ -132,13 +131,24 @@ module _ (h : Header) (trace : List Object) (records : List Record) (x : Object)
         at : (b : Option Seen) → MatchOption b (IsNew trace x) (IsSeen trace records x)
             → load_after trace' (keeps_of records') n + size_before x b ≡ total_size (held_before trace (keeps_of records) n) + cond r.keep x.size 0
         at None new =
-            omega (arith, load-held trace' (keeps_of records') (n + 1), load-held trace (keeps_of records) n, kept_size-pushed,
-              latest_sum-new (kept_size trace' (keeps_of records')) (kept_size trace (keeps_of records)) kept_size-same new)
+            omega (
+              arith,
+              load-held trace' (keeps_of records') (n + 1),
+              load-held trace (keeps_of records) n,
+              kept_size-pushed,
+              latest_sum-new (kept_size trace' (keeps_of records')) (kept_size trace (keeps_of records)) kept_size-same new,
+            )
         at (Some seen) is =
             let own : cond seen.keep x.size 0 ≡ kept_size trace (keeps_of records) seen.latest =
             ap (λ b. cond b x.size 0) is.keep ∙ ap (λ (y : Object). cond (is_kept (keeps_of records) seen.latest) y.size 0) (same_object-true x (request_at trace seen.latest) is.latest.same) in
-            omega (arith, own, load-held trace' (keeps_of records') (n + 1), load-held trace (keeps_of records) n, kept_size-pushed,
-              latest_sum-again (kept_size trace' (keeps_of records')) (kept_size trace (keeps_of records)) kept_size-same seen.latest is.latest)
+            omega (
+              arith,
+              own,
+              load-held trace' (keeps_of records') (n + 1),
+              load-held trace (keeps_of records) n,
+              kept_size-pushed,
+              latest_sum-again (kept_size trace' (keeps_of records')) (kept_size trace (keeps_of records)) kept_size-same seen.latest is.latest,
+            )
 
     pub flows-pushed : latest_sum trace' (flow_at records') (n + 1) + flow_before before ≡ latest_sum trace (flow_at records) n + r.flow
     flows-pushed = at before known

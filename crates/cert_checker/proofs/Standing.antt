@@ -1,10 +1,9 @@
 -- A checker stands for the requests and records that it was given, one step later too.
-use Rattle.std.proofs.Common.{◌≡◌, ◌≢◌, ℕ, suc, zero, ◌+◌, ◌-◌, ◌*◌, ◌/◌, ◌^◌, ◌<◌, ◌≤◌, ◌∙◌, sym, refl, ap, subst, Bool, true, false, not, ◌&&◌, ◌==◌, cond, nat_lt, nat_le, List, [], ◌∷◌, ◌++◌, length, map, take, get_or, sum, sum_by, arith, All, None, Some, ⊎_elim}
+use Rattle.std.proofs.Common.{◌≡◌, ℕ, suc, zero, ◌+◌, ◌*◌, ◌^◌, ◌<◌, ◌≤◌, ◌∙◌, sym, refl, ap, subst, true, false, cond, nat_lt, List, [], ◌∷◌, ◌++◌, length, take, sum, arith, None, Some, ⊎_elim}
 use Rattle.std.specs.Prelude.{MatchOption}
 use Rattle.std.specs.declared.option.Option.{Option}
 use Rattle.std.specs.Map.{keys_of, lookup}
-use Rattle.std.proofs.Math.Nat.{mul-le-mul_left}
-use Rattle.std.proofs.lemmas.Bool.{cases_Bool, cases_lt, cases_eq, lt-ltb, both_ways}
+use Rattle.std.proofs.lemmas.Bool.{cases_Bool, cases_lt, lt-ltb, both_ways}
 use Rattle.std.proofs.lemmas.List.{get_or-map, length-append, length-map, take_all}
 use Rattle.std.proofs.lemmas.List.Elements.{All-push}
 use Rattle.std.proofs.lemmas.List.Sums.{sum_by-take-le}
@@ -13,15 +12,13 @@ use Rattle.cache_model.specs.declared.objects.Object.{Object}
 use Rattle.cache_model.specs.declared.certificates.Header.{Header}
 use Rattle.cache_model.specs.declared.certificates.Record.{Record}
 use Rattle.cache_model.specs.Play.{same_object, total_size}
-use Rattle.cache_model.specs.Objects.{request_at, objects_of, IsLatest, IsNew}
-use Rattle.cache_model.specs.Keeps.{held_before, is_kept, latest_sum, load_after}
-use Rattle.cache_model.specs.Certificates.{flow_at, keeps_of, prices_of, units_of, unpriced, IsHeaderInRange, IsRecordInRange}
-use Rattle.cache_model.proofs.Duality.{same_object-true, same_object-refl}
+use Rattle.cache_model.specs.Objects.{request_at, objects_of, IsNew}
+use Rattle.cache_model.specs.Keeps.{held_before, latest_sum, load_after}
+use Rattle.cache_model.specs.Certificates.{flow_at, keeps_of, prices_of, units_of, unpriced, IsRecordInRange}
+use Rattle.cache_model.proofs.Duality.{same_object-true}
 use Rattle.cache_model.proofs.Pairs.{same_object-sym}
 use Rattle.cache_model.proofs.DifferentObjects.{request_at-early, request_at-pushed, length-pushed, IsLatest-early, IsLatest-pushed, objects_of-pushed_new, objects_of-pushed_again}
 use Rattle.cache_rules.proofs.Insertion.{Adds-from_lookup, Updates-from_lookup}
-use Rattle.std.specs.List.{position_or_len}
-use Rattle.cert_format.specs.declared.invalid.InvalidKind.{InvalidKind}
 use Rattle.cert_checker.specs.declared.rules.Figures.{Figures}
 use Rattle.cert_checker.specs.declared.summary.Seen.{Seen}
 use Rattle.cert_checker.specs.declared.summary.Sums.{Sums}

@@ -1,23 +1,21 @@
 -- The first request that has a flow it may not have, as the least of the latest requests with a flow.
-use Rattle.std.proofs.Common.{◌≡◌, ℕ, suc, zero, ◌+◌, ◌<◌, ◌≤◌, ◌∙◌, sym, refl, ap, subst, Bool, true, false, not, ◌&&◌, cond, nat_lt, min, List, [], ◌∷◌, length, map, filter, find, fold, get_or, slice_range, arith, All, None, Some, ⊎_elim, ◌⊎◌, inl, inr, is_some, true≢false, unwrap_or}
+use Rattle.std.proofs.Common.{◌≡◌, ℕ, suc, zero, ◌+◌, ◌<◌, ◌≤◌, ◌∙◌, sym, refl, ap, subst, Bool, true, false, not, ◌&&◌, cond, nat_lt, min, List, [], ◌∷◌, length, map, filter, find, fold, get_or, arith, All, None, Some, ⊎_elim, ◌⊎◌, inl, inr, is_some, true≢false, unwrap_or}
 use Rattle.std.specs.Prelude.{MatchOption}
 use Rattle.std.specs.declared.option.Option.{Option}
-use Rattle.std.specs.Cmp.{IsEquivalence}
 use Rattle.std.proofs.lemmas.Map.Keys.{IsDistinct-head, IsDistinct-tail}
 use Rattle.std.proofs.lemmas.Map.Entries.{lookup_head, lookup_tail}
-use Rattle.std.specs.List.{AllByRecursion, IsDistinct, list_any, range_with_len, reduce}
+use Rattle.std.specs.List.{AllByRecursion, IsDistinct, range_with_len, reduce}
 use Rattle.std.specs.Map.{keys_of, lookup, values_of}
-use Rattle.std.proofs.lemmas.Bool.{and_from, and_left, and_parts, both_ways, cases_Bool, cases_lt, cases_eq, lt-ltb}
+use Rattle.std.proofs.lemmas.Bool.{and_from, and_parts, both_ways, cases_Bool, cases_lt, cases_eq}
 use Rattle.std.proofs.lemmas.List.Elements.{All-cons, All-head, All-tail, All-nil, All-weaker}
 use Rattle.cache_model.specs.declared.objects.Object.{Object}
 use Rattle.cache_model.specs.declared.certificates.Header.{Header}
 use Rattle.cache_model.specs.declared.certificates.Record.{Record}
 use Rattle.cache_model.specs.Play.{same_object}
-use Rattle.cache_model.specs.Objects.{request_at, no_object, IsLatest, IsNew}
+use Rattle.cache_model.specs.Objects.{request_at, no_object, IsNew}
 use Rattle.cache_model.specs.Keeps.{is_latest}
 use Rattle.cache_model.specs.Certificates.{flow_at}
 use Rattle.cache_model.proofs.Duality.{same_object-true, same_object-refl}
-use Rattle.cache_model.proofs.Pairs.{same_object-sym}
 use Rattle.cache_model.proofs.Eligible.{list_any-range_false, list_any-range_true}
 use Rattle.cert_checker.specs.declared.summary.Seen.{Seen}
 use Rattle.cert_checker.specs.Rules.{first_unused}

@@ -1,33 +1,32 @@
 -- A certificate without a fault is valid.
-use Rattle.std.proofs.Common.{◌≡◌, ◌≢◌, ℕ, suc, zero, ◌+◌, ◌-◌, ◌*◌, ◌/◌, ◌%◌, ◌^◌, ◌<◌, ◌≤◌, ◌∙◌, sym, refl, ap, subst, Bool, true, false, not, ◌&&◌, ◌==◌, cond, nat_lt, nat_le, List, [], ◌∷◌, ◌++◌, length, map, zip, take, get_or, sum, sum_by, arith, All, Any, None, Some, ⊎_elim, ◌⊎◌, inl, inr, find, is_some, true≢false}
+use Rattle.std.proofs.Common.{◌≡◌, ◌≢◌, ℕ, suc, zero, ◌+◌, ◌-◌, ◌*◌, ◌/◌, ◌%◌, ◌^◌, ◌<◌, ◌≤◌, ◌∙◌, sym, refl, ap, subst, Bool, true, false, not, ◌&&◌, ◌==◌, cond, nat_lt, nat_le, List, [], ◌∷◌, length, map, zip, take, get_or, sum, sum_by, arith, All, None, Some, ⊎_elim, ◌⊎◌, inl, inr, find, is_some, true≢false}
 use Rattle.std.specs.Prelude.{IsTrue}
 use Rattle.std.specs.List.{AllZip, list_any, range_with_len}
 use Prim.Native.Nat.{◌∣◌}
-use Rattle.std.proofs.lemmas.Bool.{cases_Bool, cases_lt, both_ways, and_from, eqb-true, le-leb, le-ltb, lt-leb, ltb-false, not-false, and_left, and_right}
+use Rattle.std.proofs.lemmas.Bool.{cases_Bool, cases_lt, both_ways, and_from, eqb-true, le-leb, le-ltb, lt-leb, ltb-false, not-false, and_right}
 use Rattle.std.proofs.Common.{eq-eqb}
 use Rattle.std.proofs.lemmas.List.{get_or-map, get_or-take, get_or_past, length-map, length-take-le, take_all}
-use Rattle.std.proofs.lemmas.List.Folds.{Any-from_list_any, list_any_at, list_any_none}
+use Rattle.std.proofs.lemmas.List.Folds.{list_any_at}
 use Rattle.std.proofs.lemmas.List.Sums.{sum_by-cons}
 use Rattle.std.proofs.lemmas.Nat.Gcd.{dvd_of_mod-eq-zero}
 use Rattle.cache_model.specs.declared.objects.Object.{Object}
 use Rattle.cache_model.specs.declared.intervals.Interval.{Interval}
 use Rattle.cache_model.specs.declared.certificates.Header.{Header}
 use Rattle.cache_model.specs.declared.certificates.Record.{Record}
-use Rattle.cache_model.specs.Play.{same_object, gain_of, score}
+use Rattle.cache_model.specs.Play.{same_object, gain_of}
 use Rattle.cache_model.specs.Objects.{request_at, no_object, IsNext}
 use Rattle.cache_model.specs.Intervals.{interval_of}
-use Rattle.cache_model.specs.Keeps.{contents_of, is_latest, latest_sum, load_after}
+use Rattle.cache_model.specs.Keeps.{is_latest, latest_sum, load_after}
 use Rattle.cache_model.specs.Laws.{IsEligible}
-use Rattle.cache_model.specs.Schedules.{covers, load_at, IsFractionalSchedule}
+use Rattle.cache_model.specs.Schedules.{covers, load_at}
 use Rattle.cache_model.specs.Units.{weight, HasWholeCosts}
-use Rattle.cache_model.specs.Certificates.{eligible_of, flow_at, flow_of, flows_of, keeps_of, prices_of, units_of, unpriced, upper_of, IsCertificate, IsValid}
+use Rattle.cache_model.specs.Certificates.{eligible_of, flow_at, flows_of, keeps_of, prices_of, units_of, unpriced, IsCertificate, IsValid}
 use Rattle.cache_model.proofs.Duality.{same_object-true}
 use Rattle.cache_model.proofs.Eligible.{list_any-range_false}
 use Rattle.cache_model.proofs.Members.{All-eligible_intervals, Contains-eligible}
 use Rattle.cache_model.proofs.Loads.{load-latest}
 use Rattle.cache_model.proofs.Rounding.{sum_by-none}
 use Rattle.cache_model.proofs.Scores.{allowed-from_loads}
-use Rattle.cert_checker.specs.declared.rules.Figures.{Figures}
 use Rattle.cert_checker.specs.Rules.{counted_of, divides, ends_interval, end_fault, figures_at, first_unused, record_at, record_fault, was_requested, weight_in}
 use Rattle.cert_checker.proofs.Passing.{Passes, Passes-from_none, EndPasses, EndPasses-from_none, equal_from_not, second_from_and}
 
@@ -244,11 +243,11 @@ module _ (h : Header) (trace : List Object) (records : List Record) (cert : IsCe
         arith,
         load_at-map (λ i. flow_at records i.start) t (eligible_of trace h),
         sum_by-none (λ i. cond (covers t i) (flow_at records i.start) 0) (eligible_of trace h)
-        (λ k d low.
-        let i : Interval = get_or (eligible_of trace h) k d in
-        let e : IsEligible h.objective h.capacity trace (get_or (eligible_of trace h) k d) = eligible k d low in
-        let high : i.end < length trace = e.next.within in
-        ap (λ b. cond b (flow_at records i.start) 0) (and_right (nat_le i.start t) (nat_lt t i.end) (le-ltb t i.end (omega arith)))),
+            (λ k d low.
+            let i : Interval = get_or (eligible_of trace h) k d in
+            let e : IsEligible h.objective h.capacity trace (get_or (eligible_of trace h) k d) = eligible k d low in
+            let high : i.end < length trace = e.next.within in
+            ap (λ b. cond b (flow_at records i.start) 0) (and_right (nat_le i.start t) (nat_lt t i.end) (le-ltb t i.end (omega arith)))),
       ))
       (cases_lt t (length trace))
 

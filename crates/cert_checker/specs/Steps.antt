@@ -1,5 +1,5 @@
 -- One step of a checker, over what it keeps.
-use Rattle.std.specs.Prelude.{◌≡◌, ℕ, ◌+◌, ◌-◌, ◌*◌, ◌/◌, ◌==◌, if◌then◌else◌, nat_le, List, [], ◌∷◌, ◌++◌, length, None, Some}
+use Rattle.std.specs.Prelude.{◌≡◌, ℕ, ◌+◌, ◌-◌, ◌*◌, ◌/◌, ◌==◌, if◌then◌else◌, nat_le, None, Some}
 use Rattle.std.specs.declared.option.Option.{Option}
 use Rattle.std.specs.Option.{is_some}
 use Rattle.cache_model.specs.declared.objects.Object.{Object}

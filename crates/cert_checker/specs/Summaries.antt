@@ -1,6 +1,5 @@
 -- What a checker keeps, and the requests and records that it stands for.
 use Rattle.std.specs.Prelude.{◌≡◌, ℕ, ◌<◌, ◌≤◌, ◌*◌, ◌^◌, List, length, take, sum, sum_by, All, MatchOption, None}
-use Rattle.std.specs.declared.option.Option.{Option}
 use Rattle.std.specs.List.{IsDistinct}
 use Rattle.std.specs.Map.{keys_of, lookup}
 use Rattle.cache_model.specs.declared.objects.Object.{Object}

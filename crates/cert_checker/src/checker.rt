@@ -1,5 +1,5 @@
 //! A checker, which is given the requests and the records one by one.
-ghost use Rattle.std.specs.Prelude.{◌≡◌, ◌≤◌, ◌<◌, ◌^◌, [], List, length, IfOk, OnErr};
+ghost use Rattle.std.specs.Prelude.{◌≡◌, ◌≤◌, ◌<◌, ◌+◌, ◌^◌, [], List, length, IfOk, OnErr, OnOk};
 ghost use Rattle.cache_model.specs.declared.objects.Object.{Object as Requested};
 ghost use Rattle.cache_model.specs.declared.certificates.Header.{Header as Head};
 ghost use Rattle.cache_model.specs.declared.certificates.Record.{Record as Entry};
@@ -87,7 +87,8 @@ impl Checker {
     /// A checker that was given nothing. It takes memory with the first request.
     pub fn new(alloc: Global, header: Header) -> Result<Self, NoMemory>
         requires range { IsHeaderInRange header }
-        ensures { IfOk result (StandsFor header [] []) }
+        ensures nothing { IfOk result (StandsFor header [] []) }
+        ensures counts { IfOk result (λ checker. (checker.header ≡ header) × (checker.sums.steps ≡ 0)) }
     {
         Ok(Checker {
             header,
@@ -103,6 +104,7 @@ impl Checker {
         requires size { (1 ≤ object.size) × (object.size ≤ 2 ^ 48) }
         requires range { IsRecordInRange entry }
         ensures stepped { (h : Head) (trace : List Requested) (records : List Entry) → StandsFor h trace records self.old → IsStepped h trace records object entry self.new result }
+        ensures counts { OnOk result ((self.new.header ≡ self.old.header) × (self.new.sums.steps ≡ self.old.sums.steps + 1)) }
         ensures kept { OnErr result (self.new ≡ self.old) }
     {
         let before = self.seen.get(&object).copied();

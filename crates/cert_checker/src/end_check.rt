@@ -6,11 +6,7 @@ use crate::verdict::Counted;
 use cert_format::{Header, InvalidKind};
 
 /// The first rule that the end fails, where this request is the first that has a flow it may not have.
-pub fn check_end(
-    header: &Header,
-    unused: Option<u32>,
-    counted: &Counted,
-) -> Result<(), InvalidKind>
+pub fn check_end(header: &Header, unused: Option<u32>, counted: &Counted) -> Result<(), InvalidKind>
     ensures { result ≡ unless_fault (first_some (end_rules header.now unused counted.now)) }
 {
     if let Some(number) = unused {

@@ -11,6 +11,8 @@ mod record_check;
 mod rules;
 mod stepping;
 mod summary;
+#[cfg(test)]
+mod tests;
 mod verdict;
 
 pub use cert_format::{Header, InvalidKind, Record};

@@ -34,4 +34,3 @@ pub fn worth(header: &Header, object: &Object) -> u128
 {
     header.denominator as u128 * gain(header.objective, object) as u128
 }
-

@@ -74,9 +74,17 @@ fn added_by_interval(header: &Header, object: &Object, prices: u128, seen: &Seen
     requires weight { object.now.size ≤ header.now.capacity → 1 ≤ object.now.size / header.now.unit }
     ensures { result ≡ added_by header.now object.now prices seen.now }
 {
-    let gain = if seen.keep { gain(header.objective, object) } else { 0 };
+    let gain = if seen.keep {
+        gain(header.objective, object)
+    } else {
+        0
+    };
     if object.size > header.capacity {
-        return Added { surplus: 0, value: 0, gain };
+        return Added {
+            surplus: 0,
+            value: 0,
+            gain,
+        };
     }
     let worth = worth(header, object);
     let weight = object.size / header.unit;

@@ -1,4 +1,4 @@
-use Rattle.std.proofs.Common.{◌≡◌, ◌*◌, ◌∙◌, arith, ap}
+use Rattle.std.proofs.Common.{◌≡◌, ◌*◌, arith, ap}
 use Rattle.cache_model.specs.Certificates.{units_of}
 use Rattle.cert_checker.proofs.Checking.{paid-le, surpluses-le}
 use Rattle.cert_checker.proofs.checker.Checker.counted.Goals as goal

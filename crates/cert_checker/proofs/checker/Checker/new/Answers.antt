@@ -14,5 +14,5 @@ invariant_of-result c = record {
   small = record { surpluses = omega arith; values = omega arith; score = omega arith };
 }
 
-pub returns : goal.returns
-returns c = StandsFor-new c.args.header c.requires.range c.new.result.entries c.new.ensures.empty
+pub returns-clause-nothing : goal.returns-clause-nothing
+returns-clause-nothing c = StandsFor-new c.args.header c.requires.range c.new.result.entries c.new.ensures.empty

@@ -1,5 +1,4 @@
-use Rattle.std.proofs.Common.{◌≡◌, ◌<◌, ◌∙◌, sym, ap, subst, arith, cond, Bool, None, Some}
-use Rattle.std.specs.declared.option.Option.{Option}
+use Rattle.std.proofs.Common.{◌≡◌, ◌<◌, ◌∙◌, sym, ap, subst, arith, cond, Bool, Some}
 use Rattle.std.specs.List.{IsDistinct}
 use Rattle.std.specs.Map.{keys_of, lookup}
 use Rattle.std.proofs.lemmas.Result.{err_from_is_err_and}
@@ -7,9 +6,8 @@ use Rattle.indexmap.specs.IndexMap.{insert_entry}
 use Rattle.cache_model.specs.declared.objects.Object.{Object}
 use Rattle.cache_model.specs.Play.{same_object}
 use Rattle.cache_model.proofs.DifferentObjects.{same_object-derived}
-use Rattle.cert_checker.specs.declared.summary.Seen.{Seen}
 use Rattle.cert_checker.specs.Rules.{first_some, record_rules}
-use Rattle.cert_checker.specs.Steps.{seen_at, sums_after, added}
+use Rattle.cert_checker.specs.Steps.{seen_at, sums_after}
 use Rattle.cert_checker.specs.Summaries.{StandsFor, Summary}
 use Rattle.cert_checker.proofs.Checking.{prices-le, load-le, flows-le, in_load, in_flows, each_price, each_flow, each_weight, refused, taken, IsChecker-taken}
 use Rattle.cert_checker.proofs.Passing.{none_from_ok, some_from_err}
