@@ -1,10 +1,13 @@
--- What is proved of the rules: a certificate passes them exactly where it is valid.
+-- What is proved of the rules and of the walk: a certificate passes them exactly where it is valid.
 use Rattle.std.specs.Prelude.{◌≡◌, ◌↔◌, ℕ, ◌<◌, List, length, None}
 use Rattle.cache_model.specs.declared.objects.Object.{Object}
 use Rattle.cache_model.specs.declared.certificates.Header.{Header}
 use Rattle.cache_model.specs.declared.certificates.Record.{Record}
 use Rattle.cache_model.specs.Certificates.{IsCertificate, IsValid}
+use Rattle.cache_model.specs.Texts.{cert_text}
+use Rattle.trace_any.specs.Readings as traces
 use Rattle.cert_checker.specs.Rules.{record_fault, end_fault}
+use Rattle.cert_checker.specs.Walks.{walk}
 
 -- no record fails a rule, nor does the end
 pub record IsFaultless (h : Header) (trace : List Object) (records : List Record) : Type 0 where
@@ -17,3 +20,10 @@ FaultlessIsValid =
     (h : Header) (trace : List Object) (records : List Record)
     → IsCertificate h records → h.requests ≡ length trace
     → IsFaultless h trace records ↔ IsValid trace h records
+
+-- a trace that is not refused and some bytes pass the whole walk exactly where the bytes are the text of a valid certificate
+abbrev pub PassingIsValid : Type 0
+PassingIsValid =
+    (trace : traces.Reading) (bytes : List ℕ)
+    → trace.refused ≡ None
+    → (walk trace bytes ≡ None) ↔ ((h : Header) × (records : List Record) × (bytes ≡ cert_text h records) × IsValid trace.requests h records)

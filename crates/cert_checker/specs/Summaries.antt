@@ -10,6 +10,7 @@ use Rattle.cache_model.specs.Objects.{objects_of, IsLatest, IsNew}
 use Rattle.cache_model.specs.Keeps.{contents_of, held_before, is_kept, latest_sum}
 use Rattle.cache_model.specs.Intervals.{surplus}
 use Rattle.cache_model.specs.Certificates.{eligible_of, flow_at, flow_of, keeps_of, prices_of, IsHeaderInRange, IsRecordInRange}
+pub use Rattle.cache_rules.specs.Stored.{IsSized}
 use Rattle.cert_checker.specs.declared.summary.Seen.{Seen}
 use Rattle.cert_checker.specs.declared.summary.Sums.{Sums}
 use Rattle.cert_checker.specs.Rules.{record_fault}
@@ -36,10 +37,6 @@ pub record AreSums (h : Header) (trace : List Object) (records : List Record) (s
   pub surpluses : sums.surpluses ≡ sum_by (surplus h.unit h.denominator (prices_of records)) (eligible_of trace h)
   pub values : sums.values ≡ flow_of trace h records
   pub score : sums.score ≡ score h.objective trace (contents_of trace (keeps_of records))
-
--- the size of the object is in the range of sizes
-abbrev pub IsSized : Object → Type 0
-IsSized x = (1 ≤ x.size) × (x.size ≤ 2 ^ 48)
 
 -- the header, the requests and the records so far, one for each request, are in range
 pub record IsInput (h : Header) (trace : List Object) (records : List Record) : Type 0 where

@@ -17,5 +17,5 @@ mod verdict;
 
 pub use cert_format::{Header, InvalidKind, Record};
 pub use checker::{Checker, StepFault};
-pub use laws::faultless_is_valid;
+pub use laws::{faultless_is_valid, passing_is_valid};
 pub use verdict::Verdict;
