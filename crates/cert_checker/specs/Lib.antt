@@ -4,3 +4,4 @@ pub mod Summaries
 pub mod Steps
 pub mod Answers
 pub mod Laws
+pub mod Checks

@@ -14,8 +14,10 @@ mod summary;
 #[cfg(test)]
 mod tests;
 mod verdict;
+mod walking;
 
 pub use cert_format::{Header, InvalidKind, Record};
 pub use checker::{Checker, StepFault};
 pub use laws::{faultless_is_valid, passing_is_valid};
 pub use verdict::Verdict;
+pub use walking::{CheckFault, check_streams};

@@ -1,0 +1,52 @@
+use Rattle.std.proofs.Common.{◌≡◌, ◌+◌, ◌<◌, ◌∙◌, ap, refl, subst, arith, length}
+use Rattle.std.proofs.lemmas.Result.{err_from_is_err_and}
+use Rattle.cache_model.specs.declared.certificates.Header.{Header}
+use Rattle.cert_format.specs.declared.invalid.InvalidKind.TheVariants.{RequestCount}
+use Rattle.cert_checker.specs.declared.walking.CheckFault.TheVariants.{Invalid}
+use Rattle.cert_checker.specs.Checks.{Inputs, inputs, IsStop}
+use Rattle.cert_checker.proofs.Closings.{stop_few, stop_end, stop_end_rule, passes}
+use Rattle.cert_checker.proofs.walking.close.Goals as goal
+
+pub returns-then-read-header-clause-closed : goal.returns-then-read-header-clause-closed
+returns-then-read-header-clause-closed g c = λ start reader left faults h given records ended.
+    let s = c.requires.in_step.3 in
+    let many = ended.stands.sums.steps in
+    let written : c.args.header.now.requests ≡ h.requests = ap (λ (k : Header). k.requests) (c.requires.header ∙ ended.stands.header) in
+    let line_is : c.line.result ≡ 11 + length given = omega (arith, c.line.ensures, s.line, many) in
+    let read : c.records_read-read.result ≡ length given = omega (arith, c.records_read-read.ensures, s.line, many) in
+    let fewer : length given < h.requests = omega (arith, read, written, c.if-read-header.true) in
+    let is : c.count_differs.result ≡ Invalid (11 + length given) (RequestCount h.requests (length given)) =
+    c.count_differs.ensures ∙ (ap (λ l. Invalid l (RequestCount c.args.header.now.requests c.records_read-read.result)) line_is
+    ∙ (ap (λ w. Invalid (11 + length given) (RequestCount w c.records_read-read.result)) written ∙ ap (λ r. Invalid (11 + length given) (RequestCount h.requests r)) read)) in
+    rw is (stop_few start h given records _ _ ended _ refl refl s.held (omega (arith, s.line, many)) fewer)
+
+pub returns-in_err-finish_text-clause-closed : goal.returns-in_err-finish_text-clause-closed
+returns-in_err-finish_text-clause-closed g c =
+    let p = err_from_is_err_and c.from_residual.result c.from_residual.ensures.1 in
+    rw (p.1, p.2) (λ start reader left faults h given records ended.
+    let s = c.requires.in_step.3 in
+    let written : c.args.header.now.requests ≡ h.requests = ap (λ (k : Header). k.requests) (c.requires.header ∙ ended.stands.header) in
+    let full : length given ≡ h.requests = omega (arith, c.records_read-read.ensures, s.line, ended.stands.sums.steps, written, ended.stands.input.within, c.if-read-header.false) in
+    let e = c.in_err-finish_text.ensures in
+    stop_end start h given records _ _ ended full _ e.ahead e.past c.in_err-finish_text.field-0.0 (e.read s.cert_fault) (e.within s.cert_fault))
+
+pub returns-in-Ok-clause-closed : goal.returns-in-Ok-clause-closed
+returns-in-Ok-clause-closed g c = λ start reader left faults h given records ended.
+    let s = c.requires.in_step.3 in
+    let written : c.args.header.now.requests ≡ h.requests = ap (λ (k : Header). k.requests) (c.requires.header ∙ ended.stands.header) in
+    let full : length given ≡ h.requests = omega (arith, c.records_read-read.ensures, s.line, ended.stands.sums.steps, written, ended.stands.input.within, c.if-read-header.false) in
+    let e = c.in_ok-finish_text.ensures in
+    passes start h given records _ _ ended full _ e.ahead e.past (e.read s.cert_fault).2 refl refl c.in-Ok.verdict (c.in-Ok.ensures h given records ended.stands)
+
+pub returns-in-Err-clause-closed : goal.returns-in-Err-clause-closed
+returns-in-Err-clause-closed g c = λ start reader left faults h given records ended.
+    let s = c.requires.in_step.3 in
+    let many = ended.stands.sums.steps in
+    let written : c.args.header.now.requests ≡ h.requests = ap (λ (k : Header). k.requests) (c.requires.header ∙ ended.stands.header) in
+    let full : length given ≡ h.requests = omega (arith, c.records_read-read.ensures, s.line, many, written, ended.stands.input.within, c.if-read-header.false) in
+    let e = c.in_ok-finish_text.ensures in
+    let line_is : 12 + length given ≡ c.line-end.result + 1 = omega (arith, c.line-end.ensures, s.line, many) in
+    let none : c.args.cert.now.left ≡ 0 = omega (arith, s.left, many, full, ap (λ (k : Header). k.requests) ended.stands.header) in
+    let end : Inputs = inputs reader left faults c.finish_text.new.self (g.Q.Source.left c.finish_text.new.source) (g.Q.Source.faults c.finish_text.new.source) in
+    subst (λ l. IsStop start end (Invalid l c.in-Err.kind)) line_is
+    (stop_end_rule start h given records _ _ ended full end e.ahead e.past (e.read s.cert_fault).2 c.in-Err.kind s.stage none (omega (arith, s.line, many)) (c.in-Err.ensures h given records ended.stands))

@@ -1,0 +1,97 @@
+use Rattle.std.proofs.Common.{◌≡◌, ◌+◌, ◌<◌, ◌∙◌, sym, ap, refl, subst, arith, [], ◌∷◌, ◌++◌, length}
+use Rattle.std.proofs.lemmas.Result.{err_from_is_err_and}
+use Rattle.std.proofs.lemmas.List.{length-append}
+use Rattle.cache_model.specs.declared.certificates.Header.{Header}
+use Rattle.cache_model.specs.Texts.{line, record_line}
+use Rattle.cert_format.specs.declared.invalid.InvalidKind.TheVariants.{RequestCount}
+use Rattle.cert_checker.specs.declared.walking.CheckFault.TheVariants.{Invalid}
+use Rattle.cert_checker.specs.Checks.{IsFailing}
+use Rattle.cert_checker.specs.Rules.{record_fault}
+use Rattle.cert_checker.specs.Summaries.{StandsFor}
+use Rattle.cert_checker.proofs.Stops.{stop_trace, end_trace, stop_count, stop_text, stop_rule, goes_further}
+use Rattle.cert_checker.proofs.walking.turn.Goals as goal
+
+pub returns-in_err-object-clause-turned : goal.returns-in_err-object-clause-turned
+returns-in_err-object-clause-turned g c =
+    let p = err_from_is_err_and c.from_residual.result c.from_residual.ensures.1 in
+    rw (p.1, p.2) (λ start h given records came. stop_trace start h given records _ _ came _ c.in_err-object.field-0.0 (c.in_err-object.ensures.next c.requires.in_step.trace_fault))
+
+pub returns-in_default-clause-turned : goal.returns-in_default-clause-turned
+returns-in_default-clause-turned g c = λ start h given records came.
+    end_trace start h given records _ _ came _ (rw c.in_default.is at c.in_ok-object.ensures.next c.requires.in_step.trace_fault) refl refl
+    (record { trace = omega (arith, came.later.trace, c.in_ok-object.ensures.later); certificate = came.later.certificate })
+
+pub returns-then-read-header-clause-turned : goal.returns-then-read-header-clause-turned
+returns-then-read-header-clause-turned g c = λ start h given records came.
+    let next = rw c.in-Some.is at c.in_ok-object.ensures.next c.requires.in_step.trace_fault in
+    let many = came.stands.sums.steps in
+    let at = c.requires.in_step.line in
+    let written : c.args.header.now.requests ≡ h.requests = ap (λ (k : Header). k.requests) (c.requires.header ∙ came.stands.header) in
+    let line_is : c.line.result ≡ 11 + length given = omega (arith, c.line.ensures, at, many) in
+    let read : c.records_read-read.result + 1 ≡ length given + 1 = omega (arith, c.records_read-read.ensures, at, many) in
+    let full : length given ≡ h.requests = omega (arith, c.records_read-read.ensures, at, many, written, c.if-read-header.true) in
+    let is : c.count_differs.result ≡ Invalid (11 + length given) (RequestCount h.requests (length given + 1)) =
+    c.count_differs.ensures ∙ (ap (λ l. Invalid l (RequestCount c.args.header.now.requests (c.records_read-read.result + 1))) line_is
+    ∙ (ap (λ w. Invalid (11 + length given) (RequestCount w (c.records_read-read.result + 1))) written ∙ ap (λ r. Invalid (11 + length given) (RequestCount h.requests r)) read)) in
+    rw is (stop_count start h given records _ _ came c.in-Some.object _ _ next.1 _ refl refl c.requires.in_step.held (omega (arith, at, many)) full)
+
+pub returns-in_err-entry-clause-turned : goal.returns-in_err-entry-clause-turned
+returns-in_err-entry-clause-turned g c =
+    let p = err_from_is_err_and c.from_residual-in_err-entry.result c.from_residual-in_err-entry.ensures.1 in
+    rw (p.1, p.2) (λ start h given records came.
+    let next = rw c.in-Some.is at c.in_ok-object.ensures.next c.requires.in_step.trace_fault in
+    let written : c.args.header.now.requests ≡ h.requests = ap (λ (k : Header). k.requests) (c.requires.header ∙ came.stands.header) in
+    let fewer : length given < h.requests = omega (arith, c.records_read-read.ensures, c.requires.in_step.line, came.stands.sums.steps, written, came.stands.input.within, c.if-read-header.false) in
+    let e = c.in_err-entry.ensures in
+    stop_text start h given records _ _ came c.in-Some.object _ _ next.1 _ c.in_err-entry.field-0.0 fewer (e.read c.requires.in_step.cert_fault) (e.within c.requires.in_step.cert_fault) e.past e.ahead)
+
+pub returns-in_err-step-clause-turned : goal.returns-in_err-step-clause-turned
+returns-in_err-step-clause-turned g c =
+    let p = err_from_is_err_and c.from_residual-in_err-step.result c.from_residual-in_err-step.ensures.1 in
+    rw (p.1, p.2) (λ start h given records came.
+    let next = rw c.in-Some.is at c.in_ok-object.ensures.next c.requires.in_step.trace_fault in
+    let written : c.args.header.now.requests ≡ h.requests = ap (λ (k : Header). k.requests) (c.requires.header ∙ came.stands.header) in
+    let fewer : length given < h.requests = omega (arith, c.records_read-read.ensures, c.requires.in_step.line, came.stands.sums.steps, written, came.stands.input.within, c.if-read-header.false) in
+    let e = c.in_ok-entry.ensures in
+    let read = e.read c.requires.in_step.cert_fault in
+    stop_rule start h given records _ _ came c.in-Some.object _ _ next.1 c.in_ok-entry.entry (line (record_line c.in_ok-entry.entry)) _ read.2 read.3 e.past c.in_err-step.field-0.0 fewer
+    (omega (arith, c.requires.in_step.line, came.stands.sums.steps)) e.ahead
+    (subst (λ l. IsFailing l (record_fault h (given ++ c.in-Some.object ∷ []) (records ++ c.in_ok-entry.entry ∷ []) (length given)) c.in_err-step.field-0.0) c.line-2.ensures (c.in_err-step.ensures.stepped h given records came.stands)))
+
+pub returns-clause-turned : goal.returns-clause-turned
+returns-clause-turned g c = λ start h given records came.
+    let next = rw c.in-Some.is at c.in_ok-object.ensures.next c.requires.in_step.trace_fault in
+    let e = c.in_ok-entry.ensures in
+    let read = e.read c.requires.in_step.cert_fault in (
+      c.in-Some.object,
+      c.in_ok-entry.entry,
+      goes_further start h given records _ _ came c.in-Some.object _ _ next.1 c.in_ok-entry.entry (line (record_line c.in_ok-entry.entry)) _ read.2 read.3 e.past _ refl refl
+          (c.in_ok-step.ensures.stepped h given records came.stands)
+          (record { trace = omega (arith, came.later.trace, c.in_ok-object.ensures.later); certificate = omega (arith, came.later.certificate, e.later) }),
+    )
+
+pub returns-clause-in_step : goal.returns-clause-in_step
+returns-clause-in_step g c =
+    let s = c.requires.in_step in
+    let e = c.in_ok-entry.ensures in
+    let read = e.read s.cert_fault in
+    let x = c.in-Some.object in
+    let r = c.in_ok-entry.entry in
+    let more = c.in_ok-step.ensures.stepped c.args.checker.now.header s.some.0 s.some.1 s.some.2 in
+    let steps = more.sums.steps ∙ length-append s.some.0 (x ∷ []) in
+    let old = s.some.2.sums.steps in
+    record {
+      trace_fault = c.in_ok-object.ensures.fault s.trace_fault;
+      cert_fault = e.fault s.cert_fault;
+      stage = read.0;
+      line = omega (arith, read.2, s.line, steps, old);
+      left = omega (arith, read.1, s.left, steps, old, ap (λ (k : Header). k.requests) more.header);
+      held = e.ahead;
+      some = (s.some.0 ++ x ∷ [], s.some.1 ++ r ∷ [], subst (λ k. StandsFor k (s.some.0 ++ x ∷ []) (s.some.1 ++ r ∷ []) c.step.new.checker) (sym more.header) more);
+    }
+
+pub returns-clause-header : goal.returns-clause-header
+returns-clause-header g c =
+    let s = c.requires.in_step in
+    let more = c.in_ok-step.ensures.stepped c.args.checker.now.header s.some.0 s.some.1 s.some.2 in
+    more.header

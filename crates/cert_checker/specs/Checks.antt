@@ -1,0 +1,182 @@
+-- A check of a certificate against a trace, both read as streams.
+use Rattle.std.specs.Prelude.{◌≡◌, ℕ, ◌+◌, ◌≤◌, List, [], ◌∷◌, ◌++◌, length, Bool, true, false, None, Some, IfSome, Result, Ok, Err}
+use Rattle.std.specs.declared.option.Option.{Option}
+use Rattle.bound_io.specs.Causes.{Rose}
+use Rattle.cache_model.specs.declared.objects.Object.{Object}
+use Rattle.cache_model.specs.declared.certificates.Header.{Header}
+use Rattle.cache_model.specs.declared.certificates.Record.{Record}
+use Rattle.trace_any.specs.declared.fault.TraceFault.{TraceFault}
+use Rattle.trace_any.specs.declared.fault.TraceFault.TheVariants as refusal
+use Rattle.trace_any.specs.Readings as traces
+use Rattle.trace_any.specs.Readers.{IsWhole, after}
+use Rattle.trace_any.specs.Readers as requests
+use Rattle.cert_format.specs.declared.fault.CertFault.{CertFault}
+use Rattle.cert_format.specs.declared.fault.CertFault.TheVariants as text
+use Rattle.cert_format.specs.declared.invalid.InvalidKind.{InvalidKind}
+use Rattle.cert_format.specs.declared.invalid.InvalidKind.TheVariants.{Truncated, Trailing}
+use Rattle.cert_format.specs.declared.reader.Stage.TheVariants.{InRecords}
+use Rattle.cert_format.specs.Readings.{after_lines, bytes_through, whole}
+use Rattle.cert_format.specs.Readings as certificates
+use Rattle.cert_format.specs.Readers as lines
+use Rattle.cert_format.specs.Lines.{told}
+use Rattle.cert_checker.specs.declared.verdict.Verdict.{Verdict}
+use Rattle.cert_checker.specs.declared.walking.CheckFault.{CheckFault}
+use Rattle.cert_checker.specs.declared.walking.CheckFault.TheVariants as fault
+use Rattle.cert_checker.specs.Answers.{IsYes}
+use Rattle.cert_checker.specs.Rules.{record_fault}
+use Rattle.cert_checker.specs.Summaries.{Summary, StandsFor}
+use Rattle.cert_checker.specs.Walks.{Event, Invalid, Refused, text_kind, walk}
+
+-- where the reader of a trace and that of a certificate stand, and their sources: what is left where it is told, and the count of faults
+pub record Inputs : Type 0 where
+  pub reader : requests.Reader
+  pub trace : Option (List ℕ)
+  pub trace_faults : ℕ
+  pub cert : lines.Reader
+  pub certificate : Option (List ℕ)
+  pub certificate_faults : ℕ
+
+-- the inputs, first those of the trace
+abbrev pub inputs : requests.Reader → Option (List ℕ) → ℕ → lines.Reader → Option (List ℕ) → ℕ → Inputs
+inputs reader trace trace_faults cert certificate certificate_faults = record {
+  reader = reader;
+  trace = trace;
+  trace_faults = trace_faults;
+  cert = cert;
+  certificate = certificate;
+  certificate_faults = certificate_faults;
+}
+
+-- no call of the reader was made
+abbrev pub IsFresh : requests.Reader → Type 0
+IsFresh reader = reader ≡ requests.fresh reader.format reader.limits
+
+-- the fault of a check that a fault of the trace is
+abbrev pub of_trace : TraceFault → CheckFault
+of_trace (refusal.BadLine line kind) = fault.Trace (refusal.BadLine line kind)
+of_trace refusal.ReadFault = fault.Trace refusal.ReadFault
+of_trace refusal.InputTooLong = fault.Trace refusal.InputTooLong
+of_trace refusal.TooManyRequests = fault.Trace refusal.TooManyRequests
+of_trace refusal.NoMemory = fault.NoMemory
+
+-- the fault of a check that a fault of the text of the certificate is
+abbrev pub of_text : CertFault → CheckFault
+of_text (text.BadText line kind) = fault.Invalid line (text_kind kind)
+of_text (text.Truncated line) = fault.Invalid line Truncated
+of_text (text.Trailing line) = fault.Invalid line Trailing
+of_text text.ReadFault = fault.CertReadFault
+
+-- the fault of a step: the first rule that the record fails, at this line, or want of memory where it fails none
+abbrev pub IsFailing : ℕ → Option InvalidKind → CheckFault → Type 0
+IsFailing line failed (fault.Invalid n kind) = (n ≡ line) × (failed ≡ Some kind)
+IsFailing line failed (fault.Trace why) = ⊥
+IsFailing line failed fault.CertReadFault = ⊥
+IsFailing line failed fault.NoMemory = Unit {0}
+
+-- a step from these requests and records
+abbrev pub IsSteppedWith : ℕ → Header → List Object → List Record → Object → Record → Summary → Result (Unit {0}) CheckFault → Type 0
+IsSteppedWith line h trace records x r new (Ok done) = StandsFor h (trace ++ x ∷ []) (records ++ r ∷ []) new
+IsSteppedWith line h trace records x r new (Err why) = IsFailing line (record_fault h (trace ++ x ∷ []) (records ++ r ∷ []) (length trace)) why
+
+-- a step of which the record stands on this line: the checker stands for one request and record more, or the rule that fails is that of the line
+abbrev pub IsSteppedAt : ℕ → Summary → Summary → Object → Record → Result (Unit {0}) CheckFault → Type 0
+IsSteppedAt line old new x r result = (h : Header) (trace : List Object) (records : List Record) → StandsFor h trace records old → IsSteppedWith line h trace records x r new result
+
+-- where both sources tell their bytes, this is the first event of the walk over them
+abbrev pub IsWalked : Inputs → Option Event → Type 0
+IsWalked start event = IfSome start.trace (λ bytes. IfSome start.certificate (λ text. walk (traces.reading start.reader.format start.reader.limits bytes) text ≡ event))
+
+-- why there is no yes: it is the first event of the walk, or a source failed; want of memory is free
+abbrev pub IsEvent : Inputs → Inputs → CheckFault → Type 0
+IsEvent start end (fault.Invalid line kind) = IsWalked start (Some (Invalid line kind))
+IsEvent start end (fault.Trace (refusal.BadLine line kind)) = IsWalked start (Some (Refused (refusal.BadLine line kind)))
+IsEvent start end (fault.Trace refusal.InputTooLong) = IsWalked start (Some (Refused refusal.InputTooLong))
+IsEvent start end (fault.Trace refusal.TooManyRequests) = IsWalked start (Some (Refused refusal.TooManyRequests))
+IsEvent start end (fault.Trace refusal.ReadFault) = Rose start.trace_faults end.trace_faults
+IsEvent start end (fault.Trace refusal.NoMemory) = ⊥
+IsEvent start end fault.CertReadFault = Rose start.certificate_faults end.certificate_faults
+IsEvent start end fault.NoMemory = Unit {0}
+
+-- how many bytes a reader of a certificate has taken from the source
+abbrev pub taken : lines.Reader → ℕ
+taken cert = cert.lines.consumed + length cert.lines.held
+
+-- where the certificate fails at a line, at most a buffer of bytes past that line was taken
+abbrev pub IsNear : Inputs → Inputs → CheckFault → Type 0
+IsNear start end (fault.Invalid line kind) = IfSome start.certificate (λ text. taken end.cert ≤ bytes_through line text + 65536)
+IsNear start end (fault.Trace why) = Unit {0}
+IsNear start end fault.CertReadFault = Unit {0}
+IsNear start end fault.NoMemory = Unit {0}
+
+-- a yes: of some requests and records, which are all that the two sources have, where they tell it
+pub record IsPassed (start end : Inputs) (verdict : Verdict) : Type 0 where
+  pub requests : List Object
+  pub records : List Record
+  pub yes : IsYes verdict.header requests records verdict
+  pub trace : IfSome start.trace (λ bytes. IsWhole (traces.reading start.reader.format start.reader.limits bytes) requests end.reader.dropped)
+  pub certificate : IfSome start.certificate (λ text. certificates.reading text ≡ whole verdict.header records)
+  pub walked : IsWalked start None
+  pub trace_end : IfSome start.trace (λ _. end.trace ≡ Some [])
+  pub certificate_end : IfSome start.certificate (λ _. end.certificate ≡ Some [])
+
+-- these are the first requests of the trace, and what is still to come follows them
+pub record HasRequests (given : List Object) (start now : Inputs) (bytes : List ℕ) : Type 0 where
+  pub rest : List ℕ
+  pub stands_in : requests.told now.reader now.trace ≡ Some rest
+  pub reading : traces.reading start.reader.format start.reader.limits bytes ≡ after given (requests.to_come now.reader rest)
+
+-- a reading after a header and these records
+abbrev pub after_records : Header → List Record → certificates.Reading → certificates.Reading
+after_records h records c = record { header = Some h; records = records ++ c.records; fault = c.fault }
+
+-- these are the first records of the certificate, and what is still to come follows them
+pub record HasRecords (h : Header) (records : List Record) (now : Inputs) (text : List ℕ) : Type 0 where
+  pub stands_in : told now.cert.lines now.certificate ≡ Some (after_lines now.cert.lines.line text)
+  pub reading : certificates.reading text ≡ after_records h records (lines.to_come now.cert (after_lines now.cert.lines.line text))
+  pub consumed : now.cert.lines.consumed ≡ bytes_through now.cert.lines.line text
+
+-- neither reader has answered a fault, and a record was read for each step
+pub record IsInStep (now : Inputs) (checker : Summary) : Type 0 where
+  pub trace_fault : now.reader.fault ≡ None
+  pub cert_fault : now.cert.fault ≡ None
+  pub stage : now.cert.stage ≡ InRecords
+  pub line : now.cert.lines.line ≡ 11 + checker.sums.steps
+  pub left : now.cert.left + checker.sums.steps ≡ checker.header.requests
+  pub held : length now.cert.lines.held ≤ 65536
+  pub some : (trace : List Object) × (records : List Record) × StandsFor checker.header trace records checker
+
+-- the counts of faults have not fallen
+pub record IsLater (start now : Inputs) : Type 0 where
+  pub trace : start.trace_faults ≤ now.trace_faults
+  pub certificate : start.certificate_faults ≤ now.certificate_faults
+
+-- so many requests and records were read and passed
+pub record Came (start : Inputs) (h : Header) (trace : List Object) (records : List Record) (now : Inputs) (checker : Summary) : Type 0 where
+  pub stands : StandsFor h trace records checker
+  pub trace_read : IfSome start.trace (HasRequests trace start now)
+  pub records_read : IfSome start.certificate (HasRecords h records now)
+  pub later : IsLater start now
+
+-- the trace has no more requests
+pub record Ended (start : Inputs) (h : Header) (trace : List Object) (records : List Record) (now : Inputs) (checker : Summary) : Type 0 where
+  pub stands : StandsFor h trace records checker
+  pub trace_read : IfSome start.trace (λ bytes. IsWhole (traces.reading start.reader.format start.reader.limits bytes) trace now.reader.dropped)
+  pub trace_end : IfSome start.trace (λ _. now.trace ≡ Some [])
+  pub records_read : IfSome start.certificate (HasRecords h records now)
+  pub later : IsLater start now
+
+-- why the walk ends at a place
+pub record IsStop (start end : Inputs) (why : CheckFault) : Type 0 where
+  pub event : IsEvent start end why
+  pub near : IsNear start end why
+
+-- one turn of the walk: one request and its record, or the end of the trace, or why it ends here
+abbrev pub IsTurned : Inputs → Header → List Object → List Record → Inputs → Summary → Result Bool CheckFault → Type 0
+IsTurned start h trace records now checker (Ok true) = (x : Object) × (r : Record) × Came start h (trace ++ x ∷ []) (records ++ r ∷ []) now checker
+IsTurned start h trace records now checker (Ok false) = Ended start h trace records now checker
+IsTurned start h trace records now checker (Err why) = IsStop start now why
+
+-- the end of the walk: a yes, or why it is none
+abbrev pub IsClosed : Inputs → Inputs → Result Verdict CheckFault → Type 0
+IsClosed start end (Ok verdict) = IsPassed start end verdict
+IsClosed start end (Err why) = IsStop start end why
