@@ -3,27 +3,11 @@
 //! `blocks arc FILE` and `blocks msr FILE BLOCK` parse each line, number the volumes of an MSR trace by the HashMap of
 //! std with its own hasher, and add up the blocks. A line of no blocks is parsed and dropped, its volume not numbered,
 //! as bounds does.
+mod lines;
+
+use lines::{each_line, find, is_gap};
 use std::collections::HashMap;
-use std::io::Read;
 use std::slice::Iter;
-
-const PIECE: usize = 65_536;
-const MOST_TEXT: usize = 65_535;
-
-extern "C" {
-    fn memchr(bytes: *const u8, byte: i32, len: usize) -> *const u8;
-}
-
-// The C library's search.
-fn find(byte: u8, bytes: &[u8]) -> Option<usize> {
-    // SAFETY: the pointer and the length are of one slice, and what is found lies in it.
-    let found = unsafe { memchr(bytes.as_ptr(), i32::from(byte), bytes.len()) };
-    (!found.is_null()).then(|| found as usize - bytes.as_ptr() as usize)
-}
-
-fn is_gap(byte: &u8) -> bool {
-    *byte == b' ' || *byte == b'\t'
-}
 
 fn is_comma(byte: &u8) -> bool {
     *byte == b','
@@ -100,10 +84,6 @@ fn parse_msr(text: &[u8], block: u64) -> Option<Line<'_>> {
 
 // By the form: the block of MSR, or none for ARC.
 fn parse(text: &[u8], block: Option<u64>) -> Option<Line<'_>> {
-    if text.len() > MOST_TEXT {
-        return None;
-    }
-    let text = text.strip_suffix(b"\r").unwrap_or(text);
     if text.iter().all(is_gap) {
         return Some(Line::Skipped);
     }
@@ -142,47 +122,22 @@ fn main() -> Result<(), Box<dyn std::error::Error>> {
         ["msr", path, block] => (path, Some(block.parse::<std::num::NonZeroU64>()?.get())),
         _ => return Err("blocks arc FILE, or blocks msr FILE BLOCK".into()),
     };
-    let mut file = std::fs::File::open(path)?;
     let mut volumes = Volumes::default();
-    let (mut lines, mut requests, mut dropped, mut checksum) = (0_u64, 0_u64, 0_u64, 0_u64);
-    // The rest of the piece before, of at most MOST_TEXT bytes, and a piece.
-    let mut buffer = vec![0; 2 * PIECE];
-    let mut len = 0;
-    loop {
-        let read = file.read(&mut buffer[len..len + PIECE])?;
-        len += read;
-        // The last line may lack its LF.
-        if read == 0 && len > 0 {
-            buffer[len] = b'\n';
-            len += 1;
-        }
-        let mut start = 0;
-        while let Some(end) = find(b'\n', &buffer[start..len]) {
-            lines += 1;
-            let line = parse(&buffer[start..start + end], block)
-                .ok_or_else(|| format!("bad line {lines}"))?;
-            start += end + 1;
-            match line {
-                Line::Skipped => {}
-                Line::Dropped => dropped += 1,
-                Line::Blocks(volume, first, last) => {
-                    let volume = volume.map_or(0, |(host, disk)| volumes.number(host, disk));
-                    for block in first..=last {
-                        requests += 1;
-                        checksum = checksum.wrapping_mul(31).wrapping_add(block ^ volume);
-                    }
+    let (mut requests, mut dropped, mut checksum) = (0_u64, 0_u64, 0_u64);
+    each_line(path, |text| {
+        match parse(text, block)? {
+            Line::Skipped => {}
+            Line::Dropped => dropped += 1,
+            Line::Blocks(volume, first, last) => {
+                let volume = volume.map_or(0, |(host, disk)| volumes.number(host, disk));
+                for block in first..=last {
+                    requests += 1;
+                    checksum = checksum.wrapping_mul(31).wrapping_add(block ^ volume);
                 }
             }
         }
-        buffer.copy_within(start..len, 0);
-        len -= start;
-        if len > MOST_TEXT {
-            return Err(format!("bad line {}", lines + 1).into());
-        }
-        if read == 0 {
-            break;
-        }
-    }
+        Some(())
+    })?;
     let volumes = volumes.numbers.len();
     println!("requests {requests} dropped {dropped} checksum {checksum} volumes {volumes}");
     Ok(())

@@ -2,36 +2,20 @@
 //!
 //! `reading FILE` parses each line. `reading FILE objects` also numbers the objects, by the HashMap of std with its
 //! own hasher, and keeps the object of each request and its previous and next request.
+mod lines;
+
+use lines::{each_line, is_gap};
 use std::collections::HashMap;
-use std::io::Read;
 use std::slice::Iter;
 
-const PIECE: usize = 65_536;
-const MOST_TEXT: usize = 65_535;
 const NONE: u32 = u32::MAX;
-
-extern "C" {
-    fn memchr(bytes: *const u8, byte: i32, len: usize) -> *const u8;
-}
-
-// The C library's search. `iter().position` was slower; a search by words of 8 bytes was as fast on short lines and
-// slower on long ones.
-fn find_lf(bytes: &[u8]) -> Option<usize> {
-    // SAFETY: the pointer and the length are of one slice, and what is found lies in it.
-    let found = unsafe { memchr(bytes.as_ptr(), i32::from(b'\n'), bytes.len()) };
-    (!found.is_null()).then(|| found as usize - bytes.as_ptr() as usize)
-}
-
-fn is_gap(byte: u8) -> bool {
-    byte == b' ' || byte == b'\t'
-}
 
 // The number that the next word is. The gap after it is taken too.
 fn number(bytes: &mut Iter<u8>) -> Option<u64> {
-    let mut next = bytes.find(|byte| !is_gap(**byte));
+    let mut next = bytes.find(|byte| !is_gap(byte));
     next?;
     let mut value = 0_u64;
-    while let Some(byte) = next.filter(|byte| !is_gap(**byte)) {
+    while let Some(byte) = next.filter(|byte| !is_gap(byte)) {
         let digit = byte.wrapping_sub(b'0');
         if digit > 9 {
             return None;
@@ -46,14 +30,11 @@ fn number(bytes: &mut Iter<u8>) -> Option<u64> {
 // Inlined into the loop it was slower.
 #[inline(never)]
 fn parse(text: &[u8]) -> Option<Option<(u64, u64)>> {
-    let mut bytes = text.strip_suffix(b"\r").unwrap_or(text).iter();
-    if text.len() > MOST_TEXT {
-        return None;
-    }
-    if bytes.find(|byte| !is_gap(**byte)).is_none() {
+    let mut bytes = text.iter();
+    if bytes.find(|byte| !is_gap(byte)).is_none() {
         return Some(None);
     }
-    bytes.find(|byte| is_gap(**byte))?;
+    bytes.find(|byte| is_gap(byte))?;
     let (id, size) = (number(&mut bytes)?, number(&mut bytes)?);
     (size <= 1 << 48).then_some(Some((id, size)))
 }
@@ -86,46 +67,24 @@ impl Objects {
 
 fn main() -> Result<(), Box<dyn std::error::Error>> {
     let words: Vec<String> = std::env::args().collect();
-    let mut file = std::fs::File::open(words.get(1).ok_or("reading FILE [objects]")?)?;
+    let path = words.get(1).ok_or("reading FILE [objects]")?;
     let mut objects = words.get(2).map(|_| Objects::default());
-    let (mut lines, mut requests, mut dropped, mut checksum) = (0_u64, 0_u64, 0_u64, 0_u64);
-    // The rest of the piece before, of at most MOST_TEXT bytes, and a piece.
-    let mut buffer = vec![0; 2 * PIECE];
-    let mut len = 0;
-    loop {
-        let read = file.read(&mut buffer[len..len + PIECE])?;
-        len += read;
-        // The last line may lack its LF.
-        if read == 0 && len > 0 {
-            buffer[len] = b'\n';
-            len += 1;
+    let (mut requests, mut dropped, mut checksum) = (0_u64, 0_u64, 0_u64);
+    each_line(path, |text| {
+        let Some((id, size)) = parse(text)? else {
+            return Some(());
+        };
+        checksum = checksum.wrapping_add(id).wrapping_add(size);
+        if size == 0 {
+            dropped += 1;
+            return Some(());
         }
-        let mut start = 0;
-        while let Some(end) = find_lf(&buffer[start..len]) {
-            lines += 1;
-            let line =
-                parse(&buffer[start..start + end]).ok_or_else(|| format!("bad line {lines}"))?;
-            start += end + 1;
-            let Some((id, size)) = line else { continue };
-            checksum = checksum.wrapping_add(id).wrapping_add(size);
-            if size == 0 {
-                dropped += 1;
-                continue;
-            }
-            requests += 1;
-            if let Some(objects) = &mut objects {
-                objects.push(id, size);
-            }
+        requests += 1;
+        if let Some(objects) = &mut objects {
+            objects.push(id, size);
         }
-        buffer.copy_within(start..len, 0);
-        len -= start;
-        if len > MOST_TEXT {
-            return Err(format!("bad line {}", lines + 1).into());
-        }
-        if read == 0 {
-            break;
-        }
-    }
+        Some(())
+    })?;
     println!("requests {requests} dropped {dropped} checksum {checksum}");
     if let Some(objects) = objects {
         let intervals = objects.next.iter().filter(|next| **next != NONE).count();
