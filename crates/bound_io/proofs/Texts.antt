@@ -2,19 +2,23 @@
 use Rattle.std.proofs.Common.{◌≡◌, ℕ, ◌+◌, ◌-◌, ◌≤◌, ◌<◌, List, ◌++◌, Option, None, Some, length, take, drop, refl, arith, length-drop, length-take, length-append, ◌∙◌, sym, Vec, Global, [], ap, append-nil}
 use Rattle.std.proofs.lemmas.List.{take-append-le, take-append-drop, drop-drop, drop-take, drop_all, with_items_is, length-take-le}
 use Rattle.std.proofs.Math.Seq.{take-append-add, drop-append_seam}
-use Rattle.std.proofs.lemmas.List.Folds.{prefix_len-append}
+use Rattle.std.proofs.lemmas.List.Folds.{length-prefix_len, prefix_len-append}
 use Rattle.std.proofs.lemmas.List.Sums.{prefix_len-le-length, position_or_len_is}
 use Rattle.std.proofs.lemmas.Bool.{eq-eqb, false_from_ne_true, ne_eqb}
 use Rattle.std.specs.Option.{unwrap_or}
 use Rattle.std.specs.Vec.{with_items}
 use Rattle.std.specs.Prelude.{vec_len}
 use Rattle.memchr.specs.Find.{IsFirstByte, is_byte}
-use Rattle.bound_io.specs.Lines.{is_lf, text_len}
+use Rattle.bound_io.specs.Lines.{is_lf, text_len, first_text}
 
 -- the place where the first LF was found, or the number of the bytes where none was
 pub text_len_is : (bytes : List ℕ) (found : Option ℕ) → IsFirstByte (is_byte 10) bytes found → unwrap_or found (length bytes) ≡ text_len bytes
 text_len_is bytes None nowhere = sym (position_or_len_is is_lf bytes (length bytes) 0 (omega arith) (λ j below. false_from_ne_true _ (nowhere j (omega arith) below)) (λ above. absurd (omega (arith, above))))
 text_len_is bytes (Some k) (none, passes) = sym (position_or_len_is is_lf bytes k 0 (omega (arith, none.high)) (λ j below. false_from_ne_true _ (none.before j (omega arith) below)) (λ _. passes))
+
+-- the first text has as many bytes as are counted
+pub length-first_text : (bytes : List ℕ) → length (first_text bytes) ≡ text_len bytes
+length-first_text bytes = length-prefix_len _ bytes
 
 -- a text has no more bytes than there are
 pub text_len-le : (bytes : List ℕ) → text_len bytes ≤ length bytes

@@ -126,7 +126,7 @@ lacks-form : (s : Bool) → Lacks 10 (codes "form " ++ form_word s)
 lacks-form true = Lacks-from_test 10 (codes "form exact") refl
 lacks-form false = Lacks-from_test 10 (codes "form plain") refl
 
-keep_small : (s : Bool) → keep_digit s < 10 ^ 64
+pub keep_small : (s : Bool) → keep_digit s < 10 ^ 64
 keep_small true = omega arith
 keep_small false = omega arith
 
@@ -169,7 +169,7 @@ record_lacks r h =
     (lacks-entry (decimal r.price) (keep_digit r.keep) (lacks-decimal 10 r.price (lit< tt) (let b : r.price ≤ 2 ^ 126 = h.price in omega arith)) (keep_small r.keep))
     (let b : r.flow ≤ 2 ^ 48 = h.flow in omega arith)
 
-header_from : Objective → ℕ → ℕ → ℕ → ℕ → Bool → ℕ → ℕ → ℕ → Header
+pub header_from : Objective → ℕ → ℕ → ℕ → ℕ → Bool → ℕ → ℕ → ℕ → Header
 header_from o c n u d x v f l = record { objective = o; capacity = c; requests = n; unit = u; denominator = d; exact = x; upper = v; flow = f; lower = l }
 
 record_from : ℕ → Bool → ℕ → Record

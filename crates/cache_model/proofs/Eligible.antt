@@ -51,13 +51,13 @@ list_any-range_true p xs d i j k low high within pass =
     let e : get_or (slice_range xs i j) (k - i) d ≡ get_or xs k d = get_or-between xs i j (k - i) d (omega arith) ∙ ap (λ n. get_or xs n d) place in
     list_any_at p (slice_range xs i j) (k - i) d (omega arith) (ap p e ∙ pass)
 
+pub or_false : (b : Bool) → (b || false) ≡ b
+or_false true = refl
+or_false false = refl
+
 -- one more place
 pub list_any-range_more : {X : Type 0} (p : X → Bool) (xs : List X) (d : X) (i j : ℕ) → i ≤ j → j < length xs → list_any p (slice_range xs i (j + 1)) ≡ (list_any p (slice_range xs i j) || p (get_or xs j d))
 list_any-range_more p xs d i j low high = ap (list_any p) (between_more xs i j d low high) ∙ list_any-append p (slice_range xs i j) (get_or xs j d ∷ []) ∙ ap (λ t. list_any p (slice_range xs i j) || t) (or_false (p (get_or xs j d)))
-  where
-    or_false : (b : Bool) → (b || false) ≡ b
-    or_false true = refl
-    or_false false = refl
 
 -- whether the pair is eligible, for an object that fits or not
 abbrev pub is_next : List Object → ℕ → ℕ → Bool

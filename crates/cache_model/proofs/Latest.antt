@@ -11,7 +11,7 @@ use Rattle.cache_model.specs.Objects.{request_at, no_object}
 use Rattle.cache_model.specs.Keeps.{is_kept, is_held, held_before, is_latest, latest_sum}
 use Rattle.cache_model.proofs.Duality.{same_object-true}
 use Rattle.cache_model.proofs.Sums.{sum_by-map, sum_by-filter, sum_by-agree}
-use Rattle.cache_model.proofs.Eligible.{list_any-range_false, list_any-range_true, list_any-range_more}
+use Rattle.cache_model.proofs.Eligible.{list_any-range_false, list_any-range_true, list_any-range_more, or_false}
 use Rattle.cache_model.proofs.Pairs.{same_object-sym}
 use Rattle.cache_model.proofs.Streams.{sum_by-range_agree, sum_by-range_one, sum_by-range_last, slice_range-append}
 
@@ -28,10 +28,6 @@ held-latest trace keeps t =
     at true false n = refl
     at false true n = refl
     at false false n = refl
-
-or_false : (b : Bool) → (b || false) ≡ b
-or_false true = refl
-or_false false = refl
 
 module _ (trace : List Object) (x : Object) (g : ℕ → ℕ) where
   term : List Object → ℕ → ℕ → ℕ

@@ -7,6 +7,7 @@ pub mod Eligible
 pub mod Keeps
 pub mod Streams
 pub mod Members
+pub mod Ranges
 pub mod Flows
 pub mod Rounding
 pub mod Apart

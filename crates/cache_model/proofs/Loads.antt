@@ -24,7 +24,7 @@ cond_zero true n e = e
 cond_zero false n e = refl
 
 -- an amount for each interval, by a function
-load_at-map : (h : Interval → ℕ) (t : ℕ) (intervals : List Interval) → load_at intervals (map h intervals) t ≡ sum_by (λ i. cond (covers t i) (h i) 0) intervals
+pub load_at-map : (h : Interval → ℕ) (t : ℕ) (intervals : List Interval) → load_at intervals (map h intervals) t ≡ sum_by (λ i. cond (covers t i) (h i) 0) intervals
 load_at-map h t [] = refl
 load_at-map h t (i ∷ intervals) =
     omega (arith, load_at-map h t intervals, sum_by-cons (λ (i, amount). cond (covers t i) amount 0) (i, h i) (zip intervals (map h intervals)), sum_by-cons (λ i. cond (covers t i) (h i) 0) i intervals)

@@ -13,7 +13,7 @@ use Rattle.cache_model.specs.Keeps.{is_kept, is_held, is_latest, latest_sum, hel
 use Rattle.cache_model.proofs.Duality.{same_object-true}
 use Rattle.cache_model.proofs.Pairs.{same_object-sym}
 use Rattle.cache_model.proofs.Sums.{sum_by-range}
-use Rattle.cache_model.proofs.Eligible.{list_any-range_false, list_any-range_true, list_any-range_more}
+use Rattle.cache_model.proofs.Eligible.{list_any-range_false, list_any-range_true, list_any-range_more, or_false}
 use Rattle.cache_model.proofs.Streams.{sum_by-range_agree, sum_by-range_one, sum_by-range_last}
 use Rattle.cache_model.proofs.Keeps.{All-filter_range, Contains-filter_range, contents_of_keeps}
 use Rattle.cache_model.proofs.Latest.{held-latest}
@@ -46,10 +46,6 @@ first_or_next trace t within = search t (omega arith) (λ k low high. absurd (om
         (cases_Bool (same_object (request_at trace t) (request_at trace n)))
 
 -- a test or false is the test
-or_false : (b : Bool) → (b || false) ≡ b
-or_false true = refl
-or_false false = refl
-
 module _ (trace : List Object) (t : ℕ) (within : t < length trace) where
   -- a request of another object stays the latest, or not
   is_latest-other : (a : ℕ) → a < t → same_object (request_at trace a) (request_at trace t) ≡ false → is_latest trace (t + 1) a ≡ is_latest trace t a

@@ -27,6 +27,7 @@ use Rattle.cache_model.proofs.Members.{All-eligible_intervals, Contains-eligible
 use Rattle.cache_model.proofs.Loads.{load-latest}
 use Rattle.cache_model.proofs.Rounding.{sum_by-none}
 use Rattle.cache_model.proofs.Scores.{allowed-from_loads}
+use Rattle.cache_model.proofs.Loads.{load_at-map}
 use Rattle.cert_checker.specs.Rules.{counted_of, divides, ends_interval, end_fault, figures_at, first_unused, record_at, record_fault, was_requested, weight_in}
 use Rattle.cert_checker.proofs.Passing.{Passes, Passes-from_none, EndPasses, EndPasses-from_none, equal_from_not, second_from_and}
 
@@ -63,11 +64,6 @@ EndsWith-eligible h trace records i e =
 AllZip-map : {X Y : Type 0} (R : X → Y → Type 0) (f : X → Y) (xs : List X) → ((k : ℕ) (d : X) → k < length xs → R (get_or xs k d) (f (get_or xs k d))) → AllZip R xs (map f xs)
 AllZip-map R f [] each = tt
 AllZip-map R f (x ∷ xs) each = (each 0 x (omega arith), AllZip-map R f xs (λ k d low. each (suc k) d (omega arith)))
-
-pub load_at-map : (f : Interval → ℕ) (t : ℕ) (xs : List Interval) → load_at xs (map f xs) t ≡ sum_by (λ i. cond (covers t i) (f i) 0) xs
-load_at-map f t [] = refl
-load_at-map f t (i ∷ xs) =
-    omega (arith, load_at-map f t xs, sum_by-cons (λ (i, amount). cond (covers t i) amount 0) (i, f i) (zip xs (map f xs)), sum_by-cons (λ i. cond (covers t i) (f i) 0) i xs)
 
 -- a request is the latest of its object at the end of the trace, or has a next one
 latest_or_next : (trace : List Object) (a : ℕ) → a < length trace → (is_latest trace (length trace) a ≡ true) ⊎ ((b : ℕ) × IsNext trace a b)

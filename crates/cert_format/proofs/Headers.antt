@@ -8,6 +8,7 @@ use Rattle.cache_model.specs.declared.objects.Objective.{Objective}
 use Rattle.cache_model.specs.declared.certificates.Header.{Header}
 use Rattle.cache_model.specs.Certificates.{IsHeaderInRange}
 use Rattle.cache_model.specs.Texts.{line, text_of, entry, objective_word, form_word, header_lines}
+use Rattle.cache_model.proofs.Apart.{header_from}
 use Rattle.cert_format.specs.Grammar.{Slot, line_fault, header_slots, number_at, word_at}
 use Rattle.cert_format.specs.Readings.{first_fault, lines_fault, after_lines, line_text, header_fault, header_in, objective_in}
 use Rattle.cert_format.proofs.Shapes.{fixed_fits, fixed_only}
@@ -185,9 +186,6 @@ header_fits h range =
         ),
       ),
     )
-
-header_from : Objective → ℕ → ℕ → ℕ → ℕ → Bool → ℕ → ℕ → ℕ → Header
-header_from o c n u d x v f l = record { objective = o; capacity = c; requests = n; unit = u; denominator = d; exact = x; upper = v; flow = f; lower = l }
 
 -- a header in range that is written is read
 pub header_read : (h : Header) (rest : List ℕ) → IsHeaderInRange h

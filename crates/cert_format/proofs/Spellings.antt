@@ -12,6 +12,7 @@ use Rattle.cache_model.specs.declared.objects.Objective.TheVariants.{Object as H
 use Rattle.cache_model.specs.declared.certificates.Record.{Record}
 use Rattle.cache_model.specs.Certificates.{IsRecordInRange}
 use Rattle.cache_model.specs.Texts.{entry, objective_word, form_word, keep_digit, record_line}
+use Rattle.cache_model.proofs.Apart.{keep_small}
 use Rattle.cert_format.specs.declared.fault.TextKind.TheVariants.{Number, Range}
 use Rattle.cert_format.specs.Grammar.{Within, words, line_fault, number_line, choice_line, record_slots, number_fault, number_at, number_in, word_at, is_canonical}
 use Rattle.cert_format.specs.Readings.{objective_in, record_in}
@@ -94,10 +95,6 @@ form_spelled text fits =
     by : (word : List ℕ) → text ≡ codes "form" ++ 32 ∷ word → (word ≡ codes "exact") ⊎ (word ≡ codes "plain") → text ≡ codes "form " ++ form_word (bytes_eq (word_at 1 text) (codes "exact"))
     by word is (inl one) = let all : text ≡ codes "form exact" = is ∙ ap (λ w. codes "form" ++ 32 ∷ w) one in all ∙ ap (λ t. codes "form " ++ form_word (bytes_eq (word_at 1 t) (codes "exact"))) (sym all)
     by word is (inr other) = let all : text ≡ codes "form plain" = is ∙ ap (λ w. codes "form" ++ 32 ∷ w) other in all ∙ ap (λ t. codes "form " ++ form_word (bytes_eq (word_at 1 t) (codes "exact"))) (sym all)
-
-keep_small : (keep : Bool) → keep_digit keep < 10 ^ 64
-keep_small true = omega arith
-keep_small false = omega arith
 
 keep_lone : (keep : Bool) → words ((48 + keep_digit keep) ∷ []) ≡ ((48 + keep_digit keep) ∷ []) ∷ []
 keep_lone true = refl

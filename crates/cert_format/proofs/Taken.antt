@@ -5,7 +5,6 @@ use Rattle.std.specs.Option.{option_map}
 use Rattle.std.specs.Result.{is_ok}
 use Rattle.std.proofs.lemmas.Bool.{true≢false, cases_Bool, ne_eqb, leb-true, le-leb}
 use Rattle.std.proofs.lemmas.List.Sums.{prefix_len-le-length}
-use Rattle.std.proofs.lemmas.List.Folds.{length-prefix_len}
 use Rattle.std.specs.Io.KnownBytes.{Keeps}
 use Rattle.bound_io.specs.Devices.{Device}
 use Rattle.bound_io.specs.Reading.{LosesFront}
@@ -15,6 +14,7 @@ use Rattle.bound_io.specs.declared.line_reader.LineFault.{LineFault}
 use Rattle.bound_io.specs.declared.line_reader.LineFault.TheVariants as line
 use Rattle.bound_io.specs.declared.line_reader.WholeLine.{WholeLine}
 use Rattle.bound_io.specs.declared.line_reader.WholeLine.TheVariants.{Whole, Unended, AtEnd}
+use Rattle.bound_io.proofs.Texts.{length-first_text}
 use Rattle.cert_format.specs.declared.fault.TextKind.{TextKind}
 use Rattle.cert_format.specs.declared.fault.TextKind.TheVariants.{TooLong}
 use Rattle.cert_format.specs.declared.fault.CertFault.{CertFault}
@@ -137,9 +137,6 @@ module _ {A : Type 0} (slots : List Slot) (value : List ℕ → A) (old new : Po
       let same : BadText (old.line + 1) TooLong ≡ fault = cc in
       subst Stopped same (stop_fault line.InputTooLong (BadText (old.line + 1) TooLong) gave.next gave.held (not_past gave.refused) (omega arith))
 
-length-text : (bytes : List ℕ) → length (first_text bytes) ≡ text_len bytes
-length-text bytes = length-prefix_len _ bytes
-
 -- a whole line is read: its text has this fault, or this value
 module _ {A : Type 0} (slots : List Slot) (value : List ℕ → A) (old new : Position) (source : Device) (text : List ℕ) (short : line_fault slots text ≡ None → length text ≤ 63) (loses : LosesFront source.before source.after) (later : source.faults_before ≤ source.faults_after) where
   abbrev Read : Result A CertFault → Type 0
@@ -160,7 +157,7 @@ module _ {A : Type 0} (slots : List Slot) (value : List ℕ → A) (old new : Po
         let first = at_some (stands_in old.held source.before) bytes IsFirst some.1 is in
         let consumed = at_some (stands_in old.held source.before) bytes _ some.1 gives.consumed in
         let rest = at_some (stands_in old.held source.before) bytes _ some.1 gives.rest in
-        let size = ap length first.0 ∙ length-text bytes in
+        let size = ap length first.0 ∙ length-first_text bytes in
         let fault : first_fault (old.line + 1) slots bytes ≡ None = whole_line (old.line + 1) slots bytes first.1 (omega (arith, size, long)) ∙ ap (option_map (in_line (old.line + 1))) (ap (line_fault slots) (sym first.0) ∙ fits) in
         record {
           none = fault;
@@ -181,7 +178,7 @@ module _ {A : Type 0} (slots : List Slot) (value : List ℕ → A) (old new : Po
     value_is = tt;
     stopped = if_told (told old source.before) _ (λ bytes e.
         let first = at_some (stands_in old.held source.before) bytes IsFirst (told_some old source.before bytes e).1 is in
-        let size = ap length first.0 ∙ length-text bytes in
+        let size = ap length first.0 ∙ length-first_text bytes in
         whole_line (old.line + 1) slots bytes first.1 (omega (arith, size, long)) ∙ ap (option_map (in_line (old.line + 1))) (ap (line_fault slots) (sym first.0) ∙ fault));
     within = omega (arith, gives.line);
     past = if_told (told old source.before) _ (λ bytes e. one_past old new bytes gives.line (at_some (stands_in old.held source.before) bytes _ (told_some old source.before bytes e).1 gives.consumed));

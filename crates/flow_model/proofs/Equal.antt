@@ -11,7 +11,7 @@ use Rattle.flow_model.specs.declared.arcs.OuterArc.{OuterArc}
 use Rattle.flow_model.specs.declared.edges.Edge.TheVariants.{InnerBack, Outer, OuterBack}
 use Rattle.flow_model.specs.Instances.{Instance, IsArc, no_arc, arc_at, price_over, surplus, covers, load_at, IsSchedule, IsSolution, IsLeast, IsBest, total_cost}
 use Rattle.flow_model.specs.Networks.{Flows, IsBalanced, IsPotential, ArePrices}
-use Rattle.flow_model.proofs.Sums.{take_drop_nil}
+use Rattle.cache_model.proofs.Ranges.{take_drop_nil}
 use Rattle.flow_model.proofs.Exchange.{paid_by_arcs, same_pay, below_prices}
 
 -- the prices suit the flows: complementary slackness

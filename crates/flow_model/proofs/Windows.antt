@@ -9,7 +9,8 @@ use Rattle.cache_model.proofs.Sums.{sum_by-map, sum_by-filter, sum_by-agree}
 use Rattle.flow_model.specs.declared.arcs.OuterArc.{OuterArc}
 use Rattle.flow_model.specs.Instances.{Instance, IsArc, no_arc, arc_at, price_over, surplus, value_at}
 use Rattle.flow_model.specs.Windows.{part_steps, meets, part_share, last_window, part_cost, part_of, window_instance}
-use Rattle.flow_model.proofs.Sums.{sum_by-add, sum_by-times, sum-slice_range}
+use Rattle.cache_model.proofs.Ranges.{sum_by-add, sum_by-times}
+use Rattle.flow_model.proofs.Sums.{sum-slice_range}
 
 -- what differences sum to
 differences : (w : ℕ) (f g : ℕ → ℕ) (xs : List ℕ) → w * sum_by f xs - w * sum_by g xs ≤ sum_by (λ t. w * f t - w * g t) xs

@@ -11,7 +11,7 @@ use Rattle.std.proofs.lemmas.List.Sums.{AllPass-from_list_all, list_all-from_All
 use Rattle.std.proofs.lemmas.Nat.Gcd.{dvd_trans, le_of_dvd, dvd_of_mod-eq-zero, mod-eq-zero_of_dvd}
 use Rattle.std.proofs.Math.Nat.{mul-dvd-mul_right, one-dvd, div-mul_cancel}
 use Rattle.bound_base.specs.Multiples.{IsLcm}
-use Rattle.bound_base.proofs.Multiples.{gcd_of, lcm_of, IsLcm_positive}
+use Rattle.bound_base.proofs.Multiples.{All-front, All-last, gcd_of, lcm_of, IsLcm_positive}
 use Rattle.cache_model.specs.declared.intervals.Interval.{Interval}
 use Rattle.cache_model.specs.Units.{weight, HasWholeCosts, IsLeastWhole}
 use Rattle.cache_model.proofs.Units.{weight-dvd_iff}
@@ -28,15 +28,6 @@ whole_at_multiple : (xs : List Interval) (unit d e : ℕ) → d ∣ e → HasWho
 whole_at_multiple xs unit d e divides whole =
     All-weaker (λ i. weight unit i ∣ d * i.gain) (λ i. weight unit i ∣ e * i.gain) (λ i w. dvd_trans (weight unit i) w (mul-dvd-mul_right d divides i.gain)) xs whole
 
--- what rounds no cost of all rounds none of those in front, nor of the last
-All-front : (P : Interval → Type 0) (xs ys : List Interval) → All P (xs ++ ys) → All P xs
-All-front P [] ys each = All-nil P
-All-front P (x ∷ xs) ys each = All-cons P x xs (All-head P x (xs ++ ys) each) (All-front P xs ys (All-tail P x (xs ++ ys) each))
-
-All-end : (P : Interval → Type 0) (xs : List Interval) (x : Interval) → All P (xs ++ x ∷ []) → P x
-All-end P [] x each = All-head P x [] each
-All-end P (y ∷ xs) x each = All-end P xs x (All-tail P y (xs ++ x ∷ []) each)
-
 -- no interval rounds nothing over 1
 pub least_none : (unit : ℕ) → IsLeastWhole [] unit 1
 least_none unit = record { positive = omega arith; whole = All-nil (λ i. weight unit i ∣ 1 * i.gain); multiples = λ d _. one-dvd d }
@@ -51,7 +42,7 @@ least_push xs x unit m g n some least gcd lcm positive =
       whole = All-push (λ i. weight unit i ∣ n * i.gain) xs x (whole_at_multiple xs unit m n lcm.of_first least.whole) (at_n.1 lcm.of_second);
       multiples = λ d whole.
           lcm.least d (least.multiples d (All-front (λ i. weight unit i ∣ d * i.gain) xs (x ∷ []) whole))
-          ((weight-dvd_iff (weight unit x) x.gain g d (omega arith) gcd).0 (All-end (λ i. weight unit i ∣ d * i.gain) xs x whole));
+          ((weight-dvd_iff (weight unit x) x.gain g d (omega arith) gcd).0 (All-last (λ i. weight unit i ∣ d * i.gain) xs x whole));
     }
 
 -- and so in front

@@ -3,13 +3,13 @@ use Rattle.std.proofs.Common.{◌≡◌, ℕ, zero, suc, ◌+◌, ◌-◌, ◌�
 use Rattle.std.specs.Result.{IsErr, IsErrAnd, is_ok}
 use Rattle.std.proofs.lemmas.List.{drop_all, drop-drop}
 use Rattle.std.proofs.lemmas.Bool.{cases_lt, le-ltb, lt-ltb, false≢true, true≢false}
-use Rattle.std.proofs.lemmas.List.Folds.{length-prefix_len}
 use Rattle.std.proofs.lemmas.List.Sums.{prefix_len-le-length}
 use Rattle.std.specs.Io.KnownBytes.{IsAtEnd}
 use Rattle.bound_io.specs.Lines.{text_len, first_text, first_line, after_line, is_lf}
 use Rattle.bound_io.specs.Positions.{Position, GivesLine, IsRefused}
 use Rattle.bound_io.specs.declared.line_reader.LineFault.{LineFault}
 use Rattle.bound_io.specs.declared.line_reader.LineFault.TheVariants as line
+use Rattle.bound_io.proofs.Texts.{length-first_text}
 use Rattle.cache_model.specs.declared.objects.Object.{Object}
 use Rattle.trace_lines.specs.declared.line.Span.{Span}
 use Rattle.trace_lines.specs.declared.line.Span.TheVariants.{Nothing, One, Blocks}
@@ -30,9 +30,6 @@ to_come_lines r bytes none =
     ap (λ n. read_on r.format (room_left r) (requested (r.limits.requests - r.given) (so_far r) r.ahead.volume r.ahead.first n r.ahead.size) bytes) none
     ∙ ap (λ s. read_on r.format (room_left r) s bytes) (requested-none r.volumes (r.limits.requests - r.given) r.dropped r.lines.line r.lines.consumed r.ahead.volume r.ahead.first r.ahead.size)
 
-pub length-text : (bytes : List ℕ) → length (first_text bytes) ≡ text_len bytes
-length-text bytes = length-prefix_len _ bytes
-
 -- the first line is read, whatever comes of it
 to_come_line : (r : Reader) (bytes : List ℕ) → r.ahead.count ≡ 0 → 0 < length bytes
     → to_come r bytes ≡ read_on r.format (room_left r) (read_line r.format (room_left r) (so_far r) (first_text bytes, length (first_line bytes))) (after_line bytes)
@@ -44,7 +41,7 @@ line_taken_up : (r : Reader) (bytes : List ℕ) (line consumed : ℕ) → r.ahea
     → to_come r bytes ≡ read_on r.format (room_left r) (taken_up (r.limits.requests - r.given) (plain r.volumes r.dropped line consumed) (text_asked r.format (first_text bytes))) (after_line bytes)
 line_taken_up r bytes line consumed none some short within line_is consumed_is =
     to_come_line r bytes none some
-    ∙ rw (line_is, consumed_is, le-ltb 65535 (length (first_text bytes)) (omega (arith, length-text bytes, short)), le-ltb r.limits.bytes (r.lines.consumed + length (first_line bytes)) (omega (arith, within, consumed_is))) refl
+    ∙ rw (line_is, consumed_is, le-ltb 65535 (length (first_text bytes)) (omega (arith, length-first_text bytes, short)), le-ltb r.limits.bytes (r.lines.consumed + length (first_line bytes)) (omega (arith, within, consumed_is))) refl
 
 -- a reader after its lines have moved
 abbrev pub with_lines : Reader → Position → Reader
@@ -69,7 +66,7 @@ pub takes_up : (r : Reader) (l : Position) (before after : Option (List ℕ)) (t
 takes_up r l None after text none limit gives texts short = tt
 takes_up r l (Some bytes) after text none limit gives texts short =
     let within : l.consumed ≤ r.limits.bytes = omega (arith, gives.within, gives.limit, limit) in
-    let text_short : text_len bytes ≤ 65535 = omega (arith, length-text bytes, ap length (texts.0), short) in
+    let text_short : text_len bytes ≤ 65535 = omega (arith, length-first_text bytes, ap length (texts.0), short) in
     let size : l.consumed - r.lines.consumed ≡ length (first_line bytes) = omega (arith, gives.consumed) in
     let past : after_line bytes ≡ bytes_after r (with_lines r l) bytes = sym (ap (λ n. drop n bytes) size ∙ drop_taken (text_len bytes + 1) bytes) in
     let taken = line_taken_up r bytes l.line l.consumed none (texts.1) text_short within gives.line gives.consumed in
@@ -148,7 +145,7 @@ too_long r line None none line_is long = tt
 too_long r line (Some bytes) none line_is long =
     let now = plain r.volumes r.dropped (r.lines.line + 1) (r.lines.consumed + length (first_line bytes)) in
     let read : read_line r.format (room_left r) (so_far r) (first_text bytes, length (first_line bytes)) ≡ stopped now (BadLine (r.lines.line + 1) TooLong)
-    = rw (lt-ltb 65535 (length (first_text bytes)) (omega (arith, length-text bytes, long))) refl in
+    = rw (lt-ltb 65535 (length (first_text bytes)) (omega (arith, length-first_text bytes, long))) refl in
     let stop : to_come r bytes ≡ stopped now (BadLine (r.lines.line + 1) TooLong) = to_come_line r bytes none (some_text bytes (omega (arith, long)))
     ∙ (ap (λ t. read_on r.format (room_left r) t (after_line bytes)) read ∙ read_on-stopped r.format (room_left r) now (BadLine (r.lines.line + 1) TooLong) (after_line bytes)) in
     rw line_is (record { requests = ap (λ s. s.requests) stop; dropped_lines = ap (λ s. s.dropped) stop; stop = ap (λ s. s.refused) stop })
@@ -161,7 +158,7 @@ past_limit r (Some bytes) none limit within past =
     let now = plain r.volumes r.dropped (r.lines.line + 1) (r.lines.consumed + size) in
     let some : 0 < length bytes = omega (arith, length-take (text_len bytes + 1) bytes, past.1, limit, within) in
     let read : read_line r.format (room_left r) (so_far r) (first_text bytes, size) ≡ stopped now InputTooLong
-    = rw (le-ltb 65535 (length (first_text bytes)) (omega (arith, length-text bytes, past.0)), lt-ltb r.limits.bytes (r.lines.consumed + size) (omega (arith, past.1, limit))) refl in
+    = rw (le-ltb 65535 (length (first_text bytes)) (omega (arith, length-first_text bytes, past.0)), lt-ltb r.limits.bytes (r.lines.consumed + size) (omega (arith, past.1, limit))) refl in
     let stop : to_come r bytes ≡ stopped now InputTooLong = to_come_line r bytes none some
     ∙ (ap (λ t. read_on r.format (room_left r) t (after_line bytes)) read ∙ read_on-stopped r.format (room_left r) now InputTooLong (after_line bytes)) in
     record { requests = ap (λ s. s.requests) stop; dropped_lines = ap (λ s. s.dropped) stop; stop = ap (λ s. s.refused) stop }
