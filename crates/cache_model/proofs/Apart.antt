@@ -169,7 +169,7 @@ record_lacks r h =
     (lacks-entry (decimal r.price) (keep_digit r.keep) (lacks-decimal 10 r.price (lit< tt) (let b : r.price ≤ 2 ^ 126 = h.price in omega arith)) (keep_small r.keep))
     (let b : r.flow ≤ 2 ^ 48 = h.flow in omega arith)
 
-pub header_from : Objective → ℕ → ℕ → ℕ → ℕ → Bool → ℕ → ℕ → ℕ → Header
+unfoldable pub header_from : Objective → ℕ → ℕ → ℕ → ℕ → Bool → ℕ → ℕ → ℕ → Header
 header_from o c n u d x v f l = record { objective = o; capacity = c; requests = n; unit = u; denominator = d; exact = x; upper = v; flow = f; lower = l }
 
 record_from : ℕ → Bool → ℕ → Record
