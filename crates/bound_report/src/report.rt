@@ -131,7 +131,8 @@ fn push_value_lines(text: &mut Vec<u8>, header: &Header) -> Result<(), NoMemory>
 {
     push_upper_line(text, header)?;
     push_flow_line(text, header)?;
-    push_entry_line(text, b"lower", header.lower)
+    push_entry_line(text, b"lower", header.lower)?;
+    Ok(())
 }
 
 /// The report of bounds.
