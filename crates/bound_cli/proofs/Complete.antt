@@ -1,5 +1,5 @@
 -- What is answered of good inputs, where no device fails.
-use Rattle.std.proofs.Common.{◌≡◌, ◌∙◌, ℕ, ◌+◌, ◌==◌, nat_lt, refl, sym, ap, subst, inl, inr, ◌⊎◌, ¬◌, Bool, true, false, cond, List, [], ◌∷◌, ◌++◌, map, length, Ok, Err, Some, None, IfSome, Result}
+use Rattle.std.proofs.Common.{◌≡◌, ◌∙◌, ℕ, ◌+◌, ◌==◌, nat_lt, refl, sym, ap, subst, inl, inr, ◌⊎◌, Bool, true, false, cond, List, [], ◌∷◌, ◌++◌, map, length, Ok, Err, Some, None, IfSome, Result}
 use Rattle.std.specs.Prelude.{IsSome}
 use Rattle.std.specs.declared.option.Option.{Option}
 use Rattle.std.specs.Option.{is_some}
@@ -17,7 +17,7 @@ use Rattle.trace_any.specs.Readings.{Reading as Trace, reading, full_limits}
 use Rattle.trace_any.specs.Readers.{IsWhole}
 use Rattle.bound_io.specs.Devices.{Device, HasFailed}
 use Rattle.bound_report.specs.declared.refusal.LimitName.TheVariants.{Requests, TraceBytes, Denominator}
-use Rattle.cert_format.specs.declared.fault.CertFault.{CertFault}
+use Rattle.cert_format.specs.declared.fault.CertFault.{CertFault as TextFault}
 use Rattle.cert_format.specs.declared.fault.CertFault.TheVariants as cert
 use Rattle.cert_format.specs.declared.invalid.InvalidKind.{InvalidKind}
 use Rattle.cert_format.specs.declared.invalid.InvalidKind.TheVariants.{RequestCount}
@@ -50,7 +50,7 @@ of_line : (line : ℕ) (kind : Option InvalidKind) → IsOfCert (at_line line ki
 of_line line None = tt
 of_line line (Some kind) = tt
 
-of_text : (fault : Option CertFault) → IsOfCert (text_event fault)
+of_text : (fault : Option TextFault) → IsOfCert (text_event fault)
 of_text None = tt
 of_text (Some (cert.BadText line kind)) = tt
 of_text (Some (cert.Truncated line)) = tt
@@ -115,8 +115,8 @@ module _ (format : Format) (asked : Asked) (source report made : Device) (good :
   bounds_complete (Limit TraceBytes) e = absurd (not_refused source.before trace.InputTooLong good e.0)
   bounds_complete (Limit Denominator) e = absurd (not_past source.before e.0.requests e.0.dropped denominator e.0.loaded.read e.0.refused good)
   bounds_complete TraceFault e = absurd (source_works e.0)
-  bounds_complete ReportFault (cert, text, ready, failed, more) = absurd (report_works failed)
-  bounds_complete MadeFault (cert, text, ready, failed, more) = absurd (made_works failed)
+  bounds_complete ReportFault (cert, text, ready, failed, all, front) = absurd (report_works failed)
+  bounds_complete MadeFault (cert, text, ready, failed, front, line) = absurd (made_works failed)
   bounds_complete (Invalid line kind) e = absurd e
   bounds_complete (Words fault) e = absurd e
   bounds_complete CertFault e = absurd e

@@ -1,6 +1,7 @@
 -- What a check answers of all that two sources had left.
 use Rattle.std.proofs.Common.{◌≡◌, ◌∙◌, ℕ, refl, sym, ap, subst, List, Ok, Err, Some, None, IfSome}
 use Rattle.std.specs.declared.option.Option.{Option}
+use Rattle.std.specs.Option.{unwrap_or}
 use Rattle.bound_io.specs.Devices.{device}
 use Rattle.cache_model.specs.declared.certificates.Header.{Header}
 use Rattle.cache_model.specs.declared.certificates.Record.{Record}
@@ -24,8 +25,8 @@ text_of_whole : (bytes : List ℕ) (h : Header) (records : List Record) → read
 text_of_whole bytes h records is =
     let (g, others, spelled) = read_written bytes (ap (λ r. r.fault) is) in
     let same : whole g others ≡ whole h records = sym spelled.read ∙ is in
-    let heads : g ≡ h = cc in
-    let all : others ≡ records = cc in
+    let heads : g ≡ h = ap (λ r. unwrap_or r.header h) same in
+    let all : others ≡ records = ap (λ r. r.records) same in
     spelled.text ∙ ap (λ x. cert_text x others) heads ∙ ap (cert_text h) all
 
 texts_of_whole : (before : Option (List ℕ)) (h : Header) (records : List Record) → IfSome before (λ text. reading text ≡ whole h records) → IfSome before (λ text. text ≡ cert_text h records)

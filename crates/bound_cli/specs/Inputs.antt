@@ -1,5 +1,5 @@
 -- What comes of reading the inputs of a run: the trace, and the certificate of a check.
-use Rattle.std.specs.Prelude.{◌≡◌, ℕ, ¬◌, List, [], length, Some, None, IfSome}
+use Rattle.std.specs.Prelude.{◌≡◌, ℕ, List, [], length, Some, None, IfSome}
 use Rattle.std.specs.declared.option.Option.{Option}
 use Rattle.bound_io.specs.Devices.{Device}
 use Rattle.cache_model.specs.declared.objects.Object.{Object}
