@@ -60,6 +60,13 @@ const OF_CYCLE: Certified<'static> = Certified {
 
 const WORDS: [&str; 4] = ["check", "t", "c", "format=webcache"];
 
+const CHECK: Row<'static> = Row {
+    shows: "a valid certificate",
+    words: &WORDS,
+    made: b"",
+    ..GOOD
+};
+
 const PAIR_VERDICT: &[u8] =
     b"trace requests 2 objects 1 dropped 0\ncapacity 10 objective object\nform exact\n\
 unit 4 units 2 denominator 1\nupper 1/1 floor 1\nflow 1/1\nlower 1\nvalid\n";
@@ -422,24 +429,22 @@ fn text_of(alloc: Global, lines: &[&str], at: usize, text: &str) -> Result<Vec<u
 }
 
 // A check, and what comes of it.
-fn expect(
+fn expect<'x>(
     rt: &impl Abort,
     alloc: Global,
-    shows: &str,
-    trace: &[u8],
-    cert: &[u8],
+    shows: &'x str,
+    trace: &'x [u8],
+    cert: &'x [u8],
     status: Status,
-    report: &[u8],
+    report: &'x [u8],
 ) -> Result<(), Fail> {
     let row = Row {
         shows,
-        words: &WORDS,
         trace,
         cert,
         status,
         report,
-        made: b"",
-        ..GOOD
+        ..CHECK
     };
     check_at(rt, alloc, &row, 1)?;
     check_at(rt, alloc, &row, 65536)
@@ -631,24 +636,52 @@ fn the_trace_has_as_many_requests_as_the_header_says(rt: HostRuntime) -> Result<
     Ok(())
 }
 
+// A check of which these reads of the certificate fail.
+fn expect_failed_read<'x>(
+    rt: &impl Abort,
+    alloc: Global,
+    cert: &'x [u8],
+    reads: &'x [u64],
+) -> Result<(), Fail> {
+    let row = Row {
+        shows: "a read that fails",
+        cert,
+        cert_fails: reads,
+        status: Status::CertFault,
+        report: b"certificate fault\n",
+        ..CHECK
+    };
+    check(rt, alloc, &row)
+}
+
 #[test]
 fn a_failed_read_of_the_certificate_is_its_fault(rt: HostRuntime) -> Result<(), Fail> {
     let alloc = rt.alloc();
     let cert = text_of(alloc, OF_PAIR.lines, 0, "")?;
     for call in 1..=cert.len() as u64 + 1 {
-        let row = Row {
-            shows: "a read that fails",
-            words: &WORDS,
-            cert: &cert,
-            cert_fails: &[call],
-            status: Status::CertFault,
-            report: b"certificate fault\n",
-            made: b"",
-            ..GOOD
-        };
-        check(&rt, alloc, &row)?;
+        let reads = [call];
+        expect_failed_read(&rt, alloc, &cert, &reads)?;
     }
     Ok(())
+}
+
+// A check of which these writes of the report fail.
+fn expect_failed_write<'x>(
+    rt: &impl Abort,
+    alloc: Global,
+    cert: &'x [u8],
+    writes: &'x [u64],
+    report: &'x [u8],
+) -> Result<(), Fail> {
+    let row = Row {
+        shows: "a write of the verdict that fails",
+        cert,
+        report_fails: writes,
+        status: Status::ReportFault,
+        report,
+        ..CHECK
+    };
+    check(rt, alloc, &row)
 }
 
 #[test]
@@ -656,17 +689,8 @@ fn a_verdict_that_is_cut_short_is_a_report_fault(rt: HostRuntime) -> Result<(), 
     let alloc = rt.alloc();
     let cert = text_of(alloc, OF_PAIR.lines, 0, "")?;
     for taken in 0..PAIR_VERDICT.len() {
-        let row = Row {
-            shows: "a write of the verdict that fails",
-            words: &WORDS,
-            cert: &cert,
-            report_fails: &[taken as u64 + 1],
-            status: Status::ReportFault,
-            report: &PAIR_VERDICT[..taken],
-            made: b"",
-            ..GOOD
-        };
-        check(&rt, alloc, &row)?;
+        let writes = [taken as u64 + 1];
+        expect_failed_write(&rt, alloc, &cert, &writes, &PAIR_VERDICT[..taken])?;
     }
     Ok(())
 }
