@@ -4,3 +4,4 @@ pub mod RunningSums
 pub mod Bounds
 pub mod Loads
 pub mod Values
+pub mod WholeArcs
