@@ -5,3 +5,5 @@ pub mod Bounds
 pub mod Loads
 pub mod Values
 pub mod WholeArcs
+pub mod PartCosts
+pub mod PartArcs

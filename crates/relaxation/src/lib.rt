@@ -8,6 +8,7 @@ mod arcs;
 mod chain;
 mod denominators;
 mod flows;
+mod parts;
 mod prices;
 #[cfg(test)]
 mod tests;
@@ -19,5 +20,6 @@ pub use chain::Instance;
 pub use denominators::{Denominator, DenominatorChoice, DenominatorLimit, denominator_for};
 pub use flow_model::OuterArc;
 pub use flows::{FlowFault, flow_value};
+pub use parts::window_instance;
 pub use prices::{PriceFault, Sums, bound_of};
 pub use units::unit_of;
