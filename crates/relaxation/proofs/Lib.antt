@@ -7,3 +7,8 @@ pub mod Values
 pub mod WholeArcs
 pub mod PartCosts
 pub mod PartArcs
+pub mod Gathering
+pub mod Listing
+pub mod Merging
+pub mod Starting
+pub mod Numbering

@@ -61,6 +61,15 @@ is_window whole width k steps units parts fits steps_are units_are parts_are =
     (subst (λ u. IsInstance (record { steps = window.steps; units = u; arcs = parts })) (sym units_are)
     (subst (λ (a : List OuterArc). IsInstance (record { steps = window.steps; units = whole.units; arcs = a })) (sym parts_are) (window_is_instance whole width k fits)))
 
+pub window_made : (whole : Instance) (width k steps units : ℕ) (parts : List OuterArc)
+    → steps ≡ min whole.steps (width * (k + 1)) - width * k → units ≡ whole.units → parts ≡ map (part_of width k) (filter (meets width k) whole.arcs)
+    → record { steps = steps; units = units; arcs = parts } ≡ window_instance whole width k
+window_made whole width k steps units parts steps_are units_are parts_are =
+    let made : ℕ → ℕ → List OuterArc → Instance = λ s u a. record { steps = s; units = u; arcs = a } in
+    ap (λ s. made s units parts) steps_are
+    ∙ ap (λ u. made (min whole.steps (width * (k + 1)) - width * k) u parts) units_are
+    ∙ ap (made (min whole.steps (width * (k + 1)) - width * k) whole.units) parts_are
+
 -- once all arcs are done
 pub parts_all : (arcs whole : List OuterArc) (width k i : ℕ) (parts : List OuterArc) → length arcs ≤ i → arcs ≡ whole → parts ≡ map (part_of width k) (filter (meets width k) (take i arcs))
     → parts ≡ map (part_of width k) (filter (meets width k) whole)

@@ -10,9 +10,13 @@ mod denominators;
 mod flows;
 mod parts;
 mod prices;
+mod starts;
 #[cfg(test)]
 mod tests;
 mod units;
+#[cfg(test)]
+mod window_tests;
+mod windows;
 
 pub use arcs::instance;
 pub use cache_model::Interval;
@@ -23,3 +27,4 @@ pub use flows::{FlowFault, flow_value};
 pub use parts::window_instance;
 pub use prices::{PriceFault, Sums, bound_of};
 pub use units::unit_of;
+pub use windows::Windows;

@@ -66,6 +66,12 @@ impl Window {
         }
     }
 
+    pub(crate) fn number(self) -> u32
+        ensures { result ≡ self.number }
+    {
+        self.number
+    }
+
     // How many steps of the window the arc covers.
     fn steps_of(self, arc: &OuterArc) -> u64
         ensures { result ≡ part_steps self.width self.number arc.now }
