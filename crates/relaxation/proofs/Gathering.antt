@@ -1,8 +1,7 @@
 -- Numbers of a range that pass a test, taken one after another, from lists in order.
 use Rattle.std.proofs.Common.{◌≡◌, ◌≢◌, ◌∙◌, ℕ, zero, suc, ◌+◌, ◌-◌, ◌<◌, ◌≤◌, ap, sym, refl, subst, Bool, true, false, cond, arith, List, [], ◌∷◌, ◌++◌, length, filter, drop, get_or, append-nil, ⊎_elim}
 use Rattle.std.specs.List.{range_with_len}
-use Rattle.std.proofs.lemmas.Bool.{cases_lt, cases_eq, false≢true}
-use Rattle.std.proofs.lemmas.List.{drop-drop, drop_all}
+use Rattle.std.proofs.lemmas.Bool.{cases_eq}
 use Rattle.std.proofs.lemmas.List.Elements.{filter-append}
 use Rattle.cache_model.proofs.Eligible.{range-suc}
 

@@ -1,6 +1,5 @@
 -- Lists of numbers that are linked by the number that comes next.
-use Rattle.std.proofs.Common.{◌≡◌, ◌≢◌, ◌∙◌, ℕ, zero, suc, ◌+◌, ◌-◌, ◌<◌, ◌≤◌, ap, sym, refl, subst, Bool, true, false, cond, eqb, arith, List, [], ◌∷◌, length, filter, get_or, set, ⊎_elim}
-use Rattle.std.specs.List.{range_with_len}
+use Rattle.std.proofs.Common.{◌≡◌, ◌≢◌, ◌∙◌, ℕ, zero, suc, ◌+◌, ◌<◌, ap, sym, subst, Bool, true, false, cond, eqb, arith, List, [], ◌∷◌, length, get_or, set, ⊎_elim}
 use Rattle.std.proofs.lemmas.Bool.{cases_eq, eq-eqb, ne_eqb}
 use Rattle.std.proofs.lemmas.List.{get_or-set_other, get_or-set_same}
 use Rattle.relaxation.specs.Cuts.{IsListed}

@@ -1,7 +1,7 @@
 -- The arcs that meet a window, from those that met the one before and those that start in it.
-use Rattle.std.proofs.Common.{◌≡◌, ◌≢◌, ◌∙◌, ℕ, zero, suc, ◌+◌, ◌-◌, ◌*◌, ◌/◌, ◌<◌, ◌≤◌, ap, sym, refl, subst, min, max, Bool, true, false, cond, ◌&&◌, nat_lt, arith, List, [], ◌∷◌, ◌++◌, length, filter, drop, get_or, ◌⊎◌, ⊎_elim}
+use Rattle.std.proofs.Common.{◌≡◌, ◌≢◌, ◌∙◌, ℕ, ◌+◌, ◌-◌, ◌*◌, ◌/◌, ◌<◌, ◌≤◌, ap, sym, subst, min, Bool, false, cond, nat_lt, arith, List, [], ◌∷◌, ◌++◌, length, drop, get_or, ◌⊎◌, ⊎_elim}
 use Rattle.std.specs.List.{range_with_len}
-use Rattle.std.proofs.lemmas.Bool.{cases_lt, cases_eq, cases_Bool, false≢true, lt-ltb, le-ltb, eq-eqb, and_from}
+use Rattle.std.proofs.lemmas.Bool.{cases_lt, cases_eq, false≢true, lt-ltb, le-ltb, eq-eqb, and_from}
 use Rattle.std.proofs.lemmas.List.{drop-drop, drop_all, length-drop, get_or_past}
 use Rattle.std.proofs.lemmas.List.FromFn.{length-range_with_len}
 use Rattle.std.proofs.lemmas.List.Sums.{length-filter, count_by-le-length}

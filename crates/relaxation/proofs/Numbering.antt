@@ -1,10 +1,9 @@
 -- Arcs by their numbers.
-use Rattle.std.proofs.Common.{◌≡◌, ◌∙◌, ℕ, zero, suc, ◌+◌, ◌-◌, ◌<◌, ◌≤◌, ◌&&◌, ap, sym, refl, subst, Bool, true, false, cond, eqb, nat_lt, arith, List, [], ◌∷◌, length, map, filter, take, drop, get_or, count_by, All}
+use Rattle.std.proofs.Common.{◌≡◌, ◌∙◌, ℕ, ◌+◌, ◌-◌, ◌<◌, ◌≤◌, ◌&&◌, ap, sym, refl, subst, Bool, true, false, cond, nat_lt, arith, List, [], ◌∷◌, length, map, filter, take, get_or, All}
 use Rattle.std.specs.List.{range_with_len}
 use Rattle.std.proofs.lemmas.Bool.{lt-ltb, le-ltb, ltb-true, and_left}
 use Rattle.std.proofs.lemmas.List.{take_all}
-use Rattle.std.proofs.lemmas.List.FromFn.{fill_by_all, length-range_with_len}
-use Rattle.std.proofs.lemmas.List.Sums.{length-filter, count_by-le-length}
+use Rattle.std.proofs.lemmas.List.FromFn.{fill_by_all}
 use Rattle.std.proofs.lemmas.Simd.{map-map}
 use Rattle.cache_model.proofs.Eligible.{filter-range_none}
 use Rattle.cache_model.proofs.Keeps.{All-filter_range}

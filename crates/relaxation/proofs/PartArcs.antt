@@ -1,13 +1,12 @@
 -- The instance of a window: its numbers are in their ranges.
-use Rattle.std.proofs.Common.{◌≡◌, ◌∙◌, ℕ, zero, suc, ◌+◌, ◌-◌, ◌*◌, ◌/◌, ◌<◌, ◌≤◌, ◌^◌, ap, sym, subst, min, max, Bool, true, false, cond, arith, List, length, map, filter, take, drop, get_or, count_by, All, ⊎_elim}
-use Rattle.std.proofs.lemmas.Bool.{cases_lt, cases_eq, ltb-true, eq-eqb, ne_eqb}
+use Rattle.std.proofs.Common.{◌≡◌, ◌∙◌, ℕ, ◌+◌, ◌-◌, ◌*◌, ◌<◌, ◌≤◌, ap, sym, subst, min, Bool, cond, arith, List, length, map, filter, take, get_or, ⊎_elim}
+use Rattle.std.proofs.lemmas.Bool.{cases_eq, ltb-true, eq-eqb, ne_eqb}
 use Rattle.std.proofs.lemmas.List.{take_all, length-map}
 use Rattle.std.proofs.lemmas.List.Elements.{All-map, All-filter, filter_passes}
 use Rattle.std.proofs.lemmas.List.Sums.{length-filter, count_by-le-length}
-use Rattle.std.proofs.Math.Nat.{mul-le-mul_left}
 use Rattle.std.specs.List.{range_with_len, sum_by}
 use Rattle.flow_model.specs.declared.arcs.OuterArc.{OuterArc}
-use Rattle.flow_model.specs.Instances.{Instance, IsArc, IsInstance, no_arc}
+use Rattle.flow_model.specs.Instances.{Instance, IsArc, IsInstance}
 use Rattle.flow_model.specs.Windows.{last_window, meets, part_cost, part_of, part_share, part_steps, window_instance}
 use Rattle.relaxation.proofs.PartCosts.{shares, together-le}
 

@@ -1,9 +1,9 @@
 -- The lists of the arcs that start in each window, as arcs are added from the last to the first.
-use Rattle.std.proofs.Common.{◌≡◌, ◌∙◌, ℕ, zero, suc, ◌+◌, ◌-◌, ◌*◌, ◌/◌, ◌<◌, ◌≤◌, ap, sym, refl, subst, Bool, eqb, arith, List, [], ◌∷◌, length, get_or, set, replicate, length-set, All}
+use Rattle.std.proofs.Common.{◌≡◌, ◌∙◌, ℕ, suc, ◌+◌, ◌-◌, ◌/◌, ◌<◌, ◌≤◌, ap, sym, subst, eqb, arith, List, length, get_or, set, replicate, length-set}
 use Rattle.std.proofs.lemmas.List.{get_or-replicate, length-replicate}
 use Rattle.flow_model.specs.declared.arcs.OuterArc.{OuterArc}
-use Rattle.flow_model.specs.Instances.{arc_at, no_arc}
-use Rattle.relaxation.specs.Cuts.{AreStarts, IsListed, Lists, numbers_where, starts_in}
+use Rattle.flow_model.specs.Instances.{arc_at}
+use Rattle.relaxation.specs.Cuts.{AreStarts, IsListed, Lists}
 use Rattle.relaxation.proofs.Gathering.{passing}
 use Rattle.relaxation.proofs.Listing.{listed_more}
 use Rattle.relaxation.proofs.Merging.{start_test}

@@ -67,7 +67,7 @@ fn goes_through_the_windows_in_order(rt: HostRuntime) -> Result<(), Fail> {
     let rows: [&[u32]; 4] = [&[1, 2, 3], &[0, 1, 2, 3], &[0, 1], &[1]];
     for numbers in rows {
         assert!(rt; windows.has_step());
-        assert_eq!(rt; windows.arcs(), numbers);
+        assert_eq!(rt; windows.numbers(), numbers);
         let parts = windows.instance(alloc)?;
         assert_eq!(rt; parts.arcs().len(), numbers.len());
         windows.advance();

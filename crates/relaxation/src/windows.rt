@@ -83,8 +83,9 @@ impl<'a> Windows<'a> {
         ensures { IfOk result (λ w. w ≡ record { whole = whole.now; width = width; number = 0 }) }
     {
         let arcs = whole.arcs();
-        let count = (whole.steps() / width) as usize + 2;
-        let starts = Starts::new(alloc, arcs, width, count)?;
+        // One for each window with a step, and one past the last of them.
+        let lists = (whole.steps() / width) as usize + 2;
+        let starts = Starts::new(alloc, arcs, width, lists)?;
         let mut met = Vec::with_capacity(alloc, arcs.len())?;
         let spare = Vec::with_capacity(alloc, arcs.len())?;
         gather(arcs, Window::new(width, 0), &spare, &starts, &mut met);
@@ -106,7 +107,7 @@ impl<'a> Windows<'a> {
     }
 
     /// The numbers of the arcs that meet the current window, in order.
-    pub fn arcs(&self) -> &[u32]
+    pub fn numbers(&self) -> &[u32]
         ensures { result.now ≡ numbers_of self.now }
     {
         &self.met

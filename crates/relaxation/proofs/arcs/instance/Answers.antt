@@ -1,4 +1,4 @@
-use Rattle.std.proofs.Common.{◌≡◌, ◌≤◌, ◌^◌, ◌∙◌, length, ap, sym, subst, arith, List}
+use Rattle.std.proofs.Common.{sym, subst}
 use Rattle.flow_model.specs.Instances.{Instance, IsInstance}
 use Rattle.relaxation.proofs.Whole.{timeline_weights}
 use Rattle.relaxation.proofs.WholeArcs.{whole_is_instance, whole_all}

@@ -1,5 +1,5 @@
-use Rattle.std.proofs.Common.{◌≡◌, ◌+◌, ◌-◌, ◌*◌, ◌/◌, ◌<◌, ◌≤◌, arith}
-use Rattle.relaxation.proofs.PartCosts.{CostsBefore, costs_before, nothing_before, share_at}
+use Rattle.std.proofs.Common.{arith}
+use Rattle.relaxation.proofs.PartCosts.{costs_before, nothing_before}
 use Rattle.relaxation.proofs.parts.cost_before_last.Goals as goal
 
 pub returns-then-first-last-clause-sum : goal.returns-then-first-last-clause-sum

@@ -1,8 +1,8 @@
-use Rattle.std.proofs.Common.{◌≡◌, ◌∙◌, ℕ, ◌+◌, ◌-◌, ◌<◌, ◌≤◌, length, ap, sym, refl, subst, arith, List, [], ◌∷◌, ◌++◌, get_or, inl, inr, cond, min, true, false, append-nil}
+use Rattle.std.proofs.Common.{◌≡◌, ◌∙◌, ◌+◌, ◌<◌, length, ap, sym, refl, subst, arith, [], ◌∷◌, ◌++◌, get_or, inl, inr, cond, min, true, false, append-nil}
 use Rattle.flow_model.specs.Instances.{arc_at}
 use Rattle.flow_model.specs.Windows.{meets}
 use Rattle.relaxation.specs.Cuts.{IsListed, numbers_where, starts_in}
-use Rattle.relaxation.proofs.Merging.{IsGatheredIn, IsMoved, gathered_none, gathered_more, gathered_room, gathered_all, left_falls, next_within}
+use Rattle.relaxation.proofs.Merging.{IsMoved, gathered_none, gathered_more, gathered_room, gathered_all, left_falls, next_within}
 use Rattle.relaxation.proofs.windows.gather.Goals as goal
 use Rattle.relaxation.proofs.windows.gather.Goals.{then-at-before, else-at-before+then-starting-past, then-staying-number, else-staying-number, then-starting-number, else-starting-number}
 

@@ -1,8 +1,8 @@
-use Rattle.std.proofs.Common.{◌≡◌, ◌∙◌, ◌≤◌, length, ap, sym, List}
+use Rattle.std.proofs.Common.{◌≡◌, ◌∙◌, ap}
 use Rattle.flow_model.specs.Windows.{meets, window_instance}
 use Rattle.relaxation.specs.Cuts.{Cut, numbers_where}
 use Rattle.relaxation.proofs.PartArcs.{is_window, window_made}
-use Rattle.relaxation.proofs.Numbering.{IsMet, met_at, parts_of_numbers}
+use Rattle.relaxation.proofs.Numbering.{met_at, parts_of_numbers}
 use Rattle.relaxation.proofs.windows.Windows.instance.Goals as goal
 
 pub bounds-arcs-number : goal.bounds-arcs-number
