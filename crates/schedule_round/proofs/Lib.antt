@@ -3,3 +3,4 @@ pub mod Lists
 pub mod Taking
 pub mod Fitting
 pub mod Flags
+pub mod EqualSizes

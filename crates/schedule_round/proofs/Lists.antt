@@ -39,3 +39,10 @@ pub list_all-from : (p : ℕ → Bool) (a n : ℕ) → ((t : ℕ) → a ≤ t �
 list_all-from p a zero each = refl
 list_all-from p a (suc n) each =
     and_from (p a) (list_all p (range_with_len (a + 1) n)) (each a (omega arith) (omega arith)) (list_all-from p (a + 1) n (λ t low high. each t (omega arith) (omega arith)))
+
+-- what follows from what holds at each place
+pub AllZip-weaker : {A B : Type 0} (R S : A → B → Type 0) → ((a : A) (b : B) → R a b → S a b) → (xs : List A) (ys : List B) → AllZip R xs ys → AllZip S xs ys
+AllZip-weaker R S f [] [] h = tt
+AllZip-weaker R S f [] (y ∷ ys) h = h
+AllZip-weaker R S f (x ∷ xs) [] h = h
+AllZip-weaker R S f (x ∷ xs) (y ∷ ys) h = (f x y h.0, AllZip-weaker R S f xs ys h.1)

@@ -5,9 +5,11 @@
 #![tactic(auto)]
 
 mod keeps;
+mod laws;
 mod order;
 mod rounding;
 mod schedule;
 
 pub use keeps::Keeps;
+pub use laws::{equal_sizes_are_whole, equal_sizes_meet_the_bound, full_flags_fit};
 pub use rounding::round;
