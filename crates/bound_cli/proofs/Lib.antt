@@ -1,9 +1,9 @@
-pub mod ByStart
 pub mod Outcomes
 pub mod Complete
 pub mod Judged
 pub mod Records
-pub mod Flowless
+pub mod RecordsOf
+pub mod Relaxing
 pub mod MadeOf
 pub mod GivenByName
 pub mod WordRows

@@ -1,47 +1,74 @@
 -- What bounds makes of a trace: the certificate and the report.
-use Rattle.std.specs.Prelude.{◌≡◌, ℕ, Bool, false, List, length, map, replicate, zip, All}
+use Rattle.std.specs.Prelude.{◌≡◌, ◌↔◌, ℕ, ◌+◌, max, nat_le, ◌<◌, ◌≤◌, Bool, false, IsTrue, List, length, map, slice_index_or, sum, All}
+use Rattle.std.specs.List.{range_with_len}
 use Rattle.cache_model.specs.declared.objects.Object.{Object}
 use Rattle.cache_model.specs.declared.intervals.Interval.{Interval}
 use Rattle.cache_model.specs.declared.certificates.Header.{Header}
 use Rattle.cache_model.specs.declared.certificates.Record.{Record}
 use Rattle.cache_model.specs.declared.reports.Mode.{Mode}
 use Rattle.cache_model.specs.declared.reports.Mode.TheVariants.{Flow, Constant, Infinite}
+use Rattle.cache_model.specs.declared.reports.Window.{Window}
+use Rattle.cache_model.specs.declared.reports.Window.TheVariants.{Steps, All as Whole}
 use Rattle.cache_model.specs.declared.reports.BoundFacts.{BoundFacts}
 use Rattle.cache_model.specs.Intervals.{eligible_intervals}
+use Rattle.cache_model.specs.Keeps.{is_kept}
 use Rattle.cache_model.specs.Objects.{objects_of}
-use Rattle.cache_model.specs.Units.{IsUnit}
-use Rattle.cache_model.specs.Certificates.{eligible_of, keeps_of, prices_of, units_of, IsValid, BoundsEveryPlay}
-use Rattle.cache_model.specs.Rounding.{IsRounded, by_start}
+use Rattle.cache_model.specs.Units.{IsUnit, HasWholeCosts}
+use Rattle.cache_model.specs.Certificates.{eligible_of, flows_of, keeps_of, prices_of, units_of, IsValid, BoundsEveryPlay, IsLeastOverAll}
+use Rattle.cache_model.specs.Rounding.{IsMaximal, IsRounded, by_rank}
 use Rattle.cache_model.specs.Texts.{cert_text, report_text}
-use Rattle.interval_maker.specs.Timelines.{Timeline, timeline_of}
+use Rattle.flow_model.specs.Instances.{IsSolution, whole_instance}
+use Rattle.interval_maker.specs.Timelines.{Timeline, starting_at, timeline_of}
 use Rattle.relaxation.specs.declared.denominators.DenominatorChoice.TheVariants.{Exact}
 use Rattle.relaxation.specs.Denominators.{IsChosen, PassesMost}
+use Rattle.relaxation.specs.Faults.{amount_of}
 use Rattle.constant_price.specs.Constants.{IsLeastConstant, constant_prices}
+use Rattle.schedule_round.specs.Laws.{IsBestPlay, full_flags}
+use Rattle.window_bounds.specs.Solutions.{AreSolutions, value_of_windows}
 use Rattle.bound_cli.specs.declared.bounds.Asked.{Asked}
 
--- the keeps take eligible intervals in order of start, each where it fits at every step that it covers
-abbrev pub IsTakenByStart : List Interval → ℕ → ℕ → List Bool → Type 0
-IsTakenByStart intervals capacity steps keeps = IsRounded by_start intervals capacity steps (replicate (length intervals) false) keeps
+-- how many steps a window has
+abbrev pub width_of : Window → ℕ → ℕ
+width_of Whole steps = max steps 1
+width_of (Steps width) steps = width
 
--- the price of the steps but the last is the least constant in mode constant, and 0 in mode infinite
-abbrev pub IsPriceOf : Mode → Timeline → ℕ → ℕ → ℕ → ℕ → Type 0
-IsPriceOf Constant line unit units denominator price = IsLeastConstant line unit units denominator price
-IsPriceOf Infinite line unit units denominator price = price ≡ 0
-IsPriceOf (Flow window) line unit units denominator price = ⊥
+-- the mode is flow, with one window for all steps
+abbrev pub is_unwindowed : Mode → ℕ → Bool
+is_unwindowed (Flow window) steps = nat_le steps (width_of window steps)
+is_unwindowed Constant steps = false
+is_unwindowed Infinite steps = false
 
--- a valid certificate of the trace as asked for: the greatest unit, the denominator that is chosen, the price of the mode on every step but the last, no flow, and the keeps above
+-- the prices and the flows are those of the mode: in each window least prices and best flows of one value, or the least constant and no flow, or neither price nor flow
+abbrev pub IsOfMode : Mode → Timeline → ℕ → ℕ → ℕ → List ℕ → List ℕ → ℕ → Type 0
+IsOfMode (Flow window) line unit units denominator prices flows price =
+    let whole = whole_instance line.items line.steps unit units denominator in
+    (price ≡ 0) × AreSolutions whole (width_of window line.steps) prices flows × (line.steps ≤ width_of window line.steps → IsSolution whole prices flows)
+IsOfMode Constant line unit units denominator prices flows price = IsLeastConstant line unit units denominator price × (prices ≡ constant_prices price line.steps) × All (λ f. f ≡ 0) flows
+IsOfMode Infinite line unit units denominator prices flows price = (price ≡ 0) × (prices ≡ constant_prices 0 line.steps) × All (λ f. f ≡ 0) flows
+
+-- the bound is at most what the windows are worth at their prices, summed
+abbrev pub IsBelowWindows : Mode → Timeline → ℕ → ℕ → ℕ → List ℕ → ℕ → Type 0
+IsBelowWindows (Flow window) line unit units denominator prices bound =
+    bound ≤ value_of_windows (whole_instance line.items line.steps unit units denominator) (width_of window line.steps) prices
+IsBelowWindows Constant line unit units denominator prices bound = Unit {0}
+IsBelowWindows Infinite line unit units denominator prices bound = Unit {0}
+
+-- a valid certificate of the trace as asked for: the greatest unit, the denominator that is chosen, the prices and flows of the mode, and the keeps that are rounded from the full flows
 pub record IsMade (asked : Asked) (trace : List Object) (price : ℕ) (h : Header) (records : List Record) : Type 0 where
   pub valid : IsValid trace h records
   pub of_capacity : h.capacity ≡ asked.capacity
   pub of_objective : h.objective ≡ asked.objective
   pub unit : IsUnit (eligible_of trace h) h.unit
   pub denominator : IsChosen asked.denominator (eligible_of trace h) h.unit h.denominator
-  pub plain : h.exact ≡ false
-  pub price_of_mode : IsPriceOf asked.mode (timeline_of h.objective h.capacity trace) h.unit (units_of h) h.denominator price
-  pub prices : prices_of records ≡ constant_prices price (length trace)
-  pub without_flows : All (λ r. r.flow ≡ 0) records
-  pub keeps : IsTakenByStart (eligible_of trace h) asked.capacity (length trace) (keeps_of records)
+  pub form : IsTrue h.exact ↔ (IsTrue (is_unwindowed asked.mode (length trace)) × HasWholeCosts (eligible_of trace h) h.unit h.denominator)
+  pub of_mode : IsOfMode asked.mode (timeline_of h.objective h.capacity trace) h.unit (units_of h) h.denominator (prices_of records) (flows_of (eligible_of trace h) records) price
+  pub below_windows : IsBelowWindows asked.mode (timeline_of h.objective h.capacity trace) h.unit (units_of h) h.denominator (prices_of records) h.upper
+  pub rounded : IsRounded by_rank (eligible_of trace h) h.capacity (length trace) (full_flags h.unit (eligible_of trace h) (flows_of (eligible_of trace h) records)) (keeps_of records)
+  pub maximal : IsMaximal (eligible_of trace h) h.capacity (keeps_of records)
   pub bounds : BoundsEveryPlay trace h
+  pub least : IsTrue h.exact → IsLeastOverAll trace h records
+  pub near : IsTrue (is_unwindowed asked.mode (length trace)) → h.upper ≤ h.flow + sum (flows_of (eligible_of trace h) records)
+  pub equal_sizes : (size : ℕ) → IsTrue (is_unwindowed asked.mode (length trace)) → All (λ i. i.size ≡ size) (eligible_of trace h) → IsBestPlay h.objective h.capacity trace h.denominator h.upper (keeps_of records)
 
 -- what the report states beside the header
 abbrev pub facts_of : Asked → List Object → ℕ → ℕ → Header → BoundFacts
@@ -64,10 +91,10 @@ pub record RefusesDenominator (asked : Asked) (trace : List Object) : Type 0 whe
   pub unit_is : IsUnit (eligible_intervals asked.objective asked.capacity trace) unit
   pub past : PassesMost (eligible_intervals asked.objective asked.capacity trace) unit
 
--- the record of a price and a keep, without a flow
-abbrev pub flowless : ℕ × Bool → Record
-flowless (price, keep) = record { price = price; keep = keep; flow = 0 }
+-- the record of request t: the price of its step, its keep, and the flow of the interval that starts there
+abbrev pub record_of : List ℕ → List Bool → List Interval → List ℕ → ℕ → Record
+record_of prices keeps intervals flows t = record { price = slice_index_or prices t 0; keep = is_kept keeps t; flow = amount_of flows (starting_at intervals t) }
 
--- the records of the keeps with one price on each but the last
-abbrev pub constant_records : ℕ → List Bool → List Record
-constant_records price keeps = map flowless (zip (constant_prices price (length keeps)) keeps)
+-- a record for each request
+abbrev pub records_of : List ℕ → List Bool → List Interval → List ℕ → List Record
+records_of prices keeps intervals flows = map (record_of prices keeps intervals flows) (range_with_len 0 (length keeps))

@@ -1,5 +1,5 @@
 -- The words of the command line.
-use Rattle.std.specs.Prelude.{ℕ, ◌^◌, ◌+◌, ◌≤◌, List, [], ◌∷◌, ◌++◌, length, ◌==◌, nat_le, Bool, false, not, ◌&&◌, ◌||◌, if◌then◌else◌, codes, slice_get, Result, Ok, Err, None, Some, unwrap_or, option_and_then, find}
+use Rattle.std.specs.Prelude.{ℕ, ◌^◌, ◌+◌, ◌≤◌, List, [], ◌∷◌, ◌++◌, length, ◌==◌, nat_le, nat_lt, Bool, false, not, ◌&&◌, ◌||◌, if◌then◌else◌, codes, slice_get, Result, Ok, Err, None, Some, unwrap_or, option_and_then, find}
 use Rattle.std.specs.declared.option.Option.{Option}
 use Rattle.std.specs.List.{list_any, before_first, after_first, position_from}
 use Rattle.std.specs.Option.{is_some, option_map, option_or}
@@ -10,6 +10,8 @@ use Rattle.cache_model.specs.declared.objects.Objective.{Objective}
 use Rattle.cache_model.specs.declared.objects.Objective.TheVariants.{Object as Hits, Bytes}
 use Rattle.cache_model.specs.declared.reports.Mode.{Mode}
 use Rattle.cache_model.specs.declared.reports.Mode.TheVariants.{Flow, Constant, Infinite}
+use Rattle.cache_model.specs.declared.reports.Window.{Window}
+use Rattle.cache_model.specs.declared.reports.Window.TheVariants.{Steps, All as Whole}
 use Rattle.relaxation.specs.Denominators.{IsChoice}
 use Rattle.relaxation.specs.declared.denominators.DenominatorChoice.{DenominatorChoice}
 use Rattle.relaxation.specs.declared.denominators.DenominatorChoice.TheVariants.{Auto, Exact, Given}
@@ -105,12 +107,17 @@ objective_of value =
     else (if bytes_eq value (codes "bytes") then Some Bytes
     else None)
 
--- the mode that a value names
-abbrev pub mode_of : List ℕ → Option Mode
-mode_of value =
-    if bytes_eq value (codes "constant") then Some Constant
+-- the window that a value names: one for all steps, or a number of steps from 1 to 2^25
+abbrev pub window_of : List ℕ → Option Window
+window_of value = if bytes_eq value (codes "all") then Some Whole else option_map Steps (number_to (2 ^ 25) value)
+
+-- the mode that a value names, where the mode flow has this window
+abbrev pub mode_of : List ℕ → Window → Option Mode
+mode_of value window =
+    if bytes_eq value (codes "flow") then Some (Flow window)
+    else (if bytes_eq value (codes "constant") then Some Constant
     else (if bytes_eq value (codes "infinite") then Some Infinite
-    else None)
+    else None))
 
 -- the denominator that a value names: a word for how it is chosen, or a number from 1 to 2^48
 abbrev pub denominator_of : List ℕ → Option DenominatorChoice
@@ -125,11 +132,12 @@ usual_denominator (Flow window) = Auto
 usual_denominator Constant = Given (2 ^ 48)
 usual_denominator Infinite = Given 1
 
--- the modes that there are as yet
-abbrev pub IsBuilt : Mode → Type 0
-IsBuilt (Flow window) = ⊥
-IsBuilt Constant = Unit {0}
-IsBuilt Infinite = Unit {0}
+-- a window has a step, and at most 2^25 steps
+abbrev pub IsModeInRange : Mode → Type 0
+IsModeInRange (Flow Whole) = Unit {0}
+IsModeInRange (Flow (Steps width)) = (1 ≤ width) × (width ≤ 2 ^ 25)
+IsModeInRange Constant = Unit {0}
+IsModeInRange Infinite = Unit {0}
 
 -- whether an operand of this name says how a trace is read
 abbrev pub names_trace : List ℕ → Bool
@@ -137,7 +145,12 @@ names_trace name = bytes_eq name (codes "format") || bytes_eq name (codes "block
 
 -- whether an operand of this name says which bounds are asked for
 abbrev pub names_bounds : List ℕ → Bool
-names_bounds name = bytes_eq name (codes "capacity") || bytes_eq name (codes "objective") || bytes_eq name (codes "mode") || bytes_eq name (codes "denominator")
+names_bounds name =
+    bytes_eq name (codes "capacity")
+    || bytes_eq name (codes "objective")
+    || bytes_eq name (codes "mode")
+    || bytes_eq name (codes "window")
+    || bytes_eq name (codes "denominator")
 
 -- whether the command has an operand of this name
 abbrev pub has_operand : Command → List ℕ → Bool
@@ -151,8 +164,9 @@ is_value name value =
     else (if bytes_eq name (codes "block") then is_some (block_of value)
     else (if bytes_eq name (codes "capacity") then is_some (capacity_of value)
     else (if bytes_eq name (codes "objective") then is_some (objective_of value)
-    else (if bytes_eq name (codes "mode") then is_some (mode_of value)
-    else bytes_eq name (codes "denominator") && is_some (denominator_of value)))))
+    else (if bytes_eq name (codes "mode") then is_some (mode_of value Whole)
+    else (if bytes_eq name (codes "window") then is_some (window_of value)
+    else bytes_eq name (codes "denominator") && is_some (denominator_of value))))))
 
 -- the value that the operands give to a name
 abbrev pub value_given : List ℕ → List (List ℕ) → Option (List ℕ)
@@ -188,6 +202,21 @@ takes_no_block (Some format) = not (bytes_eq format (codes "msr"))
 abbrev pub block_fault : List (List ℕ) → Option WordFault
 block_fault operands = if takes_no_block (value_given (codes "format") operands) then unknown_operand (codes "block") operands else None
 
+-- whether a mode is given that takes no window
+abbrev pub takes_no_window : Option (List ℕ) → Bool
+takes_no_window None = false
+takes_no_window (Some mode) = not (bytes_eq mode (codes "flow"))
+
+-- a window is unknown beside a mode that takes none
+abbrev pub window_fault : List (List ℕ) → Option WordFault
+window_fault operands = if takes_no_window (value_given (codes "mode") operands) then unknown_operand (codes "window") operands else None
+
+-- the fault at the lesser place
+abbrev pub earlier : Option WordFault → Option WordFault → Option WordFault
+earlier None second = second
+earlier (Some first) None = Some first
+earlier (Some first) (Some second) = if nat_lt second.place first.place then Some second else Some first
+
 -- no fault lets the words pass
 abbrev pub passed : Option WordFault → Result (Unit {0}) WordFault
 passed None = Ok tt
@@ -214,9 +243,13 @@ capacity_given operands = option_and_then capacity_of (value_given (codes "capac
 abbrev pub objective_given : List (List ℕ) → Objective
 objective_given operands = unwrap_or (option_and_then objective_of (value_given (codes "objective") operands)) Hits
 
--- the mode that the operands give
-abbrev pub mode_given : List (List ℕ) → Option Mode
-mode_given operands = option_and_then mode_of (value_given (codes "mode") operands)
+-- the window that the operands give, and one for all steps where they give none
+abbrev pub window_given : List (List ℕ) → Window
+window_given operands = unwrap_or (option_and_then window_of (value_given (codes "window") operands)) Whole
+
+-- the mode that the operands give, and the flow where they give none
+abbrev pub mode_given : List (List ℕ) → Mode
+mode_given operands = unwrap_or (option_and_then (λ value. mode_of value (window_given operands)) (value_given (codes "mode") operands)) (Flow (window_given operands))
 
 -- the denominator that the operands give, and the usual one of the mode where they give none
 abbrev pub denominator_given : Mode → List (List ℕ) → DenominatorChoice
@@ -227,8 +260,7 @@ abbrev pub bounds_plan : ℕ → List (List ℕ) → Result Plan WordFault
 bounds_plan end operands = do
   format ← required end (format_given operands)
   capacity ← required end (capacity_given operands)
-  mode ← required end (mode_given operands)
-  Ok (Bounds format capacity (objective_given operands) mode (denominator_given mode operands))
+  Ok (Bounds format capacity (objective_given operands) (mode_given operands) (denominator_given (mode_given operands) operands))
 
 -- whether a path is that of standard input
 abbrev pub is_dash : Option (List ℕ) → Bool
@@ -258,12 +290,12 @@ plan words = do
   trace ← path 2 (slice_get words 1)
   cert ← path 3 (slice_get words 2)
   accepted ← passed (operands_fault asked 4 [] (operands_of words))
-  fitting ← passed (block_fault (operands_of words))
+  fitting ← passed (earlier (block_fault (operands_of words)) (window_fault (operands_of words)))
   plan_of_command asked words
 
 -- the form of the trace, the capacity and the denominator are in their ranges
 abbrev pub IsPlanInRange : Plan → Type 0
-IsPlanInRange (Bounds format capacity objective mode denominator) = IsFormat format × (1 ≤ capacity) × (capacity ≤ 2 ^ 56) × IsBuilt mode × IsChoice denominator
+IsPlanInRange (Bounds format capacity objective mode denominator) = IsFormat format × (1 ≤ capacity) × (capacity ≤ 2 ^ 56) × IsModeInRange mode × IsChoice denominator
 IsPlanInRange (Check format) = IsFormat format
 
 -- the word, or a dash where there is none

@@ -14,7 +14,7 @@ use words::paths_of;
 mod bounds;
 mod checking;
 mod operands;
-mod schedule;
+mod relaxed;
 mod status;
 mod top;
 mod words;

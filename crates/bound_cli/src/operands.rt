@@ -3,10 +3,11 @@ ghost use Rattle.std.specs.Prelude.{◌≡◌, ◌≤◌, ◌^◌, [], map, stri
 ghost use Rattle.std.specs.Option.{option_copied};
 ghost use Rattle.relaxation.specs.Denominators.{IsChoice};
 ghost use Rattle.trace_any.specs.Readings.{IsFormat};
-ghost use Rattle.bound_cli.specs.Words.{IsBuilt, block_given, block_of, capacity_given, capacity_of, denominator_given, denominator_of, format_given, format_of, has_equals, has_operand, is_value, mode_given, mode_of, name_of, names_bounds, names_trace, number_to, objective_given, objective_of, place_given, usual_denominator, value_given, value_of};
+ghost use Rattle.bound_cli.specs.Words.{IsModeInRange, block_given, block_of, capacity_given, capacity_of, denominator_given, denominator_of, format_given, format_of, has_equals, has_operand, is_value, mode_given, mode_of, name_of, names_bounds, names_trace, number_to, objective_given, objective_of, place_given, usual_denominator, value_given, value_of, window_given, window_of};
+ghost use Rattle.cache_model.specs.declared.reports.Mode.TheVariants.{Flow};
 
 use bound_base::read_u64;
-use cache_model::Mode;
+use cache_model::{Mode, Window};
 use cache_rules::Objective;
 use relaxation::DenominatorChoice;
 use trace_any::Format;
@@ -31,6 +32,9 @@ const MOST_BLOCK: u64 = 1 << 48;
 
 // The bytes of a block where no operand gives them.
 const USUAL_BLOCK: u64 = 4096;
+
+// The most steps of a window.
+const MOST_WINDOW: u64 = 1 << 25;
 
 // The largest denominator.
 const MOST_DENOMINATOR: u64 = 1 << 48;
@@ -115,11 +119,29 @@ fn objective_of(value: &str) -> Option<Objective>
     }
 }
 
-fn mode_of(value: &str) -> Option<Mode>
-    ensures value { result ≡ mode_of value.now }
-    ensures built { IfSome result IsBuilt }
+fn window_of(value: &str) -> Option<Window>
+    ensures value { result ≡ window_of value.now }
+    ensures in_range { IfSome result (λ window. IsModeInRange (Flow window)) }
 {
-    if value == "constant" {
+    if value == "all" {
+        Some(Window::All)
+    } else {
+        match number_to(MOST_WINDOW, value) {
+            Some(width) => Some(Window::Steps(width as u32)),
+            None => None,
+        }
+    }
+}
+
+// The mode that a value names, where the mode flow has this window.
+fn mode_of(value: &str, window: Window) -> Option<Mode>
+    requires { IsModeInRange (Flow window) }
+    ensures value { result ≡ mode_of value.now window }
+    ensures in_range { IfSome result IsModeInRange }
+{
+    if value == "flow" {
+        Some(Mode::Flow { window })
+    } else if value == "constant" {
         Some(Mode::Constant)
     } else if value == "infinite" {
         Some(Mode::Infinite)
@@ -153,7 +175,11 @@ fn names_trace(name: &str) -> bool
 fn names_bounds(name: &str) -> bool
     ensures { result ≡ names_bounds name.now }
 {
-    name == "capacity" || name == "objective" || name == "mode" || name == "denominator"
+    name == "capacity"
+        || name == "objective"
+        || name == "mode"
+        || name == "window"
+        || name == "denominator"
 }
 
 /// Whether a command has an operand of this name.
@@ -178,7 +204,9 @@ pub(crate) fn is_value(name: &str, value: &str) -> bool
     } else if name == "objective" {
         objective_of(value).is_some()
     } else if name == "mode" {
-        mode_of(value).is_some()
+        mode_of(value, Window::All).is_some()
+    } else if name == "window" {
+        window_of(value).is_some()
     } else {
         name == "denominator" && denominator_of(value).is_some()
     }
@@ -235,11 +263,25 @@ pub(crate) fn objective_given(operands: &[String]) -> Objective
     }
 }
 
-pub(crate) fn mode_given(operands: &[String]) -> Option<Mode>
-    ensures value { result ≡ mode_given (map string_bytes operands.now) }
-    ensures built { IfSome result IsBuilt }
+fn window_given(operands: &[String]) -> Window
+    ensures value { result ≡ window_given (map string_bytes operands.now) }
+    ensures in_range { IsModeInRange (Flow result) }
 {
-    mode_of(value_given("mode", operands)?)
+    match value_given("window", operands) {
+        Some(value) => window_of(value).unwrap_or(Window::All),
+        None => Window::All,
+    }
+}
+
+pub(crate) fn mode_given(operands: &[String]) -> Mode
+    ensures value { result ≡ mode_given (map string_bytes operands.now) }
+    ensures in_range { IsModeInRange result }
+{
+    let window = window_given(operands);
+    match value_given("mode", operands) {
+        Some(value) => mode_of(value, window).unwrap_or(Mode::Flow { window }),
+        None => Mode::Flow { window },
+    }
 }
 
 // The denominator of a mode where none is given.

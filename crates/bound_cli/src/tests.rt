@@ -3,7 +3,7 @@ ghost use Rattle.std.specs.Prelude.{◌≤◌};
 
 use crate::status::Status;
 use crate::top::run;
-use bound_io::{MemSink, MemSource};
+use bound_io::{CalmSource, MemSink, MemSource};
 use std::alloc::{AllocError, Global};
 use std::process::Abort;
 use std::test::Fail;
@@ -11,6 +11,7 @@ use std::test::Fail;
 mod checks;
 mod command_line;
 mod faults;
+mod flow;
 mod modes;
 mod traces;
 
@@ -144,6 +145,47 @@ fn check_at(rt: &impl Abort, alloc: Global, row: &Row<'_>, step: usize) -> Resul
     assert_eq!(rt; status, row.status, "{}", row.shows);
     assert_eq!(rt; report.written(), row.report, "{}", row.shows);
     assert_eq!(rt; made.written(), row.made, "{}", row.shows);
+    Ok(())
+}
+
+// The report and the certificate of a trace.
+#[derive(Drop)]
+struct Made {
+    report: Vec<u8>,
+    cert: Vec<u8>,
+}
+
+// What bounds make of a trace.
+fn made_of(rt: &impl Abort, alloc: Global, words: &[&str], trace: &[u8]) -> Result<Made, Fail> {
+    let words = words_of(alloc, words)?;
+    let mut trace = CalmSource::new(trace.to_vec(alloc)?);
+    let mut cert = CalmSource::new(Vec::new(alloc));
+    let mut report = MemSink::new(alloc, 4096, Vec::new(alloc), 4096)?;
+    let mut made = MemSink::new(alloc, 4096, Vec::new(alloc), 4096)?;
+    let status = run(alloc, &words, &mut trace, &mut cert, &mut report, &mut made);
+    assert_eq!(rt; status, Status::Done);
+    Ok(Made {
+        report: report.into_bytes(),
+        cert: made.into_bytes(),
+    })
+}
+
+// What a check says of a certificate that bounds made.
+fn expect_yes(
+    rt: &impl Abort,
+    alloc: Global,
+    words: &[&str],
+    trace: &[u8],
+    cert: &[u8],
+) -> Result<(), Fail> {
+    let words = words_of(alloc, words)?;
+    let mut trace = CalmSource::new(trace.to_vec(alloc)?);
+    let mut cert = CalmSource::new(cert.to_vec(alloc)?);
+    let mut report = MemSink::new(alloc, 4096, Vec::new(alloc), 4096)?;
+    let mut made = MemSink::new(alloc, 0, Vec::new(alloc), 1)?;
+    let status = run(alloc, &words, &mut trace, &mut cert, &mut report, &mut made);
+    assert_eq!(rt; status, Status::Done);
+    assert!(rt; report.written().ends_with(b"\nvalid\n"));
     Ok(())
 }
 

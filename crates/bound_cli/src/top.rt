@@ -9,7 +9,7 @@ ghost use Rattle.bound_cli.specs.Inputs.{IsLoaded, IsReady};
 ghost use Rattle.bound_cli.specs.Parts.{RefusesBounds, RefusesLoading, WritesOut, WritesReport};
 ghost use Rattle.bound_cli.specs.Run.{BoundsEnd, CheckEnds, Completes, Explains, RunEnds, devices};
 ghost use Rattle.bound_cli.specs.Statuses.{status_of};
-ghost use Rattle.bound_cli.specs.Words.{IsBuilt, IsPlanInRange};
+ghost use Rattle.bound_cli.specs.Words.{IsModeInRange, IsPlanInRange};
 
 use crate::bounds::{Asked, Texts, texts_of};
 use crate::checking::verdict_of;
@@ -48,7 +48,7 @@ fn prepare<T: Source>(
 ) -> Result<Texts, Refusal>
     requires format { IsFormat format }
     requires capacity { (1 ≤ asked.now.capacity) × (asked.now.capacity ≤ 2 ^ 56) }
-    requires mode { IsBuilt asked.now.mode }
+    requires mode { IsModeInRange asked.now.mode }
     requires choice { IsChoice asked.now.denominator }
     ensures ready { IfOk result (λ texts. IsReady format asked.now (device (T.left trace.old) (T.left trace.new) (T.faults trace.old) (T.faults trace.new)) texts.cert.items texts.report.items) }
     ensures refused { IfErr result (RefusesBounds format asked.now (device (T.left trace.old) (T.left trace.new) (T.faults trace.old) (T.faults trace.new))) }
@@ -100,7 +100,7 @@ fn run_bounds<T: Source, R: Sink, K: Sink>(
 ) -> Status
     requires format { IsFormat format }
     requires capacity { (1 ≤ asked.now.capacity) × (asked.now.capacity ≤ 2 ^ 56) }
-    requires mode { IsBuilt asked.now.mode }
+    requires mode { IsModeInRange asked.now.mode }
     requires choice { IsChoice asked.now.denominator }
     ensures ends { BoundsEnd format asked.now
         (device (T.left trace.old) (T.left trace.new) (T.faults trace.old) (T.faults trace.new))

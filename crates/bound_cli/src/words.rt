@@ -1,7 +1,7 @@
 //! The words of the command line.
 ghost use Rattle.std.specs.Prelude.{◌≡◌, [], map, slice_get, string_bytes, IfOk};
 ghost use Rattle.std.specs.Option.{option_copied};
-ghost use Rattle.bound_cli.specs.Words.{IsPlanInRange, block_fault, bounds_plan, cert_path, check_plan, command_named, command_of, inputs_fault, is_dash, made_path, operand_fault, operands_fault, operands_of, passed, path, plan, plan_of_command, required, trace_path, unknown_operand, word_or_dash};
+ghost use Rattle.bound_cli.specs.Words.{IsPlanInRange, block_fault, bounds_plan, cert_path, check_plan, command_named, command_of, earlier, inputs_fault, is_dash, made_path, operand_fault, operands_fault, operands_of, passed, path, plan, plan_of_command, required, trace_path, unknown_operand, window_fault, word_or_dash};
 
 use crate::operands::{
     Command, OPERANDS_AT, capacity_given, denominator_given, format_given, has_equals, has_operand,
@@ -148,6 +148,27 @@ fn block_fault(operands: &[String]) -> Option<WordFault>
     }
 }
 
+// A window may stand only where the mode isn't another one than flow.
+fn window_fault(operands: &[String]) -> Option<WordFault>
+    ensures { result ≡ window_fault (map string_bytes operands.now) }
+{
+    match value_given("mode", operands) {
+        Some(mode) if mode != "flow" => unknown_operand("window", operands),
+        _ => None,
+    }
+}
+
+// The fault at the lesser place.
+fn earlier(first: Option<WordFault>, second: Option<WordFault>) -> Option<WordFault>
+    ensures { result ≡ earlier first second }
+{
+    match (first, second) {
+        (Some(a), Some(b)) if b.place < a.place => Some(b),
+        (Some(a), _) => Some(a),
+        (None, other) => other,
+    }
+}
+
 fn passed(fault: Option<WordFault>) -> Result<(), WordFault>
     ensures { result ≡ passed fault }
 {
@@ -173,7 +194,7 @@ fn bounds_plan(end: u64, operands: &[String]) -> Result<Plan, WordFault>
 {
     let format = required(end, format_given(operands))?;
     let capacity = required(end, capacity_given(operands))?;
-    let mode = required(end, mode_given(operands))?;
+    let mode = mode_given(operands);
     Ok(Plan::Bounds {
         format,
         capacity,
@@ -238,7 +259,7 @@ pub fn plan_of(words: &[String]) -> Result<Plan, WordFault>
     expect_path(3, word_at(words, 2))?;
     let operands = operands_of(words);
     check_operands(command, operands)?;
-    passed(block_fault(operands))?;
+    passed(earlier(block_fault(operands), window_fault(operands)))?;
     plan_of_command(command, words)
 }
 

@@ -2,7 +2,6 @@
 ghost use Rattle.std.specs.Prelude.{◌≤◌};
 
 use super::*;
-use bound_io::CalmSource;
 use bound_report::InvalidKind;
 use trace_lines::LineKind;
 
@@ -695,42 +694,6 @@ fn a_verdict_that_is_cut_short_is_a_report_fault(rt: HostRuntime) -> Result<(), 
     Ok(())
 }
 
-// What bounds make of a trace.
-fn certificate_of(
-    rt: &impl Abort,
-    alloc: Global,
-    words: &[&str],
-    trace: &[u8],
-) -> Result<Vec<u8>, Fail> {
-    let words = words_of(alloc, words)?;
-    let mut trace = CalmSource::new(trace.to_vec(alloc)?);
-    let mut cert = CalmSource::new(Vec::new(alloc));
-    let mut report = MemSink::new(alloc, 4096, Vec::new(alloc), 4096)?;
-    let mut made = MemSink::new(alloc, 4096, Vec::new(alloc), 4096)?;
-    let status = run(alloc, &words, &mut trace, &mut cert, &mut report, &mut made);
-    assert_eq!(rt; status, Status::Done);
-    Ok(made.into_bytes())
-}
-
-// What a check says of a certificate that bounds made.
-fn expect_yes(
-    rt: &impl Abort,
-    alloc: Global,
-    words: &[&str],
-    trace: &[u8],
-    cert: &[u8],
-) -> Result<(), Fail> {
-    let words = words_of(alloc, words)?;
-    let mut trace = CalmSource::new(trace.to_vec(alloc)?);
-    let mut cert = CalmSource::new(cert.to_vec(alloc)?);
-    let mut report = MemSink::new(alloc, 4096, Vec::new(alloc), 4096)?;
-    let mut made = MemSink::new(alloc, 0, Vec::new(alloc), 1)?;
-    let status = run(alloc, &words, &mut trace, &mut cert, &mut report, &mut made);
-    assert_eq!(rt; status, Status::Done);
-    assert!(rt; report.written().ends_with(b"\nvalid\n"));
-    Ok(())
-}
-
 #[test]
 fn what_bounds_write_is_accepted(rt: HostRuntime) -> Result<(), Fail> {
     let alloc = rt.alloc();
@@ -739,10 +702,11 @@ fn what_bounds_write_is_accepted(rt: HostRuntime) -> Result<(), Fail> {
     for (format, trace) in [("format=webcache", turns), ("format=msr", blocks)] {
         for capacity in ["capacity=4", "capacity=5", "capacity=8192"] {
             for objective in ["objective=object", "objective=bytes"] {
-                for mode in ["mode=constant", "mode=infinite"] {
+                for mode in ["mode=constant", "mode=infinite", "mode=flow", "window=2"] {
                     let words = ["bounds", "t", "c", format, capacity, objective, mode];
-                    let cert = certificate_of(&rt, alloc, &words, trace)?;
-                    expect_yes(&rt, alloc, &["check", "t", "c", format], trace, &cert)?;
+                    let made = made_of(&rt, alloc, &words, trace)?;
+                    let check = ["check", "t", "c", format];
+                    expect_yes(&rt, alloc, &check, trace, &made.cert)?;
                 }
             }
         }

@@ -62,14 +62,14 @@ const ROWS: [Row<'static>; 10] = [
         ..GOOD
     },
     Row {
-        shows: "a mode that is not built",
+        shows: "a mode that is none",
         words: &[
             "bounds",
             "t",
             "c",
             "format=webcache",
             "capacity=10",
-            "mode=flow",
+            "mode=flows",
         ],
         status: Status::Words(WordFault {
             place: 6,
@@ -117,8 +117,8 @@ const ROWS: [Row<'static>; 10] = [
         ..GOOD
     },
     Row {
-        shows: "a mode is missing after the last word",
-        words: &["bounds", "t", "c", "capacity=10", "format=webcache"],
+        shows: "a capacity is missing after the last word",
+        words: &["bounds", "t", "c", "mode=infinite", "format=webcache"],
         status: Status::Words(WordFault {
             place: 6,
             kind: WordKind::Missing,

@@ -7,7 +7,24 @@ use std::test::Fail;
 // Sizes 2 and 3 by turns.
 const TURNS: &[u8] = b"1 1 2\n2 2 3\n3 1 2\n4 2 3\n";
 
-const ROWS: [Row<'static>; 8] = [
+const ROWS: [Row<'static>; 9] = [
+    Row {
+        shows: "the interval of the lesser rank is kept, though it starts later",
+        words: &[
+            "bounds",
+            "t",
+            "c",
+            "format=webcache",
+            "capacity=3",
+            "mode=infinite",
+        ],
+        trace: b"1 1 3\n2 2 1\n3 2 1\n4 1 3\n",
+        report: b"trace requests 4 objects 2 dropped 0\ncapacity 3 objective object\n\
+mode infinite form plain\nunit 1 units 3 denominator 1\nintervals 2\nupper 2/1 floor 2\nflow 0/1\nlower 1\n",
+        made: b"cache-bound-certificate 1\nobjective object\ncapacity 3\nrequests 4\nunit 1\n\
+denominator 1\nform plain\nupper 2\nflow 0\nlower 1\nrecords\n0 0 0\n0 1 0\n0 0 0\n0 0 0\nend\n",
+        ..GOOD
+    },
     Row {
         shows: "one price of a third",
         words: &[

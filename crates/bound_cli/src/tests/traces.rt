@@ -2,7 +2,6 @@
 ghost use Rattle.std.specs.Prelude.{◌≤◌};
 
 use super::*;
-use bound_io::CalmSource;
 use trace_lines::LineKind;
 
 const MSR_WORDS: [&str; 6] = [

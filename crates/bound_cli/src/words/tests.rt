@@ -1,5 +1,6 @@
 //! The words of the command line, in rows.
 use super::*;
+use cache_model::Window;
 use std::alloc::{AllocError, Global};
 use std::process::Abort;
 use std::test::Fail;
@@ -108,7 +109,7 @@ fn takes_each_form_of_a_trace(rt: HostRuntime) -> Result<(), Fail> {
 fn names_what_is_refused_beside_a_block(rt: HostRuntime) -> Result<(), Fail> {
     let (missing, unknown) = (WordKind::Missing, WordKind::Unknown);
     let (twice, bad_value) = (WordKind::Twice, WordKind::BadValue);
-    let rows: [(&str, u64, WordKind); 27] = [
+    let rows: [(&str, u64, WordKind); 26] = [
         ("format=arc block=512 capacity=1 mode=infinite", 5, unknown),
         ("block=512 format=arc capacity=1 mode=infinite", 4, unknown),
         ("capacity=1 mode=infinite block=512 format=arc", 6, unknown),
@@ -129,7 +130,6 @@ fn names_what_is_refused_beside_a_block(rt: HostRuntime) -> Result<(), Fail> {
         ("block=512 capacity=2", 6, missing),
         ("block=512 capacity=2 mode=infinite", 7, missing),
         ("block=512 format=msr", 6, missing),
-        ("format=msr block=512 capacity=2", 7, missing),
         ("block=512 block=512", 5, twice),
         ("block=512 format=msr block=x", 6, twice),
         ("block=", 4, bad_value),
@@ -188,12 +188,10 @@ fn names_the_first_of_the_command_and_its_paths(rt: HostRuntime) -> Result<(), F
 fn names_the_first_operand_that_is_refused(rt: HostRuntime) -> Result<(), Fail> {
     let (missing, unknown) = (WordKind::Missing, WordKind::Unknown);
     let (twice, bad_value) = (WordKind::Twice, WordKind::BadValue);
-    let rows: [(&str, u64, WordKind); 42] = [
+    let rows: [(&str, u64, WordKind); 40] = [
         ("format=webcache", 5, missing),
-        ("format=webcache capacity=2", 6, missing),
         ("mode=infinite format=webcache", 6, missing),
         ("capacity=2 mode=infinite objective=bytes", 7, missing),
-        ("format=webcache capacity=2 objective=bytes", 7, missing),
         ("format=webcache mode=infinite objective=bytes", 7, missing),
         ("=", 4, unknown),
         ("=x", 4, unknown),
@@ -204,7 +202,7 @@ fn names_the_first_operand_that_is_refused(rt: HostRuntime) -> Result<(), Fail> 
         ("formats=webcache", 4, unknown),
         ("format =webcache", 4, unknown),
         ("blocks=4096", 4, unknown),
-        ("window=3", 4, unknown),
+        ("windows=3", 4, unknown),
         ("denominators=2", 4, unknown),
         ("format=webcache more", 5, unknown),
         ("format=webcache format", 5, unknown),
@@ -227,7 +225,7 @@ fn names_the_first_operand_that_is_refused(rt: HostRuntime) -> Result<(), Fail> 
         ("capacity=18446744073709551616", 4, bad_value),
         ("objective=", 4, bad_value),
         ("objective=Bytes", 4, bad_value),
-        ("mode=flow", 4, bad_value),
+        ("mode=flows", 4, bad_value),
         ("mode=infinite format=webcache capacity=x", 6, bad_value),
         ("capacity=2 capacity=x", 5, twice),
         ("capacity=2 mode=infinite capacity=x", 6, twice),
@@ -294,7 +292,8 @@ fn takes_the_operands_in_any_order(rt: HostRuntime) -> Result<(), Fail> {
 #[test]
 fn takes_the_denominator_of_its_mode(rt: HostRuntime) -> Result<(), Fail> {
     let given = |n| DenominatorChoice::Given(n);
-    let rows: [(&str, Mode, DenominatorChoice); 8] = [
+    let flow = |window| Mode::Flow { window };
+    let rows: [(&str, Mode, DenominatorChoice); 14] = [
         ("mode=constant", Mode::Constant, given(1 << 48)),
         ("mode=infinite", Mode::Infinite, given(1)),
         ("denominator=03 mode=constant", Mode::Constant, given(3)),
@@ -319,6 +318,24 @@ fn takes_the_denominator_of_its_mode(rt: HostRuntime) -> Result<(), Fail> {
             Mode::Constant,
             DenominatorChoice::Exact,
         ),
+        ("window=all", flow(Window::All), DenominatorChoice::Auto),
+        ("mode=flow", flow(Window::All), DenominatorChoice::Auto),
+        (
+            "window=1",
+            flow(Window::Steps(1)),
+            DenominatorChoice::Auto,
+        ),
+        (
+            "window=33554432 mode=flow",
+            flow(Window::Steps(1 << 25)),
+            DenominatorChoice::Auto,
+        ),
+        ("denominator=5", flow(Window::All), given(5)),
+        (
+            "denominator=exact window=03",
+            flow(Window::Steps(3)),
+            DenominatorChoice::Exact,
+        ),
     ];
     for (operands, mode, denominator) in rows {
         let plan = Plan::Bounds {
@@ -336,7 +353,7 @@ fn takes_the_denominator_of_its_mode(rt: HostRuntime) -> Result<(), Fail> {
 
 #[test]
 fn names_what_is_refused_of_a_mode_and_a_denominator(rt: HostRuntime) -> Result<(), Fail> {
-    let rows: [(&str, u64, WordKind); 8] = [
+    let rows: [(&str, u64, WordKind); 18] = [
         ("denominator=0", 4, WordKind::BadValue),
         ("denominator=", 4, WordKind::BadValue),
         ("denominator=281474976710657", 4, WordKind::BadValue),
@@ -349,6 +366,24 @@ fn names_what_is_refused_of_a_mode_and_a_denominator(rt: HostRuntime) -> Result<
             6,
             WordKind::Unknown,
         ),
+        ("mode=constant window=3", 5, WordKind::Unknown),
+        ("window=all mode=infinite", 4, WordKind::Unknown),
+        ("window=0", 4, WordKind::BadValue),
+        ("window=33554433", 4, WordKind::BadValue),
+        ("window=All", 4, WordKind::BadValue),
+        ("window=2 window=all", 5, WordKind::Twice),
+        (
+            "window=2 block=1 mode=infinite format=arc",
+            4,
+            WordKind::Unknown,
+        ),
+        (
+            "block=1 window=2 mode=infinite format=arc",
+            4,
+            WordKind::Unknown,
+        ),
+        ("block=1 window=2 mode=infinite", 5, WordKind::Unknown),
+        ("block=1 window=2 format=arc", 4, WordKind::Unknown),
     ];
     for (operands, place, kind) in rows {
         let text = format!(in rt.alloc(); "bounds t c {operands}")?;

@@ -1,36 +1,29 @@
-use Rattle.std.proofs.Common.{arith, sym, false}
+use Rattle.std.proofs.Common.{◌≡◌, ◌∙◌, arith, sym}
 use Rattle.std.proofs.KnownBytes.{Appends-nil}
 use Rattle.std.proofs.lemmas.List.Elements.{All-get_or}
-use Rattle.cache_model.specs.declared.certificates.Record.{Record}
 use Rattle.cache_model.specs.Certificates.{IsRecordInRange}
-use Rattle.bound_cli.specs.Made.{constant_records}
-use Rattle.bound_cli.proofs.Flowless.{length-constant_records}
+use Rattle.bound_cli.specs.Records.{records_in}
 use Rattle.bound_cli.proofs.Records.{record_written, certificate_written}
+use Rattle.bound_cli.proofs.RecordsOf.{none, length-records, record-at}
 use Rattle.bound_cli.proofs.bounds.write_cert.Goals as goal
 
-none : Record
-none = record { price = 0; keep = false; flow = 0 }
-
 pub write_record-requires : goal.write_record-requires
-unfolding none
 write_record-requires g c =
-    let records = constant_records c.args.bounds.now.price c.args.bounds.now.keeps.items in
-    rw (sym c.record_at.ensures)
-    at (All-get_or IsRecordInRange records c.loop-t.t none (omega (arith, length-constant_records c.args.bounds.now.price c.args.bounds.now.keeps.items, c.len-t-end.ensures)) c.requires.each)
-
-pub loop-t-init : goal.loop-t-init
-loop-t-init g c = Appends-nil (g.K.Sink.written c.write_header.new.sink)
+    let b = c.args.bounds.now in
+    rw (record-at b.relaxed.prices.items b.keeps b.intervals.items b.relaxed.flows.items c.loop-t.t none (omega (arith, c.requires.each.keeps, c.steps-t-end.ensures.steps)) ∙ sym c.record_at.ensures)
+    at (All-get_or IsRecordInRange (records_in b) c.loop-t.t none (omega (arith, length-records b.relaxed.prices.items b.keeps b.intervals.items b.relaxed.flows.items, c.requires.each.keeps, c.steps-t-end.ensures.steps)) c.requires.certificate.each)
 
 pub loop-t-preserved : goal.loop-t-preserved
-unfolding none
 loop-t-preserved g c =
-    let records = constant_records c.args.bounds.now.price c.args.bounds.now.keeps.items in
-    record_written (g.K.Sink.written c.write_header.new.sink) (g.K.Sink.written c.loop-t.sink) (g.K.Sink.written c.write_record.new.sink) records c.loop-t.t c.record_at.result none
-    (omega (arith, length-constant_records c.args.bounds.now.price c.args.bounds.now.keeps.items, c.len-t-end.ensures))
-    c.record_at.ensures c.loop-t.invariant c.in_ok-write_record.ensures.all
+    let b = c.args.bounds.now in
+    record_written (g.K.Sink.written c.write_header.new.sink) (g.K.Sink.written c.loop-t.sink) (g.K.Sink.written c.write_record.new.sink) (records_in b) c.loop-t.t c.record_at.result none
+    (omega (arith, length-records b.relaxed.prices.items b.keeps b.intervals.items b.relaxed.flows.items, c.requires.each.keeps, c.steps-t-end.ensures.steps))
+    (c.record_at.ensures ∙ sym (record-at b.relaxed.prices.items b.keeps b.intervals.items b.relaxed.flows.items c.loop-t.t none (omega (arith, c.requires.each.keeps, c.steps-t-end.ensures.steps))))
+    c.loop-t.invariant c.in_ok-write_record.ensures.all
 
 pub returns : goal.returns
 returns g c =
-    certificate_written (g.K.Sink.written c.args.sink.now) (g.K.Sink.written c.write_header.new.sink) (g.K.Sink.written c.loop-t.sink) (g.K.Sink.written c.write_end.new.sink) c.args.bounds.now.header (constant_records c.args.bounds.now.price c.args.bounds.now.keeps.items) c.loop-t.t
-    (omega (arith, length-constant_records c.args.bounds.now.price c.args.bounds.now.keeps.items, c.len-t-end.ensures))
+    let b = c.args.bounds.now in
+    certificate_written (g.K.Sink.written c.args.sink.now) (g.K.Sink.written c.write_header.new.sink) (g.K.Sink.written c.loop-t.sink) (g.K.Sink.written c.write_end.new.sink) b.header (records_in b) c.loop-t.t
+    (omega (arith, length-records b.relaxed.prices.items b.keeps b.intervals.items b.relaxed.flows.items, c.requires.each.keeps, c.steps-t-end.ensures.steps))
     c.in_ok-write_header.ensures.all c.loop-t.invariant c.in_ok-write_end.ensures.all
