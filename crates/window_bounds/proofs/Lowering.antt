@@ -1,5 +1,5 @@
 -- The flows of arcs, lowered one part after another.
-use Rattle.std.proofs.Common.{◌≡◌, ◌≢◌, ◌∙◌, ℕ, zero, suc, ◌+◌, ◌-◌, ◌*◌, ◌<◌, ◌≤◌, ap, sym, refl, subst, min, Bool, true, false, cond, arith, List, [], ◌∷◌, ◌++◌, length, map, filter, take, drop, drop-cons, get_or, set, count_by, ⊎_elim}
+use Rattle.std.proofs.Common.{◌≡◌, ◌≢◌, ◌∙◌, ℕ, suc, ◌+◌, ◌-◌, ◌<◌, ◌≤◌, ap, sym, refl, subst, min, Bool, true, false, cond, arith, List, [], ◌∷◌, length, map, take, drop, drop-cons, get_or, set, count_by, ⊎_elim}
 use Rattle.std.specs.List.{range_with_len}
 use Rattle.std.proofs.lemmas.Bool.{cases_lt, cases_eq}
 use Rattle.std.proofs.lemmas.List.{drop-drop, drop_all, get_or-set_other, get_or-set_same, length-append}

@@ -1,12 +1,12 @@
 -- One window at least as wide as the steps is the whole instance.
-use Rattle.std.proofs.Common.{◌≡◌, ◌∙◌, ℕ, zero, suc, ◌+◌, ◌-◌, ◌*◌, ◌/◌, ◌<◌, ◌≤◌, ap, sym, refl, subst, min, max, Bool, true, false, cond, arith, List, [], ◌∷◌, length, map, filter, take, drop, get_or, count_by, sum_by, All, ⊎_elim}
+use Rattle.std.proofs.Common.{◌≡◌, ◌∙◌, ℕ, suc, ◌+◌, ◌-◌, ◌*◌, ◌<◌, ◌≤◌, ap, refl, min, max, Bool, true, cond, arith, List, [], ◌∷◌, length, map, filter, take, get_or, count_by, sum_by, All, ⊎_elim}
 use Rattle.std.specs.List.{range_with_len}
 use Rattle.std.proofs.lemmas.Bool.{cases_lt, lt-ltb, eq-eqb}
 use Rattle.std.proofs.lemmas.List.Elements.{All-head, All-tail}
 use Rattle.std.proofs.lemmas.List.Sums.{sum_by-cons}
 use Rattle.std.proofs.Math.Nat.{mul-le-mul_left}
 use Rattle.flow_model.specs.declared.arcs.OuterArc.{OuterArc}
-use Rattle.flow_model.specs.Instances.{Instance, IsArc, IsInstance, arc_at}
+use Rattle.flow_model.specs.Instances.{Instance, IsArc, IsInstance}
 use Rattle.flow_model.specs.Windows.{last_window, meets, part_cost, part_of, part_share, part_steps, window_instance}
 
 -- the arc is whole in window 0

@@ -1,11 +1,8 @@
 -- Where the part of an arc stands among the parts of its window.
-use Rattle.std.proofs.Common.{◌≡◌, ◌∙◌, ℕ, zero, suc, ◌+◌, ◌-◌, ◌*◌, ◌/◌, ◌<◌, ◌≤◌, ap, sym, refl, subst, min, max, Bool, true, false, cond, arith, List, [], ◌∷◌, ◌++◌, length, map, filter, take, drop, get_or, count_by, drop-cons, ⊎_elim}
-use Rattle.std.specs.List.{AllZip, range_with_len}
+use Rattle.std.proofs.Common.{◌≡◌, ◌∙◌, ℕ, suc, ◌+◌, ◌<◌, ◌≤◌, ap, sym, Bool, true, cond, arith, List, ◌∷◌, ◌++◌, length, map, filter, take, drop, get_or, count_by, drop-cons}
 use Rattle.std.proofs.lemmas.List.{get_or-append-add, get_or-map, length-append, length-map, take-append-drop}
 use Rattle.std.proofs.lemmas.List.Elements.{filter-append}
-use Rattle.std.proofs.lemmas.List.FromFn.{fill_by_all, take-map-range_with_len}
 use Rattle.std.proofs.lemmas.List.Sums.{length-filter}
-use Rattle.cache_model.proofs.Sums.{sum_by-map}
 use Rattle.flow_model.specs.declared.arcs.OuterArc.{OuterArc}
 use Rattle.flow_model.specs.Instances.{Instance, IsSchedule, arc_at, no_arc}
 use Rattle.flow_model.specs.Windows.{meets, part_of, window_instance}

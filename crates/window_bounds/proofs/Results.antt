@@ -1,11 +1,10 @@
 -- What the solutions of all windows give the whole.
-use Rattle.std.proofs.Common.{◌≡◌, ◌∙◌, ℕ, zero, suc, ◌+◌, ◌-◌, ◌*◌, ◌/◌, ◌%◌, ◌<◌, ◌≤◌, ap, sym, refl, subst, min, max, Bool, true, false, cond, arith, List, [], ◌∷◌, length, map, filter, take, drop, get_or, count_by, slice_range, sum, sum_by, zip, All, ⊎_elim}
-use Rattle.std.specs.List.{AllZip, range_with_len}
+use Rattle.std.proofs.Common.{◌≡◌, ◌∙◌, ℕ, ◌+◌, ◌-◌, ◌*◌, ◌/◌, ◌<◌, ◌≤◌, ap, sym, refl, subst, true, arith, List, [], ◌∷◌, length, filter, take, drop, get_or, sum, sum_by, ⊎_elim}
 use Rattle.std.proofs.lemmas.Bool.{cases_lt, lt-ltb, ltb-true}
 use Rattle.std.proofs.lemmas.List.{length-map, take_all}
 use Rattle.std.proofs.Math.Nat.{mul-le-mul_left}
 use Rattle.flow_model.specs.declared.arcs.OuterArc.{OuterArc}
-use Rattle.flow_model.specs.Instances.{Instance, IsArc, IsInstance, IsSchedule, IsSolution, arc_at, no_arc, load_at, surplus, total_cost, value_at}
+use Rattle.flow_model.specs.Instances.{Instance, IsInstance, IsSchedule, IsSolution, arc_at, no_arc, load_at, surplus, total_cost, value_at}
 use Rattle.flow_model.specs.Windows.{meets, part_of, part_steps, window_instance}
 use Rattle.flow_model.proofs.Equal.{zip_at, zip_from}
 use Rattle.flow_model.proofs.Windows.{windows_are_above}

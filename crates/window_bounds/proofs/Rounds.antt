@@ -1,18 +1,12 @@
 -- The windows before some number are solved.
-use Rattle.std.proofs.Common.{◌≡◌, ◌∙◌, ℕ, zero, suc, ◌+◌, ◌-◌, ◌*◌, ◌/◌, ◌%◌, ◌<◌, ◌≤◌, ap, sym, refl, subst, min, max, Bool, true, false, cond, eqb, arith, List, [], ◌∷◌, ◌++◌, length, map, filter, take, drop, get_or, count_by, slice_range, sum, sum_by, All, inl, inr, ⊎_elim, ◌⊎◌}
-use Rattle.std.specs.List.{AllZip, range_with_len}
-use Rattle.std.proofs.lemmas.Bool.{cases_lt, cases_eq, cases_Bool, lt-ltb, ltb-true, eq-eqb, ne_eqb}
+use Rattle.std.proofs.Common.{◌≡◌, ◌∙◌, ℕ, ◌+◌, ◌-◌, ◌*◌, ◌<◌, ◌≤◌, ap, sym, refl, subst, min, true, false, cond, eqb, arith, List, [], ◌++◌, length, map, take, drop, get_or, inl, inr, ⊎_elim, ◌⊎◌}
+use Rattle.std.proofs.lemmas.Bool.{cases_lt, cases_eq, cases_Bool, eq-eqb, ne_eqb}
 use Rattle.std.proofs.lemmas.List.{drop-append-le, drop_all, get_or-map, length-append, length-drop, length-map, take-append-le, take_all}
 use Rattle.std.proofs.Math.Nat.{mul-le-mul_left}
 use Rattle.flow_model.specs.declared.arcs.OuterArc.{OuterArc}
-use Rattle.flow_model.specs.Instances.{Instance, IsArc, IsInstance, IsSchedule, IsSolution, arc_at, no_arc, load_at, surplus, total_cost, value_at}
-use Rattle.flow_model.specs.Windows.{meets, part_of, part_steps, window_instance}
-use Rattle.flow_model.proofs.Equal.{zip_at, zip_from}
-use Rattle.flow_model.proofs.Windows.{windows_are_above}
-use Rattle.window_bounds.specs.Solutions.{AreSolutions, IsLeastFlow, flow_in, prices_in, value_of_windows, window_count}
-use Rattle.window_bounds.proofs.OneWindow.{flows_whole, meets_first, window_whole}
-use Rattle.window_bounds.proofs.Places.{flow_in-le}
-use Rattle.window_bounds.proofs.Schedules.{load-le, load_past}
+use Rattle.flow_model.specs.Instances.{Instance, IsSolution, arc_at, no_arc}
+use Rattle.flow_model.specs.Windows.{meets, window_instance}
+use Rattle.window_bounds.specs.Solutions.{flow_in, prices_in}
 
 -- the flow is still the weight, or that of a part in a window before window n
 abbrev pub IsReached : Instance → ℕ → ℕ → (ℕ → List ℕ) → ℕ → ℕ → Type 0

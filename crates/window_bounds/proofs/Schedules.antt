@@ -1,6 +1,6 @@
 -- Flows that are at most those of their parts fit where the parts do.
-use Rattle.std.proofs.Common.{◌≡◌, ◌∙◌, ℕ, zero, suc, ◌+◌, ◌-◌, ◌*◌, ◌/◌, ◌<◌, ◌≤◌, ap, sym, refl, subst, min, max, Bool, true, false, cond, nat_le, nat_lt, arith, List, [], ◌∷◌, length, map, filter, take, get_or, count_by, sum_by, zip, All, ⊎_elim}
-use Rattle.std.proofs.lemmas.Bool.{cases_lt, cases_Bool, false≢true, leb-true, ltb-true, le-leb, lt-ltb, le-ltb, and_parts, and_from, and_right}
+use Rattle.std.proofs.Common.{◌≡◌, ◌∙◌, ℕ, suc, ◌+◌, ◌-◌, ◌*◌, ◌<◌, ◌≤◌, ap, sym, refl, Bool, true, false, cond, nat_le, nat_lt, arith, List, [], ◌∷◌, length, map, filter, take, get_or, count_by, zip, All, ⊎_elim}
+use Rattle.std.proofs.lemmas.Bool.{cases_Bool, false≢true, leb-true, ltb-true, le-leb, lt-ltb, le-ltb, and_parts, and_from, and_right}
 use Rattle.std.proofs.lemmas.List.Elements.{All-head, All-tail}
 use Rattle.std.proofs.lemmas.List.Sums.{sum_by-cons}
 use Rattle.flow_model.specs.declared.arcs.OuterArc.{OuterArc}

@@ -1,4 +1,4 @@
-use Rattle.std.proofs.Common.{◌+◌, ap, arith, get_or, min, set}
+use Rattle.std.proofs.Common.{◌+◌, ap, arith, get_or, set}
 use Rattle.window_bounds.proofs.Lowering.{lowered_all, lowered_more, number_within}
 use Rattle.window_bounds.proofs.solving.lower.Goals as goal
 

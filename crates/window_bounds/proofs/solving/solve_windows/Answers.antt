@@ -1,12 +1,11 @@
-use Rattle.std.proofs.Common.{◌≡◌, ◌∙◌, ℕ, ◌+◌, ◌-◌, ◌*◌, ◌<◌, ◌≤◌, ap, sym, subst, arith, List, ◌++◌, length, get_or, ⊎_elim}
+use Rattle.std.proofs.Common.{◌≡◌, ◌∙◌, ℕ, ◌+◌, ◌*◌, ◌<◌, ◌≤◌, ap, sym, subst, arith, List, ◌++◌, length, ⊎_elim}
 use Rattle.std.proofs.lemmas.Bool.{cases_lt, false≢true}
 use Rattle.flow_model.specs.Instances.{Instance, IsSolution}
 use Rattle.flow_model.specs.Windows.{window_instance}
 use Rattle.flow_network.proofs.Pushed.{written}
 use Rattle.relaxation.specs.Cuts.{Cut}
-use Rattle.window_bounds.specs.Solutions.{AreSolutions}
 use Rattle.window_bounds.proofs.Places.{as_many_parts}
-use Rattle.window_bounds.proofs.Rounds.{AreSolved, lowered, solved_none, solved_more}
+use Rattle.window_bounds.proofs.Rounds.{AreSolved, solved_none, solved_more}
 use Rattle.window_bounds.proofs.Results.{solutions_of, schedule_of, above_of, one_window_of}
 use Rattle.window_bounds.proofs.solving.solve_windows.Goals as goal
 
