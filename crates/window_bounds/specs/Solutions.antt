@@ -1,0 +1,49 @@
+-- Solutions of the windows of an instance, and the prices and flows that they give the whole.
+use Rattle.std.specs.Prelude.{◌≡◌, ℕ, ◌+◌, ◌*◌, ◌<◌, ◌≤◌, ◌==◌, Bool, IsTrue, List, length, count_by, map, slice_index, slice_range, sum_by, take, zip}
+use Rattle.std.specs.Int.{div_ceil}
+use Rattle.std.specs.List.{range_with_len}
+use Rattle.flow_model.specs.declared.arcs.OuterArc.{OuterArc}
+use Rattle.flow_model.specs.Instances.{Instance, IsSolution, arc_at, value_at}
+use Rattle.flow_model.specs.Windows.{meets, window_instance}
+
+-- a price for each step, and for each arc a flow and whether that is its weight
+pub record Answer : Type 0 where
+  pub prices : List ℕ
+  pub flows : List ℕ
+  pub full : List Bool
+
+-- how many windows of that width have a step
+abbrev pub window_count : Instance → ℕ → ℕ
+window_count whole width = div_ceil whole.steps width
+
+-- the prices of the steps of window k
+abbrev pub prices_in : ℕ → ℕ → List ℕ → List ℕ
+prices_in width k prices = slice_range prices (width * k) (width * (k + 1))
+
+-- the flow of the part of arc i, among the flows of window k: as many parts stand before it as arcs before arc i meet the window
+abbrev pub flow_in : Instance → ℕ → ℕ → List ℕ → ℕ → ℕ
+flow_in whole width k flows i = slice_index flows (count_by (meets width k) (take i whole.arcs))
+
+-- of the flows of the parts of arc i, in all windows that it meets, this is the least
+pub record IsLeastFlow (whole : Instance) (width : ℕ) (flows : ℕ → List ℕ) (i least : ℕ) : Type 0 where
+  pub low : (k : ℕ) → IsTrue (meets width k (arc_at whole.arcs i)) → least ≤ flow_in whole width k (flows k) i
+  pub window : ℕ
+  pub met : IsTrue (meets width window (arc_at whole.arcs i))
+  pub reached : least ≡ flow_in whole width window (flows window) i
+
+-- each window has a solution with its prices, and each arc the least of its flows in them
+pub record AreSolutions (whole : Instance) (width : ℕ) (prices flows : List ℕ) : Type 0 where
+  pub window_flows : ℕ → List ℕ
+  pub each_step : length prices ≡ whole.steps
+  pub each_window : (k : ℕ) → k < window_count whole width → IsSolution (window_instance whole width k) (prices_in width k prices) (window_flows k)
+  pub each_arc : length flows ≡ length whole.arcs
+  pub least_flows : (i : ℕ) → i < length whole.arcs → IsLeastFlow whole width window_flows i (slice_index flows i)
+
+-- what the windows are worth at their prices, summed
+abbrev pub value_of_windows : Instance → ℕ → List ℕ → ℕ
+value_of_windows whole width prices =
+    sum_by (λ k. value_at (window_instance whole width k) (prices_in width k prices)) (range_with_len 0 (window_count whole width))
+
+-- for each arc whether its flow is its weight
+abbrev pub full_of : List OuterArc → List ℕ → List Bool
+full_of arcs flows = map (λ (arc, flow). flow == arc.weight) (zip arcs flows)

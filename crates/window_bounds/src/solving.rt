@@ -1,0 +1,79 @@
+//! The windows of an instance, solved one after another.
+ghost use Rattle.std.specs.Prelude.{◌≡◌, ℕ, ◌<◌, ◌≤◌, IfOk, length, map, min, slice_index, if◌then◌else◌};
+ghost use Rattle.flow_model.specs.Instances.{IsSchedule, IsSolution, arc_at, value_at};
+ghost use Rattle.flow_model.specs.Windows.{meets};
+ghost use Rattle.relaxation.specs.Cuts.{numbers_of};
+ghost use Rattle.window_bounds.specs.Solutions.{AreSolutions, flow_in, full_of, value_of_windows};
+
+use crate::solution::WindowSolution;
+use bound_base::NoMemory;
+use flow_solver::Solver;
+use relaxation::{Instance, OuterArc, Windows};
+use std::alloc::Global;
+
+// The greatest flows that the arcs can have.
+fn weights_of(alloc: Global, arcs: &[OuterArc]) -> Result<Vec<u64>, NoMemory>
+    ensures { IfOk result (λ flows. flows.items ≡ map (λ arc. arc.weight) arcs.now) }
+{
+    Ok(arcs.iter().map(|arc| arc.weight).collect(alloc)?)
+}
+
+// For each arc whether its flow is its weight.
+fn full_of(alloc: Global, arcs: &[OuterArc], flows: &[u64]) -> Result<Vec<bool>, NoMemory>
+    ensures { IfOk result (λ full. full.items ≡ full_of arcs.now flows.now) }
+{
+    Ok(
+        arcs.iter()
+            .zip(flows)
+            .map(|(arc, flow)| *flow == arc.weight)
+            .collect(alloc)?,
+    )
+}
+
+// Lowers the flow of each arc that meets the current window to that of its part.
+fn lower(windows: &Windows, part_flows: &[u64], flows: &mut [u64])
+    requires each_part { length part_flows.now ≡ length (numbers_of windows.now) }
+    requires each_arc { length flows.old ≡ length windows.now.whole.arcs }
+    ensures { (i : ℕ) → i < length flows.old → slice_index flows.new i
+        ≡ (if meets windows.now.width windows.now.number (arc_at windows.now.whole.arcs i)
+        then min (slice_index flows.old i) (flow_in windows.now.whole windows.now.width windows.now.number part_flows.now i)
+        else slice_index flows.old i) }
+{
+    for (part, number) in windows.numbers().iter().enumerate() {
+        let flow = flows[*number as usize].min(part_flows[part]);
+        flows[*number as usize] = flow;
+    }
+}
+
+/// The prices and flows of the instance by windows of that width. The price of a step is that of its window, and the
+/// flow of an arc the least of its flows in the windows that it meets. One window has the memory of its solver at a
+/// time; the answer takes 16 bytes for each step, and 9 for each arc.
+pub fn solve_windows(
+    alloc: Global,
+    whole: &Instance,
+    width: u32,
+) -> Result<WindowSolution, NoMemory>
+    requires { 1 ≤ width }
+    ensures windows { IfOk result (λ s. AreSolutions whole.now width s.prices s.flows) }
+    ensures full { IfOk result (λ s. s.full ≡ full_of whole.now.arcs s.flows) }
+    ensures schedule { IfOk result (λ s. IsSchedule whole.now s.flows) }
+    ensures above { IfOk result (λ s. value_at whole.now s.prices ≤ value_of_windows whole.now width s.prices) }
+    ensures one_window { IfOk result (λ s. whole.now.steps ≤ width → IsSolution whole.now s.prices s.flows) }
+{
+    let mut prices = Vec::with_capacity(alloc, whole.steps() as usize)?;
+    let mut flows = weights_of(alloc, whole.arcs())?;
+    let mut windows = Windows::new(alloc, whole, width)?;
+    while windows.has_step() {
+        let window = windows.instance(alloc)?;
+        let solution = Solver::new(alloc, &window)?.solve();
+        prices.extend_from_slice(solution.prices())?;
+        lower(&windows, solution.flows(), &mut flows);
+        windows.advance();
+    }
+    let full = full_of(alloc, whole.arcs(), &flows)?;
+    Ok(WindowSolution {
+        prices,
+        flows,
+        full,
+    })
+}
