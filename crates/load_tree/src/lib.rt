@@ -4,5 +4,6 @@
 #![tactic(auto)]
 
 mod loads;
+mod tree;
 
 pub use loads::Loads;

@@ -1,25 +1,44 @@
 //! Loads of steps, added to and asked over ranges of steps.
 ghost use Rattle.std.specs.Prelude.{◌≡◌, ◌<◌, ◌≤◌, ◌^◌, length, replicate, IfOk};
 ghost use Rattle.load_tree.specs.Ranges.{AddsOver, HasRoom, IsGreatest};
+ghost use Rattle.load_tree.specs.Trees.{no_node};
 
+use crate::tree::{self, Node, shape_of};
 use bound_base::NoMemory;
 use std::alloc::Global;
 use std::marker::Model;
 
-/// The load of each step, in bytes. Steps count from 0.
+/// The load of each step, in bytes. Steps count from 0. It takes some 20 bytes for each step.
 #[derive(Debug, Drop)]
 pub struct Loads {
+    nodes: Vec<Node>,
     loads: Vec<u128>,
+    height: u32,
 }
 
 impl Model for Loads {
     ghost use Rattle.std.specs.Prelude.{ℕ, List, length, All, ◌<◌, ◌≤◌, ◌^◌};
+    ghost use Rattle.load_tree.specs.Trees.{IsTree, loads_of};
 
     ghost Value = { List ℕ };
 
-    ghost view = { λ l. l.loads.items };
+    ghost view = { λ l. loads_of l.height l.nodes.items l.loads.items };
 
-    ghost invariant = { λ l. (length l.loads.items < 2 ^ 32) × All (λ load. load ≤ 2 ^ 100) l.loads.items };
+    ghost invariant = { λ l. (length l.loads.items < 2 ^ 32) × IsTree l.height l.nodes.items l.loads.items × All (λ load. load ≤ 2 ^ 100) (loads_of l.height l.nodes.items l.loads.items) };
+}
+
+// Nodes to whose ranges nothing was added.
+fn no_nodes(alloc: Global, count: usize) -> Result<Vec<Node>, NoMemory>
+    ensures { IfOk result (λ nodes. nodes.items ≡ replicate count no_node) }
+{
+    Ok(vec![in alloc; Node { added: 0, most: 0 }; count]?)
+}
+
+// A load of 0 for each step.
+fn no_loads(alloc: Global, steps: u32) -> Result<Vec<u128>, NoMemory>
+    ensures { IfOk result (λ loads. loads.items ≡ replicate steps 0) }
+{
+    Ok(vec![in alloc; 0; steps as usize]?)
 }
 
 impl Loads {
@@ -27,35 +46,47 @@ impl Loads {
     pub fn new(alloc: Global, steps: u32) -> Result<Loads, NoMemory>
         ensures { IfOk result (λ loads. loads ≡ replicate steps 0) }
     {
+        let shape = shape_of(steps);
         Ok(Loads {
-            loads: vec![in alloc; 0; steps as usize]?,
+            nodes: no_nodes(alloc, shape.nodes)?,
+            loads: no_loads(alloc, steps)?,
+            height: shape.height,
         })
     }
 
-    /// Adds the amount to each step from `from` to the one before `to`. Takes time in the number of those steps.
+    /// Adds the amount to each step from `from` to the one before `to`. Takes time in the logarithm of the number of
+    /// all steps.
     pub fn add(&mut self, from: u32, to: u32, amount: u64)
         requires order { from < to }
         requires within { to ≤ length self.old }
         requires room { HasRoom self.old from to amount }
         ensures { AddsOver self.old self.new from to amount }
     {
-        for step in from as usize..to as usize {
-            self.loads[step] += u128::from(amount);
-        }
+        tree::add(
+            &mut self.nodes,
+            &mut self.loads,
+            self.height,
+            from as usize,
+            to as usize,
+            u128::from(amount),
+        );
     }
 
-    /// The greatest load of the steps from `from` to the one before `to`. Takes time in the number of those steps.
+    /// The greatest load of the steps from `from` to the one before `to`. Takes time in the logarithm of the number of
+    /// all steps.
     pub fn max(&self, from: u32, to: u32) -> u128
         requires order { from < to }
         requires within { to ≤ length self.now }
         ensures greatest { IsGreatest self.now from to result }
         ensures small { result ≤ 2 ^ 100 }
     {
-        let mut greatest = self.loads[from as usize];
-        for step in from as usize + 1..to as usize {
-            greatest = greatest.max(self.loads[step]);
-        }
-        greatest
+        tree::max(
+            &self.nodes,
+            &self.loads,
+            self.height,
+            from as usize,
+            to as usize,
+        )
     }
 }
 
@@ -67,12 +98,25 @@ mod tests {
     // Two amounts over five steps, which meet at step 2: 4 4 11 7 7.
     #[test]
     fn adds_up_where_two_ranges_meet(rt: HostRuntime) -> Result<(), Fail> {
-        let mut loads = Loads::new(rt.alloc(), 5).ok().ok_or("no memory")?;
+        let mut loads = Loads::new(rt.alloc(), 5)?;
         loads.add(0, 3, 4);
         loads.add(2, 5, 7);
         assert_eq!(rt; loads.max(0, 2), 4);
         assert_eq!(rt; loads.max(2, 3), 11);
         assert_eq!(rt; loads.max(3, 5), 7);
+        Ok(())
+    }
+
+    // The same over more steps than one node has: 30 of load 1, 40 of load 3, and 30 of load 1.
+    #[test]
+    fn finds_the_greatest_of_parts(rt: HostRuntime) -> Result<(), Fail> {
+        let mut loads = Loads::new(rt.alloc(), 100)?;
+        loads.add(0, 100, 1);
+        loads.add(30, 70, 2);
+        assert_eq!(rt; loads.max(0, 30), 1);
+        assert_eq!(rt; loads.max(0, 31), 3);
+        assert_eq!(rt; loads.max(69, 71), 3);
+        assert_eq!(rt; loads.max(70, 100), 1);
         Ok(())
     }
 }

@@ -23,7 +23,7 @@ FullFlagsFit =
     → IsFractionalSchedule intervals unit (capacity / unit) flows
     → FitTogether intervals capacity (full_flags unit intervals flows)
 
--- no cost is rounded, whatever the denominator
+-- where all intervals have one size no cost is rounded, whatever the denominator
 abbrev pub EqualSizesAreWhole : Type 0
 EqualSizesAreWhole =
     (intervals : List Interval) (size unit denominator : ℕ)
@@ -37,7 +37,7 @@ pub record IsBestPlay (objective : Objective) (capacity : ℕ) (trace : List Obj
   pub equal : bound ≡ denominator * score objective trace (contents_of trace keeps)
   pub best : 0 < denominator → (contents : List (List Object)) → IsAllowed capacity trace contents → score objective trace contents ≤ score objective trace (contents_of trace keeps)
 
--- where flows are worth the bound of prices, the keeps that are rounded from the full ones are a best play
+-- where all eligible intervals have one size and flows are worth the bound of prices, the keeps that are rounded from the full flows are a best play
 abbrev pub EqualSizesMeetTheBound : Type 0
 EqualSizesMeetTheBound =
     (objective : Objective) (capacity : ℕ) (trace : List Object) (size unit denominator : ℕ) (prices flows : List ℕ) (ahead : Interval → Interval → Bool) (keeps : List Bool)

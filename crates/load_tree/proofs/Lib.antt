@@ -1,0 +1,4 @@
+pub mod Joining
+pub mod Adding
+pub mod Halves
+pub mod Fresh
