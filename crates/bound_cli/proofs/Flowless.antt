@@ -3,11 +3,10 @@ use Rattle.std.proofs.Common.{◌≡◌, ◌∙◌, ℕ, zero, suc, ◌-◌, ◌
 use Rattle.std.specs.List.{AllZip}
 use Prim.Native.Nat.{◌∣◌}
 use Rattle.std.proofs.lemmas.Bool.{false≢true}
-use Rattle.std.proofs.lemmas.List.{length-map, length-append, length-replicate}
+use Rattle.std.proofs.lemmas.List.{length-map}
 use Rattle.std.proofs.lemmas.List.Elements.{All-nil, All-cons, All-head, All-tail}
 use Rattle.std.proofs.lemmas.List.Sums.{sum_by-cons, get_or-le-sum_by}
 use Rattle.std.proofs.Math.Nat.{mul-le-mul_right}
-use Rattle.std.proofs.Math.Seq.{get_or-append_seam}
 use Rattle.cache_model.specs.declared.objects.Object.{Object}
 use Rattle.cache_model.specs.declared.intervals.Interval.{Interval}
 use Rattle.cache_model.specs.declared.certificates.Header.{Header}
@@ -18,6 +17,7 @@ use Rattle.cache_model.specs.Schedules.{covers, load_at, flow_value}
 use Rattle.cache_model.specs.Units.{weight}
 use Rattle.cache_model.specs.Certificates.{IsHeaderInRange, IsRecordInRange, IsValid, eligible_of, flow_at, flows_of, keeps_of, prices_of, units_of, upper_of}
 use Rattle.constant_price.specs.Constants.{constant_prices}
+use Rattle.constant_price.proofs.Prices.{length-constant_prices}
 use Rattle.bound_cli.specs.Made.{flowless, constant_records}
 
 -- what records of as many prices as keeps state
@@ -37,18 +37,6 @@ no_flow : (prices : List ℕ) (keeps : List Bool) → All (λ (r : Record). r.fl
 no_flow [] keeps = All-nil (λ (r : Record). r.flow ≡ 0)
 no_flow (p ∷ prices) [] = All-nil (λ (r : Record). r.flow ≡ 0)
 no_flow (p ∷ prices) (k ∷ keeps) = All-cons (λ (r : Record). r.flow ≡ 0) (flowless (p, k)) (map flowless (zip prices keeps)) refl (no_flow prices keeps)
-
--- there is one constant price a step
-pub length-constant_prices : (price n : ℕ) → length (constant_prices price n) ≡ n
-length-constant_prices price zero = refl
-length-constant_prices price (suc n) = omega (arith, length-append (replicate n price) (zero ∷ []), length-replicate n price)
-
--- the last is 0
-pub last-constant_prices : (price n : ℕ) → get_or (constant_prices price n) (n - 1) 0 ≡ 0
-last-constant_prices price zero = refl
-last-constant_prices price (suc n) =
-    let at_end : suc n - 1 ≡ length (replicate n price) = omega (arith, length-replicate n price) in
-    ap (λ k. get_or (replicate n price ++ zero ∷ []) k 0) at_end ∙ get_or-append_seam (replicate n price) zero [] 0
 
 module _ (price : ℕ) (keeps : List Bool) where
   pub prices_of-constant : prices_of (constant_records price keeps) ≡ constant_prices price (length keeps)

@@ -6,6 +6,7 @@ use Rattle.std.specs.Option.{option_map, option_or}
 use Rattle.std.specs.Str.{bytes_eq}
 use Rattle.std.proofs.lemmas.List.{take_more, drop_more, take-map, get_or-map, length-map}
 use Rattle.bound_report.specs.declared.refusal.WordKind.{WordKind}
+use Rattle.bound_cli.specs.declared.operands.Command.{Command}
 use Rattle.bound_cli.specs.Words.{fault, name_of, operand_fault, operands_fault, place_given, value_given, value_of}
 
 -- a choice among images
@@ -44,36 +45,36 @@ pub place_given_by : {A : Type 0} (f : A → List ℕ) (name : List ℕ) (items 
 place_given_by f name items found is = place_mapped f (λ word. bytes_eq (name_of word) name) 0 4 items ∙ ap (option_map (λ n. n + 4)) (sym is)
 
 -- the operands from one on are refused at that one, or from the next one on
-next_operand : (place at : ℕ) (words : List (List ℕ)) → at < length words
-    → operands_fault (place + at) (take at words) (drop at words)
-    ≡ option_or (option_map (fault (place + at)) (operand_fault (take at words) (get_or words at []))) (operands_fault (place + (at + 1)) (take (at + 1) words) (drop (at + 1) words))
-next_operand place at words below =
+next_operand : (command : Command) (place at : ℕ) (words : List (List ℕ)) → at < length words
+    → operands_fault command (place + at) (take at words) (drop at words)
+    ≡ option_or (option_map (fault (place + at)) (operand_fault command (take at words) (get_or words at []))) (operands_fault command (place + (at + 1)) (take (at + 1) words) (drop (at + 1) words))
+next_operand command place at words below =
     let next : place + at + 1 ≡ place + (at + 1) = omega arith in
     let word = get_or words at [] in
-    ap (operands_fault (place + at) (take at words)) (drop_more words at [] below)
-    ∙ ap (λ n. option_or (option_map (fault (place + at)) (operand_fault (take at words) word)) (operands_fault n (take at words ++ word ∷ []) (drop (at + 1) words))) next
-    ∙ ap (λ front. option_or (option_map (fault (place + at)) (operand_fault (take at words) word)) (operands_fault (place + (at + 1)) front (drop (at + 1) words))) (sym (take_more words at [] below))
+    ap (operands_fault command (place + at) (take at words)) (drop_more words at [] below)
+    ∙ ap (λ n. option_or (option_map (fault (place + at)) (operand_fault command (take at words) word)) (operands_fault command n (take at words ++ word ∷ []) (drop (at + 1) words))) next
+    ∙ ap (λ front. option_or (option_map (fault (place + at)) (operand_fault command (take at words) word)) (operands_fault command (place + (at + 1)) front (drop (at + 1) words))) (sym (take_more words at [] below))
 
 -- the words of the items, of which those before one passed
-module _ {A : Type 0} (f : A → List ℕ) (items : List A) (place at : ℕ) (item : A) (below : at < length items) (is : item ≡ get_or items at item) where
-  looked_at : operand_fault (take at (map f items)) (get_or (map f items) at []) ≡ operand_fault (map f (take at items)) (f item)
+module _ {A : Type 0} (command : Command) (f : A → List ℕ) (items : List A) (place at : ℕ) (item : A) (below : at < length items) (is : item ≡ get_or items at item) where
+  looked_at : operand_fault command (take at (map f items)) (get_or (map f items) at []) ≡ operand_fault command (map f (take at items)) (f item)
   looked_at =
-      ap (λ front. operand_fault front (get_or (map f items) at [])) (take-map f at items)
-      ∙ ap (operand_fault (map f (take at items))) (get_or-map f items at item [] below ∙ ap f (sym is))
+      ap (λ front. operand_fault command front (get_or (map f items) at [])) (take-map f at items)
+      ∙ ap (operand_fault command (map f (take at items))) (get_or-map f items at item [] below ∙ ap f (sym is))
 
-  one_more : (found : Option WordKind) → found ≡ operand_fault (map f (take at items)) (f item)
-      → operands_fault (place + at) (take at (map f items)) (drop at (map f items))
-      ≡ option_or (option_map (fault (place + at)) found) (operands_fault (place + (at + 1)) (take (at + 1) (map f items)) (drop (at + 1) (map f items)))
+  one_more : (found : Option WordKind) → found ≡ operand_fault command (map f (take at items)) (f item)
+      → operands_fault command (place + at) (take at (map f items)) (drop at (map f items))
+      ≡ option_or (option_map (fault (place + at)) found) (operands_fault command (place + (at + 1)) (take (at + 1) (map f items)) (drop (at + 1) (map f items)))
   one_more found here =
-      next_operand place at (map f items) (omega (arith, length-map items f))
-      ∙ ap (λ k. option_or (option_map (fault (place + at)) k) (operands_fault (place + (at + 1)) (take (at + 1) (map f items)) (drop (at + 1) (map f items)))) (looked_at ∙ sym here)
+      next_operand command place at (map f items) (omega (arith, length-map items f))
+      ∙ ap (λ k. option_or (option_map (fault (place + at)) k) (operands_fault command (place + (at + 1)) (take (at + 1) (map f items)) (drop (at + 1) (map f items)))) (looked_at ∙ sym here)
 
   -- one that is refused is the first
-  pub stops_here : (kind : WordKind) → Some kind ≡ operand_fault (map f (take at items)) (f item)
-      → operands_fault (place + at) (take at (map f items)) (drop at (map f items)) ≡ Some (fault (place + at) kind)
+  pub stops_here : (kind : WordKind) → Some kind ≡ operand_fault command (map f (take at items)) (f item)
+      → operands_fault command (place + at) (take at (map f items)) (drop at (map f items)) ≡ Some (fault (place + at) kind)
   stops_here kind here = one_more (Some kind) here
 
   -- one that passes leaves those after it
-  pub goes_on : None ≡ operand_fault (map f (take at items)) (f item)
-      → operands_fault (place + at) (take at (map f items)) (drop at (map f items)) ≡ operands_fault (place + (at + 1)) (take (at + 1) (map f items)) (drop (at + 1) (map f items))
+  pub goes_on : None ≡ operand_fault command (map f (take at items)) (f item)
+      → operands_fault command (place + at) (take at (map f items)) (drop at (map f items)) ≡ operands_fault command (place + (at + 1)) (take (at + 1) (map f items)) (drop (at + 1) (map f items))
   goes_on here = one_more None here

@@ -1,5 +1,7 @@
 pub mod ByStart
 pub mod Outcomes
+pub mod Complete
+pub mod Judged
 pub mod Records
 pub mod Flowless
 pub mod MadeOf

@@ -19,9 +19,10 @@ use Rattle.interval_maker.specs.Timelines.{Timeline, IsTimeline, IsInterval, tim
 use Rattle.relaxation.specs.Denominators.{IsChosen}
 use Rattle.relaxation.specs.Prices.{most_paid}
 use Rattle.constant_price.specs.Constants.{constant_prices}
+use Rattle.constant_price.proofs.Prices.{constant_prices-last}
 use Rattle.bound_cli.specs.declared.bounds.Asked.{Asked}
 use Rattle.bound_cli.specs.Made.{IsMade, IsPriceOf, IsTakenByStart, constant_records}
-use Rattle.bound_cli.proofs.Flowless.{flowless_valid, prices_of-constant, keeps_of-constant, constant_no_flow, length-constant_records, last-constant_prices}
+use Rattle.bound_cli.proofs.Flowless.{flowless_valid, prices_of-constant, keeps_of-constant, constant_no_flow, length-constant_records}
 
 -- the unit is at most the capacity
 pub unit-le_capacity : (line : Timeline) (capacity unit : ℕ) → 1 ≤ capacity → IsTimeline line → All (λ i. i.size ≤ capacity) line.items → IsUnit line.items unit → unit ≤ capacity
@@ -92,7 +93,7 @@ made_at asked trace unit units d upper lower price keeps found =
     record {
       valid =
           flowless_valid trace h records ranged refl each refl (constant_no_flow price keeps) (some_units asked.capacity unit found.positive within) paid
-          (subst (λ ps. get_or ps (length trace - 1) 0 ≡ 0) (sym prices) (last-constant_prices price (length trace)))
+          (subst (λ ps. get_or ps (length trace - 1) 0 ≡ 0) (sym prices) (constant_prices-last price (length trace)))
           found.unit_is.divides
           (subst (λ ks. IsAllowed asked.capacity trace (contents_of trace ks)) (sym kept) found.allowed)
           (found.scored ∙ ap (λ ks. score asked.objective trace (contents_of trace ks)) (sym kept)) refl bound;

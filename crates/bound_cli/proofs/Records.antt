@@ -1,17 +1,16 @@
 -- The lines of a certificate, one record after another.
-use Rattle.std.proofs.Common.{◌≡◌, ◌∙◌, ℕ, zero, suc, ◌+◌, ◌<◌, ◌≤◌, ◌==◌, cond, refl, sym, ap, arith, ⊎_elim, Bool, false, length, take, get_or, zip, replicate, List, [], ◌∷◌, ◌++◌, map, codes, append_assoc, append-nil}
+use Rattle.std.proofs.Common.{◌≡◌, ◌∙◌, ℕ, zero, suc, ◌+◌, ◌-◌, ◌<◌, ◌≤◌, ◌==◌, cond, refl, sym, ap, arith, ⊎_elim, Bool, false, length, take, get_or, zip, replicate, List, [], ◌∷◌, ◌++◌, map, codes, append_assoc, append-nil}
 use Rattle.std.specs.declared.option.Option.{Option}
 use Rattle.std.specs.Io.KnownBytes.{Appends}
 use Rattle.std.proofs.KnownBytes.{Appends-trans}
 use Rattle.std.proofs.lemmas.Bool.{cases_lt, cond-true, cond-false, eq-eqb, ne_eqb}
-use Rattle.std.proofs.Math.Seq.{get_or-append_seam}
-use Rattle.std.proofs.lemmas.List.{map-append, take_more, take_all, get_or_append_left, get_or-replicate, length-replicate}
+use Rattle.std.proofs.lemmas.List.{map-append, take_more, take_all}
 use Rattle.std.proofs.lemmas.List.Concat.{flat_map-append}
 use Rattle.cache_model.specs.declared.certificates.Header.{Header}
 use Rattle.cache_model.specs.declared.certificates.Record.{Record}
 use Rattle.constant_price.specs.Constants.{constant_prices}
+use Rattle.constant_price.proofs.Prices.{length-constant_prices, constant_prices-before, constant_prices-last}
 use Rattle.bound_cli.specs.Made.{flowless, constant_records}
-use Rattle.bound_cli.proofs.Flowless.{length-constant_prices}
 use Rattle.cache_model.specs.Texts.{line, text_of, header_lines, record_line, cert_text}
 
 -- so many records, and then one more
@@ -50,19 +49,13 @@ flowless-at (p ∷ prices) (k ∷ keeps) (suc t) d here there = flowless-at pric
 
 -- the last of so many constant prices is 0, and each before it the price
 price-at : (price n t : ℕ) → t < n → get_or (constant_prices price n) t 0 ≡ cond (t + 1 == n) 0 price
-price-at price zero t low = absurd (omega arith)
-price-at price (suc n) t low =
+price-at price n t low =
     ⊎_elim
-    (λ (before : t < n).
-    get_or_append_left (replicate n price) (zero ∷ []) 0 t (omega (arith, length-replicate n price))
-    ∙ get_or-replicate n t price 0 before
-    ∙ sym (cond-false (t + 1 == suc n) 0 price (ne_eqb (t + 1) (suc n) (λ same. omega arith))))
-    (λ (last : n ≤ t).
-    let at_end : t ≡ length (replicate n price) = omega (arith, length-replicate n price) in
-    ap (λ k. get_or (replicate n price ++ zero ∷ []) k 0) at_end
-    ∙ get_or-append_seam (replicate n price) zero [] 0
-    ∙ sym (cond-true (t + 1 == suc n) 0 price (eq-eqb (t + 1) (suc n) (omega arith))))
-    (cases_lt t n)
+    (λ (before : t + 1 < n). constant_prices-before price n t before ∙ sym (cond-false (t + 1 == n) 0 price (ne_eqb (t + 1) n (λ same. omega arith))))
+    (λ (last : n ≤ t + 1).
+    let at_end : t ≡ n - 1 = omega arith in
+    ap (λ k. get_or (constant_prices price n) k 0) at_end ∙ constant_prices-last price n ∙ sym (cond-true (t + 1 == n) 0 price (eq-eqb (t + 1) n (omega arith))))
+    (cases_lt (t + 1) n)
 
 -- the record of a request: its keep, and the price unless it is the last
 pub record-at : (price t : ℕ) (keeps : List Bool) (d : Record) → t < length keeps

@@ -4,7 +4,7 @@ use Rattle.cache_model.specs.declared.objects.Objective.TheVariants.{Object as H
 use Rattle.cache_model.specs.declared.reports.Mode.TheVariants.{Constant, Infinite}
 use Rattle.relaxation.specs.declared.denominators.DenominatorChoice.TheVariants.{Exact, Given}
 use Rattle.trace_any.specs.declared.format.Format.TheVariants.{Webcache, Arc, Msr}
-use Rattle.bound_cli.specs.declared.words.Plan.TheVariants.{Bounds}
+use Rattle.bound_cli.specs.declared.words.Plan.TheVariants.{Bounds, Check}
 use Rattle.bound_report.specs.declared.refusal.WordKind.TheVariants.{Missing, Unknown, Twice, BadValue}
 use Rattle.bound_cli.specs.Words.{fault, plan}
 
@@ -75,3 +75,21 @@ block_alone = refl
 no_path : plan (codes "bounds" ∷ codes "t" ∷ []) ≡ Err (fault 3 Missing)
 unfolding plan
 no_path = refl
+
+-- a check takes the form of the trace and no more
+a_check : plan (codes "check" ∷ codes "t" ∷ codes "-" ∷ codes "format=msr" ∷ codes "block=512" ∷ []) ≡ Ok (Check (Msr 512))
+unfolding plan
+a_check = refl
+
+no_capacity : plan (codes "check" ∷ codes "t" ∷ codes "c" ∷ codes "format=arc" ∷ codes "capacity=2" ∷ []) ≡ Err (fault 5 Unknown)
+unfolding plan
+no_capacity = refl
+
+-- standard input is one of the two, and that comes last
+both_dashes : plan (codes "check" ∷ codes "-" ∷ codes "-" ∷ codes "format=arc" ∷ []) ≡ Err (fault 3 BadValue)
+unfolding plan
+both_dashes = refl
+
+form_first : plan (codes "check" ∷ codes "-" ∷ codes "-" ∷ []) ≡ Err (fault 4 Missing)
+unfolding plan
+form_first = refl

@@ -3,5 +3,6 @@ pub mod Statuses
 pub mod Made
 pub mod BoundsFaults
 pub mod Kept
-pub mod Run
+pub mod Inputs
 pub mod Parts
+pub mod Run

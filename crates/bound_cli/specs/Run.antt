@@ -1,26 +1,29 @@
 -- When a run ends in each status, and what the devices got then.
-use Rattle.std.specs.Prelude.{◌≡◌, ℕ, ◌⊎◌, List, [], Ok, Err, None, Some, IfSome}
+use Rattle.std.specs.Prelude.{◌≡◌, ℕ, ◌⊎◌, List, Result, Ok, Err, None, Some, IsSome}
 use Rattle.std.specs.declared.option.Option.{Option}
 use Rattle.std.specs.Io.KnownBytes.{Appends}
 use Rattle.bound_io.specs.Reading.{LosesFront}
 use Rattle.bound_io.specs.Writing.{AppendsProperFront}
 use Rattle.bound_io.specs.Devices.{Device, HasFailed, Gets, IsUntouched}
-use Rattle.cache_model.specs.declared.objects.Object.{Object}
-use Rattle.trace_any.specs.declared.fault.TraceFault.{TraceFault as FaultOfTrace}
+use Rattle.cache_model.specs.declared.objects.Objective.{Objective}
+use Rattle.cache_model.specs.declared.reports.Mode.{Mode}
+use Rattle.relaxation.specs.declared.denominators.DenominatorChoice.{DenominatorChoice}
 use Rattle.trace_any.specs.declared.fault.TraceFault.TheVariants as trace
 use Rattle.trace_any.specs.declared.format.Format.{Format}
-use Rattle.trace_any.specs.Readings.{reading, full_limits}
-use Rattle.trace_any.specs.Readers.{IsWhole}
-use Rattle.bound_cli.specs.declared.bounds.Asked.{Asked}
-use Rattle.bound_cli.specs.declared.words.Plan.{Plan}
-use Rattle.bound_cli.specs.declared.words.Plan.TheVariants.{Bounds}
 use Rattle.bound_report.specs.declared.refusal.LimitName.TheVariants.{Requests, TraceBytes, Denominator}
 use Rattle.bound_report.specs.declared.refusal.Refusal.TheVariants as refusal
-use Rattle.bound_cli.specs.declared.status.Status.{Status}
-use Rattle.bound_cli.specs.declared.status.Status.TheVariants.{Done, Words, BadLine, Limit, TraceFault, ReportFault, MadeFault, NoMemory}
-use Rattle.bound_cli.specs.Words.{plan}
 use Rattle.bound_report.specs.Refusals.{refusal_line}
-use Rattle.bound_cli.specs.Made.{AreTexts, RefusesDenominator}
+use Rattle.bound_report.specs.Verdicts.{verdict_text}
+use Rattle.cert_checker.specs.declared.verdict.Verdict.{Verdict}
+use Rattle.cert_checker.specs.Walks as walk
+use Rattle.bound_cli.specs.declared.bounds.Asked.{Asked}
+use Rattle.bound_cli.specs.declared.words.Plan.{Plan}
+use Rattle.bound_cli.specs.declared.words.Plan.TheVariants.{Bounds, Check}
+use Rattle.bound_cli.specs.declared.words.WordFault.{WordFault}
+use Rattle.bound_cli.specs.declared.status.Status.{Status}
+use Rattle.bound_cli.specs.declared.status.Status.TheVariants.{Done, Invalid, Words, BadLine, Limit, TraceFault, CertFault, ReportFault, MadeFault, NoMemory}
+use Rattle.bound_cli.specs.Words.{plan}
+use Rattle.bound_cli.specs.Inputs.{HasDenominator, IsAccepted, IsCertified, IsFirstEvent, IsGoodTrace, IsPastDenominator, IsReady, IsRefused}
 
 -- what is seen of the four devices of a run
 pub record Devices : Type 0 where
@@ -33,82 +36,78 @@ pub record Devices : Type 0 where
 abbrev pub devices : Device → Device → Device → Device → Devices
 devices trace cert report made = record { trace = trace; cert = cert; report = report; made = made }
 
--- the words ask for something
-abbrev pub IsPlanned : List (List ℕ) → Type 0
-IsPlanned words = (asked : Plan) × (plan words ≡ Ok asked)
+-- the bounds that are asked for
+abbrev pub asked_for : ℕ → Objective → Mode → DenominatorChoice → Asked
+asked_for capacity objective mode denominator = record { capacity = capacity; objective = objective; mode = mode; denominator = denominator }
 
--- the form of the trace that a plan reads
-abbrev pub format_of_plan : Plan → Format
-format_of_plan (Bounds format capacity objective mode denominator) = format
+-- why bounds end in a status, and what the sinks got then
+abbrev pub BoundsEnd : Format → Asked → Device → Device → Device → Status → Type 0
+BoundsEnd format asked source report made Done = (cert : List ℕ) × (text : List ℕ) × IsReady format asked source cert text × Appends made.before made.after cert × Appends report.before report.after text
+BoundsEnd format asked source report made (BadLine line kind) = IsRefused format source (trace.BadLine line kind) × Gets report (refusal_line (refusal.BadLine line kind)) × IsUntouched made
+BoundsEnd format asked source report made (Limit Requests) = IsRefused format source trace.TooManyRequests × Gets report (refusal_line (refusal.Limit Requests)) × IsUntouched made
+BoundsEnd format asked source report made (Limit TraceBytes) = IsRefused format source trace.InputTooLong × Gets report (refusal_line (refusal.Limit TraceBytes)) × IsUntouched made
+BoundsEnd format asked source report made (Limit Denominator) = IsPastDenominator format asked source × Gets report (refusal_line (refusal.Limit Denominator)) × IsUntouched made
+BoundsEnd format asked source report made TraceFault = HasFailed source × Gets report (refusal_line refusal.TraceFault) × IsUntouched made
+BoundsEnd format asked source report made ReportFault = (cert : List ℕ) × (text : List ℕ) × IsReady format asked source cert text × HasFailed report × Appends made.before made.after cert × AppendsProperFront report.before report.after text
+BoundsEnd format asked source report made MadeFault = (cert : List ℕ) × (text : List ℕ) × IsReady format asked source cert text × HasFailed made × AppendsProperFront made.before made.after cert × Gets report (refusal_line refusal.MadeFault)
+BoundsEnd format asked source report made NoMemory = Gets report (refusal_line refusal.NoMemory) × IsUntouched made
+BoundsEnd format asked source report made (Invalid line kind) = ⊥
+BoundsEnd format asked source report made (Words fault) = ⊥
+BoundsEnd format asked source report made CertFault = ⊥
 
--- the bounds that a plan asks for
-abbrev pub asked_of_plan : Plan → Asked
-asked_of_plan (Bounds format capacity objective mode denominator) = record { capacity = capacity; objective = objective; mode = mode; denominator = denominator }
+-- why a check ends in a status, and what the report got then
+abbrev pub CheckEnds : Format → Device → Device → Device → Status → Type 0
+CheckEnds format source cert report Done = (verdict : Verdict) × (dropped : ℕ) × IsAccepted format source cert verdict dropped × Appends report.before report.after (verdict_text verdict dropped)
+CheckEnds format source cert report (Invalid line kind) = IsFirstEvent format source cert (walk.Invalid line kind) × Gets report (refusal_line (refusal.Invalid line kind))
+CheckEnds format source cert report (BadLine line kind) = IsFirstEvent format source cert (walk.Refused (trace.BadLine line kind)) × Gets report (refusal_line (refusal.BadLine line kind))
+CheckEnds format source cert report (Limit Requests) = IsFirstEvent format source cert (walk.Refused trace.TooManyRequests) × Gets report (refusal_line (refusal.Limit Requests))
+CheckEnds format source cert report (Limit TraceBytes) = IsFirstEvent format source cert (walk.Refused trace.InputTooLong) × Gets report (refusal_line (refusal.Limit TraceBytes))
+CheckEnds format source cert report TraceFault = HasFailed source × Gets report (refusal_line refusal.TraceFault)
+CheckEnds format source cert report CertFault = HasFailed cert × Gets report (refusal_line refusal.CertFault)
+CheckEnds format source cert report ReportFault = (verdict : Verdict) × (dropped : ℕ) × IsAccepted format source cert verdict dropped × HasFailed report × AppendsProperFront report.before report.after (verdict_text verdict dropped)
+CheckEnds format source cert report NoMemory = Gets report (refusal_line refusal.NoMemory)
+CheckEnds format source cert report (Limit Denominator) = ⊥
+CheckEnds format source cert report (Words fault) = ⊥
+CheckEnds format source cert report MadeFault = ⊥
 
--- the plan of bounds on a trace of a form
-abbrev pub plan_of_bounds : Format → Asked → Plan
-plan_of_bounds format asked = Bounds format asked.capacity asked.objective asked.mode asked.denominator
+-- how a run ends: what a plan doesn't need is left alone, and what it reads loses no more than a front
+abbrev pub RunEnds : Result Plan WordFault → Devices → Status → Type 0
+RunEnds (Ok (Bounds format capacity objective mode denominator)) d status =
+    BoundsEnd format (asked_for capacity objective mode denominator) d.trace d.report d.made status × LosesFront d.trace.before d.trace.after × IsUntouched d.cert
+RunEnds (Ok (Check format)) d status =
+    CheckEnds format d.trace d.cert d.report status × LosesFront d.trace.before d.trace.after × LosesFront d.cert.before d.cert.after × IsUntouched d.made
+RunEnds (Err fault) d status =
+    (status ≡ Words fault) × Gets d.report (refusal_line (refusal.Words fault.place fault.kind)) × IsUntouched d.trace × IsUntouched d.cert × IsUntouched d.made
 
--- all that the source had left was read, and is a trace of these requests and so many dropped lines, where the source tells what it has left
-pub record IsLoaded (format : Format) (source : Device) (requests : List Object) (dropped : ℕ) : Type 0 where
-  pub read : IfSome source.before (λ bytes. IsWhole (reading format full_limits bytes) requests dropped)
-  pub nothing_left : IfSome source.before (λ bytes. source.after ≡ Some [])
+-- the status has its cause in what the words ask for and in what the sources had
+abbrev pub Explains : List (List ℕ) → Devices → Status → Type 0
+Explains words d status = RunEnds (plan words) d status
 
--- what the source had left is refused so, where the source tells it, and no more than a front of it is gone
-pub record IsRefused (format : Format) (source : Device) (fault : FaultOfTrace) : Type 0 where
-  pub refused : IfSome source.before (λ bytes. (reading format full_limits bytes).refused ≡ Some fault)
-  pub lost : LosesFront source.before source.after
+-- no call of a device failed
+pub record NoneFails (d : Devices) : Type 0 where
+  pub trace : ¬ (HasFailed d.trace)
+  pub cert : ¬ (HasFailed d.cert)
+  pub report : ¬ (HasFailed d.report)
+  pub made : ¬ (HasFailed d.made)
 
--- the certificate and the report of all that the source had left
-pub record IsReady (asked : Plan) (source : Device) (cert report : List ℕ) : Type 0 where
-  pub requests : List Object
-  pub dropped : ℕ
-  pub loaded : IsLoaded (format_of_plan asked) source requests dropped
-  pub texts : AreTexts (asked_of_plan asked) requests dropped cert report
+-- the inputs are told, and nothing of them is refused before the certificate is looked at
+abbrev pub AreGoodInputs : Plan → Devices → Type 0
+AreGoodInputs (Bounds format capacity objective mode denominator) d =
+    IsGoodTrace format d.trace.before × HasDenominator format (asked_for capacity objective mode denominator) d.trace.before
+AreGoodInputs (Check format) d = IsGoodTrace format d.trace.before × IsSome d.cert.before
 
--- all that the source had left was read, and the denominator that is asked for passes its limit
-pub record IsPastDenominator (asked : Plan) (source : Device) : Type 0 where
-  pub requests : List Object
-  pub dropped : ℕ
-  pub loaded : IsLoaded (format_of_plan asked) source requests dropped
-  pub refused : RefusesDenominator (asked_of_plan asked) requests
-  pub lost : LosesFront source.before source.after
+-- what a check answers of good inputs: Done of a valid certificate, and Invalid of every other
+abbrev pub AnswersOf : Format → Option (List ℕ) → Option (List ℕ) → Status → Type 0
+AnswersOf format (Some bytes) (Some text) Done = IsCertified format bytes text
+AnswersOf format (Some bytes) (Some text) (Invalid line kind) = ¬ (IsCertified format bytes text)
+AnswersOf format before cert NoMemory = Unit {0}
+AnswersOf format before cert status = ⊥
 
--- the words were accepted, the trace was read whole, and these are its certificate and its report
-pub record IsPrepared (words : List (List ℕ)) (source : Device) (cert report : List ℕ) : Type 0 where
-  pub asked : Plan
-  pub planned : plan words ≡ Ok asked
-  pub ready : IsReady asked source cert report
+-- what is answered of good inputs, unless memory ran out
+abbrev pub Answers : Plan → Devices → Status → Type 0
+Answers (Bounds format capacity objective mode denominator) d status = (status ≡ Done) ⊎ (status ≡ NoMemory)
+Answers (Check format) d status = AnswersOf format d.trace.before d.cert.before status
 
--- the words were accepted, and the trace is refused
-abbrev pub RefusesPlanned : List (List ℕ) → Device → FaultOfTrace → Type 0
-RefusesPlanned words source fault = (asked : Plan) × (plan words ≡ Ok asked) × IsRefused (format_of_plan asked) source fault
-
--- why a run ends in a status, and what the sinks got then
-abbrev pub Causes : List (List ℕ) → Devices → Status → Type 0
-Causes words d Done = (cert : List ℕ) × (report : List ℕ) × IsPrepared words d.trace cert report × Appends d.made.before d.made.after cert × Appends d.report.before d.report.after report
-Causes words d (Words fault) = (plan words ≡ Err fault) × Gets d.report (refusal_line (refusal.Words fault.place fault.kind)) × IsUntouched d.made × IsUntouched d.trace
-Causes words d (BadLine line kind) = RefusesPlanned words d.trace (trace.BadLine line kind) × Gets d.report (refusal_line (refusal.BadLine line kind)) × IsUntouched d.made
-Causes words d (Limit Requests) = RefusesPlanned words d.trace trace.TooManyRequests × Gets d.report (refusal_line (refusal.Limit Requests)) × IsUntouched d.made
-Causes words d (Limit TraceBytes) = RefusesPlanned words d.trace trace.InputTooLong × Gets d.report (refusal_line (refusal.Limit TraceBytes)) × IsUntouched d.made
-Causes words d (Limit Denominator) = ((asked : Plan) × (plan words ≡ Ok asked) × IsPastDenominator asked d.trace) × Gets d.report (refusal_line (refusal.Limit Denominator)) × IsUntouched d.made
-Causes words d TraceFault = IsPlanned words × HasFailed d.trace × LosesFront d.trace.before d.trace.after × Gets d.report (refusal_line refusal.TraceFault) × IsUntouched d.made
-Causes words d ReportFault = (cert : List ℕ) × (report : List ℕ) × IsPrepared words d.trace cert report × HasFailed d.report × Appends d.made.before d.made.after cert × AppendsProperFront d.report.before d.report.after report
-Causes words d MadeFault = (cert : List ℕ) × (report : List ℕ) × IsPrepared words d.trace cert report × HasFailed d.made × AppendsProperFront d.made.before d.made.after cert × Gets d.report (refusal_line refusal.MadeFault)
-Causes words d NoMemory = IsPlanned words × LosesFront d.trace.before d.trace.after × Gets d.report (refusal_line refusal.NoMemory) × IsUntouched d.made
-
--- the status has its cause, and nothing of the certificate source changed
-pub record Explains (words : List (List ℕ)) (d : Devices) (status : Status) : Type 0 where
-  pub cert_untouched : IsUntouched d.cert
-  pub cause : Causes words d status
-
--- the bytes are told, and are a trace of the plan's form within the limits, also that on the denominator
-abbrev pub IsGoodTrace : Plan → Option (List ℕ) → Type 0
-IsGoodTrace asked None = ⊥
-IsGoodTrace asked (Some bytes) =
-    let read = reading (format_of_plan asked) full_limits bytes in
-    (read.refused ≡ None) × ¬ (RefusesDenominator (asked_of_plan asked) read.requests)
-
--- good words, a good trace and no fault lead to Done, unless memory ran out
+-- good words, good inputs and no fault lead to the answer
 abbrev pub Completes : List (List ℕ) → Devices → Status → Type 0
-Completes words d status = (asked : Plan) → plan words ≡ Ok asked → IsGoodTrace asked d.trace.before → ¬ (HasFailed d.trace) → ¬ (HasFailed d.report) → ¬ (HasFailed d.made) → (status ≡ Done) ⊎ (status ≡ NoMemory)
+Completes words d status = (asked : Plan) → plan words ≡ Ok asked → AreGoodInputs asked d → NoneFails d → Answers asked d status

@@ -17,7 +17,9 @@ use Rattle.trace_any.specs.Readings.{IsFormat}
 use Rattle.trace_any.specs.declared.format.Format.{Format}
 use Rattle.trace_any.specs.declared.format.Format.TheVariants.{Webcache, Arc, Msr}
 use Rattle.bound_cli.specs.declared.words.Plan.{Plan}
-use Rattle.bound_cli.specs.declared.words.Plan.TheVariants.{Bounds}
+use Rattle.bound_cli.specs.declared.words.Plan.TheVariants.{Bounds, Check}
+use Rattle.bound_cli.specs.declared.operands.Command.{Command}
+use Rattle.bound_cli.specs.declared.operands.Command.TheVariants as command
 use Rattle.bound_cli.specs.declared.words.WordFault.{WordFault}
 use Rattle.bound_report.specs.declared.refusal.WordKind.{WordKind}
 use Rattle.bound_report.specs.declared.refusal.WordKind.TheVariants.{Missing, Unknown, Twice, BadValue}
@@ -32,10 +34,22 @@ abbrev pub ◌>>=◌ : {A B : Type 0} → Result A WordFault → (A → Result B
 abbrev pub fault : ℕ → WordKind → WordFault
 fault place kind = record { place = place; kind = kind }
 
+-- the command that a word names
+abbrev pub command_named : List ℕ → Option Command
+command_named word =
+    if bytes_eq word (codes "bounds") then Some command.Bounds
+    else (if bytes_eq word (codes "check") then Some command.Check
+    else None)
+
+-- a command that is none is unknown
+abbrev pub known : Option Command → Result Command WordFault
+known None = Err (fault 1 Unknown)
+known (Some command) = Ok command
+
 -- the first word has to be a command
-abbrev pub command : Option (List ℕ) → Result (Unit {0}) WordFault
-command None = Err (fault 1 Missing)
-command (Some word) = if bytes_eq word (codes "bounds") then Ok tt else Err (fault 1 Unknown)
+abbrev pub command_of : Option (List ℕ) → Result Command WordFault
+command_of None = Err (fault 1 Missing)
+command_of (Some word) = known (command_named word)
 
 -- a path is any word but the empty one
 abbrev pub path : ℕ → Option (List ℕ) → Result (Unit {0}) WordFault
@@ -117,15 +131,18 @@ IsBuilt (Flow window) = ⊥
 IsBuilt Constant = Unit {0}
 IsBuilt Infinite = Unit {0}
 
--- whether an operand has this name
-abbrev pub is_operand : List ℕ → Bool
-is_operand name =
-    bytes_eq name (codes "format")
-    || bytes_eq name (codes "block")
-    || bytes_eq name (codes "capacity")
-    || bytes_eq name (codes "objective")
-    || bytes_eq name (codes "mode")
-    || bytes_eq name (codes "denominator")
+-- whether an operand of this name says how a trace is read
+abbrev pub names_trace : List ℕ → Bool
+names_trace name = bytes_eq name (codes "format") || bytes_eq name (codes "block")
+
+-- whether an operand of this name says which bounds are asked for
+abbrev pub names_bounds : List ℕ → Bool
+names_bounds name = bytes_eq name (codes "capacity") || bytes_eq name (codes "objective") || bytes_eq name (codes "mode") || bytes_eq name (codes "denominator")
+
+-- whether the command has an operand of this name
+abbrev pub has_operand : Command → List ℕ → Bool
+has_operand command.Bounds name = names_trace name || names_bounds name
+has_operand command.Check name = names_trace name
 
 -- whether the operand of this name may have this value
 abbrev pub is_value : List ℕ → List ℕ → Bool
@@ -141,18 +158,18 @@ is_value name value =
 abbrev pub value_given : List ℕ → List (List ℕ) → Option (List ℕ)
 value_given name operands = option_map value_of (find (λ word. bytes_eq (name_of word) name) operands)
 
--- why a word is refused that stands after these operands: it is none, it repeats one, or its value is none of the operand's
-abbrev pub operand_fault : List (List ℕ) → List ℕ → Option WordKind
-operand_fault before word =
-    if not (has_equals word && is_operand (name_of word)) then Some Unknown
+-- why a word of a command is refused that stands after these operands: it is none of the command's, it repeats one, or its value is none of the operand's
+abbrev pub operand_fault : Command → List (List ℕ) → List ℕ → Option WordKind
+operand_fault command before word =
+    if not (has_equals word && has_operand command (name_of word)) then Some Unknown
     else (if is_some (value_given (name_of word) before) then Some Twice
     else (if is_value (name_of word) (value_of word) then None
     else Some BadValue))
 
 -- the first of the words that is refused, the first of which stands at this place after these operands
-abbrev pub operands_fault : ℕ → List (List ℕ) → List (List ℕ) → Option WordFault
-operands_fault place before [] = None
-operands_fault place before (word ∷ words) = option_or (option_map (fault place) (operand_fault before word)) (operands_fault (place + 1) (before ++ word ∷ []) words)
+abbrev pub operands_fault : Command → ℕ → List (List ℕ) → List (List ℕ) → Option WordFault
+operands_fault command place before [] = None
+operands_fault command place before (word ∷ words) = option_or (option_map (fault place) (operand_fault command before word)) (operands_fault command (place + 1) (before ++ word ∷ []) words)
 
 -- the place of the operand of this name, where the first operand is at place 4
 abbrev pub place_given : List ℕ → List (List ℕ) → Option ℕ
@@ -213,30 +230,70 @@ bounds_plan end operands = do
   mode ← required end (mode_given operands)
   Ok (Bounds format capacity (objective_given operands) mode (denominator_given mode operands))
 
+-- whether a path is that of standard input
+abbrev pub is_dash : Option (List ℕ) → Bool
+is_dash None = false
+is_dash (Some word) = bytes_eq word (codes "-")
+
+-- trace and certificate can't both be standard input
+abbrev pub inputs_fault : List (List ℕ) → Option WordFault
+inputs_fault words = if is_dash (slice_get words 1) && is_dash (slice_get words 2) then Some (fault 3 BadValue) else None
+
+-- the plan of a check, where the operands are accepted
+abbrev pub check_plan : List (List ℕ) → Result Plan WordFault
+check_plan words = do
+  format ← required (length words + 1) (format_given (operands_of words))
+  apart ← passed (inputs_fault words)
+  Ok (Check format)
+
+-- the plan of a command, where the operands are accepted
+abbrev pub plan_of_command : Command → List (List ℕ) → Result Plan WordFault
+plan_of_command command.Bounds words = bounds_plan (length words + 1) (operands_of words)
+plan_of_command command.Check words = check_plan words
+
 -- what the words ask for, or the first fault in them
 unfoldable pub plan : List (List ℕ) → Result Plan WordFault
 plan words = do
-  first ← command (slice_get words 0)
+  asked ← command_of (slice_get words 0)
   trace ← path 2 (slice_get words 1)
   cert ← path 3 (slice_get words 2)
-  accepted ← passed (operands_fault 4 [] (operands_of words))
+  accepted ← passed (operands_fault asked 4 [] (operands_of words))
   fitting ← passed (block_fault (operands_of words))
-  bounds_plan (length words + 1) (operands_of words)
+  plan_of_command asked words
 
 -- the form of the trace, the capacity and the denominator are in their ranges
 abbrev pub IsPlanInRange : Plan → Type 0
 IsPlanInRange (Bounds format capacity objective mode denominator) = IsFormat format × (1 ≤ capacity) × (capacity ≤ 2 ^ 56) × IsBuilt mode × IsChoice denominator
+IsPlanInRange (Check format) = IsFormat format
 
 -- the word, or a dash where there is none
 abbrev pub word_or_dash : Option (List ℕ) → List ℕ
 word_or_dash (Some word) = word
 word_or_dash None = codes "-"
 
--- the path at a place, counted from 0, by the command
-abbrev pub path_by : Option (List ℕ) → Option (List ℕ) → List ℕ
-path_by None word = codes "-"
-path_by (Some command) word = if bytes_eq command (codes "bounds") then word_or_dash word else codes "-"
+-- the word, where the words begin with a command
+abbrev pub path_of : Option Command → List ℕ → List ℕ
+path_of None word = codes "-"
+path_of (Some command) word = word
 
--- the path that the command has at a place, counted from 0
-abbrev pub path_at : List (List ℕ) → ℕ → List ℕ
-path_at words at = path_by (slice_get words 0) (slice_get words at)
+-- the word, where the words begin with the command that makes a certificate
+abbrev pub made_path_of : Option Command → List ℕ → List ℕ
+made_path_of None word = codes "-"
+made_path_of (Some command.Bounds) word = word
+made_path_of (Some command.Check) word = codes "-"
+
+-- the command that the words begin with
+abbrev pub command_in : List (List ℕ) → Option Command
+command_in words = command_named (word_or_dash (slice_get words 0))
+
+-- the path of the trace
+abbrev pub trace_path : List (List ℕ) → List ℕ
+trace_path words = path_of (command_in words) (word_or_dash (slice_get words 1))
+
+-- the path of the certificate that is read
+abbrev pub cert_path : List (List ℕ) → List ℕ
+cert_path words = path_of (command_in words) (word_or_dash (slice_get words 2))
+
+-- the path of the certificate that is made
+abbrev pub made_path : List (List ℕ) → List ℕ
+made_path words = made_path_of (command_in words) (word_or_dash (slice_get words 2))

@@ -12,6 +12,7 @@ use std::rt::{Env, Files};
 use words::paths_of;
 
 mod bounds;
+mod checking;
 mod operands;
 mod schedule;
 mod status;

@@ -3,13 +3,22 @@ ghost use Rattle.std.specs.Prelude.{◌≡◌, ◌≤◌, ◌^◌, [], map, stri
 ghost use Rattle.std.specs.Option.{option_copied};
 ghost use Rattle.relaxation.specs.Denominators.{IsChoice};
 ghost use Rattle.trace_any.specs.Readings.{IsFormat};
-ghost use Rattle.bound_cli.specs.Words.{IsBuilt, block_given, block_of, capacity_given, capacity_of, denominator_given, denominator_of, format_given, format_of, has_equals, is_operand, is_value, mode_given, mode_of, name_of, number_to, objective_given, objective_of, place_given, usual_denominator, value_given, value_of};
+ghost use Rattle.bound_cli.specs.Words.{IsBuilt, block_given, block_of, capacity_given, capacity_of, denominator_given, denominator_of, format_given, format_of, has_equals, has_operand, is_value, mode_given, mode_of, name_of, names_bounds, names_trace, number_to, objective_given, objective_of, place_given, usual_denominator, value_given, value_of};
 
 use bound_base::read_u64;
 use cache_model::Mode;
 use cache_rules::Objective;
 use relaxation::DenominatorChoice;
 use trace_any::Format;
+
+/// What the first word asks for.
+#[derive(Clone, Copy, Debug, PartialEq, Eq)]
+pub enum Command {
+    /// Bounds on the best score on a trace, and their certificate.
+    Bounds,
+    /// Whether a certificate is valid for a trace.
+    Check,
+}
 
 /// The words before the operands: the command and its two paths.
 pub(crate) const OPERANDS_AT: usize = 3;
@@ -135,15 +144,26 @@ fn denominator_of(value: &str) -> Option<DenominatorChoice>
     }
 }
 
-pub(crate) fn is_operand(name: &str) -> bool
-    ensures { result ≡ is_operand name.now }
+fn names_trace(name: &str) -> bool
+    ensures { result ≡ names_trace name.now }
 {
-    name == "format"
-        || name == "block"
-        || name == "capacity"
-        || name == "objective"
-        || name == "mode"
-        || name == "denominator"
+    name == "format" || name == "block"
+}
+
+fn names_bounds(name: &str) -> bool
+    ensures { result ≡ names_bounds name.now }
+{
+    name == "capacity" || name == "objective" || name == "mode" || name == "denominator"
+}
+
+/// Whether a command has an operand of this name.
+pub(crate) fn has_operand(command: Command, name: &str) -> bool
+    ensures { result ≡ has_operand command name.now }
+{
+    match command {
+        Command::Bounds => names_trace(name) || names_bounds(name),
+        Command::Check => names_trace(name),
+    }
 }
 
 pub(crate) fn is_value(name: &str, value: &str) -> bool

@@ -1,9 +1,10 @@
 //! How a run ends.
 ghost use Rattle.std.specs.Prelude.{◌≡◌};
-ghost use Rattle.bound_cli.specs.Statuses.{code_of, refusal_of};
+ghost use Rattle.bound_cli.specs.Statuses.{code_of, refusal_of, refusal_of_check};
 
 use crate::words::WordFault;
-use bound_report::{LimitName, Refusal};
+use bound_report::{InvalidKind, LimitName, Refusal};
+use cert_checker::CheckFault;
 use trace_any::TraceFault;
 use trace_lines::LineKind;
 
@@ -12,6 +13,8 @@ use trace_lines::LineKind;
 pub enum Status {
     /// All was read to its end, and written.
     Done,
+    /// The certificate isn't valid for the trace. Lines of it count from 1.
+    Invalid { line: u64, kind: InvalidKind },
     /// A word of the command line is refused.
     Words(WordFault),
     /// A line of the trace is refused. Lines count from 1.
@@ -20,6 +23,8 @@ pub enum Status {
     Limit(LimitName),
     /// A read of the trace failed.
     TraceFault,
+    /// A read of the certificate failed.
+    CertFault,
     /// A write of the report failed.
     ReportFault,
     /// A write of the certificate failed.
@@ -35,10 +40,12 @@ impl Status {
     {
         match self {
             Status::Done => 0,
+            Status::Invalid { .. } => 1,
             Status::Words(_) => 2,
             Status::BadLine { .. } => 3,
             Status::Limit(_) => 4,
             Status::TraceFault => 5,
+            Status::CertFault => 6,
             Status::ReportFault => 7,
             Status::MadeFault => 8,
             Status::NoMemory => 9,
@@ -54,10 +61,12 @@ impl From<Refusal> for Status {
 
     fn from(refusal: Refusal) -> Self {
         match refusal {
+            Refusal::Invalid { line, kind } => Status::Invalid { line, kind },
             Refusal::Words { place, kind } => Status::Words(WordFault { place, kind }),
             Refusal::BadLine { line, kind } => Status::BadLine { line, kind },
             Refusal::Limit(name) => Status::Limit(name),
             Refusal::TraceFault => Status::TraceFault,
+            Refusal::CertFault => Status::CertFault,
             Refusal::MadeFault => Status::MadeFault,
             Refusal::NoMemory => Status::NoMemory,
         }
@@ -74,5 +83,17 @@ pub fn refusal_of(fault: TraceFault) -> Refusal
         TraceFault::InputTooLong => Refusal::Limit(LimitName::TraceBytes),
         TraceFault::TooManyRequests => Refusal::Limit(LimitName::Requests),
         TraceFault::NoMemory => Refusal::NoMemory,
+    }
+}
+
+/// The refusal that a fault of a check leads to.
+pub fn refusal_of_check(fault: CheckFault) -> Refusal
+    ensures { result ≡ refusal_of_check fault }
+{
+    match fault {
+        CheckFault::Invalid { line, kind } => Refusal::Invalid { line, kind },
+        CheckFault::Trace(fault) => refusal_of(fault),
+        CheckFault::CertReadFault => Refusal::CertFault,
+        CheckFault::NoMemory => Refusal::NoMemory,
     }
 }

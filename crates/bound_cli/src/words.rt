@@ -1,12 +1,11 @@
 //! The words of the command line.
 ghost use Rattle.std.specs.Prelude.{◌≡◌, [], map, slice_get, string_bytes, IfOk};
 ghost use Rattle.std.specs.Option.{option_copied};
-ghost use Rattle.bound_cli.specs.Words.{IsPlanInRange, block_fault, bounds_plan, command, operand_fault, operands_fault, operands_of, passed, path, path_at, plan, required, unknown_operand};
+ghost use Rattle.bound_cli.specs.Words.{IsPlanInRange, block_fault, bounds_plan, cert_path, check_plan, command_named, command_of, inputs_fault, is_dash, made_path, operand_fault, operands_fault, operands_of, passed, path, plan, plan_of_command, required, trace_path, unknown_operand, word_or_dash};
 
-use crate::bounds::Asked;
 use crate::operands::{
-    OPERANDS_AT, capacity_given, denominator_given, format_given, has_equals, is_operand, is_value,
-    mode_given, name_of, objective_given, place_given, value_given, value_of,
+    Command, OPERANDS_AT, capacity_given, denominator_given, format_given, has_equals, has_operand,
+    is_value, mode_given, name_of, objective_given, place_given, value_given, value_of,
 };
 use bound_report::WordKind;
 use cache_model::Mode;
@@ -32,30 +31,10 @@ pub enum Plan {
         mode: Mode,
         denominator: DenominatorChoice,
     },
-}
-
-impl Plan {
-    ghost use Rattle.std.specs.Prelude.{◌≡◌};
-
-    /// The form of the trace, and the bounds that are asked for.
-    pub fn bounds(self) -> (Format, Asked)
-        ensures { self ≡ Plan.Bounds result.0 result.1.capacity result.1.objective result.1.mode result.1.denominator }
-    {
-        let Plan::Bounds {
-            format,
-            capacity,
-            objective,
-            mode,
-            denominator,
-        } = self;
-        let asked = Asked {
-            capacity,
-            objective,
-            mode,
-            denominator,
-        };
-        (format, asked)
-    }
+    /// Whether a certificate is valid for a trace of this form.
+    Check {
+        format: Format,
+    },
 }
 
 /// The paths of a command, where `-` stands for the standard input or output and for a path that it lacks.
@@ -78,13 +57,28 @@ fn word_at(words: &[String], at: usize) -> Option<&str>
     words.get(at).map(|word| word.as_str())
 }
 
-fn expect_command(word: Option<&str>) -> Result<(), WordFault>
-    ensures { result ≡ command (option_copied word.entry) }
+// The command that a word names.
+fn command_named(word: &str) -> Option<Command>
+    ensures { result ≡ command_named word.now }
+{
+    if word == "bounds" {
+        Some(Command::Bounds)
+    } else if word == "check" {
+        Some(Command::Check)
+    } else {
+        None
+    }
+}
+
+fn command_of(word: Option<&str>) -> Result<Command, WordFault>
+    ensures { result ≡ command_of (option_copied word.entry) }
 {
     match word {
         None => refuse(1, WordKind::Missing),
-        Some(word) if word == "bounds" => Ok(()),
-        Some(_) => refuse(1, WordKind::Unknown),
+        Some(word) => match command_named(word) {
+            Some(command) => Ok(command),
+            None => refuse(1, WordKind::Unknown),
+        },
     }
 }
 
@@ -99,11 +93,11 @@ fn expect_path(place: u64, word: Option<&str>) -> Result<(), WordFault>
 }
 
 // Why a word is refused that stands after these operands.
-fn operand_fault(before: &[String], word: &str) -> Option<WordKind>
-    ensures { result ≡ operand_fault (map string_bytes before.now) word.now }
+fn operand_fault(command: Command, before: &[String], word: &str) -> Option<WordKind>
+    ensures { result ≡ operand_fault command (map string_bytes before.now) word.now }
 {
     let name = name_of(word);
-    if !(has_equals(word) && is_operand(name)) {
+    if !(has_equals(word) && has_operand(command, name)) {
         return Some(WordKind::Unknown);
     }
     if value_given(name, before).is_some() {
@@ -122,11 +116,11 @@ fn operands_of(words: &[String]) -> &[String]
 }
 
 // Looks at the operands from left to right. Names come from a fixed set, so few are looked at.
-fn check_operands(operands: &[String]) -> Result<(), WordFault>
-    ensures { result ≡ passed (operands_fault 4 [] (map string_bytes operands.now)) }
+fn check_operands(command: Command, operands: &[String]) -> Result<(), WordFault>
+    ensures { result ≡ passed (operands_fault command 4 [] (map string_bytes operands.now)) }
 {
     for (at, word) in operands.iter().enumerate() {
-        if let Some(kind) = operand_fault(&operands[..at], word.as_str()) {
+        if let Some(kind) = operand_fault(command, &operands[..at], word.as_str()) {
             return refuse((at + OPERANDS_AT) as u64 + 1, kind);
         }
     }
@@ -189,44 +183,99 @@ fn bounds_plan(end: u64, operands: &[String]) -> Result<Plan, WordFault>
     })
 }
 
+fn is_dash(word: Option<&str>) -> bool
+    ensures { result ≡ is_dash (option_copied word.entry) }
+{
+    match word {
+        Some(word) => word == "-",
+        None => false,
+    }
+}
+
+// Standard input holds the trace or the certificate, and not both.
+fn inputs_fault(words: &[String]) -> Option<WordFault>
+    ensures { result ≡ inputs_fault (map string_bytes words.now) }
+{
+    if is_dash(word_at(words, 1)) && is_dash(word_at(words, 2)) {
+        Some(WordFault {
+            place: 3,
+            kind: WordKind::BadValue,
+        })
+    } else {
+        None
+    }
+}
+
+// The plan that these words give, of which the operands are accepted.
+fn check_plan(words: &[String]) -> Result<Plan, WordFault>
+    ensures plan { result ≡ check_plan (map string_bytes words.now) }
+    ensures range { IfOk result IsPlanInRange }
+{
+    let format = required(words.len() as u64 + 1, format_given(operands_of(words)))?;
+    passed(inputs_fault(words))?;
+    Ok(Plan::Check { format })
+}
+
+// The plan of a command, where the operands are accepted.
+fn plan_of_command(command: Command, words: &[String]) -> Result<Plan, WordFault>
+    ensures plan { result ≡ plan_of_command command (map string_bytes words.now) }
+    ensures range { IfOk result IsPlanInRange }
+{
+    match command {
+        Command::Bounds => bounds_plan(words.len() as u64 + 1, operands_of(words)),
+        Command::Check => check_plan(words),
+    }
+}
+
 /// What the words ask for, or the first fault in them. The words are those after the program's name.
 #[tactic(auto, unfolding(crate::specs::Words::plan))]
 pub fn plan_of(words: &[String]) -> Result<Plan, WordFault>
     ensures plan { result ≡ plan (map string_bytes words.now) }
     ensures range { IfOk result IsPlanInRange }
 {
-    expect_command(word_at(words, 0))?;
+    let command = command_of(word_at(words, 0))?;
     expect_path(2, word_at(words, 1))?;
     expect_path(3, word_at(words, 2))?;
     let operands = operands_of(words);
-    check_operands(operands)?;
+    check_operands(command, operands)?;
     passed(block_fault(operands))?;
-    bounds_plan(words.len() as u64 + 1, operands)
+    plan_of_command(command, words)
 }
 
-// The path that a command has at a place, counted from 0.
-fn path_of(words: &[String], at: usize) -> &str
-    ensures { result.now ≡ path_at (map string_bytes words.now) at }
+// The word at a place, counted from 0, or a dash where there is none.
+fn word_or_dash(words: &[String], at: usize) -> &str
+    ensures { result.now ≡ word_or_dash (slice_get (map string_bytes words.now) at) }
 {
-    match words.first() {
-        Some(command) if command.as_str() == "bounds" => match words.get(at) {
-            Some(word) => word.as_str(),
-            None => "-",
-        },
-        _ => "-",
+    match words.get(at) {
+        Some(word) => word.as_str(),
+        None => "-",
     }
 }
 
 /// The paths that the words name.
 pub fn paths_of(words: &[String]) -> Paths<'_>
-    ensures trace { result.trace.now ≡ path_at (map string_bytes words.now) 1 }
-    ensures cert { result.cert.now ≡ path_at (map string_bytes words.now) 2 }
-    ensures made { result.made.now ≡ path_at (map string_bytes words.now) 2 }
+    ensures trace { result.trace.now ≡ trace_path (map string_bytes words.now) }
+    ensures cert { result.cert.now ≡ cert_path (map string_bytes words.now) }
+    ensures made { result.made.now ≡ made_path (map string_bytes words.now) }
 {
-    Paths {
-        trace: path_of(words, 1),
-        cert: path_of(words, 2),
-        made: path_of(words, 2),
+    let trace = word_or_dash(words, 1);
+    let cert = word_or_dash(words, 2);
+    match command_named(word_or_dash(words, 0)) {
+        Some(Command::Bounds) => Paths {
+            trace,
+            cert,
+            made: cert,
+        },
+        Some(Command::Check) => Paths {
+            trace,
+            cert,
+            made: "-",
+        },
+        None => Paths {
+            trace: "-",
+            cert: "-",
+            made: "-",
+        },
     }
 }
 

@@ -5,3 +5,7 @@ use Rattle.cache_model.specs.Texts.{line, text_of}
 -- a line of two pieces
 pub two_pieces : (a b t u v : List ℕ) → u ≡ t ++ a → v ≡ u ++ line b → v ≡ t ++ line (a ++ b)
 two_pieces a b t u v at_u at_v = rw (at_v, at_u) (simp append_assoc)
+
+-- three lines
+pub three_lines : (a b d t u v w : List ℕ) → u ≡ t ++ line a → v ≡ u ++ line b → w ≡ v ++ line d → w ≡ t ++ text_of (a ∷ b ∷ d ∷ [])
+three_lines a b d t u v w at_u at_v at_w = rw (at_w, at_v, at_u) (simp (append_assoc, append-nil))

@@ -1,5 +1,8 @@
 -- The line that tells why a run stopped.
 use Rattle.std.specs.Prelude.{ℕ, List, ◌++◌, codes, decimal}
+use Rattle.cache_model.specs.Texts.{entry}
+use Rattle.cert_format.specs.declared.invalid.InvalidKind.{InvalidKind}
+use Rattle.cert_format.specs.declared.invalid.InvalidKind.TheVariants as invalid
 use Rattle.trace_lines.specs.declared.line.LineKind.{LineKind}
 use Rattle.trace_lines.specs.declared.line.LineKind.TheVariants.{TooFewWords, BadNumber, SizeTooLarge, BadRange, BadType, QuoteByte, TooLong}
 use Rattle.bound_report.specs.declared.refusal.LimitName.{LimitName}
@@ -7,7 +10,7 @@ use Rattle.bound_report.specs.declared.refusal.LimitName.TheVariants.{Requests, 
 use Rattle.bound_report.specs.declared.refusal.WordKind.{WordKind}
 use Rattle.bound_report.specs.declared.refusal.WordKind.TheVariants.{Missing, Unknown, Twice, BadValue}
 use Rattle.bound_report.specs.declared.refusal.Refusal.{Refusal}
-use Rattle.bound_report.specs.declared.refusal.Refusal.TheVariants.{Words, BadLine, Limit, TraceFault, MadeFault, NoMemory}
+use Rattle.bound_report.specs.declared.refusal.Refusal.TheVariants.{Invalid, Words, BadLine, Limit, TraceFault, CertFault, MadeFault, NoMemory}
 
 -- why a word is refused, and the end of the line
 abbrev pub word_kind_text : WordKind → List ℕ
@@ -32,11 +35,35 @@ limit_text Requests = codes "requests 33554432\n"
 limit_text TraceBytes = codes "trace bytes 68719476736\n"
 limit_text Denominator = codes "denominator 281474976710656\n"
 
+-- why a certificate isn't valid
+abbrev pub invalid_kind_text : InvalidKind → List ℕ
+invalid_kind_text invalid.Shape = codes "shape"
+invalid_kind_text invalid.Number = codes "number"
+invalid_kind_text invalid.Range = codes "range"
+invalid_kind_text invalid.TooLong = codes "line too long"
+invalid_kind_text invalid.Truncated = codes "truncated"
+invalid_kind_text invalid.Trailing = codes "trailing"
+invalid_kind_text (invalid.RequestCount written read) = entry (entry (codes "request count") written) read
+invalid_kind_text invalid.SumLimit = codes "sum limit"
+invalid_kind_text (invalid.LastPrice price) = entry (codes "last price") price
+invalid_kind_text (invalid.UnitNotDivisor unit size) = entry (entry (codes "unit") unit ++ codes " size") size
+invalid_kind_text (invalid.NotDivisible weight) = entry (codes "not divisible") weight
+invalid_kind_text (invalid.Overfull load capacity) = entry (entry (codes "overfull") load) capacity
+invalid_kind_text (invalid.FlowAboveWeight flow weight) = entry (entry (codes "flow above weight") flow) weight
+invalid_kind_text (invalid.FlowOverfull load units) = entry (entry (codes "flow overfull") load) units
+invalid_kind_text (invalid.Unused number) = entry (codes "unused flow") number
+invalid_kind_text (invalid.UpperDiffers written counted) = entry (entry (codes "upper differs") written) counted
+invalid_kind_text (invalid.FlowDiffers written counted) = entry (entry (codes "flow differs") written) counted
+invalid_kind_text (invalid.LowerDiffers written counted) = entry (entry (codes "lower differs") written) counted
+invalid_kind_text (invalid.ExactGap upper flow) = entry (entry (codes "exact gap") upper) flow
+
 -- the line that tells why a run stopped
 abbrev pub refusal_line : Refusal → List ℕ
+refusal_line (Invalid line kind) = codes "invalid line " ++ decimal line ++ codes ": " ++ invalid_kind_text kind ++ codes "\n"
 refusal_line (Words place kind) = codes "words: place " ++ decimal place ++ codes ": " ++ word_kind_text kind
 refusal_line (BadLine line kind) = codes "bad line " ++ decimal line ++ codes ": " ++ line_kind_text kind
 refusal_line (Limit name) = codes "limit: " ++ limit_text name
 refusal_line TraceFault = codes "trace fault\n"
+refusal_line CertFault = codes "certificate fault\n"
 refusal_line MadeFault = codes "made fault\n"
 refusal_line NoMemory = codes "no memory\n"

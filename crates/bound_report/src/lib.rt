@@ -1,6 +1,7 @@
-//! Texts for people: the report of bounds, and the line that tells why a run stopped.
+//! Texts for people: the report of bounds, what a check says of a valid certificate, and the line that tells why a run
+//! stopped.
 //!
-//! The rules are "Report of bounds" and "Refusal" in docs/DEFINITIONS.md.
+//! The rules are "Report of bounds", "Verdict" and "Refusal" in docs/DEFINITIONS.md.
 #![tactic(auto)]
 
 mod refusal;
@@ -10,5 +11,7 @@ mod tests;
 mod text;
 
 pub use cache_model::{BoundFacts, Mode, Window};
+pub use cert_checker::Verdict;
+pub use cert_format::InvalidKind;
 pub use refusal::{LimitName, Refusal, RefusalText, WordKind, refusal_text};
-pub use report::report_text;
+pub use report::{report_text, verdict_text};

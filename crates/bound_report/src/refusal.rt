@@ -1,8 +1,10 @@
 //! The line that tells why a run stopped. It takes no memory.
 ghost use Rattle.std.specs.Prelude.{◌≡◌, ◌+◌, ◌≤◌, List, ℕ, [], ◌++◌, length, take, decimal};
-ghost use Rattle.bound_report.specs.Refusals.{limit_text, line_kind_text, refusal_line, word_kind_text};
+ghost use Rattle.cache_model.specs.Texts.{entry};
+ghost use Rattle.bound_report.specs.Refusals.{invalid_kind_text, limit_text, line_kind_text, refusal_line, word_kind_text};
 
 use bound_base::NoMemory;
+use cert_format::InvalidKind;
 use itoa::Buffer;
 use std::marker::Model;
 use trace_lines::LineKind;
@@ -34,6 +36,8 @@ pub enum LimitName {
 /// Why a run stopped.
 #[derive(Clone, Copy, Debug, PartialEq, Eq)]
 pub enum Refusal {
+    /// The certificate isn't valid for the trace. Lines of it count from 1.
+    Invalid { line: u64, kind: InvalidKind },
     /// A word of the command line is refused. Places count from 1.
     Words { place: u64, kind: WordKind },
     /// A line of the trace is refused. Lines count from 1.
@@ -42,6 +46,8 @@ pub enum Refusal {
     Limit(LimitName),
     /// A read of the trace failed.
     TraceFault,
+    /// A read of the certificate failed.
+    CertFault,
     /// A write of the certificate failed.
     MadeFault,
     /// There was not enough memory.
@@ -95,13 +101,34 @@ impl RefusalText {
         self.len = end;
     }
 
-    fn push_number(&mut self, n: u64)
-        requires { length self.old + 20 ≤ 192 }
+    fn push_number(&mut self, n: u128)
+        requires { length self.old + 40 ≤ 192 }
         ensures text { self.new ≡ self.old ++ decimal n }
-        ensures short { length self.new ≤ length self.old + 20 }
+        ensures short { length self.new ≤ length self.old + 40 }
     {
         let mut buffer = Buffer::new();
         self.push(buffer.format(n).as_bytes());
+    }
+
+    // A word and a number.
+    fn push_entry(&mut self, word: &[u8], n: u128)
+        requires { length self.old + length word.now + 41 ≤ 192 }
+        ensures text { self.new ≡ self.old ++ entry word.now n }
+        ensures short { length self.new ≤ length self.old + length word.now + 41 }
+    {
+        self.push(word);
+        self.push(b" ");
+        self.push_number(n);
+    }
+
+    // A word and two numbers.
+    fn push_pair(&mut self, word: &[u8], first: u128, second: u128)
+        requires { length self.old + length word.now + 82 ≤ 192 }
+        ensures text { self.new ≡ self.old ++ entry (entry word.now first) second }
+        ensures short { length self.new ≤ length self.old + length word.now + 82 }
+    {
+        self.push_entry(word, first);
+        self.push_entry(b"", second);
     }
 
     /// The bytes of the line.
@@ -144,7 +171,7 @@ fn push_line_kind(text: &mut RefusalText, kind: LineKind)
         LineKind::TooFewWords => text.push(b"too few words\n"),
         LineKind::BadNumber { word } => {
             text.push(b"number in word ");
-            text.push_number(word as u64);
+            text.push_number(word as u128);
             text.push(b"\n");
         }
         LineKind::SizeTooLarge => text.push(b"size too large\n"),
@@ -155,21 +182,74 @@ fn push_line_kind(text: &mut RefusalText, kind: LineKind)
     }
 }
 
+// Why a certificate isn't valid.
+fn push_invalid_kind(text: &mut RefusalText, kind: InvalidKind)
+    requires { length text.old ≤ 60 }
+    ensures text { text.new ≡ text.old ++ invalid_kind_text kind }
+    ensures short { length text.new ≤ length text.old + 110 }
+{
+    match kind {
+        InvalidKind::Shape => text.push(b"shape"),
+        InvalidKind::Number => text.push(b"number"),
+        InvalidKind::Range => text.push(b"range"),
+        InvalidKind::TooLong => text.push(b"line too long"),
+        InvalidKind::Truncated => text.push(b"truncated"),
+        InvalidKind::Trailing => text.push(b"trailing"),
+        InvalidKind::RequestCount { written, read } => {
+            text.push_pair(b"request count", written, read as u128)
+        }
+        InvalidKind::SumLimit => text.push(b"sum limit"),
+        InvalidKind::LastPrice { price } => text.push_entry(b"last price", price),
+        InvalidKind::UnitNotDivisor { unit, size } => {
+            text.push_entry(b"unit", unit as u128);
+            text.push_entry(b" size", size as u128);
+        }
+        InvalidKind::NotDivisible { weight } => text.push_entry(b"not divisible", weight as u128),
+        InvalidKind::Overfull { load, capacity } => {
+            text.push_pair(b"overfull", load, capacity as u128)
+        }
+        InvalidKind::FlowAboveWeight { flow, weight } => {
+            text.push_pair(b"flow above weight", flow, weight as u128)
+        }
+        InvalidKind::FlowOverfull { load, units } => {
+            text.push_pair(b"flow overfull", load, units as u128)
+        }
+        InvalidKind::Unused { number } => text.push_entry(b"unused flow", number as u128),
+        InvalidKind::UpperDiffers { written, counted } => {
+            text.push_pair(b"upper differs", written, counted)
+        }
+        InvalidKind::FlowDiffers { written, counted } => {
+            text.push_pair(b"flow differs", written, counted)
+        }
+        InvalidKind::LowerDiffers { written, counted } => {
+            text.push_pair(b"lower differs", written, counted)
+        }
+        InvalidKind::ExactGap { upper, flow } => text.push_pair(b"exact gap", upper, flow),
+    }
+}
+
 /// The line that tells why a run stopped, with its end.
 pub fn refusal_text(refusal: &Refusal) -> RefusalText
     ensures { result ≡ refusal_line refusal.now }
 {
     let mut text = RefusalText::new();
     match refusal {
+        Refusal::Invalid { line, kind } => {
+            text.push(b"invalid line ");
+            text.push_number(*line as u128);
+            text.push(b": ");
+            push_invalid_kind(&mut text, *kind);
+            text.push(b"\n");
+        }
         Refusal::Words { place, kind } => {
             text.push(b"words: place ");
-            text.push_number(*place);
+            text.push_number(*place as u128);
             text.push(b": ");
             text.push(word_text(*kind));
         }
         Refusal::BadLine { line, kind } => {
             text.push(b"bad line ");
-            text.push_number(*line);
+            text.push_number(*line as u128);
             text.push(b": ");
             push_line_kind(&mut text, *kind);
         }
@@ -178,6 +258,7 @@ pub fn refusal_text(refusal: &Refusal) -> RefusalText
             text.push(limit_text(*name));
         }
         Refusal::TraceFault => text.push(b"trace fault\n"),
+        Refusal::CertFault => text.push(b"certificate fault\n"),
         Refusal::MadeFault => text.push(b"made fault\n"),
         Refusal::NoMemory => text.push(b"no memory\n"),
     }

@@ -1,10 +1,12 @@
-//! The text of a report of bounds.
-ghost use Rattle.std.specs.Prelude.{◌≡◌, ◌<◌, ◌++◌, OnOk, IfOk};
-ghost use Rattle.cache_model.specs.Texts.{capacity_line, entry, form_word, line, flow_line, mode_line, objective_word, ratio, report_text, trace_line, unit_line, upper_line, window_word};
+//! The texts of a report of bounds and of a check's yes.
+ghost use Rattle.std.specs.Prelude.{◌≡◌, ◌<◌, ◌++◌, codes, OnOk, IfOk};
+ghost use Rattle.bound_report.specs.Verdicts.{verdict_text};
+ghost use Rattle.cache_model.specs.Texts.{capacity_line, entry, form_word, line, flow_line, mode_line, objective_word, ratio, report_text, trace_line, unit_line, upper_line, value_lines, text_of, window_word};
 
 use crate::text::{push, push_entry, push_entry_line, push_line, push_number};
 use bound_base::NoMemory;
 use cache_model::{BoundFacts, Header, Mode, Objective, Window};
+use cert_checker::Verdict;
 use std::alloc::Global;
 
 // The word of an objective.
@@ -115,6 +117,24 @@ fn push_flow_line(text: &mut Vec<u8>, header: &Header) -> Result<(), NoMemory>
     push_line(text, b"")
 }
 
+fn push_form_line(text: &mut Vec<u8>, exact: bool) -> Result<(), NoMemory>
+    ensures { OnOk result (text.new.items ≡ text.old.items ++ line (codes "form " ++ form_word exact)) }
+{
+    push(text, b"form ")?;
+    push_line(text, word_of_form(exact))
+}
+
+// The upper bound, the value of the flows, and the lower bound.
+fn push_value_lines(text: &mut Vec<u8>, header: &Header) -> Result<(), NoMemory>
+    requires { 0 < header.now.denominator }
+    ensures { OnOk result (text.new.items ≡ text.old.items ++ text_of (value_lines header.now)) }
+{
+    push_upper_line(text, header)?;
+    push_flow_line(text, header)?;
+    push_entry_line(text, b"lower", header.lower)?;
+    Ok(())
+}
+
 /// The report of bounds.
 pub fn report_text(alloc: Global, facts: &BoundFacts) -> Result<Vec<u8>, NoMemory>
     requires unit { 0 < facts.now.header.unit }
@@ -128,8 +148,23 @@ pub fn report_text(alloc: Global, facts: &BoundFacts) -> Result<Vec<u8>, NoMemor
     push_mode_line(&mut text, facts.mode, facts.price, header.exact)?;
     push_unit_line(&mut text, header)?;
     push_entry_line(&mut text, b"intervals", facts.intervals as u128)?;
-    push_upper_line(&mut text, header)?;
-    push_flow_line(&mut text, header)?;
-    push_entry_line(&mut text, b"lower", header.lower)?;
+    push_value_lines(&mut text, header)?;
+    Ok(text)
+}
+
+/// What a check says of a valid certificate, where the trace has so many dropped lines.
+pub fn verdict_text(alloc: Global, verdict: &Verdict, dropped: u64) -> Result<Vec<u8>, NoMemory>
+    requires unit { 0 < verdict.now.header.unit }
+    requires denominator { 0 < verdict.now.header.denominator }
+    ensures { IfOk result (λ text. text.items ≡ verdict_text verdict.now dropped) }
+{
+    let header = &verdict.header;
+    let mut text = Vec::new(alloc);
+    push_trace_line(&mut text, header.requests, verdict.objects, dropped)?;
+    push_capacity_line(&mut text, header.capacity, header.objective)?;
+    push_form_line(&mut text, header.exact)?;
+    push_unit_line(&mut text, header)?;
+    push_value_lines(&mut text, header)?;
+    push_line(&mut text, b"valid")?;
     Ok(text)
 }

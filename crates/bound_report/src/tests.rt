@@ -100,3 +100,56 @@ fn refuses_in_one_line(rt: HostRuntime) {
         assert_eq!(rt; text.as_bytes(), want);
     }
 }
+
+#[test]
+fn says_yes_in_eight_lines(rt: HostRuntime) -> Result<(), NoMemory> {
+    let verdict = Verdict {
+        header: HEADER,
+        objects: 2,
+    };
+    let text = verdict_text(rt.alloc(), &verdict, 6)?;
+    let want = b"trace requests 4 objects 2 dropped 6\ncapacity 7 objective bytes\nform exact\n\
+unit 2 units 3 denominator 3\nupper 14/3 floor 4\nflow 13/3\nlower 4\nvalid\n";
+    assert_eq!(rt; text.as_slice(), want.as_slice());
+    Ok(())
+}
+
+#[test]
+fn names_what_makes_a_certificate_invalid(rt: HostRuntime) {
+    let most = u128::MAX;
+    let rows = [
+        (InvalidKind::Shape, b"invalid line 7: shape\n".as_slice()),
+        (
+            InvalidKind::TooLong,
+            b"invalid line 7: line too long\n".as_slice(),
+        ),
+        (
+            InvalidKind::RequestCount {
+                written: 2,
+                read: 3,
+            },
+            b"invalid line 7: request count 2 3\n".as_slice(),
+        ),
+        (
+            InvalidKind::UnitNotDivisor { unit: 3, size: 4 },
+            b"invalid line 7: unit 3 size 4\n".as_slice(),
+        ),
+        (
+            InvalidKind::Unused { number: 1 },
+            b"invalid line 7: unused flow 1\n".as_slice(),
+        ),
+        (
+            InvalidKind::ExactGap {
+                upper: most,
+                flow: 0,
+            },
+            b"invalid line 7: exact gap 340282366920938463463374607431768211455 0\n".as_slice(),
+        ),
+    ];
+    for (kind, want) in rows {
+        let text = refusal_text(&Refusal::Invalid { line: 7, kind });
+        assert_eq!(rt; text.as_bytes(), want);
+    }
+    let text = refusal_text(&Refusal::CertFault);
+    assert_eq!(rt; text.as_bytes(), b"certificate fault\n".as_slice());
+}

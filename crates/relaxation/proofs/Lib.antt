@@ -4,3 +4,11 @@ pub mod RunningSums
 pub mod Bounds
 pub mod Loads
 pub mod Values
+pub mod WholeArcs
+pub mod PartCosts
+pub mod PartArcs
+pub mod Gathering
+pub mod Listing
+pub mod Merging
+pub mod Starting
+pub mod Numbering

@@ -4,18 +4,27 @@
 //! Harchol-Balter 2018. What is said of prices here holds of every play that the rules allow.
 #![tactic(auto)]
 
+mod arcs;
+mod chain;
 mod denominators;
 mod flows;
-mod instance;
+mod parts;
 mod prices;
+mod starts;
 #[cfg(test)]
 mod tests;
 mod units;
+#[cfg(test)]
+mod window_tests;
+mod windows;
 
+pub use arcs::instance;
 pub use cache_model::Interval;
+pub use chain::Instance;
 pub use denominators::{Denominator, DenominatorChoice, DenominatorLimit, denominator_for};
 pub use flow_model::OuterArc;
 pub use flows::{FlowFault, flow_value};
-pub use instance::Instance;
+pub use parts::window_instance;
 pub use prices::{PriceFault, Sums, bound_of};
 pub use units::unit_of;
+pub use windows::Windows;

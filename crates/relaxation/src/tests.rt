@@ -1,7 +1,7 @@
 //! The calls over small traces, with what was worked out by hand.
 use crate::{
-    DenominatorChoice, DenominatorLimit, FlowFault, PriceFault, Sums, bound_of, denominator_for,
-    flow_value, unit_of,
+    DenominatorChoice, DenominatorLimit, FlowFault, OuterArc, PriceFault, Sums, bound_of,
+    denominator_for, flow_value, instance, unit_of,
 };
 use cache_rules::{Builder, Object, Objective};
 use interval_maker::{Intervals, make};
@@ -105,5 +105,30 @@ fn denominator_is_within_its_limit(rt: HostRuntime) -> Result<(), Fail> {
     let bytes = intervals_of(&rt, rt.alloc(), &sizes, Objective::Bytes)?;
     let auto = denominator_for(&bytes, 1, DenominatorChoice::Auto);
     assert_eq!(rt; auto.map(|d| (d.value, d.exact)), Ok((1, true)));
+    Ok(())
+}
+
+fn arc(start: u32, end: u32, weight: u64, cost: u128) -> OuterArc {
+    OuterArc {
+        start,
+        end,
+        weight,
+        cost,
+    }
+}
+
+// Sizes 2 and 3 by turns: the costs are 6 / 2 and 6 / 3, and over 4 the second is 4 / 3, rounded up.
+#[test]
+fn has_an_arc_for_each_interval(rt: HostRuntime) -> Result<(), Fail> {
+    let intervals = intervals_of(&rt, rt.alloc(), &[2, 3, 2, 3], Objective::Object)?;
+    let rows = [
+        (6, [arc(0, 2, 2, 3), arc(1, 3, 3, 2)]),
+        (4, [arc(0, 2, 2, 2), arc(1, 3, 3, 2)]),
+    ];
+    for (denominator, arcs) in rows {
+        let whole = instance(rt.alloc(), &intervals, 1, 4, denominator)?;
+        assert_eq!(rt; (whole.steps(), whole.units()), (4, 4));
+        assert_eq!(rt; whole.arcs(), arcs.as_slice(), "over {denominator}");
+    }
     Ok(())
 }

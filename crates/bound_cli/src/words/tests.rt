@@ -152,9 +152,20 @@ fn names_what_is_refused_beside_a_block(rt: HostRuntime) -> Result<(), Fail> {
 fn names_the_first_of_the_command_and_its_paths(rt: HostRuntime) -> Result<(), Fail> {
     let (missing, unknown) = (WordKind::Missing, WordKind::Unknown);
     let bad_value = WordKind::BadValue;
-    let rows: [(&str, u64, WordKind); 13] = [
+    let twice = WordKind::Twice;
+    let rows: [(&str, u64, WordKind); 23] = [
         ("", 1, unknown),
-        ("check", 1, unknown),
+        ("replay", 1, unknown),
+        ("check", 2, missing),
+        ("check t ", 3, bad_value),
+        ("check t c", 4, missing),
+        ("check - -", 4, missing),
+        ("check - - format=webcache", 3, bad_value),
+        ("check - - format=webcache capacity=2", 5, unknown),
+        ("check - - format=x", 4, bad_value),
+        ("check t c mode=infinite", 4, unknown),
+        ("check t c block=512 format=arc", 4, unknown),
+        ("check t c format=arc format=arc", 5, twice),
         ("Bounds t c", 1, unknown),
         ("format=webcache capacity=2 mode=infinite", 1, unknown),
         ("bounds", 2, missing),
@@ -342,6 +353,38 @@ fn names_what_is_refused_of_a_mode_and_a_denominator(rt: HostRuntime) -> Result<
     for (operands, place, kind) in rows {
         let text = format!(in rt.alloc(); "bounds t c {operands}")?;
         check(&rt, rt.alloc(), &text, Err(WordFault { place, kind }))?;
+    }
+    Ok(())
+}
+
+#[test]
+fn a_check_takes_the_form_of_the_trace(rt: HostRuntime) -> Result<(), Fail> {
+    let rows: [(&str, Format); 5] = [
+        ("check t c format=webcache", Format::Webcache),
+        ("check - c format=arc", Format::Arc),
+        ("check t - format=msr", Format::Msr { block: 4096 }),
+        ("check t c block=1 format=msr", Format::Msr { block: 1 }),
+        ("check -- - format=arc", Format::Arc),
+    ];
+    for (text, format) in rows {
+        check(&rt, rt.alloc(), text, Ok(Plan::Check { format }))?;
+    }
+    Ok(())
+}
+
+#[test]
+fn paths_are_those_of_the_command(rt: HostRuntime) -> Result<(), Fail> {
+    let rows: [(&str, [&str; 3]); 6] = [
+        ("bounds t c", ["t", "c", "c"]),
+        ("check t c", ["t", "c", "-"]),
+        ("check t", ["t", "-", "-"]),
+        ("bounds", ["-", "-", "-"]),
+        ("replay t c", ["-", "-", "-"]),
+        ("", ["-", "-", "-"]),
+    ];
+    for (text, [trace, cert, made]) in rows {
+        let words = words_of(rt.alloc(), text)?;
+        assert_eq!(&rt; paths_of(&words), Paths { trace, cert, made }, "{text}");
     }
     Ok(())
 }

@@ -26,6 +26,14 @@ impl Model for Instance {
 }
 
 impl Instance {
+    // The instance that has these arcs.
+    pub(crate) fn new(steps: u32, units: u64, arcs: Vec<OuterArc>) -> Instance
+        requires { IsInstance (record { steps = steps; units = units; arcs = arcs.items }) }
+        ensures { result ≡ record { steps = steps; units = units; arcs = arcs.items } }
+    {
+        Instance { steps, units, arcs }
+    }
+
     /// The instance of the arcs, which are copied: 32 bytes for each.
     pub fn from_arcs(
         alloc: Global,

@@ -1,0 +1,151 @@
+//! Runs whose words are taken or refused.
+use super::*;
+use crate::words::WordFault;
+use bound_report::WordKind;
+
+const ROWS: [Row<'static>; 10] = [
+    Row {
+        shows: "no words",
+        words: &[],
+        status: Status::Words(WordFault {
+            place: 1,
+            kind: WordKind::Missing,
+        }),
+        report: b"words: place 1: missing\n",
+        made: b"",
+        ..GOOD
+    },
+    Row {
+        shows: "a capacity is missing",
+        words: &["bounds", "t", "c", "format=webcache"],
+        status: Status::Words(WordFault {
+            place: 5,
+            kind: WordKind::Missing,
+        }),
+        report: b"words: place 5: missing\n",
+        made: b"",
+        ..GOOD
+    },
+    Row {
+        shows: "a capacity of 0, before a word that is missing and a trace that would fail",
+        words: &["bounds", "t", "c", "format=webcache", "capacity=0"],
+        trace_fails: &[1],
+        status: Status::Words(WordFault {
+            place: 5,
+            kind: WordKind::BadValue,
+        }),
+        report: b"words: place 5: bad value\n",
+        made: b"",
+        ..GOOD
+    },
+    Row {
+        shows: "an empty path",
+        words: &["bounds", "t", "", "format=webcache", "capacity=0"],
+        status: Status::Words(WordFault {
+            place: 3,
+            kind: WordKind::BadValue,
+        }),
+        report: b"words: place 3: bad value\n",
+        made: b"",
+        ..GOOD
+    },
+    Row {
+        shows: "a block beside a form of the trace that takes none, before a word that is missing",
+        words: &["bounds", "t", "c", "block=512", "format=webcache"],
+        trace_fails: &[1],
+        status: Status::Words(WordFault {
+            place: 4,
+            kind: WordKind::Unknown,
+        }),
+        report: b"words: place 4: unknown\n",
+        made: b"",
+        ..GOOD
+    },
+    Row {
+        shows: "a mode that is not built",
+        words: &[
+            "bounds",
+            "t",
+            "c",
+            "format=webcache",
+            "capacity=10",
+            "mode=flow",
+        ],
+        status: Status::Words(WordFault {
+            place: 6,
+            kind: WordKind::BadValue,
+        }),
+        report: b"words: place 6: bad value\n",
+        made: b"",
+        ..GOOD
+    },
+    Row {
+        shows: "a seventh word",
+        words: &[
+            "bounds",
+            "t",
+            "c",
+            "format=webcache",
+            "capacity=10",
+            "mode=infinite",
+            "more",
+        ],
+        status: Status::Words(WordFault {
+            place: 7,
+            kind: WordKind::Unknown,
+        }),
+        report: b"words: place 7: unknown\n",
+        made: b"",
+        ..GOOD
+    },
+    Row {
+        shows: "a capacity that stood before",
+        words: &[
+            "bounds",
+            "t",
+            "c",
+            "format=webcache",
+            "capacity=10",
+            "capacity=10",
+        ],
+        status: Status::Words(WordFault {
+            place: 6,
+            kind: WordKind::Twice,
+        }),
+        report: b"words: place 6: twice\n",
+        made: b"",
+        ..GOOD
+    },
+    Row {
+        shows: "a mode is missing after the last word",
+        words: &["bounds", "t", "c", "capacity=10", "format=webcache"],
+        status: Status::Words(WordFault {
+            place: 6,
+            kind: WordKind::Missing,
+        }),
+        report: b"words: place 6: missing\n",
+        made: b"",
+        ..GOOD
+    },
+    Row {
+        shows: "operands in another order, with the objective",
+        words: &[
+            "bounds",
+            "t",
+            "c",
+            "objective=object",
+            "mode=infinite",
+            "capacity=010",
+            "format=webcache",
+        ],
+        ..GOOD
+    },
+];
+
+#[test]
+fn words_are_taken_or_refused_at_their_place(rt: HostRuntime) -> Result<(), Fail> {
+    for row in &ROWS {
+        check(&rt, rt.alloc(), row)?;
+    }
+    Ok(())
+}

@@ -1,0 +1,250 @@
+//! Lines of traces that are read, skipped or refused.
+ghost use Rattle.std.specs.Prelude.{◌≤◌};
+
+use super::*;
+use bound_io::CalmSource;
+use trace_lines::LineKind;
+
+const MSR_WORDS: [&str; 6] = [
+    "bounds",
+    "t",
+    "c",
+    "format=msr",
+    "capacity=12288",
+    "mode=infinite",
+];
+
+// Traces with all that a line may have, and the lines that are refused.
+const TRACE_ROWS: [Row<'static>; 9] = [
+    Row {
+        shows: "a CR before the LF, and no LF at the end",
+        trace: b"1 7 4\r\n2 7 4",
+        ..GOOD
+    },
+    Row {
+        shows: "a line that asks for no byte",
+        trace: b"1 7 4\n5 7 0\n6 7 4\n",
+        report: b"trace requests 2 objects 1 dropped 1\ncapacity 10 objective object\n\
+mode infinite form plain\nunit 4 units 2 denominator 1\nintervals 1\nupper 1/1 floor 1\nflow 0/1\nlower 1\n",
+        ..GOOD
+    },
+    Row {
+        shows: "tabs, further words, leading zeros, a time that is no number, and blank lines",
+        trace: b"\n \t\nnoon\t7  04 GET\n\r\n\t2 007\t4\t\r\n",
+        ..GOOD
+    },
+    Row {
+        shows: "a hit gains its bytes",
+        words: &[
+            "bounds",
+            "t",
+            "c",
+            "objective=bytes",
+            "format=webcache",
+            "capacity=5",
+            "mode=infinite",
+        ],
+        trace: b"1 1 2\n2 2 3\n3 1 2\n4 2 3\n",
+        report: b"trace requests 4 objects 2 dropped 0\ncapacity 5 objective bytes\n\
+mode infinite form plain\nunit 1 units 5 denominator 1\nintervals 2\nupper 5/1 floor 5\nflow 0/1\nlower 5\n",
+        made: b"cache-bound-certificate 1\nobjective bytes\ncapacity 5\nrequests 4\nunit 1\n\
+denominator 1\nform plain\nupper 5\nflow 0\nlower 5\nrecords\n0 1 0\n0 1 0\n0 0 0\n0 0 0\nend\n",
+        ..GOOD
+    },
+    Row {
+        shows: "the largest size, above the capacity",
+        trace: b"1 7 281474976710656\n",
+        report: b"trace requests 1 objects 1 dropped 0\ncapacity 10 objective object\n\
+mode infinite form plain\nunit 1 units 10 denominator 1\nintervals 0\nupper 0/1 floor 0\nflow 0/1\nlower 0\n",
+        made: b"cache-bound-certificate 1\nobjective object\ncapacity 10\nrequests 1\nunit 1\n\
+denominator 1\nform plain\nupper 0\nflow 0\nlower 0\nrecords\n0 0 0\nend\n",
+        ..GOOD
+    },
+    Row {
+        shows: "a size past the largest",
+        trace: b"1 7 281474976710657\n",
+        status: Status::BadLine {
+            line: 1,
+            kind: LineKind::SizeTooLarge,
+        },
+        report: b"bad line 1: size too large\n",
+        made: b"",
+        ..GOOD
+    },
+    Row {
+        shows: "an id that is no number",
+        trace: b"1 7 4\n2 x 4\n",
+        status: Status::BadLine {
+            line: 2,
+            kind: LineKind::BadNumber { word: 2 },
+        },
+        report: b"bad line 2: number in word 2\n",
+        made: b"",
+        ..GOOD
+    },
+    Row {
+        shows: "a size that is no number, after a line that is skipped",
+        trace: b"1 7 4\n\n3 7 4x\n4 x 4\n",
+        status: Status::BadLine {
+            line: 3,
+            kind: LineKind::BadNumber { word: 3 },
+        },
+        report: b"bad line 3: number in word 3\n",
+        made: b"",
+        ..GOOD
+    },
+    Row {
+        shows: "a line of two words",
+        trace: b"1 7",
+        status: Status::BadLine {
+            line: 1,
+            kind: LineKind::TooFewWords,
+        },
+        report: b"bad line 1: too few words\n",
+        made: b"",
+        ..GOOD
+    },
+];
+
+// Block traces, and the lines of them that are refused.
+const BLOCK_ROWS: [Row<'static>; 5] = [
+    Row {
+        shows: "ranges of blocks",
+        words: &[
+            "bounds",
+            "t",
+            "c",
+            "format=arc",
+            "capacity=1024",
+            "mode=infinite",
+        ],
+        trace: b"10 3 0 1\n11 2 0 2\n",
+        report: b"trace requests 5 objects 3 dropped 0\ncapacity 1024 objective object\n\
+mode infinite form plain\nunit 512 units 2 denominator 1\nintervals 2\nupper 2/1 floor 2\nflow 0/1\nlower 2\n",
+        made: b"cache-bound-certificate 1\nobjective object\ncapacity 1024\nrequests 5\nunit 512\n\
+denominator 1\nform plain\nupper 2\nflow 0\nlower 2\nrecords\n0 0 0\n0 1 0\n0 1 0\n0 0 0\n0 0 0\nend\n",
+        ..GOOD
+    },
+    Row {
+        shows: "the blocks of two reads, of the usual size",
+        words: &MSR_WORDS,
+        trace: b"128166372003061629,usr,0,Read,7014609920,24576,41286\n\
+128166372003061629,usr,0,Read,7014609920,24576,41286\n",
+        report: b"trace requests 14 objects 7 dropped 0\ncapacity 12288 objective object\n\
+mode infinite form plain\nunit 4096 units 3 denominator 1\nintervals 7\nupper 7/1 floor 7\nflow 0/1\nlower 3\n",
+        made: b"cache-bound-certificate 1\nobjective object\ncapacity 12288\nrequests 14\nunit 4096\n\
+denominator 1\nform plain\nupper 7\nflow 0\nlower 3\nrecords\n0 1 0\n0 1 0\n0 1 0\n0 0 0\n0 0 0\n0 0 0\n\
+0 0 0\n0 0 0\n0 0 0\n0 0 0\n0 0 0\n0 0 0\n0 0 0\n0 0 0\nend\n",
+        ..GOOD
+    },
+    Row {
+        shows: "a range past the last block",
+        words: &[
+            "bounds",
+            "t",
+            "c",
+            "format=arc",
+            "capacity=1024",
+            "mode=infinite",
+        ],
+        trace: b"18446744073709551615 2 0 1\n",
+        status: Status::BadLine {
+            line: 1,
+            kind: LineKind::BadRange,
+        },
+        report: b"bad line 1: block range\n",
+        made: b"",
+        ..GOOD
+    },
+    Row {
+        shows: "a type that is none",
+        words: &MSR_WORDS,
+        trace: b"1,h,0,Trim,0,512,1\n",
+        status: Status::BadLine {
+            line: 1,
+            kind: LineKind::BadType,
+        },
+        report: b"bad line 1: type\n",
+        made: b"",
+        ..GOOD
+    },
+    Row {
+        shows: "a quote",
+        words: &MSR_WORDS,
+        trace: b"1,\"h\",0,Read,0,512,1\n",
+        status: Status::BadLine {
+            line: 1,
+            kind: LineKind::QuoteByte,
+        },
+        report: b"bad line 1: quote\n",
+        made: b"",
+        ..GOOD
+    },
+];
+
+// The same, however the bytes of the trace are cut.
+fn check_steps(rt: &impl Abort, alloc: Global, row: &Row<'_>) -> Result<(), Fail> {
+    for step in [1, 2, 7, 65535, 65536, 65537] {
+        check_at(rt, alloc, row, step)?;
+    }
+    Ok(())
+}
+
+#[test]
+fn traces_are_read_or_refused_at_their_line(rt: HostRuntime) -> Result<(), Fail> {
+    for row in &TRACE_ROWS {
+        check_steps(&rt, rt.alloc(), row)?;
+    }
+    Ok(())
+}
+
+#[test]
+fn block_traces_are_read_or_refused_at_their_line(rt: HostRuntime) -> Result<(), Fail> {
+    for row in &BLOCK_ROWS {
+        check_steps(&rt, rt.alloc(), row)?;
+    }
+    Ok(())
+}
+
+// A line of one request, whose text has so many bytes.
+fn padded(alloc: Global, bytes: usize) -> Result<Vec<u8>, AllocError> {
+    let mut text = b"1 7 4".to_vec(alloc)?;
+    for _ in text.len()..bytes {
+        text.push(b' ')?;
+    }
+    text.push(b'\n')?;
+    Ok(text)
+}
+
+// The status of a run over a trace of one line with so many bytes of text, read in steps.
+fn check_long(
+    rt: &impl Abort,
+    alloc: Global,
+    bytes: usize,
+    step: usize,
+    status: Status,
+) -> Result<(), Fail>
+    requires { 1 ≤ step }
+{
+    let words = words_of(alloc, &WORDS)?;
+    let mut trace = MemSource::new(padded(alloc, bytes)?, Vec::new(alloc), step);
+    let mut cert = CalmSource::new(Vec::new(alloc));
+    let mut report = MemSink::new(alloc, 4096, Vec::new(alloc), 4096)?;
+    let mut made = MemSink::new(alloc, 4096, Vec::new(alloc), 4096)?;
+    let found = run(alloc, &words, &mut trace, &mut cert, &mut report, &mut made);
+    assert_eq!(rt; found, status, "{bytes} bytes, step {step}");
+    Ok(())
+}
+
+#[test]
+fn a_text_has_at_most_65535_bytes(rt: HostRuntime) -> Result<(), Fail> {
+    let too_long = Status::BadLine {
+        line: 1,
+        kind: LineKind::TooLong,
+    };
+    for step in [7, 65535, 65536, 65537] {
+        check_long(&rt, rt.alloc(), 65535, step, Status::Done)?;
+        check_long(&rt, rt.alloc(), 65536, step, too_long)?;
+    }
+    Ok(())
+}

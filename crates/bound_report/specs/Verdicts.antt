@@ -1,0 +1,18 @@
+-- What a check says where it says yes.
+use Rattle.std.specs.Prelude.{ℕ, List, ◌∷◌, ◌++◌, [], codes}
+use Rattle.cache_model.specs.Texts.{capacity_line, form_word, text_of, trace_line, unit_line, value_lines}
+use Rattle.cert_checker.specs.declared.verdict.Verdict.{Verdict}
+
+-- the eight lines of a yes
+abbrev pub verdict_lines : Verdict → ℕ → List (List ℕ)
+verdict_lines v dropped =
+    let h = v.header in
+    trace_line h.requests v.objects dropped
+    ∷ capacity_line h.capacity h.objective
+    ∷ (codes "form " ++ form_word h.exact)
+    ∷ unit_line h
+    ∷ value_lines h ++ codes "valid" ∷ []
+
+-- the text of a yes
+abbrev pub verdict_text : Verdict → ℕ → List ℕ
+verdict_text v dropped = text_of (verdict_lines v dropped)

@@ -1,0 +1,18 @@
+use Rattle.std.proofs.Common.{sym, subst}
+use Rattle.flow_model.specs.Instances.{Instance, IsInstance}
+use Rattle.relaxation.proofs.Whole.{timeline_weights}
+use Rattle.relaxation.proofs.WholeArcs.{whole_is_instance, whole_all}
+use Rattle.relaxation.proofs.arcs.instance.Goals as goal
+
+pub arc_of-requires-clause-weight : goal.arc_of-requires-clause-weight
+arc_of-requires-clause-weight c =
+    let weights = rw (← c.as_slice-items.ensures.items) at (timeline_weights c.args.intervals.now c.args.unit c.as_slice-items.ensures.timeline c.requires.unit c.requires.divides) in
+    weights c.loop-interval.interval-index _ c.loop-interval-test.true
+
+pub new-requires : goal.new-requires
+new-requires c =
+    let made = rw c.as_slice-items.ensures.items at c.loop-interval.invariant.arcs in
+    let past = rw c.as_slice-items.ensures.items at c.loop-interval-test.false in
+    let whole = whole_is_instance c.args.intervals.now c.args.unit c.args.units c.args.denominator c.steps.ensures.timeline c.requires.unit c.requires.divides c.requires.units.0 c.requires.units.1 c.requires.denominator.1 in
+    rw c.steps.ensures.steps
+    (subst (λ (i : Instance). IsInstance i) (sym (whole_all c.args.intervals.now c.args.unit c.args.units c.args.denominator c.loop-interval.interval-index c.loop-interval.arcs.items past made)) whole)

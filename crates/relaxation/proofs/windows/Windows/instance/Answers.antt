@@ -1,0 +1,44 @@
+use Rattle.std.proofs.Common.{◌≡◌, ◌∙◌, ap}
+use Rattle.flow_model.specs.Windows.{meets, window_instance}
+use Rattle.relaxation.specs.Cuts.{Cut, numbers_where}
+use Rattle.relaxation.proofs.PartArcs.{is_window, window_made}
+use Rattle.relaxation.proofs.Numbering.{met_at, parts_of_numbers}
+use Rattle.relaxation.proofs.windows.Windows.instance.Goals as goal
+
+pub bounds-arcs-number : goal.bounds-arcs-number
+bounds-arcs-number c =
+    let are : c.deref-number-items.result.now ≡ numbers_where (meets c.new-window.result.width c.new-window.result.number) c.arcs-arcs.result.now =
+    rw (c.new-window.ensures.width, c.new-window.ensures.number, c.arcs-arcs.ensures.arcs) (c.deref-number-items.ensures.value ∙ c.self.invariant.arcs) in
+    (met_at c.new-window.result.width c.new-window.result.number c.arcs-arcs.result.now c.deref-number-items.result.now c.loop-number.number-index are c.loop-number-test.true).within
+
+pub part_of-requires-clause-met : goal.part_of-requires-clause-met
+part_of-requires-clause-met c =
+    let are : c.deref-number-items.result.now ≡ numbers_where (meets c.new-window.result.width c.new-window.result.number) c.arcs-arcs.result.now =
+    rw (c.new-window.ensures.width, c.new-window.ensures.number, c.arcs-arcs.ensures.arcs) (c.deref-number-items.ensures.value ∙ c.self.invariant.arcs) in
+    (met_at c.new-window.result.width c.new-window.result.number c.arcs-arcs.result.now c.deref-number-items.result.now c.loop-number.number-index are c.loop-number-test.true).steps
+
+pub part_of-requires-clause-order : goal.part_of-requires-clause-order
+part_of-requires-clause-order c =
+    let are : c.deref-number-items.result.now ≡ numbers_where (meets c.new-window.result.width c.new-window.result.number) c.arcs-arcs.result.now =
+    rw (c.new-window.ensures.width, c.new-window.ensures.number, c.arcs-arcs.ensures.arcs) (c.deref-number-items.ensures.value ∙ c.self.invariant.arcs) in
+    (met_at c.new-window.result.width c.new-window.result.number c.arcs-arcs.result.now c.deref-number-items.result.now c.loop-number.number-index are c.loop-number-test.true).order
+
+pub new-requires : goal.new-requires
+new-requires c =
+    let whole = c.self.inside.whole.now in
+    let past = rw c.deref-number-items.ensures.value at c.loop-number-test.false in
+    let made = rw c.arcs-arcs.ensures.arcs at c.loop-number.invariant.parts in
+    let parts = parts_of_numbers c.self.inside.width c.self.inside.number c.loop-number.number-index whole.arcs c.self.inside.met.items c.loop-number.parts.items c.self.invariant.arcs past made in
+    let steps = rw (c.steps.ensures, c.new-window.ensures.width, c.new-window.ensures.number) at c.steps_within.ensures in
+    is_window whole c.self.inside.width c.self.inside.number c.steps_within.result c.units.result c.loop-number.parts.items c.arcs-arcs.ensures.in_range steps c.units.ensures parts
+
+pub returns : goal.returns
+returns c =
+    let whole = c.self.inside.whole.now in
+    let past = rw c.deref-number-items.ensures.value at c.loop-number-test.false in
+    let made = rw c.arcs-arcs.ensures.arcs at c.loop-number.invariant.parts in
+    let parts = parts_of_numbers c.self.inside.width c.self.inside.number c.loop-number.number-index whole.arcs c.self.inside.met.items c.loop-number.parts.items c.self.invariant.arcs past made in
+    let steps = rw (c.steps.ensures, c.new-window.ensures.width, c.new-window.ensures.number) at c.steps_within.ensures in
+    c.new.ensures
+    ∙ window_made whole c.self.inside.width c.self.inside.number c.steps_within.result c.units.result c.loop-number.parts.items steps c.units.ensures parts
+    ∙ ap (λ (cut : Cut). window_instance cut.whole cut.width cut.number) c.self.view_is

@@ -1,0 +1,6 @@
+pub mod Ranking
+pub mod Lists
+pub mod Taking
+pub mod Fitting
+pub mod Flags
+pub mod EqualSizes
