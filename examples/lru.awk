@@ -1,0 +1,19 @@
+# Replays least recently used on a webcache trace, by the rules of play of the bounds: awk -v capacity=BYTES -f lru.awk.
+# An object is an id and a size. One that is larger than the capacity is never kept.
+BEGIN { oldest = 1 }
+NF == 0 || $3 + 0 == 0 || $3 + 0 > capacity + 0 { next }
+{
+    object = $2 " " $3
+    if (object in latest) { hits++; bytes += $3 } else held += $3
+    latest[object] = ++uses
+    used[uses] = object
+    for (; held > capacity + 0; oldest++) {
+        if (latest[used[oldest]] == oldest) {
+            split(used[oldest], words)
+            held -= words[2]
+            delete latest[used[oldest]]
+        }
+        delete used[oldest]
+    }
+}
+END { printf "hits %d bytes %.0f\n", hits, bytes }
