@@ -29,7 +29,8 @@ use cache_rules::{Objective, Trace, score};
 use cert_format::{write_end, write_header, write_record};
 use interval_maker::{Intervals, make};
 use relaxation::{
-    Denominator, DenominatorChoice, PriceFault, Sums, bound_of, denominator_for, flow_value, unit_of,
+    Denominator, DenominatorChoice, PriceFault, Sums, bound_of, denominator_for, flow_value,
+    unit_of,
 };
 use schedule_round::{Keeps, round};
 use std::alloc::Global;
@@ -117,13 +118,7 @@ fn upper_of(
     ensures small { IfOk result (λ u. u < 2 ^ 127) }
 {
     match Sums::new(alloc, prices, scale.units) {
-        Ok(sums) => Ok(bound_of(
-            intervals,
-            scale.unit,
-            scale.units,
-            scale.denominator,
-            &sums,
-        )),
+        Ok(sums) => Ok(bound_of(intervals, scale.unit, scale.units, scale.denominator, &sums)),
         Err(PriceFault::NoMemory) => Err(NoMemory),
         Err(PriceFault::SumLimit { .. }) => unreachable!(),
     }
@@ -138,13 +133,7 @@ fn flow_of(intervals: &Intervals, scale: Scale, flows: &[u64]) -> u128
     ensures value { result ≡ flow_value intervals.now.items scale.unit scale.denominator flows.now }
     ensures small { result < 2 ^ 127 }
 {
-    match flow_value(
-        intervals,
-        scale.unit,
-        scale.units,
-        scale.denominator,
-        flows,
-    ) {
+    match flow_value(intervals, scale.unit, scale.units, scale.denominator, flows) {
         Ok(value) => value,
         Err(_) => unreachable!(),
     }

@@ -26,14 +26,28 @@ const ROWS: [FlowRow<'static>; 15] = [
     },
     FlowRow {
         shows: "one window of as many steps",
-        words: &["bounds", "t", "c", "format=webcache", "capacity=2", "window=6"],
+        words: &[
+            "bounds",
+            "t",
+            "c",
+            "format=webcache",
+            "capacity=2",
+            "window=6",
+        ],
         trace: CYCLE_TRACE,
         begins: b"trace requests 6 objects 3 dropped 0\ncapacity 2 objective object\nmode flow window 6 form exact\nunit 1 units 2 denominator 1\nintervals 3\nupper 2/1 floor 2\n",
         ends: b"flow 2/1\nlower 2\n",
     },
     FlowRow {
         shows: "two windows",
-        words: &["bounds", "t", "c", "format=webcache", "capacity=2", "window=3"],
+        words: &[
+            "bounds",
+            "t",
+            "c",
+            "format=webcache",
+            "capacity=2",
+            "window=3",
+        ],
         trace: CYCLE_TRACE,
         begins: b"trace requests 6 objects 3 dropped 0\ncapacity 2 objective object\nmode flow window 3 form plain\nunit 1 units 2 denominator 1\nintervals 3\nupper 3/1 floor 3\n",
         ends: b"lower 2\n",
@@ -54,14 +68,28 @@ const ROWS: [FlowRow<'static>; 15] = [
     },
     FlowRow {
         shows: "costs that are rounded",
-        words: &["bounds", "t", "c", "format=webcache", "capacity=4", "denominator=4"],
+        words: &[
+            "bounds",
+            "t",
+            "c",
+            "format=webcache",
+            "capacity=4",
+            "denominator=4",
+        ],
         trace: TURNS,
         begins: b"trace requests 4 objects 2 dropped 0\ncapacity 4 objective object\nmode flow window all form plain\nunit 1 units 4 denominator 4\nintervals 2\nupper 8/4 floor 2\n",
         ends: b"lower 1\n",
     },
     FlowRow {
         shows: "bytes of two objects that fit together",
-        words: &["bounds", "t", "c", "format=webcache", "capacity=5", "objective=bytes"],
+        words: &[
+            "bounds",
+            "t",
+            "c",
+            "format=webcache",
+            "capacity=5",
+            "objective=bytes",
+        ],
         trace: TURNS,
         begins: b"trace requests 4 objects 2 dropped 0\ncapacity 5 objective bytes\nmode flow window all form exact\nunit 1 units 5 denominator 1\nintervals 2\nupper 5/1 floor 5\n",
         ends: b"flow 5/1\nlower 5\n",
@@ -111,7 +139,14 @@ const ROWS: [FlowRow<'static>; 15] = [
     },
     FlowRow {
         shows: "bytes of large objects",
-        words: &["bounds", "t", "c", "format=webcache", "capacity=128", "objective=bytes"],
+        words: &[
+            "bounds",
+            "t",
+            "c",
+            "format=webcache",
+            "capacity=128",
+            "objective=bytes",
+        ],
         trace: b"1 1 120\n2 2 64\n3 1 120\n4 3 14\n4 1 120\n",
         begins: b"trace requests 5 objects 3 dropped 0\ncapacity 128 objective bytes\nmode flow window all form exact\nunit 120 units 1 denominator 1\nintervals 2\nupper 240/1 floor 240\n",
         ends: b"flow 240/1\nlower 240\n",
@@ -135,7 +170,13 @@ fn check_row(rt: &impl Abort, alloc: Global, row: &FlowRow<'_>) -> Result<(), Fa
     let shown = row.begins.len() as u64 + row.ends.len() as u64;
     assert!(rt; is_free || report.len() as u64 == shown, "{}", row.shows);
     let format = row.words.get(3).copied().unwrap_or("");
-    expect_yes(rt, alloc, &["check", "t", "c", format], row.trace, &made.cert)
+    expect_yes(
+        rt,
+        alloc,
+        &["check", "t", "c", format],
+        row.trace,
+        &made.cert,
+    )
 }
 
 #[test]

@@ -320,11 +320,7 @@ fn takes_the_denominator_of_its_mode(rt: HostRuntime) -> Result<(), Fail> {
         ),
         ("window=all", flow(Window::All), DenominatorChoice::Auto),
         ("mode=flow", flow(Window::All), DenominatorChoice::Auto),
-        (
-            "window=1",
-            flow(Window::Steps(1)),
-            DenominatorChoice::Auto,
-        ),
+        ("window=1", flow(Window::Steps(1)), DenominatorChoice::Auto),
         (
             "window=33554432 mode=flow",
             flow(Window::Steps(1 << 25)),

@@ -8,7 +8,7 @@ use Rattle.bound_cli.proofs.bounds.bounds_of.Goals as goal
 pub relax-requires-clause-units : goal.relax-requires-clause-units
 relax-requires-clause-units c = (
   some_units c.args.asked.now.capacity c.unit_of-unit.result c.unit_of-unit.ensures.positive
-  (unit-le_capacity c.in_ok-intervals.intervals c.args.asked.now.capacity c.unit_of-unit.result c.requires.capacity.0 c.in_ok-intervals.ensures.timeline c.in_ok-intervals.ensures.fit c.unit_of-unit.ensures.unit),
+      (unit-le_capacity c.in_ok-intervals.intervals c.args.asked.now.capacity c.unit_of-unit.result c.requires.capacity.0 c.in_ok-intervals.ensures.timeline c.in_ok-intervals.ensures.fit c.unit_of-unit.ensures.unit),
   omega (arith, div-le_self c.args.asked.now.capacity c.unit_of-unit.result, c.requires.capacity.1),
 )
 
