@@ -1,15 +1,17 @@
 -- What the solutions of all windows give the whole.
-use Rattle.std.proofs.Common.{◌≡◌, ◌∙◌, ℕ, ◌+◌, ◌-◌, ◌*◌, ◌/◌, ◌<◌, ◌≤◌, ap, sym, refl, subst, true, arith, List, [], ◌∷◌, length, filter, take, drop, get_or, sum, sum_by, ⊎_elim}
+use Rattle.std.proofs.Common.{◌≡◌, ◌∙◌, ℕ, ◌+◌, ◌-◌, ◌*◌, ◌/◌, ◌<◌, ◌≤◌, ap, sym, refl, subst, true, arith, List, [], ◌∷◌, length, filter, take, drop, get_or, sum, sum_by, All, ⊎_elim}
 use Rattle.std.proofs.lemmas.Bool.{cases_lt, lt-ltb, ltb-true}
-use Rattle.std.proofs.lemmas.List.{length-map, take_all}
+use Rattle.std.proofs.lemmas.List.{get_or_past, length-map, take_all}
 use Rattle.std.proofs.Math.Nat.{mul-le-mul_left}
 use Rattle.flow_model.specs.declared.arcs.OuterArc.{OuterArc}
-use Rattle.flow_model.specs.Instances.{Instance, IsInstance, IsSchedule, IsSolution, arc_at, no_arc, load_at, surplus, total_cost, value_at}
+use Rattle.flow_model.specs.Instances.{Instance, IsInstance, IsLeast, IsSchedule, IsSolution, arc_at, no_arc, load_at, surplus, total_cost, value_at}
 use Rattle.flow_model.specs.Windows.{meets, part_of, part_steps, window_instance}
-use Rattle.flow_model.proofs.Equal.{zip_at, zip_from}
+use Rattle.flow_model.proofs.Equal.{solution_is_best, zip_at, zip_from}
 use Rattle.flow_model.proofs.Windows.{windows_are_above}
 use Rattle.window_bounds.specs.Solutions.{AreSolutions, IsLeastFlow, flow_in, prices_in, value_of_windows, window_count}
+use Rattle.window_bounds.proofs.LastPrice.{last_window_price}
 use Rattle.window_bounds.proofs.OneWindow.{flows_whole, window_whole}
+use Rattle.window_bounds.proofs.Paid.{paid_all}
 use Rattle.window_bounds.proofs.Places.{flow_in-le}
 use Rattle.window_bounds.proofs.Rounds.{AreSolved}
 use Rattle.window_bounds.proofs.Schedules.{load-le, load_past}
@@ -121,6 +123,29 @@ module _ (whole : Instance) (width : ℕ) (prices flows : List ℕ) (fits : IsIn
     -- the windows are worth no less than the whole
     pub above_of : value_at whole prices ≤ value_of_windows whole width prices
     above_of = windows_are_above whole width (window_count whole width) prices some (count_enough whole width some) are.each_step fits.arcs_fit
+
+    least_at : (k : ℕ) → k < window_count whole width → IsLeast (window_instance whole width k) (prices_in width k prices)
+    least_at k low = (solution_is_best (window_instance whole width k) (prices_in width k prices) (are.window_flows k) (are.each_window k low)).0
+
+    -- the units are paid at most what the arcs cost
+    pub paid_of : whole.units * sum prices ≤ sum_by (λ arc. arc.weight * arc.cost) whole.arcs
+    paid_of =
+        omega (
+          arith,
+          paid_all whole width (window_count whole width) prices some fits.arcs_fit least_at,
+          ap (λ (ps : List ℕ). whole.units * sum ps) (take_all (width * window_count whole width) prices (omega (arith, are.each_step, count_enough whole width some))),
+        )
+
+    -- a last step that no arc covers has no price
+    pub last_of : All (λ arc. arc.end < whole.steps) whole.arcs → get_or prices (whole.steps - 1) 0 ≡ 0
+    last_of free =
+        ⊎_elim
+        (λ (steps : 0 < whole.steps).
+        let k : ℕ = (whole.steps - 1) / width in
+        let starts : width * k < whole.steps = omega arith in
+        last_window_price whole width k prices (least_at k (counted whole width k some starts)) fits.some_units are.each_step starts (omega arith) free)
+        (λ (none : whole.steps ≤ 0). get_or_past prices (whole.steps - 1) 0 (omega (arith, are.each_step)))
+        (cases_lt 0 whole.steps)
 
     -- with no step there is nothing
     nothing : whole.steps ≡ 0 → IsSolution whole prices flows

@@ -1,5 +1,5 @@
 //! The windows of an instance, solved one after another.
-ghost use Rattle.std.specs.Prelude.{◌≡◌, ℕ, ◌<◌, ◌≤◌, IfOk, length, map, min, slice_index, if◌then◌else◌};
+ghost use Rattle.std.specs.Prelude.{◌≡◌, ℕ, ◌*◌, ◌-◌, ◌<◌, ◌≤◌, All, IfOk, length, map, min, slice_index, slice_index_or, sum, sum_by, if◌then◌else◌};
 ghost use Rattle.flow_model.specs.Instances.{IsSchedule, IsSolution, arc_at, value_at};
 ghost use Rattle.flow_model.specs.Windows.{meets};
 ghost use Rattle.relaxation.specs.Cuts.{numbers_of};
@@ -58,6 +58,8 @@ pub fn solve_windows(
     ensures full { IfOk result (λ s. s.full ≡ full_of whole.now.arcs s.flows) }
     ensures schedule { IfOk result (λ s. IsSchedule whole.now s.flows) }
     ensures above { IfOk result (λ s. value_at whole.now s.prices ≤ value_of_windows whole.now width s.prices) }
+    ensures paid { IfOk result (λ s. whole.now.units * sum s.prices ≤ sum_by (λ arc. arc.weight * arc.cost) whole.now.arcs) }
+    ensures last { IfOk result (λ s. All (λ arc. arc.end < whole.now.steps) whole.now.arcs → slice_index_or s.prices (whole.now.steps - 1) 0 ≡ 0) }
     ensures one_window { IfOk result (λ s. whole.now.steps ≤ width → IsSolution whole.now s.prices s.flows) }
 {
     let mut prices = Vec::with_capacity(alloc, whole.steps() as usize)?;

@@ -6,7 +6,7 @@ use Rattle.flow_network.proofs.Pushed.{written}
 use Rattle.relaxation.specs.Cuts.{Cut}
 use Rattle.window_bounds.proofs.Places.{as_many_parts}
 use Rattle.window_bounds.proofs.Rounds.{AreSolved, solved_none, solved_more}
-use Rattle.window_bounds.proofs.Results.{solutions_of, schedule_of, above_of, one_window_of}
+use Rattle.window_bounds.proofs.Results.{solutions_of, schedule_of, above_of, paid_of, last_of, one_window_of}
 use Rattle.window_bounds.proofs.solving.solve_windows.Goals as goal
 
 pub loop-windows-init : goal.loop-windows-init
@@ -63,36 +63,25 @@ returns-clause-windows c =
 
 pub returns-clause-schedule : goal.returns-clause-schedule
 returns-clause-schedule c =
-    let before = c.loop-windows.invariant in
-    let done = rw (before.whole, before.width) at c.has_step.ensures in
-    let past : c.args.whole.now.steps ≤ c.args.width * c.loop-windows.windows.number =
-    ⊎_elim (λ (more : c.args.width * c.loop-windows.windows.number < c.args.whole.now.steps). absurd (false≢true (sym c.loop-windows-test.false ∙ done.1 more)))
-    (λ (all : c.args.whole.now.steps ≤ c.args.width * c.loop-windows.windows.number). all)
-    (cases_lt (c.args.width * c.loop-windows.windows.number) c.args.whole.now.steps) in
     let some : 0 < c.args.width = omega (arith, c.requires) in
-    let are = solutions_of c.args.whole.now c.args.width c.loop-windows.prices.items c.loop-windows.flows.items c.arcs.ensures.in_range some c.loop-windows.windows.number past before.solved in
-    schedule_of c.args.whole.now c.args.width c.loop-windows.prices.items c.loop-windows.flows.items c.arcs.ensures.in_range some are
+    schedule_of c.args.whole.now c.args.width c.loop-windows.prices.items c.loop-windows.flows.items c.arcs.ensures.in_range some (returns-clause-windows c)
 
 pub returns-clause-above : goal.returns-clause-above
 returns-clause-above c =
-    let before = c.loop-windows.invariant in
-    let done = rw (before.whole, before.width) at c.has_step.ensures in
-    let past : c.args.whole.now.steps ≤ c.args.width * c.loop-windows.windows.number =
-    ⊎_elim (λ (more : c.args.width * c.loop-windows.windows.number < c.args.whole.now.steps). absurd (false≢true (sym c.loop-windows-test.false ∙ done.1 more)))
-    (λ (all : c.args.whole.now.steps ≤ c.args.width * c.loop-windows.windows.number). all)
-    (cases_lt (c.args.width * c.loop-windows.windows.number) c.args.whole.now.steps) in
     let some : 0 < c.args.width = omega (arith, c.requires) in
-    let are = solutions_of c.args.whole.now c.args.width c.loop-windows.prices.items c.loop-windows.flows.items c.arcs.ensures.in_range some c.loop-windows.windows.number past before.solved in
-    above_of c.args.whole.now c.args.width c.loop-windows.prices.items c.loop-windows.flows.items c.arcs.ensures.in_range some are
+    above_of c.args.whole.now c.args.width c.loop-windows.prices.items c.loop-windows.flows.items c.arcs.ensures.in_range some (returns-clause-windows c)
+
+pub returns-clause-paid : goal.returns-clause-paid
+returns-clause-paid c =
+    let some : 0 < c.args.width = omega (arith, c.requires) in
+    paid_of c.args.whole.now c.args.width c.loop-windows.prices.items c.loop-windows.flows.items c.arcs.ensures.in_range some (returns-clause-windows c)
+
+pub returns-clause-last : goal.returns-clause-last
+returns-clause-last c =
+    let some : 0 < c.args.width = omega (arith, c.requires) in
+    last_of c.args.whole.now c.args.width c.loop-windows.prices.items c.loop-windows.flows.items c.arcs.ensures.in_range some (returns-clause-windows c)
 
 pub returns-clause-one_window : goal.returns-clause-one_window
 returns-clause-one_window c =
-    let before = c.loop-windows.invariant in
-    let done = rw (before.whole, before.width) at c.has_step.ensures in
-    let past : c.args.whole.now.steps ≤ c.args.width * c.loop-windows.windows.number =
-    ⊎_elim (λ (more : c.args.width * c.loop-windows.windows.number < c.args.whole.now.steps). absurd (false≢true (sym c.loop-windows-test.false ∙ done.1 more)))
-    (λ (all : c.args.whole.now.steps ≤ c.args.width * c.loop-windows.windows.number). all)
-    (cases_lt (c.args.width * c.loop-windows.windows.number) c.args.whole.now.steps) in
     let some : 0 < c.args.width = omega (arith, c.requires) in
-    let are = solutions_of c.args.whole.now c.args.width c.loop-windows.prices.items c.loop-windows.flows.items c.arcs.ensures.in_range some c.loop-windows.windows.number past before.solved in
-    one_window_of c.args.whole.now c.args.width c.loop-windows.prices.items c.loop-windows.flows.items c.arcs.ensures.in_range some are
+    one_window_of c.args.whole.now c.args.width c.loop-windows.prices.items c.loop-windows.flows.items c.arcs.ensures.in_range some (returns-clause-windows c)
