@@ -24,7 +24,10 @@ impl Model for Loads {
 
     ghost view = { λ l. loads_of l.height l.nodes.items l.loads.items };
 
-    ghost invariant = { λ l. (length l.loads.items < 2 ^ 32) × IsTree l.height l.nodes.items l.loads.items × All (λ load. load ≤ 2 ^ 100) (loads_of l.height l.nodes.items l.loads.items) };
+    ghost invariant = { λ l.
+        (length l.loads.items < 2 ^ 32)
+        × IsTree l.height l.nodes.items l.loads.items
+        × All (λ load. load ≤ 2 ^ 100) (loads_of l.height l.nodes.items l.loads.items) };
 }
 
 // Nodes to whose ranges nothing was added.

@@ -77,7 +77,8 @@ pub(crate) fn add(
     requires within { to ≤ length loads.old }
     requires room { HasRoom (loads_of height nodes.old loads.old) from to amount }
     ensures tree { IsTree height nodes.new loads.new }
-    ensures added { AddsOver (loads_of height nodes.old loads.old) (loads_of height nodes.new loads.new) from to amount }
+    ensures added { AddsOver (loads_of height nodes.old loads.old) (loads_of height nodes.new loads.new)
+        from to amount }
     ensures most { result ≡ (root nodes.new).most }
 {
     let root = nodes[0];

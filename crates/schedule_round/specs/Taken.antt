@@ -1,9 +1,14 @@
 -- Schedules that are being made: what is kept, and what each step then holds.
-use Rattle.std.specs.Prelude.{◌≡◌, ℕ, ◌<◌, ◌≤◌, Bool, false, ◌==◌, List, length, slice_index}
+use Rattle.std.specs.Prelude.{◌≡◌, ℕ, ◌+◌, ◌<◌, ◌≤◌, Bool, false, ◌==◌, List, length, slice_index}
 use Rattle.std.specs.List.{list_any}
+use Rattle.cache_model.specs.declared.intervals.Interval.{Interval}
 use Rattle.cache_model.specs.Keeps.{is_kept}
 use Rattle.cache_model.specs.Rounding.{taken_load}
 use Rattle.interval_maker.specs.Timelines.{Timeline}
+
+-- at each step that the interval covers, the load and its size are within the capacity
+abbrev pub FitsOn : List ℕ → ℕ → Interval → Type 0
+FitsOn loads capacity i = (t : ℕ) → i.start ≤ t → t < i.end → slice_index loads t + i.size ≤ capacity
 
 -- only starts of intervals are kept, and each step holds the sizes of those that are taken, within the capacity
 pub record IsTaken (line : Timeline) (capacity : ℕ) (keeps : List Bool) (loads : List ℕ) : Type 0 where

@@ -22,7 +22,8 @@ fn flagged_alone(
     requires flags { FitTogether intervals.now.items capacity full.now }
     ensures capacity { IfOk result (λ s. s.capacity ≡ capacity) }
     ensures taken { IfOk result (λ s. IsTaken intervals.now capacity s.keeps.items s.loads) }
-    ensures flagged { IfOk result (λ s. AllZip (λ i flagged. is_kept s.keeps.items i.start ≡ flagged) intervals.now.items full.now) }
+    ensures flagged { IfOk result
+        (λ s. AllZip (λ i flagged. is_kept s.keeps.items i.start ≡ flagged) intervals.now.items full.now) }
 {
     let mut schedule = Schedule::new(alloc, intervals.steps(), capacity)?;
     for (number, interval) in intervals.as_slice().iter().enumerate() {
@@ -43,7 +44,8 @@ pub fn round(
     full: &[bool],
 ) -> Result<Keeps, NoMemory>
     requires flags { FitTogether intervals.now.items capacity full.now }
-    ensures rounded { IfOk result (λ keeps. IsRounded by_rank intervals.now.items capacity intervals.now.steps full.now keeps) }
+    ensures rounded { IfOk result
+        (λ keeps. IsRounded by_rank intervals.now.items capacity intervals.now.steps full.now keeps) }
     ensures maximal { IfOk result (λ keeps. IsMaximal intervals.now.items capacity keeps) }
     ensures fits { IfOk result (λ keeps. (t : ℕ) → taken_load intervals.now.items keeps t ≤ capacity) }
 {

@@ -1,6 +1,7 @@
 //! A schedule that is being made.
-ghost use Rattle.std.specs.Prelude.{◌≡◌, ◌↔◌, ◌+◌, ◌<◌, ◌≤◌, ℕ, true, false, length, replicate, slice_index, slice_set, IsTrue, IfOk};
+ghost use Rattle.std.specs.Prelude.{◌≡◌, ◌↔◌, ◌<◌, ◌≤◌, true, false, length, replicate, slice_set, IsTrue, IfOk};
 ghost use Rattle.load_tree.specs.Ranges.{AddsOver, HasRoom};
+ghost use Rattle.schedule_round.specs.Taken.{FitsOn};
 
 use bound_base::NoMemory;
 use interval_maker::Interval;
@@ -33,7 +34,7 @@ impl Schedule {
     pub(crate) fn fits(&self, interval: &Interval) -> bool
         requires order { interval.now.start < interval.now.end }
         requires within { interval.now.end ≤ length self.now.loads }
-        ensures { IsTrue result ↔ ((t : ℕ) → interval.now.start ≤ t → t < interval.now.end → slice_index self.now.loads t + interval.now.size ≤ self.now.capacity) }
+        ensures { IsTrue result ↔ FitsOn self.now.loads self.now.capacity interval.now }
     {
         let held = self.loads.max(interval.start, interval.end);
         held + u128::from(interval.size) <= u128::from(self.capacity)
@@ -46,7 +47,8 @@ impl Schedule {
         requires room { HasRoom self.old.loads interval.now.start interval.now.end interval.now.size }
         requires start { interval.now.start < length self.old.keeps.items }
         ensures capacity { self.new.capacity ≡ self.old.capacity }
-        ensures held { AddsOver self.old.loads self.new.loads interval.now.start interval.now.end interval.now.size }
+        ensures held { AddsOver self.old.loads self.new.loads
+            interval.now.start interval.now.end interval.now.size }
         ensures kept { self.new.keeps.items ≡ slice_set self.old.keeps.items interval.now.start true }
     {
         self.loads.add(interval.start, interval.end, interval.size);
