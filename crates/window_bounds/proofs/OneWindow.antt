@@ -1,5 +1,5 @@
 -- One window at least as wide as the steps is the whole instance.
-use Rattle.std.proofs.Common.{◌≡◌, ◌∙◌, ℕ, suc, ◌+◌, ◌-◌, ◌*◌, ◌<◌, ◌≤◌, ap, refl, min, max, Bool, true, cond, arith, List, [], ◌∷◌, length, map, filter, take, get_or, count_by, sum_by, All, ⊎_elim}
+use Rattle.std.proofs.Common.{◌≡◌, ◌∙◌, ℕ, zero, suc, ◌+◌, ◌-◌, ◌*◌, ◌<◌, ◌≤◌, ap, refl, min, max, Bool, true, cond, arith, List, [], ◌∷◌, length, map, filter, take, get_or, count_by, sum_by, All, ⊎_elim}
 use Rattle.std.specs.List.{range_with_len}
 use Rattle.std.proofs.lemmas.Bool.{cases_lt, lt-ltb, eq-eqb}
 use Rattle.std.proofs.lemmas.List.Elements.{All-head, All-tail}
@@ -44,6 +44,19 @@ window_whole whole width wide fits =
     let made : ℕ → List OuterArc → Instance = λ s a. record { steps = s; units = whole.units; arcs = a } in
     let steps : min whole.steps (width * (0 + 1)) - width * 0 ≡ whole.steps = omega arith in
     ap (λ s. made s (map (part_of width 0) (filter (meets width 0) whole.arcs))) steps ∙ ap (made whole.steps) (parts_whole width whole.steps whole.arcs wide fits.arcs_fit)
+
+-- all arcs meet it, so each part stands where its arc does
+pub count_first : (width steps : ℕ) (arcs : List OuterArc) (i : ℕ) → steps ≤ width → All (IsArc steps) arcs → i ≤ length arcs → count_by (meets width 0) (take i arcs) ≡ i
+count_first width steps arcs zero wide fit within = refl
+count_first width steps [] (suc i) wide fit within = absurd (omega arith)
+count_first width steps (arc ∷ arcs) (suc i) wide fit within =
+    let one : cond {A = ℕ} (meets width 0 arc) 1 0 ≡ 1 = ap (λ (b : Bool). cond {A = ℕ} b 1 0) (meets_first width steps arc wide (All-head (IsArc steps) arc arcs fit)) in
+    omega (
+      arith,
+      one,
+      sum_by-cons (λ (a : OuterArc). cond (meets width 0 a) 1 0) arc (take i arcs),
+      count_first width steps arcs i wide (All-tail (IsArc steps) arc arcs fit) (omega arith),
+    )
 
 -- flows that are those of the parts in window 0, each at its place, are the same
 pub flows_whole : (width steps : ℕ) (arcs : List OuterArc) (flows parts : List ℕ) → steps ≤ width → All (IsArc steps) arcs → length flows ≡ length arcs → length parts ≡ length arcs

@@ -10,7 +10,7 @@ use Rattle.flow_model.proofs.Equal.{solution_is_best, zip_at, zip_from}
 use Rattle.flow_model.proofs.Windows.{windows_are_above}
 use Rattle.window_bounds.specs.Solutions.{AreSolutions, IsLeastFlow, flow_in, prices_in, value_of_windows, window_count}
 use Rattle.window_bounds.proofs.LastPrice.{last_window_price}
-use Rattle.window_bounds.proofs.OneWindow.{flows_whole, window_whole}
+use Rattle.window_bounds.proofs.OneWindow.{count_first, flows_whole, meets_first, window_whole}
 use Rattle.window_bounds.proofs.Paid.{paid_all}
 use Rattle.window_bounds.proofs.Places.{flow_in-le}
 use Rattle.window_bounds.proofs.Rounds.{AreSolved}
@@ -202,3 +202,32 @@ module _ (whole : Instance) (width : ℕ) (prices flows : List ℕ) (fits : IsIn
             ⊎_elim (λ (later : 0 < least.window). let past : width * 1 ≤ width * least.window = mul-le-mul_left width (omega arith) in absurd (omega (arith, past)))
             (λ (is : least.window ≤ 0). omega arith) (cases_lt 0 least.window) in
             least.reached ∙ ap (λ k. flow_in whole width k (are.window_flows k) i) first
+
+-- a solution of the whole is that of the one window
+pub whole_solutions : (whole : Instance) (width : ℕ) (prices flows : List ℕ) → IsInstance whole → 0 < width → whole.steps ≤ width → IsSolution whole prices flows → AreSolutions whole width prices flows
+whole_solutions whole width prices flows fits some wide solution =
+    record {
+      window_flows = λ k. flows;
+      each_step = solution.each_step;
+      each_window = λ k low. subst (λ j. IsSolution (window_instance whole width j) (prices_in width j prices) flows) (sym (first k (starts_within whole width k some low))) one;
+      each_arc = (zip_at whole.arcs flows solution.schedule.within_weights).0;
+      least_flows = λ i within. record {
+        low = λ k met. omega (arith, ap (λ j. flow_in whole width j flows i) (first k (met_starts whole width prices flows fits some i k within met)), own i within);
+        window = 0;
+        met = meets_first width whole.steps (arc_at whole.arcs i) wide (fits.arcs_fit i no_arc within);
+        reached = own i within;
+      };
+    }
+  where
+    first : (k : ℕ) → width * k < whole.steps → k ≡ 0
+    first k starts =
+        ⊎_elim (λ (later : 0 < k). let past : width * 1 ≤ width * k = mul-le-mul_left width (omega arith) in absurd (omega (arith, past))) (λ (is : k ≤ 0). omega arith) (cases_lt 0 k)
+
+    own : (i : ℕ) → i < length whole.arcs → get_or flows i 0 ≡ flow_in whole width 0 flows i
+    own i within = ap (λ n. get_or flows n 0) (sym (count_first width whole.steps whole.arcs i wide fits.arcs_fit (omega arith)))
+
+    one : IsSolution (window_instance whole width 0) (prices_in width 0 prices) flows
+    one =
+        let start : width * 0 ≡ 0 = omega arith in
+        let all : prices_in width 0 prices ≡ prices = ap (λ n. take (width * (0 + 1) - n) (drop n prices)) start ∙ take_all (width * (0 + 1) - 0) prices (omega (arith, solution.each_step)) in
+        subst (λ (ps : List ℕ). IsSolution (window_instance whole width 0) ps flows) (sym all) (subst (λ (i : Instance). IsSolution i prices flows) (sym (window_whole whole width wide fits)) solution)

@@ -45,9 +45,42 @@ fn lower(windows: &Windows, part_flows: &[u64], flows: &mut [u64])
     }
 }
 
+// Prices of the steps and flows of the arcs, from the whole as it stands.
+fn solve_whole(alloc: Global, whole: &Instance) -> Result<(Vec<u128>, Vec<u64>), NoMemory>
+    ensures { IfOk result (λ (prices, flows). IsSolution whole.now prices.items flows.items) }
+{
+    let solution = Solver::new(alloc, whole)?.solve();
+    let prices = solution.prices().to_vec(alloc)?;
+    let flows = solution.flows().to_vec(alloc)?;
+    Ok((prices, flows))
+}
+
+// Prices of the steps and flows of the arcs, from one window after another.
+fn solve_each(
+    alloc: Global,
+    whole: &Instance,
+    width: u32,
+) -> Result<(Vec<u128>, Vec<u64>), NoMemory>
+    requires { 1 ≤ width }
+    ensures { IfOk result (λ (prices, flows). AreSolutions whole.now width prices.items flows.items) }
+{
+    let mut prices = Vec::with_capacity(alloc, whole.steps() as usize)?;
+    let mut flows = weights_of(alloc, whole.arcs())?;
+    let mut windows = Windows::new(alloc, whole, width)?;
+    while windows.has_step() {
+        let window = windows.instance(alloc)?;
+        let solution = Solver::new(alloc, &window)?.solve();
+        prices.extend_from_slice(solution.prices())?;
+        lower(&windows, solution.flows(), &mut flows);
+        windows.advance();
+    }
+    Ok((prices, flows))
+}
+
 /// The prices and flows of the instance by windows of that width. The price of a step is that of its window, and the
 /// flow of an arc the least of its flows in the windows that it meets. One window has the memory of its solver at a
-/// time; the answer takes 16 bytes for each step, and 9 for each arc.
+/// time. Windows narrower than the steps take 4 bytes for each window and 12 for each arc besides, and 32 for each
+/// part of the one that is solved. The answer takes 16 bytes for each step, and 9 for each arc.
 pub fn solve_windows(
     alloc: Global,
     whole: &Instance,
@@ -62,17 +95,13 @@ pub fn solve_windows(
     ensures last { IfOk result (λ s. All (λ arc. arc.end < whole.now.steps) whole.now.arcs → slice_index_or s.prices (whole.now.steps - 1) 0 ≡ 0) }
     ensures one_window { IfOk result (λ s. whole.now.steps ≤ width → IsSolution whole.now s.prices s.flows) }
 {
-    let mut prices = Vec::with_capacity(alloc, whole.steps() as usize)?;
-    let mut flows = weights_of(alloc, whole.arcs())?;
-    let mut windows = Windows::new(alloc, whole, width)?;
-    while windows.has_step() {
-        let window = windows.instance(alloc)?;
-        let solution = Solver::new(alloc, &window)?.solve();
-        prices.extend_from_slice(solution.prices())?;
-        lower(&windows, solution.flows(), &mut flows);
-        windows.advance();
-    }
-    let full = full_of(alloc, whole.arcs(), &flows)?;
+    let arcs = whole.arcs();
+    let (prices, flows) = if whole.steps() <= width {
+        solve_whole(alloc, whole)?
+    } else {
+        solve_each(alloc, whole, width)?
+    };
+    let full = full_of(alloc, arcs, &flows)?;
     Ok(WindowSolution {
         prices,
         flows,
