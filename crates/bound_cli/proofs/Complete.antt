@@ -1,5 +1,5 @@
 -- What is answered of good inputs, where no device fails.
-use Rattle.std.proofs.Common.{◌≡◌, ◌∙◌, ℕ, ◌+◌, ◌==◌, nat_lt, refl, sym, ap, subst, inl, inr, ◌⊎◌, Bool, true, false, cond, List, [], ◌∷◌, ◌++◌, map, length, Ok, Err, Some, None, IfSome, Result}
+use Rattle.std.proofs.Common.{◌≡◌, ◌∙◌, ℕ, ◌+◌, ◌==◌, nat_lt, refl, sym, ap, subst, inl, inr, ◌⊎◌, Bool, true, false, cond, List, [], ◌∷◌, ◌++◌, map, length, Ok, Some, None, IfSome}
 use Rattle.std.specs.Prelude.{IsSome}
 use Rattle.std.specs.declared.option.Option.{Option}
 use Rattle.std.specs.Option.{is_some}
@@ -30,13 +30,11 @@ use Rattle.cert_checker.proofs.Walked.{passing_is_valid_lem}
 use Rattle.bound_cli.specs.declared.bounds.Asked.{Asked}
 use Rattle.bound_cli.specs.declared.words.Plan.{Plan}
 use Rattle.bound_cli.specs.declared.words.Plan.TheVariants.{Bounds, Check}
-use Rattle.bound_cli.specs.declared.words.WordFault.{WordFault}
 use Rattle.bound_cli.specs.declared.status.Status.{Status}
 use Rattle.bound_cli.specs.declared.status.Status.TheVariants.{Done, Invalid, Words, BadLine, Limit, TraceFault, CertFault, ReportFault, MadeFault, NoMemory}
 use Rattle.bound_cli.specs.Made.{RefusesDenominator}
-use Rattle.bound_cli.specs.Inputs.{HasDenominator, IsAccepted, IsCertified, IsFirstEvent, IsGoodTrace, IsLoaded, IsPastDenominator, IsRefused}
-use Rattle.bound_cli.specs.Words.{plan}
-use Rattle.bound_cli.specs.Run.{AnswersOf, Answers, AreGoodInputs, BoundsEnd, CheckEnds, Completes, Devices, Explains, NoneFails, RunEnds, asked_for}
+use Rattle.bound_cli.specs.Inputs.{HasDenominator, IsGoodTrace}
+use Rattle.bound_cli.specs.Run.{AnswersOf, Answers, AreGoodInputs, BoundsEnd, CheckEnds, Completes, Devices, Explains, RunEnds, asked_for}
 
 -- ---- the walk over a trace that isn't refused
 

@@ -1,11 +1,12 @@
 -- What a check answers of all that two sources had left.
-use Rattle.std.proofs.Common.{◌≡◌, ◌∙◌, ℕ, refl, sym, ap, subst, List, Ok, Err, Some, None, IfSome}
+use Rattle.std.proofs.Common.{◌≡◌, ◌∙◌, ℕ, sym, ap, List, Some, None, IfSome}
 use Rattle.std.specs.declared.option.Option.{Option}
 use Rattle.std.specs.Option.{unwrap_or}
 use Rattle.bound_io.specs.Devices.{device}
 use Rattle.cache_model.specs.declared.certificates.Header.{Header}
 use Rattle.cache_model.specs.declared.certificates.Record.{Record}
 use Rattle.cache_model.specs.Texts.{cert_text}
+use Rattle.cache_model.proofs.Headline.{exact_is_least}
 use Rattle.trace_any.specs.declared.fault.TraceFault.TheVariants as trace
 use Rattle.trace_any.specs.declared.format.Format.{Format}
 use Rattle.trace_any.specs.Readings.{full_limits}
@@ -51,6 +52,7 @@ module _ (format : Format) (start end : Inputs) (new : start.reader ≡ fresh fo
         objects = passed.yes.objects;
         valid = passed.yes.valid;
         bounds = passed.yes.bounds_every_play;
+        least = exact_is_least passed.requests verdict.header passed.records passed.yes.valid;
         text = texts_of_whole start.certificate verdict.header passed.records passed.certificate;
         nothing_left = passed.certificate_end;
       }

@@ -1,8 +1,7 @@
 -- What is found of a trace makes a valid certificate of it.
-use Rattle.std.proofs.Common.{◌≡◌, ◌∙◌, ℕ, ◌+◌, ◌*◌, ◌/◌, ◌-◌, ◌<◌, ◌≤◌, ◌^◌, Bool, true, false, ◌&&◌, nat_le, ap, subst, sym, refl, arith, lit<, List, [], ◌∷◌, get_or, length, sum, All, ⊎_elim}
+use Rattle.std.proofs.Common.{◌≡◌, ◌∙◌, ℕ, ◌+◌, ◌*◌, ◌/◌, ◌-◌, ◌<◌, ◌≤◌, ◌^◌, Bool, ◌&&◌, ap, subst, sym, refl, arith, List, [], ◌∷◌, get_or, length, sum, All, ⊎_elim}
 use Rattle.std.specs.Prelude.{IsTrue}
 use Prim.Native.Nat.{◌∣◌}
-use Rattle.std.specs.List.{AllZip}
 use Rattle.std.proofs.lemmas.Bool.{and_parts, and_from, cases_lt, leb-true}
 use Rattle.std.proofs.lemmas.List.Elements.{All-head}
 use Rattle.std.proofs.lemmas.Nat.{le-div}
@@ -16,7 +15,7 @@ use Rattle.cache_model.specs.declared.reports.Mode.{Mode}
 use Rattle.cache_model.specs.declared.reports.Mode.TheVariants.{Flow, Constant, Infinite}
 use Rattle.cache_model.specs.Intervals.{bound_of}
 use Rattle.cache_model.specs.Units.{IsUnit, HasWholeCosts, weight}
-use Rattle.cache_model.specs.Certificates.{IsHeaderInRange, IsValid, BoundsEveryPlay, flows_of, keeps_of, prices_of, upper_of, flow_of}
+use Rattle.cache_model.specs.Certificates.{IsHeaderInRange, IsValid, BoundsEveryPlay, flows_of, keeps_of, prices_of, upper_of}
 use Rattle.cache_model.specs.Play.{IsAllowed, score}
 use Rattle.cache_model.specs.Keeps.{contents_of}
 use Rattle.cache_model.specs.Rounding.{IsMaximal, IsRounded, by_rank}

@@ -1,5 +1,5 @@
 -- How a run ends, from how its parts end.
-use Rattle.std.proofs.Common.{◌≡◌, ℕ, refl, sym, ap, subst, inl, inr, ◌⊎◌, arith, length, length-append, List, [], ◌++◌, Ok, Err, Some, None, IfSome, Result}
+use Rattle.std.proofs.Common.{◌≡◌, ℕ, refl, sym, ap, subst, inl, inr, arith, length, length-append, List, [], ◌++◌, Some, None, IfSome}
 use Rattle.std.specs.declared.option.Option.{Option}
 use Rattle.std.specs.Option.{is_some, unwrap_or}
 use Rattle.std.proofs.lemmas.Bool.{false≢true}
@@ -24,7 +24,7 @@ use Rattle.bound_report.specs.declared.refusal.Refusal.{Refusal}
 use Rattle.bound_report.specs.declared.refusal.Refusal.TheVariants as refusal
 use Rattle.bound_report.specs.Refusals.{refusal_line}
 use Rattle.bound_cli.specs.Statuses.{refusal_of, refusal_of_bounds, status_of}
-use Rattle.bound_cli.specs.Inputs.{IsLoaded, IsPastDenominator, IsReady, IsRefused}
+use Rattle.bound_cli.specs.Inputs.{IsLoaded, IsReady, IsRefused}
 use Rattle.bound_cli.specs.Run.{BoundsEnd, CheckEnds}
 use Rattle.bound_cli.specs.Parts.{IsYesText, RefusesBounds, RefusesCheck, RefusesLoading, WritesOut, WritesReport}
 

@@ -1,7 +1,7 @@
 -- What the records of a certificate state, from its prices, keeps and flows.
-use Rattle.std.proofs.Common.{◌≡◌, ◌∙◌, ℕ, ◌+◌, ◌*◌, ◌/◌, ◌<◌, ◌≤◌, ◌^◌, ◌==◌, sym, refl, ap, subst, arith, zero, suc, Bool, true, false, List, [], ◌∷◌, length, map, get_or, sum, All, Some, None, ⊎_elim}
+use Rattle.std.proofs.Common.{◌≡◌, ◌∙◌, ℕ, ◌<◌, ◌≤◌, ◌^◌, ◌==◌, sym, ap, subst, arith, zero, suc, Bool, true, false, List, [], ◌∷◌, length, map, get_or, sum, All, Some, None, ⊎_elim}
 use Rattle.std.specs.declared.option.Option.{Option}
-use Rattle.std.specs.List.{AllZip, list_any, range_with_len, position}
+use Rattle.std.specs.List.{AllZip, list_any}
 use Rattle.std.proofs.Math.Nat.{div-le_self}
 use Rattle.std.proofs.lemmas.Bool.{cases_Bool, cases_lt, true≢false}
 use Rattle.std.proofs.lemmas.List.{ext_get_or, get_or-map, get_or_past, length-map}
@@ -12,7 +12,7 @@ use Rattle.cache_model.specs.declared.intervals.Interval.{Interval}
 use Rattle.cache_model.specs.declared.certificates.Record.{Record}
 use Rattle.cache_model.specs.Certificates.{IsRecordInRange, flow_at, flows_of, keeps_of, prices_of}
 use Rattle.cache_model.specs.Units.{weight}
-use Rattle.interval_maker.specs.Timelines.{Timeline, IsInterval, IsTimeline, starting_at}
+use Rattle.interval_maker.specs.Timelines.{IsInterval, IsTimeline, starting_at}
 use Rattle.interval_maker.proofs.Places.{position_none}
 use Rattle.relaxation.specs.Faults.{amount_of, no_interval}
 use Rattle.relaxation.proofs.Loads.{starting_at_start}

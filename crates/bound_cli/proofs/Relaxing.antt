@@ -1,8 +1,8 @@
 -- What the prices and flows of a mode are for the intervals.
-use Rattle.std.proofs.Common.{◌≡◌, ◌∙◌, ℕ, zero, suc, ◌+◌, ◌-◌, ◌*◌, ◌/◌, ◌%◌, ◌<◌, ◌≤◌, ◌^◌, sym, refl, ap, subst, min, max, nat_le, arith, cond, Bool, true, false, List, [], ◌∷◌, length, map, zip, get_or, replicate, sum, sum_by, All, Some, None, ◌==◌}
+use Rattle.std.proofs.Common.{◌≡◌, ◌∙◌, ℕ, suc, ◌+◌, ◌*◌, ◌/◌, ◌%◌, ◌<◌, ◌≤◌, ◌^◌, sym, refl, ap, subst, min, arith, cond, Bool, true, false, List, [], ◌∷◌, length, map, zip, get_or, replicate, sum, sum_by, All, Some, None, ◌==◌}
 use Prim.Native.Nat.{◌∣◌}
 use Rattle.std.specs.List.{AllZip}
-use Rattle.std.proofs.Math.Nat.{mul-le-mul_left, mul-le-mul_right, div-le_self}
+use Rattle.std.proofs.Math.Nat.{mul-le-mul_right, div-le_self}
 use Rattle.std.proofs.lemmas.Bool.{false≢true, le-ltb}
 use Rattle.std.proofs.lemmas.Grind.{div_ceil_times}
 use Rattle.std.proofs.lemmas.List.{get_or-map, get_or-replicate, length-map, length-replicate}
@@ -15,8 +15,7 @@ use Rattle.cache_model.specs.Intervals.{bound_of, surplus as interval_surplus}
 use Rattle.cache_model.specs.Schedules.{covers, load_at, IsFractionalSchedule}
 use Rattle.cache_model.specs.Units.{weight}
 use Rattle.flow_model.specs.declared.arcs.OuterArc.{OuterArc}
-use Rattle.flow_model.specs.Instances.{Instance, IsInstance, IsSchedule, IsSolution, arc_of, no_arc, surplus, value_at, whole_instance}
-use Rattle.flow_model.proofs.Whole.{fractional}
+use Rattle.flow_model.specs.Instances.{Instance, IsInstance, arc_of, surplus, whole_instance}
 use Rattle.interval_maker.specs.Timelines.{Timeline, IsInterval, IsTimeline}
 use Rattle.std.specs.declared.option.Option.{Option}
 use Rattle.std.specs.Option.{is_some}

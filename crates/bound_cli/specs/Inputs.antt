@@ -1,11 +1,11 @@
 -- What comes of reading the inputs of a run: the trace, and the certificate of a check.
-use Rattle.std.specs.Prelude.{◌≡◌, ℕ, List, [], length, Some, None, IfSome}
+use Rattle.std.specs.Prelude.{◌≡◌, ℕ, IsTrue, List, [], length, Some, None, IfSome}
 use Rattle.std.specs.declared.option.Option.{Option}
 use Rattle.bound_io.specs.Devices.{Device}
 use Rattle.cache_model.specs.declared.objects.Object.{Object}
 use Rattle.cache_model.specs.declared.certificates.Header.{Header}
 use Rattle.cache_model.specs.declared.certificates.Record.{Record}
-use Rattle.cache_model.specs.Certificates.{BoundsEveryPlay, IsValid}
+use Rattle.cache_model.specs.Certificates.{BoundsEveryPlay, IsLeastOverAll, IsValid}
 use Rattle.cache_model.specs.Objects.{objects_of}
 use Rattle.cache_model.specs.Texts.{cert_text}
 use Rattle.trace_any.specs.declared.fault.TraceFault.{TraceFault as FaultOfTrace}
@@ -45,7 +45,7 @@ abbrev pub IsFirstEvent : Format → Device → Device → Event → Type 0
 IsFirstEvent format trace cert event =
     IfSome trace.before (λ bytes. IfSome cert.before (λ text. walk (reading format full_limits bytes) text ≡ Some event))
 
--- a yes: all that the sources had left is a trace and the text of a valid certificate of it, so no play scores more than its upper bound
+-- a yes: all that the sources had left is a trace and the text of a valid certificate of it, so no play scores more than its upper bound, and in the form exact no prices have a smaller one
 pub record IsAccepted (format : Format) (trace cert : Device) (verdict : Verdict) (dropped : ℕ) : Type 0 where
   pub requests : List Object
   pub records : List Record
@@ -53,6 +53,7 @@ pub record IsAccepted (format : Format) (trace cert : Device) (verdict : Verdict
   pub objects : verdict.objects ≡ length (objects_of requests)
   pub valid : IsValid requests verdict.header records
   pub bounds : BoundsEveryPlay requests verdict.header
+  pub least : IsTrue verdict.header.exact → IsLeastOverAll requests verdict.header records
   pub text : IfSome cert.before (λ text. text ≡ cert_text verdict.header records)
   pub nothing_left : IfSome cert.before (λ text. cert.after ≡ Some [])
 

@@ -1,5 +1,5 @@
 -- What bounds makes of a trace: the certificate and the report.
-use Rattle.std.specs.Prelude.{◌≡◌, ◌↔◌, ℕ, ◌+◌, max, nat_le, ◌<◌, ◌≤◌, Bool, false, IsTrue, List, length, map, slice_index_or, sum, All}
+use Rattle.std.specs.Prelude.{◌≡◌, ◌↔◌, ℕ, ◌+◌, max, nat_le, ◌≤◌, Bool, false, IsTrue, List, length, map, slice_index_or, sum, All}
 use Rattle.std.specs.List.{range_with_len}
 use Rattle.cache_model.specs.declared.objects.Object.{Object}
 use Rattle.cache_model.specs.declared.intervals.Interval.{Interval}

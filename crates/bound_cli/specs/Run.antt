@@ -1,5 +1,5 @@
 -- When a run ends in each status, and what the devices got then.
-use Rattle.std.specs.Prelude.{◌≡◌, ℕ, ◌⊎◌, List, Result, Ok, Err, None, Some, IsSome}
+use Rattle.std.specs.Prelude.{◌≡◌, ℕ, ◌⊎◌, List, Result, Ok, Err, Some, IsSome}
 use Rattle.std.specs.declared.option.Option.{Option}
 use Rattle.std.specs.Io.KnownBytes.{Appends}
 use Rattle.bound_io.specs.Reading.{LosesFront}

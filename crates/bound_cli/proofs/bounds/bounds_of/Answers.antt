@@ -1,4 +1,4 @@
-use Rattle.std.proofs.Common.{◌≡◌, ◌∙◌, ◌≤◌, ◌/◌, refl, arith, sym, ap, length}
+use Rattle.std.proofs.Common.{◌∙◌, ◌/◌, refl, arith, sym, ap, length}
 use Rattle.std.proofs.Math.Nat.{div-le_self}
 use Rattle.schedule_round.proofs.Flags.{full_flags_fit}
 use Rattle.bound_cli.proofs.MadeOf.{made_of, some_units, unit-le_capacity}

@@ -1,4 +1,4 @@
-use Rattle.std.proofs.Common.{◌≡◌, ◌∙◌, ℕ, ◌+◌, ◌<◌, ◌≤◌, ◌==◌, ap, sym, arith, Bool, false, List, [], ◌∷◌, ◌++◌, length, map, take, zip, get_or}
+use Rattle.std.proofs.Common.{◌≡◌, ◌∙◌, ℕ, ◌+◌, ◌<◌, ◌≤◌, ◌==◌, ap, sym, arith, Bool, false, List, [], ◌∷◌, ◌++◌, length, take, zip, get_or}
 use Rattle.std.proofs.lemmas.List.{get_or-map, length-map, take_all, take_more}
 use Rattle.std.proofs.lemmas.Slice.Zip.{get_or-zip, length-zip}
 use Rattle.cache_model.specs.declared.intervals.Interval.{Interval}

@@ -1,5 +1,4 @@
-use Rattle.std.proofs.Common.{◌≡◌, ◌∙◌, arith, sym}
-use Rattle.std.proofs.KnownBytes.{Appends-nil}
+use Rattle.std.proofs.Common.{◌∙◌, arith, sym}
 use Rattle.std.proofs.lemmas.List.Elements.{All-get_or}
 use Rattle.cache_model.specs.Certificates.{IsRecordInRange}
 use Rattle.bound_cli.specs.Records.{records_in}

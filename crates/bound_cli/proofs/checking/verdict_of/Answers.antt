@@ -1,5 +1,4 @@
-use Rattle.std.proofs.Common.{◌≡◌, ◌∙◌, ap, sym}
-use Rattle.trace_any.specs.Readings.{full_limits}
+use Rattle.std.proofs.Common.{◌∙◌, ap, sym}
 use Rattle.trace_any.specs.Readers.{fresh}
 use Rattle.cert_checker.specs.Checks.{inputs}
 use Rattle.bound_cli.proofs.Judged.{accepted, refused}

@@ -1,5 +1,4 @@
 use Rattle.std.proofs.Common.{map, string_bytes}
-use Rattle.bound_cli.specs.Run.{RunEnds}
 use Rattle.bound_cli.proofs.Complete.{complete}
 use Rattle.bound_cli.proofs.top.run.Goals as goal
 
