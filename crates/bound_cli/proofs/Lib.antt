@@ -7,3 +7,4 @@ pub mod Relaxing
 pub mod MadeOf
 pub mod GivenByName
 pub mod WordRows
+pub mod Headlined

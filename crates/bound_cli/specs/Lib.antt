@@ -6,3 +6,4 @@ pub mod BoundsFaults
 pub mod Inputs
 pub mod Parts
 pub mod Run
+pub mod Headline

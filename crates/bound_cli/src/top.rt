@@ -5,6 +5,7 @@ ghost use Rattle.bound_io.specs.Reading.{LosesFront};
 ghost use Rattle.trace_any.specs.Readings.{IsFormat};
 ghost use Rattle.relaxation.specs.Denominators.{IsChoice};
 ghost use Rattle.bound_report.specs.Refusals.{refusal_line};
+ghost use Rattle.bound_cli.specs.Headline.{Headline};
 ghost use Rattle.bound_cli.specs.Inputs.{IsLoaded, IsReady};
 ghost use Rattle.bound_cli.specs.Parts.{RefusesBounds, RefusesLoading, WritesOut, WritesReport};
 ghost use Rattle.bound_cli.specs.Run.{BoundsEnd, CheckEnds, Completes, Explains, RunEnds, devices};
@@ -186,6 +187,11 @@ pub fn run<T: Source, Q: Source, R: Sink, K: Sink>(
     report: &mut R,
     made: &mut K,
 ) -> Status
+    ensures headline { Headline (map string_bytes words.now) (devices
+        (device (T.left trace.old) (T.left trace.new) (T.faults trace.old) (T.faults trace.new))
+        (device (Q.left cert.old) (Q.left cert.new) (Q.faults cert.old) (Q.faults cert.new))
+        (device (R.written report.old) (R.written report.new) (R.faults report.old) (R.faults report.new))
+        (device (K.written made.old) (K.written made.new) (K.faults made.old) (K.faults made.new))) result }
     ensures explains { Explains (map string_bytes words.now) (devices
         (device (T.left trace.old) (T.left trace.new) (T.faults trace.old) (T.faults trace.new))
         (device (Q.left cert.old) (Q.left cert.new) (Q.faults cert.old) (Q.faults cert.new))
