@@ -7,3 +7,4 @@ pub mod LastRound
 pub mod Heaps
 pub mod QueueSteps
 pub mod EdgeLists
+pub mod OnwardPaths

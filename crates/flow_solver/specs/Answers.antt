@@ -1,5 +1,5 @@
 -- What a solver begins with, and what it answers.
-use Rattle.std.specs.Prelude.{◌≡◌, ℕ, ◌*◌, List, length}
+use Rattle.std.specs.Prelude.{◌≡◌, ℕ, ◌+◌, ◌*◌, Bool, List, length}
 use Rattle.flow_network.specs.States.{State}
 use Rattle.flow_solver.specs.OuterEdges.{Lists, AreListed}
 use Rattle.flow_solver.specs.Searches.{Found, HasRoom, IsReady}
@@ -9,9 +9,10 @@ pub record Answer : Type 0 where
   pub prices : List ℕ
   pub flows : List ℕ
 
--- the network is ready, the outer edges are listed, and there is room for a search and for an edge of each step
-pub record IsAtStart (state : State) (lists : Lists) (found : Found) (path : ℕ) : Type 0 where
+-- the network is ready, the outer edges are listed, and there is room for a search, for a mark of each node and for an edge of each step
+pub record IsAtStart (state : State) (lists : Lists) (found : Found) (dead : List Bool) (path : ℕ) : Type 0 where
   pub ready : IsReady state
   pub edges : AreListed state.instance lists (2 * length state.instance.arcs)
   pub room : HasRoom state.instance.steps found
+  pub marks : length dead ≡ state.instance.steps + 1
   pub each_hop : path ≡ state.instance.steps

@@ -2,10 +2,11 @@
 //!
 //! The rules are "Solution" and "Potential" in docs/DEFINITIONS.md. Each round finds how far the nodes are from the
 //! first, with the negated reduced costs of the edges as lengths, lowers the potentials by it, and pushes units along
-//! a path on which nothing is then lost. When all units are pushed, the falls of the potentials are prices that the
-//! flows reach.
+//! a path on which nothing is then lost, and along all that lead only onward and lose nothing either. When all units
+//! are pushed, the falls of the potentials are prices that the flows reach.
 #![tactic(auto)]
 
+mod onward;
 mod outer_edges;
 mod queue;
 mod rounds;

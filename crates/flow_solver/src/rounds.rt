@@ -5,6 +5,7 @@ ghost use Rattle.flow_solver.specs.OuterEdges.{AreListed};
 ghost use Rattle.flow_solver.specs.Rounds.{Advances};
 ghost use Rattle.flow_solver.specs.Searches.{HasRoom, IsReady, limit_of, lowered};
 
+use crate::onward::{DeadEnds, push_onward};
 use crate::outer_edges::OuterEdges;
 use crate::route::trace;
 use crate::search::Search;
@@ -32,18 +33,27 @@ fn lower(network: &mut Network, search: &Search)
     }
 }
 
-/// Pushes units along a path on which nothing is lost, as many as it takes.
-pub fn augment(network: &mut Network, edges: &OuterEdges, search: &mut Search, path: &mut [Edge])
+/// Pushes units along a path on which nothing is lost, as many as it takes, and then along those that lead onward.
+pub fn augment(
+    network: &mut Network,
+    edges: &OuterEdges,
+    search: &mut Search,
+    dead: &mut DeadEnds,
+    path: &mut [Edge],
+)
     requires ready { IsReady network.old }
     requires edges { AreListed network.old.instance edges.now (2 * length network.old.instance.arcs) }
     requires room { HasRoom network.old.instance.steps search.old }
+    requires marks { length dead.old ≡ network.old.instance.steps + 1 }
     requires each_hop { length path.old ≡ network.old.instance.steps }
     requires left { network.old.pushed < network.old.instance.units }
     ensures advances { Advances network.old network.new }
     ensures room { HasRoom network.old.instance.steps search.new }
+    ensures marks { length dead.new ≡ length dead.old }
 {
     search.run(network, edges);
     lower(network, search);
     let route = trace(network, search, path);
     network.push(&path[route.start..], route.amount);
+    push_onward(network, edges, dead, path);
 }

@@ -5,6 +5,7 @@ ghost use Rattle.flow_model.specs.Networks.{ArePrices};
 ghost use Rattle.flow_network.specs.States.{IsState, no_flows};
 ghost use Rattle.flow_solver.specs.Searches.{IsReady};
 
+use crate::onward::DeadEnds;
 use crate::outer_edges::OuterEdges;
 use crate::rounds::augment;
 use crate::search::Search;
@@ -24,6 +25,7 @@ pub struct Solver<'a> {
     network: Network<'a>,
     edges: OuterEdges,
     search: Search,
+    dead: DeadEnds,
     path: Vec<Edge>,
 }
 
@@ -36,7 +38,7 @@ impl<'a> Model for Solver<'a> {
 
     ghost view = { λ s. s.network.instance };
 
-    ghost invariant = { λ s. IsAtStart s.network s.edges s.search (length s.path.items) };
+    ghost invariant = { λ s. IsAtStart s.network s.edges s.search s.dead (length s.path.items) };
 }
 
 // Sets potentials so steep that no arc earns more than they fall.
@@ -64,7 +66,7 @@ fn write_prices(network: &Network, prices: &mut [u128])
 }
 
 impl<'a> Solver<'a> {
-    /// A solver of the instance. It takes all memory that is needed: 68 bytes for each step, and 16 for each arc.
+    /// A solver of the instance. It takes all memory that is needed: 69 bytes for each step, and 16 for each arc.
     pub fn new(alloc: Global, instance: &'a Instance) -> Result<Solver<'a>, NoMemory>
         ensures { IfOk result (λ solver. solver ≡ instance.now) }
     {
@@ -73,11 +75,13 @@ impl<'a> Solver<'a> {
         let steps = instance.steps() as usize;
         let edges = OuterEdges::new(alloc, instance)?;
         let search = Search::new(alloc, instance.steps())?;
+        let dead = DeadEnds::new(alloc, instance.steps())?;
         let path = vec![in alloc; Edge::Inner(0); steps]?;
         Ok(Solver {
             network,
             edges,
             search,
+            dead,
             path,
         })
     }
@@ -90,10 +94,11 @@ impl<'a> Solver<'a> {
             mut network,
             edges,
             mut search,
+            mut dead,
             mut path,
         } = self;
         while network.left() > 0 {
-            augment(&mut network, &edges, &mut search, &mut path);
+            augment(&mut network, &edges, &mut search, &mut dead, &mut path);
         }
         let mut prices = search.into_distances();
         let _ = prices.pop();

@@ -18,8 +18,8 @@ trace-route-requires-clause-back c =
     let low = c.lower.new.network.potentials in
     subst (λ (s : State). LeadsBack s found) (sym c.lower.ensures.same) (leads_back first found low c.requires.ready c.run.ensures.search c.run.ensures.settled c.lower.ensures.lowered)
 
-pub returns-clause-advances : goal.returns-clause-advances
-returns-clause-advances c =
+pub push_onward-requires-clause-ready : goal.push_onward-requires-clause-ready
+push_onward-requires-clause-ready c =
     let first : State = c.args.network.now in
     let found = c.run.new.self in
     let s : State = c.lower.new.network in
@@ -33,8 +33,19 @@ returns-clause-advances c =
     let pushed : c.push.new.self ≡ record s { flows = push_path amount s.flows path; pushed = s.pushed + amount } =
     c.push.ensures.pushed ∙ ap (λ (es : List Edge). record s { flows = push_path amount s.flows es; pushed = s.pushed + amount }) (take_rest c.trace-route.new.path start) in
     let after : IsState (record s { flows = push_path amount s.flows path; pushed = s.pushed + amount }) = subst (λ (x : State). IsState x) pushed c.push.ensures.state in
+    subst (λ (x : State). IsReady x) (sym pushed) (ready_after_push s path amount ready c.trace-route.ensures.tight after)
+
+pub returns-clause-advances : goal.returns-clause-advances
+returns-clause-advances c =
+    let keeps = c.push_onward.ensures.keeps in
     record {
-      ready = subst (λ (x : State). IsReady x) (sym pushed) (ready_after_push s path amount ready c.trace-route.ensures.tight after);
-      same = ap (λ (x : State). x.instance) pushed ∙ ap (λ (x : State). x.instance) is;
-      pushed = omega (arith, ap (λ (x : State). x.pushed) pushed, ap (λ (x : State). x.pushed) is, c.trace-route.ensures.some);
+      ready = keeps.ready;
+      same = keeps.same ∙ ap (λ (x : State). x.instance) c.push.ensures.pushed ∙ ap (λ (x : State). x.instance) c.lower.ensures.same;
+      pushed = omega (
+        arith,
+        keeps.pushed,
+        ap (λ (x : State). x.pushed) c.push.ensures.pushed,
+        ap (λ (x : State). x.pushed) c.lower.ensures.same,
+        c.trace-route.ensures.some,
+      );
     }
