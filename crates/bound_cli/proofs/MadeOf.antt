@@ -22,6 +22,8 @@ use Rattle.cache_model.specs.Rounding.{IsMaximal, IsRounded, by_rank}
 use Rattle.cache_model.specs.Schedules.{IsFractionalSchedule, flow_value}
 use Rattle.cache_model.proofs.Headline.{prices_bound, exact_is_least}
 use Rattle.flow_model.specs.Instances.{IsSolution, whole_instance}
+use Rattle.flow_model.specs.Windows.{window_instance}
+use Rattle.flow_model.proofs.Equal.{solution_is_best}
 use Rattle.flow_model.proofs.Whole.{rounded_is_near}
 use Rattle.flow_model.proofs.Whole.{exact_is_least as exact_values}
 use Rattle.interval_maker.specs.Timelines.{Timeline, IsTimeline, IsInterval, timeline_of}
@@ -32,7 +34,8 @@ use Rattle.relaxation.proofs.Whole.{timeline_weights}
 use Rattle.schedule_round.specs.Laws.{IsBestPlay, full_flags}
 use Rattle.schedule_round.proofs.EqualSizes.{best_play, equal_sizes_whole}
 use Rattle.bound_cli.specs.declared.bounds.Asked.{Asked}
-use Rattle.bound_cli.specs.Made.{IsBelowWindows, IsMade, IsOfMode, is_unwindowed, records_of, width_of}
+use Rattle.window_bounds.specs.Solutions.{prices_in}
+use Rattle.bound_cli.specs.Made.{HasLeastWindows, IsBelowWindows, IsMade, IsOfMode, is_unwindowed, records_of, width_of}
 use Rattle.bound_cli.specs.Words.{IsModeInRange}
 use Rattle.bound_cli.proofs.RecordsOf.{length-records, prices_of-records, keeps_of-records, flow_at-unused, flows_of-records, records_in_range}
 use Rattle.bound_cli.proofs.Relaxing.{below_windows, flows_each, width_positive}
@@ -201,6 +204,14 @@ module _ (asked : Asked) (trace : List Object) (unit d : ℕ) (whole_costs : Boo
     below Constant fits of = tt
     below Infinite fits of = tt
 
+    least_in_each : (mode : Mode) → IsOfMode mode line unit units d prices flows price → HasLeastWindows mode line unit units d prices
+    least_in_each (Flow window) (zero, are, one) = λ k within.
+        let whole = whole_instance line.items line.steps unit units d in
+        let width = width_of window line.steps in
+        (solution_is_best (window_instance whole width k) (prices_in width k prices) (are.window_flows k) (are.each_window k within)).0
+    least_in_each Constant of = tt
+    least_in_each Infinite of = tt
+
     -- all costs are whole where all sizes are equal
     whole_of_equal : (size : ℕ) → All (λ i. i.size ≡ size) line.items → HasWholeCosts line.items unit d
     whole_of_equal size same =
@@ -233,6 +244,7 @@ module _ (asked : Asked) (trace : List Object) (unit d : ℕ) (whole_costs : Boo
         λ both. and_from (is_unwindowed asked.mode (length trace)) whole_costs both.0 (found.whole_back both.1),
       );
       of_mode = subst (λ ps. IsOfMode asked.mode line unit units d ps (flows_of line.items rs) price) (sym priced) (subst (λ fs. IsOfMode asked.mode line unit units d prices fs price) (sym flowing) found.of_mode);
+      least_windows = subst (HasLeastWindows asked.mode line unit units d) (sym priced) (least_in_each asked.mode found.of_mode);
       below_windows = subst (λ ps. IsBelowWindows asked.mode line unit units d ps upper) (sym priced) (below asked.mode found.mode found.of_mode);
       rounded = subst (λ fs. IsRounded by_rank line.items asked.capacity (length trace) (full_flags unit line.items fs) (keeps_of rs)) (sym flowing)
           (subst (IsRounded by_rank line.items asked.capacity (length trace) (full_flags unit line.items flows)) (sym kept) found.rounded);

@@ -1,5 +1,5 @@
 -- What bounds makes of a trace: the certificate and the report.
-use Rattle.std.specs.Prelude.{◌≡◌, ◌↔◌, ℕ, ◌+◌, max, nat_le, ◌≤◌, Bool, false, IsTrue, List, length, map, slice_index_or, sum, All}
+use Rattle.std.specs.Prelude.{◌≡◌, ◌↔◌, ℕ, ◌+◌, max, nat_le, ◌<◌, ◌≤◌, Bool, false, IsTrue, List, length, map, slice_index_or, sum, All}
 use Rattle.std.specs.List.{range_with_len}
 use Rattle.cache_model.specs.declared.objects.Object.{Object}
 use Rattle.cache_model.specs.declared.intervals.Interval.{Interval}
@@ -17,14 +17,15 @@ use Rattle.cache_model.specs.Units.{IsUnit, HasWholeCosts}
 use Rattle.cache_model.specs.Certificates.{eligible_of, flows_of, keeps_of, prices_of, units_of, IsValid, BoundsEveryPlay, IsLeastOverAll}
 use Rattle.cache_model.specs.Rounding.{IsMaximal, IsRounded, by_rank}
 use Rattle.cache_model.specs.Texts.{cert_text, report_text}
-use Rattle.flow_model.specs.Instances.{IsSolution, whole_instance}
+use Rattle.flow_model.specs.Instances.{IsLeast, IsSolution, whole_instance}
+use Rattle.flow_model.specs.Windows.{window_instance}
 use Rattle.interval_maker.specs.Timelines.{Timeline, starting_at, timeline_of}
 use Rattle.relaxation.specs.declared.denominators.DenominatorChoice.TheVariants.{Exact}
 use Rattle.relaxation.specs.Denominators.{IsChosen, PassesMost}
 use Rattle.relaxation.specs.Faults.{amount_of}
 use Rattle.constant_price.specs.Constants.{IsLeastConstant, constant_prices}
 use Rattle.schedule_round.specs.Laws.{IsBestPlay, full_flags}
-use Rattle.window_bounds.specs.Solutions.{AreSolutions, value_of_windows}
+use Rattle.window_bounds.specs.Solutions.{AreSolutions, prices_in, value_of_windows, window_count}
 use Rattle.bound_cli.specs.declared.bounds.Asked.{Asked}
 
 -- how many steps a window has
@@ -46,6 +47,15 @@ IsOfMode (Flow window) line unit units denominator prices flows price =
 IsOfMode Constant line unit units denominator prices flows price = IsLeastConstant line unit units denominator price × (prices ≡ constant_prices price line.steps) × All (λ f. f ≡ 0) flows
 IsOfMode Infinite line unit units denominator prices flows price = (price ≡ 0) × (prices ≡ constant_prices 0 line.steps) × All (λ f. f ≡ 0) flows
 
+-- no other prices of the steps of a window have a smaller value in it
+abbrev pub HasLeastWindows : Mode → Timeline → ℕ → ℕ → ℕ → List ℕ → Type 0
+HasLeastWindows (Flow window) line unit units denominator prices =
+    let whole = whole_instance line.items line.steps unit units denominator in
+    let width = width_of window line.steps in
+    (k : ℕ) → k < window_count whole width → IsLeast (window_instance whole width k) (prices_in width k prices)
+HasLeastWindows Constant line unit units denominator prices = Unit {0}
+HasLeastWindows Infinite line unit units denominator prices = Unit {0}
+
 -- the bound is at most what the windows are worth at their prices, summed
 abbrev pub IsBelowWindows : Mode → Timeline → ℕ → ℕ → ℕ → List ℕ → ℕ → Type 0
 IsBelowWindows (Flow window) line unit units denominator prices bound =
@@ -62,6 +72,7 @@ pub record IsMade (asked : Asked) (trace : List Object) (price : ℕ) (h : Heade
   pub denominator : IsChosen asked.denominator (eligible_of trace h) h.unit h.denominator
   pub form : IsTrue h.exact ↔ (IsTrue (is_unwindowed asked.mode (length trace)) × HasWholeCosts (eligible_of trace h) h.unit h.denominator)
   pub of_mode : IsOfMode asked.mode (timeline_of h.objective h.capacity trace) h.unit (units_of h) h.denominator (prices_of records) (flows_of (eligible_of trace h) records) price
+  pub least_windows : HasLeastWindows asked.mode (timeline_of h.objective h.capacity trace) h.unit (units_of h) h.denominator (prices_of records)
   pub below_windows : IsBelowWindows asked.mode (timeline_of h.objective h.capacity trace) h.unit (units_of h) h.denominator (prices_of records) h.upper
   pub rounded : IsRounded by_rank (eligible_of trace h) h.capacity (length trace) (full_flags h.unit (eligible_of trace h) (flows_of (eligible_of trace h) records)) (keeps_of records)
   pub maximal : IsMaximal (eligible_of trace h) h.capacity (keeps_of records)

@@ -48,21 +48,3 @@ impl Source for CalmSource {
         Ok(count)
     }
 }
-
-#[cfg(test)]
-mod tests {
-    use super::*;
-    use std::alloc::AllocError;
-
-    #[test]
-    fn gives_what_fits_up_to_the_end(rt: HostRuntime) -> Result<(), AllocError> {
-        let mut source = CalmSource::new(Vec::from_slice(rt.alloc(), b"abcdefg")?);
-        let rows: [(&[u8], usize); 3] = [(b"abcde", 5), (b"fg", 2), (b"", 0)];
-        for (front, want) in rows {
-            let mut buf = [0; 5];
-            assert_eq!(rt; source.read(&mut buf), Ok(want), "before {front:?}");
-            assert_eq!(rt; buf.starts_with(front), true, "before {front:?}");
-        }
-        Ok(())
-    }
-}

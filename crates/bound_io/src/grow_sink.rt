@@ -59,17 +59,3 @@ impl Sink for GrowSink {
         }
     }
 }
-
-#[cfg(test)]
-mod tests {
-    use super::*;
-
-    #[test]
-    fn keeps_each_piece_whole(rt: HostRuntime) {
-        let mut sink = GrowSink::new(rt.alloc());
-        assert_eq!(rt; sink.write(b"two "), Ok(4));
-        assert_eq!(rt; sink.write(b""), Ok(0));
-        assert_eq!(rt; sink.write(b"pieces"), Ok(6));
-        assert_eq!(rt; sink.into_bytes().as_slice(), b"two pieces".as_slice());
-    }
-}

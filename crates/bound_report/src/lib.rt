@@ -6,8 +6,6 @@
 
 mod refusal;
 mod report;
-#[cfg(test)]
-mod tests;
 mod text;
 
 pub use cache_model::{BoundFacts, Mode, Window};

@@ -11,8 +11,6 @@ mod record_check;
 mod rules;
 mod stepping;
 mod summary;
-#[cfg(test)]
-mod tests;
 mod verdict;
 mod walking;
 

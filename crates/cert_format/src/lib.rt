@@ -21,6 +21,3 @@ pub use invalid::InvalidKind;
 pub use laws::{read_is_in_range, read_is_written, written_is_read};
 pub use reader::CertReader;
 pub use writing::{write_end, write_header, write_record};
-
-#[cfg(test)]
-mod tests;

@@ -11,11 +11,7 @@ mod flows;
 mod parts;
 mod prices;
 mod starts;
-#[cfg(test)]
-mod tests;
 mod units;
-#[cfg(test)]
-mod window_tests;
 mod windows;
 
 pub use arcs::instance;

@@ -15,6 +15,3 @@ pub use fault::TraceFault;
 pub use format::{Format, Limits};
 pub use loading::load;
 pub use requests::RequestReader;
-
-#[cfg(test)]
-mod tests;

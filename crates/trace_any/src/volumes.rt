@@ -83,33 +83,3 @@ impl Volumes {
         Ok(index as u32 + 1)
     }
 }
-
-#[cfg(test)]
-mod tests {
-    use super::*;
-    use std::test::Fail;
-
-    // The numbers are counted by hand.
-    #[test]
-    fn numbers_volumes_by_their_first_appearance(rt: HostRuntime) -> Result<(), Fail> {
-        let rows: [(&[u8], u64, u32); 7] = [
-            (b"h", 0, 1),
-            (b"h", 1, 2),
-            (b"g", 0, 3),
-            (b"h", 0, 1),
-            (b"", 0, 4),
-            (b"g", 0, 3),
-            (b"g", 18446744073709551615, 5),
-        ];
-        let alloc = rt.alloc();
-        let mut volumes = Volumes::new(alloc);
-        for (host, disk, number) in rows {
-            assert_eq!(rt;
-                volumes.number(alloc, host, disk),
-                Ok(number),
-                "disk {disk}"
-            );
-        }
-        Ok(())
-    }
-}

@@ -6,8 +6,6 @@
 
 mod solution;
 mod solving;
-#[cfg(test)]
-mod tests;
 
 pub use solution::WindowSolution;
 pub use solving::solve_windows;

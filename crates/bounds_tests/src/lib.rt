@@ -1,0 +1,25 @@
+//! Tests of the crates that make bounds, over small traces and instances.
+//!
+//! They stand apart from those crates, since a crate with tests is proved twice.
+#![tactic(auto)]
+
+#[cfg(test)]
+mod constants;
+#[cfg(test)]
+mod intervals;
+#[cfg(test)]
+mod loads;
+#[cfg(test)]
+mod made;
+#[cfg(test)]
+mod network;
+#[cfg(test)]
+mod rounding;
+#[cfg(test)]
+mod solver;
+#[cfg(test)]
+mod values;
+#[cfg(test)]
+mod window_solutions;
+#[cfg(test)]
+mod windows;

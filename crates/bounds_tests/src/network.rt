@@ -1,0 +1,44 @@
+//! A small network. The numbers were worked out by hand.
+ghost use Rattle.std.specs.Prelude.{◌≡◌, [], ◌∷◌, IfOk};
+
+use bound_base::NoMemory;
+use flow_network::{Edge, Network};
+use relaxation::{Instance, OuterArc};
+use std::alloc::Global;
+use std::test::Fail;
+
+// Two steps with room for three units, and an arc over both that holds two.
+fn over_both(alloc: Global) -> Result<Instance, NoMemory>
+    ensures { IfOk result (λ i. i ≡ record { steps = 2; units = 3; arcs = record { start = 0; end = 2; weight = 2; cost = 5 } ∷ [] }) }
+{
+    let arcs = [OuterArc {
+        start: 0,
+        end: 2,
+        weight: 2,
+        cost: 5,
+    }];
+    Instance::from_arcs(alloc, 2, 3, &arcs)
+}
+
+// The numbers are worked out by hand.
+#[test]
+fn a_unit_along_the_arc_can_be_taken_back(rt: HostRuntime) -> Result<(), Fail> {
+    let alloc = rt.alloc();
+    let instance = over_both(alloc)?;
+    let mut network = Network::new(alloc, &instance)?;
+    assert_eq!(rt; network.left(), 3);
+    assert_eq!(rt; network.residual(Edge::Inner(1)), 3);
+    assert_eq!(rt; network.residual(Edge::InnerBack(1)), 0);
+    assert_eq!(rt; network.residual(Edge::Outer(0)), 2);
+    assert_eq!(rt; network.residual(Edge::OuterBack(0)), 0);
+    network.set_potential(0, 7);
+    assert_eq!(rt; network.potential(0), 7);
+    assert_eq!(rt; network.reduced(Edge::Outer(0)), -2);
+    assert_eq!(rt; network.reduced(Edge::OuterBack(0)), 2);
+    network.push(&[Edge::Outer(0)], 1);
+    assert_eq!(rt; network.left(), 2);
+    assert_eq!(rt; network.residual(Edge::Outer(0)), 1);
+    assert_eq!(rt; network.residual(Edge::OuterBack(0)), 1);
+    assert_eq!(rt; network.into_flows().as_slice(), [1].as_slice());
+    Ok(())
+}

@@ -1,7 +1,0 @@
-use Rattle.std.proofs.Common.{◌≡◌, ◌+◌, None}
-use Rattle.cert_format.specs.declared.reader.Stage.TheVariants.{InRecords}
-use Rattle.cert_format.proofs.tests.read_all.Given as goal
-
--- as many records are left as the header says
-abbrev pub invariant-loop : goal.invariant-loop
-invariant-loop g l = record { no_fault : l.reader.fault ≡ None; stage : l.reader.stage ≡ InRecords; left : l.counter + l.reader.left ≡ l.header.requests }

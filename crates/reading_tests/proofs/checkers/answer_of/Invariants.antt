@@ -1,0 +1,6 @@
+-- so many steps were taken, of as many as there are requests
+use Rattle.std.proofs.Common.{◌≡◌, length}
+use Rattle.reading_tests.proofs.checkers.answer_of.Given as goal
+
+abbrev pub invariant-loop-t : goal.invariant-loop-t
+invariant-loop-t g l = (l.checker.header.requests ≡ length l.requests) × (l.checker.sums.steps ≡ l.t)

@@ -1,0 +1,25 @@
+//! Tests of the crates that read and write: lines, traces, certificates and texts.
+//!
+//! They stand apart from those crates, since a crate with tests is proved twice.
+#![tactic(auto)]
+
+#[cfg(test)]
+mod certificates;
+#[cfg(test)]
+mod checkers;
+#[cfg(test)]
+mod checks;
+#[cfg(test)]
+mod lines;
+#[cfg(test)]
+mod requests;
+#[cfg(test)]
+mod scores;
+#[cfg(test)]
+mod sinks;
+#[cfg(test)]
+mod sources;
+#[cfg(test)]
+mod texts;
+#[cfg(test)]
+mod traces;

@@ -1,0 +1,141 @@
+//! Lines of bytes in memory, counted by hand.
+ghost use Rattle.std.specs.Prelude.{◌≡◌, ◌≤◌, ◌^◌, None, Err};
+
+use bound_base::NoMemory;
+use bound_io::{CalmSource, LineFault, LineReader, MemSource, Source, WholeLine};
+use std::alloc::{AllocError, Global};
+use std::process::Abort;
+use std::test::Fail;
+
+const STEPS: [usize; 6] = [1, 2, 7, 65535, 65536, 65537];
+
+// The lines that a reader with this limit gives of the bytes, and how it ends, whatever the step.
+fn check(
+    rt: &impl Abort,
+    alloc: Global,
+    bytes: &[u8],
+    limit: u64,
+    lines: &[WholeLine<'_>],
+    end: Result<WholeLine<'_>, LineFault>,
+) -> Result<(), Fail>
+    requires { limit ≤ 2 ^ 36 }
+{
+    for step in STEPS {
+        let mut source = MemSource::new(bytes.to_vec(alloc)?, Vec::new(alloc), step);
+        let mut reader = LineReader::new(alloc, limit)?;
+        for line in lines {
+            assert_eq!(rt;
+                reader.next_whole_line(&mut source),
+                Ok(*line),
+                "step {step}"
+            );
+        }
+        assert_eq!(rt; reader.next_whole_line(&mut source), end, "step {step}");
+        assert_eq!(rt; reader.next_whole_line(&mut source), end, "step {step}");
+        assert_eq!(rt; reader.line(), lines.len() as u64, "step {step}");
+    }
+    Ok(())
+}
+
+#[test]
+fn gives_the_lines_of_the_bytes(rt: HostRuntime) -> Result<(), Fail> {
+    let rows: [(&[u8], &[WholeLine<'_>]); 6] = [
+        (b"", &[]),
+        (b"\n", &[WholeLine::Whole(b"")]),
+        (
+            b"\n\nx",
+            &[
+                WholeLine::Whole(b""),
+                WholeLine::Whole(b""),
+                WholeLine::Unended(b"x"),
+            ],
+        ),
+        (
+            b"ab\r\ncd\n",
+            &[WholeLine::Whole(b"ab\r"), WholeLine::Whole(b"cd")],
+        ),
+        (
+            b"one\ntwo",
+            &[WholeLine::Whole(b"one"), WholeLine::Unended(b"two")],
+        ),
+        (
+            b"one\n \n",
+            &[WholeLine::Whole(b"one"), WholeLine::Whole(b" ")],
+        ),
+    ];
+    for (bytes, lines) in rows {
+        check(&rt, rt.alloc(), bytes, 100, lines, Ok(WholeLine::AtEnd))?;
+    }
+    Ok(())
+}
+
+#[test]
+fn refuses_what_passes_the_limit(rt: HostRuntime) -> Result<(), Fail> {
+    let ab = [WholeLine::Whole(b"ab")];
+    let abcd = [WholeLine::Whole(b"ab"), WholeLine::Whole(b"cd")];
+    let unended = [WholeLine::Whole(b"ab"), WholeLine::Unended(b"cd")];
+    let past = Err(LineFault::InputTooLong);
+    let end = Ok(WholeLine::AtEnd);
+    check(&rt, rt.alloc(), b"ab\ncd\n", 5, &ab, past)?;
+    check(&rt, rt.alloc(), b"ab\ncd\n", 6, &abcd, end)?;
+    check(&rt, rt.alloc(), b"ab\ncd", 5, &unended, end)?;
+    check(&rt, rt.alloc(), b"ab\ncd", 4, &ab, past)?;
+    check(&rt, rt.alloc(), b"\n", 0, &[], past)?;
+    check(&rt, rt.alloc(), b"", 0, &[], end)
+}
+
+#[test]
+fn a_text_has_at_most_65535_bytes(rt: HostRuntime) -> Result<(), Fail> {
+    let alloc = rt.alloc();
+    let mut bytes = vec![in alloc; b'x'; 65535]?;
+    let whole = bytes.to_vec(alloc)?;
+    let unended = [WholeLine::Unended(whole.as_slice())];
+    check(&rt, alloc, &bytes, 65535, &unended, Ok(WholeLine::AtEnd))?;
+    bytes.push(b'\n')?;
+    let line = [WholeLine::Whole(whole.as_slice())];
+    check(&rt, alloc, &bytes, 65536, &line, Ok(WholeLine::AtEnd))?;
+    check(&rt, alloc, &bytes, 65535, &[], Err(LineFault::InputTooLong))?;
+    bytes.insert(0, b'x')?;
+    let first = Err(LineFault::LineTooLong { line: 1 });
+    check(&rt, alloc, &bytes, 10, &[], first)?;
+    bytes.insert(0, b'\n')?;
+    let second = Err(LineFault::LineTooLong { line: 2 });
+    check(&rt, alloc, &bytes, 100000, &[WholeLine::Whole(b"")], second)
+}
+
+#[test]
+fn a_failed_read_is_answered_again_and_nothing_more_is_read(rt: HostRuntime) -> Result<(), Fail> {
+    let alloc = rt.alloc();
+    let mut source = MemSource::new(b"ab\ncd\n".to_vec(alloc)?, vec![in alloc; 4]?, 1);
+    let mut reader = LineReader::new(alloc, 100)?;
+    assert_eq!(rt; reader.next_line(&mut source), Ok(Some(b"ab".as_slice())));
+    assert_eq!(rt; reader.next_line(&mut source), Err(LineFault::ReadFault));
+    assert_eq!(rt; reader.next_line(&mut source), Err(LineFault::ReadFault));
+    assert_eq!(rt;
+        (reader.taken(), reader.consumed(), reader.line()),
+        (3, 3, 1)
+    );
+    assert_eq!(rt; source.read(&mut [0; 10]), Ok(1));
+    Ok(())
+}
+
+// Over a source that never fails, no fault of it can be answered.
+fn read_calmly(reader: &mut LineReader, source: &mut CalmSource) -> Result<bool, LineFault>
+    requires { reader.old.fault ≡ None }
+    ensures { result ≡ Err LineFault.ReadFault → ⊥ }
+{
+    Ok(reader.next_line(source)?.is_some())
+}
+
+#[test]
+fn reads_at_most_a_buffer_ahead(rt: HostRuntime) -> Result<(), AllocError> {
+    let mut source = CalmSource::new(vec![in rt.alloc(); b'\n'; 65540]?);
+    match LineReader::new(rt.alloc(), 1 << 36) {
+        Ok(mut reader) => {
+            assert_eq!(rt; read_calmly(&mut reader, &mut source), Ok(true));
+            assert_eq!(rt; (reader.taken(), reader.consumed()), (65536, 1));
+        }
+        Err(NoMemory) => panic!(rt; "no memory"),
+    }
+    Ok(())
+}

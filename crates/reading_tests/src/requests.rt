@@ -1,0 +1,381 @@
+//! Requests over sources in memory. The expected requests and refusals were made by hand.
+ghost use Rattle.std.specs.Prelude.{◌≡◌, ◌≤◌, ◌^◌, None, Err, All};
+ghost use Rattle.trace_any.specs.Readings.{IsFormat};
+
+use bound_io::{CalmSource, MemSource};
+use cache_rules::Object;
+use std::alloc::Global;
+use std::process::Abort;
+use std::test::Fail;
+use trace_any::{Format, Limits, RequestReader, TraceFault, load};
+use trace_lines::LineKind;
+
+const STEPS: [usize; 6] = [1, 2, 7, 65535, 65536, 65537];
+
+// A form and a trace of it, the limits of its reading, the volumes, ids and sizes of the requests, and how it ends.
+#[derive(Clone, Copy)]
+struct Row<'a> {
+    format: Format,
+    trace: &'a [u8],
+    requests: u32,
+    bytes: u64,
+    given: &'a [(u32, u64, u64)],
+    dropped: u64,
+    end: Result<Option<Object>, TraceFault>,
+}
+
+const PAIR: Row<'static> = Row {
+    format: Format::Webcache,
+    trace: b"1 7 4\n2 7 4\n",
+    requests: 1000,
+    bytes: 1000000,
+    given: &[(0, 7, 4), (0, 7, 4)],
+    dropped: 0,
+    end: Ok(None),
+};
+
+const ROWS: [Row<'static>; 5] = [
+    PAIR,
+    Row {
+        trace: b"1 7 4\r\n2 7 4",
+        ..PAIR
+    },
+    Row {
+        trace: b"1 7 4\n5 7 0\n6 7 4\n9 9 00\n",
+        dropped: 2,
+        ..PAIR
+    },
+    Row {
+        trace: b"\n\t\n\r\n1\t7\t4\n \r\n2 7 4 and more\n ",
+        ..PAIR
+    },
+    Row {
+        trace: b"",
+        given: &[],
+        ..PAIR
+    },
+];
+
+// Traces that pass a limit, or have a line that is refused.
+const REFUSED_ROWS: [Row<'static>; 8] = [
+    Row {
+        trace: b"1 1 1\n2 2 1\n3 3 1\n4 x 1\n",
+        requests: 2,
+        given: &[(0, 1, 1), (0, 2, 1)],
+        end: Err(TraceFault::TooManyRequests),
+        ..PAIR
+    },
+    Row {
+        trace: b"1 1 1\n2 2 1\n",
+        requests: 2,
+        given: &[(0, 1, 1), (0, 2, 1)],
+        ..PAIR
+    },
+    Row {
+        requests: 0,
+        given: &[],
+        end: Err(TraceFault::TooManyRequests),
+        ..PAIR
+    },
+    Row { bytes: 12, ..PAIR },
+    Row {
+        bytes: 11,
+        given: &[(0, 7, 4)],
+        end: Err(TraceFault::InputTooLong),
+        ..PAIR
+    },
+    Row {
+        trace: b"1 7 4\n2 x 4\n",
+        bytes: 11,
+        given: &[(0, 7, 4)],
+        end: Err(TraceFault::InputTooLong),
+        ..PAIR
+    },
+    Row {
+        trace: b"1 18446744073709551615 281474976710656\n\n2 7 281474976710657\n",
+        given: &[(0, 18446744073709551615, 281474976710656)],
+        end: Err(TraceFault::BadLine {
+            line: 3,
+            kind: LineKind::SizeTooLarge,
+        }),
+        ..PAIR
+    },
+    Row {
+        trace: b"1 7 4\n5 7 0\n1 7\n",
+        given: &[(0, 7, 4)],
+        dropped: 1,
+        end: Err(TraceFault::BadLine {
+            line: 3,
+            kind: LineKind::TooFewWords,
+        }),
+        ..PAIR
+    },
+];
+
+const ARC: Row<'static> = Row {
+    format: Format::Arc,
+    trace: b"10 3 0 1\n11 2 0 2\n",
+    given: &[
+        (0, 10, 512),
+        (0, 11, 512),
+        (0, 12, 512),
+        (0, 11, 512),
+        (0, 12, 512),
+    ],
+    ..PAIR
+};
+
+const ARC_ROWS: [Row<'static>; 5] = [
+    ARC,
+    Row {
+        trace: b"0 18446744073709551615 0 1\n",
+        requests: 3,
+        given: &[(0, 0, 512), (0, 1, 512), (0, 2, 512)],
+        end: Err(TraceFault::TooManyRequests),
+        ..ARC
+    },
+    Row {
+        trace: b"18446744073709551615 1\r\n7 0\n\n18446744073709551615 2 0 1\n",
+        given: &[(0, 18446744073709551615, 512)],
+        dropped: 1,
+        end: Err(TraceFault::BadLine {
+            line: 4,
+            kind: LineKind::BadRange,
+        }),
+        ..ARC
+    },
+    Row {
+        trace: b"x 0\n",
+        given: &[],
+        end: Err(TraceFault::BadLine {
+            line: 1,
+            kind: LineKind::BadNumber { word: 1 },
+        }),
+        ..ARC
+    },
+    Row {
+        trace: b"10",
+        given: &[],
+        end: Err(TraceFault::BadLine {
+            line: 1,
+            kind: LineKind::TooFewWords,
+        }),
+        ..ARC
+    },
+];
+
+const MSR: Row<'static> = Row {
+    format: Format::Msr { block: 4096 },
+    trace: b"1,h,0,read,0,4096,9\n2,h,1,WRITE,0,4096\n3,h,0,Read,0,0,9\n",
+    given: &[(1, 0, 4096), (2, 0, 4096)],
+    dropped: 1,
+    ..PAIR
+};
+
+const MSR_ROWS: [Row<'static>; 7] = [
+    MSR,
+    Row {
+        trace: b"1,h,0,Read,0,1\n1,h,1,Read,0,1\n1,g,0,Read,0,1\n1,h,0,Read,0,1\n1,,0,Read,0,1\n\
+1,g,0,Read,0,1\n1,g,18446744073709551615,Read,0,1\n",
+        given: &[
+            (1, 0, 4096),
+            (2, 0, 4096),
+            (3, 0, 4096),
+            (1, 0, 4096),
+            (4, 0, 4096),
+            (3, 0, 4096),
+            (5, 0, 4096),
+        ],
+        dropped: 0,
+        ..MSR
+    },
+    Row {
+        trace: b"9,g,7,Read,5,0,9\n1,h,0,Read,4095,2,9\n2,,0,Read,8192,1\n3,h,0,Read,0,1,9",
+        given: &[(1, 0, 4096), (1, 1, 4096), (2, 2, 4096), (1, 0, 4096)],
+        ..MSR
+    },
+    Row {
+        trace: b"128166372003061629,usr,0,Read,7014609920,24576,41286\n",
+        given: &[
+            (1, 1712551, 4096),
+            (1, 1712552, 4096),
+            (1, 1712553, 4096),
+            (1, 1712554, 4096),
+            (1, 1712555, 4096),
+            (1, 1712556, 4096),
+            (1, 1712557, 4096),
+        ],
+        dropped: 0,
+        ..MSR
+    },
+    Row {
+        trace: b"1,h,0,Trim,0,512,1\n",
+        given: &[],
+        dropped: 0,
+        end: Err(TraceFault::BadLine {
+            line: 1,
+            kind: LineKind::BadType,
+        }),
+        ..MSR
+    },
+    Row {
+        trace: b" \n1,\"h\",0,Read,0,512,1\n",
+        given: &[],
+        dropped: 0,
+        end: Err(TraceFault::BadLine {
+            line: 2,
+            kind: LineKind::QuoteByte,
+        }),
+        ..MSR
+    },
+    Row {
+        format: Format::Msr { block: 1 },
+        trace: b"1,h,0,Read,18446744073709551614,2\n1,h,0,Read,18446744073709551615,2",
+        given: &[(1, 18446744073709551614, 1), (1, 18446744073709551615, 1)],
+        dropped: 0,
+        end: Err(TraceFault::BadLine {
+            line: 2,
+            kind: LineKind::BadRange,
+        }),
+        ..MSR
+    },
+];
+
+// The requests of the row, however its bytes are cut, and the end of it twice.
+fn check(rt: &impl Abort, alloc: Global, row: &Row<'_>) -> Result<(), Fail>
+    requires format { IsFormat row.now.format }
+    requires requests { row.now.requests ≤ 2 ^ 25 }
+    requires bytes { row.now.bytes ≤ 2 ^ 36 }
+{
+    let limits = Limits {
+        requests: row.requests,
+        bytes: row.bytes,
+    };
+    for step in STEPS {
+        let mut source = MemSource::new(row.trace.to_vec(alloc)?, Vec::new(alloc), step);
+        let mut reader = RequestReader::new(alloc, row.format, limits)?;
+        for (volume, id, size) in row.given {
+            let object = Object {
+                volume: *volume,
+                id: *id,
+                size: *size,
+            };
+            assert_eq!(rt;
+                reader.next(alloc, &mut source),
+                Ok(Some(object)),
+                "step {step}"
+            );
+        }
+        assert_eq!(rt; reader.next(alloc, &mut source), row.end, "step {step}");
+        assert_eq!(rt; reader.next(alloc, &mut source), row.end, "step {step}");
+        assert_eq!(rt; reader.dropped(), row.dropped, "step {step}");
+    }
+    Ok(())
+}
+
+// The rows of a form.
+fn check_all(rt: &impl Abort, alloc: Global, rows: &[Row<'_>]) -> Result<(), Fail>
+    requires { All (λ row. IsFormat row.format × (row.requests ≤ 2 ^ 25) × (row.bytes ≤ 2 ^ 36)) rows.now }
+{
+    for row in rows {
+        check(rt, alloc, row)?;
+    }
+    Ok(())
+}
+
+#[test]
+fn gives_the_requests_of_webcache_lines(rt: HostRuntime) -> Result<(), Fail> {
+    check_all(&rt, rt.alloc(), &ROWS)?;
+    check_all(&rt, rt.alloc(), &REFUSED_ROWS)
+}
+
+#[test]
+fn gives_a_request_for_each_block_of_arc_lines(rt: HostRuntime) -> Result<(), Fail> {
+    check_all(&rt, rt.alloc(), &ARC_ROWS)
+}
+
+#[test]
+fn numbers_the_volumes_of_msr_lines(rt: HostRuntime) -> Result<(), Fail> {
+    check_all(&rt, rt.alloc(), &MSR_ROWS)
+}
+
+#[test]
+fn a_long_line_is_refused_before_its_bytes_are_counted(rt: HostRuntime) -> Result<(), Fail> {
+    let alloc = rt.alloc();
+    let mut trace = b"1 7 4\n".to_vec(alloc)?;
+    for _ in 0..65536 {
+        trace.push(b' ')?;
+    }
+    let row = Row {
+        trace: &trace,
+        bytes: 100,
+        given: &[(0, 7, 4)],
+        end: Err(TraceFault::BadLine {
+            line: 2,
+            kind: LineKind::TooLong,
+        }),
+        ..PAIR
+    };
+    check(&rt, alloc, &row)
+}
+
+#[test]
+fn a_failed_read_is_answered_again_and_nothing_more_is_read(rt: HostRuntime) -> Result<(), Fail> {
+    let alloc = rt.alloc();
+    let mut source = MemSource::new(PAIR.trace.to_vec(alloc)?, vec![in alloc; 7]?, 1);
+    let mut reader = RequestReader::new(alloc, Format::Webcache, Limits::full())?;
+    let object = Object {
+        volume: 0,
+        id: 7,
+        size: 4,
+    };
+    assert_eq!(rt; reader.next(alloc, &mut source), Ok(Some(object)));
+    for _ in 0..2 {
+        assert_eq!(rt; reader.next(alloc, &mut source), Err(TraceFault::ReadFault));
+    }
+    assert_eq!(rt;
+        load(alloc, &mut reader, &mut source).err(),
+        Some(TraceFault::ReadFault)
+    );
+    Ok(())
+}
+
+#[test]
+fn loads_what_is_still_to_come(rt: HostRuntime) -> Result<(), Fail> {
+    let alloc = rt.alloc();
+    let mut source = MemSource::new(
+        b"1 7 4\n5 7 0\n6 8 4\n7 7 4".to_vec(alloc)?,
+        Vec::new(alloc),
+        3,
+    );
+    let mut reader = RequestReader::new(alloc, Format::Webcache, Limits::full())?;
+    assert_eq!(rt; reader.next(alloc, &mut source).is_ok(), true);
+    let (trace, dropped) = load(alloc, &mut reader, &mut source)?;
+    assert_eq!(rt; (trace.len(), trace.objects(), dropped), (2, 2, 1));
+    Ok(())
+}
+
+// Over a source that never fails, no fault of it can be answered.
+fn next_calmly(
+    alloc: Global,
+    reader: &mut RequestReader,
+    source: &mut CalmSource,
+) -> Result<Option<Object>, TraceFault>
+    requires { reader.old.fault ≡ None }
+    ensures { result ≡ Err TraceFault.ReadFault → ⊥ }
+{
+    reader.next(alloc, source)
+}
+
+#[test]
+fn a_calm_source_gives_no_fault(rt: HostRuntime) -> Result<(), Fail> {
+    let alloc = rt.alloc();
+    let mut source = CalmSource::new(b"x".to_vec(alloc)?);
+    let mut reader = RequestReader::new(alloc, Format::Webcache, Limits::full())?;
+    let few = TraceFault::BadLine {
+        line: 1,
+        kind: LineKind::TooFewWords,
+    };
+    assert_eq!(rt; next_calmly(alloc, &mut reader, &mut source), Err(few));
+    Ok(())
+}
