@@ -2,7 +2,7 @@
 //!
 //! The nodes stand with each one before those of its left half, and these before those of its right half. A tree of
 //! height 0 is one node, which has a short range, whose loads are walked.
-ghost use Rattle.std.specs.Prelude.{◌≡◌, ◌<◌, ◌≤◌, ◌^◌, length, All};
+ghost use Rattle.std.specs.Prelude.{◌≡◌, ◌+◌, ◌/◌, ◌<◌, ◌≤◌, ◌^◌, length, All};
 ghost use Rattle.load_tree.specs.Ranges.{AddsOver, HasRoom};
 ghost use Rattle.load_tree.specs.Trees.{IsMostOver, IsTree, loads_of, nodes_of, root};
 
@@ -25,7 +25,9 @@ const LEAF: usize = 16;
 
 /// The tree for that many steps, whose nodes of height 0 have few steps each.
 pub(crate) fn shape_of(steps: u32) -> Shape
-    ensures { result.nodes ≡ nodes_of result.height }
+    ensures nodes { result.nodes ≡ nodes_of result.height }
+    ensures enough { steps / 16 ≤ result.nodes }
+    ensures few { result.nodes ≤ steps / 8 + 1 }
 {
     let enough = steps as usize / LEAF;
     let mut height = 0;
