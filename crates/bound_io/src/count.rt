@@ -1,5 +1,5 @@
 //! Counting faults.
-ghost use Rattle.std.specs.Prelude.{◌≡◌, ◌≤◌, ◌<◌, length, IfOk};
+ghost use Rattle.std.specs.Prelude.{◌≡◌, ◌≤◌, ◌<◌, length, IfOk, OnOk};
 ghost use Rattle.std.specs.Io.{ReadsAtMost};
 ghost use Rattle.std.specs.Io.KnownBytes.{ReadConsumes, WriteAppends};
 ghost use Rattle.std.specs.Result.{result_ok};
@@ -32,6 +32,7 @@ pub(crate) fn read_once<R: Read>(
     ensures bound { ReadsAtMost result buf.new }
     ensures bytes { ReadConsumes (R.remaining input.old) (R.remaining input.new) result buf.new }
     ensures cause { HasCause faults.old faults.new result }
+    ensures none_failed { OnOk result (faults.new ≡ faults.old) }
 {
     count_fault(input.read(buf).ok(), faults)
 }
@@ -46,6 +47,7 @@ pub(crate) fn write_once<W: Write>(
     ensures progress { IfOk result (λ n. 0 < length bytes.now → 0 < n) }
     ensures bytes { WriteAppends (W.contents output.old) (W.contents output.new) result bytes.now }
     ensures cause { HasCause faults.old faults.new result }
+    ensures none_failed { OnOk result (faults.new ≡ faults.old) }
 {
     let answer = match output.write(bytes) {
         Ok(count) if count > 0 || bytes.is_empty() => Some(count),
