@@ -1,5 +1,5 @@
 //! The bytes that a reader of lines holds.
-ghost use Rattle.std.specs.Prelude.{◌≡◌, ◌-◌, ◌≤◌, ◌<◌, ◌⊎◌, List, ℕ, [], length, take, drop, IfOk, OnErr, vec_len};
+ghost use Rattle.std.specs.Prelude.{◌≡◌, ◌-◌, ◌≤◌, ◌<◌, ◌⊎◌, List, ℕ, [], length, take, drop, IfOk, OnOk, OnErr, vec_len};
 ghost use Rattle.std.specs.Io.KnownBytes.{IsAtEnd, Keeps};
 ghost use Rattle.bound_io.specs.Causes.{HasCause};
 ghost use Rattle.bound_io.specs.Lines.{stands_in, text_len};
@@ -96,6 +96,7 @@ impl Buffer {
         ensures bytes { ReadsOn (S.left source.old) (S.left source.new) self.old self.new result }
         ensures kept { OnErr result ((self.new ≡ self.old) × Keeps (S.left source.old) (S.left source.new)) }
         ensures cause { HasCause (S.faults source.old) (S.faults source.new) result }
+        ensures none_failed { OnOk result (S.faults source.new ≡ S.faults source.old) }
     {
         self.end = move_to_front(&mut self.bytes, self.start, self.end);
         self.start = 0;
@@ -113,6 +114,7 @@ impl Buffer {
         ensures room { length self.new ≤ 65536 }
         ensures source { LosesFront (S.left source.old) (S.left source.new) }
         ensures cause { HasCause (S.faults source.old) (S.faults source.new) result }
+        ensures none_failed { OnOk result (S.faults source.new ≡ S.faults source.old) }
     {
         let mut seen = 0;
         loop {

@@ -1,5 +1,5 @@
 //! A sink in memory that takes all.
-ghost use Rattle.std.specs.Prelude.{◌≡◌, ◌<◌, ◌≤◌, Some, [], length, IfOk};
+ghost use Rattle.std.specs.Prelude.{◌≡◌, ◌<◌, ◌≤◌, Some, [], length, IfOk, OnOk};
 ghost use Rattle.std.specs.Io.KnownBytes.{WriteAppends};
 ghost use Rattle.bound_io.specs.Causes.{HasCause, count_after};
 
@@ -47,6 +47,7 @@ impl Sink for GrowSink {
         ensures progress { IfOk result (λ n. 0 < length bytes.now → 0 < n) }
         ensures bytes { WriteAppends (Some (bytes_written self.old)) (Some (bytes_written self.new)) result bytes.now }
         ensures cause { HasCause (fault_count self.old) (fault_count self.new) result }
+        ensures none_failed { OnOk result (fault_count self.new ≡ fault_count self.old) }
         ensures whole { IfOk result (λ n. n ≡ length bytes.now) }
         ensures faults { fault_count self.new ≡ count_after result (fault_count self.old) }
     {

@@ -1,5 +1,5 @@
 //! A reader of lines.
-ghost use Rattle.std.specs.Prelude.{◌≡◌, ◌+◌, ◌≤◌, ◌<◌, ◌^◌, [], length, IfOk, IfErr, IfSome, IfNone};
+ghost use Rattle.std.specs.Prelude.{◌≡◌, ◌+◌, ◌≤◌, ◌<◌, ◌^◌, [], length, IfOk, IfErr, OnOk, IfSome, IfNone};
 ghost use Rattle.std.specs.Io.KnownBytes.{IsAtEnd, Keeps};
 ghost use Rattle.bound_io.specs.Lines.{HasExtent, first_text, stands_in};
 ghost use Rattle.bound_io.specs.Reading.{LosesFront};
@@ -121,6 +121,7 @@ impl LineReader {
         ensures kept { Keeps (stands_in self.old.held (S.left source.old)) (stands_in self.new.held (S.left source.new)) }
         ensures source { LosesFront (S.left source.old) (S.left source.new) }
         ensures later { S.faults source.old ≤ S.faults source.new }
+        ensures none_failed { OnOk result (S.faults source.new ≡ S.faults source.old) }
     {
         let Ok(text) = self.buffer.find_text(source) else {
             return Err(LineFault::ReadFault);
@@ -149,6 +150,7 @@ impl LineReader {
         ensures kept { Keeps (stands_in self.old.held (S.left source.old)) (stands_in self.new.held (S.left source.new)) }
         ensures source { LosesFront (S.left source.old) (S.left source.new) }
         ensures later { S.faults source.old ≤ S.faults source.new }
+        ensures none_failed { OnOk result (S.faults source.new ≡ S.faults source.old) }
     {
         if let Some(fault) = self.fault {
             return Err(fault);
@@ -168,6 +170,7 @@ impl LineReader {
         ensures again { IfSome self.old.fault (λ fault. (result ≡ Err fault) × (S.left source.new ≡ S.left source.old) × (S.faults source.new ≡ S.faults source.old)) }
         ensures source { LosesFront (S.left source.old) (S.left source.new) }
         ensures later { S.faults source.old ≤ S.faults source.new }
+        ensures none_failed { OnOk result (S.faults source.new ≡ S.faults source.old) }
         ensures* after { sem 𝓛 (Rests the_row self.entry (λ new. NextLine self.old new (stands_in self.old.held (S.left source.old)) (stands_in new.held (S.left source.new)) (given_by result) × (length new.held ≤ 65536))) }
     {
         let extent = self.find_line(source)?;
@@ -193,6 +196,7 @@ impl LineReader {
         ensures again { IfSome self.old.fault (λ fault. (result ≡ Err fault) × (S.left source.new ≡ S.left source.old) × (S.faults source.new ≡ S.faults source.old)) }
         ensures source { LosesFront (S.left source.old) (S.left source.new) }
         ensures later { S.faults source.old ≤ S.faults source.new }
+        ensures none_failed { OnOk result (S.faults source.new ≡ S.faults source.old) }
         ensures* after { sem 𝓛 (Rests the_row self.entry (λ new. NextLine self.old new (stands_in self.old.held (S.left source.old)) (stands_in new.held (S.left source.new)) result × (length new.held ≤ 65536))) }
     {
         match self.next_whole_line(source)? {

@@ -1,5 +1,5 @@
 //! Writing whole texts.
-ghost use Rattle.std.specs.Prelude.{OnOk, OnErr};
+ghost use Rattle.std.specs.Prelude.{◌≡◌, OnOk, OnErr};
 ghost use Rattle.std.specs.Io.KnownBytes.{Appends};
 ghost use Rattle.bound_io.specs.Causes.{HasCause};
 ghost use Rattle.bound_io.specs.Writing.{AppendsProperFront};
@@ -11,6 +11,7 @@ pub fn write_all<K: Sink>(sink: &mut K, bytes: &[u8]) -> Result<(), Failed>
     ensures all { OnOk result (Appends (K.written sink.old) (K.written sink.new) bytes.now) }
     ensures front { OnErr result (AppendsProperFront (K.written sink.old) (K.written sink.new) bytes.now) }
     ensures cause { HasCause (K.faults sink.old) (K.faults sink.new) result }
+    ensures none_failed { OnOk result (K.faults sink.new ≡ K.faults sink.old) }
 {
     let mut at = 0;
     while at < bytes.len() {

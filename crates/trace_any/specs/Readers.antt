@@ -110,16 +110,20 @@ pub record GoesOn (with_given : Reading → Reading) (old new : Reader) (bytes :
   pub rest : after ≡ Some (bytes_after old new bytes)
   pub coming : to_come old bytes ≡ with_given (to_come new (bytes_after old new bytes))
 
--- how the next request is given: it is the first of those to come; at the end none is to come, and nothing is left
+-- no request is left: none of these bytes was to come, nothing of them is left, and none comes from then on
+abbrev pub GivesNone : Reader → Reader → List ℕ → Option (List ℕ) → Type 0
+GivesNone old new bytes after = IsOver (to_come old bytes) new.dropped None × (after ≡ Some []) × IsOver (to_come new []) new.dropped None
+
+-- how the next request is given: it is the first of those to come; at the end none is left
 abbrev pub NextRequest : Reader → Reader → Option (List ℕ) → Option (List ℕ) → ℕ → ℕ → Result (Option Object) TraceFault → Type 0
 NextRequest old new before after faults_before faults_after (Ok (Some x)) = (new.given ≡ old.given + 1) × IfSome before (λ bytes. GoesOn (onto x) old new bytes after)
-NextRequest old new before after faults_before faults_after (Ok None) = IfSome before (λ bytes. IsOver (to_come old bytes) new.dropped None × (after ≡ Some []))
+NextRequest old new before after faults_before faults_after (Ok None) = IfSome before (λ bytes. GivesNone old new bytes after)
 NextRequest old new before after faults_before faults_after (Err fault) = IsStopped old new before faults_before faults_after fault
 
 -- how the next line is taken up: nothing that is to come changes by it
 abbrev pub LineTaken : Reader → Reader → Option (List ℕ) → Option (List ℕ) → ℕ → ℕ → Result Bool TraceFault → Type 0
 LineTaken old new before after faults_before faults_after (Ok true) = (old.lines.consumed < new.lines.consumed) × IfSome before (λ bytes. GoesOn (λ r. r) old new bytes after)
-LineTaken old new before after faults_before faults_after (Ok false) = IfSome before (λ bytes. IsOver (to_come old bytes) new.dropped None × (after ≡ Some []))
+LineTaken old new before after faults_before faults_after (Ok false) = IfSome before (λ bytes. GivesNone old new bytes after)
 LineTaken old new before after faults_before faults_after (Err fault) = IsStopped old new before faults_before faults_after fault
 
 -- the blocks that a line with this span asks for of the volume with this number, if any

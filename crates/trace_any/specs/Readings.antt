@@ -140,6 +140,12 @@ fault_of line.ReadFault = ReadFault
 fault_of (line.LineTooLong n) = BadLine n TooLong
 fault_of line.InputTooLong = InputTooLong
 
+-- each line of the form names a volume
+abbrev pub NamesVolumes : Format → Type 0
+NamesVolumes Webcache = ⊥
+NamesVolumes Arc = ⊥
+NamesVolumes (Msr block) = Unit {0}
+
 -- the blocks of a form have from 1 to 2^48 bytes
 abbrev pub IsFormat : Format → Type 0
 IsFormat Webcache = Unit {0}

@@ -1,5 +1,5 @@
 //! Whole traces.
-ghost use Rattle.std.specs.Prelude.{◌≡◌, ◌≤◌, ◌⊎◌, Some, [], None, Err, IfOk, IfErr, IfSome};
+ghost use Rattle.std.specs.Prelude.{◌≡◌, ◌≤◌, ◌⊎◌, Some, [], None, Err, IfOk, IfErr, OnOk, IfSome};
 ghost use Rattle.bound_io.specs.Reading.{LosesFront};
 ghost use Rattle.trace_any.specs.Readers.{IsNotLoaded, IsWhole, to_come, told};
 
@@ -23,6 +23,7 @@ pub fn load<S: Source>(
     ensures again { IfSome reader.old.fault (λ fault. ((result ≡ Err fault) ⊎ (result ≡ Err TraceFault.NoMemory)) × (S.left source.new ≡ S.left source.old) × (S.faults source.new ≡ S.faults source.old)) }
     ensures source { LosesFront (S.left source.old) (S.left source.new) }
     ensures later { S.faults source.old ≤ S.faults source.new }
+    ensures none_failed { OnOk result (S.faults source.new ≡ S.faults source.old) }
 {
     let mut requests = Builder::new(alloc)?;
     while let Some(object) = reader.next(alloc, source)? {

@@ -4,7 +4,7 @@ ghost use Rattle.bound_io.specs.Causes.{Rose};
 ghost use Rattle.bound_io.specs.Reading.{LosesFront};
 ghost use Rattle.std.specs.Option.{option_map};
 ghost use Rattle.trace_lines.specs.Lines.{IsSpan};
-ghost use Rattle.trace_any.specs.Readings.{IsFormat};
+ghost use Rattle.trace_any.specs.Readings.{IsFormat, NamesVolumes};
 ghost use Rattle.trace_any.specs.Readers.{ahead_by};
 
 use crate::fault::TraceFault;
@@ -126,6 +126,8 @@ impl Progress {
         ensures taken { LineTaken self.old self.new (told self.old (S.left source.old)) (told self.new (S.left source.new)) (S.faults source.old) (S.faults source.new) result }
         ensures source { LosesFront (S.left source.old) (S.left source.new) }
         ensures later { S.faults source.old ≤ S.faults source.new }
+        ensures none_failed { OnOk result (S.faults source.new ≡ S.faults source.old) }
+        ensures memory { IfErr result (λ fault. fault ≡ TraceFault.NoMemory → NamesVolumes self.old.format) }
     {
         let Some(text) = self.lines.next_line(source)? else {
             return Ok(false);
@@ -188,6 +190,8 @@ impl Progress {
         ensures next { NextRequest self.old self.new (told self.old (S.left source.old)) (told self.new (S.left source.new)) (S.faults source.old) (S.faults source.new) result }
         ensures source { LosesFront (S.left source.old) (S.left source.new) }
         ensures later { S.faults source.old ≤ S.faults source.new }
+        ensures none_failed { OnOk result (S.faults source.new ≡ S.faults source.old) }
+        ensures memory { IfErr result (λ fault. fault ≡ TraceFault.NoMemory → NamesVolumes self.old.format) }
     {
         while self.ahead.count == 0 {
             if !self.take_line(alloc, source)? {

@@ -1,7 +1,7 @@
 //! A reader of requests.
-ghost use Rattle.std.specs.Prelude.{◌≡◌, ◌≤◌, ◌^◌, None, Some, Err, IfOk, IfSome, OnOk, length};
+ghost use Rattle.std.specs.Prelude.{◌≡◌, ◌≤◌, ◌^◌, None, Some, Err, IfOk, IfErr, IfSome, OnOk, length};
 ghost use Rattle.bound_io.specs.Reading.{LosesFront};
-ghost use Rattle.trace_any.specs.Readings.{IsFormat};
+ghost use Rattle.trace_any.specs.Readings.{IsFormat, NamesVolumes};
 
 use crate::fault::TraceFault;
 use crate::format::{Format, Limits};
@@ -74,6 +74,8 @@ impl RequestReader {
         ensures ahead { length self.new.lines.held ≤ 65536 }
         ensures source { LosesFront (S.left source.old) (S.left source.new) }
         ensures later { S.faults source.old ≤ S.faults source.new }
+        ensures none_failed { OnOk result (S.faults source.new ≡ S.faults source.old) }
+        ensures memory { self.old.fault ≡ None → IfErr result (λ fault. fault ≡ TraceFault.NoMemory → NamesVolumes self.old.format) }
     {
         if let Some(fault) = self.fault {
             return Err(fault);

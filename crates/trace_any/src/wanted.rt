@@ -1,7 +1,7 @@
 //! What a line asks for, by the form of the trace.
-ghost use Rattle.std.specs.Prelude.{◌≡◌, ◌+◌, ◌≤◌, ◌^◌, None, Some, length, IfOk, IfSome, OnOk, OnErr};
+ghost use Rattle.std.specs.Prelude.{◌≡◌, ◌+◌, ◌≤◌, ◌^◌, None, Some, length, IfOk, IfSome, IsSome, OnOk, OnErr};
 ghost use Rattle.trace_any.specs.Readers.{noted_by, number_by};
-ghost use Rattle.trace_any.specs.Readings.{IsFormat, text_asked};
+ghost use Rattle.trace_any.specs.Readings.{IsFormat, NamesVolumes, text_asked};
 ghost use Rattle.trace_lines.specs.Lines.{IsSpan};
 ghost use Rattle.trace_any.specs.Wanted.{answer_of, volume_of};
 
@@ -42,6 +42,7 @@ pub fn wanted_of(format: Format, text: &[u8]) -> Result<Option<Wanted<'_>>, Line
     requires { IsFormat format }
     ensures asked { answer_of result ≡ text_asked format text.now }
     ensures range { IfOk result (λ found. IfSome found (λ wanted. IsSpan wanted.span)) }
+    ensures volume { IfOk result (λ found. IfSome found (λ wanted. IfSome wanted.volume (λ _. NamesVolumes format))) }
 {
     let text = trim_cr(text);
     if is_blank(text) {
@@ -60,6 +61,7 @@ pub fn number_of(volumes: &mut Volumes, alloc: Global, wanted: &Wanted<'_>) -> R
     ensures number { IfOk result (λ n. n ≡ number_by wanted.now.span volumes.old (volume_of wanted.now.volume)) }
     ensures volumes { OnOk result (volumes.new ≡ noted_by wanted.now.span volumes.old (volume_of wanted.now.volume)) }
     ensures err { OnErr result (volumes.new ≡ volumes.old) }
+    ensures memory { OnErr result (IsSome wanted.now.volume) }
     ensures most { length volumes.new ≤ length volumes.old + 1 }
 {
     if wanted.span == Span::Nothing {

@@ -1,5 +1,5 @@
 -- The words and the fields of a line, and what it may ask for.
-use Rattle.std.specs.Prelude.{ℕ, ◌+◌, ◌-◌, ◌^◌, ◌≤◌, List, length, take, filter, slice_index_or, ◌==◌, Bool, not, ◌||◌, if◌then◌else◌}
+use Rattle.std.specs.Prelude.{◌≡◌, ℕ, ◌+◌, ◌-◌, ◌^◌, ◌≤◌, List, ◌++◌, length, take, filter, slice_index_or, ◌==◌, Bool, not, ◌||◌, if◌then◌else◌}
 use Rattle.std.specs.List.{list_all, slice_split}
 use Rattle.trace_lines.specs.declared.line.Span.{Span}
 use Rattle.trace_lines.specs.declared.line.Span.TheVariants.{Nothing, One, Blocks}
@@ -11,6 +11,10 @@ is_gap byte = byte == 32 || byte == 9
 -- the words of a line: its longest runs without a space or a tab
 abbrev pub words : List ℕ → List (List ℕ)
 words line = filter (λ word. not (length word == 0)) (slice_split is_gap line)
+
+-- a text ends in these bytes
+abbrev pub EndsIn : List ℕ → List ℕ → Type 0
+EndsIn text end = (front : List ℕ) × (text ≡ front ++ end)
 
 -- the fields of a line: what stands between its commas, before the first and after the last, empty ones too
 abbrev pub fields : List ℕ → List (List ℕ)

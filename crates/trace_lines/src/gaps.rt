@@ -1,8 +1,8 @@
 //! Words, which stand apart by spaces and tabs.
-ghost use Rattle.std.specs.Prelude.{◌≡◌, ◌∷◌, [], ◌-◌, ◌<◌, ◌≤◌, not, length, position, slice_get, MatchOption, IfSome};
+ghost use Rattle.std.specs.Prelude.{◌≡◌, ◌∷◌, [], ◌-◌, ◌<◌, ◌≤◌, ◌++◌, not, length, position, slice_get, MatchOption, IfSome};
 ghost use Rattle.std.specs.Option.{option_copied};
 ghost use Rattle.trace_lines.specs.Lines as lines;
-ghost use Rattle.trace_lines.specs.Lines.{is_gap, words};
+ghost use Rattle.trace_lines.specs.Lines.{EndsIn, is_gap, words};
 
 fn is_gap_byte(byte: u8) -> bool
     ensures { result ≡ is_gap byte }
@@ -28,6 +28,7 @@ fn first_gap(text: &[u8]) -> Option<usize>
 /// and of the gaps before it.
 pub fn first_word(line: &[u8]) -> Option<(&[u8], &[u8])>
     ensures words { MatchOption result (words line.now ≡ []) (λ parts. words line.now ≡ parts.0.now ∷ words parts.1.now) }
+    ensures after { IfSome result (λ parts. EndsIn line.now (parts.0.now ++ parts.1.now)) }
     ensures shorter { IfSome result (λ parts. length parts.1.now < length line.now) }
 {
     let start = word_start(line)?;

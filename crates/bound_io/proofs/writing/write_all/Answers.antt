@@ -1,4 +1,4 @@
-use Rattle.std.proofs.Common.{arith}
+use Rattle.std.proofs.Common.{◌∙◌, arith}
 use Rattle.std.proofs.lemmas.List.{take_rest}
 use Rattle.bound_io.proofs.KnownLemmas.{appends_more}
 use Rattle.bound_io.proofs.writing.write_all.Goals as goal
@@ -7,5 +7,5 @@ pub loop-at-preserved : goal.loop-at-preserved
 loop-at-preserved g c = record {
   within = omega (arith, c.in_ok-at.ensures.bound);
   so_far = appends_more _ _ _ _ _ _ c.loop-at.invariant.so_far (rw take_rest at c.in_ok-at.ensures.bytes);
-  later = omega (arith, c.write.ensures.cause.later);
+  none_failed = c.in_ok-at.ensures.none_failed ∙ c.loop-at.invariant.none_failed;
 }

@@ -22,7 +22,7 @@ loop-requests-preserved g c =
       goes_on = λ fresh. rw pushed (loads_one c.args.reader.now c.loop-requests.reader c.next.new.self given object _ _ _ (i.goes_on fresh) (next.1));
       unread = rw (← i.fault, none) tt;
       source = loses_then _ _ _ (n.source.0) i.source (n.source.1);
-      later = omega (arith, i.later, n.later);
+      none_failed = c.in_ok-object.ensures.none_failed ∙ i.none_failed;
     }
 
 pub returns-in_err-push-clause-source : goal.returns-in_err-push-clause-source

@@ -1,4 +1,4 @@
-use Rattle.std.proofs.Common.{◌≡◌, ◌+◌, ◌-◌, ◌≤◌, length, None, IfSome}
+use Rattle.std.proofs.Common.{◌≡◌, ◌+◌, ◌-◌, length, None, IfSome}
 use Rattle.bound_io.specs.Reading.{LosesFront}
 use Rattle.trace_any.specs.Readers.{GoesOn, after, told}
 use Rattle.trace_any.proofs.loading.load.Given as goal
@@ -11,7 +11,7 @@ invariant-loop-requests g l = record {
   goes_on : l.initial.reader.fault ≡ None → IfSome (told l.initial.reader (g.S.Source.left l.initial.source)) (λ bytes. GoesOn (after l.requests) l.initial.reader l.reader bytes (told l.reader (g.S.Source.left l.source)));
   unread : IfSome l.initial.reader.fault (λ _. (g.S.Source.left l.source ≡ g.S.Source.left l.initial.source) × (g.S.Source.faults l.source ≡ g.S.Source.faults l.initial.source));
   source : LosesFront (g.S.Source.left l.initial.source) (g.S.Source.left l.source);
-  later : g.S.Source.faults l.initial.source ≤ g.S.Source.faults l.source;
+  none_failed : g.S.Source.faults l.source ≡ g.S.Source.faults l.initial.source;
 }
 
 abbrev pub decreases-loop-requests : goal.decreases-loop-requests

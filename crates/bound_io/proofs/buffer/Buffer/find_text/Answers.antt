@@ -1,4 +1,4 @@
-use Rattle.std.proofs.Common.{◌≡◌, ◌+◌, length, drop, arith, length-append, length-drop}
+use Rattle.std.proofs.Common.{◌≡◌, ◌+◌, ◌∙◌, length, drop, arith, length-append, length-drop}
 use Rattle.std.proofs.lemmas.List.{take_rest}
 use Rattle.bound_io.specs.Lines.{text_len}
 use Rattle.bound_io.proofs.KnownLemmas.{keeps_more, keeps_then, loses_then}
@@ -27,5 +27,5 @@ loop-seen-preserved g c =
       seen = text_len_later held more.0 seen none all;
       kept = keeps_then _ _ _ so_far.kept (keeps_more _ _ held more.0 more.3);
       source = loses_then _ _ _ more.0 so_far.source more.3;
-      later = omega (arith, so_far.later, c.in_ok-fill.ensures.cause.later);
+      none_failed = c.in_ok-fill.ensures.none_failed ∙ so_far.none_failed;
     }

@@ -10,7 +10,7 @@ invariant-loop-seen g l = record {
   seen : text_len l.self ≡ l.seen + text_len (drop l.seen l.self);
   kept : Keeps (stands_in l.initial.self (g.S.Source.left l.initial.source)) (stands_in l.self (g.S.Source.left l.source));
   source : LosesFront (g.S.Source.left l.initial.source) (g.S.Source.left l.source);
-  later : g.S.Source.faults l.initial.source ≤ g.S.Source.faults l.source;
+  none_failed : g.S.Source.faults l.source ≡ g.S.Source.faults l.initial.source;
 }
 
 abbrev pub decreases-loop-seen : goal.decreases-loop-seen

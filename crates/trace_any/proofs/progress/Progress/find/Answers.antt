@@ -27,5 +27,5 @@ loop-self-preserved g c =
       no_fault = taken.no_fault;
       goes_on = goes_then (c.args.self.now) (c.loop-self.self) (c.take_line.new.self) _ _ _ i.goes_on (new.1);
       source = loses_then _ _ _ (t.source.0) i.source (t.source.1);
-      later = omega (arith, i.later, t.later);
+      none_failed = taken.none_failed ∙ i.none_failed;
     }

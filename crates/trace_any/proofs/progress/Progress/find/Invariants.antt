@@ -1,4 +1,4 @@
-use Rattle.std.proofs.Common.{◌≡◌, ◌-◌, ◌≤◌, None, IfSome}
+use Rattle.std.proofs.Common.{◌≡◌, ◌-◌, None, IfSome}
 use Rattle.bound_io.specs.Reading.{LosesFront}
 use Rattle.trace_any.specs.Readers.{GoesOn, told}
 use Rattle.trace_any.proofs.progress.Progress.find.Given as goal
@@ -11,7 +11,7 @@ invariant-loop-self g l = record {
   no_fault : l.self.lines.fault ≡ None;
   goes_on : IfSome (told l.initial.self (g.S.Source.left l.initial.source)) (λ bytes. GoesOn (λ r. r) l.initial.self l.self bytes (told l.self (g.S.Source.left l.source)));
   source : LosesFront (g.S.Source.left l.initial.source) (g.S.Source.left l.source);
-  later : g.S.Source.faults l.initial.source ≤ g.S.Source.faults l.source;
+  none_failed : g.S.Source.faults l.source ≡ g.S.Source.faults l.initial.source;
 }
 
 abbrev pub decreases-loop-self : goal.decreases-loop-self

@@ -3,7 +3,6 @@ use Rattle.trace_any.specs.Readers.{LineTaken, IsOver, GoesOn, Ahead, told, to_c
 use Rattle.trace_any.specs.Wanted.{answer_of, asked_by, volume_of}
 use Rattle.std.specs.Option.{option_map}
 use Rattle.trace_any.specs.declared.progress.Range.{Range}
-use Rattle.bound_io.specs.Lines.{stands_in}
 use Rattle.trace_any.specs.Readings.{fault_of}
 use Rattle.trace_any.specs.declared.fault.TraceFault.TheVariants.{BadLine}
 use Rattle.trace_any.specs.contracts.progress.Progress.{the_view}
