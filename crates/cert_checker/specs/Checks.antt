@@ -71,7 +71,7 @@ abbrev pub IsFailing : ℕ → Option InvalidKind → CheckFault → Type 0
 IsFailing line failed (fault.Invalid n kind) = (n ≡ line) × (failed ≡ Some kind)
 IsFailing line failed (fault.Trace why) = ⊥
 IsFailing line failed fault.CertReadFault = ⊥
-IsFailing line failed fault.NoMemory = Unit {0}
+IsFailing line failed fault.NoMemory = failed ≡ None
 
 -- a step from these requests and records
 abbrev pub IsSteppedWith : ℕ → Header → List Object → List Record → Object → Record → Summary → Result (Unit {0}) CheckFault → Type 0

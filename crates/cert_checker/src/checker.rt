@@ -1,5 +1,5 @@
 //! A checker, which is given the requests and the records one by one.
-ghost use Rattle.std.specs.Prelude.{◌≡◌, ◌≤◌, ◌<◌, ◌+◌, ◌^◌, [], List, length, IfOk, OnErr, OnOk};
+ghost use Rattle.std.specs.Prelude.{◌≡◌, ◌≤◌, ◌<◌, ◌+◌, ◌^◌, [], List, length, None, IfErr, IfOk, OnErr, OnOk};
 ghost use Rattle.cache_model.specs.declared.objects.Object.{Object as Requested};
 ghost use Rattle.cache_model.specs.declared.certificates.Header.{Header as Head};
 ghost use Rattle.cache_model.specs.declared.certificates.Record.{Record as Entry};
@@ -80,6 +80,9 @@ const NOTHING: Sums = Sums {
 };
 
 impl Checker {
+    ghost use Rattle.std.specs.Map.{lookup};
+    ghost use Rattle.cache_model.specs.Play.{same_object};
+    ghost use Rattle.cert_checker.specs.declared.checker.StepFault.TheVariants.{NoMemory as WantOfMemory};
     ghost use Rattle.cert_checker.specs.Answers.{IsFinished, IsStepped};
     ghost use Rattle.cert_checker.specs.Rules.{counted_of, first_unused};
     ghost use Rattle.cert_checker.specs.Summaries.{StandsFor};
@@ -106,6 +109,7 @@ impl Checker {
         ensures stepped { (h : Head) (trace : List Requested) (records : List Entry) → StandsFor h trace records self.old → IsStepped h trace records object entry self.new result }
         ensures counts { OnOk result ((self.new.header ≡ self.old.header) × (self.new.sums.steps ≡ self.old.sums.steps + 1)) }
         ensures kept { OnErr result (self.new ≡ self.old) }
+        ensures only_if_new { IfErr result (λ fault. fault ≡ WantOfMemory → lookup (same_object object) self.old.entries ≡ None) }
     {
         let before = self.seen.get(&object).copied();
         let now = figures(&self.header, &self.sums, &object, &entry, before);

@@ -1,10 +1,9 @@
 -- The lines before the records: what is written is read, and what is read is what is written.
-use Rattle.std.proofs.Common.{◌≡◌, ℕ, zero, suc, ◌+◌, ◌-◌, ◌^◌, ◌<◌, ◌∙◌, sym, refl, ap, Bool, List, [], ◌∷◌, ◌++◌, append_assoc, length, get_or, arith, codes, Some, None, Option}
+use Rattle.std.proofs.Common.{◌≡◌, ℕ, zero, suc, ◌+◌, ◌-◌, ◌^◌, ◌<◌, ◌∙◌, sym, refl, ap, List, [], ◌∷◌, ◌++◌, append_assoc, length, get_or, arith, codes, Some, None, Option}
 use Rattle.std.specs.Option.{option_or, is_some}
 use Rattle.std.specs.Str.{bytes_eq}
 use Rattle.std.proofs.lemmas.Bool.{true≢false}
 use Rattle.bound_io.specs.Lines.{first_text, after_line}
-use Rattle.cache_model.specs.declared.objects.Objective.{Objective}
 use Rattle.cache_model.specs.declared.certificates.Header.{Header}
 use Rattle.cache_model.specs.Certificates.{IsHeaderInRange}
 use Rattle.cache_model.specs.Texts.{line, text_of, entry, objective_word, form_word, header_lines}

@@ -12,7 +12,6 @@ use Rattle.cache_model.specs.declared.objects.Objective.TheVariants.{Object as H
 use Rattle.cache_model.specs.declared.certificates.Record.{Record}
 use Rattle.cache_model.specs.Certificates.{IsRecordInRange}
 use Rattle.cache_model.specs.Texts.{entry, objective_word, form_word, keep_digit, record_line}
-use Rattle.cache_model.proofs.Apart.{keep_small}
 use Rattle.cert_format.specs.declared.fault.TextKind.TheVariants.{Number, Range}
 use Rattle.cert_format.specs.Grammar.{Within, words, line_fault, number_line, choice_line, record_slots, number_fault, number_at, number_in, word_at, is_canonical}
 use Rattle.cert_format.specs.Readings.{objective_in, record_in}

@@ -2,7 +2,7 @@
 
 use bound_base::NumFault;
 
-/// What is wrong with the text of a line, in the order of the tests.
+/// What is wrong with the text of a line. Its length is tested first, and then the others in this order.
 #[derive(Clone, Copy, Debug, PartialEq, Eq)]
 pub enum TextKind {
     /// Its words are not as many as there should be, or not parted by one space each, or one of them is none of those

@@ -1,5 +1,5 @@
 //! A reader of certificates.
-ghost use Rattle.std.specs.Prelude.{◌≡◌, ◌≢◌, ◌+◌, ◌^◌, ◌<◌, ◌≤◌, IfOk, IfErr, IfSome, length, None, Err};
+ghost use Rattle.std.specs.Prelude.{◌≡◌, ◌≢◌, ◌+◌, ◌^◌, ◌<◌, ◌≤◌, IfOk, IfErr, IfSome, OnOk, length, None, Err};
 ghost use Rattle.bound_io.specs.Devices.{IsUntouched, device};
 ghost use Rattle.bound_io.specs.Reading.{LosesFront};
 ghost use Rattle.cache_model.specs.Certificates.{IsHeaderInRange, IsRecordInRange};
@@ -159,6 +159,7 @@ impl CertReader {
     /// Reads the end, where all records were read, and what follows it, which is nothing.
     pub fn finish_text<Q: Source>(&mut self, source: &mut Q) -> Result<(), CertFault>
         requires { self.old.fault ≡ None → (self.old.stage ≢ AtHeader) × (self.old.left ≡ 0) }
+        ensures lines { self.old.fault ≡ None → OnOk result (self.new.lines.line ≡ self.old.lines.line + lines_left self.old.stage) }
         ensures read { self.old.fault ≡ None → EndRead self.old self.new (device (Q.left source.old) (Q.left source.new) (Q.faults source.old) (Q.faults source.new)) result }
         ensures fault { self.old.fault ≡ None → self.new.fault ≡ err_of result }
         ensures again { IfSome self.old.fault (λ fault. (result ≡ Err fault) × (self.new ≡ self.old) × IsUntouched (device (Q.left source.old) (Q.left source.new) (Q.faults source.old) (Q.faults source.new))) }

@@ -1,4 +1,4 @@
-use Rattle.std.proofs.Common.{◌≡◌, ◌<◌, ◌∙◌, sym, ap, subst, arith, cond, Bool, Some}
+use Rattle.std.proofs.Common.{◌≡◌, ◌<◌, ◌∙◌, sym, ap, subst, arith, cond, Bool, None, Some}
 use Rattle.std.specs.List.{IsDistinct}
 use Rattle.std.specs.Map.{keys_of, lookup}
 use Rattle.std.proofs.lemmas.Result.{err_from_is_err_and}
@@ -70,6 +70,12 @@ returns-in_err-insert-clause-stepped c =
     rw (p.1, p.2) (λ h trace records st.
     refused _ c.self.invariant c.args.object c.copied-before.result found c.args.entry c.figures-now.result c.figures-now.ensures h trace records (subst (StandsFor h trace records) (sym c.self.view_is) st)
     ∙ none_from_ok (first_some (record_rules c.self.inside.header c.args.object c.args.entry c.figures-now.result)) c.in_ok-check_record.ensures)
+
+pub returns-in_err-insert-clause-only_if_new : goal.returns-in_err-insert-clause-only_if_new
+returns-in_err-insert-clause-only_if_new c =
+    let absent : lookup (same_object c.args.object) c.self.inside.seen.entries ≡ None = ap (λ same. lookup (same c.args.object) c.self.inside.seen.entries) (sym same_object-derived) ∙ c.in_err-insert.ensures.absent in
+    let p = err_from_is_err_and c.from_residual-in_err-insert.result c.from_residual-in_err-insert.ensures.1 in
+    rw (p.1, p.2) (λ memory. subst (λ (v : Summary). lookup (same_object c.args.object) v.entries ≡ None) c.self.view_is absent)
 
 -- the entries after the request
 entered : (c : goal.After-self-1) → c.insert.new.self.entries ≡ insert_entry same_object c.self.inside.seen.entries c.args.object (seen_at c.self.inside.sums c.args.entry)
