@@ -35,7 +35,7 @@ use Rattle.schedule_round.specs.Laws.{IsBestPlay, full_flags}
 use Rattle.schedule_round.proofs.EqualSizes.{best_play, equal_sizes_whole}
 use Rattle.bound_cli.specs.declared.bounds.Asked.{Asked}
 use Rattle.window_bounds.specs.Solutions.{prices_in}
-use Rattle.bound_cli.specs.Made.{HasLeastWindows, IsBelowWindows, IsMade, IsOfMode, is_unwindowed, records_of, width_of}
+use Rattle.bound_cli.specs.Made.{HasLeastWindows, IsBelowWindows, IsMade, IsNear, IsOfMode, is_unwindowed, records_of, width_of}
 use Rattle.bound_cli.specs.Words.{IsModeInRange}
 use Rattle.bound_cli.proofs.RecordsOf.{length-records, prices_of-records, keeps_of-records, flow_at-unused, flows_of-records, records_in_range}
 use Rattle.bound_cli.proofs.Relaxing.{below_windows, flows_each, width_positive}
@@ -227,10 +227,10 @@ module _ (asked : Asked) (trace : List Object) (unit d : ℕ) (whole_costs : Boo
         subst (λ u. IsBestPlay asked.objective asked.capacity trace d u keeps) (sym found.bound)
         (best_play asked.objective asked.capacity trace size unit d prices flows by_rank keeps same found.unit_is found.each found.schedule values found.rounded found.allowed)
 
-    near : IsTrue (is_unwindowed asked.mode (length trace)) → upper ≤ flow + sum flows
+    near : IsTrue (is_unwindowed asked.mode (length trace)) → IsNear trace h flows
     near wide =
-        let bounded = (rounded_is_near line.items line.steps unit units d prices flows weights (solved asked.mode line unit units d price prices flows found.of_mode wide)).1 in
-        omega (arith, bounded, found.bound, found.value)
+        let bounded = rounded_is_near line.items line.steps unit units d prices flows weights (solved asked.mode line unit units d price prices flows found.of_mode wide) in
+        record { earned = omega (arith, bounded.0, found.bound); value = omega (arith, bounded.1, found.bound, found.value) }
 
     made_at : IsMade asked trace price h rs
     made_at = record {
@@ -251,7 +251,7 @@ module _ (asked : Asked) (trace : List Object) (unit d : ℕ) (whole_costs : Boo
       maximal = subst (IsMaximal line.items asked.capacity) (sym kept) found.maximal;
       bounds = bounds;
       least = exact_is_least trace h rs valid;
-      near = λ wide. subst (λ fs. upper ≤ flow + sum fs) (sym flowing) (near wide);
+      near = λ wide. subst (IsNear trace h) (sym flowing) (near wide);
       equal_sizes = λ size wide same. subst (IsBestPlay asked.objective asked.capacity trace d upper) (sym kept) (best size wide same);
     }
 

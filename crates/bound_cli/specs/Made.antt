@@ -17,7 +17,7 @@ use Rattle.cache_model.specs.Units.{IsUnit, HasWholeCosts}
 use Rattle.cache_model.specs.Certificates.{eligible_of, flows_of, keeps_of, prices_of, units_of, IsValid, BoundsEveryPlay, IsLeastOverAll}
 use Rattle.cache_model.specs.Rounding.{IsMaximal, IsRounded, by_rank}
 use Rattle.cache_model.specs.Texts.{cert_text, report_text}
-use Rattle.flow_model.specs.Instances.{IsLeast, IsSolution, whole_instance}
+use Rattle.flow_model.specs.Instances.{IsLeast, IsSolution, total_cost, whole_instance}
 use Rattle.flow_model.specs.Windows.{window_instance}
 use Rattle.interval_maker.specs.Timelines.{Timeline, starting_at, timeline_of}
 use Rattle.relaxation.specs.declared.denominators.DenominatorChoice.TheVariants.{Exact}
@@ -63,6 +63,11 @@ IsBelowWindows (Flow window) line unit units denominator prices bound =
 IsBelowWindows Constant line unit units denominator prices bound = Unit {0}
 IsBelowWindows Infinite line unit units denominator prices bound = Unit {0}
 
+-- the bound is at most what the flows earn, and so at most their value and one more for each unit of flow
+pub record IsNear (trace : List Object) (h : Header) (flows : List ℕ) : Type 0 where
+  pub earned : h.upper ≤ total_cost (whole_instance (eligible_of trace h) (length trace) h.unit (units_of h) h.denominator).arcs flows
+  pub value : h.upper ≤ h.flow + sum flows
+
 -- a valid certificate of the trace as asked for: the greatest unit, the denominator that is chosen, the prices and flows of the mode, and the keeps that are rounded from the full flows
 pub record IsMade (asked : Asked) (trace : List Object) (price : ℕ) (h : Header) (records : List Record) : Type 0 where
   pub valid : IsValid trace h records
@@ -78,7 +83,7 @@ pub record IsMade (asked : Asked) (trace : List Object) (price : ℕ) (h : Heade
   pub maximal : IsMaximal (eligible_of trace h) h.capacity (keeps_of records)
   pub bounds : BoundsEveryPlay trace h
   pub least : IsTrue h.exact → IsLeastOverAll trace h records
-  pub near : IsTrue (is_unwindowed asked.mode (length trace)) → h.upper ≤ h.flow + sum (flows_of (eligible_of trace h) records)
+  pub near : IsTrue (is_unwindowed asked.mode (length trace)) → IsNear trace h (flows_of (eligible_of trace h) records)
   pub equal_sizes : (size : ℕ) → IsTrue (is_unwindowed asked.mode (length trace)) → All (λ i. i.size ≡ size) (eligible_of trace h) → IsBestPlay h.objective h.capacity trace h.denominator h.upper (keeps_of records)
 
 -- what the report states beside the header
