@@ -1,5 +1,5 @@
 //! The path to the last node that a search found.
-ghost use Rattle.std.specs.Prelude.{◌≡◌, ◌+◌, ◌≤◌, ◌<◌, All, length, drop, slice_index};
+ghost use Rattle.std.specs.Prelude.{◌≡◌, ℕ, ◌+◌, ◌≤◌, ◌<◌, All, length, drop, slice_index};
 ghost use Rattle.flow_model.specs.Networks.{IsTight};
 ghost use Rattle.flow_model.specs.Pushes.{CanPush};
 ghost use Rattle.flow_network.specs.States.{IsState};
@@ -26,6 +26,8 @@ pub fn trace(network: &Network, search: &Search, path: &mut [Edge]) -> Route
     ensures can { CanPush network.now.instance network.now.flows (drop result.start path.new) result.amount }
     ensures some { 0 < result.amount }
     ensures units { network.now.pushed + result.amount ≤ network.now.instance.units }
+    ensures most { (more : ℕ) → CanPush network.now.instance network.now.flows (drop result.start path.new) more
+        → network.now.pushed + more ≤ network.now.instance.units → more ≤ result.amount }
 {
     let mut node = network.instance().steps();
     let mut start = path.len();

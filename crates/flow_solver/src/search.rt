@@ -279,7 +279,7 @@ impl Search {
 
     /// The list of the distances. The rest of the search is given back.
     pub fn into_distances(self) -> Vec<u128>
-        ensures { length result.items ≡ length self.distances }
+        ensures { result.items ≡ self.distances }
     {
         self.distances
     }

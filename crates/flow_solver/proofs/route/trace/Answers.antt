@@ -1,5 +1,6 @@
-use Rattle.std.proofs.Common.{◌≡◌, ℕ, ◌+◌, ◌-◌, ◌<◌, ◌∙◌, ◌∷◌, List, length, drop, set, ap, sym, subst, arith, length-drop, length-set}
+use Rattle.std.proofs.Common.{◌≡◌, ℕ, ◌+◌, ◌-◌, ◌<◌, ◌≤◌, ◌∙◌, ◌∷◌, List, All, length, drop, set, ap, sym, subst, arith, length-drop, length-set}
 use Rattle.std.proofs.lemmas.List.{drop-set}
+use Rattle.std.proofs.lemmas.List.Elements.{All-head, All-tail}
 use Rattle.flow_model.specs.declared.edges.Edge.{Edge}
 use Rattle.flow_model.specs.Networks.{tail, residual}
 use Rattle.flow_model.specs.Pushes.{edge_at}
@@ -57,8 +58,20 @@ loop-node-preserved c =
       route = subst (λ (k : ℕ). IsRoute n found k (drop (s - 1) (set path (s - 1) c.parent-edge.result)) least) (sym from) (subst (λ (es : List Edge). IsRoute n found (tail n.instance.arcs e) es least) (sym whole) route);
       within = omega (arith, inv.within, ap length whole, length-set path (s - 1) c.parent-edge.result);
       units = omega (arith, inv.units, c.min-amount.ensures);
+      most = λ more fit under.
+          let fits : All (λ f. more ≤ residual n.instance n.flows f) (e ∷ drop s path) = subst (λ (es : List Edge). All (λ f. more ≤ residual n.instance n.flows f) es) whole fit in
+          omega (
+            arith,
+            c.min-amount.ensures,
+            room_is,
+            All-head (λ f. more ≤ residual n.instance n.flows f) e (drop s path) fits,
+            inv.most more (All-tail (λ f. more ≤ residual n.instance n.flows f) e (drop s path) fits) under,
+          );
     }
 
 pub returns-clause-can : goal.returns-clause-can
 returns-clause-can c =
     route_ends c.args.network.now c.args.search.now c.loop-node.node (drop c.loop-node.start c.loop-node.path) c.loop-node.amount c.loop-node.invariant.route (omega (arith, c.loop-node-test.false))
+
+pub returns-clause-most : goal.returns-clause-most
+returns-clause-most c = λ more can under. c.loop-node.invariant.most more can.room under
