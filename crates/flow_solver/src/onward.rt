@@ -168,6 +168,8 @@ fn room_along(network: &Network, path: &[Edge]) -> u64
     ensures some { 0 < result }
     ensures units { network.now.pushed + result ≤ network.now.instance.units }
     ensures room { All (λ e. result ≤ residual network.now.instance network.now.flows e) path.now }
+    ensures most { (more : ℕ) → All (λ e. more ≤ residual network.now.instance network.now.flows e) path.now
+        → network.now.pushed + more ≤ network.now.instance.units → more ≤ result }
 {
     let mut amount = network.left();
     for edge in path {

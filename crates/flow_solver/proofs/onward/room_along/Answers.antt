@@ -22,6 +22,7 @@ loop-edge-preserved c =
           let same = ap (λ j. residual n.instance n.flows (slice_index_or path j d)) e ∙ ap (residual n.instance n.flows) (get_or_default path i d (Inner 0) c.loop-edge-test.true) in
           omega (arith, c.min-amount.ensures, c.residual.ensures.residual, same))
           (λ (m : k ≡ i → ⊥). omega (arith, c.min-amount.ensures, inv.room k d (omega arith))) (cases_eq k i);
+      most = λ more fit under. omega (arith, c.min-amount.ensures, c.residual.ensures.residual, fit i (Inner 0) (omega arith), inv.most more (λ k d h. fit k d (omega arith)) under);
     }
 
 pub returns-clause-some : goal.returns-clause-some
@@ -32,3 +33,6 @@ returns-clause-units c = c.loop-edge.invariant.units
 
 pub returns-clause-room : goal.returns-clause-room
 returns-clause-room c = λ k d h. c.loop-edge.invariant.room k d (omega (arith, h, c.loop-edge-test.false))
+
+pub returns-clause-most : goal.returns-clause-most
+returns-clause-most c = λ more fit under. c.loop-edge.invariant.most more (λ k d h. fit k d (omega (arith, h, c.loop-edge.auto.edge-index-end))) under

@@ -10,4 +10,5 @@ invariant-loop-edge l =
       some : 0 < l.amount;
       units : l.network.pushed + l.amount ≤ l.network.instance.units;
       room : (k : ℕ) (d : Edge) → k < l.edge-index → l.amount ≤ residual l.network.instance l.network.flows (slice_index_or l.path k d);
+      most : (more : ℕ) → ((k : ℕ) (d : Edge) → k < l.edge-index → more ≤ residual l.network.instance l.network.flows (slice_index_or l.path k d)) → l.network.pushed + more ≤ l.network.instance.units → more ≤ l.amount;
     }
