@@ -1,5 +1,5 @@
 //! The surplus of all intervals at one price, and how it falls.
-ghost use Rattle.std.specs.Prelude.{◌≡◌, ℕ, ◌<◌, ◌≤◌, ◌^◌, ◌*◌, ◌/◌, length, All};
+ghost use Rattle.std.specs.Prelude.{◌≡◌, ℕ, ◌+◌, ◌-◌, ◌<◌, ◌≤◌, ◌^◌, ◌*◌, ◌/◌, min, length, All};
 ghost use Rattle.interval_maker.specs.Timelines.{IsInterval};
 ghost use Rattle.constant_price.specs.Surpluses.{fall_at, fall_of, surplus_at, surplus_of};
 
@@ -86,6 +86,8 @@ pub(crate) fn tangent_at(
 pub(crate) fn meeting(low: Tangent, high: Tangent) -> u128
     requires order { low.price ≤ high.price }
     requires steeper { high.fall < low.fall }
+    ensures { result
+        ≡ min (low.price + (low.surplus - high.surplus - high.fall * (high.price - low.price)) / (low.fall - high.fall)) (2 ^ 128 - 1) }
 {
     let width = high.price - low.price;
     let below = low
