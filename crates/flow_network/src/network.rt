@@ -100,6 +100,7 @@ impl<'a> Network<'a> {
         hop_of(self.instance, edge)
     }
 
+    /// The potential of the node.
     #[inline(always)]
     pub fn potential(&self, node: u32) -> u128
         requires { node ≤ self.now.instance.steps }
@@ -109,6 +110,7 @@ impl<'a> Network<'a> {
         self.potentials[node as usize]
     }
 
+    /// Sets the potential of the node, and of no other.
     pub fn set_potential(&mut self, node: u32, value: u128)
         requires node { node ≤ self.old.instance.steps }
         requires value { value ≤ 2 ^ 122 }

@@ -71,7 +71,7 @@ fn has_whole_costs(intervals: &[Interval], unit: u64, denominator: u64) -> bool
     })
 }
 
-/// The denominator of a choice. It takes at most two passes over the intervals.
+/// The denominator of a choice. It takes one pass over the intervals.
 pub fn denominator_for(
     intervals: &Intervals,
     unit: u64,

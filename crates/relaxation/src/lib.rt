@@ -1,7 +1,8 @@
-//! The flow relaxation over the steps of a trace: units, denominators, prices and what they bound, flows and their value.
+//! The flow relaxation over the steps of a trace: units, denominators, prices and what they bound, flows and their value,
+//! and instances of the flow, whole and by windows.
 //!
-//! The rules are those of "Intervals, units and prices" in docs/DEFINITIONS.md, after Berger, Beckmann and
-//! Harchol-Balter 2018. What is said of prices here holds of every play that the rules allow.
+//! The rules are those of "Intervals, units and prices" and "The flow on a chain" in docs/DEFINITIONS.md, after Berger,
+//! Beckmann and Harchol-Balter 2018. What is said of prices here holds of every play that the rules allow.
 #![tactic(auto)]
 
 mod arcs;
