@@ -19,7 +19,7 @@ pub enum Status {
     Words(WordFault),
     /// A line of the trace is refused. Lines count from 1.
     BadLine { line: u64, kind: LineKind },
-    /// The trace passes a limit.
+    /// The trace passes a limit, or the least denominator that rounds no cost does.
     Limit(LimitName),
     /// A read of the trace failed.
     TraceFault,

@@ -42,7 +42,7 @@ pub enum Refusal {
     Words { place: u64, kind: WordKind },
     /// A line of the trace is refused. Lines count from 1.
     BadLine { line: u64, kind: LineKind },
-    /// The trace passes a limit.
+    /// The trace passes a limit, or the least denominator that rounds no cost does.
     Limit(LimitName),
     /// A read of the trace failed.
     TraceFault,

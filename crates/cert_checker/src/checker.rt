@@ -1,5 +1,5 @@
 //! A checker, which is given the requests and the records one by one.
-ghost use Rattle.std.specs.Prelude.{◌≡◌, ◌≤◌, ◌<◌, ◌+◌, ◌^◌, [], List, length, None, IfErr, IfOk, OnErr, OnOk};
+ghost use Rattle.std.specs.Prelude.{◌≡◌, ◌≤◌, ◌<◌, ◌+◌, ◌^◌, [], List, length, None, IfErr, IfOk, IsOk, OnErr, OnOk};
 ghost use Rattle.cache_model.specs.declared.objects.Object.{Object as Requested};
 ghost use Rattle.cache_model.specs.declared.certificates.Header.{Header as Head};
 ghost use Rattle.cache_model.specs.declared.certificates.Record.{Record as Entry};
@@ -87,9 +87,10 @@ impl Checker {
     ghost use Rattle.cert_checker.specs.Rules.{counted_of, first_unused};
     ghost use Rattle.cert_checker.specs.Summaries.{StandsFor};
 
-    /// A checker that was given nothing. It takes memory with the first request.
+    /// A checker that was given nothing. It takes memory with the first request, and so it is never refused here.
     pub fn new(alloc: Global, header: Header) -> Result<Self, NoMemory>
         requires range { IsHeaderInRange header }
+        ensures succeeds { IsOk result }
         ensures nothing { IfOk result (StandsFor header [] []) }
         ensures counts { IfOk result (λ checker. (checker.header ≡ header) × (checker.sums.steps ≡ 0)) }
     {
