@@ -32,27 +32,35 @@ not_done fault is = cc
 -- each plan that ends well has shown what it printed
 shown : (asked : Result Plan WordFault) (d : Devices) → RunEnds asked d Done → Shows asked d
 shown (Ok (Bounds format capacity objective mode denominator)) d ((cert, text, ready, certified, printed), source, untouched) =
-    let made = ready.texts.made in
-    (ready.requests, ready.dropped, ready.loaded, record {
-      header = ready.texts.header;
-      records = ready.texts.records;
-      price = ready.texts.price;
-      printed = subst (λ t. Appends d.report.before d.report.after t) ready.texts.report_is printed;
-      certified = subst (λ t. Appends d.made.before d.made.after t) ready.texts.cert_is certified;
-      capacity = made.of_capacity;
-      objective = made.of_objective;
-      bounds = true_bounds ready.requests ready.texts.header ready.texts.records made.valid made.bounds;
-      exact = made.form;
-      equal_sizes = λ size unwindowed same. (made.equal_sizes size unwindowed same).equal ∙ ap (λ n. ready.texts.header.denominator * n) (sym made.valid.lower);
-    })
-shown (Ok (Check format)) d ((verdict, dropped, accepted, printed), trace, cert, untouched) =
-    (accepted.requests, dropped, accepted.loaded, record {
-      verdict = verdict;
-      records = accepted.records;
-      printed = printed;
-      certified = accepted.text;
-      bounds = true_bounds accepted.requests verdict.header accepted.records accepted.valid accepted.bounds;
-    })
+    let made = ready.texts.made in (
+      ready.requests,
+      ready.dropped,
+      ready.loaded,
+      record {
+        header = ready.texts.header;
+        records = ready.texts.records;
+        price = ready.texts.price;
+        printed = subst (λ t. Appends d.report.before d.report.after t) ready.texts.report_is printed;
+        certified = subst (λ t. Appends d.made.before d.made.after t) ready.texts.cert_is certified;
+        capacity = made.of_capacity;
+        objective = made.of_objective;
+        bounds = true_bounds ready.requests ready.texts.header ready.texts.records made.valid made.bounds;
+        exact = made.form;
+        equal_sizes = λ size unwindowed same. (made.equal_sizes size unwindowed same).equal ∙ ap (λ n. ready.texts.header.denominator * n) (sym made.valid.lower);
+      },
+    )
+shown (Ok (Check format)) d ((verdict, dropped, accepted, printed), trace, cert, untouched) = (
+  accepted.requests,
+  dropped,
+  accepted.loaded,
+  record {
+    verdict = verdict;
+    records = accepted.records;
+    printed = printed;
+    certified = accepted.text;
+    bounds = true_bounds accepted.requests verdict.header accepted.records accepted.valid accepted.bounds;
+  },
+)
 shown (Err fault) d e = absurd (not_done fault e.0)
 
 pub headlined : (words : List (List ℕ)) (d : Devices) (status : Status) → Explains words d status → Headline words d status
