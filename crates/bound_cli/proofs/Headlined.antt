@@ -11,7 +11,7 @@ use Rattle.bound_cli.specs.declared.words.Plan.TheVariants.{Bounds, Check}
 use Rattle.bound_cli.specs.declared.words.WordFault.{WordFault}
 use Rattle.bound_cli.specs.declared.status.Status.{Status}
 use Rattle.bound_cli.specs.declared.status.Status.TheVariants.{Done, Words}
-use Rattle.bound_cli.specs.Headline.{AreTrueBounds, Headline, Shows, ShowsBounds, ShowsCheck}
+use Rattle.bound_cli.specs.Headline.{AreTrueBounds, Headline, Shows}
 use Rattle.bound_cli.specs.Run.{Devices, Explains, RunEnds}
 use Rattle.bound_cli.specs.Words.{plan}
 

@@ -1,5 +1,5 @@
 -- What is found of a trace makes a valid certificate of it.
-use Rattle.std.proofs.Common.{◌≡◌, ◌∙◌, ℕ, ◌+◌, ◌*◌, ◌/◌, ◌-◌, ◌<◌, ◌≤◌, ◌^◌, Bool, ◌&&◌, ap, subst, sym, refl, arith, List, [], ◌∷◌, get_or, length, sum, All, ⊎_elim}
+use Rattle.std.proofs.Common.{◌≡◌, ◌∙◌, ℕ, ◌*◌, ◌/◌, ◌-◌, ◌<◌, ◌≤◌, ◌^◌, Bool, ◌&&◌, ap, subst, sym, refl, arith, List, [], ◌∷◌, get_or, length, sum, All, ⊎_elim}
 use Rattle.std.specs.Prelude.{IsTrue}
 use Prim.Native.Nat.{◌∣◌}
 use Rattle.std.proofs.lemmas.Bool.{and_parts, and_from, cases_lt, leb-true}
