@@ -1,29 +1,25 @@
 //! Bounds on the score of offline caching, in hits or in bytes, with certificates.
 //!
-//! The words, the files and the texts are described in README.md, and the rules in docs/DEFINITIONS.md.
+//! The words, the files and the texts are described in README.md, and what a run does stands in bound_run.
 #![tactic(auto)]
 
+ghost use Rattle.std.specs.Prelude.{◌≡◌, ◌⊎◌, map, string_bytes, IfErr};
+ghost use Rattle.bound_run.specs.Words.{plan};
+
 use bound_io::{FileSink, FileSource};
-use status::Status;
+use bound_run::{Status, paths_of, run};
 use std::alloc::Global;
 use std::env;
 use std::process::ExitCode;
 use std::rt::{Env, Files};
-use words::paths_of;
-
-mod bounds;
-mod checking;
-mod operands;
-mod relaxed;
-mod status;
-mod top;
-mod words;
 
 // The exit status where the system doesn't give the words of the command line.
 const NO_WORDS: u8 = 11;
 
 // Makes the real sources and sinks, and runs.
-fn run_files<R: Files + Input + Print>(rt: &R, alloc: Global, words: &[String]) -> Status {
+fn run_files<R: Files + Input + Print>(rt: &R, alloc: Global, words: &[String]) -> Status
+    ensures { IfErr (plan (map string_bytes words.now)) (λ fault. (result ≡ Status.Words fault) ⊎ (result ≡ Status.NoMemory)) }
+{
     let paths = paths_of(words);
     let Ok(mut trace) = FileSource::new(rt, alloc, paths.trace) else {
         return Status::NoMemory;
@@ -37,7 +33,7 @@ fn run_files<R: Files + Input + Print>(rt: &R, alloc: Global, words: &[String]) 
     let Ok(mut made) = FileSink::new(rt, alloc, paths.made) else {
         return Status::NoMemory;
     };
-    top::run(alloc, words, &mut trace, &mut cert, &mut report, &mut made)
+    run(alloc, words, &mut trace, &mut cert, &mut report, &mut made)
 }
 
 // The exit status of a run with the words after the program's name.

@@ -1,9 +1,9 @@
 //! Whole runs over sources and sinks in memory. The expected texts and numbers were made by hand.
 ghost use Rattle.std.specs.Prelude.{◌≤◌};
 
-use crate::status::Status;
-use crate::top::run;
+use bound_base::NoMemory;
 use bound_io::{CalmSource, MemSink, MemSource};
+use bound_run::{Status, run};
 use std::alloc::{AllocError, Global};
 use std::process::Abort;
 use std::test::Fail;
@@ -14,15 +14,9 @@ mod faults;
 mod flow;
 mod modes;
 mod traces;
+mod words;
 
-const WORDS: [&str; 6] = [
-    "bounds",
-    "t",
-    "c",
-    "format=webcache",
-    "capacity=10",
-    "mode=infinite",
-];
+const WORDS: &str = "bounds t c format=webcache capacity=10 mode=infinite";
 
 const PAIR: &[u8] = b"1 7 4\n2 7 4\n";
 
@@ -33,17 +27,23 @@ denominator 1\nform plain\nupper 1\nflow 0\nlower 1\nrecords\n0 1 0\n0 0 0\nend\
 const PAIR_REPORT: &[u8] = b"trace requests 2 objects 1 dropped 0\ncapacity 10 objective object\n\
 mode infinite form plain\nunit 4 units 2 denominator 1\nintervals 1\nupper 1/1 floor 1\nflow 0/1\nlower 1\n";
 
-// A run, and what comes of it. Each sink takes a byte a call.
+// A device of a run.
+#[derive(Clone, Copy, PartialEq, Eq)]
+enum Device {
+    Trace,
+    Cert,
+    Report,
+    Made,
+}
+
+// A run, of which a call of one device may fail, and what comes of it. Calls count from 1.
 #[derive(Clone, Copy)]
 struct Row<'a> {
     shows: &'a str,
-    words: &'a [&'a str],
+    words: &'a str,
     trace: &'a [u8],
     cert: &'a [u8],
-    trace_fails: &'a [u64],
-    cert_fails: &'a [u64],
-    report_fails: &'a [u64],
-    made_fails: &'a [u64],
+    fails: Option<(Device, u64)>,
     status: Status,
     report: &'a [u8],
     made: &'a [u8],
@@ -51,13 +51,10 @@ struct Row<'a> {
 
 const GOOD: Row<'static> = Row {
     shows: "two requests of one object",
-    words: &WORDS,
+    words: WORDS,
     trace: PAIR,
     cert: b"",
-    trace_fails: &[],
-    cert_fails: &[],
-    report_fails: &[],
-    made_fails: &[],
+    fails: None,
     status: Status::Done,
     report: PAIR_REPORT,
     made: PAIR_CERT,
@@ -67,14 +64,7 @@ const CYCLE_TRACE: &[u8] = b"1 1 1\n2 2 1\n3 3 1\n4 1 1\n5 2 1\n6 3 1\n";
 
 const CYCLE: Row<'static> = Row {
     shows: "three objects in turn, of which two fit",
-    words: &[
-        "bounds",
-        "t",
-        "c",
-        "format=webcache",
-        "capacity=2",
-        "mode=infinite",
-    ],
+    words: "bounds t c format=webcache capacity=2 mode=infinite",
     trace: CYCLE_TRACE,
     report: b"trace requests 6 objects 3 dropped 0\ncapacity 2 objective object\n\
 mode infinite form plain\nunit 1 units 2 denominator 1\nintervals 3\nupper 3/1 floor 3\nflow 0/1\nlower 2\n",
@@ -115,12 +105,81 @@ denominator 1\nform plain\nupper 0\nflow 0\nlower 0\nrecords\nend\n",
     },
 ];
 
-fn words_of(alloc: Global, words: &[&str]) -> Result<Vec<String>, AllocError> {
-    let mut all = Vec::new(alloc);
-    for word in words {
-        all.push(String::from_str(alloc, word)?)?;
+// The words of a text, with one space between them, of which one may be empty. An empty text has none.
+fn words_of(alloc: Global, text: &str) -> Result<Vec<String>, AllocError> {
+    let mut words = Vec::new(alloc);
+    if !text.is_empty() {
+        for word in text.split(' ') {
+            words.push(String::from_str(alloc, word)?)?;
+        }
     }
-    Ok(all)
+    Ok(words)
+}
+
+// How a run ended, and what its sinks got.
+#[derive(Drop)]
+struct Ended {
+    status: Status,
+    report: Vec<u8>,
+    made: Vec<u8>,
+}
+
+fn run_over(
+    alloc: Global,
+    words: &[String],
+    mut trace: MemSource,
+    mut cert: MemSource,
+    mut report: MemSink,
+    mut made: MemSink,
+) -> Ended {
+    let status = run(alloc, words, &mut trace, &mut cert, &mut report, &mut made);
+    Ended {
+        status,
+        report: report.into_bytes(),
+        made: made.into_bytes(),
+    }
+}
+
+impl Row<'_> {
+    // The calls of a device that fail.
+    fn fails_of(&self, alloc: Global, device: Device) -> Result<Vec<u64>, AllocError> {
+        let mut calls = Vec::new(alloc);
+        if let Some((failing, call)) = self.fails {
+            if failing == device {
+                calls.push(call)?;
+            }
+        }
+        Ok(calls)
+    }
+
+    fn source(
+        &self,
+        alloc: Global,
+        device: Device,
+        bytes: &[u8],
+        step: usize,
+    ) -> Result<MemSource, AllocError>
+        requires { 1 ≤ step }
+    {
+        let bytes = bytes.to_vec(alloc)?;
+        Ok(MemSource::new(bytes, self.fails_of(alloc, device)?, step))
+    }
+
+    fn sink(&self, alloc: Global, device: Device) -> Result<MemSink, NoMemory> {
+        MemSink::new(alloc, 4096, self.fails_of(alloc, device)?, 1)
+    }
+
+    // Runs over memory, where a read gives so many bytes and a write takes one.
+    fn run_at(&self, alloc: Global, step: usize) -> Result<Ended, NoMemory>
+        requires { 1 ≤ step }
+    {
+        let words = words_of(alloc, self.words)?;
+        let trace = self.source(alloc, Device::Trace, self.trace, step)?;
+        let cert = self.source(alloc, Device::Cert, self.cert, step)?;
+        let report = self.sink(alloc, Device::Report)?;
+        let made = self.sink(alloc, Device::Made)?;
+        Ok(run_over(alloc, &words, trace, cert, report, made))
+    }
 }
 
 // Runs over memory, a byte a call.
@@ -132,60 +191,36 @@ fn check(rt: &impl Abort, alloc: Global, row: &Row<'_>) -> Result<(), Fail> {
 fn check_at(rt: &impl Abort, alloc: Global, row: &Row<'_>, step: usize) -> Result<(), Fail>
     requires { 1 ≤ step }
 {
-    let words = words_of(alloc, row.words)?;
-    let mut trace = MemSource::new(
-        row.trace.to_vec(alloc)?,
-        row.trace_fails.to_vec(alloc)?,
-        step,
-    );
-    let mut cert = MemSource::new(row.cert.to_vec(alloc)?, row.cert_fails.to_vec(alloc)?, step);
-    let mut report = MemSink::new(alloc, 4096, row.report_fails.to_vec(alloc)?, 1)?;
-    let mut made = MemSink::new(alloc, 4096, row.made_fails.to_vec(alloc)?, 1)?;
-    let status = run(alloc, &words, &mut trace, &mut cert, &mut report, &mut made);
-    assert_eq!(rt; status, row.status, "{}", row.shows);
-    assert_eq!(rt; report.written(), row.report, "{}", row.shows);
-    assert_eq!(rt; made.written(), row.made, "{}", row.shows);
+    let ended = row.run_at(alloc, step)?;
+    assert_eq!(rt; ended.status, row.status, "{}", row.shows);
+    assert_eq!(rt; ended.report.as_slice(), row.report, "{}", row.shows);
+    assert_eq!(rt; ended.made.as_slice(), row.made, "{}", row.shows);
     Ok(())
 }
 
-// The report and the certificate of a trace.
-#[derive(Drop)]
-struct Made {
-    report: Vec<u8>,
-    cert: Vec<u8>,
+// What comes of a run that is to end well.
+fn done(rt: &impl Abort, alloc: Global, row: &Row<'_>) -> Result<Ended, Fail> {
+    let ended = row.run_at(alloc, 4096)?;
+    assert_eq!(rt; ended.status, Status::Done, "{}", row.shows);
+    Ok(ended)
 }
 
-// What bounds make of a trace.
-fn made_of(rt: &impl Abort, alloc: Global, words: &[&str], trace: &[u8]) -> Result<Made, Fail> {
-    let words = words_of(alloc, words)?;
-    let mut trace = CalmSource::new(trace.to_vec(alloc)?);
-    let mut cert = CalmSource::new(Vec::new(alloc));
-    let mut report = MemSink::new(alloc, 4096, Vec::new(alloc), 4096)?;
-    let mut made = MemSink::new(alloc, 4096, Vec::new(alloc), 4096)?;
-    let status = run(alloc, &words, &mut trace, &mut cert, &mut report, &mut made);
-    assert_eq!(rt; status, Status::Done);
-    Ok(Made {
-        report: report.into_bytes(),
-        cert: made.into_bytes(),
-    })
-}
-
-// What a check says of a certificate that bounds made.
-fn expect_yes(
+// Checks a certificate that bounds made.
+fn expect_yes<'x>(
     rt: &impl Abort,
     alloc: Global,
-    words: &[&str],
-    trace: &[u8],
-    cert: &[u8],
+    words: &'x str,
+    trace: &'x [u8],
+    cert: &'x [u8],
 ) -> Result<(), Fail> {
-    let words = words_of(alloc, words)?;
-    let mut trace = CalmSource::new(trace.to_vec(alloc)?);
-    let mut cert = CalmSource::new(cert.to_vec(alloc)?);
-    let mut report = MemSink::new(alloc, 4096, Vec::new(alloc), 4096)?;
-    let mut made = MemSink::new(alloc, 0, Vec::new(alloc), 1)?;
-    let status = run(alloc, &words, &mut trace, &mut cert, &mut report, &mut made);
-    assert_eq!(rt; status, Status::Done);
-    assert!(rt; report.written().ends_with(b"\nvalid\n"));
+    let row = Row {
+        words,
+        trace,
+        cert,
+        ..GOOD
+    };
+    let ended = done(rt, alloc, &row)?;
+    assert!(rt; ended.report.ends_with(b"\nvalid\n"), "{words}");
     Ok(())
 }
 

@@ -1,12 +1,12 @@
 //! Runs whose words are taken or refused.
 use super::*;
-use crate::words::WordFault;
 use bound_report::WordKind;
+use bound_run::WordFault;
 
 const ROWS: [Row<'static>; 10] = [
     Row {
         shows: "no words",
-        words: &[],
+        words: "",
         status: Status::Words(WordFault {
             place: 1,
             kind: WordKind::Missing,
@@ -17,7 +17,7 @@ const ROWS: [Row<'static>; 10] = [
     },
     Row {
         shows: "a capacity is missing",
-        words: &["bounds", "t", "c", "format=webcache"],
+        words: "bounds t c format=webcache",
         status: Status::Words(WordFault {
             place: 5,
             kind: WordKind::Missing,
@@ -28,8 +28,8 @@ const ROWS: [Row<'static>; 10] = [
     },
     Row {
         shows: "a capacity of 0, before a word that is missing and a trace that would fail",
-        words: &["bounds", "t", "c", "format=webcache", "capacity=0"],
-        trace_fails: &[1],
+        words: "bounds t c format=webcache capacity=0",
+        fails: Some((Device::Trace, 1)),
         status: Status::Words(WordFault {
             place: 5,
             kind: WordKind::BadValue,
@@ -40,7 +40,7 @@ const ROWS: [Row<'static>; 10] = [
     },
     Row {
         shows: "an empty path",
-        words: &["bounds", "t", "", "format=webcache", "capacity=0"],
+        words: "bounds t  format=webcache capacity=0",
         status: Status::Words(WordFault {
             place: 3,
             kind: WordKind::BadValue,
@@ -51,8 +51,8 @@ const ROWS: [Row<'static>; 10] = [
     },
     Row {
         shows: "a block beside a form of the trace that takes none, before a word that is missing",
-        words: &["bounds", "t", "c", "block=512", "format=webcache"],
-        trace_fails: &[1],
+        words: "bounds t c block=512 format=webcache",
+        fails: Some((Device::Trace, 1)),
         status: Status::Words(WordFault {
             place: 4,
             kind: WordKind::Unknown,
@@ -63,14 +63,7 @@ const ROWS: [Row<'static>; 10] = [
     },
     Row {
         shows: "a mode that is none",
-        words: &[
-            "bounds",
-            "t",
-            "c",
-            "format=webcache",
-            "capacity=10",
-            "mode=flows",
-        ],
+        words: "bounds t c format=webcache capacity=10 mode=flows",
         status: Status::Words(WordFault {
             place: 6,
             kind: WordKind::BadValue,
@@ -81,15 +74,7 @@ const ROWS: [Row<'static>; 10] = [
     },
     Row {
         shows: "a seventh word",
-        words: &[
-            "bounds",
-            "t",
-            "c",
-            "format=webcache",
-            "capacity=10",
-            "mode=infinite",
-            "more",
-        ],
+        words: "bounds t c format=webcache capacity=10 mode=infinite more",
         status: Status::Words(WordFault {
             place: 7,
             kind: WordKind::Unknown,
@@ -100,14 +85,7 @@ const ROWS: [Row<'static>; 10] = [
     },
     Row {
         shows: "a capacity that stood before",
-        words: &[
-            "bounds",
-            "t",
-            "c",
-            "format=webcache",
-            "capacity=10",
-            "capacity=10",
-        ],
+        words: "bounds t c format=webcache capacity=10 capacity=10",
         status: Status::Words(WordFault {
             place: 6,
             kind: WordKind::Twice,
@@ -118,7 +96,7 @@ const ROWS: [Row<'static>; 10] = [
     },
     Row {
         shows: "a capacity is missing after the last word",
-        words: &["bounds", "t", "c", "mode=infinite", "format=webcache"],
+        words: "bounds t c mode=infinite format=webcache",
         status: Status::Words(WordFault {
             place: 6,
             kind: WordKind::Missing,
@@ -129,15 +107,7 @@ const ROWS: [Row<'static>; 10] = [
     },
     Row {
         shows: "operands in another order, with the objective",
-        words: &[
-            "bounds",
-            "t",
-            "c",
-            "objective=object",
-            "mode=infinite",
-            "capacity=010",
-            "format=webcache",
-        ],
+        words: "bounds t c objective=object mode=infinite capacity=010 format=webcache",
         ..GOOD
     },
 ];

@@ -7,7 +7,7 @@ use trace_lines::LineKind;
 const ROWS: [Row<'static>; 3] = [
     Row {
         shows: "the second read fails",
-        trace_fails: &[2],
+        fails: Some((Device::Trace, 2)),
         status: Status::TraceFault,
         report: b"trace fault\n",
         made: b"",
@@ -15,14 +15,14 @@ const ROWS: [Row<'static>; 3] = [
     },
     Row {
         shows: "the first write of the report fails",
-        report_fails: &[1],
+        fails: Some((Device::Report, 1)),
         status: Status::ReportFault,
         report: b"",
         ..CYCLE
     },
     Row {
         shows: "the third write of the certificate fails",
-        made_fails: &[3],
+        fails: Some((Device::Made, 3)),
         status: Status::MadeFault,
         report: b"made fault\n",
         made: b"ca",
@@ -43,7 +43,7 @@ fn a_read_that_fails_is_a_trace_fault(rt: HostRuntime) -> Result<(), Fail> {
     for call in 1..=PAIR.len() as u64 + 1 {
         let row = Row {
             shows: "a read that fails",
-            trace_fails: &[call],
+            fails: Some((Device::Trace, call)),
             status: Status::TraceFault,
             report: b"trace fault\n",
             made: b"",
@@ -59,7 +59,7 @@ fn a_write_of_the_certificate_that_fails_is_a_made_fault(rt: HostRuntime) -> Res
     for taken in 0..PAIR_CERT.len() {
         let row = Row {
             shows: "a write of the certificate that fails",
-            made_fails: &[taken as u64 + 1],
+            fails: Some((Device::Made, taken as u64 + 1)),
             status: Status::MadeFault,
             report: b"made fault\n",
             made: &PAIR_CERT[..taken],
@@ -75,7 +75,7 @@ fn a_write_of_the_report_that_fails_is_a_report_fault(rt: HostRuntime) -> Result
     for taken in 0..PAIR_REPORT.len() {
         let row = Row {
             shows: "a write of the report that fails",
-            report_fails: &[taken as u64 + 1],
+            fails: Some((Device::Report, taken as u64 + 1)),
             status: Status::ReportFault,
             report: &PAIR_REPORT[..taken],
             ..GOOD
@@ -92,7 +92,7 @@ fn a_refusal_that_is_cut_short_keeps_its_status(rt: HostRuntime) -> Result<(), F
         let row = Row {
             shows: "a refusal that is cut short",
             trace: b"no trace\n",
-            report_fails: &[taken as u64 + 1],
+            fails: Some((Device::Report, taken as u64 + 1)),
             status: Status::BadLine {
                 line: 1,
                 kind: LineKind::TooFewWords,
@@ -123,7 +123,7 @@ fn run_over_calm(
 #[test]
 fn a_calm_source_gives_no_fault(rt: HostRuntime) -> Result<(), Fail> {
     let alloc = rt.alloc();
-    let words = words_of(alloc, &WORDS)?;
+    let words = words_of(alloc, WORDS)?;
     let mut trace = CalmSource::new(PAIR.to_vec(alloc)?);
     let mut cert = CalmSource::new(Vec::new(alloc));
     let mut report = MemSink::new(alloc, 4096, Vec::new(alloc), 7)?;

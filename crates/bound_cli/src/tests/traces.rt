@@ -4,14 +4,7 @@ ghost use Rattle.std.specs.Prelude.{◌≤◌};
 use super::*;
 use trace_lines::LineKind;
 
-const MSR_WORDS: [&str; 6] = [
-    "bounds",
-    "t",
-    "c",
-    "format=msr",
-    "capacity=12288",
-    "mode=infinite",
-];
+const MSR_WORDS: &str = "bounds t c format=msr capacity=12288 mode=infinite";
 
 // Traces with all that a line may have, and the lines that are refused.
 const TRACE_ROWS: [Row<'static>; 9] = [
@@ -34,15 +27,7 @@ mode infinite form plain\nunit 4 units 2 denominator 1\nintervals 1\nupper 1/1 f
     },
     Row {
         shows: "a hit gains its bytes",
-        words: &[
-            "bounds",
-            "t",
-            "c",
-            "objective=bytes",
-            "format=webcache",
-            "capacity=5",
-            "mode=infinite",
-        ],
+        words: "bounds t c objective=bytes format=webcache capacity=5 mode=infinite",
         trace: b"1 1 2\n2 2 3\n3 1 2\n4 2 3\n",
         report: b"trace requests 4 objects 2 dropped 0\ncapacity 5 objective bytes\n\
 mode infinite form plain\nunit 1 units 5 denominator 1\nintervals 2\nupper 5/1 floor 5\nflow 0/1\nlower 5\n",
@@ -109,14 +94,7 @@ denominator 1\nform plain\nupper 0\nflow 0\nlower 0\nrecords\n0 0 0\nend\n",
 const BLOCK_ROWS: [Row<'static>; 5] = [
     Row {
         shows: "ranges of blocks",
-        words: &[
-            "bounds",
-            "t",
-            "c",
-            "format=arc",
-            "capacity=1024",
-            "mode=infinite",
-        ],
+        words: "bounds t c format=arc capacity=1024 mode=infinite",
         trace: b"10 3 0 1\n11 2 0 2\n",
         report: b"trace requests 5 objects 3 dropped 0\ncapacity 1024 objective object\n\
 mode infinite form plain\nunit 512 units 2 denominator 1\nintervals 2\nupper 2/1 floor 2\nflow 0/1\nlower 2\n",
@@ -126,7 +104,7 @@ denominator 1\nform plain\nupper 2\nflow 0\nlower 2\nrecords\n0 0 0\n0 1 0\n0 1 
     },
     Row {
         shows: "the blocks of two reads, of the usual size",
-        words: &MSR_WORDS,
+        words: MSR_WORDS,
         trace: b"128166372003061629,usr,0,Read,7014609920,24576,41286\n\
 128166372003061629,usr,0,Read,7014609920,24576,41286\n",
         report: b"trace requests 14 objects 7 dropped 0\ncapacity 12288 objective object\n\
@@ -138,14 +116,7 @@ denominator 1\nform plain\nupper 7\nflow 0\nlower 3\nrecords\n0 1 0\n0 1 0\n0 1 
     },
     Row {
         shows: "a range past the last block",
-        words: &[
-            "bounds",
-            "t",
-            "c",
-            "format=arc",
-            "capacity=1024",
-            "mode=infinite",
-        ],
+        words: "bounds t c format=arc capacity=1024 mode=infinite",
         trace: b"18446744073709551615 2 0 1\n",
         status: Status::BadLine {
             line: 1,
@@ -157,7 +128,7 @@ denominator 1\nform plain\nupper 7\nflow 0\nlower 3\nrecords\n0 1 0\n0 1 0\n0 1 
     },
     Row {
         shows: "a type that is none",
-        words: &MSR_WORDS,
+        words: MSR_WORDS,
         trace: b"1,h,0,Trim,0,512,1\n",
         status: Status::BadLine {
             line: 1,
@@ -169,7 +140,7 @@ denominator 1\nform plain\nupper 7\nflow 0\nlower 3\nrecords\n0 1 0\n0 1 0\n0 1 
     },
     Row {
         shows: "a quote",
-        words: &MSR_WORDS,
+        words: MSR_WORDS,
         trace: b"1,\"h\",0,Read,0,512,1\n",
         status: Status::BadLine {
             line: 1,
@@ -215,7 +186,7 @@ fn padded(alloc: Global, bytes: usize) -> Result<Vec<u8>, AllocError> {
     Ok(text)
 }
 
-// The status of a run over a trace of one line with so many bytes of text, read in steps.
+// A run over a trace of one line with so many bytes of text, read in steps.
 fn check_long(
     rt: &impl Abort,
     alloc: Global,
@@ -225,13 +196,13 @@ fn check_long(
 ) -> Result<(), Fail>
     requires { 1 ≤ step }
 {
-    let words = words_of(alloc, &WORDS)?;
-    let mut trace = MemSource::new(padded(alloc, bytes)?, Vec::new(alloc), step);
-    let mut cert = CalmSource::new(Vec::new(alloc));
-    let mut report = MemSink::new(alloc, 4096, Vec::new(alloc), 4096)?;
-    let mut made = MemSink::new(alloc, 4096, Vec::new(alloc), 4096)?;
-    let found = run(alloc, &words, &mut trace, &mut cert, &mut report, &mut made);
-    assert_eq!(rt; found, status, "{bytes} bytes, step {step}");
+    let trace = padded(alloc, bytes)?;
+    let row = Row {
+        trace: &trace,
+        ..GOOD
+    };
+    let ended = row.run_at(alloc, step)?;
+    assert_eq!(rt; ended.status, status, "{bytes} bytes, step {step}");
     Ok(())
 }
 

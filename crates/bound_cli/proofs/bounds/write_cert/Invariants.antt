@@ -1,8 +1,0 @@
-use Rattle.std.proofs.Common.{map, take}
-use Rattle.std.specs.Io.KnownBytes.{Appends}
-use Rattle.cache_model.specs.Texts.{record_line, text_of}
-use Rattle.bound_cli.specs.Records.{records_in}
-use Rattle.bound_cli.proofs.bounds.write_cert.Given as goal
-
-abbrev pub invariant-loop-t : goal.invariant-loop-t
-invariant-loop-t g l = Appends (g.K.Sink.written l.initial.sink) (g.K.Sink.written l.sink) (text_of (map record_line (take l.t (records_in l.bounds))))

@@ -1,0 +1,175 @@
+-- What is answered of good inputs, where no device fails.
+use Rattle.std.proofs.Common.{◌≡◌, ◌∙◌, ℕ, ◌+◌, ◌==◌, nat_lt, refl, sym, ap, subst, inl, inr, ◌⊎◌, Bool, true, false, cond, List, [], ◌∷◌, ◌++◌, map, length, Ok, Some, None, IfSome}
+use Rattle.std.specs.Prelude.{IsSome}
+use Rattle.std.specs.declared.option.Option.{Option}
+use Rattle.std.specs.Option.{is_some}
+use Rattle.std.proofs.lemmas.Bool.{false≢true}
+use Rattle.cache_model.specs.declared.objects.Object.{Object}
+use Rattle.cache_model.specs.declared.certificates.Header.{Header}
+use Rattle.cache_model.specs.declared.certificates.Record.{Record}
+use Rattle.cache_model.specs.Certificates.{IsValid}
+use Rattle.cache_model.specs.Objects.{numbers_of}
+use Rattle.cache_model.specs.Texts.{cert_text}
+use Rattle.trace_any.specs.declared.fault.TraceFault.{TraceFault as FaultOfTrace}
+use Rattle.trace_any.specs.declared.format.Format.{Format}
+use Rattle.trace_any.specs.declared.fault.TraceFault.TheVariants as trace
+use Rattle.trace_any.specs.Readings.{Reading as Trace, reading, full_limits}
+use Rattle.trace_any.specs.Readers.{IsWhole}
+use Rattle.bound_io.specs.Devices.{Device, HasFailed}
+use Rattle.bound_report.specs.declared.refusal.LimitName.TheVariants.{Requests, TraceBytes, Denominator}
+use Rattle.cert_format.specs.declared.fault.CertFault.{CertFault as TextFault}
+use Rattle.cert_format.specs.declared.fault.CertFault.TheVariants as cert
+use Rattle.cert_format.specs.declared.invalid.InvalidKind.{InvalidKind}
+use Rattle.cert_format.specs.declared.invalid.InvalidKind.TheVariants.{RequestCount}
+use Rattle.cert_format.specs.Readings.{Reading as Certificate}
+use Rattle.cert_format.specs.Readings as certificates
+use Rattle.cert_checker.specs.Rules.{found, first_some, record_fault, end_fault}
+use Rattle.cert_checker.specs.Walks.{Event, at_line, closing, refusal_event, text_event, turn, walk, walk_under}
+use Rattle.cert_checker.specs.Walks as walks
+use Rattle.cert_checker.proofs.Walked.{passing_is_valid_lem}
+use Rattle.bound_run.specs.declared.bounds.Asked.{Asked}
+use Rattle.bound_run.specs.declared.words.Plan.{Plan}
+use Rattle.bound_run.specs.declared.words.Plan.TheVariants.{Bounds, Check}
+use Rattle.bound_run.specs.declared.status.Status.{Status}
+use Rattle.bound_run.specs.declared.status.Status.TheVariants.{Done, Invalid, Words, BadLine, Limit, TraceFault, CertFault, ReportFault, MadeFault, NoMemory}
+use Rattle.bound_run.specs.Made.{RefusesDenominator}
+use Rattle.bound_run.specs.Inputs.{HasDenominator, IsGoodTrace}
+use Rattle.bound_run.specs.Run.{AnswersOf, Answers, AreGoodInputs, BoundsEnd, CheckEnds, Completes, Devices, Explains, RunEnds, asked_for}
+
+-- ---- the walk over a trace that isn't refused
+
+-- no refusal of the trace
+abbrev IsOfCert : Option Event → Type 0
+IsOfCert None = Unit {0}
+IsOfCert (Some (walks.Invalid line kind)) = Unit {0}
+IsOfCert (Some (walks.Refused fault)) = ⊥
+
+of_line : (line : ℕ) (kind : Option InvalidKind) → IsOfCert (at_line line kind)
+of_line line None = tt
+of_line line (Some kind) = tt
+
+of_text : (fault : Option TextFault) → IsOfCert (text_event fault)
+of_text None = tt
+of_text (Some (cert.BadText line kind)) = tt
+of_text (Some (cert.Truncated line)) = tt
+of_text (Some (cert.Trailing line)) = tt
+of_text (Some cert.ReadFault) = tt
+
+of_choice : (b : Bool) (e : Option Event) → IsOfCert e → IsOfCert (cond b e None)
+of_choice true e of = of
+of_choice false e of = tt
+
+-- the first of two is none where neither is
+of_first : (e : Option Event) (others : List (Option Event)) → IsOfCert e → IsOfCert (first_some others) → IsOfCert (first_some (e ∷ others))
+of_first None others first rest = rest
+of_first (Some e) others first rest = first
+
+of_turn : (h : Header) (c : Certificate) (trace : List Object) (t : ℕ) → IsOfCert (first_some (turn h c trace t))
+of_turn h c trace t =
+    of_first _ _ (of_line (11 + t) (found (t == h.requests) (RequestCount h.requests (t + 1))))
+    (of_first _ _ (of_choice (length c.records == t) (text_event c.fault) (of_text c.fault))
+    (of_first _ _ (of_line (12 + t) (record_fault h trace c.records t)) tt))
+
+of_closing : (h : Header) (c : Certificate) (trace : Trace) → trace.refused ≡ None → IsOfCert (first_some (closing h c trace))
+of_closing h c trace whole =
+    let n = length trace.requests in
+    of_first _ _ (subst (λ r. IsOfCert (refusal_event r)) (sym whole) tt)
+    (of_first _ _ (of_line (11 + n) (found (nat_lt n h.requests) (RequestCount h.requests n)))
+    (of_first _ _ (of_choice (length c.records == n) (text_event c.fault) (of_text c.fault))
+    (of_first _ _ (of_line (12 + n) (end_fault h trace.requests c.records)) tt)))
+
+of_turns : (f : ℕ → Option Event) (numbers : List ℕ) (rest : List (Option Event)) → ((t : ℕ) → IsOfCert (f t)) → IsOfCert (first_some rest) → IsOfCert (first_some (map f numbers ++ rest))
+of_turns f [] rest each last = last
+of_turns f (t ∷ numbers) rest each last = of_first (f t) (map f numbers ++ rest) (each t) (of_turns f numbers rest each last)
+
+of_walk : (trace : Trace) (c : Certificate) (head : Option Header) → trace.refused ≡ None → IsOfCert (walk_under head trace c)
+of_walk trace c None whole = of_text c.fault
+of_walk trace c (Some h) whole = of_turns (λ t. first_some (turn h c trace.requests t)) (numbers_of trace.requests) (closing h c trace) (λ t. of_turn h c trace.requests t) (of_closing h c trace whole)
+
+-- the walk over a trace that isn't refused doesn't end at a refusal of it
+never_refused : (trace : Trace) (text : List ℕ) (fault : FaultOfTrace) → trace.refused ≡ None → walk trace text ≡ Some (walks.Refused fault) → ⊥
+never_refused trace text fault whole is = subst IsOfCert is (of_walk trace (certificates.reading text) (certificates.reading text).header whole)
+
+some_is_not_none : {A : Type 0} (x : A) (o : Option A) → o ≡ Some x → o ≡ None → ⊥
+some_is_not_none x o is none = false≢true (ap is_some (sym none ∙ is))
+
+-- ---- bounds
+
+module _ (format : Format) (asked : Asked) (source report made : Device) (good : IsGoodTrace format source.before) (denominator : HasDenominator format asked source.before)
+    (source_works : ¬ (HasFailed source)) (report_works : ¬ (HasFailed report)) (made_works : ¬ (HasFailed made)) where
+  not_refused : (before : Option (List ℕ)) (fault : FaultOfTrace) → IsGoodTrace format before → IfSome before (λ bytes. (reading format full_limits bytes).refused ≡ Some fault) → ⊥
+  not_refused None fault told why = told
+  not_refused (Some bytes) fault told why = some_is_not_none fault _ why told
+
+  not_past : (before : Option (List ℕ)) (requests : List Object) (dropped : ℕ) → HasDenominator format asked before → IfSome before (λ bytes. IsWhole (reading format full_limits bytes) requests dropped) → RefusesDenominator asked requests → IsGoodTrace format before → ⊥
+  not_past None requests dropped has whole refused told = told
+  not_past (Some bytes) requests dropped has whole refused told = has (subst (RefusesDenominator asked) (sym whole.requests) refused)
+
+  bounds_complete : (status : Status) → BoundsEnd format asked source report made status → (status ≡ Done) ⊎ (status ≡ NoMemory)
+  bounds_complete Done e = inl refl
+  bounds_complete NoMemory e = inr refl
+  bounds_complete (BadLine line kind) e = absurd (not_refused source.before (trace.BadLine line kind) good e.0)
+  bounds_complete (Limit Requests) e = absurd (not_refused source.before trace.TooManyRequests good e.0)
+  bounds_complete (Limit TraceBytes) e = absurd (not_refused source.before trace.InputTooLong good e.0)
+  bounds_complete (Limit Denominator) e = absurd (not_past source.before e.0.requests e.0.dropped denominator e.0.loaded.read e.0.refused good)
+  bounds_complete TraceFault e = absurd (source_works e.0)
+  bounds_complete ReportFault (cert, text, ready, failed, all, front) = absurd (report_works failed)
+  bounds_complete MadeFault (cert, text, ready, failed, front, line) = absurd (made_works failed)
+  bounds_complete (Invalid line kind) e = absurd e
+  bounds_complete (Words fault) e = absurd e
+  bounds_complete CertFault e = absurd e
+
+-- ---- checks
+
+module _ (format : Format) where
+  yes_at : (before text : Option (List ℕ)) (requests : List Object) (dropped : ℕ) (h : Header) (records : List Record) → IsGoodTrace format before → IsSome text
+      → IfSome before (λ bytes. IsWhole (reading format full_limits bytes) requests dropped) → IfSome text (λ t. t ≡ cert_text h records) → IsValid requests h records → AnswersOf format before text Done
+  yes_at None text requests dropped h records told known whole is valid = absurd told
+  yes_at (Some bytes) None requests dropped h records told known whole is valid = absurd (false≢true known)
+  yes_at (Some bytes) (Some t) requests dropped h records told known whole is valid =
+      record { header = h; records = records; text_is = is; valid = subst (λ xs. IsValid xs h records) (sym whole.requests) valid }
+
+  no_at : (before text : Option (List ℕ)) (line : ℕ) (kind : InvalidKind) → IsGoodTrace format before → IsSome text
+      → IfSome before (λ bytes. IfSome text (λ t. walk (reading format full_limits bytes) t ≡ Some (walks.Invalid line kind))) → AnswersOf format before text (Invalid line kind)
+  no_at None text line kind told known first = absurd told
+  no_at (Some bytes) None line kind told known first = absurd (false≢true known)
+  no_at (Some bytes) (Some t) line kind told known first = λ certified.
+      some_is_not_none (walks.Invalid line kind) _ first
+      ((passing_is_valid_lem (reading format full_limits bytes) t told).1 (certified.header, certified.records, certified.text_is, certified.valid))
+
+  not_refused_at : (before text : Option (List ℕ)) (fault : FaultOfTrace) → IsGoodTrace format before → IsSome text
+      → IfSome before (λ bytes. IfSome text (λ t. walk (reading format full_limits bytes) t ≡ Some (walks.Refused fault))) → ⊥
+  not_refused_at None text fault told known first = told
+  not_refused_at (Some bytes) None fault told known first = false≢true known
+  not_refused_at (Some bytes) (Some t) fault told known first = never_refused (reading format full_limits bytes) t fault told first
+
+  free_at : (before text : Option (List ℕ)) → AnswersOf format before text NoMemory
+  free_at None text = tt
+  free_at (Some bytes) None = tt
+  free_at (Some bytes) (Some t) = tt
+
+  module _ (source cert report : Device) (good : IsGoodTrace format source.before) (known : IsSome cert.before)
+      (source_works : ¬ (HasFailed source)) (cert_works : ¬ (HasFailed cert)) (report_works : ¬ (HasFailed report)) where
+    check_complete : (status : Status) → CheckEnds format source cert report status → AnswersOf format source.before cert.before status
+    check_complete Done (verdict, dropped, accepted, all) = yes_at source.before cert.before accepted.requests dropped verdict.header accepted.records good known accepted.loaded.read accepted.text accepted.valid
+    check_complete (Invalid line kind) e = no_at source.before cert.before line kind good known e.0
+    check_complete (BadLine line kind) e = absurd (not_refused_at source.before cert.before (trace.BadLine line kind) good known e.0)
+    check_complete (Limit Requests) e = absurd (not_refused_at source.before cert.before trace.TooManyRequests good known e.0)
+    check_complete (Limit TraceBytes) e = absurd (not_refused_at source.before cert.before trace.InputTooLong good known e.0)
+    check_complete (Limit Denominator) e = absurd e
+    check_complete TraceFault e = absurd (source_works e.0)
+    check_complete CertFault e = absurd (cert_works e.0)
+    check_complete ReportFault (verdict, dropped, accepted, failed, front) = absurd (report_works failed)
+    check_complete NoMemory e = free_at source.before cert.before
+    check_complete (Words fault) e = absurd e
+    check_complete MadeFault e = absurd e
+
+-- ---- a whole run
+
+pub complete : (words : List (List ℕ)) (d : Devices) (status : Status) → Explains words d status → Completes words d status
+complete words d status ends asked planned good works = at asked (subst (λ r. RunEnds r d status) planned ends) good
+  where
+    at : (asked : Plan) → RunEnds (Ok asked) d status → AreGoodInputs asked d → Answers asked d status
+    at (Bounds format capacity objective mode denominator) e inputs =
+        bounds_complete format (asked_for capacity objective mode denominator) d.trace d.report d.made inputs.0 inputs.1 works.trace works.report works.made status e.0
+    at (Check format) e inputs = check_complete format d.trace d.cert d.report inputs.0 inputs.1 works.trace works.cert works.report status e.0

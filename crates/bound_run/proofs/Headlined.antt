@@ -1,0 +1,67 @@
+-- What a run that ends well has shown.
+use Rattle.std.proofs.Common.{◌≡◌, ◌∙◌, ℕ, ◌*◌, sym, ap, subst, List, Ok, Err}
+use Rattle.std.specs.Prelude.{Result}
+use Rattle.std.specs.Io.KnownBytes.{Appends}
+use Rattle.cache_model.specs.declared.objects.Object.{Object}
+use Rattle.cache_model.specs.declared.certificates.Header.{Header}
+use Rattle.cache_model.specs.declared.certificates.Record.{Record}
+use Rattle.cache_model.specs.Certificates.{BoundsEveryPlay, IsValid}
+use Rattle.bound_run.specs.declared.words.Plan.{Plan}
+use Rattle.bound_run.specs.declared.words.Plan.TheVariants.{Bounds, Check}
+use Rattle.bound_run.specs.declared.words.WordFault.{WordFault}
+use Rattle.bound_run.specs.declared.status.Status.{Status}
+use Rattle.bound_run.specs.declared.status.Status.TheVariants.{Done, Words}
+use Rattle.bound_run.specs.Headline.{AreTrueBounds, Headline, Shows}
+use Rattle.bound_run.specs.Run.{Devices, Explains, RunEnds}
+use Rattle.bound_run.specs.Words.{plan}
+
+-- a valid certificate has true bounds
+true_bounds : (trace : List Object) (h : Header) (records : List Record) → IsValid trace h records → BoundsEveryPlay trace h → AreTrueBounds trace h records
+true_bounds trace h records valid bounds = record {
+  some_capacity = valid.certificate.header.capacity;
+  upper = bounds;
+  schedule = valid.keeps;
+  lower = sym valid.lower;
+  equal_values = λ exact. (sym valid.upper, sym valid.flow ∙ sym (valid.exact_values exact));
+}
+
+-- refused words are no good end
+not_done : (fault : WordFault) → Done ≡ Words fault → ⊥
+not_done fault is = cc
+
+-- each plan that ends well has shown what it printed
+shown : (asked : Result Plan WordFault) (d : Devices) → RunEnds asked d Done → Shows asked d
+shown (Ok (Bounds format capacity objective mode denominator)) d ((cert, text, ready, certified, printed), source, untouched) =
+    let made = ready.texts.made in (
+      ready.requests,
+      ready.dropped,
+      ready.loaded,
+      record {
+        header = ready.texts.header;
+        records = ready.texts.records;
+        price = ready.texts.price;
+        printed = subst (λ t. Appends d.report.before d.report.after t) ready.texts.report_is printed;
+        certified = subst (λ t. Appends d.made.before d.made.after t) ready.texts.cert_is certified;
+        capacity = made.of_capacity;
+        objective = made.of_objective;
+        bounds = true_bounds ready.requests ready.texts.header ready.texts.records made.valid made.bounds;
+        exact = made.form;
+        equal_sizes = λ size unwindowed same. (made.equal_sizes size unwindowed same).equal ∙ ap (λ n. ready.texts.header.denominator * n) (sym made.valid.lower);
+      },
+    )
+shown (Ok (Check format)) d ((verdict, dropped, accepted, printed), trace, cert, untouched) = (
+  accepted.requests,
+  dropped,
+  accepted.loaded,
+  record {
+    verdict = verdict;
+    records = accepted.records;
+    printed = printed;
+    certified = accepted.text;
+    bounds = true_bounds accepted.requests verdict.header accepted.records accepted.valid accepted.bounds;
+  },
+)
+shown (Err fault) d e = absurd (not_done fault e.0)
+
+pub headlined : (words : List (List ℕ)) (d : Devices) (status : Status) → Explains words d status → Headline words d status
+headlined words d status ends done = shown (plan words) d (subst (λ s. RunEnds (plan words) d s) done ends)

@@ -1,0 +1,70 @@
+-- What a check answers of all that two sources had left.
+use Rattle.std.proofs.Common.{◌≡◌, ◌∙◌, ℕ, sym, ap, List, Some, None, IfSome}
+use Rattle.std.specs.declared.option.Option.{Option}
+use Rattle.std.specs.Option.{unwrap_or}
+use Rattle.bound_io.specs.Devices.{device}
+use Rattle.cache_model.specs.declared.certificates.Header.{Header}
+use Rattle.cache_model.specs.declared.certificates.Record.{Record}
+use Rattle.cache_model.specs.Texts.{cert_text}
+use Rattle.cache_model.proofs.Headline.{exact_is_least}
+use Rattle.trace_any.specs.declared.fault.TraceFault.TheVariants as trace
+use Rattle.trace_any.specs.declared.format.Format.{Format}
+use Rattle.trace_any.specs.Readings.{full_limits}
+use Rattle.trace_any.specs.Readers.{fresh}
+use Rattle.cert_format.specs.Readings.{reading, whole}
+use Rattle.cert_format.proofs.Wholes.{read_written}
+use Rattle.cert_checker.specs.declared.verdict.Verdict.{Verdict}
+use Rattle.cert_checker.specs.declared.walking.CheckFault.{CheckFault}
+use Rattle.cert_checker.specs.declared.walking.CheckFault.TheVariants as check
+use Rattle.cert_checker.specs.Checks.{Inputs, IsEvent, IsPassed}
+use Rattle.bound_run.specs.Inputs.{IsAccepted}
+use Rattle.bound_run.specs.Parts.{RefusesCheck}
+use Rattle.bound_run.specs.Statuses.{refusal_of_check}
+
+-- bytes that are read as a whole certificate are its text
+text_of_whole : (bytes : List ℕ) (h : Header) (records : List Record) → reading bytes ≡ whole h records → bytes ≡ cert_text h records
+text_of_whole bytes h records is =
+    let (g, others, spelled) = read_written bytes (ap (λ r. r.fault) is) in
+    let same : whole g others ≡ whole h records = sym spelled.read ∙ is in
+    let heads : g ≡ h = ap (λ r. unwrap_or r.header h) same in
+    let all : others ≡ records = ap (λ r. r.records) same in
+    spelled.text ∙ ap (λ x. cert_text x others) heads ∙ ap (cert_text h) all
+
+texts_of_whole : (before : Option (List ℕ)) (h : Header) (records : List Record) → IfSome before (λ text. reading text ≡ whole h records) → IfSome before (λ text. text ≡ cert_text h records)
+texts_of_whole None h records is = tt
+texts_of_whole (Some bytes) h records is = text_of_whole bytes h records is
+
+module _ (format : Format) (start end : Inputs) (new : start.reader ≡ fresh format full_limits) where
+  same_format : start.reader.format ≡ format
+  same_format = ap (λ r. r.format) new
+
+  same_limits : start.reader.limits ≡ full_limits
+  same_limits = ap (λ r. r.limits) new
+
+  -- a yes is one over all that the sources had left
+  pub accepted : (verdict : Verdict) → IsPassed start end verdict
+      → IsAccepted format (device start.trace end.trace start.trace_faults end.trace_faults) (device start.certificate end.certificate start.certificate_faults end.certificate_faults) verdict end.reader.dropped
+  accepted verdict passed =
+      record {
+        requests = passed.requests;
+        records = passed.records;
+        loaded = record { read = rw (same_format, same_limits) at passed.trace; nothing_left = passed.trace_end };
+        objects = passed.yes.objects;
+        valid = passed.yes.valid;
+        bounds = passed.yes.bounds_every_play;
+        least = exact_is_least passed.requests verdict.header passed.records passed.yes.valid;
+        text = texts_of_whole start.certificate verdict.header passed.records passed.certificate;
+        nothing_left = passed.certificate_end;
+      }
+
+  -- and a no is the first event of the walk over it
+  pub refused : (fault : CheckFault) → IsEvent start end fault
+      → RefusesCheck format (device start.trace end.trace start.trace_faults end.trace_faults) (device start.certificate end.certificate start.certificate_faults end.certificate_faults) (refusal_of_check fault)
+  refused (check.Invalid line kind) e = rw (same_format, same_limits) at e
+  refused (check.Trace (trace.BadLine line kind)) e = rw (same_format, same_limits) at e
+  refused (check.Trace trace.InputTooLong) e = rw (same_format, same_limits) at e
+  refused (check.Trace trace.TooManyRequests) e = rw (same_format, same_limits) at e
+  refused (check.Trace trace.ReadFault) e = e
+  refused (check.Trace trace.NoMemory) e = absurd e
+  refused check.CertReadFault e = e
+  refused check.NoMemory e = tt

@@ -1,0 +1,162 @@
+-- What the prices and flows of a mode are for the intervals.
+use Rattle.std.proofs.Common.{◌≡◌, ◌∙◌, ℕ, suc, ◌+◌, ◌*◌, ◌/◌, ◌%◌, ◌<◌, ◌≤◌, ◌^◌, sym, refl, ap, subst, min, arith, cond, Bool, true, false, List, [], ◌∷◌, length, map, zip, get_or, replicate, sum, sum_by, All, Some, None, ◌==◌}
+use Prim.Native.Nat.{◌∣◌}
+use Rattle.std.specs.List.{AllZip}
+use Rattle.std.proofs.Math.Nat.{mul-le-mul_right, div-le_self}
+use Rattle.std.proofs.lemmas.Bool.{false≢true, le-ltb}
+use Rattle.std.proofs.lemmas.Grind.{div_ceil_times}
+use Rattle.std.proofs.lemmas.List.{get_or-map, get_or-replicate, length-map, length-replicate}
+use Rattle.std.proofs.lemmas.List.Elements.{All-head, All-tail}
+use Rattle.std.proofs.lemmas.List.Sums.{sum_by-cons}
+use Rattle.cache_model.specs.declared.intervals.Interval.{Interval}
+use Rattle.cache_model.specs.declared.reports.Mode.TheVariants.{Flow}
+use Rattle.cache_model.specs.declared.reports.Window.{Window}
+use Rattle.cache_model.specs.Intervals.{bound_of, surplus as interval_surplus}
+use Rattle.cache_model.specs.Schedules.{covers, load_at, IsFractionalSchedule}
+use Rattle.cache_model.specs.Units.{weight}
+use Rattle.flow_model.specs.declared.arcs.OuterArc.{OuterArc}
+use Rattle.flow_model.specs.Instances.{Instance, IsInstance, arc_of, surplus, whole_instance}
+use Rattle.interval_maker.specs.Timelines.{Timeline, IsInterval, IsTimeline}
+use Rattle.std.specs.declared.option.Option.{Option}
+use Rattle.std.specs.Option.{is_some}
+use Rattle.interval_maker.specs.Timelines.{starting_at}
+use Rattle.relaxation.specs.declared.flows.FlowFault.{FlowFault}
+use Rattle.relaxation.specs.declared.flows.FlowFault.TheVariants.{AboveWeight, Overfull}
+use Rattle.relaxation.specs.Faults.{IsFirstFault, fault_at, fault_from, load_fault, no_interval, weight_at}
+use Rattle.relaxation.proofs.Loads.{place_within}
+use Rattle.schedule_round.proofs.Lists.{get_or-AllZip}
+use Rattle.relaxation.specs.Prices.{most_paid}
+use Rattle.relaxation.proofs.Values.{gain-le}
+use Rattle.relaxation.proofs.Whole.{timeline_weights}
+use Rattle.relaxation.proofs.WholeArcs.{whole_is_instance}
+use Rattle.window_bounds.specs.Solutions.{AreSolutions, value_of_windows}
+use Rattle.window_bounds.proofs.Results.{above_of}
+use Rattle.cache_model.specs.declared.reports.Window.TheVariants.{Steps, All as Whole}
+use Rattle.bound_run.specs.Made.{width_of}
+use Rattle.bound_run.specs.Words.{IsModeInRange}
+
+-- the whole weight at its cost, rounded up, is at most the gain and the weight
+ceil_below : (n w : ℕ) → 0 < w → w * (n / w + min 1 (n % w)) ≤ n + w
+ceil_below n w some = omega (arith, (div_ceil_times n w some).1)
+
+-- what each arc earns is small
+module _ (steps unit denominator : ℕ) (small : denominator ≤ 2 ^ 48) where
+  earned : (intervals : List Interval) → ((k : ℕ) → k < length intervals → IsInterval steps (get_or intervals k no_interval)) → All (λ i. 1 ≤ weight unit i) intervals
+      → sum_by (λ arc. arc.weight * arc.cost) (map (arc_of unit denominator) intervals) ≤ length intervals * 2 ^ 97
+  earned [] shaped some = omega arith
+  earned (i ∷ intervals) shaped some =
+      let here : IsInterval steps i = shaped 0 (omega arith) in
+      omega (
+        arith,
+        sum_by-cons (λ (arc : OuterArc). arc.weight * arc.cost) (arc_of unit denominator i) (map (arc_of unit denominator) intervals),
+        ceil_below (denominator * i.gain) (weight unit i) (All-head (λ j. 1 ≤ weight unit j) i intervals some),
+        gain-le denominator i.gain small here.gain.1,
+        div-le_self i.size unit,
+        here.size.1,
+        earned intervals (λ k low. shaped (suc k) (omega arith)) (All-tail (λ j. 1 ≤ weight unit j) i intervals some),
+      )
+
+-- prices that pay for no more than the arcs earn
+pub paid_little : (line : Timeline) (unit units denominator : ℕ) (prices : List ℕ) → IsTimeline line → 1 ≤ unit → All (λ i. unit ∣ i.size) line.items → denominator ≤ 2 ^ 48
+    → units * sum prices ≤ sum_by (λ arc. arc.weight * arc.cost) (whole_instance line.items line.steps unit units denominator).arcs → units * sum prices ≤ most_paid
+paid_little line unit units denominator prices is_line positive divides small paid =
+    omega (
+      arith,
+      paid,
+      earned line.steps unit denominator small line.items (λ k low. is_line.intervals k no_interval low) (timeline_weights line unit is_line positive divides),
+      mul-le-mul_right (2 ^ 97) (few line is_line),
+    )
+  where
+    few : (line : Timeline) → IsTimeline line → length line.items ≤ 2 ^ 25
+    few line is = omega (arith, is.few_intervals, is.few_steps)
+
+-- no interval covers the last step
+pub ends_before : (line : Timeline) (unit units denominator : ℕ) → IsTimeline line → All (λ arc. arc.end < line.steps) (whole_instance line.items line.steps unit units denominator).arcs
+ends_before line unit units denominator is_line = λ k d low.
+    let here : k < length line.items = omega (arith, length-map line.items (arc_of unit denominator)) in
+    at k d here (get_or_map_arc k d here)
+  where
+    get_or_map_arc : (k : ℕ) (d : OuterArc) → k < length line.items → get_or (map (arc_of unit denominator) line.items) k d ≡ arc_of unit denominator (get_or line.items k no_interval)
+    get_or_map_arc k d low = get_or-map (arc_of unit denominator) line.items k no_interval d low
+
+    at : (k : ℕ) (d : OuterArc) → k < length line.items → get_or (map (arc_of unit denominator) line.items) k d ≡ arc_of unit denominator (get_or line.items k no_interval) → (get_or (map (arc_of unit denominator) line.items) k d).end < line.steps
+    at k d low is = subst (λ (arc : OuterArc). arc.end < line.steps) (sym is) (is_line.intervals k no_interval low).within
+
+-- the bound of prices is at most their value on the instance
+surplus_below : (unit denominator : ℕ) (prices : List ℕ) (intervals : List Interval) → All (λ i. 1 ≤ weight unit i) intervals
+    → sum_by (interval_surplus unit denominator prices) intervals ≤ sum_by (surplus prices) (map (arc_of unit denominator) intervals)
+surplus_below unit denominator prices [] some = omega arith
+surplus_below unit denominator prices (i ∷ intervals) some =
+    let n : ℕ = denominator * i.gain in
+    let w : ℕ = weight unit i in
+    omega (
+      arith,
+      (div_ceil_times n w (All-head (λ j. 1 ≤ weight unit j) i intervals some)).0,
+      surplus_below unit denominator prices intervals (All-tail (λ j. 1 ≤ weight unit j) i intervals some),
+      sum_by-cons (interval_surplus unit denominator prices) i intervals,
+      sum_by-cons (surplus prices) (arc_of unit denominator i) (map (arc_of unit denominator) intervals),
+    )
+
+-- so it is at most what the windows are worth
+pub below_windows : (line : Timeline) (unit units denominator width : ℕ) (prices flows : List ℕ) → IsTimeline line → 1 ≤ unit → All (λ i. unit ∣ i.size) line.items → 1 ≤ units → units ≤ 2 ^ 56 → denominator ≤ 2 ^ 48
+    → 1 ≤ width → AreSolutions (whole_instance line.items line.steps unit units denominator) width prices flows
+    → bound_of line.items unit units denominator prices ≤ value_of_windows (whole_instance line.items line.steps unit units denominator) width prices
+below_windows line unit units denominator width prices flows is_line positive divides some_units few_units small wide are =
+    let whole : Instance = whole_instance line.items line.steps unit units denominator in
+    let fits : IsInstance whole = whole_is_instance line unit units denominator is_line positive divides some_units few_units small in
+    omega (
+      arith,
+      surplus_below unit denominator prices line.items (timeline_weights line unit is_line positive divides),
+      above_of whole width prices flows fits wide are,
+    )
+
+-- no flow at all is a schedule
+pub no_flows : (unit units : ℕ) (intervals : List Interval) → IsFractionalSchedule intervals unit units (replicate (length intervals) 0)
+no_flows unit units intervals = record { within_weights = weights intervals; within_units = λ t. omega (arith, loads t intervals) }
+  where
+    weights : (xs : List Interval) → AllZip (λ i f. f ≤ weight unit i) xs (replicate (length xs) 0)
+    weights [] = tt
+    weights (i ∷ xs) = (omega arith, weights xs)
+
+    nothing : (b : Bool) (f : ℕ) → f ≡ 0 → cond b f 0 ≡ 0
+    nothing true f e = e
+    nothing false f e = refl
+
+    loads : (t : ℕ) (xs : List Interval) → load_at xs (replicate (length xs) 0) t ≡ 0
+    loads t [] = refl
+    loads t (i ∷ xs) = omega (arith, sum_by-cons (λ (p : Interval × ℕ). cond (covers t p.0) p.1 0) (i, 0) (zip xs (replicate (length xs) 0)), nothing (covers t i) 0 refl, loads t xs)
+
+pub all_zero : (n : ℕ) → All (λ (f : ℕ). f ≡ 0) (replicate n 0)
+all_zero n = λ k d low. get_or-replicate n k 0 d (let zero_first : ℕ = 0 in omega (arith, length-replicate n zero_first))
+
+-- a window has a step
+pub width_positive : (window : Window) (steps : ℕ) → IsModeInRange (Flow window) → 1 ≤ width_of window steps
+width_positive Whole steps fits = omega arith
+width_positive (Steps width) steps fits = fits.0
+
+-- ---- flows that are a schedule have no fault
+
+pub flows_each : (unit : ℕ) (xs : List Interval) (fs : List ℕ) → AllZip (λ i f. f ≤ weight unit i) xs fs → length fs ≡ length xs
+flows_each unit [] [] small = refl
+flows_each unit [] (f ∷ fs) small = absurd small
+flows_each unit (i ∷ xs) [] small = absurd small
+flows_each unit (i ∷ xs) (f ∷ fs) small = omega (arith, flows_each unit xs fs small.1)
+
+module _ (line : Timeline) (unit units : ℕ) (flows : List ℕ) (schedule : IsFractionalSchedule line.items unit units flows) where
+  no_load_fault : (t : ℕ) → load_fault line.items units flows t ≡ None
+  no_load_fault t =
+      ap (λ b. cond b (Some (Overfull t (load_at line.items flows t))) None) (le-ltb units (load_at line.items flows t) (schedule.within_units t))
+
+  none_from : (t : ℕ) (o : Option ℕ) → ((n : ℕ) → o ≡ Some n → n < length line.items) → fault_from line.items unit units flows t o ≡ None
+  none_from t None within = no_load_fault t
+  none_from t (Some n) within =
+      ap (λ b. cond b (Some (AboveWeight n)) (load_fault line.items units flows t))
+      (le-ltb (weight_at line.items unit n) (get_or flows n 0) (get_or-AllZip (λ i f. f ≤ weight unit i) no_interval 0 line.items flows n schedule.within_weights (within n refl)))
+      ∙ no_load_fault t
+
+  pub no_fault : (fault : FlowFault) → IsFirstFault line unit units flows fault → ⊥
+  no_fault fault first =
+      let t : ℕ = first.step in
+      let o : Option ℕ = starting_at line.items t in
+      let fine : fault_at line.items unit units flows t ≡ None = none_from t o (place_within (λ i. i.start == t) line.items o (length line.items) refl refl) in
+      false≢true (ap is_some (sym fine ∙ first.fails))

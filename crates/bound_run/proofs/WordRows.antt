@@ -1,0 +1,95 @@
+-- The words of the command line, at small rows, computed.
+use Rattle.std.proofs.Common.{◌≡◌, ℕ, List, [], ◌∷◌, codes, Ok, Err, refl}
+use Rattle.cache_model.specs.declared.objects.Objective.TheVariants.{Object as Hits, Bytes}
+use Rattle.cache_model.specs.declared.reports.Mode.TheVariants.{Constant, Infinite}
+use Rattle.relaxation.specs.declared.denominators.DenominatorChoice.TheVariants.{Exact, Given}
+use Rattle.trace_any.specs.declared.format.Format.TheVariants.{Webcache, Arc, Msr}
+use Rattle.bound_run.specs.declared.words.Plan.TheVariants.{Bounds, Check}
+use Rattle.bound_report.specs.declared.refusal.WordKind.TheVariants.{Missing, Unknown, Twice, BadValue}
+use Rattle.bound_run.specs.Words.{fault, plan}
+
+-- the command, its two paths and these operands
+abbrev bounds_with : List (List ℕ) → List (List ℕ)
+bounds_with operands = codes "bounds" ∷ codes "t" ∷ codes "c" ∷ operands
+
+-- three operands, and the objective where it isn't given
+all_required : plan (bounds_with (codes "format=webcache" ∷ codes "capacity=10" ∷ codes "mode=infinite" ∷ [])) ≡ Ok (Bounds Webcache 10 Hits Infinite (Given 1))
+unfolding plan
+all_required = refl
+
+-- another order, another objective, and another form of the trace
+another_order : plan (bounds_with (codes "objective=bytes" ∷ codes "mode=infinite" ∷ codes "capacity=010" ∷ codes "format=arc" ∷ [])) ≡ Ok (Bounds Arc 10 Bytes Infinite (Given 1))
+unfolding plan
+another_order = refl
+
+-- the usual denominator of mode constant, and one that is chosen
+usual_denominator : plan (bounds_with (codes "format=arc" ∷ codes "capacity=1" ∷ codes "mode=constant" ∷ [])) ≡ Ok (Bounds Arc 1 Hits Constant (Given 281474976710656))
+unfolding plan
+usual_denominator = refl
+
+chosen_denominator : plan (bounds_with (codes "denominator=exact" ∷ codes "format=arc" ∷ codes "capacity=1" ∷ codes "mode=constant" ∷ [])) ≡ Ok (Bounds Arc 1 Hits Constant Exact)
+unfolding plan
+chosen_denominator = refl
+
+-- a window, which there is not yet
+no_window : plan (bounds_with (codes "format=webcache" ∷ codes "capacity=2" ∷ codes "window=3" ∷ codes "mode=constant" ∷ [])) ≡ Err (fault 6 Unknown)
+unfolding plan
+no_window = refl
+
+-- a name that stood before, though its value is none of the operand's
+twice_first : plan (bounds_with (codes "capacity=2" ∷ codes "capacity=x" ∷ [])) ≡ Err (fault 5 Twice)
+unfolding plan
+twice_first = refl
+
+-- the first `=` ends the name
+two_equals : plan (bounds_with (codes "format==webcache" ∷ codes "=x" ∷ [])) ≡ Err (fault 4 BadValue)
+unfolding plan
+two_equals = refl
+
+-- a block before its form of the trace
+block_first : plan (bounds_with (codes "block=8192" ∷ codes "format=msr" ∷ codes "capacity=1" ∷ codes "mode=infinite" ∷ [])) ≡ Ok (Bounds (Msr 8192) 1 Hits Infinite (Given 1))
+unfolding plan
+block_first = refl
+
+-- the block where it isn't given
+usual_block : plan (bounds_with (codes "format=msr" ∷ codes "capacity=1" ∷ codes "mode=infinite" ∷ [])) ≡ Ok (Bounds (Msr 4096) 1 Hits Infinite (Given 1))
+unfolding plan
+usual_block = refl
+
+-- a block beside a form that takes none, though an operand is missing
+block_unknown : plan (bounds_with (codes "mode=infinite" ∷ codes "block=512" ∷ codes "format=webcache" ∷ [])) ≡ Err (fault 5 Unknown)
+unfolding plan
+block_unknown = refl
+
+-- a later word that is refused by itself comes before such a block
+block_later : plan (bounds_with (codes "block=512" ∷ codes "format=webcache" ∷ codes "x=1" ∷ [])) ≡ Err (fault 6 Unknown)
+unfolding plan
+block_later = refl
+
+-- a block with no form of the trace passes
+block_alone : plan (bounds_with (codes "block=512" ∷ codes "capacity=2" ∷ [])) ≡ Err (fault 6 Missing)
+unfolding plan
+block_alone = refl
+
+-- the command and its paths come before the operands
+no_path : plan (codes "bounds" ∷ codes "t" ∷ []) ≡ Err (fault 3 Missing)
+unfolding plan
+no_path = refl
+
+-- a check takes the form of the trace and no more
+a_check : plan (codes "check" ∷ codes "t" ∷ codes "-" ∷ codes "format=msr" ∷ codes "block=512" ∷ []) ≡ Ok (Check (Msr 512))
+unfolding plan
+a_check = refl
+
+no_capacity : plan (codes "check" ∷ codes "t" ∷ codes "c" ∷ codes "format=arc" ∷ codes "capacity=2" ∷ []) ≡ Err (fault 5 Unknown)
+unfolding plan
+no_capacity = refl
+
+-- standard input is one of the two, and that comes last
+both_dashes : plan (codes "check" ∷ codes "-" ∷ codes "-" ∷ codes "format=arc" ∷ []) ≡ Err (fault 3 BadValue)
+unfolding plan
+both_dashes = refl
+
+form_first : plan (codes "check" ∷ codes "-" ∷ codes "-" ∷ []) ≡ Err (fault 4 Missing)
+unfolding plan
+form_first = refl

@@ -1,0 +1,23 @@
+use Rattle.std.proofs.Common.{ℕ, ◌≤◌, arith, Bool, List}
+use Rattle.std.specs.Prelude.{length}
+use Rattle.cache_model.specs.declared.objects.Object.{Object}
+use Rattle.cache_model.specs.declared.objects.Objective.{Objective}
+use Rattle.cache_model.specs.Intervals.{eligible_intervals}
+use Rattle.cache_model.specs.Keeps.{IsFirstOverfull}
+use Rattle.cache_model.specs.Rounding.{IsRounded, by_rank, taken_load}
+use Rattle.cache_model.proofs.Rounding.{held-load}
+use Rattle.bound_run.proofs.bounds.schedule_of.Goals as goal
+
+-- contents that weigh what their intervals do overfill no step
+never_overfull : (objective : Objective) (capacity : ℕ) (trace : List Object) (full keeps : List Bool) (step load : ℕ)
+    → IsRounded by_rank (eligible_intervals objective capacity trace) capacity (length trace) full keeps
+    → ((t : ℕ) → taken_load (eligible_intervals objective capacity trace) keeps t ≤ capacity)
+    → IsFirstOverfull capacity trace keeps step load → ⊥
+never_overfull objective capacity trace full keeps step load taken fits over =
+    omega (arith, over.over, over.load_is, held-load objective capacity trace keeps step taken.only_starts over.within, fits step)
+
+pub unreachable-requires : goal.unreachable-requires
+unreachable-requires c =
+    let over = rw c.as_slice.ensures at c.in-Err.ensures.overfull in
+    never_overfull c.args.asked.now.objective c.args.asked.now.capacity c.args.trace.now c.args.full.now c.in_ok-keeps.keeps _ _
+    (rw c.requires.intervals at c.in_ok-keeps.ensures.rounded) (λ t. rw c.requires.intervals at (c.in_ok-keeps.ensures.fits t)) over

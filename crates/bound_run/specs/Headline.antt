@@ -1,0 +1,68 @@
+-- The headline: what is known of the numbers that a run printed, in the words of the trace and its plays alone.
+use Rattle.std.specs.Prelude.{◌≡◌, ◌↔◌, ℕ, ◌*◌, ◌^◌, ◌≤◌, IsTrue, IfSome, List, length, All, Result, Ok, Err}
+use Rattle.std.specs.Io.KnownBytes.{Appends}
+use Rattle.bound_io.specs.Devices.{Device}
+use Rattle.cache_model.specs.declared.objects.Object.{Object}
+use Rattle.cache_model.specs.declared.certificates.Header.{Header}
+use Rattle.cache_model.specs.declared.certificates.Record.{Record}
+use Rattle.cache_model.specs.Certificates.{BoundsEveryPlay, eligible_of, flow_of, keeps_of, upper_of}
+use Rattle.cache_model.specs.Keeps.{contents_of}
+use Rattle.cache_model.specs.Play.{IsAllowed, score}
+use Rattle.cache_model.specs.Texts.{cert_text, report_text}
+use Rattle.cache_model.specs.Units.{HasWholeCosts}
+use Rattle.cert_checker.specs.declared.verdict.Verdict.{Verdict}
+use Rattle.bound_report.specs.Verdicts.{verdict_text}
+use Rattle.bound_run.specs.declared.bounds.Asked.{Asked}
+use Rattle.bound_run.specs.declared.words.Plan.{Plan}
+use Rattle.bound_run.specs.declared.words.Plan.TheVariants.{Bounds, Check}
+use Rattle.bound_run.specs.declared.words.WordFault.{WordFault}
+use Rattle.bound_run.specs.declared.status.Status.{Status}
+use Rattle.bound_run.specs.declared.status.Status.TheVariants.{Done}
+use Rattle.bound_run.specs.Inputs.{IsLoaded}
+use Rattle.bound_run.specs.Made.{facts_of, is_unwindowed}
+use Rattle.bound_run.specs.Run.{Devices, asked_for}
+use Rattle.bound_run.specs.Words.{plan}
+
+-- the bounds of a certificate are true of the trace: no allowed contents score more than the upper one, the keeps are an allowed play that scores the lower one, and in the form exact prices and flows have the upper one as their value
+pub record AreTrueBounds (trace : List Object) (h : Header) (records : List Record) : Type 0 where
+  pub some_capacity : (1 ≤ h.capacity) × (h.capacity ≤ 2 ^ 56)
+  pub upper : BoundsEveryPlay trace h
+  pub schedule : IsAllowed h.capacity trace (contents_of trace (keeps_of records))
+  pub lower : score h.objective trace (contents_of trace (keeps_of records)) ≡ h.lower
+  pub equal_values : IsTrue h.exact → (upper_of trace h records ≡ h.upper) × (flow_of trace h records ≡ h.upper)
+
+-- bounds printed and certified true bounds at the capacity and for the objective that were asked for; with one window for all steps they are of the form exact where no cost is rounded, and one number where all sizes are equal
+pub record ShowsBounds (asked : Asked) (trace : List Object) (dropped : ℕ) (report made : Device) : Type 0 where
+  pub header : Header
+  pub records : List Record
+  pub price : ℕ
+  pub printed : Appends report.before report.after (report_text (facts_of asked trace dropped price header))
+  pub certified : Appends made.before made.after (cert_text header records)
+  pub capacity : header.capacity ≡ asked.capacity
+  pub objective : header.objective ≡ asked.objective
+  pub bounds : AreTrueBounds trace header records
+  pub exact : IsTrue header.exact ↔ (IsTrue (is_unwindowed asked.mode (length trace)) × HasWholeCosts (eligible_of trace header) header.unit header.denominator)
+  pub equal_sizes : (size : ℕ) → IsTrue (is_unwindowed asked.mode (length trace)) → All (λ i. i.size ≡ size) (eligible_of trace header) → header.upper ≡ header.denominator * header.lower
+
+-- a check printed what the certificate states, which is the text of true bounds, whatever bytes it was given
+pub record ShowsCheck (trace : List Object) (dropped : ℕ) (cert report : Device) : Type 0 where
+  pub verdict : Verdict
+  pub records : List Record
+  pub printed : Appends report.before report.after (verdict_text verdict dropped)
+  pub certified : IfSome cert.before (λ text. text ≡ cert_text verdict.header records)
+  pub bounds : AreTrueBounds trace verdict.header records
+
+-- all that the trace source had left was read, and the numbers that a run printed are true of it
+abbrev pub Shows : Result Plan WordFault → Devices → Type 0
+Shows (Ok (Bounds format capacity objective mode denominator)) d =
+    (trace : List Object) × (dropped : ℕ) × IsLoaded format d.trace trace dropped × ShowsBounds (asked_for capacity objective mode denominator) trace dropped d.report d.made
+Shows (Ok (Check format)) d =
+    (trace : List Object) × (dropped : ℕ) × IsLoaded format d.trace trace dropped × ShowsCheck trace dropped d.cert d.report
+Shows (Err fault) d = ⊥
+
+-- Whatever trace is read and whatever the capacity, no allowed sequence of cache contents scores more than the printed
+-- upper bound, the certified schedule is allowed and scores exactly the lower bound, exact-form prices and flows have
+-- equal value, equal sizes make both bounds one under an unwindowed flow, and the checker's yes on any file implies the
+-- bounds it prints.
+abbrev pub Headline : List (List ℕ) → Devices → Status → Type 0
+Headline words d status = status ≡ Done → Shows (plan words) d

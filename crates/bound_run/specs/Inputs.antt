@@ -1,0 +1,75 @@
+-- What comes of reading the inputs of a run: the trace, and the certificate of a check.
+use Rattle.std.specs.Prelude.{◌≡◌, ℕ, IsTrue, List, [], length, Some, None, IfSome}
+use Rattle.std.specs.declared.option.Option.{Option}
+use Rattle.bound_io.specs.Devices.{Device}
+use Rattle.cache_model.specs.declared.objects.Object.{Object}
+use Rattle.cache_model.specs.declared.certificates.Header.{Header}
+use Rattle.cache_model.specs.declared.certificates.Record.{Record}
+use Rattle.cache_model.specs.Certificates.{BoundsEveryPlay, IsLeastOverAll, IsValid}
+use Rattle.cache_model.specs.Objects.{objects_of}
+use Rattle.cache_model.specs.Texts.{cert_text}
+use Rattle.trace_any.specs.declared.fault.TraceFault.{TraceFault as FaultOfTrace}
+use Rattle.trace_any.specs.declared.format.Format.{Format}
+use Rattle.trace_any.specs.Readings.{reading, full_limits}
+use Rattle.trace_any.specs.Readers.{IsWhole}
+use Rattle.cert_checker.specs.declared.verdict.Verdict.{Verdict}
+use Rattle.cert_checker.specs.Walks.{Event, walk}
+use Rattle.bound_run.specs.declared.bounds.Asked.{Asked}
+use Rattle.bound_run.specs.Made.{AreTexts, RefusesDenominator}
+
+-- all that the source had left was read, and is a trace of these requests and so many dropped lines, where the source tells what it has left
+pub record IsLoaded (format : Format) (source : Device) (requests : List Object) (dropped : ℕ) : Type 0 where
+  pub read : IfSome source.before (λ bytes. IsWhole (reading format full_limits bytes) requests dropped)
+  pub nothing_left : IfSome source.before (λ bytes. source.after ≡ Some [])
+
+-- what the source had left is refused so, where the source tells it
+abbrev pub IsRefused : Format → Device → FaultOfTrace → Type 0
+IsRefused format source fault = IfSome source.before (λ bytes. (reading format full_limits bytes).refused ≡ Some fault)
+
+-- the certificate and the report of all that the source had left
+pub record IsReady (format : Format) (asked : Asked) (source : Device) (cert report : List ℕ) : Type 0 where
+  pub requests : List Object
+  pub dropped : ℕ
+  pub loaded : IsLoaded format source requests dropped
+  pub texts : AreTexts asked requests dropped cert report
+
+-- all that the source had left was read, and the denominator that is asked for passes its limit
+pub record IsPastDenominator (format : Format) (asked : Asked) (source : Device) : Type 0 where
+  pub requests : List Object
+  pub dropped : ℕ
+  pub loaded : IsLoaded format source requests dropped
+  pub refused : RefusesDenominator asked requests
+
+-- this is the first event of the walk over all that the two sources had left, where both tell it
+abbrev pub IsFirstEvent : Format → Device → Device → Event → Type 0
+IsFirstEvent format trace cert event =
+    IfSome trace.before (λ bytes. IfSome cert.before (λ text. walk (reading format full_limits bytes) text ≡ Some event))
+
+-- a yes: all that the sources had left is a trace and the text of a valid certificate of it, so no play scores more than its upper bound, and in the form exact no prices have a smaller one
+pub record IsAccepted (format : Format) (trace cert : Device) (verdict : Verdict) (dropped : ℕ) : Type 0 where
+  pub requests : List Object
+  pub records : List Record
+  pub loaded : IsLoaded format trace requests dropped
+  pub objects : verdict.objects ≡ length (objects_of requests)
+  pub valid : IsValid requests verdict.header records
+  pub bounds : BoundsEveryPlay requests verdict.header
+  pub least : IsTrue verdict.header.exact → IsLeastOverAll requests verdict.header records
+  pub text : IfSome cert.before (λ text. text ≡ cert_text verdict.header records)
+  pub nothing_left : IfSome cert.before (λ text. cert.after ≡ Some [])
+
+-- the bytes are the text of a certificate that is valid for the trace
+pub record IsCertified (format : Format) (bytes text : List ℕ) : Type 0 where
+  pub header : Header
+  pub records : List Record
+  pub text_is : text ≡ cert_text header records
+  pub valid : IsValid (reading format full_limits bytes).requests header records
+
+-- the bytes are told, and are a trace within the limits
+abbrev pub IsGoodTrace : Format → Option (List ℕ) → Type 0
+IsGoodTrace format None = ⊥
+IsGoodTrace format (Some bytes) = (reading format full_limits bytes).refused ≡ None
+
+-- the trace has no denominator that is refused
+abbrev pub HasDenominator : Format → Asked → Option (List ℕ) → Type 0
+HasDenominator format asked None = ⊥
+HasDenominator format asked (Some bytes) = ¬ (RefusesDenominator asked (reading format full_limits bytes).requests)

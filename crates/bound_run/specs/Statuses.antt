@@ -1,0 +1,57 @@
+-- The ends of a run.
+use Rattle.std.specs.Prelude.{ℕ}
+use Rattle.bound_report.specs.declared.refusal.Refusal.{Refusal}
+use Rattle.bound_report.specs.declared.refusal.Refusal.TheVariants as refusal
+use Rattle.trace_any.specs.declared.fault.TraceFault.{TraceFault as FaultOfTrace}
+use Rattle.trace_any.specs.declared.fault.TraceFault.TheVariants as trace
+use Rattle.bound_report.specs.declared.refusal.LimitName.TheVariants.{Requests, TraceBytes, Denominator}
+use Rattle.cert_checker.specs.declared.walking.CheckFault.{CheckFault}
+use Rattle.cert_checker.specs.declared.walking.CheckFault.TheVariants as check
+use Rattle.bound_run.specs.declared.bounds.BoundsFault.{BoundsFault}
+use Rattle.bound_run.specs.declared.bounds.BoundsFault.TheVariants as bounds
+use Rattle.bound_run.specs.declared.status.Status.{Status}
+use Rattle.bound_run.specs.declared.status.Status.TheVariants.{Done, Invalid, Words, BadLine, Limit, TraceFault, CertFault, ReportFault, MadeFault, NoMemory}
+
+-- the exit status of the program
+abbrev pub code_of : Status → ℕ
+code_of Done = 0
+code_of (Invalid line kind) = 1
+code_of (Words fault) = 2
+code_of (BadLine line kind) = 3
+code_of (Limit name) = 4
+code_of TraceFault = 5
+code_of CertFault = 6
+code_of ReportFault = 7
+code_of MadeFault = 8
+code_of NoMemory = 9
+
+-- the status that a refusal ends in
+abbrev pub status_of : Refusal → Status
+status_of (refusal.Invalid line kind) = Invalid line kind
+status_of (refusal.Words place kind) = Words (record { place = place; kind = kind })
+status_of (refusal.BadLine line kind) = BadLine line kind
+status_of (refusal.Limit name) = Limit name
+status_of refusal.TraceFault = TraceFault
+status_of refusal.CertFault = CertFault
+status_of refusal.MadeFault = MadeFault
+status_of refusal.NoMemory = NoMemory
+
+-- the refusal that a fault of the trace leads to
+abbrev pub refusal_of : FaultOfTrace → Refusal
+refusal_of (trace.BadLine line kind) = refusal.BadLine line kind
+refusal_of trace.ReadFault = refusal.TraceFault
+refusal_of trace.InputTooLong = refusal.Limit TraceBytes
+refusal_of trace.TooManyRequests = refusal.Limit Requests
+refusal_of trace.NoMemory = refusal.NoMemory
+
+-- the refusal that a fault of a check leads to
+abbrev pub refusal_of_check : CheckFault → Refusal
+refusal_of_check (check.Invalid line kind) = refusal.Invalid line kind
+refusal_of_check (check.Trace fault) = refusal_of fault
+refusal_of_check check.CertReadFault = refusal.CertFault
+refusal_of_check check.NoMemory = refusal.NoMemory
+
+-- the refusal that a want of bounds leads to
+abbrev pub refusal_of_bounds : BoundsFault → Refusal
+refusal_of_bounds bounds.Denominator = refusal.Limit Denominator
+refusal_of_bounds bounds.NoMemory = refusal.NoMemory

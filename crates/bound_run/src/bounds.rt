@@ -1,0 +1,345 @@
+//! The bounds of a trace, and their texts.
+ghost use Rattle.std.specs.Prelude.{◌≡◌, ◌≤◌, ◌<◌, ◌*◌, ◌^◌, length, slice_index_or, sum, All, IfOk, IfErr, IsTrue, OnOk, ◌↔◌, ◌&&◌};
+ghost use Prim.Native.Nat.{◌∣◌};
+ghost use Rattle.std.specs.Io.KnownBytes.{Appends};
+ghost use Rattle.cache_model.specs.Intervals.{bound_of};
+ghost use Rattle.cache_model.specs.Certificates.{eligible_of, IsCertificate};
+ghost use Rattle.cache_model.specs.Keeps.{contents_of};
+ghost use Rattle.cache_model.specs.Units.{HasWholeCosts, IsUnit};
+ghost use Rattle.cache_model.specs.Play.{IsAllowed, score};
+ghost use Rattle.cache_model.specs.Rounding.{FitTogether, IsMaximal, IsRounded, by_rank};
+ghost use Rattle.cache_model.specs.Schedules.{IsFractionalSchedule, flow_value};
+ghost use Rattle.cache_model.specs.Texts.{cert_text};
+ghost use Rattle.interval_maker.specs.Timelines.{starting_at, timeline_of};
+ghost use Rattle.relaxation.specs.Denominators.{IsChoice, IsChosen};
+ghost use Rattle.relaxation.specs.Faults.{amount_of};
+ghost use Rattle.relaxation.specs.Prices.{most_paid};
+ghost use Rattle.schedule_round.specs.Laws.{full_flags};
+ghost use Rattle.bound_run.specs.BoundsFaults.{FailsBounds};
+ghost use Rattle.bound_run.specs.Made.{AreTexts, IsMade, is_unwindowed, record_of};
+ghost use Rattle.bound_run.specs.Records.{HasEach, records_in};
+ghost use Rattle.bound_run.specs.Words.{IsModeInRange};
+
+use crate::relaxed::{Relaxed, Scale, relax, width_of};
+use bound_base::NoMemory;
+use bound_io::{Failed, GrowSink, Sink};
+use bound_report::{LimitName, Refusal, report_text};
+use cache_model::{BoundFacts, Header, Mode, Record};
+use cache_rules::{Objective, Trace, score};
+use cert_format::{write_end, write_header, write_record};
+use interval_maker::{Intervals, make};
+use relaxation::{
+    Denominator, DenominatorChoice, PriceFault, Sums, bound_of, denominator_for, flow_value,
+    unit_of,
+};
+use schedule_round::{Keeps, round};
+use std::alloc::Global;
+
+/// Which bounds are asked for. The capacity is in bytes.
+#[derive(Clone, Copy, Debug, PartialEq, Eq)]
+pub struct Asked {
+    pub capacity: u64,
+    pub objective: Objective,
+    pub mode: Mode,
+    pub denominator: DenominatorChoice,
+}
+
+/// Why there are no bounds.
+#[derive(Clone, Copy, Debug, PartialEq, Eq)]
+pub enum BoundsFault {
+    /// The least denominator that rounds no cost passes 2^48, and no other may be taken.
+    Denominator,
+    /// There was not enough memory.
+    NoMemory,
+}
+
+/// The certificate and the report.
+#[derive(Drop)]
+pub struct Texts {
+    pub cert: Vec<u8>,
+    pub report: Vec<u8>,
+}
+
+// What a schedule keeps, and its score.
+#[derive(Drop)]
+struct Schedule {
+    keeps: Keeps,
+    lower: u128,
+}
+
+// A certificate: its header, the prices of the steps, the flows of the intervals, and what its schedule keeps.
+#[derive(Drop)]
+struct Bounds {
+    header: Header,
+    relaxed: Relaxed,
+    keeps: Keeps,
+    intervals: Intervals,
+}
+
+impl From<NoMemory> for BoundsFault {
+    ghost use Rattle.std.specs.Prelude.{◌≡◌};
+    ghost use Rattle.bound_run.specs.declared.bounds.BoundsFault.TheVariants.{NoMemory};
+
+    ghost from_gives = { λ _ f. f ≡ NoMemory };
+
+    fn from(_: NoMemory) -> Self {
+        BoundsFault::NoMemory
+    }
+}
+
+impl From<BoundsFault> for Refusal {
+    ghost use Rattle.std.specs.Prelude.{◌≡◌};
+    ghost use Rattle.bound_run.specs.Statuses.{refusal_of_bounds};
+
+    ghost from_gives = { λ f r. r ≡ refusal_of_bounds f };
+
+    fn from(fault: BoundsFault) -> Self {
+        match fault {
+            BoundsFault::Denominator => Refusal::Limit(LimitName::Denominator),
+            BoundsFault::NoMemory => Refusal::NoMemory,
+        }
+    }
+}
+
+// The bound of prices.
+fn upper_of(
+    alloc: Global,
+    intervals: &Intervals,
+    scale: Scale,
+    prices: &[u128],
+) -> Result<u128, NoMemory>
+    requires unit { 1 ≤ scale.unit }
+    requires units { 1 ≤ scale.units }
+    requires denominator { scale.denominator ≤ 2 ^ 48 }
+    requires few { length prices.now ≤ 2 ^ 25 }
+    requires each { length prices.now ≡ intervals.now.steps }
+    requires paid { scale.units * sum prices.now ≤ most_paid }
+    ensures bound { IfOk result (λ u. u ≡ bound_of intervals.now.items scale.unit scale.units scale.denominator prices.now) }
+    ensures small { IfOk result (λ u. u < 2 ^ 127) }
+{
+    match Sums::new(alloc, prices, scale.units) {
+        Ok(sums) => Ok(bound_of(intervals, scale.unit, scale.units, scale.denominator, &sums)),
+        Err(PriceFault::NoMemory) => Err(NoMemory),
+        Err(PriceFault::SumLimit { .. }) => unreachable!(),
+    }
+}
+
+// The value of flows that are a schedule.
+fn flow_of(intervals: &Intervals, scale: Scale, flows: &[u64]) -> u128
+    requires unit { 1 ≤ scale.unit }
+    requires divides { All (λ i. scale.unit ∣ i.size) intervals.now.items }
+    requires denominator { scale.denominator ≤ 2 ^ 48 }
+    requires schedule { IsFractionalSchedule intervals.now.items scale.unit scale.units flows.now }
+    ensures value { result ≡ flow_value intervals.now.items scale.unit scale.denominator flows.now }
+    ensures small { result < 2 ^ 127 }
+{
+    match flow_value(intervals, scale.unit, scale.units, scale.denominator, flows) {
+        Ok(value) => value,
+        Err(_) => unreachable!(),
+    }
+}
+
+// The intervals whose flow is their whole weight.
+fn full_flags(
+    alloc: Global,
+    intervals: &Intervals,
+    unit: u64,
+    flows: &[u64],
+) -> Result<Vec<bool>, NoMemory>
+    requires unit { 1 ≤ unit }
+    requires each { length flows.now ≡ length intervals.now.items }
+    ensures { IfOk result (λ full. full.items ≡ full_flags unit intervals.now.items flows.now) }
+{
+    let items = intervals.as_slice();
+    let mut full = Vec::with_capacity(alloc, items.len())?;
+    for (number, interval) in items.iter().enumerate() {
+        full.push_reserved(flows[number] == interval.size / unit);
+    }
+    Ok(full)
+}
+
+// The schedule that is rounded from the flagged intervals.
+fn schedule_of(
+    alloc: Global,
+    asked: &Asked,
+    trace: &Trace,
+    intervals: &Intervals,
+    full: &[bool],
+) -> Result<Schedule, NoMemory>
+    requires capacity { (1 ≤ asked.now.capacity) × (asked.now.capacity ≤ 2 ^ 56) }
+    requires intervals { intervals.now ≡ timeline_of asked.now.objective asked.now.capacity trace.now }
+    requires fit { All (λ i. i.size ≤ asked.now.capacity) intervals.now.items }
+    requires flags { FitTogether intervals.now.items asked.now.capacity full.now }
+    ensures rounded { IfOk result (λ s. IsRounded by_rank intervals.now.items asked.now.capacity (length trace.now) full.now s.keeps) }
+    ensures maximal { IfOk result (λ s. IsMaximal intervals.now.items asked.now.capacity s.keeps) }
+    ensures allowed { IfOk result (λ s. IsAllowed asked.now.capacity trace.now (contents_of trace.now s.keeps)) }
+    ensures lower { IfOk result (λ s. s.lower ≡ score asked.now.objective trace.now (contents_of trace.now s.keeps)) }
+{
+    let keeps = round(alloc, intervals, asked.capacity, full)?;
+    match score(trace, asked.capacity, asked.objective, keeps.as_slice()) {
+        Ok(lower) => Ok(Schedule { keeps, lower }),
+        Err(_) => unreachable!(),
+    }
+}
+
+// The denominator that is asked for.
+fn denominator_of(
+    asked: &Asked,
+    trace: &Trace,
+    intervals: &Intervals,
+    unit: u64,
+) -> Result<Denominator, BoundsFault>
+    requires choice { IsChoice asked.now.denominator }
+    requires intervals { intervals.now ≡ timeline_of asked.now.objective asked.now.capacity trace.now }
+    requires unit { IsUnit intervals.now.items unit }
+    requires positive { 1 ≤ unit }
+    ensures chosen { IfOk result (λ d. IsChosen asked.now.denominator intervals.now.items unit d.value) }
+    ensures range { IfOk result (λ d. (1 ≤ d.value) × (d.value ≤ 2 ^ 48)) }
+    ensures exact { IfOk result (λ d. IsTrue d.exact ↔ HasWholeCosts intervals.now.items unit d.value) }
+    ensures refused { IfErr result (FailsBounds asked.now trace.now) }
+{
+    match denominator_for(intervals, unit, asked.denominator) {
+        Ok(denominator) => Ok(denominator),
+        Err(_) => Err(BoundsFault::Denominator),
+    }
+}
+
+// Whether the mode is flow, with one window for all steps.
+fn is_unwindowed(mode: Mode, steps: u32) -> bool
+    ensures { result ≡ is_unwindowed mode steps }
+{
+    match mode {
+        Mode::Flow { window } => steps <= width_of(window, steps),
+        Mode::Constant | Mode::Infinite => false,
+    }
+}
+
+// Whether the form is exact: one window has all steps, and no cost is rounded.
+fn is_exact(mode: Mode, steps: u32, whole_costs: bool) -> bool
+    ensures { result ≡ (is_unwindowed mode steps && whole_costs) }
+{
+    is_unwindowed(mode, steps) && whole_costs
+}
+
+// The certificate of a trace, in parts.
+fn bounds_of(alloc: Global, asked: &Asked, trace: &Trace) -> Result<Bounds, BoundsFault>
+    requires capacity { (1 ≤ asked.now.capacity) × (asked.now.capacity ≤ 2 ^ 56) }
+    requires mode { IsModeInRange asked.now.mode }
+    requires choice { IsChoice asked.now.denominator }
+    ensures made { IfOk result (λ b. IsMade asked.now trace.now b.relaxed.price b.header (records_in b)) }
+    ensures intervals { IfOk result (λ b. b.intervals.items ≡ eligible_of trace.now b.header) }
+    ensures each { IfOk result HasEach }
+    ensures refused { IfErr result (FailsBounds asked.now trace.now) }
+{
+    let intervals = make(alloc, trace, asked.capacity, asked.objective)?;
+    let unit = unit_of(&intervals);
+    let units = asked.capacity / unit;
+    let denominator = denominator_of(asked, trace, &intervals, unit)?;
+    let scale = Scale {
+        unit,
+        units,
+        denominator: denominator.value,
+    };
+    let relaxed = relax(alloc, asked.mode, &intervals, scale)?;
+    let upper = upper_of(alloc, &intervals, scale, &relaxed.prices)?;
+    let flow = flow_of(&intervals, scale, &relaxed.flows);
+    let full = full_flags(alloc, &intervals, unit, &relaxed.flows)?;
+    let schedule = schedule_of(alloc, asked, trace, &intervals, &full)?;
+    let requests = trace.len();
+    Ok(Bounds {
+        header: Header {
+            objective: asked.objective,
+            capacity: asked.capacity,
+            requests,
+            unit,
+            denominator: denominator.value,
+            exact: is_exact(asked.mode, requests, denominator.exact),
+            upper,
+            flow,
+            lower: schedule.lower,
+        },
+        relaxed,
+        keeps: schedule.keeps,
+        intervals,
+    })
+}
+
+// The flow of the interval that starts at a request, and 0 where none does.
+fn flow_from(bounds: &Bounds, t: u32) -> u64
+    requires within { t < bounds.now.intervals.steps }
+    requires each { HasEach bounds.now }
+    ensures { result ≡ amount_of bounds.now.relaxed.flows.items (starting_at bounds.now.intervals.items t) }
+{
+    match bounds.intervals.starting(t) {
+        Some(number) => bounds.relaxed.flows[number as usize],
+        None => 0,
+    }
+}
+
+// The record of a request.
+fn record_at(bounds: &Bounds, t: u32) -> Record
+    requires within { t < bounds.now.intervals.steps }
+    requires each { HasEach bounds.now }
+    ensures { result ≡ record_of bounds.now.relaxed.prices.items bounds.now.keeps bounds.now.intervals.items bounds.now.relaxed.flows.items t }
+{
+    Record {
+        price: bounds.relaxed.prices[t as usize],
+        keep: bounds.keeps.as_slice()[t as usize],
+        flow: flow_from(bounds, t),
+    }
+}
+
+// Writes the certificate.
+fn write_cert<K: Sink>(sink: &mut K, bounds: &Bounds) -> Result<(), Failed>
+    requires certificate { IsCertificate bounds.now.header (records_in bounds.now) }
+    requires each { HasEach bounds.now }
+    ensures { OnOk result (Appends (K.written sink.old) (K.written sink.new) (cert_text bounds.now.header (records_in bounds.now))) }
+{
+    write_header(sink, &bounds.header)?;
+    for t in 0..bounds.intervals.steps() {
+        write_record(sink, &record_at(bounds, t))?;
+    }
+    write_end(sink)?;
+    Ok(())
+}
+
+// The text of the certificate.
+fn cert_of(alloc: Global, bounds: &Bounds) -> Result<Vec<u8>, NoMemory>
+    requires certificate { IsCertificate bounds.now.header (records_in bounds.now) }
+    requires each { HasEach bounds.now }
+    ensures { IfOk result (λ text. text.items ≡ cert_text bounds.now.header (records_in bounds.now)) }
+{
+    let mut sink = GrowSink::new(alloc);
+    match write_cert(&mut sink, bounds) {
+        Ok(()) => Ok(sink.into_bytes()),
+        Err(Failed) => Err(NoMemory),
+    }
+}
+
+/// The certificate and the report of a trace as asked for, with the number of lines of the trace that were dropped.
+pub fn texts_of(
+    alloc: Global,
+    asked: &Asked,
+    trace: &Trace,
+    dropped: u64,
+) -> Result<Texts, BoundsFault>
+    requires capacity { (1 ≤ asked.now.capacity) × (asked.now.capacity ≤ 2 ^ 56) }
+    requires mode { IsModeInRange asked.now.mode }
+    requires choice { IsChoice asked.now.denominator }
+    ensures texts { IfOk result (λ texts. AreTexts asked.now trace.now dropped texts.cert.items texts.report.items) }
+    ensures refused { IfErr result (FailsBounds asked.now trace.now) }
+{
+    let bounds = bounds_of(alloc, asked, trace)?;
+    let facts = BoundFacts {
+        header: bounds.header,
+        objects: trace.objects(),
+        dropped,
+        mode: asked.mode,
+        price: bounds.relaxed.price,
+        intervals: bounds.intervals.as_slice().len() as u32,
+    };
+    Ok(Texts {
+        cert: cert_of(alloc, &bounds)?,
+        report: report_text(alloc, &facts)?,
+    })
+}

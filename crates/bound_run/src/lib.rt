@@ -1,0 +1,16 @@
+//! A run of the program: its words, what comes of the trace and the certificate, and how it ends.
+//!
+//! The rules are "Words" and "How a run ends" in docs/DEFINITIONS.md, and the headline is in specs/Headline.antt.
+#![tactic(auto)]
+
+mod bounds;
+mod checking;
+mod operands;
+mod relaxed;
+mod status;
+mod top;
+mod words;
+
+pub use status::Status;
+pub use top::run;
+pub use words::{Paths, Plan, WordFault, paths_of, plan_of};

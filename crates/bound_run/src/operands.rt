@@ -1,0 +1,307 @@
+//! The operands of the command line: their names and values.
+ghost use Rattle.std.specs.Prelude.{◌≡◌, ◌≤◌, ◌^◌, [], map, string_bytes, IfSome};
+ghost use Rattle.std.specs.Option.{option_copied};
+ghost use Rattle.relaxation.specs.Denominators.{IsChoice};
+ghost use Rattle.trace_any.specs.Readings.{IsFormat};
+ghost use Rattle.bound_run.specs.Words.{IsModeInRange, block_given, block_of, capacity_given, capacity_of, denominator_given, denominator_of, format_given, format_of, has_equals, has_operand, is_value, mode_given, mode_of, name_of, names_bounds, names_trace, number_to, objective_given, objective_of, place_given, usual_denominator, value_given, value_of, window_given, window_of};
+ghost use Rattle.cache_model.specs.declared.reports.Mode.TheVariants.{Flow};
+
+use bound_base::read_u64;
+use cache_model::{Mode, Window};
+use cache_rules::Objective;
+use relaxation::DenominatorChoice;
+use trace_any::Format;
+
+/// What the first word asks for.
+#[derive(Clone, Copy, Debug, PartialEq, Eq)]
+pub enum Command {
+    /// Bounds on the best score on a trace, and their certificate.
+    Bounds,
+    /// Whether a certificate is valid for a trace.
+    Check,
+}
+
+/// The words before the operands: the command and its two paths.
+pub(crate) const OPERANDS_AT: usize = 3;
+
+// The largest capacity, in bytes.
+const MOST_CAPACITY: u64 = 1 << 56;
+
+// The largest block, in bytes.
+const MOST_BLOCK: u64 = 1 << 48;
+
+// The bytes of a block where no operand gives them.
+const USUAL_BLOCK: u64 = 4096;
+
+// The most steps of a window.
+const MOST_WINDOW: u64 = 1 << 25;
+
+// The largest denominator.
+const MOST_DENOMINATOR: u64 = 1 << 48;
+
+pub(crate) fn has_equals(word: &str) -> bool
+    ensures { result ≡ has_equals word.now }
+{
+    word.as_bytes().iter().any(|byte| *byte == b'=')
+}
+
+/// What stands before the first `=`, or the whole word.
+pub(crate) fn name_of(word: &str) -> &str
+    ensures { result.now ≡ name_of word.now }
+{
+    match word.split_once('=') {
+        Some((name, _)) => name,
+        None => word,
+    }
+}
+
+/// What stands after the first `=`, or nothing.
+pub(crate) fn value_of(word: &str) -> &str
+    ensures { result.now ≡ value_of word.now }
+{
+    match word.split_once('=') {
+        Some((_, value)) => value,
+        None => "",
+    }
+}
+
+// A number from 1 to the most that is allowed.
+fn number_to(most: u64, value: &str) -> Option<u64>
+    ensures value { result ≡ number_to most value.now }
+    ensures range { IfSome result (λ n. (1 ≤ n) × (n ≤ most)) }
+{
+    match read_u64(value.as_bytes()) {
+        Ok(number) if number >= 1 && number <= most => Some(number),
+        _ => None,
+    }
+}
+
+fn capacity_of(value: &str) -> Option<u64>
+    ensures value { result ≡ capacity_of value.now }
+    ensures range { IfSome result (λ n. (1 ≤ n) × (n ≤ 2 ^ 56)) }
+{
+    number_to(MOST_CAPACITY, value)
+}
+
+fn block_of(value: &str) -> Option<u64>
+    ensures value { result ≡ block_of value.now }
+    ensures range { IfSome result (λ n. (1 ≤ n) × (n ≤ 2 ^ 48)) }
+{
+    number_to(MOST_BLOCK, value)
+}
+
+// The form that a value names, where a block has so many bytes.
+fn format_of(value: &str, block: u64) -> Option<Format>
+    requires block { (1 ≤ block) × (block ≤ 2 ^ 48) }
+    ensures value { result ≡ format_of value.now block }
+    ensures range { IfSome result IsFormat }
+{
+    if value == "webcache" {
+        Some(Format::Webcache)
+    } else if value == "arc" {
+        Some(Format::Arc)
+    } else if value == "msr" {
+        Some(Format::Msr { block })
+    } else {
+        None
+    }
+}
+
+fn objective_of(value: &str) -> Option<Objective>
+    ensures { result ≡ objective_of value.now }
+{
+    if value == "object" {
+        Some(Objective::Object)
+    } else if value == "bytes" {
+        Some(Objective::Bytes)
+    } else {
+        None
+    }
+}
+
+fn window_of(value: &str) -> Option<Window>
+    ensures value { result ≡ window_of value.now }
+    ensures in_range { IfSome result (λ window. IsModeInRange (Flow window)) }
+{
+    if value == "all" {
+        Some(Window::All)
+    } else {
+        match number_to(MOST_WINDOW, value) {
+            Some(width) => Some(Window::Steps(width as u32)),
+            None => None,
+        }
+    }
+}
+
+// The mode that a value names, where the mode flow has this window.
+fn mode_of(value: &str, window: Window) -> Option<Mode>
+    requires { IsModeInRange (Flow window) }
+    ensures value { result ≡ mode_of value.now window }
+    ensures in_range { IfSome result IsModeInRange }
+{
+    if value == "flow" {
+        Some(Mode::Flow { window })
+    } else if value == "constant" {
+        Some(Mode::Constant)
+    } else if value == "infinite" {
+        Some(Mode::Infinite)
+    } else {
+        None
+    }
+}
+
+fn denominator_of(value: &str) -> Option<DenominatorChoice>
+    ensures value { result ≡ denominator_of value.now }
+    ensures range { IfSome result IsChoice }
+{
+    if value == "auto" {
+        Some(DenominatorChoice::Auto)
+    } else if value == "exact" {
+        Some(DenominatorChoice::Exact)
+    } else {
+        match number_to(MOST_DENOMINATOR, value) {
+            Some(number) => Some(DenominatorChoice::Given(number)),
+            None => None,
+        }
+    }
+}
+
+fn names_trace(name: &str) -> bool
+    ensures { result ≡ names_trace name.now }
+{
+    name == "format" || name == "block"
+}
+
+fn names_bounds(name: &str) -> bool
+    ensures { result ≡ names_bounds name.now }
+{
+    name == "capacity"
+        || name == "objective"
+        || name == "mode"
+        || name == "window"
+        || name == "denominator"
+}
+
+/// Whether a command has an operand of this name.
+pub(crate) fn has_operand(command: Command, name: &str) -> bool
+    ensures { result ≡ has_operand command name.now }
+{
+    match command {
+        Command::Bounds => names_trace(name) || names_bounds(name),
+        Command::Check => names_trace(name),
+    }
+}
+
+pub(crate) fn is_value(name: &str, value: &str) -> bool
+    ensures { result ≡ is_value name.now value.now }
+{
+    if name == "format" {
+        format_of(value, USUAL_BLOCK).is_some()
+    } else if name == "block" {
+        block_of(value).is_some()
+    } else if name == "capacity" {
+        capacity_of(value).is_some()
+    } else if name == "objective" {
+        objective_of(value).is_some()
+    } else if name == "mode" {
+        mode_of(value, Window::All).is_some()
+    } else if name == "window" {
+        window_of(value).is_some()
+    } else {
+        name == "denominator" && denominator_of(value).is_some()
+    }
+}
+
+/// The value that the operands give to a name.
+pub(crate) fn value_given<'a>(name: &str, operands: &'a [String]) -> Option<&'a str>
+    ensures { option_copied result ≡ value_given name.now (map string_bytes operands.now) }
+{
+    let word = operands.iter().find(|word| name_of(word.as_str()) == name)?;
+    Some(value_of(word.as_str()))
+}
+
+/// The place of the operand of a name.
+pub(crate) fn place_given(name: &str, operands: &[String]) -> Option<u64>
+    ensures { result ≡ place_given name.now (map string_bytes operands.now) }
+{
+    let at = operands
+        .iter()
+        .position(|word| name_of(word.as_str()) == name)?;
+    Some((at + OPERANDS_AT) as u64 + 1)
+}
+
+fn block_given(operands: &[String]) -> u64
+    ensures value { result ≡ block_given (map string_bytes operands.now) }
+    ensures range { (1 ≤ result) × (result ≤ 2 ^ 48) }
+{
+    match value_given("block", operands) {
+        Some(value) => block_of(value).unwrap_or(USUAL_BLOCK),
+        None => USUAL_BLOCK,
+    }
+}
+
+pub(crate) fn format_given(operands: &[String]) -> Option<Format>
+    ensures value { result ≡ format_given (map string_bytes operands.now) }
+    ensures range { IfSome result IsFormat }
+{
+    format_of(value_given("format", operands)?, block_given(operands))
+}
+
+pub(crate) fn capacity_given(operands: &[String]) -> Option<u64>
+    ensures value { result ≡ capacity_given (map string_bytes operands.now) }
+    ensures range { IfSome result (λ n. (1 ≤ n) × (n ≤ 2 ^ 56)) }
+{
+    capacity_of(value_given("capacity", operands)?)
+}
+
+pub(crate) fn objective_given(operands: &[String]) -> Objective
+    ensures { result ≡ objective_given (map string_bytes operands.now) }
+{
+    match value_given("objective", operands) {
+        Some(value) => objective_of(value).unwrap_or(Objective::Object),
+        None => Objective::Object,
+    }
+}
+
+fn window_given(operands: &[String]) -> Window
+    ensures value { result ≡ window_given (map string_bytes operands.now) }
+    ensures in_range { IsModeInRange (Flow result) }
+{
+    match value_given("window", operands) {
+        Some(value) => window_of(value).unwrap_or(Window::All),
+        None => Window::All,
+    }
+}
+
+pub(crate) fn mode_given(operands: &[String]) -> Mode
+    ensures value { result ≡ mode_given (map string_bytes operands.now) }
+    ensures in_range { IsModeInRange result }
+{
+    let window = window_given(operands);
+    match value_given("mode", operands) {
+        Some(value) => mode_of(value, window).unwrap_or(Mode::Flow { window }),
+        None => Mode::Flow { window },
+    }
+}
+
+// The denominator of a mode where none is given.
+fn usual_denominator(mode: Mode) -> DenominatorChoice
+    ensures value { result ≡ usual_denominator mode }
+    ensures range { IsChoice result }
+{
+    match mode {
+        Mode::Flow { .. } => DenominatorChoice::Auto,
+        Mode::Constant => DenominatorChoice::Given(MOST_DENOMINATOR),
+        Mode::Infinite => DenominatorChoice::Given(1),
+    }
+}
+
+pub(crate) fn denominator_given(mode: Mode, operands: &[String]) -> DenominatorChoice
+    ensures value { result ≡ denominator_given mode (map string_bytes operands.now) }
+    ensures range { IsChoice result }
+{
+    match value_given("denominator", operands) {
+        Some(value) => denominator_of(value).unwrap_or(usual_denominator(mode)),
+        None => usual_denominator(mode),
+    }
+}

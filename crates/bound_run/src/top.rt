@@ -1,0 +1,207 @@
+//! All that the program does, over any sources and sinks.
+ghost use Rattle.std.specs.Prelude.{◌≡◌, ◌≤◌, ◌^◌, map, string_bytes, Result, IfOk, IfErr};
+ghost use Rattle.bound_io.specs.Devices.{Gets, device};
+ghost use Rattle.bound_io.specs.Reading.{LosesFront};
+ghost use Rattle.trace_any.specs.Readings.{IsFormat};
+ghost use Rattle.relaxation.specs.Denominators.{IsChoice};
+ghost use Rattle.bound_report.specs.Refusals.{refusal_line};
+ghost use Rattle.bound_run.specs.Headline.{Headline};
+ghost use Rattle.bound_run.specs.Inputs.{IsLoaded, IsReady};
+ghost use Rattle.bound_run.specs.Parts.{RefusesBounds, RefusesLoading, WritesOut, WritesReport};
+ghost use Rattle.bound_run.specs.Run.{BoundsEnd, CheckEnds, Completes, Explains, RunEnds, devices};
+ghost use Rattle.bound_run.specs.Statuses.{status_of};
+ghost use Rattle.bound_run.specs.Words.{IsModeInRange, IsPlanInRange};
+
+use crate::bounds::{Asked, Texts, texts_of};
+use crate::checking::verdict_of;
+use crate::status::{Status, refusal_of};
+use crate::words::{Plan, WordFault, plan_of};
+use bound_io::{Sink, Source, write_all};
+use bound_report::{Refusal, refusal_text};
+use cache_rules::Trace;
+use std::alloc::Global;
+use trace_any::{Format, Limits, RequestReader, load};
+
+// The requests of all that the source has left, and how many lines of it were dropped.
+fn load_all<T: Source>(
+    alloc: Global,
+    format: Format,
+    trace: &mut T,
+) -> Result<(Trace, u64), Refusal>
+    requires { IsFormat format }
+    ensures loaded { IfOk result (λ read. IsLoaded format (device (T.left trace.old) (T.left trace.new) (T.faults trace.old) (T.faults trace.new)) read.0 read.1) }
+    ensures refused { IfErr result (RefusesLoading format (device (T.left trace.old) (T.left trace.new) (T.faults trace.old) (T.faults trace.new))) }
+    ensures source { LosesFront (T.left trace.old) (T.left trace.new) }
+{
+    let mut reader = RequestReader::new(alloc, format, Limits::full())?;
+    match load(alloc, &mut reader, trace) {
+        Ok(read) => Ok(read),
+        Err(fault) => Err(refusal_of(fault)),
+    }
+}
+
+// The certificate and the report of all that the source has left.
+fn prepare<T: Source>(
+    alloc: Global,
+    format: Format,
+    asked: &Asked,
+    trace: &mut T,
+) -> Result<Texts, Refusal>
+    requires format { IsFormat format }
+    requires capacity { (1 ≤ asked.now.capacity) × (asked.now.capacity ≤ 2 ^ 56) }
+    requires mode { IsModeInRange asked.now.mode }
+    requires choice { IsChoice asked.now.denominator }
+    ensures ready { IfOk result (λ texts. IsReady format asked.now (device (T.left trace.old) (T.left trace.new) (T.faults trace.old) (T.faults trace.new)) texts.cert.items texts.report.items) }
+    ensures refused { IfErr result (RefusesBounds format asked.now (device (T.left trace.old) (T.left trace.new) (T.faults trace.old) (T.faults trace.new))) }
+    ensures source { LosesFront (T.left trace.old) (T.left trace.new) }
+{
+    let (requests, dropped) = load_all(alloc, format, trace)?;
+    Ok(texts_of(alloc, asked, &requests, dropped)?)
+}
+
+// Writes the line that tells why the run stopped, as far as the report takes it.
+fn refuse<R: Sink>(report: &mut R, refusal: Refusal) -> Status
+    ensures status { result ≡ status_of refusal }
+    ensures told { Gets (device (R.written report.old) (R.written report.new) (R.faults report.old) (R.faults report.new)) (refusal_line refusal) }
+{
+    let _ = write_all(report, refusal_text(&refusal).as_bytes());
+    Status::from(refusal)
+}
+
+fn write_report<R: Sink>(report: &mut R, text: &[u8]) -> Status
+    ensures { WritesReport (device (R.written report.old) (R.written report.new) (R.faults report.old) (R.faults report.new)) text.now result }
+{
+    match write_all(report, text) {
+        Ok(()) => Status::Done,
+        Err(_) => Status::ReportFault,
+    }
+}
+
+// Writes the certificate, and then the report.
+fn write_out<R: Sink, K: Sink>(report: &mut R, made: &mut K, texts: &Texts) -> Status
+    ensures { WritesOut
+        (device (R.written report.old) (R.written report.new) (R.faults report.old) (R.faults report.new))
+        (device (K.written made.old) (K.written made.new) (K.faults made.old) (K.faults made.new))
+        texts.now.cert.items texts.now.report.items result }
+{
+    if write_all(made, &texts.cert).is_err() {
+        return refuse(report, Refusal::MadeFault);
+    }
+    write_report(report, &texts.report)
+}
+
+// Reads the trace, and writes its bounds and their certificate.
+fn run_bounds<T: Source, R: Sink, K: Sink>(
+    alloc: Global,
+    format: Format,
+    asked: &Asked,
+    trace: &mut T,
+    report: &mut R,
+    made: &mut K,
+) -> Status
+    requires format { IsFormat format }
+    requires capacity { (1 ≤ asked.now.capacity) × (asked.now.capacity ≤ 2 ^ 56) }
+    requires mode { IsModeInRange asked.now.mode }
+    requires choice { IsChoice asked.now.denominator }
+    ensures ends { BoundsEnd format asked.now
+        (device (T.left trace.old) (T.left trace.new) (T.faults trace.old) (T.faults trace.new))
+        (device (R.written report.old) (R.written report.new) (R.faults report.old) (R.faults report.new))
+        (device (K.written made.old) (K.written made.new) (K.faults made.old) (K.faults made.new)) result }
+    ensures source { LosesFront (T.left trace.old) (T.left trace.new) }
+{
+    match prepare(alloc, format, asked, trace) {
+        Ok(texts) => write_out(report, made, &texts),
+        Err(refusal) => refuse(report, refusal),
+    }
+}
+
+// Reads the trace and the certificate, and writes what a check says of them.
+fn run_check<T: Source, Q: Source, R: Sink>(
+    alloc: Global,
+    format: Format,
+    trace: &mut T,
+    cert: &mut Q,
+    report: &mut R,
+) -> Status
+    requires { IsFormat format }
+    ensures ends { CheckEnds format
+        (device (T.left trace.old) (T.left trace.new) (T.faults trace.old) (T.faults trace.new))
+        (device (Q.left cert.old) (Q.left cert.new) (Q.faults cert.old) (Q.faults cert.new))
+        (device (R.written report.old) (R.written report.new) (R.faults report.old) (R.faults report.new)) result }
+    ensures trace_source { LosesFront (T.left trace.old) (T.left trace.new) }
+    ensures cert_source { LosesFront (Q.left cert.old) (Q.left cert.new) }
+{
+    match verdict_of(alloc, format, trace, cert) {
+        Ok(text) => write_report(report, &text),
+        Err(refusal) => refuse(report, refusal),
+    }
+}
+
+// Does what the words ask for, or tells why they are refused.
+fn run_plan<T: Source, Q: Source, R: Sink, K: Sink>(
+    alloc: Global,
+    plan: Result<Plan, WordFault>,
+    trace: &mut T,
+    cert: &mut Q,
+    report: &mut R,
+    made: &mut K,
+) -> Status
+    requires { IfOk plan IsPlanInRange }
+    ensures { RunEnds plan (devices
+        (device (T.left trace.old) (T.left trace.new) (T.faults trace.old) (T.faults trace.new))
+        (device (Q.left cert.old) (Q.left cert.new) (Q.faults cert.old) (Q.faults cert.new))
+        (device (R.written report.old) (R.written report.new) (R.faults report.old) (R.faults report.new))
+        (device (K.written made.old) (K.written made.new) (K.faults made.old) (K.faults made.new))) result }
+{
+    match plan {
+        Ok(
+            Plan::Bounds {
+                format,
+                capacity,
+                objective,
+                mode,
+                denominator,
+            },
+        ) => {
+            let asked = Asked {
+                capacity,
+                objective,
+                mode,
+                denominator,
+            };
+            run_bounds(alloc, format, &asked, trace, report, made)
+        }
+        Ok(Plan::Check { format }) => run_check(alloc, format, trace, cert, report),
+        Err(WordFault { place, kind }) => refuse(report, Refusal::Words { place, kind }),
+    }
+}
+
+/// Does all that the program does. It reads the words, and for bounds the trace, and writes the certificate and then
+/// the report; for a check it reads the trace and the certificate side by side, and writes the report.
+/// The words are those after the program's name. All memory is taken before the first byte is written.
+pub fn run<T: Source, Q: Source, R: Sink, K: Sink>(
+    alloc: Global,
+    words: &[String],
+    trace: &mut T,
+    cert: &mut Q,
+    report: &mut R,
+    made: &mut K,
+) -> Status
+    ensures headline { Headline (map string_bytes words.now) (devices
+        (device (T.left trace.old) (T.left trace.new) (T.faults trace.old) (T.faults trace.new))
+        (device (Q.left cert.old) (Q.left cert.new) (Q.faults cert.old) (Q.faults cert.new))
+        (device (R.written report.old) (R.written report.new) (R.faults report.old) (R.faults report.new))
+        (device (K.written made.old) (K.written made.new) (K.faults made.old) (K.faults made.new))) result }
+    ensures explains { Explains (map string_bytes words.now) (devices
+        (device (T.left trace.old) (T.left trace.new) (T.faults trace.old) (T.faults trace.new))
+        (device (Q.left cert.old) (Q.left cert.new) (Q.faults cert.old) (Q.faults cert.new))
+        (device (R.written report.old) (R.written report.new) (R.faults report.old) (R.faults report.new))
+        (device (K.written made.old) (K.written made.new) (K.faults made.old) (K.faults made.new))) result }
+    ensures completes { Completes (map string_bytes words.now) (devices
+        (device (T.left trace.old) (T.left trace.new) (T.faults trace.old) (T.faults trace.new))
+        (device (Q.left cert.old) (Q.left cert.new) (Q.faults cert.old) (Q.faults cert.new))
+        (device (R.written report.old) (R.written report.new) (R.faults report.old) (R.faults report.new))
+        (device (K.written made.old) (K.written made.new) (K.faults made.old) (K.faults made.new))) result }
+{
+    run_plan(alloc, plan_of(words), trace, cert, report, made)
+}
