@@ -1,6 +1,6 @@
 //! A run of the program: its words, what comes of the trace and the certificate, and how it ends.
 //!
-//! The rules are "Words" and "How a run ends" in docs/DEFINITIONS.md, and the headline is in specs/Headline.antt.
+//! The rules are under "A run" in docs/DEFINITIONS.md, and the headline is in specs/Headline.antt.
 #![tactic(auto)]
 
 mod bounds;
