@@ -1,14 +1,15 @@
-//! Traces and arcs of few numbers.
+//! Intervals and arcs of few numbers.
 ghost use Rattle.std.specs.Prelude.{◌≡◌};
 
-use cache_rules::{Builder, Object, Trace};
+use cache_rules::{Builder, Object, Objective, Trace};
+use interval_maker::{Intervals, make};
 use relaxation::OuterArc;
 use std::alloc::Global;
 use std::process::Abort;
 use std::test::Fail;
 
-/// The trace of requests by id and size.
-pub fn trace_of(rt: &impl Abort, alloc: Global, requests: &[(u64, u64)]) -> Result<Trace, Fail> {
+// The trace of requests by id and size.
+fn trace_of(rt: &impl Abort, alloc: Global, requests: &[(u64, u64)]) -> Result<Trace, Fail> {
     let mut builder = Builder::new(alloc)?;
     for (id, size) in requests {
         assert!(rt; builder.len() < 100);
@@ -22,11 +23,51 @@ pub fn trace_of(rt: &impl Abort, alloc: Global, requests: &[(u64, u64)]) -> Resu
     Ok(builder.finish())
 }
 
-/// The trace of requests for objects of these sizes, of which the ids differ.
-pub fn trace_of_sizes(rt: &impl Abort, alloc: Global, sizes: &[u64]) -> Result<Trace, Fail> {
-    let requests: Vec<(u64, u64)> = sizes.iter().map(|size| (*size, *size)).collect(alloc)?;
-    trace_of(rt, alloc, &requests)
+/// The intervals of requests by id and size.
+pub fn intervals_of(
+    rt: &impl Abort,
+    alloc: Global,
+    requests: &[(u64, u64)],
+    capacity: u64,
+    objective: Objective,
+) -> Result<Intervals, Fail> {
+    let trace = trace_of(rt, alloc, requests)?;
+    Ok(make(alloc, &trace, capacity, objective)?)
 }
+
+/// The intervals of requests for objects of these sizes, of which the ids differ.
+pub fn intervals_of_sizes(
+    rt: &impl Abort,
+    alloc: Global,
+    sizes: &[u64],
+    capacity: u64,
+    objective: Objective,
+) -> Result<Intervals, Fail> {
+    let requests: Vec<(u64, u64)> = sizes.iter().map(|size| (*size, *size)).collect(alloc)?;
+    intervals_of(rt, alloc, &requests, capacity, objective)
+}
+
+/// Three arcs of three steps, of which two fit over step 2 where there is room for two units.
+pub const THREE_ARCS: [OuterArc; 3] = [
+    OuterArc {
+        start: 0,
+        end: 3,
+        weight: 1,
+        cost: 1,
+    },
+    OuterArc {
+        start: 1,
+        end: 4,
+        weight: 1,
+        cost: 1,
+    },
+    OuterArc {
+        start: 2,
+        end: 5,
+        weight: 1,
+        cost: 1,
+    },
+];
 
 /// An arc.
 pub fn arc(start: u32, end: u32, weight: u64, cost: u128) -> OuterArc

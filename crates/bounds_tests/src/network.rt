@@ -1,5 +1,5 @@
 //! A small network. The numbers were worked out by hand.
-ghost use Rattle.std.specs.Prelude.{◌≡◌, [], ◌∷◌, IfOk};
+ghost use Rattle.std.specs.Prelude.{◌≡◌, [], ◌∷◌, length, IfOk};
 
 use bound_base::NoMemory;
 use flow_network::{Edge, Network};
@@ -20,25 +20,40 @@ fn over_both(alloc: Global) -> Result<Instance, NoMemory>
     Instance::from_arcs(alloc, 2, 3, &arcs)
 }
 
+// What is left, and the room of the second hop and of the arc, each onward and back.
+fn room(network: &Network<'_>) -> [u64; 5]
+    requires { (network.now.instance.steps ≡ 2) × (length network.now.instance.arcs ≡ 1) }
+{
+    [
+        network.left(),
+        network.residual(Edge::Inner(1)),
+        network.residual(Edge::InnerBack(1)),
+        network.residual(Edge::Outer(0)),
+        network.residual(Edge::OuterBack(0)),
+    ]
+}
+
+// The reduced cost of the arc, onward and back.
+fn reduced(network: &Network<'_>) -> [i128; 2]
+    requires { (network.now.instance.steps ≡ 2) × (length network.now.instance.arcs ≡ 1) }
+{
+    [
+        network.reduced(Edge::Outer(0)),
+        network.reduced(Edge::OuterBack(0)),
+    ]
+}
+
 // The numbers are worked out by hand.
 #[test]
 fn a_unit_along_the_arc_can_be_taken_back(rt: HostRuntime) -> Result<(), Fail> {
     let alloc = rt.alloc();
     let instance = over_both(alloc)?;
     let mut network = Network::new(alloc, &instance)?;
-    assert_eq!(rt; network.left(), 3);
-    assert_eq!(rt; network.residual(Edge::Inner(1)), 3);
-    assert_eq!(rt; network.residual(Edge::InnerBack(1)), 0);
-    assert_eq!(rt; network.residual(Edge::Outer(0)), 2);
-    assert_eq!(rt; network.residual(Edge::OuterBack(0)), 0);
+    assert_eq!(rt; room(&network), [3, 3, 0, 2, 0]);
     network.set_potential(0, 7);
-    assert_eq!(rt; network.potential(0), 7);
-    assert_eq!(rt; network.reduced(Edge::Outer(0)), -2);
-    assert_eq!(rt; network.reduced(Edge::OuterBack(0)), 2);
+    assert_eq!(rt; (network.potential(0), reduced(&network)), (7, [-2, 2]));
     network.push(&[Edge::Outer(0)], 1);
-    assert_eq!(rt; network.left(), 2);
-    assert_eq!(rt; network.residual(Edge::Outer(0)), 1);
-    assert_eq!(rt; network.residual(Edge::OuterBack(0)), 1);
+    assert_eq!(rt; room(&network), [2, 3, 0, 1, 1]);
     assert_eq!(rt; network.into_flows().as_slice(), [1].as_slice());
     Ok(())
 }

@@ -1,10 +1,10 @@
 //! Schedules of small traces, rounded by hand.
 ghost use Rattle.std.specs.Prelude.{◌≡◌, false, replicate, IfOk};
 
-use crate::made::trace_of;
+use crate::made::intervals_of;
 use bound_base::NoMemory;
 use cache_rules::Objective;
-use interval_maker::{Intervals, make};
+use interval_maker::Intervals;
 use schedule_round::{Keeps, round};
 use std::alloc::Global;
 use std::test::Fail;
@@ -66,8 +66,8 @@ fn keeps_of(alloc: Global, intervals: &Intervals, capacity: u64) -> Result<Keeps
 #[test]
 fn takes_what_fits_in_order_of_rank(rt: HostRuntime) -> Result<(), Fail> {
     for row in &ROWS {
-        let trace = trace_of(&rt, rt.alloc(), row.requests)?;
-        let intervals = make(rt.alloc(), &trace, row.capacity, Objective::Object)?;
+        let (requests, hits) = (row.requests, Objective::Object);
+        let intervals = intervals_of(&rt, rt.alloc(), requests, row.capacity, hits)?;
         let keeps = keeps_of(rt.alloc(), &intervals, row.capacity)?;
         assert_eq!(rt; keeps.as_slice(), row.keeps, "{}", row.shows);
     }

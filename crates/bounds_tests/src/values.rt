@@ -1,125 +1,187 @@
 //! The calls over small traces, with what was worked out by hand.
-use crate::made::trace_of_sizes;
+ghost use Rattle.std.specs.Prelude.{◌≡◌, ◌≤◌, ◌^◌, true};
+ghost use Rattle.relaxation.specs.Denominators.{IsChoice};
+
+use crate::made::{arc, intervals_of_sizes};
+use bound_base::NoMemory;
 use cache_rules::Objective;
-use interval_maker::{Intervals, make};
+use interval_maker::Intervals;
 use relaxation::{
-    DenominatorChoice, DenominatorLimit, FlowFault, OuterArc, PriceFault, Sums, bound_of,
+    DenominatorChoice, DenominatorLimit, FlowFault, Instance, PriceFault, Sums, bound_of,
     denominator_for, flow_value, instance, unit_of,
 };
 use std::alloc::Global;
 use std::process::Abort;
 use std::test::Fail;
 
-// The intervals of a trace of these sizes, each of which is an object of its own.
-fn intervals_of(
-    rt: &impl Abort,
-    alloc: Global,
-    sizes: &[u64],
-    objective: Objective,
-) -> Result<Intervals, Fail> {
-    let trace = trace_of_sizes(rt, alloc, sizes)?;
-    Ok(make(alloc, &trace, 1 << 56, objective)?)
-}
+// A capacity at which each interval fits.
+const LARGEST: u64 = 1 << 56;
+
+const HITS: Objective = Objective::Object;
+
+const UNITS: [(&[u64], u64); 4] = [
+    (&[12, 18, 12, 18], 6),
+    (&[5, 7, 5], 5),
+    (&[5, 7], 1),
+    (&[1 << 48, 1 << 48], 1 << 48),
+];
 
 #[test]
 fn weighs_by_the_greatest_divisor(rt: HostRuntime) -> Result<(), Fail> {
-    let rows: [(&[u64], u64); 4] = [
-        (&[12, 18, 12, 18], 6),
-        (&[5, 7, 5], 5),
-        (&[5, 7], 1),
-        (&[1 << 48, 1 << 48], 1 << 48),
-    ];
-    for (sizes, unit) in rows {
-        let intervals = intervals_of(&rt, rt.alloc(), sizes, Objective::Object)?;
-        assert_eq!(rt; unit_of(&intervals), unit, "of {sizes:?}");
+    for (sizes, want) in &UNITS {
+        let unit = unit_of(&intervals_of_sizes(&rt, rt.alloc(), sizes, LARGEST, HITS)?);
+        assert_eq!(rt; unit, *want, "of {sizes:?}");
     }
     Ok(())
 }
 
-#[test]
-fn sums_no_further_than_the_limit(rt: HostRuntime) -> Result<(), Fail> {
-    let half: u128 = 1 << 125;
-    let rows: [(&[u128], u64, Option<u32>); 5] = [
-        (&[half, half], 1, None),
-        (&[half, half, 1], 1, Some(2)),
-        (&[half, 0, 0], 3, Some(0)),
-        (&[u128::MAX, 0], 1, Some(0)),
-        (&[], 1 << 56, None),
-    ];
-    for (prices, units, step) in rows {
-        let fault = match Sums::new(rt.alloc(), prices, units) {
-            Ok(_) => None,
-            Err(PriceFault::SumLimit { step }) => Some(step),
-            Err(PriceFault::NoMemory) => Some(u32::MAX),
-        };
-        assert_eq!(rt; fault, step, "of {prices:?} at {units} units");
+const HALF: u128 = 1 << 125;
+
+const SUMS: [(&[u128], u64, Option<u32>); 5] = [
+    (&[HALF, HALF], 1, None),
+    (&[HALF, HALF, 1], 1, Some(2)),
+    (&[HALF, 0, 0], 3, Some(0)),
+    (&[u128::MAX, 0], 1, Some(0)),
+    (&[], 1 << 56, None),
+];
+
+// The step at which the sum passes its limit. Want of memory is at the last number.
+fn limit_step(rt: &impl Abort, alloc: Global, prices: &[u128], units: u64) -> Option<u32> {
+    assert!(rt; prices.len() <= 3 && units >= 1);
+    match Sums::new(alloc, prices, units) {
+        Ok(_) => None,
+        Err(PriceFault::SumLimit { step }) => Some(step),
+        Err(PriceFault::NoMemory) => Some(u32::MAX),
     }
-    Ok(())
+}
+
+#[test]
+fn sums_no_further_than_the_limit(rt: HostRuntime) {
+    for (prices, units, want) in &SUMS {
+        let step = limit_step(&rt, rt.alloc(), prices, *units);
+        assert_eq!(rt; step, *want, "of {prices:?} at {units} units");
+    }
+}
+
+// The denominator of a choice over the intervals of a trace of these sizes.
+#[derive(Drop)]
+struct Row<'a> {
+    sizes: &'a [u64],
+    objective: Objective,
+    choice: DenominatorChoice,
+    want: Result<(u64, bool), DenominatorLimit>,
 }
 
 // Sizes 2 and 3 by turns, whose weights are themselves: each interval covers two steps.
-#[test]
-fn bounds_and_values_are_over_the_denominator(rt: HostRuntime) -> Result<(), Fail> {
-    let intervals = intervals_of(&rt, rt.alloc(), &[2, 3, 2, 3], Objective::Object)?;
-    assert_eq!(rt; intervals.steps(), 4);
-    assert_eq!(rt; intervals.as_slice().len(), 2);
-    let exact = denominator_for(&intervals, 1, DenominatorChoice::Exact);
-    assert_eq!(rt; exact.map(|d| (d.value, d.exact)), Ok((6, true)));
-    let given = denominator_for(&intervals, 1, DenominatorChoice::Given(4));
-    assert_eq!(rt; given.map(|d| (d.value, d.exact)), Ok((4, false)));
-    let sums = Sums::new(rt.alloc(), &[0, 2, 0, 0], 4)?;
-    assert_eq!(rt; bound_of(&intervals, 1, 4, 6, &sums), 10);
-    assert_eq!(rt; flow_value(&intervals, 1, 4, 6, &[2, 2]), Ok(10));
-    let rows = [
-        (&[3, 9], FlowFault::AboveWeight { interval: 0 }),
-        (&[1, 4], FlowFault::AboveWeight { interval: 1 }),
-        (&[2, 3], FlowFault::Overfull { step: 1, load: 5 }),
-    ];
-    for (flows, fault) in rows {
-        assert_eq!(rt;
-            flow_value(&intervals, 1, 4, 6, flows),
-            Err(fault),
-            "of {flows:?}"
-        );
-    }
-    Ok(())
-}
+const BY_TURNS: [u64; 4] = [2, 3, 2, 3];
 
 // The least common multiple of 65536, 59049 and 78125 is 302330880000000, and 2^48 is less.
+const LARGE: [u64; 6] = [65536, 65536, 59049, 59049, 78125, 78125];
+
+const DENOMINATORS: [Row<'static>; 5] = [
+    Row {
+        sizes: &BY_TURNS,
+        objective: HITS,
+        choice: DenominatorChoice::Exact,
+        want: Ok((6, true)),
+    },
+    Row {
+        sizes: &BY_TURNS,
+        objective: HITS,
+        choice: DenominatorChoice::Given(4),
+        want: Ok((4, false)),
+    },
+    Row {
+        sizes: &LARGE,
+        objective: HITS,
+        choice: DenominatorChoice::Exact,
+        want: Err(DenominatorLimit { intervals: 3 }),
+    },
+    Row {
+        sizes: &LARGE,
+        objective: HITS,
+        choice: DenominatorChoice::Auto,
+        want: Ok((1 << 48, false)),
+    },
+    Row {
+        sizes: &LARGE,
+        objective: Objective::Bytes,
+        choice: DenominatorChoice::Auto,
+        want: Ok((1, true)),
+    },
+];
+
+fn is_choice(choice: DenominatorChoice) -> bool
+    ensures { result ≡ true → IsChoice choice }
+{
+    match choice {
+        DenominatorChoice::Given(number) => number >= 1 && number <= 1 << 48,
+        _ => true,
+    }
+}
+
+fn denominator_of(
+    intervals: &Intervals,
+    choice: DenominatorChoice,
+) -> Result<(u64, bool), DenominatorLimit>
+    requires { IsChoice choice }
+{
+    let found = denominator_for(intervals, 1, choice)?;
+    Ok((found.value, found.exact))
+}
+
 #[test]
 fn denominator_is_within_its_limit(rt: HostRuntime) -> Result<(), Fail> {
-    let sizes = [65536, 65536, 59049, 59049, 78125, 78125];
-    let hits = intervals_of(&rt, rt.alloc(), &sizes, Objective::Object)?;
-    let exact = denominator_for(&hits, 1, DenominatorChoice::Exact);
-    assert_eq!(rt; exact, Err(DenominatorLimit { intervals: 3 }));
-    let auto = denominator_for(&hits, 1, DenominatorChoice::Auto);
-    assert_eq!(rt; auto.map(|d| (d.value, d.exact)), Ok((1 << 48, false)));
-    let bytes = intervals_of(&rt, rt.alloc(), &sizes, Objective::Bytes)?;
-    let auto = denominator_for(&bytes, 1, DenominatorChoice::Auto);
-    assert_eq!(rt; auto.map(|d| (d.value, d.exact)), Ok((1, true)));
+    for row in &DENOMINATORS {
+        let intervals = intervals_of_sizes(&rt, rt.alloc(), row.sizes, LARGEST, row.objective)?;
+        assert!(rt; is_choice(row.choice));
+        let found = denominator_of(&intervals, row.choice);
+        assert_eq!(rt; found, row.want, "of {:?}", row.sizes);
+    }
     Ok(())
 }
 
-fn arc(start: u32, end: u32, weight: u64, cost: u128) -> OuterArc {
-    OuterArc {
-        start,
-        end,
-        weight,
-        cost,
+#[test]
+fn bounds_are_over_the_denominator(rt: HostRuntime) -> Result<(), Fail> {
+    let intervals = intervals_of_sizes(&rt, rt.alloc(), &BY_TURNS, LARGEST, HITS)?;
+    assert_eq!(rt; intervals.steps(), 4);
+    let sums = Sums::new(rt.alloc(), &[0, 2, 0, 0], 4)?;
+    assert_eq!(rt; bound_of(&intervals, 1, 4, 6, &sums), 10);
+    Ok(())
+}
+
+const FLOWS: [([u64; 2], Result<u128, FlowFault>); 4] = [
+    ([2, 2], Ok(10)),
+    ([3, 9], Err(FlowFault::AboveWeight { interval: 0 })),
+    ([1, 4], Err(FlowFault::AboveWeight { interval: 1 })),
+    ([2, 3], Err(FlowFault::Overfull { step: 1, load: 5 })),
+];
+
+#[test]
+fn values_are_over_the_denominator(rt: HostRuntime) -> Result<(), Fail> {
+    let intervals = intervals_of_sizes(&rt, rt.alloc(), &BY_TURNS, LARGEST, HITS)?;
+    assert_eq!(rt; intervals.as_slice().len(), 2);
+    for (flows, want) in &FLOWS {
+        let value = flow_value(&intervals, 1, 4, 6, flows);
+        assert_eq!(rt; value, *want, "of {flows:?}");
     }
+    Ok(())
+}
+
+fn whole_over(alloc: Global, intervals: &Intervals, denominator: u64) -> Result<Instance, NoMemory>
+    requires { (1 ≤ denominator) × (denominator ≤ 2 ^ 48) }
+{
+    instance(alloc, intervals, 1, 4, denominator)
 }
 
 // Sizes 2 and 3 by turns: the costs are 6 / 2 and 6 / 3, and over 4 the second is 4 / 3, rounded up.
 #[test]
 fn has_an_arc_for_each_interval(rt: HostRuntime) -> Result<(), Fail> {
-    let intervals = intervals_of(&rt, rt.alloc(), &[2, 3, 2, 3], Objective::Object)?;
-    let rows = [
-        (6, [arc(0, 2, 2, 3), arc(1, 3, 3, 2)]),
-        (4, [arc(0, 2, 2, 2), arc(1, 3, 3, 2)]),
-    ];
-    for (denominator, arcs) in rows {
-        let whole = instance(rt.alloc(), &intervals, 1, 4, denominator)?;
+    let intervals = intervals_of_sizes(&rt, rt.alloc(), &BY_TURNS, LARGEST, HITS)?;
+    for (denominator, cost) in [(6, 3), (4, 2)] {
+        let whole = whole_over(rt.alloc(), &intervals, denominator)?;
         assert_eq!(rt; (whole.steps(), whole.units()), (4, 4));
+        let arcs = [arc(0, 2, 2, cost), arc(1, 3, 3, 2)];
         assert_eq!(rt; whole.arcs(), arcs.as_slice(), "over {denominator}");
     }
     Ok(())

@@ -3,7 +3,7 @@ ghost use Rattle.std.specs.Prelude.{◌≡◌, IfOk};
 
 use crate::made::arc;
 use bound_base::NoMemory;
-use relaxation::{Instance, Windows, window_instance};
+use relaxation::{Instance, OuterArc, Windows, window_instance};
 use std::alloc::Global;
 use std::test::Fail;
 
@@ -20,44 +20,101 @@ fn whole(alloc: Global) -> Result<Instance, NoMemory>
     Instance::from_arcs(alloc, 11, 2, &arcs)
 }
 
-// The arc over ten steps has two in the first window and three in each of the next ones: 9 * 2 / 10 is 1, 9 * 3 / 10
-// is 2, and the last part costs the other 4.
+// The number of a window, its steps and its arcs. The arc over ten steps has two in the first window and three in each
+// of the next ones: 9 * 2 / 10 is 1, 9 * 3 / 10 is 2, and the last part costs the other 4.
+const PARTS: [(u32, u32, &[OuterArc]); 3] = [
+    (
+        0,
+        3,
+        &[
+            OuterArc {
+                start: 1,
+                end: 3,
+                weight: 1,
+                cost: 1,
+            },
+            OuterArc {
+                start: 1,
+                end: 3,
+                weight: 2,
+                cost: 0,
+            },
+            OuterArc {
+                start: 2,
+                end: 3,
+                weight: 1,
+                cost: 0,
+            },
+        ],
+    ),
+    (
+        1,
+        3,
+        &[
+            OuterArc {
+                start: 2,
+                end: 3,
+                weight: 4,
+                cost: 1,
+            },
+            OuterArc {
+                start: 0,
+                end: 3,
+                weight: 1,
+                cost: 2,
+            },
+            OuterArc {
+                start: 0,
+                end: 1,
+                weight: 2,
+                cost: 1,
+            },
+            OuterArc {
+                start: 0,
+                end: 2,
+                weight: 1,
+                cost: 1,
+            },
+        ],
+    ),
+    (
+        3,
+        2,
+        &[OuterArc {
+            start: 0,
+            end: 2,
+            weight: 1,
+            cost: 4,
+        }],
+    ),
+];
+
 #[test]
 fn shares_the_cost_and_leaves_the_rest_to_the_last(rt: HostRuntime) -> Result<(), Fail> {
-    let alloc = rt.alloc();
-    let whole = whole(alloc)?;
-    let first = window_instance(alloc, &whole, 3, 0)?;
-    assert_eq!(rt; first.steps(), 3);
-    assert_eq!(rt;
-        first.arcs(),
-        [arc(1, 3, 1, 1), arc(1, 3, 2, 0), arc(2, 3, 1, 0)].as_slice()
-    );
-    let second = window_instance(alloc, &whole, 3, 1)?;
-    assert_eq!(rt;
-        second.arcs(),
-        [
-            arc(2, 3, 4, 1),
-            arc(0, 3, 1, 2),
-            arc(0, 1, 2, 1),
-            arc(0, 2, 1, 1)
-        ]
-        .as_slice()
-    );
-    let last = window_instance(alloc, &whole, 3, 3)?;
-    assert_eq!(rt; (last.steps(), last.units()), (2, 2));
-    assert_eq!(rt; last.arcs(), [arc(0, 2, 1, 4)].as_slice());
+    let whole = whole(rt.alloc())?;
+    for (number, steps, arcs) in &PARTS {
+        assert!(rt; *number < 4);
+        let part = window_instance(rt.alloc(), &whole, 3, *number)?;
+        assert_eq!(rt;
+            (part.steps(), part.units()),
+            (*steps, 2),
+            "in window {number}"
+        );
+        assert_eq!(rt; part.arcs(), *arcs, "in window {number}");
+    }
     Ok(())
 }
+
+const NUMBERS: [&[u32]; 4] = [&[1, 2, 3], &[0, 1, 2, 3], &[0, 1], &[1]];
 
 #[test]
 fn goes_through_the_windows_in_order(rt: HostRuntime) -> Result<(), Fail> {
     let alloc = rt.alloc();
     let whole = whole(alloc)?;
     let mut windows = Windows::new(alloc, &whole, 3)?;
-    let rows: [&[u32]; 4] = [&[1, 2, 3], &[0, 1, 2, 3], &[0, 1], &[1]];
-    for numbers in rows {
+    for numbers in &NUMBERS {
         assert!(rt; windows.has_step());
-        assert_eq!(rt; windows.numbers(), numbers);
+        assert_eq!(rt; windows.numbers(), *numbers);
         let parts = windows.instance(alloc)?;
         assert_eq!(rt; parts.arcs().len(), numbers.len());
         windows.advance();

@@ -1,5 +1,5 @@
 //! Small certificates through a checker. The numbers were worked out by hand.
-ghost use Rattle.std.specs.Prelude.{◌≡◌, ◌≤◌, ◌^◌, true};
+ghost use Rattle.std.specs.Prelude.{◌≡◌, ◌<◌, ◌≤◌, ◌^◌, true, OnErr};
 
 use cache_model::{Object, Objective};
 use cert_checker::{Checker, StepFault, Verdict};
@@ -26,87 +26,280 @@ struct Row<'a> {
     answer: Answer,
 }
 
-// Two requests of one object of 4 bytes.
-const PAIR: [Object; 2] = [
-    Object {
-        volume: 0,
-        id: 7,
-        size: 4,
+const NONE: Record = Record {
+    price: 0,
+    keep: false,
+    flow: 0,
+};
+
+const KEPT: Record = Record {
+    price: 0,
+    keep: true,
+    flow: 1,
+};
+
+// One object of 4 bytes, and others of 1, 2 and 3.
+const FOUR: Object = Object {
+    volume: 0,
+    id: 7,
+    size: 4,
+};
+
+const A: Object = Object {
+    volume: 0,
+    id: 1,
+    size: 1,
+};
+
+const B: Object = Object { id: 2, ..A };
+
+const C: Object = Object { id: 3, ..A };
+
+const TWO: Object = Object { size: 2, ..B };
+
+const THREE: Object = Object { size: 3, ..A };
+
+// Two requests of 4 bytes, at capacity 10.
+const PAIR_HEADER: Header = Header {
+    objective: Objective::Object,
+    capacity: 10,
+    requests: 2,
+    unit: 4,
+    denominator: 1,
+    exact: true,
+    upper: 1,
+    flow: 1,
+    lower: 1,
+};
+
+const PAIR: Row<'static> = Row {
+    name: "one object asked for twice",
+    header: PAIR_HEADER,
+    requests: &[FOUR, FOUR],
+    records: &[KEPT, NONE],
+    answer: Answer::Yes(Verdict {
+        header: PAIR_HEADER,
+        objects: 1,
+    }),
+};
+
+// Six requests of 1 byte, at capacity 2.
+const CYCLE_HEADER: Header = Header {
+    capacity: 2,
+    requests: 6,
+    unit: 1,
+    upper: 2,
+    flow: 2,
+    lower: 2,
+    ..PAIR_HEADER
+};
+
+// The third record of the cycle.
+const THIRD: Record = Record { price: 1, ..NONE };
+
+const CYCLE: Row<'static> = Row {
+    name: "three objects in a cycle",
+    header: CYCLE_HEADER,
+    requests: &[A, B, C, A, B, C],
+    records: &[KEPT, KEPT, THIRD, NONE, NONE, NONE],
+    answer: Answer::Yes(Verdict {
+        header: CYCLE_HEADER,
+        objects: 3,
+    }),
+};
+
+// Three requests, of which a hit gains its bytes, at capacity 5.
+const BYTES_HEADER: Header = Header {
+    objective: Objective::Bytes,
+    capacity: 5,
+    requests: 3,
+    unit: 1,
+    upper: 3,
+    flow: 3,
+    lower: 3,
+    ..PAIR_HEADER
+};
+
+const PLAIN_HEADER: Header = Header {
+    exact: false,
+    upper: 13,
+    flow: 0,
+    lower: 0,
+    ..BYTES_HEADER
+};
+
+const VALID: [Row<'static>; 4] = [
+    CYCLE,
+    PAIR,
+    Row {
+        name: "a hit gains its bytes",
+        header: BYTES_HEADER,
+        requests: &[THREE, TWO, THREE],
+        records: &[Record { flow: 3, ..KEPT }, NONE, NONE],
+        answer: Answer::Yes(Verdict {
+            header: BYTES_HEADER,
+            objects: 2,
+        }),
     },
-    Object {
-        volume: 0,
-        id: 7,
-        size: 4,
+    Row {
+        name: "a price before an interval isn't paid for it",
+        header: PLAIN_HEADER,
+        requests: &[B, THREE, THREE],
+        records: &[Record { price: 2, ..NONE }, NONE, NONE],
+        answer: Answer::Yes(Verdict {
+            header: PLAIN_HEADER,
+            objects: 2,
+        }),
     },
 ];
 
-fn object(id: u64, size: u64) -> Object {
-    Object {
-        volume: 0,
-        id,
-        size,
-    }
-}
-
-fn entry(price: u128, keep: bool, flow: u64) -> Record {
-    Record { price, keep, flow }
-}
-
-fn rule(step: u32, kind: InvalidKind) -> Answer {
-    Answer::Refused {
-        step,
-        fault: StepFault::Rule(kind),
-    }
-}
-
-fn yes(header: Header, objects: u32) -> Answer {
-    Answer::Yes(Verdict { header, objects })
-}
-
-// Six requests, at capacity 2.
-fn cycle_header(upper: u128) -> Header {
-    Header {
-        objective: Objective::Object,
-        capacity: 2,
-        requests: 6,
-        unit: 1,
-        denominator: 1,
-        exact: true,
-        upper,
-        flow: 2,
-        lower: 2,
-    }
-}
-
-// Two requests of 4 bytes, at capacity 10.
-fn pair_header(unit: u64, upper: u128, flow: u128, lower: u128) -> Header {
-    Header {
-        objective: Objective::Object,
-        capacity: 10,
-        requests: 2,
-        unit,
-        denominator: 1,
-        exact: true,
-        upper,
-        flow,
-        lower,
-    }
-}
-
-// Three requests, of which a hit gains its bytes, at capacity 5.
-fn bytes_header(exact: bool, upper: u128, flow: u128, lower: u128) -> Header {
-    Header {
-        objective: Objective::Bytes,
-        capacity: 5,
-        requests: 3,
-        unit: 1,
-        denominator: 1,
-        exact,
-        upper,
-        flow,
-        lower,
-    }
-}
+// Those of the cycle, then those of the pair.
+const INVALID: [Row<'static>; 12] = [
+    Row {
+        name: "two units that pay 2^126 each",
+        records: &[
+            Record {
+                price: 1 << 126,
+                ..KEPT
+            },
+            KEPT,
+            THIRD,
+            NONE,
+            NONE,
+            NONE,
+        ],
+        answer: Answer::Refused {
+            step: 0,
+            fault: StepFault::Rule(InvalidKind::SumLimit),
+        },
+        ..CYCLE
+    },
+    Row {
+        name: "a third keep",
+        records: &[
+            KEPT,
+            KEPT,
+            Record {
+                keep: true,
+                ..THIRD
+            },
+            NONE,
+            NONE,
+            NONE,
+        ],
+        answer: Answer::Refused {
+            step: 2,
+            fault: StepFault::Rule(InvalidKind::Overfull {
+                load: 3,
+                capacity: 2,
+            }),
+        },
+        ..CYCLE
+    },
+    Row {
+        name: "a third flow",
+        records: &[KEPT, KEPT, Record { flow: 1, ..THIRD }, NONE, NONE, NONE],
+        answer: Answer::Refused {
+            step: 2,
+            fault: StepFault::Rule(InvalidKind::FlowOverfull { load: 3, units: 2 }),
+        },
+        ..CYCLE
+    },
+    Row {
+        name: "an upper bound greater than that of the prices",
+        header: Header {
+            upper: 3,
+            ..CYCLE_HEADER
+        },
+        answer: Answer::RefusedAtEnd(InvalidKind::UpperDiffers {
+            written: 3,
+            counted: 2,
+        }),
+        ..CYCLE
+    },
+    Row {
+        name: "a price at the end",
+        records: &[KEPT, Record { price: 5, ..NONE }],
+        answer: Answer::Refused {
+            step: 1,
+            fault: StepFault::Rule(InvalidKind::LastPrice { price: 5 }),
+        },
+        ..PAIR
+    },
+    Row {
+        name: "a unit that doesn't divide",
+        header: Header {
+            unit: 3,
+            ..PAIR_HEADER
+        },
+        answer: Answer::Refused {
+            step: 1,
+            fault: StepFault::Rule(InvalidKind::UnitNotDivisor { unit: 3, size: 4 }),
+        },
+        ..PAIR
+    },
+    Row {
+        name: "a cost that isn't whole",
+        header: Header {
+            unit: 2,
+            ..PAIR_HEADER
+        },
+        answer: Answer::Refused {
+            step: 1,
+            fault: StepFault::Rule(InvalidKind::NotDivisible { weight: 2 }),
+        },
+        ..PAIR
+    },
+    Row {
+        name: "a flow above the weight",
+        records: &[Record { flow: 2, ..KEPT }, NONE],
+        answer: Answer::Refused {
+            step: 0,
+            fault: StepFault::Rule(InvalidKind::FlowAboveWeight { flow: 2, weight: 1 }),
+        },
+        ..PAIR
+    },
+    Row {
+        name: "a flow where no interval starts",
+        records: &[KEPT, Record { flow: 1, ..NONE }],
+        answer: Answer::RefusedAtEnd(InvalidKind::Unused { number: 1 }),
+        ..PAIR
+    },
+    Row {
+        name: "another value of the flows",
+        header: Header {
+            flow: 2,
+            ..PAIR_HEADER
+        },
+        answer: Answer::RefusedAtEnd(InvalidKind::FlowDiffers {
+            written: 2,
+            counted: 1,
+        }),
+        ..PAIR
+    },
+    Row {
+        name: "another score",
+        header: Header {
+            lower: 0,
+            ..PAIR_HEADER
+        },
+        answer: Answer::RefusedAtEnd(InvalidKind::LowerDiffers {
+            written: 0,
+            counted: 1,
+        }),
+        ..PAIR
+    },
+    Row {
+        name: "no flow in the form exact",
+        header: Header {
+            flow: 0,
+            ..PAIR_HEADER
+        },
+        records: &[Record { flow: 0, ..KEPT }, NONE],
+        answer: Answer::RefusedAtEnd(InvalidKind::ExactGap { upper: 1, flow: 0 }),
+        ..PAIR
+    },
+];
 
 fn is_sized(object: &Object) -> bool
     ensures { result ≡ true → (1 ≤ object.now.size) × (object.now.size ≤ 2 ^ 48) }
@@ -150,198 +343,41 @@ fn check_all(rt: &impl Abort, alloc: Global, rows: &[Row<'_>]) -> Result<(), Fai
     Ok(())
 }
 
-// A B C A B C, each of 1 byte.
-fn cycle() -> [Object; 6] {
-    let (a, b, c) = (object(1, 1), object(2, 1), object(3, 1));
-    [a, b, c, a, b, c]
-}
-
-// The records of the cycle, where the first price and the third record vary.
-fn cycle_records(price: u128, third: Record) -> [Record; 6] {
-    let last = entry(0, false, 0);
-    [
-        entry(price, true, 1),
-        entry(0, true, 1),
-        third,
-        last,
-        last,
-        last,
-    ]
-}
-
 #[test]
 fn says_yes_to_valid_certificates(rt: HostRuntime) -> Result<(), Fail> {
-    let none = entry(0, false, 0);
-    let (bytes, plain) = (bytes_header(true, 3, 3, 3), bytes_header(false, 13, 0, 0));
-    let rows = [
-        Row {
-            name: "three objects in a cycle",
-            header: cycle_header(2),
-            requests: &cycle(),
-            records: &cycle_records(0, entry(1, false, 0)),
-            answer: yes(cycle_header(2), 3),
-        },
-        Row {
-            name: "one object asked for twice",
-            header: pair_header(4, 1, 1, 1),
-            requests: &PAIR,
-            records: &[entry(0, true, 1), none],
-            answer: yes(pair_header(4, 1, 1, 1), 1),
-        },
-        Row {
-            name: "a hit gains its bytes",
-            header: bytes,
-            requests: &[object(1, 3), object(2, 2), object(1, 3)],
-            records: &[entry(0, true, 3), none, none],
-            answer: yes(bytes, 2),
-        },
-        Row {
-            name: "a price before an interval isn't paid for it",
-            header: plain,
-            requests: &[object(2, 1), object(1, 3), object(1, 3)],
-            records: &[entry(2, false, 0), none, none],
-            answer: yes(plain, 2),
-        },
-    ];
-    check_all(&rt, rt.alloc(), &rows)
+    check_all(&rt, rt.alloc(), &VALID)
 }
 
 #[test]
-fn names_the_rule_that_a_cycle_fails(rt: HostRuntime) -> Result<(), Fail> {
-    let (header, requests) = (cycle_header(2), cycle());
-    let rows = [
-        Row {
-            name: "two units that pay 2^126 each",
-            header,
-            requests: &requests,
-            records: &cycle_records(1 << 126, entry(1, false, 0)),
-            answer: rule(0, InvalidKind::SumLimit),
-        },
-        Row {
-            name: "a third keep",
-            header,
-            requests: &requests,
-            records: &cycle_records(0, entry(1, true, 0)),
-            answer: rule(
-                2,
-                InvalidKind::Overfull {
-                    load: 3,
-                    capacity: 2,
-                },
-            ),
-        },
-        Row {
-            name: "a third flow",
-            header,
-            requests: &requests,
-            records: &cycle_records(0, entry(1, false, 1)),
-            answer: rule(2, InvalidKind::FlowOverfull { load: 3, units: 2 }),
-        },
-        Row {
-            name: "an upper bound greater than that of the prices",
-            header: cycle_header(3),
-            requests: &requests,
-            records: &cycle_records(0, entry(1, false, 0)),
-            answer: Answer::RefusedAtEnd(InvalidKind::UpperDiffers {
-                written: 3,
-                counted: 2,
-            }),
-        },
-    ];
-    check_all(&rt, rt.alloc(), &rows)
+fn names_the_rule_that_a_certificate_fails(rt: HostRuntime) -> Result<(), Fail> {
+    check_all(&rt, rt.alloc(), &INVALID)
 }
 
-#[test]
-fn names_the_rule_that_a_record_fails(rt: HostRuntime) -> Result<(), Fail> {
-    let (kept, none) = (entry(0, true, 1), entry(0, false, 0));
-    let header = pair_header(4, 1, 1, 1);
-    let rows = [
-        Row {
-            name: "a price at the end",
-            header,
-            requests: &PAIR,
-            records: &[kept, entry(5, false, 0)],
-            answer: rule(1, InvalidKind::LastPrice { price: 5 }),
-        },
-        Row {
-            name: "a unit that doesn't divide",
-            header: pair_header(3, 1, 1, 1),
-            requests: &PAIR,
-            records: &[kept, none],
-            answer: rule(1, InvalidKind::UnitNotDivisor { unit: 3, size: 4 }),
-        },
-        Row {
-            name: "a cost that isn't whole",
-            header: pair_header(2, 1, 1, 1),
-            requests: &PAIR,
-            records: &[kept, none],
-            answer: rule(1, InvalidKind::NotDivisible { weight: 2 }),
-        },
-        Row {
-            name: "a flow above the weight",
-            header,
-            requests: &PAIR,
-            records: &[entry(0, true, 2), none],
-            answer: rule(0, InvalidKind::FlowAboveWeight { flow: 2, weight: 1 }),
-        },
-    ];
-    check_all(&rt, rt.alloc(), &rows)
-}
-
-#[test]
-fn names_the_rule_that_the_end_fails(rt: HostRuntime) -> Result<(), Fail> {
-    let (kept, none) = (entry(0, true, 1), entry(0, false, 0));
-    let rows = [
-        Row {
-            name: "a flow where no interval starts",
-            header: pair_header(4, 1, 1, 1),
-            requests: &PAIR,
-            records: &[kept, entry(0, false, 1)],
-            answer: Answer::RefusedAtEnd(InvalidKind::Unused { number: 1 }),
-        },
-        Row {
-            name: "another value of the flows",
-            header: pair_header(4, 1, 2, 1),
-            requests: &PAIR,
-            records: &[kept, none],
-            answer: Answer::RefusedAtEnd(InvalidKind::FlowDiffers {
-                written: 2,
-                counted: 1,
-            }),
-        },
-        Row {
-            name: "another score",
-            header: pair_header(4, 1, 1, 0),
-            requests: &PAIR,
-            records: &[kept, none],
-            answer: Answer::RefusedAtEnd(InvalidKind::LowerDiffers {
-                written: 0,
-                counted: 1,
-            }),
-        },
-        Row {
-            name: "no flow in the form exact",
-            header: pair_header(4, 1, 0, 1),
-            requests: &PAIR,
-            records: &[entry(0, true, 0), none],
-            answer: Answer::RefusedAtEnd(InvalidKind::ExactGap { upper: 1, flow: 0 }),
-        },
-    ];
-    check_all(&rt, rt.alloc(), &rows)
+// A step of the request for the object of 4 bytes.
+fn step_of_four(
+    rt: &impl Abort,
+    alloc: Global,
+    checker: &mut Checker,
+    entry: Record,
+) -> Result<(), StepFault>
+    requires { checker.old.sums.steps < checker.old.header.requests }
+    ensures { OnErr result (checker.new ≡ checker.old) }
+{
+    assert!(rt; entry.in_range());
+    checker.step(alloc, FOUR, entry)
 }
 
 #[test]
 fn stays_as_it_was_after_a_fault(rt: HostRuntime) -> Result<(), Fail> {
-    let header = pair_header(4, 1, 1, 1);
-    let (above, kept) = (entry(0, true, 2), entry(0, true, 1));
-    assert!(rt; header.in_range() && header.requests == 2);
-    assert!(rt; above.in_range() && kept.in_range() && is_sized(&PAIR[0]));
-    let mut checker = Checker::new(rt.alloc(), header)?;
+    assert!(rt; PAIR_HEADER.in_range());
+    let mut checker = Checker::new(rt.alloc(), PAIR_HEADER)?;
+    let above = Record { flow: 2, ..KEPT };
     let fault = InvalidKind::FlowAboveWeight { flow: 2, weight: 1 };
-    let refused = checker.step(rt.alloc(), PAIR[0], above);
+    let refused = step_of_four(&rt, rt.alloc(), &mut checker, above);
     assert_eq!(rt; refused, Err(StepFault::Rule(fault)));
     assert_eq!(rt; checker.entries(), 0);
-    assert_eq!(rt; checker.step(rt.alloc(), PAIR[0], kept), Ok(()));
+    let taken = step_of_four(&rt, rt.alloc(), &mut checker, KEPT);
+    assert_eq!(rt; taken, Ok(()));
     assert_eq!(rt; checker.entries(), 1);
     Ok(())
 }

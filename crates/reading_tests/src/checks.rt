@@ -4,7 +4,6 @@ use cache_model::Objective;
 use cert_checker::{CheckFault, Header, InvalidKind, Verdict, check_streams};
 use cert_format::CertReader;
 use std::alloc::Global;
-use std::process::Abort;
 use std::test::Fail;
 use trace_any::{Format, Limits, RequestReader, TraceFault};
 use trace_lines::LineKind;
@@ -18,41 +17,8 @@ const HEAD: &[u8] =
 
 const REST: &[u8] = b"0 1 1\n0 0 0\nend\n";
 
-fn source(alloc: Global, bytes: &[u8], fails: &[u64]) -> Result<MemSource, Fail> {
-    Ok(MemSource::new(bytes.to_vec(alloc)?, fails.to_vec(alloc)?, 7))
-}
-
-// What a check says of two sources.
-fn check(
-    alloc: Global,
-    trace: &mut MemSource,
-    certificate: &mut MemSource,
-) -> Result<Result<Verdict, CheckFault>, Fail> {
-    let mut reader = RequestReader::new(alloc, Format::Webcache, Limits::full())?;
-    let mut cert = CertReader::new(alloc)?;
-    Ok(check_streams(alloc, &mut reader, trace, &mut cert, certificate))
-}
-
-fn text_of(alloc: Global, rest: &[u8]) -> Result<Vec<u8>, Fail> {
-    let mut text = HEAD.to_vec(alloc)?;
-    text.extend_from_slice(rest)?;
-    Ok(text)
-}
-
-fn invalid(line: u64, kind: InvalidKind) -> CheckFault {
-    CheckFault::Invalid { line, kind }
-}
-
-#[test]
-fn says_yes_to_a_valid_certificate(rt: HostRuntime) -> Result<(), Fail> {
-    let alloc = rt.alloc();
-    let text = text_of(alloc, REST)?;
-    let said = check(
-        alloc,
-        &mut source(alloc, TRACE, &[])?,
-        &mut source(alloc, &text, &[])?,
-    )?;
-    let header = Header {
+const VERDICT: Verdict = Verdict {
+    header: Header {
         objective: Objective::Object,
         capacity: 10,
         requests: 2,
@@ -62,78 +28,126 @@ fn says_yes_to_a_valid_certificate(rt: HostRuntime) -> Result<(), Fail> {
         upper: 1,
         flow: 1,
         lower: 1,
-    };
-    assert!(rt; said == Ok(Verdict { header, objects: 1 }));
-    Ok(())
+    },
+    objects: 1,
+};
+
+// A trace, its read that fails, or 0 for none, the other lines of the certificate, its read that fails, and the answer.
+type Row = (
+    &'static [u8],
+    u64,
+    &'static [u8],
+    u64,
+    Result<Verdict, CheckFault>,
+);
+
+const ROWS: [Row; 10] = [
+    (TRACE, 0, REST, 0, Ok(VERDICT)),
+    (
+        TRACE,
+        0,
+        b"0 1 1\n0 0 0\nend\nx",
+        0,
+        Err(CheckFault::Invalid {
+            line: 15,
+            kind: InvalidKind::Trailing,
+        }),
+    ),
+    (
+        TRACE,
+        0,
+        b"0 1 1\nend\n",
+        0,
+        Err(CheckFault::Invalid {
+            line: 13,
+            kind: InvalidKind::Shape,
+        }),
+    ),
+    (
+        TRACE,
+        0,
+        b"0 1 1\n0 0 0\n0 0 0\nend\n",
+        0,
+        Err(CheckFault::Invalid {
+            line: 14,
+            kind: InvalidKind::Shape,
+        }),
+    ),
+    (
+        TRACE,
+        0,
+        b"0 1 1\n5 0 0\nend\n",
+        0,
+        Err(CheckFault::Invalid {
+            line: 13,
+            kind: InvalidKind::LastPrice { price: 5 },
+        }),
+    ),
+    (
+        b"1 7 4\n",
+        0,
+        REST,
+        0,
+        Err(CheckFault::Invalid {
+            line: 12,
+            kind: InvalidKind::RequestCount {
+                written: 2,
+                read: 1,
+            },
+        }),
+    ),
+    (
+        b"1 7 4\n2 7 4\n3 7 4\n4 7 4\n",
+        0,
+        b"0 1 1\n0 0 0\nx",
+        0,
+        Err(CheckFault::Invalid {
+            line: 13,
+            kind: InvalidKind::RequestCount {
+                written: 2,
+                read: 3,
+            },
+        }),
+    ),
+    (
+        b"1 7 4\n2 7\n3 7 4\n",
+        0,
+        b"0 1 1\nx",
+        0,
+        Err(CheckFault::Trace(TraceFault::BadLine {
+            line: 2,
+            kind: LineKind::TooFewWords,
+        })),
+    ),
+    (
+        TRACE,
+        2,
+        REST,
+        0,
+        Err(CheckFault::Trace(TraceFault::ReadFault)),
+    ),
+    (TRACE, 0, REST, 19, Err(CheckFault::CertReadFault)),
+];
+
+fn source(alloc: Global, front: &[u8], rest: &[u8], failing: u64) -> Result<MemSource, Fail> {
+    let mut bytes = front.to_vec(alloc)?;
+    bytes.extend_from_slice(rest)?;
+    Ok(MemSource::new(bytes, vec![in alloc; failing]?, 7))
+}
+
+// What a check says of the two sources.
+fn answer(alloc: Global, row: &Row) -> Result<Result<Verdict, CheckFault>, Fail> {
+    let mut trace = source(alloc, row.0, b"", row.1)?;
+    let mut certificate = source(alloc, HEAD, row.2, row.3)?;
+    let mut reader = RequestReader::new(alloc, Format::Webcache, Limits::full())?;
+    let mut cert = CertReader::new(alloc)?;
+    Ok(check_streams(alloc, &mut reader, &mut trace, &mut cert, &mut certificate))
 }
 
 #[test]
-fn names_the_first_event_of_the_walk(rt: HostRuntime) -> Result<(), Fail> {
-    let alloc = rt.alloc();
-    let few = InvalidKind::RequestCount {
-        written: 2,
-        read: 1,
-    };
-    let many = InvalidKind::RequestCount {
-        written: 2,
-        read: 3,
-    };
-    let bad = TraceFault::BadLine {
-        line: 2,
-        kind: LineKind::TooFewWords,
-    };
-    let rows: [(&[u8], &[u8], CheckFault); 7] = [
-        (
-            TRACE,
-            b"0 1 1\n0 0 0\nend\nx",
-            invalid(15, InvalidKind::Trailing),
-        ),
-        (TRACE, b"0 1 1\nend\n", invalid(13, InvalidKind::Shape)),
-        (
-            TRACE,
-            b"0 1 1\n0 0 0\n0 0 0\nend\n",
-            invalid(14, InvalidKind::Shape),
-        ),
-        (
-            TRACE,
-            b"0 1 1\n5 0 0\nend\n",
-            invalid(13, InvalidKind::LastPrice { price: 5 }),
-        ),
-        (b"1 7 4\n", REST, invalid(12, few)),
-        (
-            b"1 7 4\n2 7 4\n3 7 4\n4 7 4\n",
-            b"0 1 1\n0 0 0\nx",
-            invalid(13, many),
-        ),
-        (b"1 7 4\n2 7\n3 7 4\n", b"0 1 1\nx", CheckFault::Trace(bad)),
-    ];
-    for (row, (trace, rest, want)) in rows.iter().enumerate() {
-        let text = text_of(alloc, rest)?;
-        let said = check(
-            alloc,
-            &mut source(alloc, trace, &[])?,
-            &mut source(alloc, &text, &[])?,
-        )?;
-        assert!(rt; said == Err(*want), "row {row}");
+fn says_yes_or_names_the_first_event_of_the_walk(rt: HostRuntime) -> Result<(), Fail> {
+    for (place, row) in ROWS.iter().enumerate() {
+        assert!(rt; answer(rt.alloc(), row)? == row.4, "row {place}");
     }
-    Ok(())
-}
-
-#[test]
-fn a_failed_read_is_that_of_its_source(rt: HostRuntime) -> Result<(), Fail> {
-    let alloc = rt.alloc();
-    let text = text_of(alloc, REST)?;
-    let said = check(
-        alloc,
-        &mut source(alloc, TRACE, &[2])?,
-        &mut source(alloc, &text, &[])?,
-    )?;
-    assert!(rt; said == Err(CheckFault::Trace(TraceFault::ReadFault)));
-    let said = check(
-        alloc,
-        &mut source(alloc, TRACE, &[])?,
-        &mut source(alloc, &text, &[19])?,
-    )?;
-    assert!(rt; said == Err(CheckFault::CertReadFault));
     Ok(())
 }

@@ -1,8 +1,10 @@
-//! Tests of the crates that read and write: lines, traces, certificates and texts.
+//! Tests of numbers and of the crates that read and write: lines, traces, certificates and texts.
 //!
 //! They stand apart from those crates, since a crate with tests is proved twice.
 #![tactic(auto)]
 
+#[cfg(test)]
+mod arc_lines;
 #[cfg(test)]
 mod certificates;
 #[cfg(test)]
@@ -11,6 +13,10 @@ mod checkers;
 mod checks;
 #[cfg(test)]
 mod lines;
+#[cfg(test)]
+mod msr_lines;
+#[cfg(test)]
+mod numbers;
 #[cfg(test)]
 mod requests;
 #[cfg(test)]
@@ -23,3 +29,7 @@ mod sources;
 mod texts;
 #[cfg(test)]
 mod traces;
+#[cfg(test)]
+mod webcache_lines;
+#[cfg(test)]
+mod words;

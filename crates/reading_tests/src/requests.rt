@@ -1,5 +1,5 @@
 //! Requests over sources in memory. The expected requests and refusals were made by hand.
-ghost use Rattle.std.specs.Prelude.{◌≡◌, ◌≤◌, ◌^◌, None, Err, All};
+ghost use Rattle.std.specs.Prelude.{◌≡◌, ◌≤◌, ◌^◌, None, Err, true};
 ghost use Rattle.trace_any.specs.Readings.{IsFormat};
 
 use bound_io::{CalmSource, MemSource};
@@ -241,12 +241,30 @@ const MSR_ROWS: [Row<'static>; 7] = [
     },
 ];
 
-// The requests of the row, however its bytes are cut, and the end of it twice.
-fn check(rt: &impl Abort, alloc: Global, row: &Row<'_>) -> Result<(), Fail>
-    requires format { IsFormat row.now.format }
-    requires requests { row.now.requests ≤ 2 ^ 25 }
-    requires bytes { row.now.bytes ≤ 2 ^ 36 }
+// Whether the form and the limits are such that a reader takes.
+fn is_readable(row: &Row<'_>) -> bool
+    ensures { result ≡ true → IsFormat row.now.format × (row.now.requests ≤ 2 ^ 25) × (row.now.bytes ≤ 2 ^ 36) }
 {
+    let block = match row.format {
+        Format::Msr { block } => block,
+        _ => 1,
+    };
+    block >= 1 && block <= 1 << 48 && row.requests <= 1 << 25 && row.bytes <= 1 << 36
+}
+
+// Whether this is the next answer.
+fn gives(
+    alloc: Global,
+    reader: &mut RequestReader,
+    source: &mut MemSource,
+    want: Result<Option<Object>, TraceFault>,
+) -> bool {
+    reader.next(alloc, source) == want
+}
+
+// The requests of the row, however its bytes are cut, and the end of it twice.
+fn check(rt: &impl Abort, alloc: Global, row: &Row<'_>) -> Result<(), Fail> {
+    assert!(rt; is_readable(row));
     let limits = Limits {
         requests: row.requests,
         bytes: row.bytes,
@@ -260,23 +278,19 @@ fn check(rt: &impl Abort, alloc: Global, row: &Row<'_>) -> Result<(), Fail>
                 id: *id,
                 size: *size,
             };
-            assert_eq!(rt;
-                reader.next(alloc, &mut source),
-                Ok(Some(object)),
-                "step {step}"
-            );
+            let given = gives(alloc, &mut reader, &mut source, Ok(Some(object)));
+            assert!(rt; given, "step {step}");
         }
-        assert_eq!(rt; reader.next(alloc, &mut source), row.end, "step {step}");
-        assert_eq!(rt; reader.next(alloc, &mut source), row.end, "step {step}");
+        let ends = gives(alloc, &mut reader, &mut source, row.end);
+        let ends_again = gives(alloc, &mut reader, &mut source, row.end);
+        assert!(rt; ends && ends_again, "step {step}");
         assert_eq!(rt; reader.dropped(), row.dropped, "step {step}");
     }
     Ok(())
 }
 
 // The rows of a form.
-fn check_all(rt: &impl Abort, alloc: Global, rows: &[Row<'_>]) -> Result<(), Fail>
-    requires { All (λ row. IsFormat row.format × (row.requests ≤ 2 ^ 25) × (row.bytes ≤ 2 ^ 36)) rows.now }
-{
+fn check_all(rt: &impl Abort, alloc: Global, rows: &[Row<'_>]) -> Result<(), Fail> {
     for row in rows {
         check(rt, alloc, row)?;
     }
@@ -319,40 +333,74 @@ fn a_long_line_is_refused_before_its_bytes_are_counted(rt: HostRuntime) -> Resul
     check(&rt, alloc, &row)
 }
 
-#[test]
-fn a_failed_read_is_answered_again_and_nothing_more_is_read(rt: HostRuntime) -> Result<(), Fail> {
-    let alloc = rt.alloc();
-    let mut source = MemSource::new(PAIR.trace.to_vec(alloc)?, vec![in alloc; 7]?, 1);
+// What a load gives: how many requests and objects there are, and how many lines were dropped.
+fn sizes_loaded(
+    alloc: Global,
+    reader: &mut RequestReader,
+    source: &mut MemSource,
+) -> Result<(u32, u32, u64), TraceFault> {
+    let (trace, dropped) = load(alloc, reader, source)?;
+    Ok((trace.len(), trace.objects(), dropped))
+}
+
+// A trace, how many bytes a read gives, the read that fails, or 0 for none, the answers to the first calls, and what
+// is loaded after them.
+#[derive(Drop)]
+struct Part<'a> {
+    trace: &'a [u8],
+    step: usize,
+    failing: u64,
+    first: &'a [Result<Option<Object>, TraceFault>],
+    loaded: Result<(u32, u32, u64), TraceFault>,
+}
+
+fn check_part(rt: &impl Abort, alloc: Global, part: &Part<'_>) -> Result<(), Fail> {
+    assert!(rt; part.step >= 1);
+    let fails = vec![in alloc; part.failing]?;
+    let mut source = MemSource::new(part.trace.to_vec(alloc)?, fails, part.step);
     let mut reader = RequestReader::new(alloc, Format::Webcache, Limits::full())?;
-    let object = Object {
-        volume: 0,
-        id: 7,
-        size: 4,
-    };
-    assert_eq!(rt; reader.next(alloc, &mut source), Ok(Some(object)));
-    for _ in 0..2 {
-        assert_eq!(rt; reader.next(alloc, &mut source), Err(TraceFault::ReadFault));
+    for want in part.first {
+        assert!(rt; gives(alloc, &mut reader, &mut source, *want));
     }
-    assert_eq!(rt;
-        load(alloc, &mut reader, &mut source).err(),
-        Some(TraceFault::ReadFault)
-    );
+    let loaded = sizes_loaded(alloc, &mut reader, &mut source);
+    assert_eq!(rt; loaded, part.loaded);
     Ok(())
 }
 
+const SEVEN: Object = Object {
+    volume: 0,
+    id: 7,
+    size: 4,
+};
+
+const FAILING: Part<'static> = Part {
+    trace: b"1 7 4\n2 7 4\n",
+    step: 1,
+    failing: 7,
+    first: &[
+        Ok(Some(SEVEN)),
+        Err(TraceFault::ReadFault),
+        Err(TraceFault::ReadFault),
+    ],
+    loaded: Err(TraceFault::ReadFault),
+};
+
+#[test]
+fn a_failed_read_is_answered_again_and_nothing_more_is_read(rt: HostRuntime) -> Result<(), Fail> {
+    check_part(&rt, rt.alloc(), &FAILING)
+}
+
+const TO_COME: Part<'static> = Part {
+    trace: b"1 7 4\n5 7 0\n6 8 4\n7 7 4",
+    step: 3,
+    failing: 0,
+    first: &[Ok(Some(SEVEN))],
+    loaded: Ok((2, 2, 1)),
+};
+
 #[test]
 fn loads_what_is_still_to_come(rt: HostRuntime) -> Result<(), Fail> {
-    let alloc = rt.alloc();
-    let mut source = MemSource::new(
-        b"1 7 4\n5 7 0\n6 8 4\n7 7 4".to_vec(alloc)?,
-        Vec::new(alloc),
-        3,
-    );
-    let mut reader = RequestReader::new(alloc, Format::Webcache, Limits::full())?;
-    assert_eq!(rt; reader.next(alloc, &mut source).is_ok(), true);
-    let (trace, dropped) = load(alloc, &mut reader, &mut source)?;
-    assert_eq!(rt; (trace.len(), trace.objects(), dropped), (2, 2, 1));
-    Ok(())
+    check_part(&rt, rt.alloc(), &TO_COME)
 }
 
 // Over a source that never fails, no fault of it can be answered.

@@ -1,5 +1,6 @@
 //! Scores of the keeps of a few requests, counted by hand.
-use cache_rules::{Builder, Object, Objective, Overfull, score};
+use cache_rules::{Builder, Object, Objective, Overfull, Trace, score};
+use std::alloc::Global;
 use std::process::Abort;
 
 // Three objects of size 1, and three larger ones.
@@ -39,11 +40,7 @@ const F: Object = Object {
     size: 9,
 };
 
-// The keeps of six requests, of which the first two or three are kept.
-const FIRST_TWO: [bool; 6] = [true, true, false, false, false, false];
-
-const FIRST_THREE: [bool; 6] = [true, true, true, false, false, false];
-
+// What it shows, the requests, what is kept of them, the capacity, the objective, and the answer.
 type Row<'a> = (
     &'a str,
     &'a [Object],
@@ -53,36 +50,81 @@ type Row<'a> = (
     Result<u128, Overfull>,
 );
 
-fn push_all(rt: &impl Abort, builder: &mut Builder, requests: &[Object]) {
+const FIRST_TWO: [bool; 6] = [true, true, false, false, false, false];
+
+const HITS: Objective = Objective::Object;
+
+const BYTES: Objective = Objective::Bytes;
+
+const ROWS: [Row<'static>; 7] = [
+    (
+        "two objects fit",
+        &[A, B, C, A, B, C],
+        &FIRST_TWO,
+        2,
+        HITS,
+        Ok(2),
+    ),
+    (
+        "one fits",
+        &[A, B, C, A, B, C],
+        &FIRST_TWO,
+        1,
+        HITS,
+        Err(Overfull { step: 1, load: 2 }),
+    ),
+    (
+        "two fit",
+        &[A, B, C, A, B, C],
+        &[true, true, true, false, false, false],
+        2,
+        HITS,
+        Err(Overfull { step: 2, load: 3 }),
+    ),
+    (
+        "bytes",
+        &[D, E, D, E],
+        &[true, true, false, false],
+        5,
+        BYTES,
+        Ok(5),
+    ),
+    (
+        "none fits",
+        &[F],
+        &[true],
+        5,
+        BYTES,
+        Err(Overfull { step: 0, load: 9 }),
+    ),
+    ("no request", &[], &[], 5, HITS, Ok(0)),
+    (
+        "kept again",
+        &[A, A, A],
+        &[true, true, false],
+        1,
+        HITS,
+        Ok(2),
+    ),
+];
+
+fn trace_of(rt: &impl Abort, alloc: Global, requests: &[Object]) -> Trace {
+    let mut builder = Builder::new(alloc).expect(rt, "memory");
     for request in requests {
         assert!(rt; builder.len() < 10);
         assert!(rt; request.size >= 1 && request.size <= 9);
         builder.push(*request).expect(rt, "memory");
     }
+    builder.finish()
 }
 
 // The answers are counted by hand.
 #[test]
 fn scores_keeps_that_fit_and_names_the_first_load_that_does_not(rt: HostRuntime) {
-    let (hits, bytes) = (Objective::Object, Objective::Bytes);
-    let (at_once, later) = (Overfull { step: 1, load: 2 }, Overfull { step: 2, load: 3 });
-    let large = Overfull { step: 0, load: 9 };
-    let cycle = [A, B, C, A, B, C];
-    let again = [true, true, false];
-    let rows: [Row; 7] = [
-        ("two objects fit", &cycle, &FIRST_TWO, 2, hits, Ok(2)),
-        ("one fits", &cycle, &FIRST_TWO, 1, hits, Err(at_once)),
-        ("two fit", &cycle, &FIRST_THREE, 2, hits, Err(later)),
-        ("bytes", &[D, E, D, E], &FIRST_TWO[..4], 5, bytes, Ok(5)),
-        ("none fits", &[F], &[true], 5, bytes, Err(large)),
-        ("no request", &[], &[], 5, hits, Ok(0)),
-        ("kept again", &[A, A, A], &again, 1, hits, Ok(2)),
-    ];
-    for (name, requests, keeps, capacity, objective, answer) in rows {
-        let mut builder = Builder::new(rt.alloc()).expect(&rt, "memory");
-        push_all(&rt, &mut builder, requests);
-        let trace = builder.finish();
-        assert_eq!(rt; keeps.len(), trace.len() as usize);
-        assert_eq!(rt; score(&trace, capacity, objective, keeps), answer, "{name}");
+    for (name, requests, keeps, capacity, objective, answer) in &ROWS {
+        let trace = trace_of(&rt, rt.alloc(), requests);
+        assert!(rt; keeps.len() == trace.len() as usize, "{name}");
+        let scored = score(&trace, *capacity, *objective, keeps);
+        assert_eq!(rt; scored, *answer, "{name}");
     }
 }

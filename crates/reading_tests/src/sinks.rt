@@ -1,76 +1,99 @@
 //! Sinks in memory and over files.
+ghost use Rattle.std.specs.Prelude.{◌≤◌};
+
 use bound_base::NoMemory;
 use bound_io::{Failed, FileSink, GrowSink, MemSink, Sink, write_all};
+use std::alloc::Global;
+use std::process::Abort;
+
+// A piece, and what a write of it answers.
+type Row = (&'static [u8], Result<usize, Failed>);
+
+fn write_each<K: Sink>(rt: &impl Abort, sink: &mut K, rows: &[Row]) {
+    for (piece, want) in rows {
+        assert_eq!(rt; sink.write(piece), *want, "at {piece:?}");
+    }
+}
+
+// A sink for so many bytes, which takes at most `step` of them a call and fails at one call, or at none where its
+// number is 0.
+fn sink_of(alloc: Global, room: usize, failing: u64, step: usize) -> Result<MemSink, NoMemory>
+    requires { 1 ≤ step }
+{
+    MemSink::new(alloc, room, vec![in alloc; failing]?, step)
+}
+
+const INTO_SEVEN_BYTES: [Row; 8] = [
+    (b"abcdefgh", Ok(3)),
+    (b"defgh", Err(Failed)),
+    (b"defgh", Ok(3)),
+    (b"", Ok(0)),
+    (b"gh", Ok(1)),
+    (b"h", Err(Failed)),
+    (b"", Ok(0)),
+    (b"h", Err(Failed)),
+];
 
 #[test]
 fn a_failed_write_takes_nothing_and_a_full_sink_fails(rt: HostRuntime) -> Result<(), NoMemory> {
-    let mut sink = MemSink::new(rt.alloc(), 7, vec![in rt.alloc(); 2]?, 3)?;
-    let rows: [(&[u8], Result<usize, Failed>); 8] = [
-        (b"abcdefgh", Ok(3)),
-        (b"defgh", Err(Failed)),
-        (b"defgh", Ok(3)),
-        (b"", Ok(0)),
-        (b"gh", Ok(1)),
-        (b"h", Err(Failed)),
-        (b"", Ok(0)),
-        (b"h", Err(Failed)),
-    ];
-    for (piece, want) in rows {
-        assert_eq!(rt; sink.write(piece), want, "at {piece:?}");
-    }
+    let mut sink = sink_of(rt.alloc(), 7, 2, 3)?;
+    write_each(&rt, &mut sink, &INTO_SEVEN_BYTES);
     assert_eq!(rt; sink.written(), b"abcdefg".as_slice());
     assert_eq!(rt; sink.into_bytes().as_slice(), b"abcdefg".as_slice());
     Ok(())
 }
 
+const WHOLE: [Row; 3] = [(b"two ", Ok(4)), (b"", Ok(0)), (b"pieces", Ok(6))];
+
 #[test]
 fn keeps_each_piece_whole(rt: HostRuntime) {
     let mut sink = GrowSink::new(rt.alloc());
-    assert_eq!(rt; sink.write(b"two "), Ok(4));
-    assert_eq!(rt; sink.write(b""), Ok(0));
-    assert_eq!(rt; sink.write(b"pieces"), Ok(6));
+    write_each(&rt, &mut sink, &WHOLE);
     assert_eq!(rt; sink.into_bytes().as_slice(), b"two pieces".as_slice());
 }
 
 #[test]
 fn a_full_device_is_a_fault(rt: HostRuntime) -> Result<(), NoMemory> {
     let mut sink = FileSink::new(&rt, rt.alloc(), "/dev/full")?;
-    assert_eq!(rt; sink.write(b"x"), Err(Failed));
-    assert_eq!(rt; sink.write(b"x"), Err(Failed));
+    write_each(&rt, &mut sink, &[(b"x", Err(Failed)), (b"x", Err(Failed))]);
     Ok(())
 }
 
+// The room, the call that fails, two pieces, whether each is written whole, and what stands in the sink after them.
+type BothRow = (
+    usize,
+    u64,
+    &'static [u8],
+    &'static [u8],
+    [bool; 2],
+    &'static [u8],
+);
+
+const BOTH: [BothRow; 6] = [
+    (20, 0, b"seven b", b"", [true, true], b"seven b"),
+    (7, 0, b"seven b", b"", [true, true], b"seven b"),
+    (20, 1, b"seven b", b"", [false, true], b""),
+    (20, 3, b"seven b", b"", [false, true], b"seve"),
+    (5, 0, b"seven b", b"", [false, true], b"seven"),
+    (20, 2, b"four", b"more", [false, true], b"fomore"),
+];
+
+// Whether each piece was written whole, and what stands in the sink.
+fn write_both(alloc: Global, row: &BothRow) -> Result<([bool; 2], Vec<u8>), NoMemory> {
+    let (room, failing, first, second, _, _) = *row;
+    let mut sink = sink_of(alloc, room, failing, 2)?;
+    let first = write_all(&mut sink, first).is_ok();
+    let second = write_all(&mut sink, second).is_ok();
+    Ok(([first, second], sink.into_bytes()))
+}
+
 #[test]
-fn writes_all_or_stops_at_the_first_fault(rt: HostRuntime) -> Result<(), NoMemory> {
-    // The room, the call that fails (0 for none), the answer, and what stands in the sink after it.
-    let rows: [(usize, u64, Result<(), Failed>, &[u8]); 5] = [
-        (20, 0, Ok(()), b"seven b"),
-        (7, 0, Ok(()), b"seven b"),
-        (20, 1, Err(Failed), b""),
-        (20, 3, Err(Failed), b"seve"),
-        (5, 0, Err(Failed), b"seven"),
-    ];
-    for (room, failing, want, written) in rows {
-        let mut sink = MemSink::new(rt.alloc(), room, vec![in rt.alloc(); failing]?, 2)?;
-        assert_eq!(rt;
-            write_all(&mut sink, b"seven b"),
-            want,
-            "with room {room}, failing at {failing}"
-        );
-        assert_eq!(rt;
-            sink.written(),
-            written,
-            "with room {room}, failing at {failing}"
-        );
+fn writes_all_or_stops_at_the_first_fault_and_goes_on_after_it(
+    rt: HostRuntime,
+) -> Result<(), NoMemory> {
+    for (place, row) in BOTH.iter().enumerate() {
+        let (whole, bytes) = write_both(rt.alloc(), row)?;
+        assert_eq!(rt; (whole, bytes.as_slice()), (row.4, row.5), "row {place}");
     }
-    Ok(())
-}
-
-#[test]
-fn goes_on_after_a_fault(rt: HostRuntime) -> Result<(), NoMemory> {
-    let mut sink = MemSink::new(rt.alloc(), 20, vec![in rt.alloc(); 2]?, 2)?;
-    assert_eq!(rt; write_all(&mut sink, b"four"), Err(Failed));
-    assert_eq!(rt; write_all(&mut sink, b"more"), Ok(()));
-    assert_eq!(rt; sink.written(), b"fomore".as_slice());
     Ok(())
 }

@@ -3,38 +3,47 @@ use bound_base::NoMemory;
 use bound_io::{
     CalmSource, Failed, FileSink, FileSource, LineReader, MemSource, Source, write_all,
 };
-use std::alloc::AllocError;
+use std::alloc::{AllocError, Global};
 use std::fs;
+use std::process::Abort;
+use std::rt::Files;
+
+// What a read gives, and its answer.
+type Row = (&'static [u8], Result<usize, Failed>);
+
+// Reads into a buffer of so many bytes.
+fn read_each<S: Source>(rt: &impl Abort, source: &mut S, room: usize, rows: &[Row]) {
+    assert!(rt; room <= 5);
+    for (front, want) in rows {
+        let mut buf = [0; 5];
+        assert_eq!(rt; source.read(&mut buf[..room]), *want, "before {front:?}");
+        assert!(rt; buf.starts_with(front), "before {front:?}");
+    }
+}
+
+const CALM: [Row; 3] = [(b"abcde", Ok(5)), (b"fg", Ok(2)), (b"", Ok(0))];
 
 #[test]
 fn gives_what_fits_up_to_the_end(rt: HostRuntime) -> Result<(), AllocError> {
     let mut source = CalmSource::new(Vec::from_slice(rt.alloc(), b"abcdefg")?);
-    let rows: [(&[u8], usize); 3] = [(b"abcde", 5), (b"fg", 2), (b"", 0)];
-    for (front, want) in rows {
-        let mut buf = [0; 5];
-        assert_eq!(rt; source.read(&mut buf), Ok(want), "before {front:?}");
-        assert_eq!(rt; buf.starts_with(front), true, "before {front:?}");
-    }
+    read_each(&rt, &mut source, 5, &CALM);
     Ok(())
 }
+
+const FAILING: [Row; 6] = [
+    (b"abc", Ok(3)),
+    (b"", Err(Failed)),
+    (b"def", Ok(3)),
+    (b"", Err(Failed)),
+    (b"g", Ok(1)),
+    (b"", Ok(0)),
+];
 
 #[test]
 fn a_failed_read_gives_nothing_and_the_next_goes_on(rt: HostRuntime) -> Result<(), AllocError> {
     let bytes = Vec::from_slice(rt.alloc(), b"abcdefg")?;
     let mut source = MemSource::new(bytes, vec![in rt.alloc(); 2, 4]?, 3);
-    let rows: [(&[u8], Result<usize, Failed>); 6] = [
-        (b"abc", Ok(3)),
-        (b"", Err(Failed)),
-        (b"def", Ok(3)),
-        (b"", Err(Failed)),
-        (b"g", Ok(1)),
-        (b"", Ok(0)),
-    ];
-    for (front, want) in rows {
-        let mut buf = [0; 5];
-        assert_eq!(rt; source.read(&mut buf), want, "before {front:?}");
-        assert_eq!(rt; buf.starts_with(front), true, "before {front:?}");
-    }
+    read_each(&rt, &mut source, 5, &FAILING);
     Ok(())
 }
 
@@ -42,10 +51,37 @@ fn a_failed_read_gives_nothing_and_the_next_goes_on(rt: HostRuntime) -> Result<(
 fn a_small_buffer_is_filled(rt: HostRuntime) -> Result<(), AllocError> {
     let bytes = Vec::from_slice(rt.alloc(), b"abcdefg")?;
     let mut source = MemSource::new(bytes, Vec::new(rt.alloc()), 100);
-    let mut buf = [0; 2];
-    assert_eq!(rt; source.read(&mut buf), Ok(2));
-    assert_eq!(rt; buf, *b"ab");
+    read_each(&rt, &mut source, 2, &[(b"ab", Ok(2))]);
     Ok(())
+}
+
+fn write_file<R: Files + Print>(
+    rt: &R,
+    alloc: Global,
+    path: &str,
+    pieces: &[&[u8]],
+) -> Result<Result<(), Failed>, NoMemory> {
+    let mut sink = FileSink::new(rt, alloc, path)?;
+    for piece in pieces {
+        if write_all(&mut sink, piece).is_err() {
+            return Ok(Err(Failed));
+        }
+    }
+    Ok(Ok(()))
+}
+
+fn read_file<R: Files + Input>(
+    rt: &R,
+    alloc: Global,
+    path: &str,
+) -> Result<Result<usize, Failed>, NoMemory> {
+    let mut source = FileSource::new(rt, alloc, path)?;
+    Ok(source.read(&mut [0; 10]))
+}
+
+// Whether this is the next line, or the end.
+fn gives<S: Source>(lines: &mut LineReader, source: &mut S, want: Option<&[u8]>) -> bool {
+    lines.next_line(source) == Ok(want)
 }
 
 const PATH: &str = "bound_io_reads_what_was_written";
@@ -54,17 +90,13 @@ const PATH: &str = "bound_io_reads_what_was_written";
 fn reads_what_was_written(rt: HostRuntime) -> Result<(), NoMemory> {
     let older = fs::write(&rt, PATH, b"an older and longer text".as_slice());
     assert_eq!(rt; older.is_ok(), true);
-    {
-        let mut sink = FileSink::new(&rt, rt.alloc(), PATH)?;
-        assert_eq!(rt; write_all(&mut sink, b"one line\n"), Ok(()));
-        assert_eq!(rt; write_all(&mut sink, b"and one"), Ok(()));
-    }
+    let written = write_file(&rt, rt.alloc(), PATH, &[b"one line\n", b"and one"])?;
+    assert_eq!(rt; written, Ok(()));
     let mut source = FileSource::new(&rt, rt.alloc(), PATH)?;
     let mut lines = LineReader::new(rt.alloc(), 100)?;
-    let wanted: [Option<&[u8]>; 3] = [Some(b"one line"), Some(b"and one"), None];
-    for line in wanted {
-        assert_eq!(rt; lines.next_line(&mut source), Ok(line));
-    }
+    assert!(rt; gives(&mut lines, &mut source, Some(b"one line")));
+    assert!(rt; gives(&mut lines, &mut source, Some(b"and one")));
+    assert!(rt; gives(&mut lines, &mut source, None));
     assert_eq!(rt; fs::remove_file(&rt, PATH).is_ok(), true);
     Ok(())
 }
@@ -72,10 +104,10 @@ fn reads_what_was_written(rt: HostRuntime) -> Result<(), NoMemory> {
 #[test]
 fn a_missing_file_and_a_folder_are_faults(rt: HostRuntime) -> Result<(), NoMemory> {
     for path in ["no_such_folder/no_such_file", "."] {
-        let mut source = FileSource::new(&rt, rt.alloc(), path)?;
-        assert_eq!(rt; source.read(&mut [0; 10]), Err(Failed), "reading {path}");
-        let mut sink = FileSink::new(&rt, rt.alloc(), path)?;
-        assert_eq!(rt; write_all(&mut sink, b"x"), Err(Failed), "writing {path}");
+        let read = read_file(&rt, rt.alloc(), path)?;
+        assert_eq!(rt; read, Err(Failed), "reading {path}");
+        let written = write_file(&rt, rt.alloc(), path, &[b"x"])?;
+        assert_eq!(rt; written, Err(Failed), "writing {path}");
     }
     Ok(())
 }

@@ -19,89 +19,53 @@ const HEADER: Header = Header {
     lower: 4,
 };
 
+// A mode, the price that it found, and the report.
+const REPORTS: [(Mode, u128, &[u8]); 4] = [
+    (
+        Mode::Infinite,
+        0,
+        b"trace requests 4 objects 2 dropped 6\ncapacity 7 objective bytes\nmode infinite form plain\n\
+unit 2 units 3 denominator 3\nintervals 1\nupper 14/3 floor 4\nflow 13/3\nlower 4\n",
+    ),
+    (
+        Mode::Constant,
+        5,
+        b"trace requests 4 objects 2 dropped 6\ncapacity 7 objective bytes\nmode constant price 5 form plain\n\
+unit 2 units 3 denominator 3\nintervals 1\nupper 14/3 floor 4\nflow 13/3\nlower 4\n",
+    ),
+    (
+        Mode::Flow {
+            window: Window::All,
+        },
+        0,
+        b"trace requests 4 objects 2 dropped 6\ncapacity 7 objective bytes\nmode flow window all form exact\n\
+unit 2 units 3 denominator 3\nintervals 1\nupper 14/3 floor 4\nflow 13/3\nlower 4\n",
+    ),
+    (
+        Mode::Flow {
+            window: Window::Steps(9),
+        },
+        0,
+        b"trace requests 4 objects 2 dropped 6\ncapacity 7 objective bytes\nmode flow window 9 form exact\n\
+unit 2 units 3 denominator 3\nintervals 1\nupper 14/3 floor 4\nflow 13/3\nlower 4\n",
+    ),
+];
+
 #[test]
 fn reports_each_mode(rt: HostRuntime) -> Result<(), NoMemory> {
-    let rows = [
-        (Mode::Infinite, 0, b"mode infinite form plain".as_slice()),
-        (
-            Mode::Constant,
-            5,
-            b"mode constant price 5 form plain".as_slice(),
-        ),
-        (
-            Mode::Flow {
-                window: Window::All,
-            },
-            0,
-            b"mode flow window all form exact".as_slice(),
-        ),
-        (
-            Mode::Flow {
-                window: Window::Steps(9),
-            },
-            0,
-            b"mode flow window 9 form exact".as_slice(),
-        ),
-    ];
-    for (mode, price, line) in rows {
+    for (mode, price, want) in &REPORTS {
         let facts = BoundFacts {
             header: HEADER,
             objects: 2,
             dropped: 6,
-            mode,
-            price,
+            mode: *mode,
+            price: *price,
             intervals: 1,
         };
-        let mut want = Vec::new(rt.alloc());
-        want.extend_from_slice(
-            b"trace requests 4 objects 2 dropped 6\ncapacity 7 objective bytes\n",
-        )?;
-        want.extend_from_slice(line)?;
-        want.extend_from_slice(
-            b"\nunit 2 units 3 denominator 3\nintervals 1\nupper 14/3 floor 4\nflow 13/3\nlower 4\n",
-        )?;
         let text = report_text(rt.alloc(), &facts)?;
-        assert_eq!(rt; text.as_slice(), want.as_slice());
+        assert_eq!(rt; text.as_slice(), *want);
     }
     Ok(())
-}
-
-#[test]
-fn refuses_in_one_line(rt: HostRuntime) {
-    let rows = [
-        (
-            Refusal::Words {
-                place: u64::MAX,
-                kind: WordKind::BadValue,
-            },
-            b"words: place 18446744073709551615: bad value\n".as_slice(),
-        ),
-        (
-            Refusal::BadLine {
-                line: 3,
-                kind: LineKind::BadNumber { word: 6 },
-            },
-            b"bad line 3: number in word 6\n".as_slice(),
-        ),
-        (
-            Refusal::BadLine {
-                line: 1,
-                kind: LineKind::TooLong,
-            },
-            b"bad line 1: line too long\n".as_slice(),
-        ),
-        (
-            Refusal::Limit(LimitName::Denominator),
-            b"limit: denominator 281474976710656\n".as_slice(),
-        ),
-        (Refusal::TraceFault, b"trace fault\n".as_slice()),
-        (Refusal::MadeFault, b"made fault\n".as_slice()),
-        (Refusal::NoMemory, b"no memory\n".as_slice()),
-    ];
-    for (refusal, want) in rows {
-        let text = refusal_text(&refusal);
-        assert_eq!(rt; text.as_bytes(), want);
-    }
 }
 
 #[test]
@@ -117,42 +81,80 @@ unit 2 units 3 denominator 3\nupper 14/3 floor 4\nflow 13/3\nlower 4\nvalid\n";
     Ok(())
 }
 
+const INVALID: [(InvalidKind, &[u8]); 6] = [
+    (InvalidKind::Shape, b"invalid line 7: shape\n"),
+    (InvalidKind::TooLong, b"invalid line 7: line too long\n"),
+    (
+        InvalidKind::RequestCount {
+            written: 2,
+            read: 3,
+        },
+        b"invalid line 7: request count 2 3\n",
+    ),
+    (
+        InvalidKind::UnitNotDivisor { unit: 3, size: 4 },
+        b"invalid line 7: unit 3 size 4\n",
+    ),
+    (
+        InvalidKind::Unused { number: 1 },
+        b"invalid line 7: unused flow 1\n",
+    ),
+    (
+        InvalidKind::ExactGap {
+            upper: u128::MAX,
+            flow: 0,
+        },
+        b"invalid line 7: exact gap 340282366920938463463374607431768211455 0\n",
+    ),
+];
+
 #[test]
 fn names_what_makes_a_certificate_invalid(rt: HostRuntime) {
-    let most = u128::MAX;
-    let rows = [
-        (InvalidKind::Shape, b"invalid line 7: shape\n".as_slice()),
-        (
-            InvalidKind::TooLong,
-            b"invalid line 7: line too long\n".as_slice(),
-        ),
-        (
-            InvalidKind::RequestCount {
-                written: 2,
-                read: 3,
-            },
-            b"invalid line 7: request count 2 3\n".as_slice(),
-        ),
-        (
-            InvalidKind::UnitNotDivisor { unit: 3, size: 4 },
-            b"invalid line 7: unit 3 size 4\n".as_slice(),
-        ),
-        (
-            InvalidKind::Unused { number: 1 },
-            b"invalid line 7: unused flow 1\n".as_slice(),
-        ),
-        (
-            InvalidKind::ExactGap {
-                upper: most,
-                flow: 0,
-            },
-            b"invalid line 7: exact gap 340282366920938463463374607431768211455 0\n".as_slice(),
-        ),
-    ];
-    for (kind, want) in rows {
-        let text = refusal_text(&Refusal::Invalid { line: 7, kind });
-        assert_eq!(rt; text.as_bytes(), want);
+    for (kind, want) in &INVALID {
+        let text = refusal_text(&Refusal::Invalid {
+            line: 7,
+            kind: *kind,
+        });
+        assert_eq!(rt; text.as_bytes(), *want);
     }
-    let text = refusal_text(&Refusal::CertFault);
-    assert_eq!(rt; text.as_bytes(), b"certificate fault\n".as_slice());
+}
+
+const OTHERS: [(Refusal, &[u8]); 8] = [
+    (
+        Refusal::Words {
+            place: u64::MAX,
+            kind: WordKind::BadValue,
+        },
+        b"words: place 18446744073709551615: bad value\n",
+    ),
+    (
+        Refusal::BadLine {
+            line: 3,
+            kind: LineKind::BadNumber { word: 6 },
+        },
+        b"bad line 3: number in word 6\n",
+    ),
+    (
+        Refusal::BadLine {
+            line: 1,
+            kind: LineKind::TooLong,
+        },
+        b"bad line 1: line too long\n",
+    ),
+    (
+        Refusal::Limit(LimitName::Denominator),
+        b"limit: denominator 281474976710656\n",
+    ),
+    (Refusal::TraceFault, b"trace fault\n"),
+    (Refusal::CertFault, b"certificate fault\n"),
+    (Refusal::MadeFault, b"made fault\n"),
+    (Refusal::NoMemory, b"no memory\n"),
+];
+
+#[test]
+fn refuses_in_one_line(rt: HostRuntime) {
+    for (refusal, want) in &OTHERS {
+        let text = refusal_text(refusal);
+        assert_eq!(rt; text.as_bytes(), *want);
+    }
 }

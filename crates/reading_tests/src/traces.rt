@@ -1,5 +1,6 @@
 //! A trace of a few requests, counted by hand.
-use cache_rules::{Builder, Object};
+use cache_rules::{Builder, Object, Trace};
+use std::alloc::Global;
 use std::process::Abort;
 
 // Three objects of one id, which differ in volume and in size, and one of another id.
@@ -38,42 +39,48 @@ fn add(rt: &impl Abort, builder: &mut Builder, object: Object) {
     }
 }
 
+// The trace of the requests.
+fn trace_of(rt: &impl Abort, alloc: Global, objects: &[Object]) -> Trace {
+    let mut builder = Builder::new(alloc).expect(rt, "memory");
+    assert!(rt; builder.len() == 0);
+    for object in objects {
+        add(rt, &mut builder, *object);
+    }
+    assert!(rt; builder.len() as usize == objects.len());
+    builder.finish()
+}
+
+// The number of the object of each request, and the nearest requests for it.
+const REQUESTS: [(u32, Option<u32>, Option<u32>); 7] = [
+    (0, None, Some(2)),
+    (1, None, Some(4)),
+    (0, Some(0), Some(5)),
+    (2, None, None),
+    (1, Some(1), None),
+    (0, Some(2), None),
+    (3, None, None),
+];
+
 // The answers are counted by hand.
 #[test]
 fn names_each_object_and_its_nearest_requests(rt: HostRuntime) {
-    let mut builder = Builder::new(rt.alloc()).expect(&rt, "memory");
-    assert_eq!(rt; builder.len(), 0);
-    for object in [A, B, A, C, B, A, D] {
-        add(&rt, &mut builder, object);
-    }
-    assert_eq!(rt; builder.len(), 7);
-    let trace = builder.finish();
-    assert_eq!(rt; trace.len(), 7);
-    let rows = [
-        (0, None, Some(2)),
-        (1, None, Some(4)),
-        (0, Some(0), Some(5)),
-        (2, None, None),
-        (1, Some(1), None),
-        (0, Some(2), None),
-        (3, None, None),
-    ];
-    for (t, (number, prev, next)) in rows.into_iter().enumerate() {
+    let trace = trace_of(&rt, rt.alloc(), &[A, B, A, C, B, A, D]);
+    assert_eq!(rt; (trace.len(), trace.objects()), (7, 4));
+    for (t, want) in REQUESTS.iter().enumerate() {
         let t = t as u32;
         assert!(rt; t < trace.len());
-        assert_eq!(rt; trace.request(t), number, "the object of request {t}");
-        assert_eq!(rt; trace.prev(t), prev, "the request before request {t}");
-        assert_eq!(rt; trace.next(t), next, "the request after request {t}");
+        let found = (trace.request(t), trace.prev(t), trace.next(t));
+        assert_eq!(rt; found, *want, "of request {t}");
     }
-    assert_eq!(rt; trace.objects(), 4);
-    for (number, object) in [A, B, C, D].into_iter().enumerate() {
+}
+
+#[test]
+fn gives_each_object_and_its_size(rt: HostRuntime) {
+    let trace = trace_of(&rt, rt.alloc(), &[A, B, A, C, B, A, D]);
+    for (number, object) in [A, B, C, D].iter().enumerate() {
         let number = number as u32;
         assert!(rt; number < trace.objects());
-        assert_eq!(rt; trace.object(number), object, "object {number}");
-        assert_eq!(rt;
-            trace.size_of(number),
-            object.size,
-            "the size of object {number}"
-        );
+        let found = (trace.object(number), trace.size_of(number));
+        assert_eq!(rt; found, (*object, object.size), "of object {number}");
     }
 }

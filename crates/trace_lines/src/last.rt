@@ -11,24 +11,3 @@ pub fn trim_cr(line: &[u8]) -> &[u8]
         _ => line,
     }
 }
-
-#[cfg(test)]
-mod tests {
-    use super::*;
-
-    #[test]
-    fn drops_one_last_cr(rt: HostRuntime) {
-        let rows: [(&[u8], &[u8]); 7] = [
-            (b"a\r", b"a"),
-            (b"a\r\r", b"a\r"),
-            (b"\r", b""),
-            (b"", b""),
-            (b"a\rb", b"a\rb"),
-            (b"a", b"a"),
-            (b"\ra", b"\ra"),
-        ];
-        for (line, text) in rows {
-            assert_eq!(rt; trim_cr(line), text, "at {line:?}");
-        }
-    }
-}

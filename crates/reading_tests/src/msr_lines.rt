@@ -1,0 +1,186 @@
+//! Lines of MSR traces, read by hand.
+use trace_lines::{LineKind, Span};
+use trace_msr::{MsrLine, parse};
+
+// A line, and its host and disk, where it asks for the first block of 4,096 bytes.
+const DISKS: [(&[u8], &[u8], u64); 9] = [
+    (b"128166372003061629,usr,0,Read,0,1,41286", b"usr", 0),
+    (b"1,h,1,WRITE,0,1", b"h", 1),
+    (b"1,h,1,rEaD,0,1,9", b"h", 1),
+    (b"1,h,1,write,0,1,9", b"h", 1),
+    (b"1,h,0012,Read,0,1,x,y,z", b"h", 12),
+    (
+        b"1,h,18446744073709551615,Read,0,1,",
+        b"h",
+        18446744073709551615,
+    ),
+    (b"1,,2,Read,0,1,9", b"", 2),
+    (b",h,2,Read,0,1,9", b"h", 2),
+    (b"x, a\tb ,2,Read,0,1,9", b" a\tb ", 2),
+];
+
+#[test]
+fn gives_a_host_and_a_disk(rt: HostRuntime) {
+    let span = Span::Blocks {
+        first: 0,
+        count: 1,
+        size: 4096,
+    };
+    for (line, host, disk) in &DISKS {
+        let read = MsrLine {
+            host,
+            disk: *disk,
+            span,
+        };
+        assert_eq!(rt; parse(line, 4096), Ok(read), "at {line:?}");
+    }
+}
+
+// The bytes of a block, a line of host h and disk 0, its first block, and the number of its blocks.
+const TOUCHED: [(u64, &[u8], u64, u64); 17] = [
+    (4096, b"1,h,0,Read,7014609920,24576,41286", 1712551, 7),
+    (4096, b"1,h,0,Read,0,1,9", 0, 1),
+    (4096, b"1,h,0,Read,0,4096,9", 0, 1),
+    (4096, b"1,h,0,Read,0,4097,9", 0, 2),
+    (4096, b"1,h,0,Read,4095,1,9", 0, 1),
+    (4096, b"1,h,0,Read,4095,2,9", 0, 2),
+    (4096, b"1,h,0,Read,4096,4096,9", 1, 1),
+    (4096, b"1,h,0,Read,100,8192,9", 0, 3),
+    (
+        4096,
+        b"1,h,0,Read,18446744073709551615,1,9",
+        4503599627370495,
+        1,
+    ),
+    (
+        4096,
+        b"1,h,0,Read,0,18446744073709551615,9",
+        0,
+        4503599627370496,
+    ),
+    (3, b"1,h,0,Read,0002,0002,9", 0, 2),
+    (1, b"1,h,0,Read,5,3,9", 5, 3),
+    (
+        1,
+        b"1,h,0,Read,0,18446744073709551615,9",
+        0,
+        18446744073709551615,
+    ),
+    (
+        1,
+        b"1,h,0,Read,1,18446744073709551615,9",
+        1,
+        18446744073709551615,
+    ),
+    (281474976710656, b"1,h,0,Read,281474976710655,1,9", 0, 1),
+    (281474976710656, b"1,h,0,Read,281474976710655,2,9", 0, 2),
+    (
+        281474976710656,
+        b"1,h,0,Read,18446744073709551615,1,9",
+        65535,
+        1,
+    ),
+];
+
+#[test]
+fn asks_for_each_block_that_is_touched(rt: HostRuntime) {
+    for (block, line, first, count) in &TOUCHED {
+        let (block, first, count) = (*block, *first, *count);
+        assert!(rt; block >= 1 && block <= 1 << 48);
+        let span = Span::Blocks {
+            first,
+            count,
+            size: block,
+        };
+        let read = MsrLine {
+            host: b"h",
+            disk: 0,
+            span,
+        };
+        assert_eq!(rt; parse(line, block), Ok(read), "at {line:?} by {block}");
+    }
+}
+
+const EMPTY: [&[u8]; 4] = [
+    b"3,h,7,Read,0,0,9",
+    b"3,h,7,Read,4095,000,9",
+    b"3,h,7,Write,1,0",
+    b"3,h,7,Write,18446744073709551615,0",
+];
+
+#[test]
+fn asks_for_nothing_where_there_is_no_byte(rt: HostRuntime) {
+    for line in &EMPTY {
+        let read = MsrLine {
+            host: b"h",
+            disk: 7,
+            span: Span::Nothing,
+        };
+        assert_eq!(rt; parse(line, 4096), Ok(read), "at {line:?}");
+    }
+}
+
+const QUOTE: LineKind = LineKind::QuoteByte;
+
+const FEW: LineKind = LineKind::TooFewWords;
+
+const BAD_DISK: LineKind = LineKind::BadNumber { word: 3 };
+
+const BAD_TYPE: LineKind = LineKind::BadType;
+
+const BAD_OFFSET: LineKind = LineKind::BadNumber { word: 5 };
+
+const BAD_SIZE: LineKind = LineKind::BadNumber { word: 6 };
+
+const PAST_64_BITS: LineKind = LineKind::BadRange;
+
+const REFUSED: [(&[u8], LineKind); 35] = [
+    (b"\"", QUOTE),
+    (b"1,\"h\",0,Read,0,512,1", QUOTE),
+    (b"1,h,x,Trim,y,z,\"", QUOTE),
+    (b"\"1,h,0,Read,0", QUOTE),
+    (b"", FEW),
+    (b"1 h 0 Read 0 512 1", FEW),
+    (b"1,h,0,Read,0", FEW),
+    (b"1,h,x,Trim,y", FEW),
+    (b",,,,", FEW),
+    (b",,,,,", BAD_DISK),
+    (b"1,h,x,Trim,y,z,9", BAD_DISK),
+    (b"1,h,-1,Read,0,512,9", BAD_DISK),
+    (b"1,h, 1,Read,0,512,9", BAD_DISK),
+    (b"1,h,18446744073709551616,Read,0,0,9", BAD_DISK),
+    (b"1,h,0,Trim,0,512,1", BAD_TYPE),
+    (b"1,h,0,Trim,x,y,9", BAD_TYPE),
+    (b"1,h,0,,0,512,9", BAD_TYPE),
+    (b"1,h,0,R,0,512,9", BAD_TYPE),
+    (b"1,h,0,Reads,0,512,9", BAD_TYPE),
+    (b"1,h,0,Writ,0,512,9", BAD_TYPE),
+    (b"1,h,0,Read ,0,512,9", BAD_TYPE),
+    (b"1,h,0,Trim,0,0,9", BAD_TYPE),
+    (b"1,h,0,Read,x,y,9", BAD_OFFSET),
+    (b"1,h,0,Read,,512,9", BAD_OFFSET),
+    (b"1,h,0,Read,0x10,512,9", BAD_OFFSET),
+    (b"1,h,0,Read,18446744073709551616,0,9", BAD_OFFSET),
+    (b"1,h,0,Read,0,y,9", BAD_SIZE),
+    (b"1,h,0,Read,0,,9", BAD_SIZE),
+    (b"1,h,0,Read,0,512\r", BAD_SIZE),
+    (b"1,h,0,Read,18446744073709551615,2x,9", BAD_SIZE),
+    (b"1,h,0,Read,1,18446744073709551616,9", BAD_SIZE),
+    (b"1,h,0,Read,18446744073709551615,2,9", PAST_64_BITS),
+    (b"1,h,0,Read,2,18446744073709551615,9", PAST_64_BITS),
+    (
+        b"1,h,0,Write,9223372036854775808,9223372036854775809",
+        PAST_64_BITS,
+    ),
+    (
+        b"1,h,0,Write,18446744073709551615,18446744073709551615",
+        PAST_64_BITS,
+    ),
+];
+
+#[test]
+fn names_the_first_check_that_fails(rt: HostRuntime) {
+    for (line, kind) in &REFUSED {
+        assert_eq!(rt; parse(line, 4096), Err(*kind), "at {line:?}");
+    }
+}
