@@ -6,5 +6,6 @@ pub mod Routes
 pub mod LastRound
 pub mod Heaps
 pub mod QueueSteps
+pub mod Stacks
 pub mod EdgeLists
 pub mod OnwardPaths

@@ -12,3 +12,4 @@ pub mod Listing
 pub mod Merging
 pub mod Starting
 pub mod Numbering
+pub mod Passing

@@ -1,5 +1,5 @@
 -- The order of the intervals without a flag: how they are collected, and that the sorted list is in order of rank.
-use Rattle.std.proofs.Common.{inl, inr, ◌≡◌, ℕ, suc, zero, ◌<◌, ◌≤◌, ◌∙◌, sym, refl, ap, Bool, true, false, ◌==◌, cond, nat_lt, List, [], ◌∷◌, length, get_or, arith, ⊎_elim, All}
+use Rattle.std.proofs.Common.{inl, inr, ◌≡◌, ℕ, suc, zero, ◌+◌, ◌<◌, ◌≤◌, ◌∙◌, sym, refl, ap, subst, Bool, true, false, ◌==◌, cond, nat_lt, List, [], ◌∷◌, ◌++◌, length, get_or, arith, ⊎_elim, All}
 use Rattle.std.specs.Prelude.{count_by, ◌⊎◌, ◌&&◌, AllPairs}
 use Rattle.std.specs.Cmp.{IsStrictWeakOrder}
 use Rattle.std.specs.Ordering.{is_lt, nat_cmp, ordering_then}
@@ -7,9 +7,10 @@ use Rattle.std.specs.declared.cmp.Ordering.TheVariants.{Less, Equal, Greater}
 use Rattle.std.specs.List.Sorted.{IsPermutation, IsSortedBy}
 use Rattle.std.proofs.lemmas.Cmp.{then_total, on_total, nat_cmp_total}
 use Rattle.std.proofs.lemmas.List.{get_or_past}
+use Rattle.std.proofs.lemmas.List.Elements.{All-push}
 use Rattle.std.proofs.lemmas.List.Sorted.{ranks_by, sorted_far, sum_by-IsPermutation, All-permutation}
-use Rattle.std.proofs.lemmas.Bool.{cases_Bool, cases_lt, cases_order, cond_both, both_ways, and_from, or_left, or_right, lt-ltb, le-ltb, eq-eqb}
-use Rattle.std.proofs.lemmas.List.Sums.{sum_by-cons, get_or-le-sum_by}
+use Rattle.std.proofs.lemmas.Bool.{cases_Bool, cases_lt, cases_order, cond_both, both_ways, and_from, or_left, or_right, lt-ltb, le-ltb, eq-eqb, ne_eqb}
+use Rattle.std.proofs.lemmas.List.Sums.{sum_by-append, sum_by-cons, get_or-le-sum_by}
 use Rattle.cache_model.specs.declared.intervals.Interval.{Interval}
 use Rattle.cache_model.specs.Rounding.{rank, by_rank, by_start}
 use Rattle.schedule_round.specs.declared.order.Ranked.{Ranked}
@@ -19,6 +20,62 @@ use Rattle.schedule_round.specs.Ranks.{no_interval, interval_at, IsRankOrder}
 pub record IsCollected (intervals : List Interval) (full : List Bool) (k : ℕ) (order : List Ranked) : Type 0 where
   pub once : (n : ℕ) → count_by (λ r. r.number == n) order ≡ cond (nat_lt n k) (cond (get_or full n true) 0 1) 0
   pub ranks : All (λ r. r.rank ≡ rank (interval_at intervals r.number)) order
+
+-- what is counted of the first k intervals and the next one
+counted_more : (full : List Bool) (k n : ℕ) → cond (nat_lt n (k + 1)) (cond (get_or full n true) 0 1) 0 ≡ cond (nat_lt n k) (cond (get_or full n true) 0 1) 0 + cond (k == n) (cond (get_or full k true) 0 1) 0
+counted_more full k n =
+    let at : ℕ = cond (get_or full n true) 0 1 in
+    let own : ℕ = cond (get_or full k true) 0 1 in
+    ⊎_elim
+    (λ (same : n ≡ k).
+    omega (
+      arith,
+      ap {B = ℕ} (λ b. cond b at 0) (lt-ltb n (k + 1) (omega arith)),
+      ap {B = ℕ} (λ b. cond b at 0) (le-ltb n k (omega arith)),
+      ap {B = ℕ} (λ b. cond b own 0) (eq-eqb k n (sym same)),
+      ap {B = ℕ} (λ i. cond (get_or full i true) 0 1) same,
+    ))
+    (λ (other : (n < k) ⊎ (k < n)).
+    ⊎_elim
+    (λ (low : n < k).
+    omega (
+      arith,
+      ap {B = ℕ} (λ b. cond b at 0) (lt-ltb n (k + 1) (omega arith)),
+      ap {B = ℕ} (λ b. cond b at 0) (lt-ltb n k low),
+      ap {B = ℕ} (λ b. cond b own 0) (ne_eqb k n (λ e. omega arith)),
+    ))
+    (λ (high : k < n).
+    omega (
+      arith,
+      ap {B = ℕ} (λ b. cond b at 0) (le-ltb n (k + 1) (omega arith)),
+      ap {B = ℕ} (λ b. cond b at 0) (le-ltb n k (omega arith)),
+      ap {B = ℕ} (λ b. cond b own 0) (ne_eqb k n (λ e. omega arith)),
+    ))
+    other)
+    (cases_order n k)
+
+-- the next interval has a flag
+pub collected_flagged : (intervals : List Interval) (full : List Bool) (k : ℕ) (before after : List Ranked) → get_or full k true ≡ true → after ≡ before → IsCollected intervals full k before
+    → IsCollected intervals full (k + 1) after
+collected_flagged intervals full k before after flagged same done = record {
+  once = λ n.
+      let none : cond {A = ℕ} (k == n) (cond (get_or full k true) 0 1) 0 ≡ 0 = ⊎_elim (λ (e : (k == n) ≡ true). ap {B = ℕ} (λ b. cond b (cond (get_or full k true) 0 1) 0) e ∙ ap {B = ℕ} (λ b. cond b 0 1) flagged) (λ (e : (k == n) ≡ false). ap {B = ℕ} (λ b. cond b (cond (get_or full k true) 0 1) 0) e) (cases_Bool (k == n)) in
+      ap (λ xs. count_by (λ r. r.number == n) xs) same ∙ omega (arith, done.once n, counted_more full k n, none);
+  ranks = subst (All (λ r. r.rank ≡ rank (interval_at intervals r.number))) (sym same) done.ranks;
+}
+
+-- the next interval has none
+pub collected_next : (intervals : List Interval) (full : List Bool) (k : ℕ) (before after : List Ranked) (next : Ranked) → get_or full k true ≡ false → next.number ≡ k → next.rank ≡ rank (interval_at intervals k)
+    → after ≡ before ++ next ∷ [] → IsCollected intervals full k before → IsCollected intervals full (k + 1) after
+collected_next intervals full k before after next unflagged number is_rank more done = record {
+  once = λ n.
+      let one : cond {A = ℕ} (k == n) (cond (get_or full k true) 0 1) 0 ≡ cond (k == n) 1 0 = ap {B = ℕ} (λ b. cond (k == n) (cond b 0 1) 0) unflagged in
+      let last : count_by (λ r. r.number == n) (next ∷ []) ≡ cond (k == n) 1 0 = omega (arith, ap {B = ℕ} (λ m. cond (m == n) 1 0) number) in
+      ap (λ xs. count_by (λ r. r.number == n) xs) more
+      ∙ omega (arith, sum_by-append (λ (r : Ranked). cond (r.number == n) 1 0) before (next ∷ []), done.once n, counted_more full k n, one, last);
+  ranks = subst (All (λ r. r.rank ≡ rank (interval_at intervals r.number))) (sym more)
+      (All-push (λ r. r.rank ≡ rank (interval_at intervals r.number)) before next done.ranks (is_rank ∙ ap (λ n. rank (interval_at intervals n)) (sym number)));
+}
 
 -- the element at each of two places is counted
 count_two : {X : Type 0} (p : X → Bool) (xs : List X) (i j : ℕ) (d : X) → i < j → j < length xs → p (get_or xs i d) ≡ true → p (get_or xs j d) ≡ true → 2 ≤ count_by p xs

@@ -1,7 +1,8 @@
-use Rattle.std.proofs.Common.{sym, subst}
-use Rattle.flow_model.specs.Instances.{Instance, IsInstance}
+use Rattle.std.proofs.Common.{sym, subst, arith}
+use Rattle.flow_model.specs.Instances.{Instance, IsInstance, arc_of}
 use Rattle.relaxation.proofs.Whole.{timeline_weights}
 use Rattle.relaxation.proofs.WholeArcs.{whole_is_instance, whole_all}
+use Rattle.relaxation.proofs.Passing.{map_take-more}
 use Rattle.relaxation.proofs.arcs.instance.Goals as goal
 
 pub arc_of-requires-clause-weight : goal.arc_of-requires-clause-weight
@@ -16,3 +17,13 @@ new-requires c =
     let whole = whole_is_instance c.args.intervals.now c.args.unit c.args.units c.args.denominator c.steps.ensures.timeline c.requires.unit c.requires.divides c.requires.units.0 c.requires.units.1 c.requires.denominator.1 in
     rw c.steps.ensures.steps
     (subst (λ (i : Instance). IsInstance i) (sym (whole_all c.args.intervals.now c.args.unit c.args.units c.args.denominator c.loop-interval.interval-index c.loop-interval.arcs.items past made)) whole)
+
+pub loop-interval-preserved : goal.loop-interval-preserved
+loop-interval-preserved c =
+    let before = c.loop-interval in
+    let push = c.push_reserved.ensures in
+    record {
+      arcs = map_take-more (arc_of c.args.unit c.args.denominator) c.as_slice-items.result.now before.interval-index _ before.arcs.items c.push_reserved.new.self.items c.arc_of.result c.loop-interval-test.true c.arc_of.ensures before.invariant.arcs push.items;
+      room = omega (arith, before.invariant.room, push.capacity);
+      count = omega (arith, before.invariant.count, push.len);
+    }

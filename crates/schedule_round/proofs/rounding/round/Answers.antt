@@ -33,6 +33,18 @@ take-requires-clause-order c =
     rw c.as_slice-items.ensures.items
     (shaped c.args.intervals.now c.args.capacity c.args.full.now c.deref-ranked-items.result.now c.as_slice-items.ensures.timeline c.requires.flags is_order c.loop-ranked.ranked-index c.loop-ranked.schedule.keeps.items c.loop-ranked.schedule.loads c.loop-ranked.invariant.1 c.loop-ranked-test.true).order
 
+pub fits-requires-clause-within : goal.fits-requires-clause-within
+fits-requires-clause-within c =
+    let is_order = subst (IsRankOrder c.args.intervals.now.items c.args.full.now) (sym c.deref-ranked-items.ensures.value) c.in_ok-order.ensures in
+    let fine = shaped c.args.intervals.now c.args.capacity c.args.full.now c.deref-ranked-items.result.now c.as_slice-items.ensures.timeline c.requires.flags is_order c.loop-ranked.ranked-index c.loop-ranked.schedule.keeps.items c.loop-ranked.schedule.loads c.loop-ranked.invariant.1 c.loop-ranked-test.true in
+    rw c.as_slice-items.ensures.items (omega (arith, fine.within, c.loop-ranked.invariant.1.taken.one_load_each))
+
+pub take-requires-clause-within : goal.take-requires-clause-within
+take-requires-clause-within c =
+    let is_order = subst (IsRankOrder c.args.intervals.now.items c.args.full.now) (sym c.deref-ranked-items.ensures.value) c.in_ok-order.ensures in
+    let fine = shaped c.args.intervals.now c.args.capacity c.args.full.now c.deref-ranked-items.result.now c.as_slice-items.ensures.timeline c.requires.flags is_order c.loop-ranked.ranked-index c.loop-ranked.schedule.keeps.items c.loop-ranked.schedule.loads c.loop-ranked.invariant.1 c.loop-ranked-test.true in
+    rw c.as_slice-items.ensures.items (omega (arith, fine.within, c.loop-ranked.invariant.1.taken.one_load_each))
+
 pub take-requires-clause-start : goal.take-requires-clause-start
 take-requires-clause-start c =
     let is_order = subst (IsRankOrder c.args.intervals.now.items c.args.full.now) (sym c.deref-ranked-items.ensures.value) c.in_ok-order.ensures in

@@ -2,11 +2,23 @@ use Rattle.std.proofs.Common.{◌≡◌, ℕ, ◌-◌, ◌*◌, ◌<◌, ◌≤�
 use Rattle.std.proofs.lemmas.Bool.{cases_eq, cases_lt}
 use Rattle.flow_model.specs.declared.edges.Edge.{Edge}
 use Rattle.flow_model.specs.Instances.{Instance}
+use Rattle.flow_model.specs.Networks.{IsEdge}
 use Rattle.flow_solver.specs.OuterEdges.{edge_of, tail_of}
 use Rattle.flow_solver.specs.Searches.{IsSettled, Rests}
 use Rattle.flow_solver.proofs.Distances.{Nears-trans}
 use Rattle.flow_solver.proofs.EdgeLists.{is_edge_of}
 use Rattle.flow_solver.proofs.search.Search.relax_outer.Goals as goal
+
+pub relax-requires-clause-edge : goal.relax-requires-clause-edge
+relax-requires-clause-edge c =
+    let instance : Instance = c.args.network.now.instance in
+    let count : ℕ = length instance.arcs in
+    let number : ℕ = c.loop-left.left - 1 in
+    let own : c.outer_edge.result ≡ edge_of count number = c.outer_edge.ensures ∙ ap (λ (n : ℕ). edge_of n number) (ap length c.arcs.ensures.arcs ∙ ap (λ (i : Instance). length i.arcs) c.instance.ensures.instance) in
+    subst (λ (e : Edge). IsEdge instance e) (sym own) (is_edge_of instance number (omega (arith, c.loop-left.invariant.within, c.loop-left-test.true)))
+
+pub returns-clause-settled : goal.returns-clause-settled
+returns-clause-settled c = λ rests k high at. c.loop-left.invariant.settled rests k (omega (arith, c.loop-left-test.false)) high at
 
 pub loop-left-preserved : goal.loop-left-preserved
 loop-left-preserved c =

@@ -1,4 +1,5 @@
-use Rattle.std.proofs.Common.{◌≡◌, ◌∙◌, ap}
+use Rattle.std.proofs.Common.{◌≡◌, ◌∙◌, ap, arith, All}
+use Rattle.flow_model.specs.Instances.{IsArc, no_arc}
 use Rattle.flow_model.specs.Windows.{meets, window_instance}
 use Rattle.relaxation.specs.Cuts.{Cut, numbers_where}
 use Rattle.relaxation.proofs.PartArcs.{is_window, window_made}
@@ -22,6 +23,22 @@ part_of-requires-clause-order c =
     let are : c.deref-number-items.result.now ≡ numbers_where (meets c.new-window.result.width c.new-window.result.number) c.arcs-arcs.result.now =
     rw (c.new-window.ensures.width, c.new-window.ensures.number, c.arcs-arcs.ensures.arcs) (c.deref-number-items.ensures.value ∙ c.self.invariant.arcs) in
     (met_at c.new-window.result.width c.new-window.result.number c.arcs-arcs.result.now c.deref-number-items.result.now c.loop-number.number-index are c.loop-number-test.true).order
+
+pub part_of-requires-clause-end : goal.part_of-requires-clause-end
+part_of-requires-clause-end c =
+    let are : c.deref-number-items.result.now ≡ numbers_where (meets c.new-window.result.width c.new-window.result.number) c.arcs-arcs.result.now =
+    rw (c.new-window.ensures.width, c.new-window.ensures.number, c.arcs-arcs.ensures.arcs) (c.deref-number-items.ensures.value ∙ c.self.invariant.arcs) in
+    let met = met_at c.new-window.result.width c.new-window.result.number c.arcs-arcs.result.now c.deref-number-items.result.now c.loop-number.number-index are c.loop-number-test.true in
+    let fit : All (IsArc c.self.inside.whole.now.steps) c.arcs-arcs.result.now = rw c.arcs-arcs.ensures.arcs c.arcs-arcs.ensures.in_range.arcs_fit in
+    omega (arith, (fit _ no_arc met.within).within, c.arcs-arcs.ensures.in_range.few_steps)
+
+pub part_of-requires-clause-cost : goal.part_of-requires-clause-cost
+part_of-requires-clause-cost c =
+    let are : c.deref-number-items.result.now ≡ numbers_where (meets c.new-window.result.width c.new-window.result.number) c.arcs-arcs.result.now =
+    rw (c.new-window.ensures.width, c.new-window.ensures.number, c.arcs-arcs.ensures.arcs) (c.deref-number-items.ensures.value ∙ c.self.invariant.arcs) in
+    let met = met_at c.new-window.result.width c.new-window.result.number c.arcs-arcs.result.now c.deref-number-items.result.now c.loop-number.number-index are c.loop-number-test.true in
+    let fit : All (IsArc c.self.inside.whole.now.steps) c.arcs-arcs.result.now = rw c.arcs-arcs.ensures.arcs c.arcs-arcs.ensures.in_range.arcs_fit in
+    (fit _ no_arc met.within).small_cost
 
 pub new-requires : goal.new-requires
 new-requires c =
