@@ -1,5 +1,5 @@
 -- One write after another, and one read after another.
-use Rattle.std.proofs.Common.{ℕ, ◌+◌, List, ◌++◌, Option, None, Some, take, drop, append_assoc, refl}
+use Rattle.std.proofs.Common.{ℕ, ◌+◌, List, [], ◌++◌, Option, None, Some, take, drop, append_assoc, refl}
 use Rattle.std.proofs.Math.Seq.{take-add}
 use Rattle.std.specs.Io.KnownBytes.{Appends, Consumes, Keeps}
 use Rattle.bound_io.specs.Lines.{stands_in}
@@ -35,3 +35,16 @@ keeps_then (Some xs) (Some ys) (Some zs) first second = rw first at second
 -- a front that is lost, and then some more
 pub loses_then : (old mid new : Option (List ℕ)) (more : List ℕ) → LosesFront old mid → Consumes mid new more → LosesFront old new
 loses_then old mid new more first taken = (first.0 ++ more, consumes_more old mid new first.0 more first.1 taken)
+
+-- what stands behind held bytes is kept, and they stay the same
+pub keeps_behind : (old new : Option (List ℕ)) (held : List ℕ) → Keeps old new → Keeps (stands_in held old) (stands_in held new)
+keeps_behind None new held kept = tt
+keeps_behind (Some xs) None held kept = absurd kept
+keeps_behind (Some xs) (Some ys) held kept = rw kept refl
+
+-- a front that is lost, and then nothing more
+pub loses_still : (old mid new : Option (List ℕ)) → LosesFront old mid → Keeps mid new → LosesFront old new
+loses_still None mid new first kept = ([], tt)
+loses_still (Some xs) None new first kept = absurd first.1
+loses_still (Some xs) (Some ys) None first kept = absurd kept
+loses_still (Some xs) (Some ys) (Some zs) first kept = (first.0, rw kept first.1)
