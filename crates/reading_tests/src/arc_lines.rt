@@ -1,4 +1,5 @@
 //! Lines of ARC traces, read by hand.
+use crate::compared::same;
 use trace_arc::parse;
 use trace_lines::{LineKind, Span};
 
@@ -30,7 +31,7 @@ fn gives_a_first_block_and_a_count(rt: HostRuntime) {
             count: *count,
             size: 512,
         };
-        assert_eq!(rt; parse(line), Ok(span), "at {line:?}");
+        same(&rt, *line, parse(line), Ok(span));
     }
 }
 
@@ -73,6 +74,6 @@ const WITHOUT_BLOCKS: [(&[u8], Answer); 23] = [
 #[test]
 fn asks_for_nothing_or_names_the_first_check_that_fails(rt: HostRuntime) {
     for (line, want) in &WITHOUT_BLOCKS {
-        assert_eq!(rt; parse(line), *want, "at {line:?}");
+        same(&rt, *line, parse(line), *want);
     }
 }

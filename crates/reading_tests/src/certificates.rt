@@ -2,6 +2,7 @@
 ghost use Rattle.std.specs.Prelude.{◌≡◌, ◌≤◌};
 ghost use Rattle.cert_format.specs.declared.reader.Stage.TheVariants.{AtHeader};
 
+use crate::compared::{holds, same};
 use bound_base::NoMemory;
 use bound_io::{Failed, MemSink, MemSource, Source};
 use cache_model::{Header, Objective, Record};
@@ -124,7 +125,7 @@ fn bad_text(line: u64, kind: TextKind) -> Read {
 fn a_certificate_is_read_however_it_is_cut(rt: HostRuntime) -> Result<(), NoMemory> {
     for step in STEPS {
         let read = read_with(rt.alloc(), 0, b"", step)?;
-        assert_eq!(rt; read, WHOLE, "step {step}");
+        same(&rt, step, read, WHOLE);
     }
     Ok(())
 }
@@ -172,7 +173,7 @@ const REFUSED: [(usize, &[u8], TextKind); 24] = [
 fn a_line_is_refused_for_its_first_fault(rt: HostRuntime) -> Result<(), NoMemory> {
     for (line, text, kind) in &REFUSED {
         let read = read_with(rt.alloc(), *line, text, 50)?;
-        assert_eq!(rt; read, bad_text(*line as u64, *kind), "at {text:?}");
+        same(&rt, *text, read, bad_text(*line as u64, *kind));
     }
     Ok(())
 }
@@ -194,7 +195,7 @@ const AT_THE_END: [(usize, &[u8]); 7] = [
 fn a_number_at_the_end_of_its_range_is_read(rt: HostRuntime) -> Result<(), NoMemory> {
     for (line, text) in &AT_THE_END {
         let read = read_with(rt.alloc(), *line, text, 50)?;
-        assert!(rt; matches!(read, Read::Whole { .. }), "at {text:?}");
+        holds(&rt, *text, matches!(read, Read::Whole { .. }));
     }
     Ok(())
 }
@@ -206,7 +207,7 @@ fn a_front_is_truncated_at_the_line_where_it_ends(rt: HostRuntime) -> Result<(),
     for (end, byte) in text.iter().enumerate() {
         let read = read_all(rt.alloc(), &text[..end], 9)?;
         let want = Read::Fault(CertFault::Truncated { line });
-        assert_eq!(rt; read, want, "of {end} bytes");
+        same(&rt, end, read, want);
         if *byte == b'\n' && line < 20 {
             line += 1;
         }
@@ -234,10 +235,10 @@ const MORE: [&[u8]; 4] = [b"\n", b"x", b"end\n", b"\r\n"];
 fn whatever_follows_the_end_is_trailing(rt: HostRuntime) -> Result<(), NoMemory> {
     let want = Read::Fault(CertFault::Trailing { line: 15 });
     for more in &MORE {
-        assert_eq!(rt; read_before(rt.alloc(), more)?, want, "before {more:?}");
+        same(&rt, *more, read_before(rt.alloc(), more)?, want);
     }
     let long = repeated(rt.alloc(), b'x', 70000, b"")?;
-    assert_eq!(rt; read_before(rt.alloc(), &long)?, want);
+    same(&rt, "70000 bytes", read_before(rt.alloc(), &long)?, want);
     Ok(())
 }
 
@@ -274,7 +275,7 @@ fn a_long_line_is_told_from_a_cut_one(rt: HostRuntime) -> Result<(), NoMemory> {
     for (count, end, fault) in &LONG_LINES {
         let text = repeated(rt.alloc(), b'9', *count, end)?;
         let read = read_all(rt.alloc(), &text, 4096)?;
-        assert_eq!(rt; read, Read::Fault(*fault), "of {count} bytes");
+        same(&rt, *count, read, Read::Fault(*fault));
     }
     Ok(())
 }
@@ -284,7 +285,7 @@ fn a_number_of_60000_digits_is_out_of_range(rt: HostRuntime) -> Result<(), NoMem
     let mut words = b"upper 1".to_vec(rt.alloc())?;
     words.extend_from_slice(&repeated(rt.alloc(), b'0', 60000, b"")?)?;
     let read = read_with(rt.alloc(), 8, &words, 4096)?;
-    assert_eq!(rt; read, bad_text(8, TextKind::Range));
+    same(&rt, "60000 digits", read, bad_text(8, TextKind::Range));
     Ok(())
 }
 
@@ -305,10 +306,10 @@ fn a_failed_read_is_answered_again_and_nothing_more_is_read(rt: HostRuntime) -> 
     let mut source = MemSource::new(text_with(alloc, 0, b"")?, vec![in alloc; 3]?, 50);
     let mut reader = CertReader::new(alloc)?;
     let found = faults(&mut reader, &mut source);
-    assert_eq!(rt; found, Some([CertFault::ReadFault; 4]));
+    same(&rt, "a failed read", found, Some([CertFault::ReadFault; 4]));
     let counts = (reader.line(), reader.consumed(), reader.taken());
-    assert_eq!(rt; counts, (7, 98, 100));
-    assert_eq!(rt; source.read(&mut [0; 100]), Ok(45));
+    same(&rt, "the counts", counts, (7, 98, 100));
+    same(&rt, "what is left", source.read(&mut [0; 100]), Ok(45));
     Ok(())
 }
 
@@ -333,13 +334,12 @@ fn at_most_a_buffer_is_taken_ahead(rt: HostRuntime) -> Result<(), Fail> {
     write_long(&mut sink)?;
     let mut source = MemSource::new(sink.into_bytes(), Vec::new(alloc), 100000);
     let mut reader = CertReader::new(alloc)?;
-    assert_eq!(rt; reader.header(&mut source), Ok(LONG_HEADER));
-    assert_eq!(rt; reader.next_record(&mut source), Ok(FIRST));
+    let header = reader.header(&mut source);
+    assert!(rt; header == Ok(LONG_HEADER));
+    same(&rt, "a record", reader.next_record(&mut source), Ok(FIRST));
     // The lines of the header have 133 bytes, that of the record 6.
-    assert_eq!(rt;
-        (reader.line(), reader.consumed(), reader.taken()),
-        (12, 139, 65536)
-    );
+    let counts = (reader.line(), reader.consumed(), reader.taken());
+    same(&rt, "the counts", counts, (12, 139, 65536));
     Ok(())
 }
 
@@ -369,10 +369,10 @@ const DEAR: Record = Record {
 
 #[test]
 fn numbers_are_in_range_or_not(rt: HostRuntime) {
-    for (header, want) in &HEADERS {
-        assert_eq!(rt; header.in_range(), *want, "{header:?}");
+    for (row, (header, want)) in HEADERS.iter().enumerate() {
+        same(&rt, row, header.in_range(), *want);
     }
-    assert!(rt; FIRST.in_range() && !DEAR.in_range());
+    holds(&rt, "records", FIRST.in_range() && !DEAR.in_range());
 }
 
 // What is written of the certificate to a sink that fails at one call, or at none where its number is 0.
@@ -393,11 +393,12 @@ fn what_is_written_is_the_text(rt: HostRuntime) -> Result<(), NoMemory> {
     let text = text_with(rt.alloc(), 0, b"")?;
     for step in STEPS {
         let (answer, bytes) = written(rt.alloc(), 0, step)?;
-        assert_eq!(rt; answer, Ok(()), "step {step}");
-        assert_eq!(rt; bytes, text, "step {step}");
+        same(&rt, step, answer, Ok(()));
+        same(&rt, step, bytes.as_slice(), text.as_slice());
     }
     let (answer, bytes) = written(rt.alloc(), 3, 1)?;
-    assert_eq!(rt; (answer, bytes.as_slice()), (Err(Failed), b"ca".as_slice()));
+    same(&rt, "a failed write", answer, Err(Failed));
+    same(&rt, "a failed write", bytes.as_slice(), b"ca".as_slice());
     Ok(())
 }
 

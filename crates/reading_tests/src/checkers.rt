@@ -1,6 +1,7 @@
 //! Small certificates through a checker. The numbers were worked out by hand.
 ghost use Rattle.std.specs.Prelude.{◌≡◌, ◌<◌, ◌≤◌, ◌^◌, true, OnErr};
 
+use crate::compared::{holds, same};
 use cache_model::{Object, Objective};
 use cert_checker::{Checker, StepFault, Verdict};
 use cert_format::{Header, InvalidKind, Record};
@@ -338,7 +339,7 @@ fn answer_of(
 fn check_all(rt: &impl Abort, alloc: Global, rows: &[Row<'_>]) -> Result<(), Fail> {
     for row in rows {
         let answer = answer_of(rt, alloc, row.header, row.requests, row.records)?;
-        assert!(rt; answer == row.answer, "{}", row.name);
+        holds(rt, row.name, answer == row.answer);
     }
     Ok(())
 }
@@ -375,9 +376,9 @@ fn stays_as_it_was_after_a_fault(rt: HostRuntime) -> Result<(), Fail> {
     let fault = InvalidKind::FlowAboveWeight { flow: 2, weight: 1 };
     let refused = step_of_four(&rt, rt.alloc(), &mut checker, above);
     assert_eq!(rt; refused, Err(StepFault::Rule(fault)));
-    assert_eq!(rt; checker.entries(), 0);
+    same(&rt, "entries", checker.entries(), 0);
     let taken = step_of_four(&rt, rt.alloc(), &mut checker, KEPT);
-    assert_eq!(rt; taken, Ok(()));
-    assert_eq!(rt; checker.entries(), 1);
+    same(&rt, "a further step", taken, Ok(()));
+    same(&rt, "entries", checker.entries(), 1);
     Ok(())
 }

@@ -1,4 +1,5 @@
 //! Small traces and certificates of them, checked side by side.
+use crate::compared::holds;
 use bound_io::MemSource;
 use cache_model::Objective;
 use cert_checker::{CheckFault, Header, InvalidKind, Verdict, check_streams};
@@ -147,7 +148,7 @@ fn answer(alloc: Global, row: &Row) -> Result<Result<Verdict, CheckFault>, Fail>
 #[test]
 fn says_yes_or_names_the_first_event_of_the_walk(rt: HostRuntime) -> Result<(), Fail> {
     for (place, row) in ROWS.iter().enumerate() {
-        assert!(rt; answer(rt.alloc(), row)? == row.4, "row {place}");
+        holds(&rt, place, answer(rt.alloc(), row)? == row.4);
     }
     Ok(())
 }

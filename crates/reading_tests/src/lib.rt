@@ -12,6 +12,8 @@ mod checkers;
 #[cfg(test)]
 mod checks;
 #[cfg(test)]
+mod compared;
+#[cfg(test)]
 mod lines;
 #[cfg(test)]
 mod msr_lines;

@@ -1,6 +1,7 @@
 //! Lines of bytes in memory, counted by hand.
 ghost use Rattle.std.specs.Prelude.{◌≡◌, ◌≤◌, ◌^◌, None, Err};
 
+use crate::compared::{holds, same};
 use bound_base::NoMemory;
 use bound_io::{CalmSource, LineFault, LineReader, MemSource, Source, WholeLine};
 use std::alloc::{AllocError, Global};
@@ -33,11 +34,11 @@ fn check(
         let mut source = MemSource::new(bytes.to_vec(alloc)?, Vec::new(alloc), step);
         let mut reader = LineReader::new(alloc, limit)?;
         for line in lines {
-            assert!(rt; gives(&mut reader, &mut source, Ok(*line)), "step {step}");
+            holds(rt, step, gives(&mut reader, &mut source, Ok(*line)));
         }
         let ends = gives(&mut reader, &mut source, end) && gives(&mut reader, &mut source, end);
-        assert!(rt; ends, "step {step}");
-        assert_eq!(rt; reader.line(), lines.len() as u64, "step {step}");
+        holds(rt, step, ends);
+        same(rt, step, reader.line(), lines.len() as u64);
     }
     Ok(())
 }
@@ -123,12 +124,17 @@ fn a_failed_read_is_answered_again_and_nothing_more_is_read(rt: HostRuntime) -> 
     let alloc = rt.alloc();
     let mut source = MemSource::new(b"ab\ncd\n".to_vec(alloc)?, vec![in alloc; 4]?, 1);
     let mut reader = LineReader::new(alloc, 100)?;
-    assert!(rt; gives_line(&mut reader, &mut source, Ok(Some(b"ab"))));
-    assert!(rt; gives_line(&mut reader, &mut source, Err(LineFault::ReadFault)));
-    assert!(rt; gives_line(&mut reader, &mut source, Err(LineFault::ReadFault)));
+    holds(
+        &rt,
+        1,
+        gives_line(&mut reader, &mut source, Ok(Some(b"ab"))),
+    );
+    let failed = Err(LineFault::ReadFault);
+    holds(&rt, 2, gives_line(&mut reader, &mut source, failed));
+    holds(&rt, 3, gives_line(&mut reader, &mut source, failed));
     let counts = (reader.taken(), reader.consumed(), reader.line());
-    assert_eq!(rt; counts, (3, 3, 1));
-    assert_eq!(rt; source.read(&mut [0; 10]), Ok(1));
+    same(&rt, "the counts", counts, (3, 3, 1));
+    same(&rt, "the next read", source.read(&mut [0; 10]), Ok(1));
     Ok(())
 }
 
@@ -145,8 +151,14 @@ fn reads_at_most_a_buffer_ahead(rt: HostRuntime) -> Result<(), AllocError> {
     let mut source = CalmSource::new(vec![in rt.alloc(); b'\n'; 65540]?);
     match LineReader::new(rt.alloc(), 1 << 36) {
         Ok(mut reader) => {
-            assert_eq!(rt; read_calmly(&mut reader, &mut source), Ok(true));
-            assert_eq!(rt; (reader.taken(), reader.consumed()), (65536, 1));
+            let read = read_calmly(&mut reader, &mut source);
+            same(&rt, "a line", read, Ok(true));
+            same(
+                &rt,
+                "taken",
+                (reader.taken(), reader.consumed()),
+                (65536, 1),
+            );
         }
         Err(NoMemory) => panic!(rt; "no memory"),
     }

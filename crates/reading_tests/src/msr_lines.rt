@@ -1,4 +1,5 @@
 //! Lines of MSR traces, read by hand.
+use crate::compared::same;
 use trace_lines::{LineKind, Span};
 use trace_msr::{MsrLine, parse};
 
@@ -32,7 +33,7 @@ fn gives_a_host_and_a_disk(rt: HostRuntime) {
             disk: *disk,
             span,
         };
-        assert_eq!(rt; parse(line, 4096), Ok(read), "at {line:?}");
+        same(&rt, *line, parse(line, 4096), Ok(read));
     }
 }
 
@@ -97,7 +98,7 @@ fn asks_for_each_block_that_is_touched(rt: HostRuntime) {
             disk: 0,
             span,
         };
-        assert_eq!(rt; parse(line, block), Ok(read), "at {line:?} by {block}");
+        same(&rt, (*line, block), parse(line, block), Ok(read));
     }
 }
 
@@ -116,7 +117,7 @@ fn asks_for_nothing_where_there_is_no_byte(rt: HostRuntime) {
             disk: 7,
             span: Span::Nothing,
         };
-        assert_eq!(rt; parse(line, 4096), Ok(read), "at {line:?}");
+        same(&rt, *line, parse(line, 4096), Ok(read));
     }
 }
 
@@ -181,6 +182,6 @@ const REFUSED: [(&[u8], LineKind); 35] = [
 #[test]
 fn names_the_first_check_that_fails(rt: HostRuntime) {
     for (line, kind) in &REFUSED {
-        assert_eq!(rt; parse(line, 4096), Err(*kind), "at {line:?}");
+        same(&rt, *line, parse(line, 4096), Err(*kind));
     }
 }

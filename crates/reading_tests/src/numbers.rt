@@ -1,4 +1,5 @@
 //! Numbers in decimal digits, divisors and ratios. The answers were worked out by hand.
+use crate::compared::same;
 use bound_base::{NumFault, Ratio, ceil_div, floor_div, gcd, lcm_to, read_u64, read_u128};
 
 const NUMBERS: [(&[u8], Result<u64, NumFault>); 13] = [
@@ -23,7 +24,7 @@ const NUMBERS: [(&[u8], Result<u64, NumFault>); 13] = [
 #[test]
 fn reads_numbers_and_names_the_first_fault(rt: HostRuntime) {
     for (bytes, want) in &NUMBERS {
-        assert_eq!(rt; read_u64(bytes), *want, "at {bytes:?}");
+        same(&rt, *bytes, read_u64(bytes), *want);
     }
 }
 
@@ -42,7 +43,7 @@ const WIDER_NUMBERS: [(&[u8], Result<u128, NumFault>); 6] = [
 #[test]
 fn reads_wider_numbers_in_the_same_way(rt: HostRuntime) {
     for (bytes, want) in &WIDER_NUMBERS {
-        assert_eq!(rt; read_u128(bytes), *want, "at {bytes:?}");
+        same(&rt, *bytes, read_u128(bytes), *want);
     }
 }
 
@@ -62,7 +63,7 @@ const DIVISORS: [(u64, u64, u64); 9] = [
 #[test]
 fn divides_both_and_is_greatest(rt: HostRuntime) {
     for (a, b, want) in &DIVISORS {
-        assert_eq!(rt; gcd(*a, *b), *want, "of {a} and {b}");
+        same(&rt, (*a, *b), gcd(*a, *b), *want);
     }
 }
 
@@ -83,7 +84,7 @@ const MULTIPLES: [(u64, u64, u64, Option<u64>); 10] = [
 fn multiple_is_least_and_within_the_limit(rt: HostRuntime) {
     for (a, b, limit, want) in &MULTIPLES {
         assert!(rt; *a >= 1 && *b >= 1);
-        assert_eq!(rt; lcm_to(*a, *b, *limit), *want, "of {a} and {b} to {limit}");
+        same(&rt, (*a, *b, *limit), lcm_to(*a, *b, *limit), *want);
     }
 }
 
@@ -103,7 +104,7 @@ fn rounds_down_and_up(rt: HostRuntime) {
         assert!(rt; den >= 1);
         let floors = [floor_div(num, den), Ratio { num, den }.floor()];
         let rounded = (floors, ceil_div(num, den));
-        assert_eq!(rt; rounded, ([*down; 2], *up), "of {num} and {den}");
+        same(&rt, (num, den), rounded, ([*down; 2], *up));
     }
 }
 
@@ -124,6 +125,6 @@ fn compares_by_cross_products(rt: HostRuntime) {
         let ((a, b), (c, d)) = (*this, *that);
         assert!(rt; b >= 1 && d >= 1);
         let answer = Ratio { num: a, den: b }.at_most(Ratio { num: c, den: d });
-        assert_eq!(rt; answer, *want, "of {this:?} and {that:?}");
+        same(&rt, (*this, *that), answer, *want);
     }
 }

@@ -2,6 +2,7 @@
 ghost use Rattle.std.specs.Prelude.{◌≡◌, ◌≤◌, ◌^◌, None, Err, true};
 ghost use Rattle.trace_any.specs.Readings.{IsFormat};
 
+use crate::compared::{holds, same};
 use bound_io::{CalmSource, MemSource};
 use cache_rules::Object;
 use std::alloc::Global;
@@ -279,12 +280,12 @@ fn check(rt: &impl Abort, alloc: Global, row: &Row<'_>) -> Result<(), Fail> {
                 size: *size,
             };
             let given = gives(alloc, &mut reader, &mut source, Ok(Some(object)));
-            assert!(rt; given, "step {step}");
+            holds(rt, step, given);
         }
         let ends = gives(alloc, &mut reader, &mut source, row.end);
         let ends_again = gives(alloc, &mut reader, &mut source, row.end);
-        assert!(rt; ends && ends_again, "step {step}");
-        assert_eq!(rt; reader.dropped(), row.dropped, "step {step}");
+        holds(rt, step, ends && ends_again);
+        same(rt, step, reader.dropped(), row.dropped);
     }
     Ok(())
 }
@@ -360,10 +361,14 @@ fn check_part(rt: &impl Abort, alloc: Global, part: &Part<'_>) -> Result<(), Fai
     let mut source = MemSource::new(part.trace.to_vec(alloc)?, fails, part.step);
     let mut reader = RequestReader::new(alloc, Format::Webcache, Limits::full())?;
     for want in part.first {
-        assert!(rt; gives(alloc, &mut reader, &mut source, *want));
+        holds(
+            rt,
+            "a request",
+            gives(alloc, &mut reader, &mut source, *want),
+        );
     }
     let loaded = sizes_loaded(alloc, &mut reader, &mut source);
-    assert_eq!(rt; loaded, part.loaded);
+    same(rt, "what is loaded", loaded, part.loaded);
     Ok(())
 }
 

@@ -1,4 +1,5 @@
 //! Scores of the keeps of a few requests, counted by hand.
+use crate::compared::same;
 use cache_rules::{Builder, Object, Objective, Overfull, Trace, score};
 use std::alloc::Global;
 use std::process::Abort;
@@ -125,6 +126,6 @@ fn scores_keeps_that_fit_and_names_the_first_load_that_does_not(rt: HostRuntime)
         let trace = trace_of(&rt, rt.alloc(), requests);
         assert!(rt; keeps.len() == trace.len() as usize, "{name}");
         let scored = score(&trace, *capacity, *objective, keeps);
-        assert_eq!(rt; scored, *answer, "{name}");
+        same(&rt, *name, scored, *answer);
     }
 }

@@ -1,6 +1,7 @@
 //! Sinks in memory and over files.
 ghost use Rattle.std.specs.Prelude.{◌≤◌};
 
+use crate::compared::same;
 use bound_base::NoMemory;
 use bound_io::{Failed, FileSink, GrowSink, MemSink, Sink, write_all};
 use std::alloc::Global;
@@ -11,7 +12,7 @@ type Row = (&'static [u8], Result<usize, Failed>);
 
 fn write_each<K: Sink>(rt: &impl Abort, sink: &mut K, rows: &[Row]) {
     for (piece, want) in rows {
-        assert_eq!(rt; sink.write(piece), *want, "at {piece:?}");
+        same(rt, *piece, sink.write(piece), *want);
     }
 }
 
@@ -38,8 +39,9 @@ const INTO_SEVEN_BYTES: [Row; 8] = [
 fn a_failed_write_takes_nothing_and_a_full_sink_fails(rt: HostRuntime) -> Result<(), NoMemory> {
     let mut sink = sink_of(rt.alloc(), 7, 2, 3)?;
     write_each(&rt, &mut sink, &INTO_SEVEN_BYTES);
-    assert_eq!(rt; sink.written(), b"abcdefg".as_slice());
-    assert_eq!(rt; sink.into_bytes().as_slice(), b"abcdefg".as_slice());
+    let want = b"abcdefg".as_slice();
+    same(&rt, "written", sink.written(), want);
+    same(&rt, "the bytes", sink.into_bytes().as_slice(), want);
     Ok(())
 }
 
@@ -49,7 +51,8 @@ const WHOLE: [Row; 3] = [(b"two ", Ok(4)), (b"", Ok(0)), (b"pieces", Ok(6))];
 fn keeps_each_piece_whole(rt: HostRuntime) {
     let mut sink = GrowSink::new(rt.alloc());
     write_each(&rt, &mut sink, &WHOLE);
-    assert_eq!(rt; sink.into_bytes().as_slice(), b"two pieces".as_slice());
+    let bytes = sink.into_bytes();
+    same(&rt, "the bytes", bytes.as_slice(), b"two pieces".as_slice());
 }
 
 #[test]
@@ -93,7 +96,8 @@ fn writes_all_or_stops_at_the_first_fault_and_goes_on_after_it(
 ) -> Result<(), NoMemory> {
     for (place, row) in BOTH.iter().enumerate() {
         let (whole, bytes) = write_both(rt.alloc(), row)?;
-        assert_eq!(rt; (whole, bytes.as_slice()), (row.4, row.5), "row {place}");
+        same(&rt, place, whole, row.4);
+        same(&rt, place, bytes.as_slice(), row.5);
     }
     Ok(())
 }

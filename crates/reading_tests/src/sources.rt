@@ -1,4 +1,5 @@
 //! Sources in memory and over files.
+use crate::compared::{holds, same};
 use bound_base::NoMemory;
 use bound_io::{
     CalmSource, Failed, FileSink, FileSource, LineReader, MemSource, Source, write_all,
@@ -16,8 +17,8 @@ fn read_each<S: Source>(rt: &impl Abort, source: &mut S, room: usize, rows: &[Ro
     assert!(rt; room <= 5);
     for (front, want) in rows {
         let mut buf = [0; 5];
-        assert_eq!(rt; source.read(&mut buf[..room]), *want, "before {front:?}");
-        assert!(rt; buf.starts_with(front), "before {front:?}");
+        same(rt, *front, source.read(&mut buf[..room]), *want);
+        holds(rt, *front, buf.starts_with(front));
     }
 }
 
@@ -89,15 +90,15 @@ const PATH: &str = "bound_io_reads_what_was_written";
 #[test]
 fn reads_what_was_written(rt: HostRuntime) -> Result<(), NoMemory> {
     let older = fs::write(&rt, PATH, b"an older and longer text".as_slice());
-    assert_eq!(rt; older.is_ok(), true);
+    holds(&rt, "an older file", older.is_ok());
     let written = write_file(&rt, rt.alloc(), PATH, &[b"one line\n", b"and one"])?;
-    assert_eq!(rt; written, Ok(()));
+    same(&rt, "the file", written, Ok(()));
     let mut source = FileSource::new(&rt, rt.alloc(), PATH)?;
     let mut lines = LineReader::new(rt.alloc(), 100)?;
-    assert!(rt; gives(&mut lines, &mut source, Some(b"one line")));
-    assert!(rt; gives(&mut lines, &mut source, Some(b"and one")));
-    assert!(rt; gives(&mut lines, &mut source, None));
-    assert_eq!(rt; fs::remove_file(&rt, PATH).is_ok(), true);
+    holds(&rt, 1, gives(&mut lines, &mut source, Some(b"one line")));
+    holds(&rt, 2, gives(&mut lines, &mut source, Some(b"and one")));
+    holds(&rt, 3, gives(&mut lines, &mut source, None));
+    holds(&rt, "its removal", fs::remove_file(&rt, PATH).is_ok());
     Ok(())
 }
 
@@ -105,9 +106,9 @@ fn reads_what_was_written(rt: HostRuntime) -> Result<(), NoMemory> {
 fn a_missing_file_and_a_folder_are_faults(rt: HostRuntime) -> Result<(), NoMemory> {
     for path in ["no_such_folder/no_such_file", "."] {
         let read = read_file(&rt, rt.alloc(), path)?;
-        assert_eq!(rt; read, Err(Failed), "reading {path}");
+        same(&rt, path, read, Err(Failed));
         let written = write_file(&rt, rt.alloc(), path, &[b"x"])?;
-        assert_eq!(rt; written, Err(Failed), "writing {path}");
+        same(&rt, path, written, Err(Failed));
     }
     Ok(())
 }

@@ -1,4 +1,5 @@
 //! Texts against lines that were written by hand.
+use crate::compared::same;
 use bound_base::NoMemory;
 use bound_report::{
     BoundFacts, InvalidKind, LimitName, Mode, Refusal, Verdict, Window, WordKind, refusal_text,
@@ -53,7 +54,7 @@ unit 2 units 3 denominator 3\nintervals 1\nupper 14/3 floor 4\nflow 13/3\nlower 
 
 #[test]
 fn reports_each_mode(rt: HostRuntime) -> Result<(), NoMemory> {
-    for (mode, price, want) in &REPORTS {
+    for (row, (mode, price, want)) in REPORTS.iter().enumerate() {
         let facts = BoundFacts {
             header: HEADER,
             objects: 2,
@@ -63,7 +64,7 @@ fn reports_each_mode(rt: HostRuntime) -> Result<(), NoMemory> {
             intervals: 1,
         };
         let text = report_text(rt.alloc(), &facts)?;
-        assert_eq!(rt; text.as_slice(), *want);
+        same(&rt, row, text.as_slice(), *want);
     }
     Ok(())
 }
@@ -77,7 +78,7 @@ fn says_yes_in_eight_lines(rt: HostRuntime) -> Result<(), NoMemory> {
     let text = verdict_text(rt.alloc(), &verdict, 6)?;
     let want = b"trace requests 4 objects 2 dropped 6\ncapacity 7 objective bytes\nform exact\n\
 unit 2 units 3 denominator 3\nupper 14/3 floor 4\nflow 13/3\nlower 4\nvalid\n";
-    assert_eq!(rt; text.as_slice(), want.as_slice());
+    same(&rt, "a verdict", text.as_slice(), want.as_slice());
     Ok(())
 }
 
@@ -110,12 +111,12 @@ const INVALID: [(InvalidKind, &[u8]); 6] = [
 
 #[test]
 fn names_what_makes_a_certificate_invalid(rt: HostRuntime) {
-    for (kind, want) in &INVALID {
+    for (row, (kind, want)) in INVALID.iter().enumerate() {
         let text = refusal_text(&Refusal::Invalid {
             line: 7,
             kind: *kind,
         });
-        assert_eq!(rt; text.as_bytes(), *want);
+        same(&rt, row, text.as_bytes(), *want);
     }
 }
 
@@ -153,8 +154,8 @@ const OTHERS: [(Refusal, &[u8]); 8] = [
 
 #[test]
 fn refuses_in_one_line(rt: HostRuntime) {
-    for (refusal, want) in &OTHERS {
+    for (row, (refusal, want)) in OTHERS.iter().enumerate() {
         let text = refusal_text(refusal);
-        assert_eq!(rt; text.as_bytes(), *want);
+        same(&rt, row, text.as_bytes(), *want);
     }
 }

@@ -1,4 +1,5 @@
 //! A trace of a few requests, counted by hand.
+use crate::compared::same;
 use cache_rules::{Builder, Object, Trace};
 use std::alloc::Global;
 use std::process::Abort;
@@ -65,12 +66,12 @@ const REQUESTS: [(u32, Option<u32>, Option<u32>); 7] = [
 #[test]
 fn names_each_object_and_its_nearest_requests(rt: HostRuntime) {
     let trace = trace_of(&rt, rt.alloc(), &[A, B, A, C, B, A, D]);
-    assert_eq!(rt; (trace.len(), trace.objects()), (7, 4));
+    same(&rt, "counts", (trace.len(), trace.objects()), (7, 4));
     for (t, want) in REQUESTS.iter().enumerate() {
         let t = t as u32;
         assert!(rt; t < trace.len());
         let found = (trace.request(t), trace.prev(t), trace.next(t));
-        assert_eq!(rt; found, *want, "of request {t}");
+        same(&rt, t, found, *want);
     }
 }
 
@@ -81,6 +82,6 @@ fn gives_each_object_and_its_size(rt: HostRuntime) {
         let number = number as u32;
         assert!(rt; number < trace.objects());
         let found = (trace.object(number), trace.size_of(number));
-        assert_eq!(rt; found, (*object, object.size), "of object {number}");
+        same(&rt, number, found, (*object, object.size));
     }
 }

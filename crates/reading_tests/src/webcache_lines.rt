@@ -1,4 +1,5 @@
 //! Lines of webcache traces, read by hand.
+use crate::compared::same;
 use trace_lines::{LineKind, Span};
 use trace_webcache::parse;
 
@@ -57,6 +58,6 @@ const ROWS: [(&[u8], Answer); 27] = [
 #[test]
 fn gives_an_id_and_a_size_or_the_first_fault(rt: HostRuntime) {
     for (line, want) in &ROWS {
-        assert_eq!(rt; parse(line), *want, "at {line:?}");
+        same(&rt, *line, parse(line), *want);
     }
 }

@@ -1,4 +1,5 @@
 //! Words and fields of lines, taken apart by hand.
+use crate::compared::same;
 use trace_lines::{field, first_field, first_word, is_blank, trim_cr, word};
 
 // The field with that number where the mark is a comma, else the word.
@@ -37,7 +38,7 @@ const FOUND: [(u8, &[u8], usize, &[u8]); 18] = [
 fn finds_fields_and_words_by_number(rt: HostRuntime) {
     for (mark, line, number, found) in &FOUND {
         let part = part(*mark, line, *number);
-        assert_eq!(rt; part, Some(*found), "part {number} of {line:?}");
+        same(&rt, *line, part, Some(*found));
     }
 }
 
@@ -56,7 +57,7 @@ fn finds_no_field_or_word_past_the_last(rt: HostRuntime) {
     for (mark, line, number) in &MISSING {
         assert!(rt; *number >= 1);
         let part = part(*mark, line, *number);
-        assert!(rt; part.is_none(), "part {number} of {line:?}");
+        same(&rt, *line, part.is_none(), true);
     }
 }
 
@@ -71,7 +72,7 @@ const FIRST_FIELDS: [(&[u8], &[u8], &[u8]); 5] = [
 #[test]
 fn takes_the_first_field_off(rt: HostRuntime) {
     for (line, first, rest) in &FIRST_FIELDS {
-        assert_eq!(rt; first_field(line), (*first, Some(*rest)), "at {line:?}");
+        same(&rt, *line, first_field(line), (*first, Some(*rest)));
     }
 }
 
@@ -80,7 +81,7 @@ const ONE_FIELD: [&[u8]; 2] = [b"12", b""];
 #[test]
 fn leaves_nothing_after_the_last_field(rt: HostRuntime) {
     for line in &ONE_FIELD {
-        assert_eq!(rt; first_field(line), (*line, None), "at {line:?}");
+        same(&rt, *line, first_field(line), (*line, None));
     }
 }
 
@@ -95,7 +96,7 @@ const FIRST_WORDS: [(&[u8], &[u8], &[u8]); 5] = [
 #[test]
 fn takes_the_first_word_off(rt: HostRuntime) {
     for (line, first, rest) in &FIRST_WORDS {
-        assert_eq!(rt; first_word(line), Some((*first, *rest)), "at {line:?}");
+        same(&rt, *line, first_word(line), Some((*first, *rest)));
     }
 }
 
@@ -114,7 +115,7 @@ const BLANKS: [(&[u8], bool); 8] = [
 fn knows_a_blank_line_which_has_no_first_word(rt: HostRuntime) {
     for (line, blank) in &BLANKS {
         let found = (is_blank(line), first_word(line).is_none());
-        assert_eq!(rt; found, (*blank, *blank), "at {line:?}");
+        same(&rt, *line, found, (*blank, *blank));
     }
 }
 
@@ -131,6 +132,6 @@ const TRIMMED: [(&[u8], &[u8]); 7] = [
 #[test]
 fn drops_one_last_cr(rt: HostRuntime) {
     for (line, text) in &TRIMMED {
-        assert_eq!(rt; trim_cr(line), *text, "at {line:?}");
+        same(&rt, *line, trim_cr(line), *text);
     }
 }
