@@ -1,4 +1,5 @@
 //! The least constant prices of small traces.
+use crate::compared::same;
 use crate::made::intervals_of;
 use cache_rules::Objective;
 use constant_price::least;
@@ -145,7 +146,7 @@ fn least_of(rt: &impl Abort, alloc: Global, row: &Row<'_>) -> Result<u128, Fail>
 fn check_all(rt: &impl Abort, alloc: Global, rows: &[Row<'_>]) -> Result<(), Fail> {
     for row in rows {
         let price = least_of(rt, alloc, row)?;
-        assert_eq!(rt; price, row.price, "{}", row.shows);
+        same(rt, row.shows, price, row.price);
     }
     Ok(())
 }

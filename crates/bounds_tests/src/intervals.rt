@@ -1,4 +1,5 @@
 //! The intervals of small traces, worked out by hand.
+use crate::compared::same;
 use crate::made::intervals_of_sizes;
 use cache_rules::Objective;
 use interval_maker::Interval;
@@ -57,8 +58,8 @@ const FITTING: [(u64, Objective, &[Interval]); 3] = [
 fn finds_all_that_fit_by_start_and_end(rt: HostRuntime) -> Result<(), Fail> {
     for (capacity, objective, want) in &FITTING {
         let made = intervals_of_sizes(&rt, rt.alloc(), &SIZES, *capacity, *objective)?;
-        assert_eq!(rt; made.as_slice(), *want, "at {capacity}");
-        assert_eq!(rt; made.steps(), 7, "at {capacity}");
+        same(&rt, *capacity, made.as_slice(), *want);
+        same(&rt, *capacity, made.steps(), 7);
     }
     Ok(())
 }
@@ -80,7 +81,7 @@ fn numbers_them_by_start(rt: HostRuntime) -> Result<(), Fail> {
     for (t, want) in NUMBERS.iter().enumerate() {
         let t = t as u32;
         assert!(rt; t < made.steps());
-        assert_eq!(rt; (made.starting(t), made.ending(t)), *want, "at request {t}");
+        same(&rt, t, (made.starting(t), made.ending(t)), *want);
     }
     Ok(())
 }

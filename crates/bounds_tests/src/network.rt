@@ -1,6 +1,7 @@
 //! A small network. The numbers were worked out by hand.
 ghost use Rattle.std.specs.Prelude.{◌≡◌, [], ◌∷◌, length, IfOk};
 
+use crate::compared::same;
 use bound_base::NoMemory;
 use flow_network::{Edge, Network};
 use relaxation::{Instance, OuterArc};
@@ -49,11 +50,13 @@ fn a_unit_along_the_arc_can_be_taken_back(rt: HostRuntime) -> Result<(), Fail> {
     let alloc = rt.alloc();
     let instance = over_both(alloc)?;
     let mut network = Network::new(alloc, &instance)?;
-    assert_eq!(rt; room(&network), [3, 3, 0, 2, 0]);
+    same(&rt, "the room at first", room(&network), [3, 3, 0, 2, 0]);
     network.set_potential(0, 7);
-    assert_eq!(rt; (network.potential(0), reduced(&network)), (7, [-2, 2]));
+    let costs = (network.potential(0), reduced(&network));
+    same(&rt, "the reduced costs", costs, (7, [-2, 2]));
     network.push(&[Edge::Outer(0)], 1);
-    assert_eq!(rt; room(&network), [2, 3, 0, 1, 1]);
-    assert_eq!(rt; network.into_flows().as_slice(), [1].as_slice());
+    same(&rt, "the room then", room(&network), [2, 3, 0, 1, 1]);
+    let flows = network.into_flows();
+    same(&rt, "the flows", flows.as_slice(), [1].as_slice());
     Ok(())
 }

@@ -1,6 +1,7 @@
 //! Schedules of small traces, rounded by hand.
 ghost use Rattle.std.specs.Prelude.{◌≡◌, false, replicate, IfOk};
 
+use crate::compared::same;
 use crate::made::intervals_of;
 use bound_base::NoMemory;
 use cache_rules::Objective;
@@ -69,7 +70,7 @@ fn takes_what_fits_in_order_of_rank(rt: HostRuntime) -> Result<(), Fail> {
         let (requests, hits) = (row.requests, Objective::Object);
         let intervals = intervals_of(&rt, rt.alloc(), requests, row.capacity, hits)?;
         let keeps = keeps_of(rt.alloc(), &intervals, row.capacity)?;
-        assert_eq!(rt; keeps.as_slice(), row.keeps, "{}", row.shows);
+        same(&rt, row.shows, keeps.as_slice(), row.keeps);
     }
     Ok(())
 }

@@ -2,6 +2,7 @@
 ghost use Rattle.std.specs.Prelude.{◌≡◌};
 ghost use Rattle.flow_model.specs.Instances.{IsInstance};
 
+use crate::compared::same;
 use crate::made::{THREE_ARCS, arc};
 use bound_base::NoMemory;
 use flow_solver::Solver;
@@ -38,8 +39,13 @@ fn earned(arcs: &[OuterArc], flows: &[u64]) -> u128 {
 #[test]
 fn prices_the_step_that_is_too_narrow(rt: HostRuntime) -> Result<(), Fail> {
     let (prices, flows) = solved(rt.alloc(), 6, 2, &THREE_ARCS)?;
-    assert_eq!(rt; prices.as_slice(), [0, 0, 1, 0, 0, 0].as_slice());
-    assert_eq!(rt; earned(&THREE_ARCS, &flows), 2);
+    same(
+        &rt,
+        "prices",
+        prices.as_slice(),
+        [0, 0, 1, 0, 0, 0].as_slice(),
+    );
+    same(&rt, "what is earned", earned(&THREE_ARCS, &flows), 2);
     Ok(())
 }
 
@@ -47,8 +53,8 @@ fn prices_the_step_that_is_too_narrow(rt: HostRuntime) -> Result<(), Fail> {
 #[test]
 fn splits_the_room_by_cost(rt: HostRuntime) -> Result<(), Fail> {
     let (prices, flows) = solved(rt.alloc(), 4, 4, &[arc(0, 2, 2, 3), arc(1, 3, 3, 2)])?;
-    assert_eq!(rt; prices.as_slice(), [0, 2, 0, 0].as_slice());
-    assert_eq!(rt; flows.as_slice(), [2, 2].as_slice());
+    same(&rt, "prices", prices.as_slice(), [0, 2, 0, 0].as_slice());
+    same(&rt, "flows", flows.as_slice(), [2, 2].as_slice());
     Ok(())
 }
 
@@ -57,13 +63,13 @@ fn splits_the_room_by_cost(rt: HostRuntime) -> Result<(), Fail> {
 fn takes_back_what_went_along_an_arc(rt: HostRuntime) -> Result<(), Fail> {
     let arcs = [arc(1, 3, 1, 5), arc(0, 2, 1, 4), arc(2, 4, 1, 4)];
     let (_, flows) = solved(rt.alloc(), 4, 1, &arcs)?;
-    assert_eq!(rt; flows.as_slice(), [0, 1, 1].as_slice());
+    same(&rt, "flows", flows.as_slice(), [0, 1, 1].as_slice());
     Ok(())
 }
 
 #[test]
 fn solves_without_steps(rt: HostRuntime) -> Result<(), Fail> {
     let (prices, flows) = solved(rt.alloc(), 0, 1, &[])?;
-    assert_eq!(rt; (prices.len(), flows.len()), (0, 0));
+    same(&rt, "counts", (prices.len(), flows.len()), (0, 0));
     Ok(())
 }

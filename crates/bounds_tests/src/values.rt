@@ -2,6 +2,7 @@
 ghost use Rattle.std.specs.Prelude.{◌≡◌, ◌≤◌, ◌^◌, true};
 ghost use Rattle.relaxation.specs.Denominators.{IsChoice};
 
+use crate::compared::same;
 use crate::made::{arc, intervals_of_sizes};
 use bound_base::NoMemory;
 use cache_rules::Objective;
@@ -30,7 +31,7 @@ const UNITS: [(&[u64], u64); 4] = [
 fn weighs_by_the_greatest_divisor(rt: HostRuntime) -> Result<(), Fail> {
     for (sizes, want) in &UNITS {
         let unit = unit_of(&intervals_of_sizes(&rt, rt.alloc(), sizes, LARGEST, HITS)?);
-        assert_eq!(rt; unit, *want, "of {sizes:?}");
+        same(&rt, *sizes, unit, *want);
     }
     Ok(())
 }
@@ -59,7 +60,7 @@ fn limit_step(rt: &impl Abort, alloc: Global, prices: &[u128], units: u64) -> Op
 fn sums_no_further_than_the_limit(rt: HostRuntime) {
     for (prices, units, want) in &SUMS {
         let step = limit_step(&rt, rt.alloc(), prices, *units);
-        assert_eq!(rt; step, *want, "of {prices:?} at {units} units");
+        same(&rt, (*prices, *units), step, *want);
     }
 }
 
@@ -136,7 +137,7 @@ fn denominator_is_within_its_limit(rt: HostRuntime) -> Result<(), Fail> {
         let intervals = intervals_of_sizes(&rt, rt.alloc(), row.sizes, LARGEST, row.objective)?;
         assert!(rt; is_choice(row.choice));
         let found = denominator_of(&intervals, row.choice);
-        assert_eq!(rt; found, row.want, "of {:?}", row.sizes);
+        same(&rt, row.sizes, found, row.want);
     }
     Ok(())
 }
@@ -146,7 +147,7 @@ fn bounds_are_over_the_denominator(rt: HostRuntime) -> Result<(), Fail> {
     let intervals = intervals_of_sizes(&rt, rt.alloc(), &BY_TURNS, LARGEST, HITS)?;
     assert_eq!(rt; intervals.steps(), 4);
     let sums = Sums::new(rt.alloc(), &[0, 2, 0, 0], 4)?;
-    assert_eq!(rt; bound_of(&intervals, 1, 4, 6, &sums), 10);
+    same(&rt, "the bound", bound_of(&intervals, 1, 4, 6, &sums), 10);
     Ok(())
 }
 
@@ -163,7 +164,7 @@ fn values_are_over_the_denominator(rt: HostRuntime) -> Result<(), Fail> {
     assert_eq!(rt; intervals.as_slice().len(), 2);
     for (flows, want) in &FLOWS {
         let value = flow_value(&intervals, 1, 4, 6, flows);
-        assert_eq!(rt; value, *want, "of {flows:?}");
+        same(&rt, *flows, value, *want);
     }
     Ok(())
 }
@@ -180,9 +181,9 @@ fn has_an_arc_for_each_interval(rt: HostRuntime) -> Result<(), Fail> {
     let intervals = intervals_of_sizes(&rt, rt.alloc(), &BY_TURNS, LARGEST, HITS)?;
     for (denominator, cost) in [(6, 3), (4, 2)] {
         let whole = whole_over(rt.alloc(), &intervals, denominator)?;
-        assert_eq!(rt; (whole.steps(), whole.units()), (4, 4));
+        same(&rt, denominator, (whole.steps(), whole.units()), (4, 4));
         let arcs = [arc(0, 2, 2, cost), arc(1, 3, 3, 2)];
-        assert_eq!(rt; whole.arcs(), arcs.as_slice(), "over {denominator}");
+        same(&rt, denominator, whole.arcs(), arcs.as_slice());
     }
     Ok(())
 }

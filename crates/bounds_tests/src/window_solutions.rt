@@ -2,6 +2,7 @@
 ghost use Rattle.std.specs.Prelude.{◌≡◌, ◌≤◌};
 ghost use Rattle.flow_model.specs.Instances.{IsInstance};
 
+use crate::compared::{holds, same};
 use crate::made::{THREE_ARCS, arc};
 use bound_base::NoMemory;
 use relaxation::{Instance, OuterArc};
@@ -29,9 +30,9 @@ fn one_window_prices_the_narrow_step(rt: HostRuntime) -> Result<(), Fail> {
     for width in [6, 7, u32::MAX] {
         let found = solved(rt.alloc(), 6, 2, &THREE_ARCS, width)?;
         let prices = found.prices();
-        assert_eq!(rt; prices, [0, 0, 1, 0, 0, 0].as_slice(), "of width {width}");
+        same(&rt, width, prices, [0, 0, 1, 0, 0, 0].as_slice());
         let flow = found.flows().iter().filter(|flow| **flow == 1).count();
-        assert_eq!(rt; flow, 2, "of width {width}");
+        same(&rt, width, flow, 2);
     }
     Ok(())
 }
@@ -40,12 +41,12 @@ fn one_window_prices_the_narrow_step(rt: HostRuntime) -> Result<(), Fail> {
 #[test]
 fn narrow_windows_price_less(rt: HostRuntime) -> Result<(), Fail> {
     let found = solved(rt.alloc(), 6, 2, &THREE_ARCS, 3)?;
-    assert_eq!(rt; found.prices().len(), 6);
+    same(&rt, "prices", found.prices().len(), 6);
     for (step, price) in found.prices().iter().enumerate() {
-        assert!(rt; step == 3 || *price == 0, "at step {step}");
+        holds(&rt, step, step == 3 || *price == 0);
     }
-    assert_eq!(rt; found.flows().first().copied(), Some(1));
-    assert_eq!(rt; found.full().first().copied(), Some(true));
+    same(&rt, "a flow", found.flows().first().copied(), Some(1));
+    same(&rt, "its flag", found.full().first().copied(), Some(true));
     Ok(())
 }
 
@@ -54,14 +55,15 @@ fn narrow_windows_price_less(rt: HostRuntime) -> Result<(), Fail> {
 fn flow_is_the_least_of_its_parts(rt: HostRuntime) -> Result<(), Fail> {
     let arcs = [arc(0, 4, 1, 10), arc(2, 4, 1, 20)];
     let found = solved(rt.alloc(), 4, 1, &arcs, 2)?;
-    assert_eq!(rt; found.flows(), [0, 1].as_slice());
-    assert_eq!(rt; found.full(), [false, true].as_slice());
+    same(&rt, "flows", found.flows(), [0, 1].as_slice());
+    same(&rt, "flags", found.full(), [false, true].as_slice());
     Ok(())
 }
 
 #[test]
 fn no_step_has_no_price(rt: HostRuntime) -> Result<(), Fail> {
     let found = solved(rt.alloc(), 0, 1, &[], 1)?;
-    assert_eq!(rt; (found.prices().len(), found.flows().len()), (0, 0));
+    let counts = (found.prices().len(), found.flows().len());
+    same(&rt, "counts", counts, (0, 0));
     Ok(())
 }

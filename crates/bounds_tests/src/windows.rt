@@ -1,6 +1,7 @@
 //! The windows of small instances, with parts that were worked out by hand.
 ghost use Rattle.std.specs.Prelude.{◌≡◌, IfOk};
 
+use crate::compared::same;
 use crate::made::arc;
 use bound_base::NoMemory;
 use relaxation::{Instance, OuterArc, Windows, window_instance};
@@ -95,12 +96,8 @@ fn shares_the_cost_and_leaves_the_rest_to_the_last(rt: HostRuntime) -> Result<()
     for (number, steps, arcs) in &PARTS {
         assert!(rt; *number < 4);
         let part = window_instance(rt.alloc(), &whole, 3, *number)?;
-        assert_eq!(rt;
-            (part.steps(), part.units()),
-            (*steps, 2),
-            "in window {number}"
-        );
-        assert_eq!(rt; part.arcs(), *arcs, "in window {number}");
+        same(&rt, *number, (part.steps(), part.units()), (*steps, 2));
+        same(&rt, *number, part.arcs(), *arcs);
     }
     Ok(())
 }
@@ -114,9 +111,9 @@ fn goes_through_the_windows_in_order(rt: HostRuntime) -> Result<(), Fail> {
     let mut windows = Windows::new(alloc, &whole, 3)?;
     for numbers in &NUMBERS {
         assert!(rt; windows.has_step());
-        assert_eq!(rt; windows.numbers(), *numbers);
+        same(&rt, *numbers, windows.numbers(), *numbers);
         let parts = windows.instance(alloc)?;
-        assert_eq!(rt; parts.arcs().len(), numbers.len());
+        same(&rt, *numbers, parts.arcs().len(), numbers.len());
         windows.advance();
     }
     assert!(rt; !windows.has_step());
