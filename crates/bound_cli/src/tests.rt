@@ -221,6 +221,7 @@ fn expect_yes<'x>(
     };
     let ended = done(rt, alloc, &row)?;
     assert!(rt; ended.report.ends_with(b"\nvalid\n"), "{words}");
+    assert!(rt; ended.made.is_empty(), "{words}");
     Ok(())
 }
 

@@ -1,5 +1,6 @@
 //! The words of the command line, in rows.
 use super::*;
+use bound_report::WordKind;
 use bound_run::{Paths, Plan, WordFault, paths_of, plan_of};
 use cache_model::Mode;
 use cache_rules::Objective;
@@ -136,5 +137,18 @@ fn paths_are_those_of_the_command(rt: HostRuntime) -> Result<(), Fail> {
         let words = words_of(rt.alloc(), text)?;
         assert!(rt; paths_of(&words) == *paths, "{text}");
     }
+    Ok(())
+}
+
+#[test]
+fn one_empty_word_is_no_command(rt: HostRuntime) -> Result<(), Fail> {
+    let alloc = rt.alloc();
+    let words = vec![in alloc; String::from_str(alloc, "")?]?;
+    let fault = WordFault {
+        place: 1,
+        kind: WordKind::Unknown,
+    };
+    assert!(rt; plan_of(&words) == Err(fault));
+    assert!(rt; paths_of(&words) == NO_PATHS);
     Ok(())
 }
