@@ -1,8 +1,10 @@
 //! Whether a certificate is valid for a trace, and what is said of it.
-ghost use Rattle.std.specs.Prelude.{IfOk, IfErr};
+ghost use Rattle.std.specs.Prelude.{◌≡◌, IfOk, IfErr};
 ghost use Rattle.bound_io.specs.Devices.{device};
 ghost use Rattle.bound_io.specs.Reading.{LosesFront};
-ghost use Rattle.trace_any.specs.Readings.{IsFormat};
+ghost use Rattle.cert_format.specs.Readers.{fresh as first_record};
+ghost use Rattle.trace_any.specs.Readers.{fresh as first_request};
+ghost use Rattle.trace_any.specs.Readings.{IsFormat, full_limits};
 ghost use Rattle.bound_run.specs.Parts.{IsYesText, RefusesCheck};
 
 use crate::status::refusal_of_check;
@@ -12,6 +14,27 @@ use cert_checker::check_streams;
 use cert_format::CertReader;
 use std::alloc::Global;
 use trace_any::{Format, Limits, RequestReader};
+
+// What is said of a certificate that is valid for the trace, as both are read to their ends. Neither was begun before.
+fn said_of<T: Source, Q: Source>(
+    alloc: Global,
+    requests: &mut RequestReader,
+    trace: &mut T,
+    records: &mut CertReader,
+    cert: &mut Q,
+) -> Result<Vec<u8>, Refusal>
+    requires requests { requests.old ≡ first_request requests.old.format full_limits }
+    requires records { records.old ≡ first_record }
+    ensures yes_text { IfOk result (λ text. IsYesText requests.old.format (device (T.left trace.old) (T.left trace.new) (T.faults trace.old) (T.faults trace.new)) (device (Q.left cert.old) (Q.left cert.new) (Q.faults cert.old) (Q.faults cert.new)) text.items) }
+    ensures refused { IfErr result (RefusesCheck requests.old.format (device (T.left trace.old) (T.left trace.new) (T.faults trace.old) (T.faults trace.new)) (device (Q.left cert.old) (Q.left cert.new) (Q.faults cert.old) (Q.faults cert.new))) }
+    ensures trace_source { LosesFront (T.left trace.old) (T.left trace.new) }
+    ensures cert_source { LosesFront (Q.left cert.old) (Q.left cert.new) }
+{
+    match check_streams(alloc, requests, trace, records, cert) {
+        Ok(verdict) => Ok(verdict_text(alloc, &verdict, requests.dropped())?),
+        Err(fault) => Err(refusal_of_check(fault)),
+    }
+}
 
 /// What is said of a certificate that is valid for the trace, as both are read to their ends.
 pub fn verdict_of<T: Source, Q: Source>(
@@ -26,10 +49,7 @@ pub fn verdict_of<T: Source, Q: Source>(
     ensures trace_source { LosesFront (T.left trace.old) (T.left trace.new) }
     ensures cert_source { LosesFront (Q.left cert.old) (Q.left cert.new) }
 {
-    let mut requests = RequestReader::new(alloc, format, Limits::full())?;
     let mut records = CertReader::new(alloc)?;
-    match check_streams(alloc, &mut requests, trace, &mut records, cert) {
-        Ok(verdict) => Ok(verdict_text(alloc, &verdict, requests.dropped())?),
-        Err(fault) => Err(refusal_of_check(fault)),
-    }
+    let mut requests = RequestReader::new(alloc, format, Limits::full())?;
+    said_of(alloc, &mut requests, trace, &mut records, cert)
 }

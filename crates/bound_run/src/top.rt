@@ -33,8 +33,11 @@ fn load_all<T: Source>(
     ensures refused { IfErr result (RefusesLoading format (device (T.left trace.old) (T.left trace.new) (T.faults trace.old) (T.faults trace.new))) }
     ensures source { LosesFront (T.left trace.old) (T.left trace.new) }
 {
-    let mut reader = RequestReader::new(alloc, format, Limits::full())?;
-    match load(alloc, &mut reader, trace) {
+    let read = {
+        let mut reader = RequestReader::new(alloc, format, Limits::full())?;
+        load(alloc, &mut reader, trace)
+    };
+    match read {
         Ok(read) => Ok(read),
         Err(fault) => Err(refusal_of(fault)),
     }
@@ -55,8 +58,11 @@ fn prepare<T: Source>(
     ensures refused { IfErr result (RefusesBounds format asked.now (device (T.left trace.old) (T.left trace.new) (T.faults trace.old) (T.faults trace.new))) }
     ensures source { LosesFront (T.left trace.old) (T.left trace.new) }
 {
-    let (requests, dropped) = load_all(alloc, format, trace)?;
-    Ok(texts_of(alloc, asked, &requests, dropped)?)
+    let texts = {
+        let (requests, dropped) = load_all(alloc, format, trace)?;
+        texts_of(alloc, asked, &requests, dropped)
+    };
+    Ok(texts?)
 }
 
 // Writes the line that tells why the run stopped, as far as the report takes it.

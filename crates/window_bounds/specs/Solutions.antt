@@ -1,10 +1,11 @@
 -- Solutions of the windows of an instance, and the prices and flows that they give the whole.
-use Rattle.std.specs.Prelude.{◌≡◌, ℕ, ◌+◌, ◌*◌, ◌<◌, ◌≤◌, ◌==◌, Bool, IsTrue, List, length, count_by, map, slice_index, slice_range, sum_by, take, zip}
+use Rattle.std.specs.Prelude.{◌≡◌, ℕ, ◌+◌, ◌*◌, ◌<◌, ◌≤◌, ◌==◌, Bool, IsTrue, List, ◌++◌, if◌then◌else◌, length, count_by, map, min, slice_index, slice_range, sum_by, take, zip}
 use Rattle.std.specs.Int.{div_ceil}
 use Rattle.std.specs.List.{range_with_len}
 use Rattle.flow_model.specs.declared.arcs.OuterArc.{OuterArc}
 use Rattle.flow_model.specs.Instances.{Instance, IsSolution, arc_at, value_at}
 use Rattle.flow_model.specs.Windows.{meets, window_instance}
+use Rattle.relaxation.specs.Cuts.{Cut}
 
 -- a price for each step, and for each arc a flow and whether that is its weight
 pub record Answer : Type 0 where
@@ -23,6 +24,15 @@ prices_in width k prices = slice_range prices (width * k) (width * (k + 1))
 -- the flow of the part of arc i, among the flows of window k: as many parts stand before it as arcs before arc i meet the window
 abbrev pub flow_in : Instance → ℕ → ℕ → List ℕ → ℕ → ℕ
 flow_in whole width k flows i = slice_index flows (count_by (meets width k) (take i whole.arcs))
+
+-- one more window is solved: its prices come after those before, and the flow of each arc that meets it is at most that of its part
+pub record IsNextSolution (cut : Cut) (prices flows next_prices next_flows : List ℕ) : Type 0 where
+  pub found : List ℕ
+  pub parts : List ℕ
+  pub solution : IsSolution (window_instance cut.whole cut.width cut.number) found parts
+  pub extended : next_prices ≡ prices ++ found
+  pub lowered : (i : ℕ) → i < length flows → slice_index next_flows i
+      ≡ (if meets cut.width cut.number (arc_at cut.whole.arcs i) then min (slice_index flows i) (flow_in cut.whole cut.width cut.number parts i) else slice_index flows i)
 
 -- of the flows of the parts of arc i, in all windows that it meets, this is the least
 pub record IsLeastFlow (whole : Instance) (width : ℕ) (flows : ℕ → List ℕ) (i least : ℕ) : Type 0 where

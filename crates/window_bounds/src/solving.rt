@@ -3,7 +3,7 @@ ghost use Rattle.std.specs.Prelude.{◌≡◌, ℕ, ◌*◌, ◌-◌, ◌<◌, �
 ghost use Rattle.flow_model.specs.Instances.{IsSchedule, IsSolution, arc_at, value_at};
 ghost use Rattle.flow_model.specs.Windows.{meets};
 ghost use Rattle.relaxation.specs.Cuts.{numbers_of};
-ghost use Rattle.window_bounds.specs.Solutions.{AreSolutions, flow_in, full_of, value_of_windows};
+ghost use Rattle.window_bounds.specs.Solutions.{AreSolutions, IsNextSolution, flow_in, full_of, value_of_windows};
 
 use crate::solution::WindowSolution;
 use bound_base::NoMemory;
@@ -55,6 +55,24 @@ fn solve_whole(alloc: Global, whole: &Instance) -> Result<(Vec<u128>, Vec<u64>),
     Ok((prices, flows))
 }
 
+// Solves the current window. Its prices come after those before, and the flows fall to those of its parts.
+fn solve_window(
+    alloc: Global,
+    windows: &Windows,
+    prices: &mut Vec<u128>,
+    flows: &mut [u64],
+) -> Result<(), NoMemory>
+    requires has_step { windows.now.width * windows.now.number < windows.now.whole.steps }
+    requires each_arc { length flows.old ≡ length windows.now.whole.arcs }
+    ensures { IfOk result (λ done. IsNextSolution windows.now prices.old.items flows.old prices.new.items flows.new) }
+{
+    let window = windows.instance(alloc)?;
+    let solution = Solver::new(alloc, &window)?.solve();
+    prices.extend_from_slice(solution.prices())?;
+    lower(windows, solution.flows(), flows);
+    Ok(())
+}
+
 // Prices of the steps and flows of the arcs, from one window after another.
 fn solve_each(
     alloc: Global,
@@ -68,10 +86,7 @@ fn solve_each(
     let mut flows = weights_of(alloc, whole.arcs())?;
     let mut windows = Windows::new(alloc, whole, width)?;
     while windows.has_step() {
-        let window = windows.instance(alloc)?;
-        let solution = Solver::new(alloc, &window)?.solve();
-        prices.extend_from_slice(solution.prices())?;
-        lower(&windows, solution.flows(), &mut flows);
+        solve_window(alloc, &windows, &mut prices, &mut flows)?;
         windows.advance();
     }
     Ok((prices, flows))

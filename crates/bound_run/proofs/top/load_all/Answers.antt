@@ -10,6 +10,6 @@ returns-in-Ok-clause-loaded g c =
     let read = c.in-Ok.read in
     let new : reader ≡ fresh c.args.format full_limits = c.in_ok-reader.ensures ∙ ap (fresh c.args.format) c.full.ensures in
     let none : reader.fault ≡ None = ap (λ r. r.fault) new in
-    let whole = subst (λ r. IfSome (told r (g.T.Source.left c.args.trace.now)) (λ bytes. IsWhole (to_come r bytes) read.0 read.1)) new (rw c.in-Ok.is at (c.load.ensures.whole none)) in
-    let end = subst (λ r. IfSome (told r (g.T.Source.left c.args.trace.now)) (λ _. told c.load.new.reader (g.T.Source.left c.load.new.source) ≡ Some [])) new (rw c.in-Ok.is at (c.load.ensures.end none)) in
-    loaded_all c.args.format _ _ _ _ _ _ whole (nothing_left _ _ c.load.new.reader.lines.held end)
+    let whole = subst (λ r. IfSome (told r (g.T.Source.left c.args.trace.now)) (λ bytes. IsWhole (to_come r bytes) read.0 read.1)) new (rw c.in-Ok.is at (c.load-read.ensures.whole none)) in
+    let end = subst (λ r. IfSome (told r (g.T.Source.left c.args.trace.now)) (λ _. told c.load-read.new.reader (g.T.Source.left c.load-read.new.source) ≡ Some [])) new (rw c.in-Ok.is at (c.load-read.ensures.end none)) in
+    loaded_all c.args.format _ _ _ _ _ _ whole (nothing_left _ _ c.load-read.new.reader.lines.held end)

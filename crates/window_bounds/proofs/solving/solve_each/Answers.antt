@@ -18,36 +18,25 @@ loop-alloc-init c =
           c.in_ok-prices.ensures.items (rw c.arcs.ensures.arcs at c.in_ok-flows.ensures);
     }
 
-pub lower-requires-clause-each_part : goal.lower-requires-clause-each_part
-lower-requires-clause-each_part c =
-    let cut = c.loop-alloc.windows in
-    let solution : IsSolution (window_instance cut.whole cut.width cut.number) c.solve-solution.result.prices c.solve-solution.result.flows =
-    subst (λ (i : Instance). IsSolution i c.solve-solution.result.prices c.solve-solution.result.flows) (c.in_ok-new.ensures ∙ c.in_ok-window.ensures) c.solve-solution.ensures in
-    rw c.flows.ensures (as_many_parts cut.whole cut.width cut.number c.solve-solution.result.flows solution.schedule)
-
 pub loop-alloc-preserved : goal.loop-alloc-preserved
 loop-alloc-preserved c =
     let whole = c.args.whole.now in
     let width = c.args.width in
-    let cut = c.loop-alloc.windows in
+    let n = c.loop-alloc.windows.number in
     let before = c.loop-alloc.invariant in
-    let found = c.solve-solution.result in
     let prices = c.loop-alloc.prices.items in
     let flows = c.loop-alloc.flows.items in
-    let new = c.lower.new.flows in
-    let is_window : c.in_ok-new.field-0 ≡ window_instance whole width cut.number =
-    c.in_ok-new.ensures ∙ c.in_ok-window.ensures ∙ ap (λ (i : Instance). window_instance i cut.width cut.number) before.whole ∙ ap (λ n. window_instance whole n cut.number) before.width in
-    let solution : IsSolution (window_instance whole width cut.number) found.prices found.flows = subst (λ (i : Instance). IsSolution i found.prices found.flows) is_window c.solve-solution.ensures in
+    let next = rw (before.whole, before.width) at c.in_ok-solve_window.ensures in
+    let new = c.solve_window.new.flows in
     let has_step = rw (before.whole, before.width) at (c.has_step.ensures.0 c.loop-alloc-test.true) in
-    let lower = rw (c.deref_mut.ensures.value, c.flows.ensures, before.whole, before.width) at c.lower.ensures in
-    let many : length new ≡ length flows = omega (arith, c.lower.auto.flows, ap length c.deref_mut.ensures.value) in
-    let extended : c.extend_from_slice.new.self.items ≡ prices ++ found.prices = c.in_ok-extend_from_slice.ensures.items ∙ ap (λ (xs : List ℕ). prices ++ xs) c.prices.ensures in
-    let number : c.advance.new.self.number ≡ cut.number + 1 = ap (λ (next : Cut). next.number) c.advance.ensures in
-    let more : AreSolved whole width (cut.number + 1) (prices ++ found.prices) new = solved_more whole width cut.number prices flows found.prices found.flows new has_step before.solved solution many lower in
+    let lower = rw c.deref_mut.ensures.value at next.lowered in
+    let many : length new ≡ length flows = omega (arith, c.solve_window.auto.flows, ap length c.deref_mut.ensures.value) in
+    let number : c.advance.new.self.number ≡ n + 1 = ap (λ (next : Cut). next.number) c.advance.ensures in
+    let more : AreSolved whole width (n + 1) (prices ++ next.found) new = solved_more whole width n prices flows next.found next.parts new has_step before.solved next.solution many lower in
     record {
       whole = ap (λ (next : Cut). next.whole) c.advance.ensures ∙ before.whole;
       width = ap (λ (next : Cut). next.width) c.advance.ensures ∙ before.width;
-      solved = rw (number, extended, written flows new c.loop-alloc.flows.len many c.loop-alloc.flows.ok.0) more;
+      solved = rw (number, next.extended, written flows new c.loop-alloc.flows.len many c.loop-alloc.flows.ok.0) more;
     }
 
 pub returns : goal.returns

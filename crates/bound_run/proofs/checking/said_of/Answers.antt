@@ -1,0 +1,21 @@
+use Rattle.std.proofs.Common.{sym}
+use Rattle.cert_checker.specs.Checks.{inputs}
+use Rattle.bound_run.proofs.Judged.{accepted, refused}
+use Rattle.bound_run.proofs.checking.said_of.Goals as goal
+
+pub returns-in_ok-verdict_text-in-Ok-clause-yes_text : goal.returns-in_ok-verdict_text-in-Ok-clause-yes_text
+returns-in_ok-verdict_text-in-Ok-clause-yes_text g c =
+    let start = inputs c.args.requests.now (g.T.Source.left c.args.trace.now) (g.T.Source.faults c.args.trace.now) c.args.records.now (g.Q.Source.left c.args.cert.now) (g.Q.Source.faults c.args.cert.now) in
+    let end = inputs c.check_streams.new.reader (g.T.Source.left c.check_streams.new.trace) (g.T.Source.faults c.check_streams.new.trace) c.check_streams.new.cert (g.Q.Source.left c.check_streams.new.certificate) (g.Q.Source.faults c.check_streams.new.certificate) in
+    record {
+      verdict = c.in-Ok.verdict;
+      dropped = c.check_streams.new.reader.dropped;
+      accepted = accepted c.args.requests.now.format start end c.requires.requests c.in-Ok.verdict c.in-Ok.ensures.yes;
+      text_is = rw (sym c.dropped.ensures) c.in_ok-verdict_text-in-Ok.ensures;
+    }
+
+pub returns-in-Err-clause-refused : goal.returns-in-Err-clause-refused
+returns-in-Err-clause-refused g c =
+    let start = inputs c.args.requests.now (g.T.Source.left c.args.trace.now) (g.T.Source.faults c.args.trace.now) c.args.records.now (g.Q.Source.left c.args.cert.now) (g.Q.Source.faults c.args.cert.now) in
+    let end = inputs c.check_streams.new.reader (g.T.Source.left c.check_streams.new.trace) (g.T.Source.faults c.check_streams.new.trace) c.check_streams.new.cert (g.Q.Source.left c.check_streams.new.certificate) (g.Q.Source.faults c.check_streams.new.certificate) in
+    rw c.refusal_of_check.ensures (refused c.args.requests.now.format start end c.requires.requests c.in-Err.fault c.in-Err.ensures.event)
