@@ -1,5 +1,5 @@
 //! The bounds of a trace, and their texts.
-ghost use Rattle.std.specs.Prelude.{◌≡◌, ◌≤◌, ◌<◌, ◌*◌, ◌^◌, length, slice_index_or, sum, All, IfOk, IfErr, IsTrue, OnOk, ◌↔◌, ◌&&◌};
+ghost use Rattle.std.specs.Prelude.{◌≡◌, ◌≤◌, ◌<◌, ◌*◌, ◌/◌, ◌^◌, length, slice_index_or, sum, All, IfOk, IfErr, IsTrue, OnOk, ◌↔◌, ◌&&◌};
 ghost use Prim.Native.Nat.{◌∣◌};
 ghost use Rattle.std.specs.Io.KnownBytes.{Appends};
 ghost use Rattle.cache_model.specs.Intervals.{bound_of};
@@ -7,7 +7,7 @@ ghost use Rattle.cache_model.specs.Certificates.{eligible_of, IsCertificate};
 ghost use Rattle.cache_model.specs.Keeps.{contents_of};
 ghost use Rattle.cache_model.specs.Units.{HasWholeCosts, IsUnit};
 ghost use Rattle.cache_model.specs.Play.{IsAllowed, score};
-ghost use Rattle.cache_model.specs.Rounding.{FitTogether, IsMaximal, IsRounded, by_rank};
+ghost use Rattle.cache_model.specs.Rounding.{IsMaximal, IsRounded, by_rank};
 ghost use Rattle.cache_model.specs.Schedules.{IsFractionalSchedule, flow_value};
 ghost use Rattle.cache_model.specs.Texts.{cert_text};
 ghost use Rattle.interval_maker.specs.Timelines.{starting_at, timeline_of};
@@ -36,7 +36,7 @@ use schedule_round::{Keeps, round};
 use std::alloc::Global;
 
 /// Which bounds are asked for. The capacity is in bytes.
-#[derive(Clone, Copy, Debug, PartialEq, Eq)]
+#[derive(Clone, Copy)]
 pub struct Asked {
     pub capacity: u64,
     pub objective: Objective,
@@ -158,24 +158,28 @@ fn full_flags(
     Ok(full)
 }
 
-// The schedule that is rounded from the flagged intervals.
+// The schedule that is rounded from the intervals whose flow is their whole weight.
 fn schedule_of(
     alloc: Global,
     asked: &Asked,
     trace: &Trace,
     intervals: &Intervals,
-    full: &[bool],
+    unit: u64,
+    flows: &[u64],
 ) -> Result<Schedule, NoMemory>
     requires capacity { (1 ≤ asked.now.capacity) × (asked.now.capacity ≤ 2 ^ 56) }
     requires intervals { intervals.now ≡ timeline_of asked.now.objective asked.now.capacity trace.now }
     requires fit { All (λ i. i.size ≤ asked.now.capacity) intervals.now.items }
-    requires flags { FitTogether intervals.now.items asked.now.capacity full.now }
-    ensures rounded { IfOk result (λ s. IsRounded by_rank intervals.now.items asked.now.capacity (length trace.now) full.now s.keeps) }
+    requires unit { 1 ≤ unit }
+    requires divides { All (λ i. unit ∣ i.size) intervals.now.items }
+    requires schedule { IsFractionalSchedule intervals.now.items unit (asked.now.capacity / unit) flows.now }
+    ensures rounded { IfOk result (λ s. IsRounded by_rank intervals.now.items asked.now.capacity (length trace.now) (full_flags unit intervals.now.items flows.now) s.keeps) }
     ensures maximal { IfOk result (λ s. IsMaximal intervals.now.items asked.now.capacity s.keeps) }
     ensures allowed { IfOk result (λ s. IsAllowed asked.now.capacity trace.now (contents_of trace.now s.keeps)) }
     ensures lower { IfOk result (λ s. s.lower ≡ score asked.now.objective trace.now (contents_of trace.now s.keeps)) }
 {
-    let keeps = round(alloc, intervals, asked.capacity, full)?;
+    let full = full_flags(alloc, intervals, unit, flows)?;
+    let keeps = round(alloc, intervals, asked.capacity, &full)?;
     match score(trace, asked.capacity, asked.objective, keeps.as_slice()) {
         Ok(lower) => Ok(Schedule { keeps, lower }),
         Err(_) => unreachable!(),
@@ -243,8 +247,7 @@ fn bounds_of(alloc: Global, asked: &Asked, trace: &Trace) -> Result<Bounds, Boun
     let relaxed = relax(alloc, asked.mode, &intervals, scale)?;
     let upper = upper_of(alloc, &intervals, scale, &relaxed.prices)?;
     let flow = flow_of(&intervals, scale, &relaxed.flows);
-    let full = full_flags(alloc, &intervals, unit, &relaxed.flows)?;
-    let schedule = schedule_of(alloc, asked, trace, &intervals, &full)?;
+    let schedule = schedule_of(alloc, asked, trace, &intervals, unit, &relaxed.flows)?;
     let requests = trace.len();
     Ok(Bounds {
         header: Header {

@@ -13,7 +13,7 @@ use relaxation::DenominatorChoice;
 use trace_any::Format;
 
 /// What the first word asks for.
-#[derive(Clone, Copy, Debug, PartialEq, Eq)]
+#[derive(Clone, Copy)]
 pub enum Command {
     /// Bounds on the best score on a trace, and their certificate.
     Bounds,

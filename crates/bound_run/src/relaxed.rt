@@ -17,7 +17,7 @@ use std::alloc::Global;
 use window_bounds::solve_windows;
 
 /// The bytes of a unit, how many units the cache holds, and the denominator.
-#[derive(Clone, Copy, Debug, PartialEq, Eq)]
+#[derive(Clone, Copy)]
 pub struct Scale {
     pub unit: u64,
     pub units: u64,

@@ -14,7 +14,7 @@ use std::marker::Model;
 
 /// The residual network of an instance, whose nodes are 0 to the number of steps. It has the flow of each arc, the
 /// flow over each step beside the arcs, and the potential of each node.
-#[derive(Debug, Drop)]
+#[derive(Drop)]
 pub struct Network<'a> {
     instance: &'a Instance,
     outer: Vec<u64>,

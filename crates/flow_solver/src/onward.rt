@@ -17,7 +17,7 @@ use std::alloc::Global;
 use std::marker::Model;
 
 /// Whether each node is a dead end: no path onward from it was found to reach the last node.
-#[derive(Debug, Drop)]
+#[derive(Drop)]
 pub struct DeadEnds {
     marks: Vec<bool>,
 }

@@ -10,7 +10,7 @@ use std::marker::Model;
 
 /// The outer edges that lead out of each node, as lists. They are numbered: first come the arcs, and then their back
 /// edges. In the lists numbers count from 1, and 0 is the end.
-#[derive(Debug, Drop)]
+#[derive(Drop)]
 pub struct OuterEdges {
     first: Vec<u32>,
     next: Vec<u32>,

@@ -21,7 +21,7 @@ const STACK: usize = 4096;
 /// How far each node is from the first, by the walks that were found, and the last edge of the walk to it. The length
 /// of an edge with room is its negated reduced cost. No distance matters beyond that of the last node. Nodes that were
 /// found as far as the node at hand wait on a stack, as long as it has room, and the others in a queue.
-#[derive(Debug, Drop)]
+#[derive(Drop)]
 pub struct Search {
     distances: Vec<u128>,
     parents: Vec<Edge>,

@@ -20,7 +20,7 @@ use std::marker::Model;
 const COST_LIMIT: u128 = 1 << 97;
 
 /// A solver of one instance, with all the memory that it needs.
-#[derive(Debug, Drop)]
+#[derive(Drop)]
 pub struct Solver<'a> {
     network: Network<'a>,
     edges: OuterEdges,

@@ -40,7 +40,7 @@ fn cost_before_last(arc: &OuterArc, width: u32) -> u128
 
 /// Window `number` of that width: the steps from `start` to the one before `end`, of which the last window may lack
 /// some.
-#[derive(Clone, Copy, Debug)]
+#[derive(Clone, Copy)]
 pub(crate) struct Window {
     width: u32,
     number: u32,

@@ -10,7 +10,7 @@ use std::marker::Model;
 
 /// For each window the numbers of the arcs that start in it, as a list in order. At its end stands how many arcs
 /// there are.
-#[derive(Debug, Drop)]
+#[derive(Drop)]
 pub(crate) struct Starts {
     first: Vec<u32>,
     next: Vec<u32>,

@@ -15,7 +15,7 @@ use std::mem;
 
 /// The windows of an instance from the first on, with the numbers of the arcs that meet the current one. To go
 /// through all of them takes time in the number of windows, arcs and parts of arcs.
-#[derive(Debug, Drop)]
+#[derive(Drop)]
 pub struct Windows<'a> {
     whole: &'a Instance,
     width: u32,

@@ -1,6 +1,5 @@
-use Rattle.std.proofs.Common.{◌∙◌, ◌/◌, refl, arith, sym, ap, length}
+use Rattle.std.proofs.Common.{◌∙◌, ◌/◌, refl, arith, sym, ap}
 use Rattle.std.proofs.Math.Nat.{div-le_self}
-use Rattle.schedule_round.proofs.Flags.{full_flags_fit}
 use Rattle.bound_run.proofs.MadeOf.{made_of, some_units, unit-le_capacity}
 use Rattle.bound_run.proofs.Relaxing.{flows_each}
 use Rattle.bound_run.proofs.bounds.bounds_of.Goals as goal
@@ -17,14 +16,8 @@ upper_of-requires-clause-units c =
     some_units c.args.asked.now.capacity c.unit_of-unit.result c.unit_of-unit.ensures.positive
     (unit-le_capacity c.in_ok-intervals.intervals c.args.asked.now.capacity c.unit_of-unit.result c.requires.capacity.0 c.in_ok-intervals.ensures.timeline c.in_ok-intervals.ensures.fit c.unit_of-unit.ensures.unit)
 
-pub full_flags-requires-clause-each : goal.full_flags-requires-clause-each
-full_flags-requires-clause-each c =
-    ap length c.deref-3.ensures.value ∙ flows_each c.unit_of-unit.result c.in_ok-intervals.intervals.items c.in_ok-relaxed.relaxed.flows.items c.in_ok-relaxed.ensures.schedule.within_weights
-
-pub schedule_of-requires-clause-flags : goal.schedule_of-requires-clause-flags
-schedule_of-requires-clause-flags c =
-    rw (c.deref-4.ensures.value, c.in_ok-full.ensures, c.deref-3.ensures.value)
-    (full_flags_fit c.in_ok-intervals.intervals.items c.args.asked.now.capacity c.unit_of-unit.result c.in_ok-relaxed.relaxed.flows.items c.unit_of-unit.ensures.unit.divides c.in_ok-relaxed.ensures.schedule)
+pub schedule_of-requires-clause-schedule : goal.schedule_of-requires-clause-schedule
+schedule_of-requires-clause-schedule c = rw c.deref-3.ensures.value c.in_ok-relaxed.ensures.schedule
 
 pub returns-clause-made : goal.returns-clause-made
 returns-clause-made c =
@@ -53,7 +46,7 @@ returns-clause-made c =
       small = c.in_ok-upper.ensures.small;
       value = rw c.deref-2.ensures.value at c.flow_of-flow.ensures.value;
       small_value = c.flow_of-flow.ensures.small;
-      rounded = rw (c.deref-4.ensures.value, c.in_ok-full.ensures, c.deref-3.ensures.value) at c.in_ok-schedule.ensures.rounded;
+      rounded = rw c.deref-3.ensures.value at c.in_ok-schedule.ensures.rounded;
       maximal = c.in_ok-schedule.ensures.maximal;
       allowed = c.in_ok-schedule.ensures.allowed;
       scored = c.in_ok-schedule.ensures.lower;

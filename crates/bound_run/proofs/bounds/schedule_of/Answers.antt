@@ -6,6 +6,8 @@ use Rattle.cache_model.specs.Intervals.{eligible_intervals}
 use Rattle.cache_model.specs.Keeps.{IsFirstOverfull}
 use Rattle.cache_model.specs.Rounding.{IsRounded, by_rank, taken_load}
 use Rattle.cache_model.proofs.Rounding.{held-load}
+use Rattle.schedule_round.proofs.Flags.{full_flags_fit}
+use Rattle.bound_run.proofs.Relaxing.{flows_each}
 use Rattle.bound_run.proofs.bounds.schedule_of.Goals as goal
 
 -- contents that weigh what their intervals do overfill no step
@@ -16,8 +18,18 @@ never_overfull : (objective : Objective) (capacity : ℕ) (trace : List Object) 
 never_overfull objective capacity trace full keeps step load taken fits over =
     omega (arith, over.over, over.load_is, held-load objective capacity trace keeps step taken.only_starts over.within, fits step)
 
+pub full_flags-requires-clause-each : goal.full_flags-requires-clause-each
+full_flags-requires-clause-each c = flows_each c.args.unit c.args.intervals.now.items c.args.flows.now c.requires.schedule.within_weights
+
+pub round-requires : goal.round-requires
+round-requires c =
+    record {
+      flags = rw (c.deref.ensures.value, c.in_ok-full.ensures)
+          (full_flags_fit c.args.intervals.now.items c.args.asked.now.capacity c.args.unit c.args.flows.now c.requires.divides c.requires.schedule);
+    }
+
 pub unreachable-requires : goal.unreachable-requires
 unreachable-requires c =
     let over = rw c.as_slice.ensures at c.in-Err.ensures.overfull in
-    never_overfull c.args.asked.now.objective c.args.asked.now.capacity c.args.trace.now c.args.full.now c.in_ok-keeps.keeps _ _
+    never_overfull c.args.asked.now.objective c.args.asked.now.capacity c.args.trace.now c.deref.result.now c.in_ok-keeps.keeps _ _
     (rw c.requires.intervals at c.in_ok-keeps.ensures.rounded) (λ t. rw c.requires.intervals at (c.in_ok-keeps.ensures.fits t)) over
