@@ -87,9 +87,10 @@ fn by_windows(
 {
     let whole = instance(alloc, intervals, scale.unit, scale.units, scale.denominator)?;
     let solution = solve_windows(alloc, &whole, width_of(window, intervals.steps()))?;
+    let (prices, flows) = solution.into_parts();
     Ok(Relaxed {
-        prices: Vec::from_slice(alloc, solution.prices())?,
-        flows: Vec::from_slice(alloc, solution.flows())?,
+        prices,
+        flows,
         price: 0,
     })
 }

@@ -40,4 +40,12 @@ impl WindowSolution {
     {
         &self.full
     }
+
+    /// The prices of the steps and the flows of the arcs.
+    pub fn into_parts(self) -> (Vec<u128>, Vec<u64>)
+        ensures prices { result.0.items ≡ self.prices }
+        ensures flows { result.1.items ≡ self.flows }
+    {
+        (self.prices, self.flows)
+    }
 }

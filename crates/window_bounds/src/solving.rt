@@ -49,10 +49,7 @@ fn lower(windows: &Windows, part_flows: &[u64], flows: &mut [u64])
 fn solve_whole(alloc: Global, whole: &Instance) -> Result<(Vec<u128>, Vec<u64>), NoMemory>
     ensures { IfOk result (λ (prices, flows). IsSolution whole.now prices.items flows.items) }
 {
-    let solution = Solver::new(alloc, whole)?.solve();
-    let prices = solution.prices().to_vec(alloc)?;
-    let flows = solution.flows().to_vec(alloc)?;
-    Ok((prices, flows))
+    Ok(Solver::new(alloc, whole)?.solve().into_parts())
 }
 
 // Solves the current window. Its prices come after those before, and the flows fall to those of its parts.

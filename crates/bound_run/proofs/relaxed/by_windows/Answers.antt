@@ -4,17 +4,17 @@ use Rattle.bound_run.proofs.relaxed.by_windows.Goals as goal
 
 pub returns-clause-paid : goal.returns-clause-paid
 returns-clause-paid c =
-    rw (c.in_ok-from_slice.ensures.items, c.prices.ensures)
+    rw c.into_parts-prices.ensures.prices
     (paid_little c.args.intervals.now c.args.scale.unit c.args.scale.units c.args.scale.denominator c.in_ok-solution.solution.prices c.steps.ensures.timeline c.requires.unit c.requires.divides c.requires.denominator.1
     (rw c.in_ok-whole.ensures at c.in_ok-solution.ensures.paid))
 
 pub returns-clause-last : goal.returns-clause-last
 returns-clause-last c =
-    rw (c.in_ok-from_slice.ensures.items, c.prices.ensures)
+    rw c.into_parts-prices.ensures.prices
     ((rw c.in_ok-whole.ensures at c.in_ok-solution.ensures.last) (ends_before c.args.intervals.now c.args.scale.unit c.args.scale.units c.args.scale.denominator c.steps.ensures.timeline))
 
 pub returns-clause-schedule : goal.returns-clause-schedule
 returns-clause-schedule c =
-    rw (c.in_ok-from_slice-2.ensures.items, c.flows.ensures)
+    rw c.into_parts-prices.ensures.flows
     (fractional c.args.intervals.now.items c.args.intervals.now.steps c.args.scale.unit c.args.scale.units c.args.scale.denominator c.in_ok-solution.solution.flows
     (rw c.in_ok-whole.ensures at c.in_ok-solution.ensures.schedule))
