@@ -47,8 +47,8 @@ impl Search {
         let nodes = steps as usize + 1;
         let distances = vec![in alloc; 0; nodes]?;
         let parents = vec![in alloc; Edge::Inner(0); nodes]?;
-        let queue = Queue::new(alloc, steps + 1)?;
         let stack = vec![in alloc; 0; STACK]?;
+        let queue = Queue::new(alloc, steps + 1)?;
         Ok(Search {
             distances,
             parents,

@@ -70,13 +70,13 @@ impl<'a> Solver<'a> {
     pub fn new(alloc: Global, instance: &'a Instance) -> Result<Solver<'a>, NoMemory>
         ensures { IfOk result (λ solver. solver ≡ instance.now) }
     {
+        let steps = instance.steps();
+        let path = vec![in alloc; Edge::Inner(0); steps as usize]?;
+        let dead = DeadEnds::new(alloc, steps)?;
+        let edges = OuterEdges::new(alloc, instance)?;
         let mut network = Network::new(alloc, instance)?;
         set_slope(&mut network);
-        let steps = instance.steps() as usize;
-        let edges = OuterEdges::new(alloc, instance)?;
-        let search = Search::new(alloc, instance.steps())?;
-        let dead = DeadEnds::new(alloc, instance.steps())?;
-        let path = vec![in alloc; Edge::Inner(0); steps]?;
+        let search = Search::new(alloc, steps)?;
         Ok(Solver {
             network,
             edges,

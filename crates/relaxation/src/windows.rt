@@ -85,9 +85,9 @@ impl<'a> Windows<'a> {
         let arcs = whole.arcs();
         // One for each window with a step, and one past the last of them.
         let lists = (whole.steps() / width) as usize + 2;
-        let starts = Starts::new(alloc, arcs, width, lists)?;
         let mut met = Vec::with_capacity(alloc, arcs.len())?;
         let spare = Vec::with_capacity(alloc, arcs.len())?;
+        let starts = Starts::new(alloc, arcs, width, lists)?;
         gather(arcs, Window::new(width, 0), &spare, &starts, &mut met);
         Ok(Windows {
             whole,

@@ -1,6 +1,8 @@
-use Rattle.std.proofs.Common.{◌≡◌, ◌∙◌, ap, arith, All}
-use Rattle.flow_model.specs.Instances.{IsArc, no_arc}
-use Rattle.flow_model.specs.Windows.{meets, window_instance}
+use Rattle.std.proofs.Common.{◌≡◌, ◌∙◌, ℕ, ◌<◌, ap, sym, arith, All, [], ◌∷◌, ◌++◌, length, map, take, get_or}
+use Rattle.std.proofs.lemmas.List.{map_more}
+use Rattle.flow_model.specs.declared.arcs.OuterArc.{OuterArc}
+use Rattle.flow_model.specs.Instances.{IsArc, arc_at, no_arc}
+use Rattle.flow_model.specs.Windows.{meets, part_of, window_instance}
 use Rattle.relaxation.specs.Cuts.{Cut, numbers_where}
 use Rattle.relaxation.proofs.PartArcs.{is_window, window_made}
 use Rattle.relaxation.proofs.Numbering.{met_at, parts_of_numbers}
@@ -59,3 +61,17 @@ returns c =
     c.new.ensures
     ∙ window_made whole c.self.inside.width c.self.inside.number c.steps_within.result c.units.result c.loop-number.parts.items steps c.units.ensures parts
     ∙ ap (λ (cut : Cut). window_instance cut.whole cut.width cut.number) c.self.view_is
+
+pub loop-number-preserved : goal.loop-number-preserved
+loop-number-preserved c =
+    let before = c.loop-number.invariant in
+    let met = c.self.inside.met.items in
+    let n = c.loop-number.number-index in
+    let part : ℕ → OuterArc = λ k. part_of c.self.inside.width c.self.inside.number (arc_at c.arcs-arcs.result.now k) in
+    let within : n < length met = omega (arith, c.loop-number-test.true, ap length c.deref-number-items.ensures.value) in
+    let made : c.part_of.result ≡ part (get_or met n 0) = rw (c.new-window.ensures.width, c.new-window.ensures.number, c.deref-number-items.ensures.value) at c.part_of.ensures in
+    record {
+      parts = c.push_reserved.ensures.items ∙ ap (λ xs. xs ++ c.part_of.result ∷ []) before.parts ∙ ap (λ p. map part (take n met) ++ p ∷ []) made ∙ sym (map_more part met n 0 within);
+      count = omega (arith, c.push_reserved.ensures.len, before.count);
+      room = omega (arith, c.push_reserved.ensures.capacity, before.room);
+    }
