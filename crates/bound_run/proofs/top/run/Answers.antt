@@ -8,3 +8,6 @@ returns-clause-completes g c = complete (map string_bytes c.args.words.now) _ c.
 
 pub returns-clause-headline : goal.returns-clause-headline
 returns-clause-headline g c = headlined (map string_bytes c.args.words.now) _ c.run_plan.result (rw c.plan_of.ensures.plan at c.run_plan.ensures)
+
+pub returns-clause-explains : goal.returns-clause-explains
+returns-clause-explains g c = rw c.plan_of.ensures.plan at c.run_plan.ensures
