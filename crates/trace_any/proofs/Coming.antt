@@ -6,7 +6,7 @@ use Rattle.std.proofs.lemmas.Bool.{cases_lt, le-ltb, lt-ltb, false≢true, true�
 use Rattle.std.proofs.lemmas.List.Sums.{prefix_len-le-length}
 use Rattle.std.specs.Io.KnownBytes.{IsAtEnd}
 use Rattle.bound_io.specs.Lines.{text_len, first_text, first_line, after_line, is_lf}
-use Rattle.bound_io.specs.Positions.{Position, GivesLine, IsRefused}
+use Rattle.bound_io.specs.Positions.{Position, GivesLine, NextLine, IsRefused}
 use Rattle.bound_io.specs.declared.line_reader.LineFault.{LineFault}
 use Rattle.bound_io.specs.declared.line_reader.LineFault.TheVariants as line
 use Rattle.bound_io.proofs.Texts.{length-first_text}
@@ -214,6 +214,24 @@ pub lines_refused : (r new : Reader) (before : Option (List ℕ)) (faults_before
 lines_refused r new before faults_before faults_after line.ReadFault none limit within same refused = refused
 lines_refused r new before faults_before faults_after (line.LineTooLong n) none limit within same refused = rw same (too_long r n before none (refused.0) (refused.1))
 lines_refused r new before faults_before faults_after line.InputTooLong none limit within same refused = rw same (past_limit r before none limit within refused)
+
+-- whether or not a line was given, the lines are within their limit and not fewer
+pub record Onward (old new : Position) : Type 0 where
+  pub limit : new.limit ≡ old.limit
+  pub within : new.consumed ≤ old.limit
+  pub counted : new.line ≤ new.consumed
+  pub further : old.line ≤ new.line
+
+pub goes_onward : {A : Type 0} (old new : Position) (before after : Option (List ℕ)) (result : Result (Option A) LineFault) → old.consumed ≤ old.limit → old.line ≤ old.consumed
+    → NextLine old new before after result → Onward old new
+goes_onward old new before after (Ok (Some text)) within counted gives = record {
+  limit = gives.limit;
+  within = omega (arith, gives.within, gives.limit);
+  counted = omega (arith, gives.line, gives.some, counted);
+  further = omega (arith, gives.line);
+}
+goes_onward old new before after (Ok None) within counted none = rw (none.still) (record { limit = refl; within = within; counted = counted; further = omega arith })
+goes_onward old new before after (Err fault) within counted stops = rw (stops.still) (record { limit = refl; within = within; counted = counted; further = omega arith })
 
 pub taken_err : (r new : Reader) (before after : Option (List ℕ)) (faults_before faults_after : ℕ) (fault : TraceFault) (result : Result Bool TraceFault) → IsErr result → IsErrAnd result (λ e. e ≡ fault)
     → IsStopped r new before faults_before faults_after fault → LineTaken r new before after faults_before faults_after result

@@ -6,7 +6,7 @@ use Rattle.trace_any.specs.declared.progress.Range.{Range}
 use Rattle.trace_any.specs.Readings.{fault_of}
 use Rattle.trace_any.specs.declared.fault.TraceFault.TheVariants.{BadLine}
 use Rattle.trace_any.specs.contracts.progress.Progress.{the_view}
-use Rattle.trace_any.proofs.Coming.{lines_refused, taken_err, takes_up, refused_line, goes_blank, goes_asked, is_asked, with_lines}
+use Rattle.trace_any.proofs.Coming.{lines_refused, goes_onward, taken_err, takes_up, refused_line, goes_blank, goes_asked, is_asked, with_lines}
 use Rattle.trace_any.proofs.progress.Progress.take_line.Goals as goal
 
 -- the blocks of the code, as those of the reader
@@ -87,3 +87,59 @@ returns-in_default-wanted-clause-taken g c =
     let goes = goes_blank s l _ _ _ (said ∙ ap (λ w. answer_of (Ok w)) blank) none takes in
     subst (λ r. (r.lines.consumed < l.consumed) × IfSome (told r (g.S.Source.left c.args.source.now)) (λ bytes. GoesOn (λ x. x) r (with_lines s l) bytes (told (with_lines s l) (g.S.Source.left c.next_line.new.source)))) is
     (gives.some, goes)
+
+pub invariant_of-self : goal.invariant_of-self
+invariant_of-self g c =
+    let i = c.self.invariant in
+    let next = c.next_line.follows.holds-at-none in
+    let lines = goes_onward c.self.inside.lines c.next_line.follows.lender-at-none _ _ c.next_line.result (omega (arith, i.3, i.4)) i.5 next.0 in
+    (i.0, i.1, i.2, lines.limit ∙ i.3, omega (arith, lines.within, i.3), lines.counted, next.1, i.7, omega (arith, lines.further, i.8), i.9, i.10, i.11)
+
+pub invariant_of-self-in_default : goal.invariant_of-self-in_default
+invariant_of-self-in_default g c =
+    let i = c.self.invariant in
+    let next = c.next_line.follows.holds-at-none in
+    let lines = goes_onward c.self.inside.lines c.next_line.follows.lender-at-none _ _ c.next_line.result (omega (arith, i.3, i.4)) i.5 next.0 in
+    (i.0, i.1, i.2, lines.limit ∙ i.3, omega (arith, lines.within, i.3), lines.counted, next.1, i.7, omega (arith, lines.further, i.8), i.9, i.10, i.11)
+
+pub invariant_of-self-in-Err : goal.invariant_of-self-in-Err
+invariant_of-self-in-Err g c =
+    let i = c.self.invariant in
+    let next = c.next_line.follows.holds-at-none in
+    let lines = goes_onward c.self.inside.lines c.next_line.follows.lender-at-none _ _ c.next_line.result (omega (arith, i.3, i.4)) i.5 next.0 in
+    (i.0, i.1, i.2, lines.limit ∙ i.3, omega (arith, lines.within, i.3), lines.counted, next.1, i.7, omega (arith, lines.further, i.8), i.9, i.10, i.11)
+
+pub invariant_of-self-in_default-wanted : goal.invariant_of-self-in_default-wanted
+invariant_of-self-in_default-wanted g c =
+    let i = c.self.invariant in
+    let next = c.next_line.follows.holds-at-none in
+    let lines = goes_onward c.self.inside.lines c.next_line.follows.lender-at-none _ _ c.next_line.result (omega (arith, i.3, i.4)) i.5 next.0 in
+    (i.0, i.1, i.2, lines.limit ∙ i.3, omega (arith, lines.within, i.3), lines.counted, next.1, i.7, omega (arith, lines.further, i.8), i.9, i.10, i.11)
+
+pub invariant_of-self-in_err-volume : goal.invariant_of-self-in_err-volume
+invariant_of-self-in_err-volume g c =
+    let i = c.self.invariant in
+    let next = c.next_line.follows.holds-at-none in
+    let lines = goes_onward c.self.inside.lines c.next_line.follows.lender-at-none _ _ c.next_line.result (omega (arith, i.3, i.4)) i.5 next.0 in
+    rw (c.in_err-volume.ensures.err) (i.0, i.1, i.2, lines.limit ∙ i.3, omega (arith, lines.within, i.3), lines.counted, next.1, i.7, omega (arith, lines.further, i.8), i.9, i.10, i.11)
+
+pub invariant_of-self-in-Some-range_of : goal.invariant_of-self-in-Some-range_of
+invariant_of-self-in-Some-range_of g c =
+    let i = c.self.invariant in
+    let next = c.next_line.follows.holds-at-none in
+    let lines = goes_onward c.self.inside.lines c.next_line.follows.lender-at-none _ _ c.next_line.result (omega (arith, i.3, i.4)) i.5 next.0 in
+    let none : c.self.inside.ahead.count ≡ 0 = omega (arith, c.requires.nothing_ahead, ap (λ r. r.ahead.count) c.self.view_is) in
+    let range = c.in-Some-range_of.ensures.range in (
+      i.0,
+      i.1,
+      i.2,
+      lines.limit ∙ i.3,
+      omega (arith, lines.within, i.3),
+      lines.counted,
+      next.1,
+      i.7,
+      omega (arith, lines.further, i.8),
+      omega (arith, i.10 none, c.number_of.ensures.most),
+      λ no. absurd (omega (arith, no, range.0)),
+      λ some. (range.1, range.2, range.3),
+    )
