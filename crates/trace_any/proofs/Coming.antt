@@ -215,23 +215,23 @@ lines_refused r new before faults_before faults_after line.ReadFault none limit 
 lines_refused r new before faults_before faults_after (line.LineTooLong n) none limit within same refused = rw same (too_long r n before none (refused.0) (refused.1))
 lines_refused r new before faults_before faults_after line.InputTooLong none limit within same refused = rw same (past_limit r before none limit within refused)
 
--- whether or not a line was given, the lines are within their limit and not fewer
-pub record Onward (old new : Position) : Type 0 where
-  pub limit : new.limit ≡ old.limit
-  pub within : new.consumed ≤ old.limit
-  pub counted : new.line ≤ new.consumed
-  pub further : old.line ≤ new.line
+-- whether or not a line was given, the lines are within their limit, and no fewer than those that were dropped
+pub record Onward (bytes dropped : ℕ) (l : Position) : Type 0 where
+  pub limit : l.limit ≡ bytes
+  pub within : l.consumed ≤ bytes
+  pub counted : l.line ≤ l.consumed
+  pub some_dropped : dropped ≤ l.line
 
-pub goes_onward : {A : Type 0} (old new : Position) (before after : Option (List ℕ)) (result : Result (Option A) LineFault) → old.consumed ≤ old.limit → old.line ≤ old.consumed
-    → NextLine old new before after result → Onward old new
-goes_onward old new before after (Ok (Some text)) within counted gives = record {
-  limit = gives.limit;
-  within = omega (arith, gives.within, gives.limit);
+pub goes_onward : {A : Type 0} (bytes dropped : ℕ) (old new : Position) (before after : Option (List ℕ)) (result : Result (Option A) LineFault) → old.limit ≡ bytes → old.consumed ≤ bytes → old.line ≤ old.consumed → dropped ≤ old.line
+    → NextLine old new before after result → Onward bytes dropped new
+goes_onward bytes dropped old new before after (Ok (Some text)) limit within counted fewer gives = record {
+  limit = gives.limit ∙ limit;
+  within = omega (arith, gives.within, gives.limit, limit);
   counted = omega (arith, gives.line, gives.some, counted);
-  further = omega (arith, gives.line);
+  some_dropped = omega (arith, gives.line, fewer);
 }
-goes_onward old new before after (Ok None) within counted none = rw (none.still) (record { limit = refl; within = within; counted = counted; further = omega arith })
-goes_onward old new before after (Err fault) within counted stops = rw (stops.still) (record { limit = refl; within = within; counted = counted; further = omega arith })
+goes_onward bytes dropped old new before after (Ok None) limit within counted fewer none = rw (none.still) (record { limit = limit; within = within; counted = counted; some_dropped = fewer })
+goes_onward bytes dropped old new before after (Err fault) limit within counted fewer stops = rw (stops.still) (record { limit = limit; within = within; counted = counted; some_dropped = fewer })
 
 pub taken_err : (r new : Reader) (before after : Option (List ℕ)) (faults_before faults_after : ℕ) (fault : TraceFault) (result : Result Bool TraceFault) → IsErr result → IsErrAnd result (λ e. e ≡ fault)
     → IsStopped r new before faults_before faults_after fault → LineTaken r new before after faults_before faults_after result

@@ -19,7 +19,7 @@ returns-in_err-text-clause-taken g c =
     let s = the_view c.self.inside in
     let l = c.next_line.follows.lender-at-none in
     let f = c.in_err-text.ensures in
-    let none : c.self.inside.ahead.count ≡ 0 = omega (arith, c.requires.nothing_ahead, ap (λ r. r.ahead.count) is) in
+    let none : c.self.inside.ahead.count ≡ 0 = ap (λ r. r.ahead.count) is ∙ c.requires.nothing_ahead in
     let fault = ap (λ r. r.lines.fault) is ∙ c.requires.no_fault in
     let new = with_lines s l in
     let why = lines_refused s new _ _ _ c.in_err-text.field-0.0 none (c.self.invariant.3) (c.self.invariant.4) refl (f.refused fault) in
@@ -32,7 +32,7 @@ returns-in-Err-clause-taken g c =
     let s = the_view c.self.inside in
     let l = c.next_line.follows.lender-at-none in
     let f = c.in_ok-text.ensures in
-    let none : c.self.inside.ahead.count ≡ 0 = omega (arith, c.requires.nothing_ahead, ap (λ r. r.ahead.count) is) in
+    let none : c.self.inside.ahead.count ≡ 0 = ap (λ r. r.ahead.count) is ∙ c.requires.nothing_ahead in
     let gives = rw (c.in_ok-text.was, c.in-Some.is) at (c.next_line.follows.holds-at-none.0) in
     let takes = takes_up s l _ _ c.in-Some.text.now none (c.self.invariant.3) gives (rw (c.in-Some.is) at f.text) (rw (c.in-Some.is) at f.short) in
     let said = sym (c.wanted_of.ensures.asked) ∙ ap answer_of c.in-Err.is in
@@ -45,7 +45,7 @@ returns-in-Some-range_of-clause-taken g c =
     let s = the_view c.self.inside in
     let l = c.next_line.follows.lender-at-none in
     let f = c.in_ok-text.ensures in
-    let none : c.self.inside.ahead.count ≡ 0 = omega (arith, c.requires.nothing_ahead, ap (λ r. r.ahead.count) is) in
+    let none : c.self.inside.ahead.count ≡ 0 = ap (λ r. r.ahead.count) is ∙ c.requires.nothing_ahead in
     let gives = rw (c.in_ok-text.was, c.in-Some.is) at (c.next_line.follows.holds-at-none.0) in
     let takes = takes_up s l _ _ c.in-Some.text.now none (c.self.invariant.3) gives (rw (c.in-Some.is) at f.text) (rw (c.in-Some.is) at f.short) in
     let wanted = c.in-Some-wanted.wanted in
@@ -62,7 +62,7 @@ returns-in-None-clause-taken g c =
     let s = the_view c.self.inside in
     let l = c.next_line.follows.lender-at-none in
     let f = c.in_ok-text.ensures in
-    let none : c.self.inside.ahead.count ≡ 0 = omega (arith, c.requires.nothing_ahead, ap (λ r. r.ahead.count) is) in
+    let none : c.self.inside.ahead.count ≡ 0 = ap (λ r. r.ahead.count) is ∙ c.requires.nothing_ahead in
     let gives = rw (c.in_ok-text.was, c.in-Some.is) at (c.next_line.follows.holds-at-none.0) in
     let takes = takes_up s l _ _ c.in-Some.text.now none (c.self.invariant.3) gives (rw (c.in-Some.is) at f.text) (rw (c.in-Some.is) at f.short) in
     let wanted = c.in-Some-wanted.wanted in
@@ -79,7 +79,7 @@ returns-in_default-wanted-clause-taken g c =
     let s = the_view c.self.inside in
     let l = c.next_line.follows.lender-at-none in
     let f = c.in_ok-text.ensures in
-    let none : c.self.inside.ahead.count ≡ 0 = omega (arith, c.requires.nothing_ahead, ap (λ r. r.ahead.count) is) in
+    let none : c.self.inside.ahead.count ≡ 0 = ap (λ r. r.ahead.count) is ∙ c.requires.nothing_ahead in
     let gives = rw (c.in_ok-text.was, c.in-Some.is) at (c.next_line.follows.holds-at-none.0) in
     let takes = takes_up s l _ _ c.in-Some.text.now none (c.self.invariant.3) gives (rw (c.in-Some.is) at f.text) (rw (c.in-Some.is) at f.short) in
     let said = sym (c.wanted_of.ensures.asked) ∙ ap answer_of c.in-Ok.is in
@@ -92,53 +92,53 @@ pub invariant_of-self : goal.invariant_of-self
 invariant_of-self g c =
     let i = c.self.invariant in
     let next = c.next_line.follows.holds-at-none in
-    let lines = goes_onward c.self.inside.lines c.next_line.follows.lender-at-none _ _ c.next_line.result (omega (arith, i.3, i.4)) i.5 next.0 in
-    (i.0, i.1, i.2, lines.limit ∙ i.3, omega (arith, lines.within, i.3), lines.counted, next.1, i.7, omega (arith, lines.further, i.8), i.9, i.10, i.11)
+    let lines = goes_onward _ _ c.self.inside.lines c.next_line.follows.lender-at-none _ _ c.next_line.result i.3 i.4 i.5 i.8 next.0 in
+    (i.0, i.1, i.2, lines.limit, lines.within, lines.counted, next.1, i.7, lines.some_dropped, i.9, i.10, i.11)
 
 pub invariant_of-self-in_default : goal.invariant_of-self-in_default
 invariant_of-self-in_default g c =
     let i = c.self.invariant in
     let next = c.next_line.follows.holds-at-none in
-    let lines = goes_onward c.self.inside.lines c.next_line.follows.lender-at-none _ _ c.next_line.result (omega (arith, i.3, i.4)) i.5 next.0 in
-    (i.0, i.1, i.2, lines.limit ∙ i.3, omega (arith, lines.within, i.3), lines.counted, next.1, i.7, omega (arith, lines.further, i.8), i.9, i.10, i.11)
+    let lines = goes_onward _ _ c.self.inside.lines c.next_line.follows.lender-at-none _ _ c.next_line.result i.3 i.4 i.5 i.8 next.0 in
+    (i.0, i.1, i.2, lines.limit, lines.within, lines.counted, next.1, i.7, lines.some_dropped, i.9, i.10, i.11)
 
 pub invariant_of-self-in-Err : goal.invariant_of-self-in-Err
 invariant_of-self-in-Err g c =
     let i = c.self.invariant in
     let next = c.next_line.follows.holds-at-none in
-    let lines = goes_onward c.self.inside.lines c.next_line.follows.lender-at-none _ _ c.next_line.result (omega (arith, i.3, i.4)) i.5 next.0 in
-    (i.0, i.1, i.2, lines.limit ∙ i.3, omega (arith, lines.within, i.3), lines.counted, next.1, i.7, omega (arith, lines.further, i.8), i.9, i.10, i.11)
+    let lines = goes_onward _ _ c.self.inside.lines c.next_line.follows.lender-at-none _ _ c.next_line.result i.3 i.4 i.5 i.8 next.0 in
+    (i.0, i.1, i.2, lines.limit, lines.within, lines.counted, next.1, i.7, lines.some_dropped, i.9, i.10, i.11)
 
 pub invariant_of-self-in_default-wanted : goal.invariant_of-self-in_default-wanted
 invariant_of-self-in_default-wanted g c =
     let i = c.self.invariant in
     let next = c.next_line.follows.holds-at-none in
-    let lines = goes_onward c.self.inside.lines c.next_line.follows.lender-at-none _ _ c.next_line.result (omega (arith, i.3, i.4)) i.5 next.0 in
-    (i.0, i.1, i.2, lines.limit ∙ i.3, omega (arith, lines.within, i.3), lines.counted, next.1, i.7, omega (arith, lines.further, i.8), i.9, i.10, i.11)
+    let lines = goes_onward _ _ c.self.inside.lines c.next_line.follows.lender-at-none _ _ c.next_line.result i.3 i.4 i.5 i.8 next.0 in
+    (i.0, i.1, i.2, lines.limit, lines.within, lines.counted, next.1, i.7, lines.some_dropped, i.9, i.10, i.11)
 
 pub invariant_of-self-in_err-volume : goal.invariant_of-self-in_err-volume
 invariant_of-self-in_err-volume g c =
     let i = c.self.invariant in
     let next = c.next_line.follows.holds-at-none in
-    let lines = goes_onward c.self.inside.lines c.next_line.follows.lender-at-none _ _ c.next_line.result (omega (arith, i.3, i.4)) i.5 next.0 in
-    rw (c.in_err-volume.ensures.err) (i.0, i.1, i.2, lines.limit ∙ i.3, omega (arith, lines.within, i.3), lines.counted, next.1, i.7, omega (arith, lines.further, i.8), i.9, i.10, i.11)
+    let lines = goes_onward _ _ c.self.inside.lines c.next_line.follows.lender-at-none _ _ c.next_line.result i.3 i.4 i.5 i.8 next.0 in
+    rw (c.in_err-volume.ensures.err) (i.0, i.1, i.2, lines.limit, lines.within, lines.counted, next.1, i.7, lines.some_dropped, i.9, i.10, i.11)
 
 pub invariant_of-self-in-Some-range_of : goal.invariant_of-self-in-Some-range_of
 invariant_of-self-in-Some-range_of g c =
     let i = c.self.invariant in
     let next = c.next_line.follows.holds-at-none in
-    let lines = goes_onward c.self.inside.lines c.next_line.follows.lender-at-none _ _ c.next_line.result (omega (arith, i.3, i.4)) i.5 next.0 in
-    let none : c.self.inside.ahead.count ≡ 0 = omega (arith, c.requires.nothing_ahead, ap (λ r. r.ahead.count) c.self.view_is) in
+    let lines = goes_onward _ _ c.self.inside.lines c.next_line.follows.lender-at-none _ _ c.next_line.result i.3 i.4 i.5 i.8 next.0 in
+    let none : c.self.inside.ahead.count ≡ 0 = ap (λ r. r.ahead.count) c.self.view_is ∙ c.requires.nothing_ahead in
     let range = c.in-Some-range_of.ensures.range in (
       i.0,
       i.1,
       i.2,
-      lines.limit ∙ i.3,
-      omega (arith, lines.within, i.3),
+      lines.limit,
+      lines.within,
       lines.counted,
       next.1,
       i.7,
-      omega (arith, lines.further, i.8),
+      lines.some_dropped,
       omega (arith, i.10 none, c.number_of.ensures.most),
       λ no. absurd (omega (arith, no, range.0)),
       λ some. (range.1, range.2, range.3),
