@@ -143,3 +143,45 @@ invariant_of-self-in-Some-range_of g c =
       λ no. absurd (omega (arith, no, range.0)),
       λ some. (range.1, range.2, range.3),
     )
+
+pub returns-in_err-text-clause-still : goal.returns-in_err-text-clause-still
+returns-in_err-text-clause-still g c = let is = c.self.view_is in (ap (λ r. r.format) is, ap (λ r. r.limits) is, ap (λ r. r.given) is)
+
+pub returns-in_err-text-clause-few : goal.returns-in_err-text-clause-few
+returns-in_err-text-clause-few g c = (c.self.invariant.7, c.self.invariant.1)
+
+pub returns-in_default-clause-still : goal.returns-in_default-clause-still
+returns-in_default-clause-still g c = let is = c.self.view_is in (ap (λ r. r.format) is, ap (λ r. r.limits) is, ap (λ r. r.given) is)
+
+pub returns-in_default-clause-few : goal.returns-in_default-clause-few
+returns-in_default-clause-few g c = (c.self.invariant.7, c.self.invariant.1)
+
+pub returns-in-Err-clause-still : goal.returns-in-Err-clause-still
+returns-in-Err-clause-still g c = let is = c.self.view_is in (ap (λ r. r.format) is, ap (λ r. r.limits) is, ap (λ r. r.given) is)
+
+pub returns-in-Err-clause-few : goal.returns-in-Err-clause-few
+returns-in-Err-clause-few g c = (c.self.invariant.7, c.self.invariant.1)
+
+pub returns-in_err-volume-clause-still : goal.returns-in_err-volume-clause-still
+returns-in_err-volume-clause-still g c = let is = c.self.view_is in (ap (λ r. r.format) is, ap (λ r. r.limits) is, ap (λ r. r.given) is)
+
+pub returns-in_err-volume-clause-few : goal.returns-in_err-volume-clause-few
+returns-in_err-volume-clause-few g c = (c.self.invariant.7, c.self.invariant.1)
+
+pub returns-in-Some-range_of-clause-still : goal.returns-in-Some-range_of-clause-still
+returns-in-Some-range_of-clause-still g c = let is = c.self.view_is in (ap (λ r. r.format) is, ap (λ r. r.limits) is, ap (λ r. r.given) is)
+
+pub returns-in-Some-range_of-clause-few : goal.returns-in-Some-range_of-clause-few
+returns-in-Some-range_of-clause-few g c = (c.self.invariant.7, c.self.invariant.1)
+
+pub returns-in-None-clause-still : goal.returns-in-None-clause-still
+returns-in-None-clause-still g c = let is = c.self.view_is in (ap (λ r. r.format) is, ap (λ r. r.limits) is, ap (λ r. r.given) is)
+
+pub returns-in-None-clause-few : goal.returns-in-None-clause-few
+returns-in-None-clause-few g c = (c.self.invariant.7, c.self.invariant.1)
+
+pub returns-in_default-wanted-clause-still : goal.returns-in_default-wanted-clause-still
+returns-in_default-wanted-clause-still g c = let is = c.self.view_is in (ap (λ r. r.format) is, ap (λ r. r.limits) is, ap (λ r. r.given) is)
+
+pub returns-in_default-wanted-clause-few : goal.returns-in_default-wanted-clause-few
+returns-in_default-wanted-clause-few g c = (c.self.invariant.7, c.self.invariant.1)
