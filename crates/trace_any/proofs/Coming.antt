@@ -1,12 +1,12 @@
 -- What is to come of a reader, after one line more and after one request more.
-use Rattle.std.proofs.Common.{◌≡◌, ℕ, zero, suc, ◌+◌, ◌-◌, ◌≤◌, ◌<◌, ◌∙◌, sym, refl, ap, List, [], ◌∷◌, ◌++◌, append_assoc, length, take, drop, subst, inl, inr, ◌⊎◌, arith, not, length-take, Option, Some, None, Result, Ok, Err, IfSome, Bool}
+use Rattle.std.proofs.Common.{◌≡◌, ℕ, zero, suc, ◌+◌, ◌-◌, ◌≤◌, ◌<◌, ◌∙◌, sym, refl, ap, List, [], ◌∷◌, ◌++◌, append_assoc, append-nil, length, take, drop, subst, inl, inr, ◌⊎◌, arith, not, length-take, Option, Some, None, Result, Ok, Err, IfSome, Bool}
 use Rattle.std.specs.Result.{IsErr, IsErrAnd, is_ok}
 use Rattle.std.proofs.lemmas.List.{drop_all, drop-drop}
 use Rattle.std.proofs.lemmas.Bool.{cases_lt, le-ltb, lt-ltb, false≢true, true≢false}
 use Rattle.std.proofs.lemmas.List.Sums.{prefix_len-le-length}
 use Rattle.std.specs.Io.KnownBytes.{IsAtEnd}
 use Rattle.bound_io.specs.Lines.{text_len, first_text, first_line, after_line, is_lf}
-use Rattle.bound_io.specs.Positions.{Position, GivesLine, IsRefused}
+use Rattle.bound_io.specs.Positions.{Position, GivesLine, NextLine, IsRefused}
 use Rattle.bound_io.specs.declared.line_reader.LineFault.{LineFault}
 use Rattle.bound_io.specs.declared.line_reader.LineFault.TheVariants as line
 use Rattle.bound_io.proofs.Texts.{length-first_text}
@@ -21,7 +21,7 @@ use Rattle.trace_any.specs.Volumes.{Volume}
 use Rattle.trace_any.specs.Readings.{Asked, spanned, stopped, requested, text_asked, taken_up, read_line, read_on, reading, nothing_read, fault_of}
 use Rattle.trace_any.specs.declared.format.Format.{Format}
 use Rattle.trace_any.specs.declared.format.Limits.{Limits}
-use Rattle.trace_any.specs.Readers.{Reader, Ahead, fresh, room_left, so_far, to_come, onto, after, with_ahead_by, ahead_by, noted_by, number_by, bytes_after, GoesOn, IsOver, IsStopped, LineTaken}
+use Rattle.trace_any.specs.Readers.{Reader, Ahead, fresh, room_left, so_far, to_come, onto, after, with_ahead_by, ahead_by, noted_by, number_by, bytes_after, GoesOn, GivesNone, IsOver, IsStopped, IsWhole, LineTaken}
 use Rattle.trace_any.proofs.ReadingSteps.{plain, read_on-first, read_on-stopped, read_on-onto, requested-next, requested-none, requested-full}
 
 -- no block is left of the last line
@@ -215,6 +215,24 @@ lines_refused r new before faults_before faults_after line.ReadFault none limit 
 lines_refused r new before faults_before faults_after (line.LineTooLong n) none limit within same refused = rw same (too_long r n before none (refused.0) (refused.1))
 lines_refused r new before faults_before faults_after line.InputTooLong none limit within same refused = rw same (past_limit r before none limit within refused)
 
+-- whether or not a line was given, the lines are within their limit, and no fewer than those that were dropped
+pub record Onward (bytes dropped : ℕ) (l : Position) : Type 0 where
+  pub limit : l.limit ≡ bytes
+  pub within : l.consumed ≤ bytes
+  pub counted : l.line ≤ l.consumed
+  pub some_dropped : dropped ≤ l.line
+
+pub goes_onward : {A : Type 0} (bytes dropped : ℕ) (old new : Position) (before after : Option (List ℕ)) (result : Result (Option A) LineFault) → old.limit ≡ bytes → old.consumed ≤ bytes → old.line ≤ old.consumed → dropped ≤ old.line
+    → NextLine old new before after result → Onward bytes dropped new
+goes_onward bytes dropped old new before after (Ok (Some text)) limit within counted fewer gives = record {
+  limit = gives.limit ∙ limit;
+  within = omega (arith, gives.within, gives.limit, limit);
+  counted = omega (arith, gives.line, gives.some, counted);
+  some_dropped = omega (arith, gives.line, fewer);
+}
+goes_onward bytes dropped old new before after (Ok None) limit within counted fewer none = rw (none.still) (record { limit = limit; within = within; counted = counted; some_dropped = fewer })
+goes_onward bytes dropped old new before after (Err fault) limit within counted fewer stops = rw (stops.still) (record { limit = limit; within = within; counted = counted; some_dropped = fewer })
+
 pub taken_err : (r new : Reader) (before after : Option (List ℕ)) (faults_before faults_after : ℕ) (fault : TraceFault) (result : Result Bool TraceFault) → IsErr result → IsErrAnd result (λ e. e ≡ fault)
     → IsStopped r new before faults_before faults_after fault → LineTaken r new before after faults_before faults_after result
 taken_err r new before after faults_before faults_after fault (Ok b) err is why = absurd (false≢true err)
@@ -249,6 +267,23 @@ loads_one first second third given x (Some bytes) between later one other =
       rest = next.rest ∙ ap (λ rest. Some rest) same;
       coming = one.coming ∙ (ap (after given) next.coming ∙ (ap (λ requests. record coming { requests = requests }) (sym (append_assoc given (x ∷ []) coming.requests)) ∙ ap (λ rest. after (given ++ x ∷ []) (to_come third rest)) same));
     }
+
+-- no request more after some
+pub loads_all : (first second third : Reader) (given : List Object) (before between later : Option (List ℕ)) → IfSome before (λ bytes. GoesOn (after given) first second bytes between)
+    → IfSome between (λ bytes. GivesNone second third bytes later) → IfSome before (λ bytes. IsWhole (to_come first bytes) given third.dropped)
+loads_all first second third given None between later one none = tt
+loads_all first second third given (Some bytes) between later one none =
+    let over = rw (one.rest) at none in
+    record {
+      requests = ap (λ r. r.requests) one.coming ∙ (ap (λ requests. given ++ requests) over.0.requests ∙ append-nil given);
+      dropped_lines = ap (λ r. r.dropped) one.coming ∙ over.0.dropped_lines;
+      stop = ap (λ r. r.refused) one.coming ∙ over.0.stop;
+    }
+
+pub loads_to_end : (first second third : Reader) (given : List Object) (before between later : Option (List ℕ)) → IfSome before (λ bytes. GoesOn (after given) first second bytes between)
+    → IfSome between (λ bytes. GivesNone second third bytes later) → IfSome before (λ _. later ≡ Some [])
+loads_to_end first second third given None between later one none = tt
+loads_to_end first second third given (Some bytes) between later one none = let over = rw (one.rest) at none in over.1
 
 -- no fault is one that can't be
 pub no_fault : (fault : Option TraceFault) (P : TraceFault → Type 0) → IfSome fault P → ((f : TraceFault) → P f → ⊥) → fault ≡ None

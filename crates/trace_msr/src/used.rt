@@ -1,6 +1,7 @@
 //! The fields of a line that are interpreted.
-ghost use Rattle.std.specs.Prelude.{◌≡◌, ◌≤◌, ◌↔◌, [], length, slice_index_or, IsSome, IfSome};
+ghost use Rattle.std.specs.Prelude.{◌≡◌, ◌≤◌, ◌↔◌, [], drop, length, slice_index_or, IsSome, IfSome};
 ghost use Rattle.trace_lines.specs.Lines.{fields};
+ghost use Rattle.trace_msr.specs.Used.{fields_left};
 
 use trace_lines::first_field;
 
@@ -14,6 +15,17 @@ pub(crate) struct UsedFields<'a> {
     pub(crate) size: &'a [u8],
 }
 
+// The next field, and what stands after its comma where it has one. Where no field is left it is empty.
+fn next_field(left: Option<&[u8]>) -> (&[u8], Option<&[u8]>)
+    ensures field { result.0.now ≡ slice_index_or (fields_left left.entry) 0 [] }
+    ensures left { fields_left result.1 ≡ drop 1 (fields_left left.entry) }
+{
+    match left {
+        Some(line) => first_field(line),
+        None => (b"", None),
+    }
+}
+
 /// The fields that are interpreted, or None where there are fewer than six. Takes time in the bytes up to the end of
 /// the sixth.
 pub(crate) fn used_fields(line: &[u8]) -> Option<UsedFields<'_>>
@@ -25,10 +37,10 @@ pub(crate) fn used_fields(line: &[u8]) -> Option<UsedFields<'_>>
     ensures size { IfSome result (λ found. found.size.now ≡ slice_index_or (fields line.now) 5 []) }
 {
     let (_, from_host) = first_field(line);
-    let (host, from_disk) = first_field(from_host?);
-    let (disk, from_action) = first_field(from_disk?);
-    let (action, from_offset) = first_field(from_action?);
-    let (offset, from_size) = first_field(from_offset?);
+    let (host, from_disk) = next_field(from_host);
+    let (disk, from_action) = next_field(from_disk);
+    let (action, from_offset) = next_field(from_action);
+    let (offset, from_size) = next_field(from_offset);
     let (size, _) = first_field(from_size?);
     Some(UsedFields {
         host,

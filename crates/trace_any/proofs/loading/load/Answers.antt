@@ -1,6 +1,6 @@
-use Rattle.std.proofs.Common.{◌≡◌, ◌∙◌, sym, arith, length-append, None, [], ◌∷◌}
+use Rattle.std.proofs.Common.{◌≡◌, ◌∙◌, sym, ap, arith, length-append, None, [], ◌∷◌}
 use Rattle.bound_io.proofs.KnownLemmas.{loses_then}
-use Rattle.trace_any.proofs.Coming.{loads_one, no_error, no_fault}
+use Rattle.trace_any.proofs.Coming.{loads_all, loads_one, loads_to_end, no_error, no_fault}
 use Rattle.trace_any.proofs.loading.load.Goals as goal
 
 pub returns-in_err-object-clause-source : goal.returns-in_err-object-clause-source
@@ -30,3 +30,21 @@ returns-in_err-push-clause-source g c = loses_then _ _ _ (c.next.ensures.source.
 
 pub returns-clause-source : goal.returns-clause-source
 returns-clause-source g c = loses_then _ _ _ (c.next.ensures.source.0) (c.loop-requests.invariant.source) (c.next.ensures.source.1)
+
+pub loop-requests-smaller : goal.loop-requests-smaller
+loop-requests-smaller g c =
+    let none : c.loop-requests.reader.fault ≡ None = no_fault c.loop-requests.reader.fault _ (c.in_ok-object.ensures.again) (λ f again. no_error c.in_ok-object.field-0 f again.0) in
+    let next = rw (c.in-Some.is) at (c.in_ok-object.ensures.next none) in
+    omega (arith, next.0, c.next.ensures.few.1, ap (λ limits. limits.requests) (c.next.ensures.few.0))
+
+pub returns-clause-whole : goal.returns-clause-whole
+returns-clause-whole g c =
+    let i = c.loop-requests.invariant in λ fresh.
+    let next = rw (c.in_default.is) at (c.in_ok-object.ensures.next (i.fault ∙ fresh)) in
+    rw (c.finish.ensures, c.dropped.ensures) (loads_all c.args.reader.now c.loop-requests.reader c.next.new.self c.loop-requests.requests _ _ _ (i.goes_on fresh) next)
+
+pub returns-clause-end : goal.returns-clause-end
+returns-clause-end g c =
+    let i = c.loop-requests.invariant in λ fresh.
+    let next = rw (c.in_default.is) at (c.in_ok-object.ensures.next (i.fault ∙ fresh)) in
+    loads_to_end c.args.reader.now c.loop-requests.reader c.next.new.self c.loop-requests.requests _ _ _ (i.goes_on fresh) next

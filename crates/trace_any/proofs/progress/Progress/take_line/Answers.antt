@@ -6,7 +6,7 @@ use Rattle.trace_any.specs.declared.progress.Range.{Range}
 use Rattle.trace_any.specs.Readings.{fault_of}
 use Rattle.trace_any.specs.declared.fault.TraceFault.TheVariants.{BadLine}
 use Rattle.trace_any.specs.contracts.progress.Progress.{the_view}
-use Rattle.trace_any.proofs.Coming.{lines_refused, taken_err, takes_up, refused_line, goes_blank, goes_asked, is_asked, with_lines}
+use Rattle.trace_any.proofs.Coming.{lines_refused, goes_onward, taken_err, takes_up, refused_line, goes_blank, goes_asked, is_asked, with_lines}
 use Rattle.trace_any.proofs.progress.Progress.take_line.Goals as goal
 
 -- the blocks of the code, as those of the reader
@@ -19,7 +19,7 @@ returns-in_err-text-clause-taken g c =
     let s = the_view c.self.inside in
     let l = c.next_line.follows.lender-at-none in
     let f = c.in_err-text.ensures in
-    let none : c.self.inside.ahead.count ≡ 0 = omega (arith, c.requires.nothing_ahead, ap (λ r. r.ahead.count) is) in
+    let none : c.self.inside.ahead.count ≡ 0 = ap (λ r. r.ahead.count) is ∙ c.requires.nothing_ahead in
     let fault = ap (λ r. r.lines.fault) is ∙ c.requires.no_fault in
     let new = with_lines s l in
     let why = lines_refused s new _ _ _ c.in_err-text.field-0.0 none (c.self.invariant.3) (c.self.invariant.4) refl (f.refused fault) in
@@ -32,7 +32,7 @@ returns-in-Err-clause-taken g c =
     let s = the_view c.self.inside in
     let l = c.next_line.follows.lender-at-none in
     let f = c.in_ok-text.ensures in
-    let none : c.self.inside.ahead.count ≡ 0 = omega (arith, c.requires.nothing_ahead, ap (λ r. r.ahead.count) is) in
+    let none : c.self.inside.ahead.count ≡ 0 = ap (λ r. r.ahead.count) is ∙ c.requires.nothing_ahead in
     let gives = rw (c.in_ok-text.was, c.in-Some.is) at (c.next_line.follows.holds-at-none.0) in
     let takes = takes_up s l _ _ c.in-Some.text.now none (c.self.invariant.3) gives (rw (c.in-Some.is) at f.text) (rw (c.in-Some.is) at f.short) in
     let said = sym (c.wanted_of.ensures.asked) ∙ ap answer_of c.in-Err.is in
@@ -45,7 +45,7 @@ returns-in-Some-range_of-clause-taken g c =
     let s = the_view c.self.inside in
     let l = c.next_line.follows.lender-at-none in
     let f = c.in_ok-text.ensures in
-    let none : c.self.inside.ahead.count ≡ 0 = omega (arith, c.requires.nothing_ahead, ap (λ r. r.ahead.count) is) in
+    let none : c.self.inside.ahead.count ≡ 0 = ap (λ r. r.ahead.count) is ∙ c.requires.nothing_ahead in
     let gives = rw (c.in_ok-text.was, c.in-Some.is) at (c.next_line.follows.holds-at-none.0) in
     let takes = takes_up s l _ _ c.in-Some.text.now none (c.self.invariant.3) gives (rw (c.in-Some.is) at f.text) (rw (c.in-Some.is) at f.short) in
     let wanted = c.in-Some-wanted.wanted in
@@ -62,7 +62,7 @@ returns-in-None-clause-taken g c =
     let s = the_view c.self.inside in
     let l = c.next_line.follows.lender-at-none in
     let f = c.in_ok-text.ensures in
-    let none : c.self.inside.ahead.count ≡ 0 = omega (arith, c.requires.nothing_ahead, ap (λ r. r.ahead.count) is) in
+    let none : c.self.inside.ahead.count ≡ 0 = ap (λ r. r.ahead.count) is ∙ c.requires.nothing_ahead in
     let gives = rw (c.in_ok-text.was, c.in-Some.is) at (c.next_line.follows.holds-at-none.0) in
     let takes = takes_up s l _ _ c.in-Some.text.now none (c.self.invariant.3) gives (rw (c.in-Some.is) at f.text) (rw (c.in-Some.is) at f.short) in
     let wanted = c.in-Some-wanted.wanted in
@@ -79,7 +79,7 @@ returns-in_default-wanted-clause-taken g c =
     let s = the_view c.self.inside in
     let l = c.next_line.follows.lender-at-none in
     let f = c.in_ok-text.ensures in
-    let none : c.self.inside.ahead.count ≡ 0 = omega (arith, c.requires.nothing_ahead, ap (λ r. r.ahead.count) is) in
+    let none : c.self.inside.ahead.count ≡ 0 = ap (λ r. r.ahead.count) is ∙ c.requires.nothing_ahead in
     let gives = rw (c.in_ok-text.was, c.in-Some.is) at (c.next_line.follows.holds-at-none.0) in
     let takes = takes_up s l _ _ c.in-Some.text.now none (c.self.invariant.3) gives (rw (c.in-Some.is) at f.text) (rw (c.in-Some.is) at f.short) in
     let said = sym (c.wanted_of.ensures.asked) ∙ ap answer_of c.in-Ok.is in
@@ -87,3 +87,101 @@ returns-in_default-wanted-clause-taken g c =
     let goes = goes_blank s l _ _ _ (said ∙ ap (λ w. answer_of (Ok w)) blank) none takes in
     subst (λ r. (r.lines.consumed < l.consumed) × IfSome (told r (g.S.Source.left c.args.source.now)) (λ bytes. GoesOn (λ x. x) r (with_lines s l) bytes (told (with_lines s l) (g.S.Source.left c.next_line.new.source)))) is
     (gives.some, goes)
+
+pub invariant_of-self : goal.invariant_of-self
+invariant_of-self g c =
+    let i = c.self.invariant in
+    let next = c.next_line.follows.holds-at-none in
+    let lines = goes_onward _ _ c.self.inside.lines c.next_line.follows.lender-at-none _ _ c.next_line.result i.3 i.4 i.5 i.8 next.0 in
+    (i.0, i.1, i.2, lines.limit, lines.within, lines.counted, next.1, i.7, lines.some_dropped, i.9, i.10, i.11)
+
+pub invariant_of-self-in_default : goal.invariant_of-self-in_default
+invariant_of-self-in_default g c =
+    let i = c.self.invariant in
+    let next = c.next_line.follows.holds-at-none in
+    let lines = goes_onward _ _ c.self.inside.lines c.next_line.follows.lender-at-none _ _ c.next_line.result i.3 i.4 i.5 i.8 next.0 in
+    (i.0, i.1, i.2, lines.limit, lines.within, lines.counted, next.1, i.7, lines.some_dropped, i.9, i.10, i.11)
+
+pub invariant_of-self-in-Err : goal.invariant_of-self-in-Err
+invariant_of-self-in-Err g c =
+    let i = c.self.invariant in
+    let next = c.next_line.follows.holds-at-none in
+    let lines = goes_onward _ _ c.self.inside.lines c.next_line.follows.lender-at-none _ _ c.next_line.result i.3 i.4 i.5 i.8 next.0 in
+    (i.0, i.1, i.2, lines.limit, lines.within, lines.counted, next.1, i.7, lines.some_dropped, i.9, i.10, i.11)
+
+pub invariant_of-self-in_default-wanted : goal.invariant_of-self-in_default-wanted
+invariant_of-self-in_default-wanted g c =
+    let i = c.self.invariant in
+    let next = c.next_line.follows.holds-at-none in
+    let lines = goes_onward _ _ c.self.inside.lines c.next_line.follows.lender-at-none _ _ c.next_line.result i.3 i.4 i.5 i.8 next.0 in
+    (i.0, i.1, i.2, lines.limit, lines.within, lines.counted, next.1, i.7, lines.some_dropped, i.9, i.10, i.11)
+
+pub invariant_of-self-in_err-volume : goal.invariant_of-self-in_err-volume
+invariant_of-self-in_err-volume g c =
+    let i = c.self.invariant in
+    let next = c.next_line.follows.holds-at-none in
+    let lines = goes_onward _ _ c.self.inside.lines c.next_line.follows.lender-at-none _ _ c.next_line.result i.3 i.4 i.5 i.8 next.0 in
+    rw (c.in_err-volume.ensures.err) (i.0, i.1, i.2, lines.limit, lines.within, lines.counted, next.1, i.7, lines.some_dropped, i.9, i.10, i.11)
+
+pub invariant_of-self-in-Some-range_of : goal.invariant_of-self-in-Some-range_of
+invariant_of-self-in-Some-range_of g c =
+    let i = c.self.invariant in
+    let next = c.next_line.follows.holds-at-none in
+    let lines = goes_onward _ _ c.self.inside.lines c.next_line.follows.lender-at-none _ _ c.next_line.result i.3 i.4 i.5 i.8 next.0 in
+    let none : c.self.inside.ahead.count ≡ 0 = ap (λ r. r.ahead.count) c.self.view_is ∙ c.requires.nothing_ahead in
+    let range = c.in-Some-range_of.ensures.range in (
+      i.0,
+      i.1,
+      i.2,
+      lines.limit,
+      lines.within,
+      lines.counted,
+      next.1,
+      i.7,
+      lines.some_dropped,
+      omega (arith, i.10 none, c.number_of.ensures.most),
+      λ no. absurd (omega (arith, no, range.0)),
+      λ some. (range.1, range.2, range.3),
+    )
+
+pub returns-in_err-text-clause-still : goal.returns-in_err-text-clause-still
+returns-in_err-text-clause-still g c = let is = c.self.view_is in (ap (λ r. r.format) is, ap (λ r. r.limits) is, ap (λ r. r.given) is)
+
+pub returns-in_err-text-clause-few : goal.returns-in_err-text-clause-few
+returns-in_err-text-clause-few g c = (c.self.invariant.7, c.self.invariant.1)
+
+pub returns-in_default-clause-still : goal.returns-in_default-clause-still
+returns-in_default-clause-still g c = let is = c.self.view_is in (ap (λ r. r.format) is, ap (λ r. r.limits) is, ap (λ r. r.given) is)
+
+pub returns-in_default-clause-few : goal.returns-in_default-clause-few
+returns-in_default-clause-few g c = (c.self.invariant.7, c.self.invariant.1)
+
+pub returns-in-Err-clause-still : goal.returns-in-Err-clause-still
+returns-in-Err-clause-still g c = let is = c.self.view_is in (ap (λ r. r.format) is, ap (λ r. r.limits) is, ap (λ r. r.given) is)
+
+pub returns-in-Err-clause-few : goal.returns-in-Err-clause-few
+returns-in-Err-clause-few g c = (c.self.invariant.7, c.self.invariant.1)
+
+pub returns-in_err-volume-clause-still : goal.returns-in_err-volume-clause-still
+returns-in_err-volume-clause-still g c = let is = c.self.view_is in (ap (λ r. r.format) is, ap (λ r. r.limits) is, ap (λ r. r.given) is)
+
+pub returns-in_err-volume-clause-few : goal.returns-in_err-volume-clause-few
+returns-in_err-volume-clause-few g c = (c.self.invariant.7, c.self.invariant.1)
+
+pub returns-in-Some-range_of-clause-still : goal.returns-in-Some-range_of-clause-still
+returns-in-Some-range_of-clause-still g c = let is = c.self.view_is in (ap (λ r. r.format) is, ap (λ r. r.limits) is, ap (λ r. r.given) is)
+
+pub returns-in-Some-range_of-clause-few : goal.returns-in-Some-range_of-clause-few
+returns-in-Some-range_of-clause-few g c = (c.self.invariant.7, c.self.invariant.1)
+
+pub returns-in-None-clause-still : goal.returns-in-None-clause-still
+returns-in-None-clause-still g c = let is = c.self.view_is in (ap (λ r. r.format) is, ap (λ r. r.limits) is, ap (λ r. r.given) is)
+
+pub returns-in-None-clause-few : goal.returns-in-None-clause-few
+returns-in-None-clause-few g c = (c.self.invariant.7, c.self.invariant.1)
+
+pub returns-in_default-wanted-clause-still : goal.returns-in_default-wanted-clause-still
+returns-in_default-wanted-clause-still g c = let is = c.self.view_is in (ap (λ r. r.format) is, ap (λ r. r.limits) is, ap (λ r. r.given) is)
+
+pub returns-in_default-wanted-clause-few : goal.returns-in_default-wanted-clause-few
+returns-in_default-wanted-clause-few g c = (c.self.invariant.7, c.self.invariant.1)

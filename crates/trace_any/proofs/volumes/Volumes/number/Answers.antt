@@ -1,4 +1,5 @@
-use Rattle.std.proofs.Common.{◌∙◌, sym, ap, map, rules}
+use Rattle.std.proofs.Common.{◌≡◌, ◌≤◌, ◌∙◌, Bool, true, false, cond, List, length, sym, ap, map, arith, rules}
+use Rattle.std.proofs.lemmas.List.{length-map}
 use Rattle.trace_any.specs.Volumes.{Volume, same_volume, volume_number, with_volume}
 use Rattle.trace_any.specs.declared.volumes.VolumeKey.{VolumeKey}
 use Rattle.trace_any.proofs.VolumeSteps.{list_any-missing, position_or_len-position, volume_number-map, with_volume-known, map-insert_key}
@@ -7,6 +8,34 @@ use Rattle.trace_any.proofs.volumes.Volumes.number.Goals as goal
 -- the volume that a key stands for
 shown : VolumeKey → Volume
 shown k = record { host = k.host.items; disk = k.disk }
+
+-- there are as many keys as volumes, and at most one more later
+as_many : (keys : List VolumeKey) (volumes : List Volume) → map shown keys ≡ volumes → length keys ≡ length volumes
+as_many keys volumes view = sym (length-map keys shown) ∙ ap length view
+
+at_most_one : (b : Bool) → cond b 1 0 ≤ 1
+at_most_one true = omega arith
+at_most_one false = omega arith
+
+pub overflow_cast-result : goal.overflow_cast-result
+unfolding shown
+overflow_cast-result c = omega (arith, c.in-Some.ensures.within, as_many c.self.inside.keys.keys c.args.self.now c.self.view_is, c.requires.few)
+
+pub overflow_add-result : goal.overflow_add-result
+unfolding shown
+overflow_add-result c = omega (arith, c.in-Some.ensures.within, as_many c.self.inside.keys.keys c.args.self.now c.self.view_is, c.requires.few)
+
+pub overflow_cast-result-2 : goal.overflow_cast-result-2
+unfolding shown
+overflow_cast-result-2 c =
+    let kept = as_many c.self.inside.keys.keys c.args.self.now c.self.view_is in
+    omega (arith, c.in_ok-index.ensures.within, c.in_ok-index.ensures.len, at_most_one c.in_ok-index.field-0-1, kept, c.requires.few)
+
+pub overflow_add-result-2 : goal.overflow_add-result-2
+unfolding shown
+overflow_add-result-2 c =
+    let kept = as_many c.self.inside.keys.keys c.args.self.now c.self.view_is in
+    omega (arith, c.in_ok-index.ensures.within, c.in_ok-index.ensures.len, at_most_one c.in_ok-index.field-0-1, kept, c.requires.few)
 
 pub returns-in-Some-clause-number : goal.returns-in-Some-clause-number
 unfolding shown
