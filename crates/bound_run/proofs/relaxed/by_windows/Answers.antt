@@ -1,3 +1,4 @@
+use Rattle.std.proofs.Common.{refl}
 use Rattle.flow_model.proofs.Whole.{fractional}
 use Rattle.bound_run.proofs.Relaxing.{ends_before, paid_little}
 use Rattle.bound_run.proofs.relaxed.by_windows.Goals as goal
@@ -18,3 +19,11 @@ returns-clause-schedule c =
     rw c.into_parts-prices.ensures.flows
     (fractional c.args.intervals.now.items c.args.intervals.now.steps c.args.scale.unit c.args.scale.units c.args.scale.denominator c.in_ok-solution.solution.flows
     (rw c.in_ok-whole.ensures at c.in_ok-solution.ensures.schedule))
+
+pub returns-clause-of_mode : goal.returns-clause-of_mode
+returns-clause-of_mode c =
+    rw (c.into_parts-prices.ensures.prices, c.into_parts-prices.ensures.flows) (
+      refl,
+      rw (c.width_of.ensures, c.steps.ensures.steps, c.in_ok-whole.ensures) at c.in_ok-solution.ensures.windows,
+      rw (c.width_of.ensures, c.steps.ensures.steps, c.in_ok-whole.ensures) at c.in_ok-solution.ensures.one_window,
+    )
