@@ -1,5 +1,6 @@
 //! Loads of a few steps, added up by hand.
 use crate::compared::same;
+use bound_base::NoMemory;
 use load_tree::Loads;
 
 // Two amounts over five steps, which meet at step 2: 4 4 11 7 7.
@@ -14,12 +15,13 @@ fn adds_up_where_two_ranges_meet(rt: HostRuntime) {
 
 // The same over more steps than one node has: 30 of load 1, 40 of load 3, and 30 of load 1.
 #[test]
-fn finds_the_greatest_of_parts(rt: HostRuntime) {
-    let mut loads = Loads::new(rt.alloc(), 100).expect(&rt, "memory");
+fn finds_the_greatest_of_parts(rt: HostRuntime) -> Result<(), NoMemory> {
+    let mut loads = Loads::new(rt.alloc(), 100)?;
     loads.add(0, 100, 1);
     loads.add(30, 70, 2);
     let first = [loads.max(0, 30), loads.max(0, 31)];
     same(&rt, "of the first steps", first, [1, 3]);
     let last = [loads.max(69, 71), loads.max(70, 100)];
     same(&rt, "of the last steps", last, [3, 1]);
+    Ok(())
 }
