@@ -1,12 +1,11 @@
 //! Whole runs over sources and sinks in memory. The expected texts and numbers were made by hand.
 ghost use Rattle.std.specs.Prelude.{◌≤◌};
 
-use bound_base::NoMemory;
 use bound_io::{CalmSource, MemSink, MemSource};
 use bound_run::{Status, run};
-use std::alloc::{AllocError, Global};
+use std::alloc::Global;
+use std::fmt::Debug;
 use std::process::Abort;
-use std::test::Fail;
 
 mod checks;
 mod command_line;
@@ -105,15 +104,27 @@ denominator 1\nform plain\nupper 0\nflow 0\nlower 0\nrecords\nend\n",
     },
 ];
 
+// Compares what was found with what is wanted. A comparison in a test's own body would be proved there anew, with the
+// text that it prints.
+fn same<T: Copy + Debug + PartialEq>(rt: &impl Abort, shows: &str, found: T, want: T) {
+    assert_eq!(rt; found, want, "{shows}");
+}
+
+// Expects what is to hold.
+fn holds(rt: &impl Abort, shows: &str, is_so: bool) {
+    assert!(rt; is_so, "{shows}");
+}
+
 // The words of a text, with one space between them, of which one may be empty. An empty text has none.
-fn words_of(alloc: Global, text: &str) -> Result<Vec<String>, AllocError> {
+fn words_of(rt: &impl Abort, alloc: Global, text: &str) -> Vec<String> {
     let mut words = Vec::new(alloc);
     if !text.is_empty() {
         for word in text.split(' ') {
-            words.push(String::from_str(alloc, word)?)?;
+            let word = String::from_str(alloc, word).expect(rt, "memory");
+            words.push(word).expect(rt, "memory");
         }
     }
-    Ok(words)
+    words
 }
 
 // How a run ended, and what its sinks got.
@@ -142,93 +153,109 @@ fn run_over(
 
 impl Row<'_> {
     // The calls of a device that fail.
-    fn fails_of(&self, alloc: Global, device: Device) -> Result<Vec<u64>, AllocError> {
+    fn fails_of(&self, rt: &impl Abort, alloc: Global, device: Device) -> Vec<u64> {
         let mut calls = Vec::new(alloc);
         if let Some((failing, call)) = self.fails {
             if failing == device {
-                calls.push(call)?;
+                calls.push(call).expect(rt, "memory");
             }
         }
-        Ok(calls)
+        calls
     }
 
     fn source(
         &self,
+        rt: &impl Abort,
         alloc: Global,
         device: Device,
         bytes: &[u8],
         step: usize,
-    ) -> Result<MemSource, AllocError>
+    ) -> MemSource
         requires { 1 ≤ step }
     {
-        let bytes = bytes.to_vec(alloc)?;
-        Ok(MemSource::new(bytes, self.fails_of(alloc, device)?, step))
+        let bytes = bytes.to_vec(alloc).expect(rt, "memory");
+        MemSource::new(bytes, self.fails_of(rt, alloc, device), step)
     }
 
-    fn sink(&self, alloc: Global, device: Device) -> Result<MemSink, NoMemory> {
-        MemSink::new(alloc, 4096, self.fails_of(alloc, device)?, 1)
+    fn sink(&self, rt: &impl Abort, alloc: Global, device: Device) -> MemSink {
+        let fails = self.fails_of(rt, alloc, device);
+        MemSink::new(alloc, 4096, fails, 1).expect(rt, "memory")
     }
 
     // Runs over memory, where a read gives so many bytes and a write takes one.
-    fn run_at(&self, alloc: Global, step: usize) -> Result<Ended, NoMemory>
+    fn run_at(&self, rt: &impl Abort, alloc: Global, step: usize) -> Ended
         requires { 1 ≤ step }
     {
-        let words = words_of(alloc, self.words)?;
-        let trace = self.source(alloc, Device::Trace, self.trace, step)?;
-        let cert = self.source(alloc, Device::Cert, self.cert, step)?;
-        let report = self.sink(alloc, Device::Report)?;
-        let made = self.sink(alloc, Device::Made)?;
-        Ok(run_over(alloc, &words, trace, cert, report, made))
+        let words = words_of(rt, alloc, self.words);
+        let trace = self.source(rt, alloc, Device::Trace, self.trace, step);
+        let cert = self.source(rt, alloc, Device::Cert, self.cert, step);
+        let report = self.sink(rt, alloc, Device::Report);
+        let made = self.sink(rt, alloc, Device::Made);
+        run_over(alloc, &words, trace, cert, report, made)
     }
 }
 
 // Runs over memory, a byte a call.
-fn check(rt: &impl Abort, alloc: Global, row: &Row<'_>) -> Result<(), Fail> {
-    check_at(rt, alloc, row, 1)
+fn check(rt: &impl Abort, alloc: Global, row: &Row<'_>) {
+    check_at(rt, alloc, row, 1);
 }
 
 // Runs over memory, where a read gives so many bytes, and checks the status and what the sinks got.
-fn check_at(rt: &impl Abort, alloc: Global, row: &Row<'_>, step: usize) -> Result<(), Fail>
+fn check_at(rt: &impl Abort, alloc: Global, row: &Row<'_>, step: usize)
     requires { 1 ≤ step }
 {
-    let ended = row.run_at(alloc, step)?;
-    assert_eq!(rt; ended.status, row.status, "{}", row.shows);
-    assert_eq!(rt; ended.report.as_slice(), row.report, "{}", row.shows);
-    assert_eq!(rt; ended.made.as_slice(), row.made, "{}", row.shows);
-    Ok(())
+    let ended = row.run_at(rt, alloc, step);
+    same(rt, row.shows, ended.status, row.status);
+    same(rt, row.shows, ended.report.as_slice(), row.report);
+    same(rt, row.shows, ended.made.as_slice(), row.made);
+}
+
+fn check_all(rt: &impl Abort, alloc: Global, rows: &[Row<'_>]) {
+    for row in rows {
+        check(rt, alloc, row);
+    }
+}
+
+// Runs the row with each of the first reads of a device failing in turn.
+fn check_reads(rt: &impl Abort, alloc: Global, device: Device, reads: usize, row: &Row<'_>) {
+    for read in 0..reads {
+        let mut failing = *row;
+        failing.fails = Some((device, read as u64 + 1));
+        check(rt, alloc, &failing);
+    }
+}
+
+// Runs the row with each write of the report failing in turn, so that the report has what was written before it.
+fn check_report_writes(rt: &impl Abort, alloc: Global, row: &Row<'_>) {
+    for taken in 0..row.report.len() {
+        let mut failing = *row;
+        failing.fails = Some((Device::Report, taken as u64 + 1));
+        failing.report = &row.report[..taken];
+        check(rt, alloc, &failing);
+    }
 }
 
 // What comes of a run that is to end well.
-fn done(rt: &impl Abort, alloc: Global, row: &Row<'_>) -> Result<Ended, Fail> {
-    let ended = row.run_at(alloc, 4096)?;
-    assert_eq!(rt; ended.status, Status::Done, "{}", row.shows);
-    Ok(ended)
+fn done(rt: &impl Abort, alloc: Global, row: &Row<'_>) -> Ended {
+    let ended = row.run_at(rt, alloc, 4096);
+    same(rt, row.shows, ended.status, Status::Done);
+    ended
 }
 
 // Checks a certificate that bounds made.
-fn expect_yes<'x>(
-    rt: &impl Abort,
-    alloc: Global,
-    words: &'x str,
-    trace: &'x [u8],
-    cert: &'x [u8],
-) -> Result<(), Fail> {
+fn expect_yes<'x>(rt: &impl Abort, alloc: Global, words: &'x str, trace: &'x [u8], cert: &'x [u8]) {
     let row = Row {
         words,
         trace,
         cert,
         ..GOOD
     };
-    let ended = done(rt, alloc, &row)?;
-    assert!(rt; ended.report.ends_with(b"\nvalid\n"), "{words}");
-    assert!(rt; ended.made.is_empty(), "{words}");
-    Ok(())
+    let ended = done(rt, alloc, &row);
+    holds(rt, words, ended.report.ends_with(b"\nvalid\n"));
+    holds(rt, words, ended.made.is_empty());
 }
 
 #[test]
-fn traces_give_their_bounds(rt: HostRuntime) -> Result<(), Fail> {
-    for row in &ROWS {
-        check(&rt, rt.alloc(), row)?;
-    }
-    Ok(())
+fn traces_give_their_bounds(rt: HostRuntime) {
+    check_all(&rt, rt.alloc(), &ROWS);
 }

@@ -5,13 +5,12 @@ use cache_rules::Objective;
 use constant_price::least;
 use std::alloc::Global;
 use std::process::Abort;
-use std::test::Fail;
 
 // Requests by id and size, how their bound is made, and its least price.
 #[derive(Clone, Copy)]
 struct Row<'a> {
     shows: &'a str,
-    requests: &'a [(u64, u64)],
+    requests: &'a [[u64; 2]],
     capacity: u64,
     objective: Objective,
     unit: u64,
@@ -23,7 +22,7 @@ struct Row<'a> {
 // more than they pay, the next price adds 5 and takes away 9.
 const THREE: Row<'static> = Row {
     shows: "three intervals over 1",
-    requests: &[(1, 1), (2, 1), (3, 1), (1, 1), (2, 1), (3, 1)],
+    requests: &[[1, 1], [2, 1], [3, 1], [1, 1], [2, 1], [3, 1]],
     capacity: 1,
     objective: Objective::Object,
     unit: 1,
@@ -68,12 +67,12 @@ const OTHERS: [Row<'static>; 6] = [
     Row {
         shows: "the same with sizes and gains of 2^48",
         requests: &[
-            (1, SIZE),
-            (2, SIZE),
-            (3, SIZE),
-            (1, SIZE),
-            (2, SIZE),
-            (3, SIZE),
+            [1, SIZE],
+            [2, SIZE],
+            [3, SIZE],
+            [1, SIZE],
+            [2, SIZE],
+            [3, SIZE],
         ],
         capacity: SIZE,
         objective: Objective::Bytes,
@@ -83,7 +82,7 @@ const OTHERS: [Row<'static>; 6] = [
     },
     Row {
         shows: "no price is least where room is dear",
-        requests: &[(1, 2), (2, 3), (1, 2), (2, 3)],
+        requests: &[[1, 2], [2, 3], [1, 2], [2, 3]],
         capacity: 4,
         denominator: 6,
         price: 0,
@@ -91,7 +90,7 @@ const OTHERS: [Row<'static>; 6] = [
     },
     Row {
         shows: "the lesser of two that are equal",
-        requests: &[(1, 2), (2, 2), (1, 2), (1, 2), (2, 2), (1, 2)],
+        requests: &[[1, 2], [2, 2], [1, 2], [1, 2], [2, 2], [1, 2]],
         capacity: 2,
         unit: 2,
         denominator: 6,
@@ -101,17 +100,17 @@ const OTHERS: [Row<'static>; 6] = [
     Row {
         shows: "sizes in units",
         requests: &[
-            (1, 8),
-            (4, 6),
-            (1, 8),
-            (2, 2),
-            (1, 8),
-            (4, 6),
-            (4, 6),
-            (3, 2),
-            (1, 8),
-            (3, 2),
-            (3, 2),
+            [1, 8],
+            [4, 6],
+            [1, 8],
+            [2, 2],
+            [1, 8],
+            [4, 6],
+            [4, 6],
+            [3, 2],
+            [1, 8],
+            [3, 2],
+            [3, 2],
         ],
         capacity: 8,
         objective: Objective::Bytes,
@@ -128,35 +127,33 @@ const OTHERS: [Row<'static>; 6] = [
     },
     Row {
         shows: "no step with a price",
-        requests: &[(1, 1)],
+        requests: &[[1, 1]],
         denominator: 1 << 48,
         price: 0,
         ..THREE
     },
 ];
 
-fn least_of(rt: &impl Abort, alloc: Global, row: &Row<'_>) -> Result<u128, Fail> {
-    let intervals = intervals_of(rt, alloc, row.requests, row.capacity, row.objective)?;
-    assert!(rt; row.unit >= 1);
-    assert!(rt; row.denominator <= 1 << 48);
+fn least_of(rt: &impl Abort, alloc: Global, row: &Row<'_>) -> u128 {
+    let intervals = intervals_of(rt, alloc, row.requests, row.capacity, row.objective);
+    assert!(rt; row.unit >= 1 && row.denominator <= 1 << 48);
     let units = row.capacity / row.unit;
-    Ok(least(&intervals, row.unit, units, row.denominator))
+    least(&intervals, row.unit, units, row.denominator)
 }
 
-fn check_all(rt: &impl Abort, alloc: Global, rows: &[Row<'_>]) -> Result<(), Fail> {
+fn check_all(rt: &impl Abort, alloc: Global, rows: &[Row<'_>]) {
     for row in rows {
-        let price = least_of(rt, alloc, row)?;
+        let price = least_of(rt, alloc, row);
         same(rt, row.shows, price, row.price);
     }
-    Ok(())
 }
 
 #[test]
-fn grows_while_the_intervals_pay(rt: HostRuntime) -> Result<(), Fail> {
-    check_all(&rt, rt.alloc(), &WHILE_THEY_PAY)
+fn grows_while_the_intervals_pay(rt: HostRuntime) {
+    check_all(&rt, rt.alloc(), &WHILE_THEY_PAY);
 }
 
 #[test]
-fn finds_the_least_of_each_shape(rt: HostRuntime) -> Result<(), Fail> {
-    check_all(&rt, rt.alloc(), &OTHERS)
+fn finds_the_least_of_each_shape(rt: HostRuntime) {
+    check_all(&rt, rt.alloc(), &OTHERS);
 }

@@ -3,7 +3,6 @@ use crate::compared::same;
 use crate::made::intervals_of_sizes;
 use cache_rules::Objective;
 use interval_maker::Interval;
-use std::test::Fail;
 
 const SIZES: [u64; 7] = [2, 3, 2, 7, 3, 2, 7];
 
@@ -55,13 +54,12 @@ const FITTING: [(u64, Objective, &[Interval]); 3] = [
 ];
 
 #[test]
-fn finds_all_that_fit_by_start_and_end(rt: HostRuntime) -> Result<(), Fail> {
+fn finds_all_that_fit_by_start_and_end(rt: HostRuntime) {
     for (capacity, objective, want) in &FITTING {
-        let made = intervals_of_sizes(&rt, rt.alloc(), &SIZES, *capacity, *objective)?;
+        let made = intervals_of_sizes(&rt, rt.alloc(), &SIZES, *capacity, *objective);
         same(&rt, *capacity, made.as_slice(), *want);
         same(&rt, *capacity, made.steps(), 7);
     }
-    Ok(())
 }
 
 // The numbers of the intervals that start and end at each request, at capacity 5.
@@ -76,12 +74,11 @@ const NUMBERS: [(Option<u32>, Option<u32>); 7] = [
 ];
 
 #[test]
-fn numbers_them_by_start(rt: HostRuntime) -> Result<(), Fail> {
-    let made = intervals_of_sizes(&rt, rt.alloc(), &SIZES, 5, Objective::Bytes)?;
+fn numbers_them_by_start(rt: HostRuntime) {
+    let made = intervals_of_sizes(&rt, rt.alloc(), &SIZES, 5, Objective::Bytes);
     for (t, want) in NUMBERS.iter().enumerate() {
         let t = t as u32;
         assert!(rt; t < made.steps());
         same(&rt, t, (made.starting(t), made.ending(t)), *want);
     }
-    Ok(())
 }

@@ -1,22 +1,21 @@
 //! Loads of a few steps, added up by hand.
 use crate::compared::same;
+use bound_base::NoMemory;
 use load_tree::Loads;
-use std::test::Fail;
 
 // Two amounts over five steps, which meet at step 2: 4 4 11 7 7.
 #[test]
-fn adds_up_where_two_ranges_meet(rt: HostRuntime) -> Result<(), Fail> {
-    let mut loads = Loads::new(rt.alloc(), 5)?;
+fn adds_up_where_two_ranges_meet(rt: HostRuntime) {
+    let mut loads = Loads::new(rt.alloc(), 5).expect(&rt, "memory");
     loads.add(0, 3, 4);
     loads.add(2, 5, 7);
     let greatest = [loads.max(0, 2), loads.max(2, 3), loads.max(3, 5)];
     same(&rt, "of two, one and two steps", greatest, [4, 11, 7]);
-    Ok(())
 }
 
 // The same over more steps than one node has: 30 of load 1, 40 of load 3, and 30 of load 1.
 #[test]
-fn finds_the_greatest_of_parts(rt: HostRuntime) -> Result<(), Fail> {
+fn finds_the_greatest_of_parts(rt: HostRuntime) -> Result<(), NoMemory> {
     let mut loads = Loads::new(rt.alloc(), 100)?;
     loads.add(0, 100, 1);
     loads.add(30, 70, 2);

@@ -4,35 +4,35 @@ ghost use Rattle.std.specs.Prelude.{◌≡◌};
 use cache_rules::{Builder, Object, Objective, Trace};
 use interval_maker::{Intervals, make};
 use relaxation::OuterArc;
-use std::alloc::Global;
+use std::alloc::{AllocError, Global};
 use std::process::Abort;
-use std::test::Fail;
 
 // The trace of requests by id and size.
-fn trace_of(rt: &impl Abort, alloc: Global, requests: &[(u64, u64)]) -> Result<Trace, Fail> {
-    let mut builder = Builder::new(alloc)?;
-    for (id, size) in requests {
-        assert!(rt; builder.len() < 100);
-        assert!(rt; *size >= 1 && *size <= 1 << 48);
-        builder.push(Object {
+fn trace_of(rt: &impl Abort, alloc: Global, requests: &[[u64; 2]]) -> Trace {
+    let mut builder = Builder::new(alloc).expect(rt, "memory");
+    for request in requests {
+        let [id, size] = *request;
+        assert!(rt; builder.len() < 100 && size >= 1 && size <= 1 << 48);
+        let object = Object {
             volume: 0,
-            id: *id,
-            size: *size,
-        })?;
+            id,
+            size,
+        };
+        builder.push(object).expect(rt, "memory");
     }
-    Ok(builder.finish())
+    builder.finish()
 }
 
 /// The intervals of requests by id and size.
 pub fn intervals_of(
     rt: &impl Abort,
     alloc: Global,
-    requests: &[(u64, u64)],
+    requests: &[[u64; 2]],
     capacity: u64,
     objective: Objective,
-) -> Result<Intervals, Fail> {
-    let trace = trace_of(rt, alloc, requests)?;
-    Ok(make(alloc, &trace, capacity, objective)?)
+) -> Intervals {
+    let trace = trace_of(rt, alloc, requests);
+    make(alloc, &trace, capacity, objective).expect(rt, "memory")
 }
 
 /// The intervals of requests for objects of these sizes, of which the ids differ.
@@ -42,8 +42,12 @@ pub fn intervals_of_sizes(
     sizes: &[u64],
     capacity: u64,
     objective: Objective,
-) -> Result<Intervals, Fail> {
-    let requests: Vec<(u64, u64)> = sizes.iter().map(|size| (*size, *size)).collect(alloc)?;
+) -> Intervals {
+    let requests: Result<Vec<[u64; 2]>, AllocError> = sizes
+        .iter()
+        .map(|size| [*size, *size])
+        .collect(alloc);
+    let requests = requests.expect(rt, "memory");
     intervals_of(rt, alloc, &requests, capacity, objective)
 }
 

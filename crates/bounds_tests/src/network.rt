@@ -6,7 +6,6 @@ use bound_base::NoMemory;
 use flow_network::{Edge, Network};
 use relaxation::{Instance, OuterArc};
 use std::alloc::Global;
-use std::test::Fail;
 
 // Two steps with room for three units, and an arc over both that holds two.
 fn over_both(alloc: Global) -> Result<Instance, NoMemory>
@@ -46,10 +45,10 @@ fn reduced(network: &Network<'_>) -> [i128; 2]
 
 // The numbers are worked out by hand.
 #[test]
-fn a_unit_along_the_arc_can_be_taken_back(rt: HostRuntime) -> Result<(), Fail> {
+fn a_unit_along_the_arc_can_be_taken_back(rt: HostRuntime) {
     let alloc = rt.alloc();
-    let instance = over_both(alloc)?;
-    let mut network = Network::new(alloc, &instance)?;
+    let instance = over_both(alloc).expect(&rt, "memory");
+    let mut network = Network::new(alloc, &instance).expect(&rt, "memory");
     same(&rt, "the room at first", room(&network), [3, 3, 0, 2, 0]);
     network.set_potential(0, 7);
     let costs = (network.potential(0), reduced(&network));
@@ -58,5 +57,4 @@ fn a_unit_along_the_arc_can_be_taken_back(rt: HostRuntime) -> Result<(), Fail> {
     same(&rt, "the room then", room(&network), [2, 3, 0, 1, 1]);
     let flows = network.into_flows();
     same(&rt, "the flows", flows.as_slice(), [1].as_slice());
-    Ok(())
 }

@@ -5,25 +5,15 @@ ghost use Rattle.flow_model.specs.Instances.{IsInstance};
 use crate::compared::same;
 use crate::made::{THREE_ARCS, arc};
 use bound_base::NoMemory;
-use flow_solver::Solver;
+use flow_solver::{Solution, Solver};
 use relaxation::{Instance, OuterArc};
 use std::alloc::Global;
-use std::test::Fail;
 
-// The prices and the flows of the solution.
-fn solved(
-    alloc: Global,
-    steps: u32,
-    units: u64,
-    arcs: &[OuterArc],
-) -> Result<(Vec<u128>, Vec<u64>), NoMemory>
+fn solved(alloc: Global, steps: u32, units: u64, arcs: &[OuterArc]) -> Result<Solution, NoMemory>
     requires { IsInstance (record { steps = steps; units = units; arcs = arcs.now }) }
 {
     let instance = Instance::from_arcs(alloc, steps, units, arcs)?;
-    let solution = Solver::new(alloc, &instance)?.solve();
-    let prices = solution.prices().to_vec(alloc)?;
-    let flows = solution.flows().to_vec(alloc)?;
-    Ok((prices, flows))
+    Ok(Solver::new(alloc, &instance)?.solve())
 }
 
 // What the flows earn.
@@ -37,39 +27,33 @@ fn earned(arcs: &[OuterArc], flows: &[u64]) -> u128 {
 
 // Three arcs of which two fit over step 2: its price is what the third would earn. Worked out by hand.
 #[test]
-fn prices_the_step_that_is_too_narrow(rt: HostRuntime) -> Result<(), Fail> {
-    let (prices, flows) = solved(rt.alloc(), 6, 2, &THREE_ARCS)?;
-    same(
-        &rt,
-        "prices",
-        prices.as_slice(),
-        [0, 0, 1, 0, 0, 0].as_slice(),
-    );
-    same(&rt, "what is earned", earned(&THREE_ARCS, &flows), 2);
-    Ok(())
+fn prices_the_step_that_is_too_narrow(rt: HostRuntime) {
+    let found = solved(rt.alloc(), 6, 2, &THREE_ARCS).expect(&rt, "memory");
+    let want = [0, 0, 1, 0, 0, 0];
+    same(&rt, "prices", found.prices(), want.as_slice());
+    let earned = earned(&THREE_ARCS, found.flows());
+    same(&rt, "what is earned", earned, 2);
 }
 
 // The greater cost goes first, and the other arc gets the rest of the room. Worked out by hand.
 #[test]
-fn splits_the_room_by_cost(rt: HostRuntime) -> Result<(), Fail> {
-    let (prices, flows) = solved(rt.alloc(), 4, 4, &[arc(0, 2, 2, 3), arc(1, 3, 3, 2)])?;
-    same(&rt, "prices", prices.as_slice(), [0, 2, 0, 0].as_slice());
-    same(&rt, "flows", flows.as_slice(), [2, 2].as_slice());
-    Ok(())
+fn splits_the_room_by_cost(rt: HostRuntime) {
+    let found = solved(rt.alloc(), 4, 4, &[arc(0, 2, 2, 3), arc(1, 3, 3, 2)]).expect(&rt, "memory");
+    same(&rt, "prices", found.prices(), [0, 2, 0, 0].as_slice());
+    same(&rt, "flows", found.flows(), [2, 2].as_slice());
 }
 
 // Units that went along the first arc are taken back for the other two. Worked out by hand.
 #[test]
-fn takes_back_what_went_along_an_arc(rt: HostRuntime) -> Result<(), Fail> {
+fn takes_back_what_went_along_an_arc(rt: HostRuntime) {
     let arcs = [arc(1, 3, 1, 5), arc(0, 2, 1, 4), arc(2, 4, 1, 4)];
-    let (_, flows) = solved(rt.alloc(), 4, 1, &arcs)?;
-    same(&rt, "flows", flows.as_slice(), [0, 1, 1].as_slice());
-    Ok(())
+    let found = solved(rt.alloc(), 4, 1, &arcs).expect(&rt, "memory");
+    same(&rt, "flows", found.flows(), [0, 1, 1].as_slice());
 }
 
 #[test]
-fn solves_without_steps(rt: HostRuntime) -> Result<(), Fail> {
-    let (prices, flows) = solved(rt.alloc(), 0, 1, &[])?;
-    same(&rt, "counts", (prices.len(), flows.len()), (0, 0));
-    Ok(())
+fn solves_without_steps(rt: HostRuntime) {
+    let found = solved(rt.alloc(), 0, 1, &[]).expect(&rt, "memory");
+    let counts = [found.prices().len(), found.flows().len()];
+    same(&rt, "counts", counts, [0, 0]);
 }

@@ -13,7 +13,6 @@ use relaxation::{
 };
 use std::alloc::Global;
 use std::process::Abort;
-use std::test::Fail;
 
 // A capacity at which each interval fits.
 const LARGEST: u64 = 1 << 56;
@@ -28,12 +27,11 @@ const UNITS: [(&[u64], u64); 4] = [
 ];
 
 #[test]
-fn weighs_by_the_greatest_divisor(rt: HostRuntime) -> Result<(), Fail> {
+fn weighs_by_the_greatest_divisor(rt: HostRuntime) {
     for (sizes, want) in &UNITS {
-        let unit = unit_of(&intervals_of_sizes(&rt, rt.alloc(), sizes, LARGEST, HITS)?);
+        let unit = unit_of(&intervals_of_sizes(&rt, rt.alloc(), sizes, LARGEST, HITS));
         same(&rt, *sizes, unit, *want);
     }
-    Ok(())
 }
 
 const HALF: u128 = 1 << 125;
@@ -132,23 +130,21 @@ fn denominator_of(
 }
 
 #[test]
-fn denominator_is_within_its_limit(rt: HostRuntime) -> Result<(), Fail> {
+fn denominator_is_within_its_limit(rt: HostRuntime) {
     for row in &DENOMINATORS {
-        let intervals = intervals_of_sizes(&rt, rt.alloc(), row.sizes, LARGEST, row.objective)?;
+        let intervals = intervals_of_sizes(&rt, rt.alloc(), row.sizes, LARGEST, row.objective);
         assert!(rt; is_choice(row.choice));
         let found = denominator_of(&intervals, row.choice);
         same(&rt, row.sizes, found, row.want);
     }
-    Ok(())
 }
 
 #[test]
-fn bounds_are_over_the_denominator(rt: HostRuntime) -> Result<(), Fail> {
-    let intervals = intervals_of_sizes(&rt, rt.alloc(), &BY_TURNS, LARGEST, HITS)?;
+fn bounds_are_over_the_denominator(rt: HostRuntime) {
+    let intervals = intervals_of_sizes(&rt, rt.alloc(), &BY_TURNS, LARGEST, HITS);
     assert_eq!(rt; intervals.steps(), 4);
-    let sums = Sums::new(rt.alloc(), &[0, 2, 0, 0], 4)?;
+    let sums = Sums::new(rt.alloc(), &[0, 2, 0, 0], 4).expect(&rt, "memory");
     same(&rt, "the bound", bound_of(&intervals, 1, 4, 6, &sums), 10);
-    Ok(())
 }
 
 const FLOWS: [([u64; 2], Result<u128, FlowFault>); 4] = [
@@ -159,14 +155,13 @@ const FLOWS: [([u64; 2], Result<u128, FlowFault>); 4] = [
 ];
 
 #[test]
-fn values_are_over_the_denominator(rt: HostRuntime) -> Result<(), Fail> {
-    let intervals = intervals_of_sizes(&rt, rt.alloc(), &BY_TURNS, LARGEST, HITS)?;
+fn values_are_over_the_denominator(rt: HostRuntime) {
+    let intervals = intervals_of_sizes(&rt, rt.alloc(), &BY_TURNS, LARGEST, HITS);
     assert_eq!(rt; intervals.as_slice().len(), 2);
     for (flows, want) in &FLOWS {
         let value = flow_value(&intervals, 1, 4, 6, flows);
         same(&rt, *flows, value, *want);
     }
-    Ok(())
 }
 
 fn whole_over(alloc: Global, intervals: &Intervals, denominator: u64) -> Result<Instance, NoMemory>
@@ -177,13 +172,12 @@ fn whole_over(alloc: Global, intervals: &Intervals, denominator: u64) -> Result<
 
 // Sizes 2 and 3 by turns: the costs are 6 / 2 and 6 / 3, and over 4 the second is 4 / 3, rounded up.
 #[test]
-fn has_an_arc_for_each_interval(rt: HostRuntime) -> Result<(), Fail> {
-    let intervals = intervals_of_sizes(&rt, rt.alloc(), &BY_TURNS, LARGEST, HITS)?;
+fn has_an_arc_for_each_interval(rt: HostRuntime) {
+    let intervals = intervals_of_sizes(&rt, rt.alloc(), &BY_TURNS, LARGEST, HITS);
     for (denominator, cost) in [(6, 3), (4, 2)] {
-        let whole = whole_over(rt.alloc(), &intervals, denominator)?;
+        let whole = whole_over(rt.alloc(), &intervals, denominator).expect(&rt, "memory");
         same(&rt, denominator, (whole.steps(), whole.units()), (4, 4));
         let arcs = [arc(0, 2, 2, cost), arc(1, 3, 3, 2)];
         same(&rt, denominator, whole.arcs(), arcs.as_slice());
     }
-    Ok(())
 }

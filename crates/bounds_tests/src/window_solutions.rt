@@ -7,7 +7,6 @@ use crate::made::{THREE_ARCS, arc};
 use bound_base::NoMemory;
 use relaxation::{Instance, OuterArc};
 use std::alloc::Global;
-use std::test::Fail;
 use window_bounds::{WindowSolution, solve_windows};
 
 fn solved(
@@ -26,44 +25,40 @@ fn solved(
 
 // Three arcs of three steps, of which two fit over step 2. In one window that step has the price of the third.
 #[test]
-fn one_window_prices_the_narrow_step(rt: HostRuntime) -> Result<(), Fail> {
+fn one_window_prices_the_narrow_step(rt: HostRuntime) {
     for width in [6, 7, u32::MAX] {
-        let found = solved(rt.alloc(), 6, 2, &THREE_ARCS, width)?;
+        let found = solved(rt.alloc(), 6, 2, &THREE_ARCS, width).expect(&rt, "memory");
         let prices = found.prices();
         same(&rt, width, prices, [0, 0, 1, 0, 0, 0].as_slice());
         let flow = found.flows().iter().filter(|flow| **flow == 1).count();
         same(&rt, width, flow, 2);
     }
-    Ok(())
 }
 
 // In windows of three steps no step of the first has a price: the second and third arc cost nothing in it.
 #[test]
-fn narrow_windows_price_less(rt: HostRuntime) -> Result<(), Fail> {
-    let found = solved(rt.alloc(), 6, 2, &THREE_ARCS, 3)?;
+fn narrow_windows_price_less(rt: HostRuntime) {
+    let found = solved(rt.alloc(), 6, 2, &THREE_ARCS, 3).expect(&rt, "memory");
     same(&rt, "prices", found.prices().len(), 6);
     for (step, price) in found.prices().iter().enumerate() {
         holds(&rt, step, step == 3 || *price == 0);
     }
     same(&rt, "a flow", found.flows().first().copied(), Some(1));
     same(&rt, "its flag", found.full().first().copied(), Some(true));
-    Ok(())
 }
 
 // The first arc has room in its first window, and in its second one the other arc earns more.
 #[test]
-fn flow_is_the_least_of_its_parts(rt: HostRuntime) -> Result<(), Fail> {
+fn flow_is_the_least_of_its_parts(rt: HostRuntime) {
     let arcs = [arc(0, 4, 1, 10), arc(2, 4, 1, 20)];
-    let found = solved(rt.alloc(), 4, 1, &arcs, 2)?;
+    let found = solved(rt.alloc(), 4, 1, &arcs, 2).expect(&rt, "memory");
     same(&rt, "flows", found.flows(), [0, 1].as_slice());
     same(&rt, "flags", found.full(), [false, true].as_slice());
-    Ok(())
 }
 
 #[test]
-fn no_step_has_no_price(rt: HostRuntime) -> Result<(), Fail> {
-    let found = solved(rt.alloc(), 0, 1, &[], 1)?;
-    let counts = (found.prices().len(), found.flows().len());
-    same(&rt, "counts", counts, (0, 0));
-    Ok(())
+fn no_step_has_no_price(rt: HostRuntime) {
+    let found = solved(rt.alloc(), 0, 1, &[], 1).expect(&rt, "memory");
+    let counts = [found.prices().len(), found.flows().len()];
+    same(&rt, "counts", counts, [0, 0]);
 }

@@ -6,7 +6,6 @@ use crate::made::arc;
 use bound_base::NoMemory;
 use relaxation::{Instance, OuterArc, Windows, window_instance};
 use std::alloc::Global;
-use std::test::Fail;
 
 // Eleven steps. An arc over ten of them, two arcs of three steps, and one that begins late but comes first.
 fn whole(alloc: Global) -> Result<Instance, NoMemory>
@@ -91,31 +90,29 @@ const PARTS: [(u32, u32, &[OuterArc]); 3] = [
 ];
 
 #[test]
-fn shares_the_cost_and_leaves_the_rest_to_the_last(rt: HostRuntime) -> Result<(), Fail> {
-    let whole = whole(rt.alloc())?;
+fn shares_the_cost_and_leaves_the_rest_to_the_last(rt: HostRuntime) {
+    let whole = whole(rt.alloc()).expect(&rt, "memory");
     for (number, steps, arcs) in &PARTS {
         assert!(rt; *number < 4);
-        let part = window_instance(rt.alloc(), &whole, 3, *number)?;
+        let part = window_instance(rt.alloc(), &whole, 3, *number).expect(&rt, "memory");
         same(&rt, *number, (part.steps(), part.units()), (*steps, 2));
         same(&rt, *number, part.arcs(), *arcs);
     }
-    Ok(())
 }
 
 const NUMBERS: [&[u32]; 4] = [&[1, 2, 3], &[0, 1, 2, 3], &[0, 1], &[1]];
 
 #[test]
-fn goes_through_the_windows_in_order(rt: HostRuntime) -> Result<(), Fail> {
+fn goes_through_the_windows_in_order(rt: HostRuntime) {
     let alloc = rt.alloc();
-    let whole = whole(alloc)?;
-    let mut windows = Windows::new(alloc, &whole, 3)?;
+    let whole = whole(alloc).expect(&rt, "memory");
+    let mut windows = Windows::new(alloc, &whole, 3).expect(&rt, "memory");
     for numbers in &NUMBERS {
         assert!(rt; windows.has_step());
         same(&rt, *numbers, windows.numbers(), *numbers);
-        let parts = windows.instance(alloc)?;
+        let parts = windows.instance(alloc).expect(&rt, "memory");
         same(&rt, *numbers, parts.arcs().len(), numbers.len());
         windows.advance();
     }
     assert!(rt; !windows.has_step());
-    Ok(())
 }

@@ -3,12 +3,11 @@ ghost use Rattle.std.specs.Prelude.{◌≡◌, ◌≤◌};
 ghost use Rattle.cert_format.specs.declared.reader.Stage.TheVariants.{AtHeader};
 
 use crate::compared::{holds, same};
-use bound_base::NoMemory;
 use bound_io::{Failed, MemSink, MemSource, Source};
 use cache_model::{Header, Objective, Record};
 use cert_format::{CertFault, CertReader, TextKind, write_end, write_header, write_record};
 use std::alloc::Global;
-use std::test::Fail;
+use std::process::Abort;
 
 // The certificate of two requests of one object of 4 bytes, at a capacity of 10.
 const LINES: [&[u8]; 14] = [
@@ -55,79 +54,63 @@ const LAST: Record = Record {
 const STEPS: [usize; 3] = [1, 7, 100000];
 
 // The text of the certificate, of which this line, from 1, is another one. Line 0 is none.
-fn text_with(alloc: Global, line: usize, other: &[u8]) -> Result<Vec<u8>, NoMemory> {
+fn text_with(rt: &impl Abort, alloc: Global, line: usize, other: &[u8]) -> Vec<u8> {
     let mut text = Vec::new(alloc);
     for (place, words) in LINES.iter().enumerate() {
-        text.extend_from_slice(if place + 1 == line { other } else { *words })?;
-        text.push(b'\n')?;
+        let words = if place + 1 == line { other } else { *words };
+        text.extend_from_slice(words).expect(rt, "memory");
+        text.push(b'\n').expect(rt, "memory");
     }
-    Ok(text)
+    text
 }
 
 // The header, the first and the last record of a text, or its fault.
-#[derive(Clone, Copy, Debug, PartialEq, Eq)]
-enum Read {
-    Whole {
-        header: Header,
-        first: Record,
-        last: Record,
-    },
-    Fault(CertFault),
-}
+type Read = Result<(Header, Record, Record), CertFault>;
 
-const WHOLE: Read = Read::Whole {
-    header: HEADER,
-    first: FIRST,
-    last: LAST,
-};
+const WHOLE: Read = Ok((HEADER, FIRST, LAST));
 
-fn read_all(alloc: Global, text: &[u8], step: usize) -> Result<Read, NoMemory>
-    requires { 1 ≤ step }
+// What is read from a source, from the header to the end.
+fn read_through(reader: &mut CertReader, source: &mut MemSource) -> Read
+    requires { reader.old.stage ≡ AtHeader }
 {
-    let mut source = MemSource::new(text.to_vec(alloc)?, Vec::new(alloc), step);
-    let mut reader = CertReader::new(alloc)?;
-    let header = match reader.header(&mut source) {
-        Ok(header) => header,
-        Err(fault) => return Ok(Read::Fault(fault)),
-    };
+    let header = reader.header(source)?;
     let (mut first, mut last) = (LAST, FIRST);
     for place in 0..header.requests {
-        match reader.next_record(&mut source) {
-            Ok(record) => last = record,
-            Err(fault) => return Ok(Read::Fault(fault)),
-        }
+        last = reader.next_record(source)?;
         if place == 0 {
             first = last;
         }
     }
-    Ok(match reader.finish_text(&mut source) {
-        Ok(()) => Read::Whole {
-            header,
-            first,
-            last,
-        },
-        Err(fault) => Read::Fault(fault),
-    })
+    reader.finish_text(source)?;
+    Ok((header, first, last))
+}
+
+fn read_all(rt: &impl Abort, alloc: Global, text: &[u8], step: usize) -> Read
+    requires { 1 ≤ step }
+{
+    let bytes = text.to_vec(alloc).expect(rt, "memory");
+    let mut source = MemSource::new(bytes, Vec::new(alloc), step);
+    let mut reader = CertReader::new(alloc).expect(rt, "memory");
+    read_through(&mut reader, &mut source)
 }
 
 // The same of the certificate with another line.
-fn read_with(alloc: Global, line: usize, other: &[u8], step: usize) -> Result<Read, NoMemory>
+fn read_with(rt: &impl Abort, alloc: Global, line: usize, other: &[u8], step: usize) -> Read
     requires { 1 ≤ step }
 {
-    read_all(alloc, &text_with(alloc, line, other)?, step)
+    read_all(rt, alloc, &text_with(rt, alloc, line, other), step)
 }
 
 fn bad_text(line: u64, kind: TextKind) -> Read {
-    Read::Fault(CertFault::BadText { line, kind })
+    Err(CertFault::BadText { line, kind })
 }
 
 #[test]
-fn a_certificate_is_read_however_it_is_cut(rt: HostRuntime) -> Result<(), NoMemory> {
+fn a_certificate_is_read_however_it_is_cut(rt: HostRuntime) {
     for step in STEPS {
-        let read = read_with(rt.alloc(), 0, b"", step)?;
+        let read = read_with(&rt, rt.alloc(), 0, b"", step);
         same(&rt, step, read, WHOLE);
     }
-    Ok(())
 }
 
 const REFUSED: [(usize, &[u8], TextKind); 24] = [
@@ -170,12 +153,11 @@ const REFUSED: [(usize, &[u8], TextKind); 24] = [
 ];
 
 #[test]
-fn a_line_is_refused_for_its_first_fault(rt: HostRuntime) -> Result<(), NoMemory> {
+fn a_line_is_refused_for_its_first_fault(rt: HostRuntime) {
     for (line, text, kind) in &REFUSED {
-        let read = read_with(rt.alloc(), *line, text, 50)?;
+        let read = read_with(&rt, rt.alloc(), *line, text, 50);
         same(&rt, *text, read, bad_text(*line as u64, *kind));
     }
-    Ok(())
 }
 
 const AT_THE_END: [(usize, &[u8]); 7] = [
@@ -192,54 +174,56 @@ const AT_THE_END: [(usize, &[u8]); 7] = [
 ];
 
 #[test]
-fn a_number_at_the_end_of_its_range_is_read(rt: HostRuntime) -> Result<(), NoMemory> {
+fn a_number_at_the_end_of_its_range_is_read(rt: HostRuntime) {
     for (line, text) in &AT_THE_END {
-        let read = read_with(rt.alloc(), *line, text, 50)?;
-        holds(&rt, *text, matches!(read, Read::Whole { .. }));
+        let read = read_with(&rt, rt.alloc(), *line, text, 50);
+        holds(&rt, *text, read.is_ok());
     }
-    Ok(())
 }
 
 #[test]
-fn a_front_is_truncated_at_the_line_where_it_ends(rt: HostRuntime) -> Result<(), NoMemory> {
-    let text = text_with(rt.alloc(), 0, b"")?;
+fn a_front_is_truncated_at_the_line_where_it_ends(rt: HostRuntime) {
+    let text = text_with(&rt, rt.alloc(), 0, b"");
     let mut line = 1;
     for (end, byte) in text.iter().enumerate() {
-        let read = read_all(rt.alloc(), &text[..end], 9)?;
-        let want = Read::Fault(CertFault::Truncated { line });
+        let read = read_all(&rt, rt.alloc(), &text[..end], 9);
+        let want = Err(CertFault::Truncated { line });
         same(&rt, end, read, want);
         if *byte == b'\n' && line < 20 {
             line += 1;
         }
     }
-    Ok(())
 }
 
 // A byte so many times, and what follows it.
-fn repeated(alloc: Global, byte: u8, count: usize, end: &[u8]) -> Result<Vec<u8>, NoMemory> {
-    let mut text = vec![in alloc; byte; count]?;
-    text.extend_from_slice(end)?;
-    Ok(text)
+fn repeated(rt: &impl Abort, alloc: Global, byte: u8, count: usize, end: &[u8]) -> Vec<u8> {
+    let mut text = vec![in alloc; byte; count].expect(rt, "memory");
+    text.extend_from_slice(end).expect(rt, "memory");
+    text
 }
 
 // What is read of the certificate with more bytes after it.
-fn read_before(alloc: Global, more: &[u8]) -> Result<Read, NoMemory> {
-    let mut text = text_with(alloc, 0, b"")?;
-    text.extend_from_slice(more)?;
-    read_all(alloc, &text, 1000)
+fn read_before(rt: &impl Abort, alloc: Global, more: &[u8]) -> Read {
+    let mut text = text_with(rt, alloc, 0, b"");
+    text.extend_from_slice(more).expect(rt, "memory");
+    read_all(rt, alloc, &text, 1000)
 }
 
 const MORE: [&[u8]; 4] = [b"\n", b"x", b"end\n", b"\r\n"];
 
 #[test]
-fn whatever_follows_the_end_is_trailing(rt: HostRuntime) -> Result<(), NoMemory> {
-    let want = Read::Fault(CertFault::Trailing { line: 15 });
+fn whatever_follows_the_end_is_trailing(rt: HostRuntime) {
+    let want = Err(CertFault::Trailing { line: 15 });
     for more in &MORE {
-        same(&rt, *more, read_before(rt.alloc(), more)?, want);
+        same(&rt, *more, read_before(&rt, rt.alloc(), more), want);
     }
-    let long = repeated(rt.alloc(), b'x', 70000, b"")?;
-    same(&rt, "70000 bytes", read_before(rt.alloc(), &long)?, want);
-    Ok(())
+    let long = repeated(&rt, rt.alloc(), b'x', 70000, b"");
+    same(
+        &rt,
+        "70000 bytes",
+        read_before(&rt, rt.alloc(), &long),
+        want,
+    );
 }
 
 const LONG_LINES: [(usize, &[u8], CertFault); 4] = [
@@ -271,22 +255,21 @@ const LONG_LINES: [(usize, &[u8], CertFault); 4] = [
 ];
 
 #[test]
-fn a_long_line_is_told_from_a_cut_one(rt: HostRuntime) -> Result<(), NoMemory> {
+fn a_long_line_is_told_from_a_cut_one(rt: HostRuntime) {
     for (count, end, fault) in &LONG_LINES {
-        let text = repeated(rt.alloc(), b'9', *count, end)?;
-        let read = read_all(rt.alloc(), &text, 4096)?;
-        same(&rt, *count, read, Read::Fault(*fault));
+        let text = repeated(&rt, rt.alloc(), b'9', *count, end);
+        let read = read_all(&rt, rt.alloc(), &text, 4096);
+        same(&rt, *count, read, Err(*fault));
     }
-    Ok(())
 }
 
 #[test]
-fn a_number_of_60000_digits_is_out_of_range(rt: HostRuntime) -> Result<(), NoMemory> {
-    let mut words = b"upper 1".to_vec(rt.alloc())?;
-    words.extend_from_slice(&repeated(rt.alloc(), b'0', 60000, b"")?)?;
-    let read = read_with(rt.alloc(), 8, &words, 4096)?;
+fn a_number_of_60000_digits_is_out_of_range(rt: HostRuntime) {
+    let zeros = repeated(&rt, rt.alloc(), b'0', 60000, b"");
+    let mut words = b"upper 1".to_vec(rt.alloc()).expect(&rt, "memory");
+    words.extend_from_slice(&zeros).expect(&rt, "memory");
+    let read = read_with(&rt, rt.alloc(), 8, &words, 4096);
     same(&rt, "60000 digits", read, bad_text(8, TextKind::Range));
-    Ok(())
 }
 
 // The faults of a first call and of three more.
@@ -301,16 +284,16 @@ fn faults(reader: &mut CertReader, source: &mut MemSource) -> Option<[CertFault;
 }
 
 #[test]
-fn a_failed_read_is_answered_again_and_nothing_more_is_read(rt: HostRuntime) -> Result<(), Fail> {
-    let alloc = rt.alloc();
-    let mut source = MemSource::new(text_with(alloc, 0, b"")?, vec![in alloc; 3]?, 50);
-    let mut reader = CertReader::new(alloc)?;
+fn a_failed_read_is_answered_again_and_nothing_more_is_read(rt: HostRuntime) {
+    let text = text_with(&rt, rt.alloc(), 0, b"");
+    let fails = vec![in rt.alloc(); 3].expect(&rt, "memory");
+    let mut source = MemSource::new(text, fails, 50);
+    let mut reader = CertReader::new(rt.alloc()).expect(&rt, "memory");
     let found = faults(&mut reader, &mut source);
     same(&rt, "a failed read", found, Some([CertFault::ReadFault; 4]));
-    let counts = (reader.line(), reader.consumed(), reader.taken());
-    same(&rt, "the counts", counts, (7, 98, 100));
+    let counts = [reader.line(), reader.consumed(), reader.taken()];
+    same(&rt, "the counts", counts, [7, 98, 100]);
     same(&rt, "what is left", source.read(&mut [0; 100]), Ok(45));
-    Ok(())
 }
 
 const LONG_HEADER: Header = Header {
@@ -327,20 +310,37 @@ fn write_long(sink: &mut MemSink) -> Result<(), Failed> {
     Ok(())
 }
 
+fn long_text(rt: &impl Abort, alloc: Global) -> Vec<u8> {
+    let mut sink = MemSink::new(alloc, 200000, Vec::new(alloc), 1000).expect(rt, "memory");
+    same(rt, "a long text", write_long(&mut sink), Ok(()));
+    sink.into_bytes()
+}
+
+// The header and the first record of a text, which is the last where there is none.
+fn read_front(
+    reader: &mut CertReader,
+    source: &mut MemSource,
+) -> Result<(Header, Record), CertFault>
+    requires { reader.old.stage ≡ AtHeader }
+{
+    let header = reader.header(source)?;
+    let mut record = LAST;
+    if header.requests >= 1 {
+        record = reader.next_record(source)?;
+    }
+    Ok((header, record))
+}
+
 #[test]
-fn at_most_a_buffer_is_taken_ahead(rt: HostRuntime) -> Result<(), Fail> {
-    let alloc = rt.alloc();
-    let mut sink = MemSink::new(alloc, 200000, Vec::new(alloc), 1000)?;
-    write_long(&mut sink)?;
-    let mut source = MemSource::new(sink.into_bytes(), Vec::new(alloc), 100000);
-    let mut reader = CertReader::new(alloc)?;
-    let header = reader.header(&mut source);
-    assert!(rt; header == Ok(LONG_HEADER));
-    same(&rt, "a record", reader.next_record(&mut source), Ok(FIRST));
+fn at_most_a_buffer_is_taken_ahead(rt: HostRuntime) {
+    let text = long_text(&rt, rt.alloc());
+    let mut source = MemSource::new(text, Vec::new(rt.alloc()), 100000);
+    let mut reader = CertReader::new(rt.alloc()).expect(&rt, "memory");
+    let front = read_front(&mut reader, &mut source);
+    same(&rt, "the front", front, Ok((LONG_HEADER, FIRST)));
     // The lines of the header have 133 bytes, that of the record 6.
-    let counts = (reader.line(), reader.consumed(), reader.taken());
-    same(&rt, "the counts", counts, (12, 139, 65536));
-    Ok(())
+    let counts = [reader.line(), reader.consumed(), reader.taken()];
+    same(&rt, "the counts", counts, [12, 139, 65536]);
 }
 
 const HEADERS: [(Header, bool); 4] = [
@@ -375,36 +375,35 @@ fn numbers_are_in_range_or_not(rt: HostRuntime) {
     holds(&rt, "records", FIRST.in_range() && !DEAR.in_range());
 }
 
-// What is written of the certificate to a sink that fails at one call, or at none where its number is 0.
-fn written(
-    alloc: Global,
-    failing: u64,
-    step: usize,
-) -> Result<(Result<(), Failed>, Vec<u8>), NoMemory>
-    requires { 1 ≤ step }
-{
-    let mut sink = MemSink::new(alloc, 1000, vec![in alloc; failing]?, step)?;
-    let answer = write(&mut sink);
-    Ok((answer, sink.into_bytes()))
-}
-
-#[test]
-fn what_is_written_is_the_text(rt: HostRuntime) -> Result<(), NoMemory> {
-    let text = text_with(rt.alloc(), 0, b"")?;
-    for step in STEPS {
-        let (answer, bytes) = written(rt.alloc(), 0, step)?;
-        same(&rt, step, answer, Ok(()));
-        same(&rt, step, bytes.as_slice(), text.as_slice());
-    }
-    let (answer, bytes) = written(rt.alloc(), 3, 1)?;
-    same(&rt, "a failed write", answer, Err(Failed));
-    same(&rt, "a failed write", bytes.as_slice(), b"ca".as_slice());
-    Ok(())
-}
-
 fn write(sink: &mut MemSink) -> Result<(), Failed> {
     write_header(sink, &HEADER)?;
     write_record(sink, &FIRST)?;
     write_record(sink, &LAST)?;
     write_end(sink)
+}
+
+// Writes the certificate to a sink that fails at one call, or at none where its number is 0.
+fn check_written(
+    rt: &impl Abort,
+    alloc: Global,
+    failing: u64,
+    step: usize,
+    want: Result<(), Failed>,
+    text: &[u8],
+)
+    requires { 1 ≤ step }
+{
+    let fails = vec![in alloc; failing].expect(rt, "memory");
+    let mut sink = MemSink::new(alloc, 1000, fails, step).expect(rt, "memory");
+    same(rt, (failing, step), write(&mut sink), want);
+    same(rt, (failing, step), sink.written(), text);
+}
+
+#[test]
+fn what_is_written_is_the_text(rt: HostRuntime) {
+    let text = text_with(&rt, rt.alloc(), 0, b"");
+    for step in STEPS {
+        check_written(&rt, rt.alloc(), 0, step, Ok(()), &text);
+    }
+    check_written(&rt, rt.alloc(), 3, 1, Err(Failed), b"ca");
 }

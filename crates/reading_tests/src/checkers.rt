@@ -1,5 +1,5 @@
 //! Small certificates through a checker. The numbers were worked out by hand.
-ghost use Rattle.std.specs.Prelude.{◌≡◌, ◌<◌, ◌≤◌, ◌^◌, true, OnErr};
+ghost use Rattle.std.specs.Prelude.{◌≡◌, ◌<◌, ◌≤◌, ◌+◌, ◌^◌, true, OnErr, OnOk};
 
 use crate::compared::{holds, same};
 use cache_model::{Object, Objective};
@@ -7,10 +7,9 @@ use cert_checker::{Checker, StepFault, Verdict};
 use cert_format::{Header, InvalidKind, Record};
 use std::alloc::Global;
 use std::process::Abort;
-use std::test::Fail;
 
 // What a checker says of a whole certificate.
-#[derive(Clone, Copy, Debug, PartialEq, Eq)]
+#[derive(Clone, Copy, PartialEq, Eq)]
 enum Answer {
     Yes(Verdict),
     Refused { step: u32, fault: StepFault },
@@ -308,77 +307,76 @@ fn is_sized(object: &Object) -> bool
     1 <= object.size && object.size <= 1 << 48
 }
 
-// Checks a whole certificate.
+// One step.
+fn step_of(
+    rt: &impl Abort,
+    alloc: Global,
+    checker: &mut Checker,
+    object: Object,
+    entry: Record,
+) -> Result<(), StepFault>
+    requires { checker.old.sums.steps < checker.old.header.requests }
+    ensures counts { OnOk result ((checker.new.header ≡ checker.old.header) × (checker.new.sums.steps ≡ checker.old.sums.steps + 1)) }
+    ensures kept { OnErr result (checker.new ≡ checker.old) }
+{
+    assert!(rt; is_sized(&object) && entry.in_range());
+    checker.step(alloc, object, entry)
+}
+
+// The steps of a whole certificate, to the first that is refused.
 fn answer_of(
     rt: &impl Abort,
     alloc: Global,
     header: Header,
     requests: &[Object],
     records: &[Record],
-) -> Result<Answer, Fail> {
+) -> Answer {
     assert!(rt; header.in_range());
     assert!(rt; requests.len() == header.requests as usize);
     assert!(rt; records.len() == requests.len());
-    let mut checker = Checker::new(alloc, header)?;
+    let mut checker = Checker::new(alloc, header).expect(rt, "memory");
     for t in 0..requests.len() {
-        assert!(rt; is_sized(&requests[t]));
-        assert!(rt; records[t].in_range());
-        if let Err(fault) = checker.step(alloc, requests[t], records[t]) {
-            return Ok(Answer::Refused {
+        if let Err(fault) = step_of(rt, alloc, &mut checker, requests[t], records[t]) {
+            return Answer::Refused {
                 step: t as u32,
                 fault,
-            });
+            };
         }
     }
-    Ok(match checker.finish() {
+    match checker.finish() {
         Ok(verdict) => Answer::Yes(verdict),
         Err(kind) => Answer::RefusedAtEnd(kind),
-    })
+    }
 }
 
-fn check_all(rt: &impl Abort, alloc: Global, rows: &[Row<'_>]) -> Result<(), Fail> {
+fn check_all(rt: &impl Abort, alloc: Global, rows: &[Row<'_>]) {
     for row in rows {
-        let answer = answer_of(rt, alloc, row.header, row.requests, row.records)?;
+        let answer = answer_of(rt, alloc, row.header, row.requests, row.records);
         holds(rt, row.name, answer == row.answer);
     }
-    Ok(())
 }
 
 #[test]
-fn says_yes_to_valid_certificates(rt: HostRuntime) -> Result<(), Fail> {
-    check_all(&rt, rt.alloc(), &VALID)
+fn says_yes_to_valid_certificates(rt: HostRuntime) {
+    check_all(&rt, rt.alloc(), &VALID);
 }
 
 #[test]
-fn names_the_rule_that_a_certificate_fails(rt: HostRuntime) -> Result<(), Fail> {
-    check_all(&rt, rt.alloc(), &INVALID)
+fn names_the_rule_that_a_certificate_fails(rt: HostRuntime) {
+    check_all(&rt, rt.alloc(), &INVALID);
 }
 
-// A step of the request for the object of 4 bytes.
-fn step_of_four(
-    rt: &impl Abort,
-    alloc: Global,
-    checker: &mut Checker,
-    entry: Record,
-) -> Result<(), StepFault>
-    requires { checker.old.sums.steps < checker.old.header.requests }
-    ensures { OnErr result (checker.new ≡ checker.old) }
-{
-    assert!(rt; entry.in_range());
-    checker.step(alloc, FOUR, entry)
-}
+const ABOVE: Record = Record { flow: 2, ..KEPT };
 
 #[test]
-fn stays_as_it_was_after_a_fault(rt: HostRuntime) -> Result<(), Fail> {
+fn stays_as_it_was_after_a_fault(rt: HostRuntime) {
     assert!(rt; PAIR_HEADER.in_range());
-    let mut checker = Checker::new(rt.alloc(), PAIR_HEADER)?;
-    let above = Record { flow: 2, ..KEPT };
+    let mut checker = Checker::new(rt.alloc(), PAIR_HEADER).expect(&rt, "memory");
+    let refused = step_of(&rt, rt.alloc(), &mut checker, FOUR, ABOVE);
     let fault = InvalidKind::FlowAboveWeight { flow: 2, weight: 1 };
-    let refused = step_of_four(&rt, rt.alloc(), &mut checker, above);
-    assert_eq!(rt; refused, Err(StepFault::Rule(fault)));
+    same(&rt, "a step", refused, Err(StepFault::Rule(fault)));
     same(&rt, "entries", checker.entries(), 0);
-    let taken = step_of_four(&rt, rt.alloc(), &mut checker, KEPT);
+    let taken = step_of(&rt, rt.alloc(), &mut checker, FOUR, KEPT);
     same(&rt, "a further step", taken, Ok(()));
     same(&rt, "entries", checker.entries(), 1);
-    Ok(())
 }

@@ -5,7 +5,7 @@ use cache_model::Objective;
 use cert_checker::{CheckFault, Header, InvalidKind, Verdict, check_streams};
 use cert_format::CertReader;
 use std::alloc::Global;
-use std::test::Fail;
+use std::process::Abort;
 use trace_any::{Format, Limits, RequestReader, TraceFault};
 use trace_lines::LineKind;
 
@@ -130,25 +130,26 @@ const ROWS: [Row; 10] = [
     (TRACE, 0, REST, 19, Err(CheckFault::CertReadFault)),
 ];
 
-fn source(alloc: Global, front: &[u8], rest: &[u8], failing: u64) -> Result<MemSource, Fail> {
-    let mut bytes = front.to_vec(alloc)?;
-    bytes.extend_from_slice(rest)?;
-    Ok(MemSource::new(bytes, vec![in alloc; failing]?, 7))
+fn source(rt: &impl Abort, alloc: Global, front: &[u8], rest: &[u8], failing: u64) -> MemSource {
+    let mut bytes = front.to_vec(alloc).expect(rt, "memory");
+    bytes.extend_from_slice(rest).expect(rt, "memory");
+    let fails = vec![in alloc; failing].expect(rt, "memory");
+    MemSource::new(bytes, fails, 7)
 }
 
 // What a check says of the two sources.
-fn answer(alloc: Global, row: &Row) -> Result<Result<Verdict, CheckFault>, Fail> {
-    let mut trace = source(alloc, row.0, b"", row.1)?;
-    let mut certificate = source(alloc, HEAD, row.2, row.3)?;
-    let mut reader = RequestReader::new(alloc, Format::Webcache, Limits::full())?;
-    let mut cert = CertReader::new(alloc)?;
-    Ok(check_streams(alloc, &mut reader, &mut trace, &mut cert, &mut certificate))
+fn answer(rt: &impl Abort, alloc: Global, row: &Row) -> Result<Verdict, CheckFault> {
+    let mut trace = source(rt, alloc, row.0, b"", row.1);
+    let mut certificate = source(rt, alloc, HEAD, row.2, row.3);
+    let reader = RequestReader::new(alloc, Format::Webcache, Limits::full());
+    let mut reader = reader.expect(rt, "memory");
+    let mut cert = CertReader::new(alloc).expect(rt, "memory");
+    check_streams(alloc, &mut reader, &mut trace, &mut cert, &mut certificate)
 }
 
 #[test]
-fn says_yes_or_names_the_first_event_of_the_walk(rt: HostRuntime) -> Result<(), Fail> {
+fn says_yes_or_names_the_first_event_of_the_walk(rt: HostRuntime) {
     for (place, row) in ROWS.iter().enumerate() {
-        holds(&rt, place, answer(rt.alloc(), row)? == row.4);
+        holds(&rt, place, answer(&rt, rt.alloc(), row) == row.4);
     }
-    Ok(())
 }

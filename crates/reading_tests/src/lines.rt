@@ -2,11 +2,9 @@
 ghost use Rattle.std.specs.Prelude.{◌≡◌, ◌≤◌, ◌^◌, None, Err};
 
 use crate::compared::{holds, same};
-use bound_base::NoMemory;
 use bound_io::{CalmSource, LineFault, LineReader, MemSource, Source, WholeLine};
-use std::alloc::{AllocError, Global};
+use std::alloc::Global;
 use std::process::Abort;
-use std::test::Fail;
 
 const STEPS: [usize; 6] = [1, 2, 7, 65535, 65536, 65537];
 
@@ -19,6 +17,23 @@ fn gives(
     reader.next_whole_line(source) == want
 }
 
+// The lines that a reader gives, and how it ends, twice.
+fn check_answers(
+    rt: &impl Abort,
+    reader: &mut LineReader,
+    source: &mut MemSource,
+    step: usize,
+    lines: &[WholeLine<'_>],
+    end: Result<WholeLine<'_>, LineFault>,
+) {
+    for line in lines {
+        holds(rt, step, gives(reader, source, Ok(*line)));
+    }
+    let ends = gives(reader, source, end) && gives(reader, source, end);
+    holds(rt, step, ends);
+    same(rt, step, reader.line(), lines.len() as u64);
+}
+
 // The lines that a reader with this limit gives of the bytes, and how it ends, whatever the step.
 fn check(
     rt: &impl Abort,
@@ -27,20 +42,15 @@ fn check(
     limit: u64,
     lines: &[WholeLine<'_>],
     end: Result<WholeLine<'_>, LineFault>,
-) -> Result<(), Fail>
+)
     requires { limit ≤ 2 ^ 36 }
 {
     for step in STEPS {
-        let mut source = MemSource::new(bytes.to_vec(alloc)?, Vec::new(alloc), step);
-        let mut reader = LineReader::new(alloc, limit)?;
-        for line in lines {
-            holds(rt, step, gives(&mut reader, &mut source, Ok(*line)));
-        }
-        let ends = gives(&mut reader, &mut source, end) && gives(&mut reader, &mut source, end);
-        holds(rt, step, ends);
-        same(rt, step, reader.line(), lines.len() as u64);
+        let bytes = bytes.to_vec(alloc).expect(rt, "memory");
+        let mut source = MemSource::new(bytes, Vec::new(alloc), step);
+        let mut reader = LineReader::new(alloc, limit).expect(rt, "memory");
+        check_answers(rt, &mut reader, &mut source, step, lines, end);
     }
-    Ok(())
 }
 
 const ROWS: [(&[u8], &[WholeLine<'static>]); 6] = [
@@ -69,45 +79,44 @@ const ROWS: [(&[u8], &[WholeLine<'static>]); 6] = [
 ];
 
 #[test]
-fn gives_the_lines_of_the_bytes(rt: HostRuntime) -> Result<(), Fail> {
+fn gives_the_lines_of_the_bytes(rt: HostRuntime) {
     for (bytes, lines) in &ROWS {
-        check(&rt, rt.alloc(), bytes, 100, lines, Ok(WholeLine::AtEnd))?;
+        check(&rt, rt.alloc(), bytes, 100, lines, Ok(WholeLine::AtEnd));
     }
-    Ok(())
 }
 
 #[test]
-fn refuses_what_passes_the_limit(rt: HostRuntime) -> Result<(), Fail> {
+fn refuses_what_passes_the_limit(rt: HostRuntime) {
     let ab = [WholeLine::Whole(b"ab")];
     let abcd = [WholeLine::Whole(b"ab"), WholeLine::Whole(b"cd")];
     let unended = [WholeLine::Whole(b"ab"), WholeLine::Unended(b"cd")];
     let past = Err(LineFault::InputTooLong);
     let end = Ok(WholeLine::AtEnd);
-    check(&rt, rt.alloc(), b"ab\ncd\n", 5, &ab, past)?;
-    check(&rt, rt.alloc(), b"ab\ncd\n", 6, &abcd, end)?;
-    check(&rt, rt.alloc(), b"ab\ncd", 5, &unended, end)?;
-    check(&rt, rt.alloc(), b"ab\ncd", 4, &ab, past)?;
-    check(&rt, rt.alloc(), b"\n", 0, &[], past)?;
-    check(&rt, rt.alloc(), b"", 0, &[], end)
+    check(&rt, rt.alloc(), b"ab\ncd\n", 5, &ab, past);
+    check(&rt, rt.alloc(), b"ab\ncd\n", 6, &abcd, end);
+    check(&rt, rt.alloc(), b"ab\ncd", 5, &unended, end);
+    check(&rt, rt.alloc(), b"ab\ncd", 4, &ab, past);
+    check(&rt, rt.alloc(), b"\n", 0, &[], past);
+    check(&rt, rt.alloc(), b"", 0, &[], end);
 }
 
 #[test]
-fn a_text_has_at_most_65535_bytes(rt: HostRuntime) -> Result<(), Fail> {
+fn a_text_has_at_most_65535_bytes(rt: HostRuntime) {
     let alloc = rt.alloc();
-    let mut bytes = vec![in alloc; b'x'; 65535]?;
-    let whole = bytes.to_vec(alloc)?;
+    let mut bytes = vec![in alloc; b'x'; 65535].expect(&rt, "memory");
+    let whole = bytes.to_vec(alloc).expect(&rt, "memory");
     let unended = [WholeLine::Unended(whole.as_slice())];
-    check(&rt, alloc, &bytes, 65535, &unended, Ok(WholeLine::AtEnd))?;
-    bytes.push(b'\n')?;
+    check(&rt, alloc, &bytes, 65535, &unended, Ok(WholeLine::AtEnd));
+    bytes.push(b'\n').expect(&rt, "memory");
     let line = [WholeLine::Whole(whole.as_slice())];
-    check(&rt, alloc, &bytes, 65536, &line, Ok(WholeLine::AtEnd))?;
-    check(&rt, alloc, &bytes, 65535, &[], Err(LineFault::InputTooLong))?;
-    bytes.insert(0, b'x')?;
+    check(&rt, alloc, &bytes, 65536, &line, Ok(WholeLine::AtEnd));
+    check(&rt, alloc, &bytes, 65535, &[], Err(LineFault::InputTooLong));
+    bytes.insert(0, b'x').expect(&rt, "memory");
     let first = Err(LineFault::LineTooLong { line: 1 });
-    check(&rt, alloc, &bytes, 10, &[], first)?;
-    bytes.insert(0, b'\n')?;
+    check(&rt, alloc, &bytes, 10, &[], first);
+    bytes.insert(0, b'\n').expect(&rt, "memory");
     let second = Err(LineFault::LineTooLong { line: 2 });
-    check(&rt, alloc, &bytes, 100000, &[WholeLine::Whole(b"")], second)
+    check(&rt, alloc, &bytes, 100000, &[WholeLine::Whole(b"")], second);
 }
 
 // Whether this is the answer that tells no line without its end.
@@ -120,22 +129,19 @@ fn gives_line(
 }
 
 #[test]
-fn a_failed_read_is_answered_again_and_nothing_more_is_read(rt: HostRuntime) -> Result<(), Fail> {
-    let alloc = rt.alloc();
-    let mut source = MemSource::new(b"ab\ncd\n".to_vec(alloc)?, vec![in alloc; 4]?, 1);
-    let mut reader = LineReader::new(alloc, 100)?;
-    holds(
-        &rt,
-        1,
-        gives_line(&mut reader, &mut source, Ok(Some(b"ab"))),
-    );
+fn a_failed_read_is_answered_again_and_nothing_more_is_read(rt: HostRuntime) {
+    let bytes = b"ab\ncd\n".to_vec(rt.alloc()).expect(&rt, "memory");
+    let fails = vec![in rt.alloc(); 4].expect(&rt, "memory");
+    let mut source = MemSource::new(bytes, fails, 1);
+    let mut reader = LineReader::new(rt.alloc(), 100).expect(&rt, "memory");
+    let given = gives_line(&mut reader, &mut source, Ok(Some(b"ab")));
+    holds(&rt, 1, given);
     let failed = Err(LineFault::ReadFault);
     holds(&rt, 2, gives_line(&mut reader, &mut source, failed));
     holds(&rt, 3, gives_line(&mut reader, &mut source, failed));
-    let counts = (reader.taken(), reader.consumed(), reader.line());
-    same(&rt, "the counts", counts, (3, 3, 1));
+    let counts = [reader.taken(), reader.consumed(), reader.line()];
+    same(&rt, "the counts", counts, [3, 3, 1]);
     same(&rt, "the next read", source.read(&mut [0; 10]), Ok(1));
-    Ok(())
 }
 
 // Over a source that never fails, no fault of it can be answered.
@@ -147,20 +153,12 @@ fn read_calmly(reader: &mut LineReader, source: &mut CalmSource) -> Result<bool,
 }
 
 #[test]
-fn reads_at_most_a_buffer_ahead(rt: HostRuntime) -> Result<(), AllocError> {
-    let mut source = CalmSource::new(vec![in rt.alloc(); b'\n'; 65540]?);
-    match LineReader::new(rt.alloc(), 1 << 36) {
-        Ok(mut reader) => {
-            let read = read_calmly(&mut reader, &mut source);
-            same(&rt, "a line", read, Ok(true));
-            same(
-                &rt,
-                "taken",
-                (reader.taken(), reader.consumed()),
-                (65536, 1),
-            );
-        }
-        Err(NoMemory) => panic!(rt; "no memory"),
-    }
-    Ok(())
+fn reads_at_most_a_buffer_ahead(rt: HostRuntime) {
+    let bytes = vec![in rt.alloc(); b'\n'; 65540].expect(&rt, "memory");
+    let mut source = CalmSource::new(bytes);
+    let mut reader = LineReader::new(rt.alloc(), 1 << 36).expect(&rt, "memory");
+    let read = read_calmly(&mut reader, &mut source);
+    same(&rt, "a line", read, Ok(true));
+    let counts = [reader.taken(), reader.consumed()];
+    same(&rt, "taken", counts, [65536, 1]);
 }

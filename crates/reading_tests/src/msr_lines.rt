@@ -3,121 +3,129 @@ use crate::compared::same;
 use trace_lines::{LineKind, Span};
 use trace_msr::{MsrLine, parse};
 
-// A line, and its host and disk, where it asks for the first block of 4,096 bytes.
-const DISKS: [(&[u8], &[u8], u64); 9] = [
-    (b"128166372003061629,usr,0,Read,0,1,41286", b"usr", 0),
-    (b"1,h,1,WRITE,0,1", b"h", 1),
-    (b"1,h,1,rEaD,0,1,9", b"h", 1),
-    (b"1,h,1,write,0,1,9", b"h", 1),
-    (b"1,h,0012,Read,0,1,x,y,z", b"h", 12),
+// The bytes of a block, a line, its host and disk, its first block, and the number of its blocks, which may be none.
+type Row = (u64, &'static [u8], &'static [u8], u64, u64, u64);
+
+const ROWS: [Row; 30] = [
     (
+        4096,
+        b"128166372003061629,usr,0,Read,0,1,41286",
+        b"usr",
+        0,
+        0,
+        1,
+    ),
+    (4096, b"1,h,1,WRITE,0,1", b"h", 1, 0, 1),
+    (4096, b"1,h,1,rEaD,0,1,9", b"h", 1, 0, 1),
+    (4096, b"1,h,1,write,0,1,9", b"h", 1, 0, 1),
+    (4096, b"1,h,0012,Read,0,1,x,y,z", b"h", 12, 0, 1),
+    (
+        4096,
         b"1,h,18446744073709551615,Read,0,1,",
         b"h",
         18446744073709551615,
+        0,
+        1,
     ),
-    (b"1,,2,Read,0,1,9", b"", 2),
-    (b",h,2,Read,0,1,9", b"h", 2),
-    (b"x, a\tb ,2,Read,0,1,9", b" a\tb ", 2),
-];
-
-#[test]
-fn gives_a_host_and_a_disk(rt: HostRuntime) {
-    let span = Span::Blocks {
-        first: 0,
-        count: 1,
-        size: 4096,
-    };
-    for (line, host, disk) in &DISKS {
-        let read = MsrLine {
-            host,
-            disk: *disk,
-            span,
-        };
-        same(&rt, *line, parse(line, 4096), Ok(read));
-    }
-}
-
-// The bytes of a block, a line of host h and disk 0, its first block, and the number of its blocks.
-const TOUCHED: [(u64, &[u8], u64, u64); 17] = [
-    (4096, b"1,h,0,Read,7014609920,24576,41286", 1712551, 7),
-    (4096, b"1,h,0,Read,0,1,9", 0, 1),
-    (4096, b"1,h,0,Read,0,4096,9", 0, 1),
-    (4096, b"1,h,0,Read,0,4097,9", 0, 2),
-    (4096, b"1,h,0,Read,4095,1,9", 0, 1),
-    (4096, b"1,h,0,Read,4095,2,9", 0, 2),
-    (4096, b"1,h,0,Read,4096,4096,9", 1, 1),
-    (4096, b"1,h,0,Read,100,8192,9", 0, 3),
+    (4096, b"1,,2,Read,0,1,9", b"", 2, 0, 1),
+    (4096, b",h,2,Read,0,1,9", b"h", 2, 0, 1),
+    (4096, b"x, a\tb ,2,Read,0,1,9", b" a\tb ", 2, 0, 1),
+    (
+        4096,
+        b"1,h,0,Read,7014609920,24576,41286",
+        b"h",
+        0,
+        1712551,
+        7,
+    ),
+    (4096, b"1,h,0,Read,0,1,9", b"h", 0, 0, 1),
+    (4096, b"1,h,0,Read,0,4096,9", b"h", 0, 0, 1),
+    (4096, b"1,h,0,Read,0,4097,9", b"h", 0, 0, 2),
+    (4096, b"1,h,0,Read,4095,1,9", b"h", 0, 0, 1),
+    (4096, b"1,h,0,Read,4095,2,9", b"h", 0, 0, 2),
+    (4096, b"1,h,0,Read,4096,4096,9", b"h", 0, 1, 1),
+    (4096, b"1,h,0,Read,100,8192,9", b"h", 0, 0, 3),
     (
         4096,
         b"1,h,0,Read,18446744073709551615,1,9",
+        b"h",
+        0,
         4503599627370495,
         1,
     ),
     (
         4096,
         b"1,h,0,Read,0,18446744073709551615,9",
+        b"h",
+        0,
         0,
         4503599627370496,
     ),
-    (3, b"1,h,0,Read,0002,0002,9", 0, 2),
-    (1, b"1,h,0,Read,5,3,9", 5, 3),
+    (3, b"1,h,0,Read,0002,0002,9", b"h", 0, 0, 2),
+    (1, b"1,h,0,Read,5,3,9", b"h", 0, 5, 3),
     (
         1,
         b"1,h,0,Read,0,18446744073709551615,9",
+        b"h",
+        0,
         0,
         18446744073709551615,
     ),
     (
         1,
         b"1,h,0,Read,1,18446744073709551615,9",
+        b"h",
+        0,
         1,
         18446744073709551615,
     ),
-    (281474976710656, b"1,h,0,Read,281474976710655,1,9", 0, 1),
-    (281474976710656, b"1,h,0,Read,281474976710655,2,9", 0, 2),
+    (
+        281474976710656,
+        b"1,h,0,Read,281474976710655,1,9",
+        b"h",
+        0,
+        0,
+        1,
+    ),
+    (
+        281474976710656,
+        b"1,h,0,Read,281474976710655,2,9",
+        b"h",
+        0,
+        0,
+        2,
+    ),
     (
         281474976710656,
         b"1,h,0,Read,18446744073709551615,1,9",
+        b"h",
+        0,
         65535,
         1,
     ),
+    (4096, b"3,h,7,Read,0,0,9", b"h", 7, 0, 0),
+    (4096, b"3,h,7,Read,4095,000,9", b"h", 7, 0, 0),
+    (4096, b"3,h,7,Write,1,0", b"h", 7, 0, 0),
+    (4096, b"3,h,7,Write,18446744073709551615,0", b"h", 7, 0, 0),
 ];
 
-#[test]
-fn asks_for_each_block_that_is_touched(rt: HostRuntime) {
-    for (block, line, first, count) in &TOUCHED {
-        let (block, first, count) = (*block, *first, *count);
-        assert!(rt; block >= 1 && block <= 1 << 48);
-        let span = Span::Blocks {
-            first,
-            count,
-            size: block,
-        };
-        let read = MsrLine {
-            host: b"h",
-            disk: 0,
-            span,
-        };
-        same(&rt, (*line, block), parse(line, block), Ok(read));
-    }
+// What a line of the row is read as.
+fn line_of(row: &Row) -> MsrLine<'static> {
+    let (size, _, host, disk, first, count) = *row;
+    let span = if count == 0 {
+        Span::Nothing
+    } else {
+        Span::Blocks { first, count, size }
+    };
+    MsrLine { host, disk, span }
 }
 
-const EMPTY: [&[u8]; 4] = [
-    b"3,h,7,Read,0,0,9",
-    b"3,h,7,Read,4095,000,9",
-    b"3,h,7,Write,1,0",
-    b"3,h,7,Write,18446744073709551615,0",
-];
-
 #[test]
-fn asks_for_nothing_where_there_is_no_byte(rt: HostRuntime) {
-    for line in &EMPTY {
-        let read = MsrLine {
-            host: b"h",
-            disk: 7,
-            span: Span::Nothing,
-        };
-        same(&rt, *line, parse(line, 4096), Ok(read));
+fn gives_a_host_a_disk_and_each_block_that_is_touched(rt: HostRuntime) {
+    for row in &ROWS {
+        let (block, line) = (row.0, row.1);
+        assert!(rt; block >= 1 && block <= 1 << 48);
+        same(&rt, (line, block), parse(line, block), Ok(line_of(row)));
     }
 }
 

@@ -7,7 +7,6 @@ use bound_io::{CalmSource, MemSource};
 use cache_rules::Object;
 use std::alloc::Global;
 use std::process::Abort;
-use std::test::Fail;
 use trace_any::{Format, Limits, RequestReader, TraceFault, load};
 use trace_lines::LineKind;
 
@@ -20,7 +19,7 @@ struct Row<'a> {
     trace: &'a [u8],
     requests: u32,
     bytes: u64,
-    given: &'a [(u32, u64, u64)],
+    given: &'a [[u64; 3]],
     dropped: u64,
     end: Result<Option<Object>, TraceFault>,
 }
@@ -30,7 +29,7 @@ const PAIR: Row<'static> = Row {
     trace: b"1 7 4\n2 7 4\n",
     requests: 1000,
     bytes: 1000000,
-    given: &[(0, 7, 4), (0, 7, 4)],
+    given: &[[0, 7, 4], [0, 7, 4]],
     dropped: 0,
     end: Ok(None),
 };
@@ -62,14 +61,14 @@ const REFUSED_ROWS: [Row<'static>; 8] = [
     Row {
         trace: b"1 1 1\n2 2 1\n3 3 1\n4 x 1\n",
         requests: 2,
-        given: &[(0, 1, 1), (0, 2, 1)],
+        given: &[[0, 1, 1], [0, 2, 1]],
         end: Err(TraceFault::TooManyRequests),
         ..PAIR
     },
     Row {
         trace: b"1 1 1\n2 2 1\n",
         requests: 2,
-        given: &[(0, 1, 1), (0, 2, 1)],
+        given: &[[0, 1, 1], [0, 2, 1]],
         ..PAIR
     },
     Row {
@@ -81,20 +80,20 @@ const REFUSED_ROWS: [Row<'static>; 8] = [
     Row { bytes: 12, ..PAIR },
     Row {
         bytes: 11,
-        given: &[(0, 7, 4)],
+        given: &[[0, 7, 4]],
         end: Err(TraceFault::InputTooLong),
         ..PAIR
     },
     Row {
         trace: b"1 7 4\n2 x 4\n",
         bytes: 11,
-        given: &[(0, 7, 4)],
+        given: &[[0, 7, 4]],
         end: Err(TraceFault::InputTooLong),
         ..PAIR
     },
     Row {
         trace: b"1 18446744073709551615 281474976710656\n\n2 7 281474976710657\n",
-        given: &[(0, 18446744073709551615, 281474976710656)],
+        given: &[[0, 18446744073709551615, 281474976710656]],
         end: Err(TraceFault::BadLine {
             line: 3,
             kind: LineKind::SizeTooLarge,
@@ -103,7 +102,7 @@ const REFUSED_ROWS: [Row<'static>; 8] = [
     },
     Row {
         trace: b"1 7 4\n5 7 0\n1 7\n",
-        given: &[(0, 7, 4)],
+        given: &[[0, 7, 4]],
         dropped: 1,
         end: Err(TraceFault::BadLine {
             line: 3,
@@ -117,11 +116,11 @@ const ARC: Row<'static> = Row {
     format: Format::Arc,
     trace: b"10 3 0 1\n11 2 0 2\n",
     given: &[
-        (0, 10, 512),
-        (0, 11, 512),
-        (0, 12, 512),
-        (0, 11, 512),
-        (0, 12, 512),
+        [0, 10, 512],
+        [0, 11, 512],
+        [0, 12, 512],
+        [0, 11, 512],
+        [0, 12, 512],
     ],
     ..PAIR
 };
@@ -131,13 +130,13 @@ const ARC_ROWS: [Row<'static>; 5] = [
     Row {
         trace: b"0 18446744073709551615 0 1\n",
         requests: 3,
-        given: &[(0, 0, 512), (0, 1, 512), (0, 2, 512)],
+        given: &[[0, 0, 512], [0, 1, 512], [0, 2, 512]],
         end: Err(TraceFault::TooManyRequests),
         ..ARC
     },
     Row {
         trace: b"18446744073709551615 1\r\n7 0\n\n18446744073709551615 2 0 1\n",
-        given: &[(0, 18446744073709551615, 512)],
+        given: &[[0, 18446744073709551615, 512]],
         dropped: 1,
         end: Err(TraceFault::BadLine {
             line: 4,
@@ -168,7 +167,7 @@ const ARC_ROWS: [Row<'static>; 5] = [
 const MSR: Row<'static> = Row {
     format: Format::Msr { block: 4096 },
     trace: b"1,h,0,read,0,4096,9\n2,h,1,WRITE,0,4096\n3,h,0,Read,0,0,9\n",
-    given: &[(1, 0, 4096), (2, 0, 4096)],
+    given: &[[1, 0, 4096], [2, 0, 4096]],
     dropped: 1,
     ..PAIR
 };
@@ -179,32 +178,32 @@ const MSR_ROWS: [Row<'static>; 7] = [
         trace: b"1,h,0,Read,0,1\n1,h,1,Read,0,1\n1,g,0,Read,0,1\n1,h,0,Read,0,1\n1,,0,Read,0,1\n\
 1,g,0,Read,0,1\n1,g,18446744073709551615,Read,0,1\n",
         given: &[
-            (1, 0, 4096),
-            (2, 0, 4096),
-            (3, 0, 4096),
-            (1, 0, 4096),
-            (4, 0, 4096),
-            (3, 0, 4096),
-            (5, 0, 4096),
+            [1, 0, 4096],
+            [2, 0, 4096],
+            [3, 0, 4096],
+            [1, 0, 4096],
+            [4, 0, 4096],
+            [3, 0, 4096],
+            [5, 0, 4096],
         ],
         dropped: 0,
         ..MSR
     },
     Row {
         trace: b"9,g,7,Read,5,0,9\n1,h,0,Read,4095,2,9\n2,,0,Read,8192,1\n3,h,0,Read,0,1,9",
-        given: &[(1, 0, 4096), (1, 1, 4096), (2, 2, 4096), (1, 0, 4096)],
+        given: &[[1, 0, 4096], [1, 1, 4096], [2, 2, 4096], [1, 0, 4096]],
         ..MSR
     },
     Row {
         trace: b"128166372003061629,usr,0,Read,7014609920,24576,41286\n",
         given: &[
-            (1, 1712551, 4096),
-            (1, 1712552, 4096),
-            (1, 1712553, 4096),
-            (1, 1712554, 4096),
-            (1, 1712555, 4096),
-            (1, 1712556, 4096),
-            (1, 1712557, 4096),
+            [1, 1712551, 4096],
+            [1, 1712552, 4096],
+            [1, 1712553, 4096],
+            [1, 1712554, 4096],
+            [1, 1712555, 4096],
+            [1, 1712556, 4096],
+            [1, 1712557, 4096],
         ],
         dropped: 0,
         ..MSR
@@ -232,7 +231,7 @@ const MSR_ROWS: [Row<'static>; 7] = [
     Row {
         format: Format::Msr { block: 1 },
         trace: b"1,h,0,Read,18446744073709551614,2\n1,h,0,Read,18446744073709551615,2",
-        given: &[(1, 18446744073709551614, 1), (1, 18446744073709551615, 1)],
+        given: &[[1, 18446744073709551614, 1], [1, 18446744073709551615, 1]],
         dropped: 0,
         end: Err(TraceFault::BadLine {
             line: 2,
@@ -263,75 +262,95 @@ fn gives(
     reader.next(alloc, source) == want
 }
 
-// The requests of the row, however its bytes are cut, and the end of it twice.
-fn check(rt: &impl Abort, alloc: Global, row: &Row<'_>) -> Result<(), Fail> {
+// A source of the trace, whose reads give so many bytes, and of which one fails, or none where its number is 0.
+fn source_of(rt: &impl Abort, alloc: Global, trace: &[u8], failing: u64, step: usize) -> MemSource
+    requires { 1 ≤ step }
+{
+    let bytes = trace.to_vec(alloc).expect(rt, "memory");
+    let fails = vec![in alloc; failing].expect(rt, "memory");
+    MemSource::new(bytes, fails, step)
+}
+
+// The requests of the row, and the end of it twice.
+fn check_answers(
+    rt: &impl Abort,
+    alloc: Global,
+    reader: &mut RequestReader,
+    source: &mut MemSource,
+    row: &Row<'_>,
+    step: usize,
+) {
+    for given in row.given {
+        let [volume, id, size] = *given;
+        assert!(rt; volume < 10);
+        let volume = volume as u32;
+        let object = Object { volume, id, size };
+        holds(rt, step, gives(alloc, reader, source, Ok(Some(object))));
+    }
+    let ends = gives(alloc, reader, source, row.end);
+    let ends_again = gives(alloc, reader, source, row.end);
+    holds(rt, step, ends && ends_again);
+    same(rt, step, reader.dropped(), row.dropped);
+}
+
+// The answers, however the bytes are cut.
+fn check(rt: &impl Abort, alloc: Global, row: &Row<'_>) {
     assert!(rt; is_readable(row));
     let limits = Limits {
         requests: row.requests,
         bytes: row.bytes,
     };
     for step in STEPS {
-        let mut source = MemSource::new(row.trace.to_vec(alloc)?, Vec::new(alloc), step);
-        let mut reader = RequestReader::new(alloc, row.format, limits)?;
-        for (volume, id, size) in row.given {
-            let object = Object {
-                volume: *volume,
-                id: *id,
-                size: *size,
-            };
-            let given = gives(alloc, &mut reader, &mut source, Ok(Some(object)));
-            holds(rt, step, given);
-        }
-        let ends = gives(alloc, &mut reader, &mut source, row.end);
-        let ends_again = gives(alloc, &mut reader, &mut source, row.end);
-        holds(rt, step, ends && ends_again);
-        same(rt, step, reader.dropped(), row.dropped);
+        let mut source = source_of(rt, alloc, row.trace, 0, step);
+        let mut reader = RequestReader::new(alloc, row.format, limits).expect(rt, "memory");
+        check_answers(rt, alloc, &mut reader, &mut source, row, step);
     }
-    Ok(())
 }
 
 // The rows of a form.
-fn check_all(rt: &impl Abort, alloc: Global, rows: &[Row<'_>]) -> Result<(), Fail> {
+fn check_all(rt: &impl Abort, alloc: Global, rows: &[Row<'_>]) {
     for row in rows {
-        check(rt, alloc, row)?;
+        check(rt, alloc, row);
     }
-    Ok(())
 }
 
 #[test]
-fn gives_the_requests_of_webcache_lines(rt: HostRuntime) -> Result<(), Fail> {
-    check_all(&rt, rt.alloc(), &ROWS)?;
-    check_all(&rt, rt.alloc(), &REFUSED_ROWS)
+fn gives_the_requests_of_webcache_lines(rt: HostRuntime) {
+    check_all(&rt, rt.alloc(), &ROWS);
+    check_all(&rt, rt.alloc(), &REFUSED_ROWS);
 }
 
 #[test]
-fn gives_a_request_for_each_block_of_arc_lines(rt: HostRuntime) -> Result<(), Fail> {
-    check_all(&rt, rt.alloc(), &ARC_ROWS)
+fn gives_a_request_for_each_block_of_arc_lines(rt: HostRuntime) {
+    check_all(&rt, rt.alloc(), &ARC_ROWS);
 }
 
 #[test]
-fn numbers_the_volumes_of_msr_lines(rt: HostRuntime) -> Result<(), Fail> {
-    check_all(&rt, rt.alloc(), &MSR_ROWS)
+fn numbers_the_volumes_of_msr_lines(rt: HostRuntime) {
+    check_all(&rt, rt.alloc(), &MSR_ROWS);
 }
 
+const LONG: Row<'static> = Row {
+    bytes: 100,
+    given: &[[0, 7, 4]],
+    end: Err(TraceFault::BadLine {
+        line: 2,
+        kind: LineKind::TooLong,
+    }),
+    ..PAIR
+};
+
 #[test]
-fn a_long_line_is_refused_before_its_bytes_are_counted(rt: HostRuntime) -> Result<(), Fail> {
-    let alloc = rt.alloc();
-    let mut trace = b"1 7 4\n".to_vec(alloc)?;
+fn a_long_line_is_refused_before_its_bytes_are_counted(rt: HostRuntime) {
+    let mut trace = b"1 7 4\n".to_vec(rt.alloc()).expect(&rt, "memory");
     for _ in 0..65536 {
-        trace.push(b' ')?;
+        trace.push(b' ').expect(&rt, "memory");
     }
     let row = Row {
         trace: &trace,
-        bytes: 100,
-        given: &[(0, 7, 4)],
-        end: Err(TraceFault::BadLine {
-            line: 2,
-            kind: LineKind::TooLong,
-        }),
-        ..PAIR
+        ..LONG
     };
-    check(&rt, alloc, &row)
+    check(&rt, rt.alloc(), &row);
 }
 
 // What a load gives: how many requests and objects there are, and how many lines were dropped.
@@ -355,21 +374,17 @@ struct Part<'a> {
     loaded: Result<(u32, u32, u64), TraceFault>,
 }
 
-fn check_part(rt: &impl Abort, alloc: Global, part: &Part<'_>) -> Result<(), Fail> {
+fn check_part(rt: &impl Abort, alloc: Global, part: &Part<'_>) {
     assert!(rt; part.step >= 1);
-    let fails = vec![in alloc; part.failing]?;
-    let mut source = MemSource::new(part.trace.to_vec(alloc)?, fails, part.step);
-    let mut reader = RequestReader::new(alloc, Format::Webcache, Limits::full())?;
+    let mut source = source_of(rt, alloc, part.trace, part.failing, part.step);
+    let reader = RequestReader::new(alloc, Format::Webcache, Limits::full());
+    let mut reader = reader.expect(rt, "memory");
     for want in part.first {
-        holds(
-            rt,
-            "a request",
-            gives(alloc, &mut reader, &mut source, *want),
-        );
+        let given = gives(alloc, &mut reader, &mut source, *want);
+        holds(rt, "a request", given);
     }
     let loaded = sizes_loaded(alloc, &mut reader, &mut source);
     same(rt, "what is loaded", loaded, part.loaded);
-    Ok(())
 }
 
 const SEVEN: Object = Object {
@@ -391,8 +406,8 @@ const FAILING: Part<'static> = Part {
 };
 
 #[test]
-fn a_failed_read_is_answered_again_and_nothing_more_is_read(rt: HostRuntime) -> Result<(), Fail> {
-    check_part(&rt, rt.alloc(), &FAILING)
+fn a_failed_read_is_answered_again_and_nothing_more_is_read(rt: HostRuntime) {
+    check_part(&rt, rt.alloc(), &FAILING);
 }
 
 const TO_COME: Part<'static> = Part {
@@ -404,8 +419,8 @@ const TO_COME: Part<'static> = Part {
 };
 
 #[test]
-fn loads_what_is_still_to_come(rt: HostRuntime) -> Result<(), Fail> {
-    check_part(&rt, rt.alloc(), &TO_COME)
+fn loads_what_is_still_to_come(rt: HostRuntime) {
+    check_part(&rt, rt.alloc(), &TO_COME);
 }
 
 // Over a source that never fails, no fault of it can be answered.
@@ -420,15 +435,16 @@ fn next_calmly(
     reader.next(alloc, source)
 }
 
+const FEW: TraceFault = TraceFault::BadLine {
+    line: 1,
+    kind: LineKind::TooFewWords,
+};
+
 #[test]
-fn a_calm_source_gives_no_fault(rt: HostRuntime) -> Result<(), Fail> {
-    let alloc = rt.alloc();
-    let mut source = CalmSource::new(b"x".to_vec(alloc)?);
-    let mut reader = RequestReader::new(alloc, Format::Webcache, Limits::full())?;
-    let few = TraceFault::BadLine {
-        line: 1,
-        kind: LineKind::TooFewWords,
-    };
-    assert_eq!(rt; next_calmly(alloc, &mut reader, &mut source), Err(few));
-    Ok(())
+fn a_calm_source_gives_no_fault(rt: HostRuntime) {
+    let mut source = CalmSource::new(b"x".to_vec(rt.alloc()).expect(&rt, "memory"));
+    let reader = RequestReader::new(rt.alloc(), Format::Webcache, Limits::full());
+    let mut reader = reader.expect(&rt, "memory");
+    let answer = next_calmly(rt.alloc(), &mut reader, &mut source);
+    same(&rt, "a line", answer, Err(FEW));
 }

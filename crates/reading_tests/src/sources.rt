@@ -85,7 +85,24 @@ fn gives<S: Source>(lines: &mut LineReader, source: &mut S, want: Option<&[u8]>)
     lines.next_line(source) == Ok(want)
 }
 
+// The answers of a reader of lines over a file.
+fn check_lines<R: Files + Input + Abort>(
+    rt: &R,
+    alloc: Global,
+    path: &str,
+    wants: &[Option<&[u8]>],
+) -> Result<(), NoMemory> {
+    let mut source = FileSource::new(rt, alloc, path)?;
+    let mut lines = LineReader::new(alloc, 100)?;
+    for (place, want) in wants.iter().enumerate() {
+        holds(rt, place, gives(&mut lines, &mut source, *want));
+    }
+    Ok(())
+}
+
 const PATH: &str = "bound_io_reads_what_was_written";
+
+const LINES: [Option<&[u8]>; 3] = [Some(b"one line"), Some(b"and one"), None];
 
 #[test]
 fn reads_what_was_written(rt: HostRuntime) -> Result<(), NoMemory> {
@@ -93,11 +110,7 @@ fn reads_what_was_written(rt: HostRuntime) -> Result<(), NoMemory> {
     holds(&rt, "an older file", older.is_ok());
     let written = write_file(&rt, rt.alloc(), PATH, &[b"one line\n", b"and one"])?;
     same(&rt, "the file", written, Ok(()));
-    let mut source = FileSource::new(&rt, rt.alloc(), PATH)?;
-    let mut lines = LineReader::new(rt.alloc(), 100)?;
-    holds(&rt, 1, gives(&mut lines, &mut source, Some(b"one line")));
-    holds(&rt, 2, gives(&mut lines, &mut source, Some(b"and one")));
-    holds(&rt, 3, gives(&mut lines, &mut source, None));
+    check_lines(&rt, rt.alloc(), PATH, &LINES)?;
     holds(&rt, "its removal", fs::remove_file(&rt, PATH).is_ok());
     Ok(())
 }

@@ -19,21 +19,29 @@ const CHECK: Row<'static> = Row {
 };
 
 // The text, of which one line has another text.
-fn spoilt(alloc: Global, cert: &[u8], at: usize, text: &str) -> Result<Vec<u8>, AllocError> {
+fn spoilt(rt: &impl Abort, alloc: Global, cert: &[u8], at: usize, text: &str) -> Vec<u8> {
     let mut bytes = Vec::new(alloc);
     for (before, line) in cert.split_inclusive(|byte| *byte == b'\n').enumerate() {
         if before + 1 == at {
-            bytes.extend_from_slice(text.as_bytes())?;
-            bytes.push(b'\n')?;
+            bytes
+                .extend_from_slice(text.as_bytes())
+                .expect(rt, "memory");
+            bytes.push(b'\n').expect(rt, "memory");
         } else {
-            bytes.extend_from_slice(line)?;
+            bytes.extend_from_slice(line).expect(rt, "memory");
         }
     }
-    Ok(bytes)
+    bytes
 }
 
-// A check, and what comes of it.
-fn expect<'x>(
+// A check, by reads of a byte and of many.
+fn expect(rt: &impl Abort, alloc: Global, row: &Row<'_>) {
+    check_at(rt, alloc, row, 1);
+    check_at(rt, alloc, row, 65536);
+}
+
+// A check of a certificate, and what comes of it.
+fn expect_of<'x>(
     rt: &impl Abort,
     alloc: Global,
     shows: &'x str,
@@ -41,7 +49,7 @@ fn expect<'x>(
     cert: &'x [u8],
     status: Status,
     report: &'x [u8],
-) -> Result<(), Fail> {
+) {
     let row = Row {
         shows,
         trace,
@@ -50,31 +58,22 @@ fn expect<'x>(
         report,
         ..CHECK
     };
-    check_at(rt, alloc, &row, 1)?;
-    check_at(rt, alloc, &row, 65536)
+    expect(rt, alloc, &row);
 }
 
-fn expect_all(rt: &impl Abort, alloc: Global, rows: &[Checked<'_>]) -> Result<(), Fail> {
+fn expect_all(rt: &impl Abort, alloc: Global, rows: &[Checked<'_>]) {
     for row in rows {
         let of = row.of;
-        let cert = spoilt(alloc, of.cert(), row.at, row.text)?;
-        expect(
-            rt,
-            alloc,
-            row.shows,
-            of.trace(),
-            &cert,
-            row.status,
-            row.report,
-        )?;
+        let cert = spoilt(rt, alloc, of.cert(), row.at, row.text);
+        let (status, report) = (row.status, row.report);
+        expect_of(rt, alloc, row.shows, of.trace(), &cert, status, report);
     }
-    Ok(())
 }
 
 #[test]
-fn a_check_ends_at_its_first_event(rt: HostRuntime) -> Result<(), Fail> {
-    expect_all(&rt, rt.alloc(), &HEADERS)?;
-    expect_all(&rt, rt.alloc(), &RECORDS)
+fn a_check_ends_at_its_first_event(rt: HostRuntime) {
+    expect_all(&rt, rt.alloc(), &HEADERS);
+    expect_all(&rt, rt.alloc(), &RECORDS);
 }
 
 // The line of the certificate that its first bytes end in.
@@ -83,84 +82,71 @@ fn line_at(bytes: &[u8]) -> u64 {
 }
 
 // The check of the first bytes of a certificate.
-fn check_front(rt: &impl Abort, alloc: Global, front: &[u8]) -> Result<(), Fail> {
+fn check_front(rt: &impl Abort, alloc: Global, front: &[u8]) {
     let line = line_at(front);
-    let report = format!(in alloc; "invalid line {line}: truncated\n")?;
-    let status = Status::Invalid {
-        line,
-        kind: InvalidKind::Truncated,
-    };
-    expect(
-        rt,
-        alloc,
-        "a certificate that is cut",
-        PAIR,
-        front,
-        status,
-        report.as_bytes(),
-    )
+    let report = format!(in alloc; "invalid line {line}: truncated\n").expect(rt, "memory");
+    let kind = InvalidKind::Truncated;
+    let status = Status::Invalid { line, kind };
+    let shows = "a certificate that is cut";
+    expect_of(rt, alloc, shows, PAIR, front, status, report.as_bytes());
 }
 
 #[test]
-fn a_certificate_that_is_cut_is_truncated(rt: HostRuntime) -> Result<(), Fail> {
+fn a_certificate_that_is_cut_is_truncated(rt: HostRuntime) {
     for taken in 0..EXACT_PAIR.len() {
-        check_front(&rt, rt.alloc(), &EXACT_PAIR[..taken])?;
+        check_front(&rt, rt.alloc(), &EXACT_PAIR[..taken]);
     }
-    Ok(())
 }
 
+const LONG_LINE: Row<'static> = Row {
+    shows: "a line that is too long",
+    status: Status::Invalid {
+        line: 12,
+        kind: InvalidKind::TooLong,
+    },
+    report: b"invalid line 12: line too long\n",
+    ..CHECK
+};
+
 #[test]
-fn a_line_of_65536_bytes_is_too_long(rt: HostRuntime) -> Result<(), Fail> {
-    let alloc = rt.alloc();
-    let mut line = String::from_str(alloc, "0 1 ")?;
+fn a_line_of_65536_bytes_is_too_long(rt: HostRuntime) {
+    let mut line = String::from_str(rt.alloc(), "0 1 ").expect(&rt, "memory");
     for _ in line.len()..65536 {
-        line.push('1')?;
+        line.push('1').expect(&rt, "memory");
     }
-    let cert = spoilt(alloc, EXACT_PAIR, 12, line.as_str())?;
+    let cert = spoilt(&rt, rt.alloc(), EXACT_PAIR, 12, line.as_str());
     let row = Row {
-        shows: "a line that is too long",
         cert: &cert,
-        status: Status::Invalid {
-            line: 12,
-            kind: InvalidKind::TooLong,
-        },
-        report: b"invalid line 12: line too long\n",
-        ..CHECK
+        ..LONG_LINE
     };
-    check_at(&rt, alloc, &row, 1)?;
-    check_at(&rt, alloc, &row, 65536)
+    expect(&rt, rt.alloc(), &row);
 }
 
-#[test]
-fn a_failed_read_of_the_certificate_is_its_fault(rt: HostRuntime) -> Result<(), Fail> {
-    for call in 1..=EXACT_PAIR.len() as u64 + 1 {
-        let row = Row {
-            shows: "a read that fails",
-            cert: EXACT_PAIR,
-            fails: Some((Device::Cert, call)),
-            status: Status::CertFault,
-            report: b"certificate fault\n",
-            ..CHECK
-        };
-        check(&rt, rt.alloc(), &row)?;
-    }
-    Ok(())
-}
+const FAILED_READ: Row<'static> = Row {
+    shows: "a read that fails",
+    cert: EXACT_PAIR,
+    status: Status::CertFault,
+    report: b"certificate fault\n",
+    ..CHECK
+};
 
 #[test]
-fn a_verdict_that_is_cut_short_is_a_report_fault(rt: HostRuntime) -> Result<(), Fail> {
-    for taken in 0..PAIR_VERDICT.len() {
-        let row = Row {
-            shows: "a write of the verdict that fails",
-            cert: EXACT_PAIR,
-            fails: Some((Device::Report, taken as u64 + 1)),
-            status: Status::ReportFault,
-            report: &PAIR_VERDICT[..taken],
-            ..CHECK
-        };
-        check(&rt, rt.alloc(), &row)?;
-    }
-    Ok(())
+fn a_failed_read_of_the_certificate_is_its_fault(rt: HostRuntime) {
+    let reads = EXACT_PAIR.len() + 1;
+    check_reads(&rt, rt.alloc(), Device::Cert, reads, &FAILED_READ);
+}
+
+const FAILED_WRITE: Row<'static> = Row {
+    shows: "a write of the verdict that fails",
+    cert: EXACT_PAIR,
+    status: Status::ReportFault,
+    report: PAIR_VERDICT,
+    ..CHECK
+};
+
+#[test]
+fn a_verdict_that_is_cut_short_is_a_report_fault(rt: HostRuntime) {
+    check_report_writes(&rt, rt.alloc(), &FAILED_WRITE);
 }
 
 // Sizes of which none divides another, in the webcache form, and blocks of three disks.
@@ -175,29 +161,31 @@ fn expect_accepted<'x>(
     bounds: &'x str,
     check: &'x str,
     trace: &'x [u8],
-) -> Result<(), Fail> {
+) {
     let row = Row {
         words: bounds,
         trace,
         ..GOOD
     };
-    let ended = done(rt, alloc, &row)?;
-    expect_yes(rt, alloc, check, trace, &ended.made)
+    let ended = done(rt, alloc, &row);
+    expect_yes(rt, alloc, check, trace, &ended.made);
 }
 
 #[test]
-fn what_bounds_write_is_accepted(rt: HostRuntime) -> Result<(), Fail> {
+fn what_bounds_write_is_accepted(rt: HostRuntime) {
     let alloc = rt.alloc();
     for mode in ["mode=constant", "mode=infinite", "mode=flow", "window=2"] {
         for capacity in [4, 5, 8192] {
             for objective in ["object", "bytes"] {
-                let asked = format!(in alloc; "{mode} capacity={capacity} objective={objective}")?;
-                let words = format!(in alloc; "bounds t c format=webcache {asked}")?;
-                expect_accepted(&rt, alloc, &words, "check t c format=webcache", TURNS)?;
-                let words = format!(in alloc; "bounds t c format=msr {asked}")?;
-                expect_accepted(&rt, alloc, &words, "check t c format=msr", BLOCKS)?;
+                let asked = format!(in alloc; "{mode} capacity={capacity} objective={objective}");
+                let asked = asked.expect(&rt, "memory");
+                let words = format!(in alloc; "bounds t c format=webcache {asked}");
+                let words = words.expect(&rt, "memory");
+                expect_accepted(&rt, alloc, &words, "check t c format=webcache", TURNS);
+                let words = format!(in alloc; "bounds t c format=msr {asked}");
+                let words = words.expect(&rt, "memory");
+                expect_accepted(&rt, alloc, &words, "check t c format=msr", BLOCKS);
             }
         }
     }
-    Ok(())
 }

@@ -113,9 +113,6 @@ const ROWS: [Row<'static>; 10] = [
 ];
 
 #[test]
-fn words_are_taken_or_refused_at_their_place(rt: HostRuntime) -> Result<(), Fail> {
-    for row in &ROWS {
-        check(&rt, rt.alloc(), row)?;
-    }
-    Ok(())
+fn words_are_taken_or_refused_at_their_place(rt: HostRuntime) {
+    check_all(&rt, rt.alloc(), &ROWS);
 }

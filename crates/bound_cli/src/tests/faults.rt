@@ -31,79 +31,66 @@ const ROWS: [Row<'static>; 3] = [
 ];
 
 #[test]
-fn faults_end_the_run(rt: HostRuntime) -> Result<(), Fail> {
-    for row in &ROWS {
-        check(&rt, rt.alloc(), row)?;
-    }
-    Ok(())
+fn faults_end_the_run(rt: HostRuntime) {
+    check_all(&rt, rt.alloc(), &ROWS);
 }
 
-#[test]
-fn a_read_that_fails_is_a_trace_fault(rt: HostRuntime) -> Result<(), Fail> {
-    for call in 1..=PAIR.len() as u64 + 1 {
-        let row = Row {
-            shows: "a read that fails",
-            fails: Some((Device::Trace, call)),
-            status: Status::TraceFault,
-            report: b"trace fault\n",
-            made: b"",
-            ..GOOD
-        };
-        check(&rt, rt.alloc(), &row)?;
-    }
-    Ok(())
-}
+const FAILED_READ: Row<'static> = Row {
+    shows: "a read that fails",
+    status: Status::TraceFault,
+    report: b"trace fault\n",
+    made: b"",
+    ..GOOD
+};
 
 #[test]
-fn a_write_of_the_certificate_that_fails_is_a_made_fault(rt: HostRuntime) -> Result<(), Fail> {
+fn a_read_that_fails_is_a_trace_fault(rt: HostRuntime) {
+    check_reads(&rt, rt.alloc(), Device::Trace, PAIR.len() + 1, &FAILED_READ);
+}
+
+const FAILED_WRITE: Row<'static> = Row {
+    shows: "a write of the certificate that fails",
+    status: Status::MadeFault,
+    report: b"made fault\n",
+    ..GOOD
+};
+
+#[test]
+fn a_write_of_the_certificate_that_fails_is_a_made_fault(rt: HostRuntime) {
     for taken in 0..PAIR_CERT.len() {
-        let row = Row {
-            shows: "a write of the certificate that fails",
-            fails: Some((Device::Made, taken as u64 + 1)),
-            status: Status::MadeFault,
-            report: b"made fault\n",
-            made: &PAIR_CERT[..taken],
-            ..GOOD
-        };
-        check(&rt, rt.alloc(), &row)?;
+        let mut row = FAILED_WRITE;
+        row.fails = Some((Device::Made, taken as u64 + 1));
+        row.made = &PAIR_CERT[..taken];
+        check(&rt, rt.alloc(), &row);
     }
-    Ok(())
 }
 
-#[test]
-fn a_write_of_the_report_that_fails_is_a_report_fault(rt: HostRuntime) -> Result<(), Fail> {
-    for taken in 0..PAIR_REPORT.len() {
-        let row = Row {
-            shows: "a write of the report that fails",
-            fails: Some((Device::Report, taken as u64 + 1)),
-            status: Status::ReportFault,
-            report: &PAIR_REPORT[..taken],
-            ..GOOD
-        };
-        check(&rt, rt.alloc(), &row)?;
-    }
-    Ok(())
-}
+const FAILED_REPORT: Row<'static> = Row {
+    shows: "a write of the report that fails",
+    status: Status::ReportFault,
+    ..GOOD
+};
 
 #[test]
-fn a_refusal_that_is_cut_short_keeps_its_status(rt: HostRuntime) -> Result<(), Fail> {
-    let line = b"bad line 1: too few words\n";
-    for taken in 0..line.len() {
-        let row = Row {
-            shows: "a refusal that is cut short",
-            trace: b"no trace\n",
-            fails: Some((Device::Report, taken as u64 + 1)),
-            status: Status::BadLine {
-                line: 1,
-                kind: LineKind::TooFewWords,
-            },
-            report: &line[..taken],
-            made: b"",
-            ..GOOD
-        };
-        check(&rt, rt.alloc(), &row)?;
-    }
-    Ok(())
+fn a_write_of_the_report_that_fails_is_a_report_fault(rt: HostRuntime) {
+    check_report_writes(&rt, rt.alloc(), &FAILED_REPORT);
+}
+
+const REFUSAL: Row<'static> = Row {
+    shows: "a refusal that is cut short",
+    trace: b"no trace\n",
+    status: Status::BadLine {
+        line: 1,
+        kind: LineKind::TooFewWords,
+    },
+    report: b"bad line 1: too few words\n",
+    made: b"",
+    ..GOOD
+};
+
+#[test]
+fn a_refusal_that_is_cut_short_keeps_its_status(rt: HostRuntime) {
+    check_report_writes(&rt, rt.alloc(), &REFUSAL);
 }
 
 // Over a trace source that never fails no run answers a fault of it.
@@ -121,15 +108,14 @@ fn run_over_calm(
 }
 
 #[test]
-fn a_calm_source_gives_no_fault(rt: HostRuntime) -> Result<(), Fail> {
+fn a_calm_source_gives_no_fault(rt: HostRuntime) {
     let alloc = rt.alloc();
-    let words = words_of(alloc, WORDS)?;
-    let mut trace = CalmSource::new(PAIR.to_vec(alloc)?);
+    let words = words_of(&rt, alloc, WORDS);
+    let mut trace = CalmSource::new(PAIR.to_vec(alloc).expect(&rt, "memory"));
     let mut cert = CalmSource::new(Vec::new(alloc));
-    let mut report = MemSink::new(alloc, 4096, Vec::new(alloc), 7)?;
-    let mut made = MemSink::new(alloc, 4096, Vec::new(alloc), 1)?;
+    let mut report = MemSink::new(alloc, 4096, Vec::new(alloc), 7).expect(&rt, "memory");
+    let mut made = MemSink::new(alloc, 4096, Vec::new(alloc), 1).expect(&rt, "memory");
     let status = run_over_calm(alloc, &words, &mut trace, &mut cert, &mut report, &mut made);
-    assert_eq!(rt; status, Status::Done);
-    assert_eq!(rt; made.written(), PAIR_CERT);
-    Ok(())
+    same(&rt, "the status", status, Status::Done);
+    same(&rt, "the certificate", made.written(), PAIR_CERT);
 }

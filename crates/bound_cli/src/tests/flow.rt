@@ -125,44 +125,47 @@ const ROWS: [FlowRow<'static>; 15] = [
     },
 ];
 
+fn check_report(rt: &impl Abort, row: &FlowRow<'_>, report: &[u8]) {
+    holds(rt, row.shows, report.starts_with(row.begins));
+    holds(rt, row.shows, report.ends_with(row.ends));
+    let is_free = row.ends.starts_with(b"lower");
+    let shown = row.begins.len() as u64 + row.ends.len() as u64;
+    holds(rt, row.shows, is_free || report.len() as u64 == shown);
+}
+
 // Runs the row, and checks the certificate that it makes.
-fn check_row(rt: &impl Abort, alloc: Global, row: &FlowRow<'_>) -> Result<(), Fail> {
+fn check_row(rt: &impl Abort, alloc: Global, row: &FlowRow<'_>) {
     let run = Row {
         shows: row.shows,
         words: row.words,
         trace: row.trace,
         ..GOOD
     };
-    let ended = done(rt, alloc, &run)?;
-    let report = ended.report.as_slice();
-    assert!(rt; report.starts_with(row.begins), "{}", row.shows);
-    assert!(rt; report.ends_with(row.ends), "{}", row.shows);
-    let is_free = row.ends.starts_with(b"lower");
-    let shown = row.begins.len() as u64 + row.ends.len() as u64;
-    assert!(rt; is_free || report.len() as u64 == shown, "{}", row.shows);
+    let ended = done(rt, alloc, &run);
+    check_report(rt, row, &ended.report);
     let format = row.words.split(' ').nth(3).unwrap_or("");
-    let words = format!(in alloc; "check t c {format}")?;
-    expect_yes(rt, alloc, words.as_str(), row.trace, &ended.made)
+    let words = format!(in alloc; "check t c {format}").expect(rt, "memory");
+    expect_yes(rt, alloc, words.as_str(), row.trace, &ended.made);
 }
 
 #[test]
-fn flows_give_their_bounds(rt: HostRuntime) -> Result<(), Fail> {
+fn flows_give_their_bounds(rt: HostRuntime) {
     for row in &ROWS {
-        check_row(&rt, rt.alloc(), row)?;
+        check_row(&rt, rt.alloc(), row);
     }
-    Ok(())
 }
 
-#[test]
-fn the_flow_is_the_usual_mode(rt: HostRuntime) -> Result<(), Fail> {
-    let row = Row {
-        shows: "two requests of one object",
-        words: "bounds t c format=webcache capacity=10",
-        report: b"trace requests 2 objects 1 dropped 0\ncapacity 10 objective object\n\
+const USUAL: Row<'static> = Row {
+    shows: "two requests of one object",
+    words: "bounds t c format=webcache capacity=10",
+    report: b"trace requests 2 objects 1 dropped 0\ncapacity 10 objective object\n\
 mode flow window all form exact\nunit 4 units 2 denominator 1\nintervals 1\nupper 1/1 floor 1\nflow 1/1\nlower 1\n",
-        made: b"cache-bound-certificate 1\nobjective object\ncapacity 10\nrequests 2\nunit 4\n\
+    made: b"cache-bound-certificate 1\nobjective object\ncapacity 10\nrequests 2\nunit 4\n\
 denominator 1\nform exact\nupper 1\nflow 1\nlower 1\nrecords\n0 1 1\n0 0 0\nend\n",
-        ..GOOD
-    };
-    check(&rt, rt.alloc(), &row)
+    ..GOOD
+};
+
+#[test]
+fn the_flow_is_the_usual_mode(rt: HostRuntime) {
+    check(&rt, rt.alloc(), &USUAL);
 }

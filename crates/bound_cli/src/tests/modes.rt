@@ -1,8 +1,7 @@
 //! Runs in each mode and over each denominator.
-use super::{CYCLE, CYCLE_TRACE, GOOD, Row, check};
+use super::{CYCLE, CYCLE_TRACE, GOOD, Row, check_all};
 use bound_report::LimitName;
 use bound_run::Status;
-use std::test::Fail;
 
 // Sizes 2 and 3 by turns.
 const TURNS: &[u8] = b"1 1 2\n2 2 3\n3 1 2\n4 2 3\n";
@@ -151,9 +150,6 @@ denominator 1\nform plain\nupper 3\nflow 0\nlower 3\nrecords\n0 1 0\n0 0 0\nend\
 ];
 
 #[test]
-fn modes_and_denominators_give_their_bounds(rt: HostRuntime) -> Result<(), Fail> {
-    for row in &ROWS {
-        check(&rt, rt.alloc(), row)?;
-    }
-    Ok(())
+fn modes_and_denominators_give_their_bounds(rt: HostRuntime) {
+    check_all(&rt, rt.alloc(), &ROWS);
 }

@@ -153,68 +153,58 @@ denominator 1\nform plain\nupper 7\nflow 0\nlower 3\nrecords\n0 1 0\n0 1 0\n0 1 
 ];
 
 // The same, however the bytes of the trace are cut.
-fn check_steps(rt: &impl Abort, alloc: Global, row: &Row<'_>) -> Result<(), Fail> {
+fn check_steps(rt: &impl Abort, alloc: Global, row: &Row<'_>) {
     for step in [1, 2, 7, 65535, 65536, 65537] {
-        check_at(rt, alloc, row, step)?;
+        check_at(rt, alloc, row, step);
     }
-    Ok(())
 }
 
 #[test]
-fn traces_are_read_or_refused_at_their_line(rt: HostRuntime) -> Result<(), Fail> {
+fn traces_are_read_or_refused_at_their_line(rt: HostRuntime) {
     for row in &TRACE_ROWS {
-        check_steps(&rt, rt.alloc(), row)?;
+        check_steps(&rt, rt.alloc(), row);
     }
-    Ok(())
 }
 
 #[test]
-fn block_traces_are_read_or_refused_at_their_line(rt: HostRuntime) -> Result<(), Fail> {
+fn block_traces_are_read_or_refused_at_their_line(rt: HostRuntime) {
     for row in &BLOCK_ROWS {
-        check_steps(&rt, rt.alloc(), row)?;
+        check_steps(&rt, rt.alloc(), row);
     }
-    Ok(())
 }
 
 // A line of one request, whose text has so many bytes.
-fn padded(alloc: Global, bytes: usize) -> Result<Vec<u8>, AllocError> {
-    let mut text = b"1 7 4".to_vec(alloc)?;
+fn padded(rt: &impl Abort, alloc: Global, bytes: usize) -> Vec<u8> {
+    let mut text = b"1 7 4".to_vec(alloc).expect(rt, "memory");
     for _ in text.len()..bytes {
-        text.push(b' ')?;
+        text.push(b' ').expect(rt, "memory");
     }
-    text.push(b'\n')?;
-    Ok(text)
+    text.push(b'\n').expect(rt, "memory");
+    text
 }
 
 // A run over a trace of one line with so many bytes of text, read in steps.
-fn check_long(
-    rt: &impl Abort,
-    alloc: Global,
-    bytes: usize,
-    step: usize,
-    status: Status,
-) -> Result<(), Fail>
+fn check_long(rt: &impl Abort, alloc: Global, bytes: usize, step: usize, status: Status)
     requires { 1 ≤ step }
 {
-    let trace = padded(alloc, bytes)?;
+    let trace = padded(rt, alloc, bytes);
     let row = Row {
         trace: &trace,
         ..GOOD
     };
-    let ended = row.run_at(alloc, step)?;
+    let ended = row.run_at(rt, alloc, step);
     assert_eq!(rt; ended.status, status, "{bytes} bytes, step {step}");
-    Ok(())
 }
 
+const LONG: Status = Status::BadLine {
+    line: 1,
+    kind: LineKind::TooLong,
+};
+
 #[test]
-fn a_text_has_at_most_65535_bytes(rt: HostRuntime) -> Result<(), Fail> {
-    let too_long = Status::BadLine {
-        line: 1,
-        kind: LineKind::TooLong,
-    };
+fn a_text_has_at_most_65535_bytes(rt: HostRuntime) {
     for step in [7, 65535, 65536, 65537] {
-        check_long(&rt, rt.alloc(), 65535, step, Status::Done)?;
-        check_long(&rt, rt.alloc(), 65536, step, too_long)?;
+        check_long(&rt, rt.alloc(), 65535, step, Status::Done);
+        check_long(&rt, rt.alloc(), 65536, step, LONG);
     }
-    Ok(())
 }

@@ -7,44 +7,37 @@ use cache_rules::Objective;
 use plans::TAKEN;
 use refusals::REFUSED;
 use relaxation::DenominatorChoice;
+use std::alloc::AllocError;
 use trace_any::Format;
 
 mod plans;
 mod refusals;
 
-fn check_plan(
-    rt: &impl Abort,
-    alloc: Global,
-    text: &str,
-    wanted: Result<Plan, WordFault>,
-) -> Result<(), Fail> {
-    let words = words_of(alloc, text)?;
-    assert_eq!(rt; plan_of(&words), wanted, "{text}");
-    Ok(())
+fn check_plan(rt: &impl Abort, alloc: Global, text: &str, wanted: Result<Plan, WordFault>) {
+    let words = words_of(rt, alloc, text);
+    same(rt, text, plan_of(&words), wanted);
 }
 
 #[test]
-fn words_of_bounds_give_their_plan(rt: HostRuntime) -> Result<(), Fail> {
+fn words_of_bounds_give_their_plan(rt: HostRuntime) {
     for row in &TAKEN {
-        check_plan(&rt, rt.alloc(), row.text, Ok(row.plan()))?;
+        check_plan(&rt, rt.alloc(), row.text, Ok(row.plan()));
     }
-    Ok(())
 }
 
 #[test]
-fn the_first_fault_of_the_words_is_named(rt: HostRuntime) -> Result<(), Fail> {
+fn the_first_fault_of_the_words_is_named(rt: HostRuntime) {
     for (text, place, kind) in &REFUSED {
         let fault = WordFault {
             place: *place,
             kind: *kind,
         };
-        check_plan(&rt, rt.alloc(), text, Err(fault))?;
+        check_plan(&rt, rt.alloc(), text, Err(fault));
     }
-    Ok(())
 }
 
 #[test]
-fn takes_the_operands_in_any_order(rt: HostRuntime) -> Result<(), Fail> {
+fn takes_the_operands_in_any_order(rt: HostRuntime) -> Result<(), AllocError> {
     let operands = [
         "format=webcache",
         "capacity=10",
@@ -72,7 +65,7 @@ fn takes_the_operands_in_any_order(rt: HostRuntime) -> Result<(), Fail> {
                 let operand = operands[(place + other) % 4];
                 text = format!(in rt.alloc(); "{text} {operand}")?;
             }
-            check_plan(&rt, rt.alloc(), &text, Ok(wanted))?;
+            check_plan(&rt, rt.alloc(), &text, Ok(wanted));
         }
     }
     Ok(())
@@ -87,12 +80,11 @@ const CHECKS: [(&str, Format); 5] = [
 ];
 
 #[test]
-fn a_check_takes_the_form_of_the_trace(rt: HostRuntime) -> Result<(), Fail> {
+fn a_check_takes_the_form_of_the_trace(rt: HostRuntime) {
     for (text, format) in &CHECKS {
         let plan = Plan::Check { format: *format };
-        check_plan(&rt, rt.alloc(), text, Ok(plan))?;
+        check_plan(&rt, rt.alloc(), text, Ok(plan));
     }
-    Ok(())
 }
 
 const NO_PATHS: Paths<'static> = Paths {
@@ -132,23 +124,22 @@ const PATHS: [(&str, Paths<'static>); 7] = [
 ];
 
 #[test]
-fn paths_are_those_of_the_command(rt: HostRuntime) -> Result<(), Fail> {
+fn paths_are_those_of_the_command(rt: HostRuntime) {
     for (text, paths) in &PATHS {
-        let words = words_of(rt.alloc(), text)?;
-        assert!(rt; paths_of(&words) == *paths, "{text}");
+        let words = words_of(&rt, rt.alloc(), text);
+        holds(&rt, text, paths_of(&words) == *paths);
     }
-    Ok(())
 }
 
 #[test]
-fn one_empty_word_is_no_command(rt: HostRuntime) -> Result<(), Fail> {
+fn one_empty_word_is_no_command(rt: HostRuntime) {
     let alloc = rt.alloc();
-    let words = vec![in alloc; String::from_str(alloc, "")?]?;
+    let word = String::from_str(alloc, "").expect(&rt, "memory");
+    let words = vec![in alloc; word].expect(&rt, "memory");
     let fault = WordFault {
         place: 1,
         kind: WordKind::Unknown,
     };
     assert!(rt; plan_of(&words) == Err(fault));
     assert!(rt; paths_of(&words) == NO_PATHS);
-    Ok(())
 }

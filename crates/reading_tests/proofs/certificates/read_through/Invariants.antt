@@ -1,6 +1,6 @@
 use Rattle.std.proofs.Common.{◌≡◌, ◌+◌, None}
 use Rattle.cert_format.specs.declared.reader.Stage.TheVariants.{InRecords}
-use Rattle.reading_tests.proofs.certificates.read_all.Given as goal
+use Rattle.reading_tests.proofs.certificates.read_through.Given as goal
 
 -- as many records are left as the header says
 abbrev pub invariant-loop-place : goal.invariant-loop-place
