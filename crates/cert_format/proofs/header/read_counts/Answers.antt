@@ -112,8 +112,8 @@ overflow_cast-result-4 g c = omega (arith, c.in_ok-denominator.ensures.range)
 
 pub returns-clause-range : goal.returns-clause-range
 returns-clause-range g c = record {
-    capacity = c.in_ok-capacity.ensures.range;
-    requests = c.in_ok-requests.ensures.range.1;
-    unit = c.in_ok-unit.ensures.range;
-    denominator = c.in_ok-denominator.ensures.range;
-  }
+  capacity = c.in_ok-capacity.ensures.range;
+  requests = c.in_ok-requests.ensures.range.1;
+  unit = c.in_ok-unit.ensures.range;
+  denominator = c.in_ok-denominator.ensures.range;
+}

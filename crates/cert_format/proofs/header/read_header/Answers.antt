@@ -146,11 +146,11 @@ returns-in_err-read_fixed-2-clause-range g c = rw (err_from_is_err_and c.from_re
 
 pub returns-clause-range : goal.returns-clause-range
 returns-clause-range g c = record {
-    capacity = c.in_ok-counts.ensures.range.capacity;
-    requests = c.in_ok-counts.ensures.range.requests;
-    unit = c.in_ok-counts.ensures.range.unit;
-    denominator = c.in_ok-counts.ensures.range.denominator;
-    upper = c.in_ok-values.ensures.range.upper;
-    flow = c.in_ok-values.ensures.range.flow;
-    lower = c.in_ok-values.ensures.range.lower;
-  }
+  capacity = c.in_ok-counts.ensures.range.capacity;
+  requests = c.in_ok-counts.ensures.range.requests;
+  unit = c.in_ok-counts.ensures.range.unit;
+  denominator = c.in_ok-counts.ensures.range.denominator;
+  upper = c.in_ok-values.ensures.range.upper;
+  flow = c.in_ok-values.ensures.range.flow;
+  lower = c.in_ok-values.ensures.range.lower;
+}
