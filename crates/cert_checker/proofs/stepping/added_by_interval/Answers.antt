@@ -1,8 +1,6 @@
-use Rattle.std.proofs.Common.{◌≡◌, ◌+◌, ◌-◌, ◌*◌, ◌/◌, ◌≤◌, ◌∙◌, arith, sym, ap, cond, nat_le, subst, refl}
+use Rattle.std.proofs.Common.{◌/◌, ◌≤◌, arith, cond, subst, refl}
 use Rattle.std.proofs.lemmas.Bool.{le-leb, lt-leb}
 use Rattle.std.proofs.Math.Nat.{div-mul-le_self, mul-le-mul_left}
-use Rattle.cache_model.specs.Play.{gain_of}
-use Rattle.cert_checker.specs.declared.summary.Added.{Added}
 use Rattle.cert_checker.proofs.stepping.added_by_interval.Goals as goal
 
 pub returns-then-object-header : goal.returns-then-object-header

@@ -231,3 +231,18 @@ returns-clause-cert_later g c = c.in_ok-entry.ensures.later
 
 pub returns-clause-cert_ahead : goal.returns-clause-cert_ahead
 returns-clause-cert_ahead g c = c.in_ok-entry.ensures.ahead
+
+pub records_read-read-requires : goal.records_read-read-requires
+records_read-read-requires g c = omega (arith, c.requires.in_step.line)
+
+pub next_record-requires : goal.next_record-requires
+next_record-requires g c = λ none. (c.requires.in_step.stage, omega (arith, c.requires.in_step.left, c.requires.in_step.line, c.records_read-read.ensures, c.if-read-header.false, ap (λ (k : Header). k.requests) c.requires.header))
+
+pub step-requires-clause-fewer : goal.step-requires-clause-fewer
+step-requires-clause-fewer g c = omega (arith, c.requires.in_step.left, c.requires.in_step.line, c.records_read-read.ensures, c.if-read-header.false, ap (λ (k : Header). k.requests) c.requires.header)
+
+pub step-requires-clause-size : goal.step-requires-clause-size
+step-requires-clause-size g c = rw c.in-Some.is at c.in_ok-object.ensures.size
+
+pub step-requires-clause-range : goal.step-requires-clause-range
+step-requires-clause-range g c = c.in_ok-entry.ensures.range

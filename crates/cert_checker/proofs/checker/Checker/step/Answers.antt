@@ -1,4 +1,4 @@
-use Rattle.std.proofs.Common.{rules, ◌≡◌, ◌<◌, ◌∙◌, sym, ap, subst, arith, cond, Bool, None, Some}
+use Rattle.std.proofs.Common.{◌≡◌, ◌<◌, ◌∙◌, sym, ap, subst, arith, cond, Bool, None, Some}
 use Rattle.std.specs.List.{IsDistinct}
 use Rattle.std.specs.Map.{keys_of, lookup}
 use Rattle.std.proofs.lemmas.Result.{err_from_is_err_and}
@@ -114,18 +114,3 @@ returns-clause-stepped c = λ h trace records st.
     c.insert.new.self.entries (entered c) (looked c) c.sums_with-self-inside.result
     (c.sums_with-self-inside.ensures.sums ∙ ap (sums_after c.self.inside.sums c.figures-now.result) c.added-added.ensures.sums)
     h trace records (subst (StandsFor h trace records) (sym c.self.view_is) st)
-
-pub returns-in_err-check_record-clause-counts : goal.returns-in_err-check_record-clause-counts
-returns-in_err-check_record-clause-counts c = rw (err_from_is_err_and c.from_residual.result c.from_residual.ensures.1).1 tt
-
-pub returns-in_err-check_record-clause-kept : goal.returns-in_err-check_record-clause-kept
-returns-in_err-check_record-clause-kept c = search rules
-
-pub returns-in_err-check_record-clause-only_if_new : goal.returns-in_err-check_record-clause-only_if_new
-returns-in_err-check_record-clause-only_if_new c = search rules
-
-pub returns-in_err-insert-clause-counts : goal.returns-in_err-insert-clause-counts
-returns-in_err-insert-clause-counts c = rw (err_from_is_err_and c.from_residual-in_err-insert.result c.from_residual-in_err-insert.ensures.1).1 tt
-
-pub returns-in_err-insert-clause-kept : goal.returns-in_err-insert-clause-kept
-returns-in_err-insert-clause-kept c = search rules
