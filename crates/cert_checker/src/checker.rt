@@ -143,16 +143,24 @@ impl Checker {
         }
     }
 
-    /// The rules of the end. There were as many steps as the header says.
-    pub fn finish(self) -> Result<Verdict, InvalidKind>
-        requires all { self.sums.steps ≡ self.header.requests }
-        ensures { (h : Head) (trace : List Requested) (records : List Entry) → StandsFor h trace records self → IsFinished h trace records result }
+    /// What `finish` says, of a checker that is kept.
+    pub(crate) fn verdict(&self) -> Result<Verdict, InvalidKind>
+        requires all { self.now.sums.steps ≡ self.now.header.requests }
+        ensures { (h : Head) (trace : List Requested) (records : List Entry) → StandsFor h trace records self.now → IsFinished h trace records result }
     {
         check_end(&self.header, self.first_unused(), &self.counted())?;
         Ok(Verdict {
             header: self.header,
             objects: self.entries(),
         })
+    }
+
+    /// The rules of the end. There were as many steps as the header says.
+    pub fn finish(self) -> Result<Verdict, InvalidKind>
+        requires all { self.sums.steps ≡ self.header.requests }
+        ensures { (h : Head) (trace : List Requested) (records : List Entry) → StandsFor h trace records self → IsFinished h trace records result }
+    {
+        self.verdict()
     }
 
     /// How many different objects were requested.

@@ -1,6 +1,7 @@
 //! What one more request and its record change.
 ghost use Rattle.std.specs.Prelude.{◌≡◌, ◌≤◌, ◌<◌, ◌+◌, ◌-◌, ◌*◌, ◌/◌, ◌^◌, IfSome, if◌then◌else◌};
 ghost use Rattle.cache_model.specs.Certificates.{IsHeaderInRange};
+ghost use Rattle.cache_model.specs.Play.{gain_of};
 ghost use Rattle.cert_checker.specs.Rules.{weight_in};
 ghost use Rattle.cert_checker.specs.Steps.{added, added_by, AreNext, flow_before, seen_at, size_before, sums_after};
 ghost use Rattle.cert_checker.specs.Summaries.{AreSmall};
@@ -65,6 +66,17 @@ fn surplus(worth: u128, weight: u64, price: u128) -> u128
     }
 }
 
+// What the interval that ends at a request of the object gains.
+fn kept_gain(header: &Header, object: &Object, keep: bool) -> u64
+    ensures { result ≡ (if keep then gain_of header.now.objective object.now else 0) }
+{
+    if keep {
+        gain(header.objective, object)
+    } else {
+        0
+    }
+}
+
 // What the interval that ends at a request of the object adds, where the prices before that have this sum.
 fn added_by_interval(header: &Header, object: &Object, prices: u128, seen: &Seen) -> Added
     requires header { IsHeaderInRange header.now }
@@ -74,11 +86,7 @@ fn added_by_interval(header: &Header, object: &Object, prices: u128, seen: &Seen
     requires weight { object.now.size ≤ header.now.capacity → 1 ≤ object.now.size / header.now.unit }
     ensures { result ≡ added_by header.now object.now prices seen.now }
 {
-    let gain = if seen.keep {
-        gain(header.objective, object)
-    } else {
-        0
-    };
+    let gain = kept_gain(header, object, seen.keep);
     if object.size > header.capacity {
         return Added {
             surplus: 0,

@@ -170,11 +170,11 @@ fn close<Q: Source>(
     cert: &mut CertReader,
     certificate: &mut Q,
     header: &Header,
-    checker: Checker,
+    checker: &Checker,
 ) -> Result<Verdict, CheckFault>
-    requires header { header.now ≡ checker.header }
-    requires in_step { (reader : Reader) × (left : Option (List ℕ)) × (faults : ℕ) × IsInStep (inputs reader left faults cert.old (Q.left certificate.old) (Q.faults certificate.old)) checker }
-    ensures closed { (start : Inputs) (reader : Reader) (left : Option (List ℕ)) (faults : ℕ) (h : Head) (requests : List Requested) (records : List Entry) → Ended start h requests records (inputs reader left faults cert.old (Q.left certificate.old) (Q.faults certificate.old)) checker → IsClosed start (inputs reader left faults cert.new (Q.left certificate.new) (Q.faults certificate.new)) result }
+    requires header { header.now ≡ checker.now.header }
+    requires in_step { (reader : Reader) × (left : Option (List ℕ)) × (faults : ℕ) × IsInStep (inputs reader left faults cert.old (Q.left certificate.old) (Q.faults certificate.old)) checker.now }
+    ensures closed { (start : Inputs) (reader : Reader) (left : Option (List ℕ)) (faults : ℕ) (h : Head) (requests : List Requested) (records : List Entry) → Ended start h requests records (inputs reader left faults cert.old (Q.left certificate.old) (Q.faults certificate.old)) checker.now → IsClosed start (inputs reader left faults cert.new (Q.left certificate.new) (Q.faults certificate.new)) result }
     ensures source { LosesFront (Q.left certificate.old) (Q.left certificate.new) }
     ensures later { Q.faults certificate.old ≤ Q.faults certificate.new }
 {
@@ -184,7 +184,7 @@ fn close<Q: Source>(
     }
     let end = cert.line() + 1;
     cert.finish_text(certificate)?;
-    match checker.finish() {
+    match checker.verdict() {
         Ok(verdict) => Ok(verdict),
         Err(kind) => Err(CheckFault::Invalid { line: end, kind }),
     }
@@ -223,5 +223,5 @@ pub fn check_streams<T: Source, Q: Source>(
         &header,
         &mut checker,
     )? {}
-    close(cert, certificate, &header, checker)
+    close(cert, certificate, &header, &checker)
 }

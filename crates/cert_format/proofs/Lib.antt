@@ -12,3 +12,4 @@ pub mod Taken
 pub mod Chains
 pub mod HeaderParts
 pub mod Going
+mod Appended

@@ -1,18 +1,23 @@
-use Rattle.std.proofs.Common.{◌≡◌, ◌∙◌, sym, ap, refl, subst, arith, List, ℕ, [], ◌∷◌, ◌++◌, length, Option, Some, None, Result, Ok, Err, IfErr}
+use Rattle.std.proofs.Common.{◌≡◌, ◌∙◌, sym, ap, refl, subst, arith, [], ◌∷◌, ◌++◌, length, None, Result, Ok, Err, IfOk, IfErr}
+use Rattle.std.proofs.lemmas.Bool.{false≢true}
 use Rattle.std.proofs.lemmas.Result.{err_from_is_err_and}
-use Rattle.bound_io.specs.Reading.{LosesFront}
 use Rattle.cache_model.specs.declared.certificates.Header.{Header}
 use Rattle.cert_format.proofs.Chains.{loses_both}
 use Rattle.cert_checker.specs.declared.verdict.Verdict.{Verdict}
 use Rattle.cert_checker.specs.declared.walking.CheckFault.{CheckFault}
-use Rattle.cert_checker.specs.Checks.{Inputs, inputs, IsClosed, IsNear, IsTurned}
+use Rattle.cert_checker.specs.Checks.{Inputs, inputs, IsClosed, IsEvent, IsNear, IsPassed, IsTurned}
 use Rattle.cert_checker.specs.Summaries.{StandsFor}
 use Rattle.cert_checker.proofs.Closings.{stop_header, opens}
+use Rattle.cert_checker.proofs.Fronts.{keeps}
 use Rattle.cert_checker.proofs.walking.check_streams.Goals as goal
 
-keeps : (a : Option (List ℕ)) → LosesFront a a
-keeps None = ([], tt)
-keeps (Some bytes) = ([], refl)
+yes_closed : (start end : Inputs) (result : Result Verdict CheckFault) → IsClosed start end result → IfOk result (IsPassed start end)
+yes_closed start end (Ok verdict) closed = closed
+yes_closed start end (Err why) closed = tt
+
+event_closed : (start end : Inputs) (result : Result Verdict CheckFault) → IsClosed start end result → IfErr result (IsEvent start end)
+event_closed start end (Ok verdict) closed = tt
+event_closed start end (Err why) closed = closed.event
 
 near_closed : (start end : Inputs) (result : Result Verdict CheckFault) → IsClosed start end result → IfErr result (IsNear start end)
 near_closed start end (Ok verdict) closed = tt
@@ -94,6 +99,24 @@ loop-checker-preserved g c =
       cert_later = omega (arith, i.cert_later, e.cert_later);
     }
 
+pub returns-clause-yes : goal.returns-clause-yes
+returns-clause-yes g c =
+    let start : Inputs = inputs c.args.reader.now (g.T.Source.left c.args.trace.now) (g.T.Source.faults c.args.trace.now) c.args.cert.now (g.Q.Source.left c.args.certificate.now) (g.Q.Source.faults c.args.certificate.now) in
+    let now : Inputs = inputs c.turn.new.reader (g.T.Source.left c.turn.new.trace) (g.T.Source.faults c.turn.new.trace) c.turn.new.cert (g.Q.Source.left c.turn.new.certificate) (g.Q.Source.faults c.turn.new.certificate) in
+    let end : Inputs = inputs c.turn.new.reader (g.T.Source.left c.turn.new.trace) (g.T.Source.faults c.turn.new.trace) c.close.new.cert (g.Q.Source.left c.close.new.certificate) (g.Q.Source.faults c.close.new.certificate) in
+    let i = c.loop-checker.invariant in
+    let ended = subst (λ m. IsTurned start c.in_ok-header.header i.came.0 i.came.1 now c.turn.new.checker (Ok m)) c.if-branch.false (c.in_ok-turn.ensures.turned start c.in_ok-header.header i.came.0 i.came.1 i.came.2) in
+    yes_closed start end c.close.result (c.close.ensures.closed start c.turn.new.reader (g.T.Source.left c.turn.new.trace) (g.T.Source.faults c.turn.new.trace) c.in_ok-header.header i.came.0 i.came.1 ended)
+
+pub returns-clause-event : goal.returns-clause-event
+returns-clause-event g c =
+    let start : Inputs = inputs c.args.reader.now (g.T.Source.left c.args.trace.now) (g.T.Source.faults c.args.trace.now) c.args.cert.now (g.Q.Source.left c.args.certificate.now) (g.Q.Source.faults c.args.certificate.now) in
+    let now : Inputs = inputs c.turn.new.reader (g.T.Source.left c.turn.new.trace) (g.T.Source.faults c.turn.new.trace) c.turn.new.cert (g.Q.Source.left c.turn.new.certificate) (g.Q.Source.faults c.turn.new.certificate) in
+    let end : Inputs = inputs c.turn.new.reader (g.T.Source.left c.turn.new.trace) (g.T.Source.faults c.turn.new.trace) c.close.new.cert (g.Q.Source.left c.close.new.certificate) (g.Q.Source.faults c.close.new.certificate) in
+    let i = c.loop-checker.invariant in
+    let ended = subst (λ m. IsTurned start c.in_ok-header.header i.came.0 i.came.1 now c.turn.new.checker (Ok m)) c.if-branch.false (c.in_ok-turn.ensures.turned start c.in_ok-header.header i.came.0 i.came.1 i.came.2) in
+    event_closed start end c.close.result (c.close.ensures.closed start c.turn.new.reader (g.T.Source.left c.turn.new.trace) (g.T.Source.faults c.turn.new.trace) c.in_ok-header.header i.came.0 i.came.1 ended)
+
 pub returns-clause-near : goal.returns-clause-near
 returns-clause-near g c =
     let start : Inputs = inputs c.args.reader.now (g.T.Source.left c.args.trace.now) (g.T.Source.faults c.args.trace.now) c.args.cert.now (g.Q.Source.left c.args.certificate.now) (g.Q.Source.faults c.args.certificate.now) in
@@ -110,3 +133,70 @@ pub returns-clause-cert_source : goal.returns-clause-cert_source
 returns-clause-cert_source g c =
     let before = loses_both (g.Q.Source.left c.args.certificate.now) (g.Q.Source.left c.loop-checker.certificate) (g.Q.Source.left c.turn.new.certificate) c.loop-checker.invariant.cert_source c.turn.ensures.cert_source in
     loses_both (g.Q.Source.left c.args.certificate.now) (g.Q.Source.left c.turn.new.certificate) (g.Q.Source.left c.close.new.certificate) before c.close.ensures.source
+
+pub returns-in_err-header-clause-yes : goal.returns-in_err-header-clause-yes
+returns-in_err-header-clause-yes g c = rw (err_from_is_err_and c.from_residual.result c.from_residual.ensures.1).1 tt
+
+pub returns-in_err-header-clause-trace_source : goal.returns-in_err-header-clause-trace_source
+returns-in_err-header-clause-trace_source g c = keeps (g.T.Source.left c.args.trace.now)
+
+pub returns-in_err-header-clause-trace_later : goal.returns-in_err-header-clause-trace_later
+returns-in_err-header-clause-trace_later g c = omega arith
+
+pub returns-in_err-header-clause-trace_ahead : goal.returns-in_err-header-clause-trace_ahead
+returns-in_err-header-clause-trace_ahead g c = omega (arith, ap (λ r. length r.lines.held) c.requires.fresh_reader)
+
+pub returns-in_err-header-clause-cert_source : goal.returns-in_err-header-clause-cert_source
+returns-in_err-header-clause-cert_source g c = c.in_err-header.ensures.source
+
+pub returns-in_err-header-clause-cert_later : goal.returns-in_err-header-clause-cert_later
+returns-in_err-header-clause-cert_later g c = c.in_err-header.ensures.later
+
+pub returns-in_err-checker : goal.returns-in_err-checker
+returns-in_err-checker g c = absurd (false≢true c.in_err-checker.ensures.succeeds)
+
+pub returns-in_err-turn-clause-yes : goal.returns-in_err-turn-clause-yes
+returns-in_err-turn-clause-yes g c = rw (err_from_is_err_and c.from_residual-in_err-turn.result c.from_residual-in_err-turn.ensures.1).1 tt
+
+pub returns-in_err-turn-clause-event : goal.returns-in_err-turn-clause-event
+returns-in_err-turn-clause-event g c =
+    let start : Inputs = inputs c.args.reader.now (g.T.Source.left c.args.trace.now) (g.T.Source.faults c.args.trace.now) c.args.cert.now (g.Q.Source.left c.args.certificate.now) (g.Q.Source.faults c.args.certificate.now) in
+    let i = c.loop-checker.invariant in
+    let p = err_from_is_err_and c.from_residual-in_err-turn.result c.from_residual-in_err-turn.ensures.1 in
+    rw (p.1, p.2) (c.in_err-turn.ensures.turned start c.in_ok-header.header i.came.0 i.came.1 i.came.2).event
+
+pub returns-in_err-turn-clause-trace_later : goal.returns-in_err-turn-clause-trace_later
+returns-in_err-turn-clause-trace_later g c = omega (arith, c.loop-checker.invariant.trace_later, c.turn.ensures.trace_later)
+
+pub returns-in_err-turn-clause-trace_ahead : goal.returns-in_err-turn-clause-trace_ahead
+returns-in_err-turn-clause-trace_ahead g c = c.turn.ensures.trace_ahead
+
+pub returns-in_err-turn-clause-cert_later : goal.returns-in_err-turn-clause-cert_later
+returns-in_err-turn-clause-cert_later g c = omega (arith, c.loop-checker.invariant.cert_later, c.turn.ensures.cert_later)
+
+pub returns-clause-trace_later : goal.returns-clause-trace_later
+returns-clause-trace_later g c = omega (arith, c.loop-checker.invariant.trace_later, c.turn.ensures.trace_later)
+
+pub returns-clause-trace_ahead : goal.returns-clause-trace_ahead
+returns-clause-trace_ahead g c = c.turn.ensures.trace_ahead
+
+pub returns-clause-cert_later : goal.returns-clause-cert_later
+returns-clause-cert_later g c = omega (arith, c.loop-checker.invariant.cert_later, c.turn.ensures.cert_later, c.close.ensures.later)
+
+pub header-requires : goal.header-requires
+header-requires g c = λ none. ap (λ r. r.stage) c.requires.fresh_cert
+
+pub new-requires : goal.new-requires
+new-requires g c = record { range = c.in_ok-header.ensures.range }
+
+pub turn-requires-clause-header : goal.turn-requires-clause-header
+turn-requires-clause-header g c = c.loop-checker.invariant.header
+
+pub turn-requires-clause-in_step : goal.turn-requires-clause-in_step
+turn-requires-clause-in_step g c = c.loop-checker.invariant.in_step
+
+pub close-requires-clause-header : goal.close-requires-clause-header
+close-requires-clause-header g c = c.loop-checker.invariant.header ∙ sym c.in_ok-turn.ensures.header
+
+pub close-requires-clause-in_step : goal.close-requires-clause-in_step
+close-requires-clause-in_step g c = (c.turn.new.reader, g.T.Source.left c.turn.new.trace, g.T.Source.faults c.turn.new.trace, c.in_ok-turn.ensures.in_step)

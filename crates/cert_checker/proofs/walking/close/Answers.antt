@@ -50,3 +50,21 @@ returns-in-Err-clause-closed g c = λ start reader left faults h given records e
     let end : Inputs = inputs reader left faults c.finish_text.new.self (g.Q.Source.left c.finish_text.new.source) (g.Q.Source.faults c.finish_text.new.source) in
     subst (λ l. IsStop start end (Invalid l c.in-Err.kind)) line_is
     (stop_end_rule start h given records _ _ ended full end e.ahead e.past (e.read s.cert_fault).2 c.in-Err.kind s.stage none (omega (arith, s.line, many)) (c.in-Err.ensures h given records ended.stands))
+
+pub returns-in_err-finish_text-clause-source : goal.returns-in_err-finish_text-clause-source
+returns-in_err-finish_text-clause-source g c = c.in_err-finish_text.ensures.source
+
+pub returns-in_err-finish_text-clause-later : goal.returns-in_err-finish_text-clause-later
+returns-in_err-finish_text-clause-later g c = c.in_err-finish_text.ensures.later
+
+pub returns-in-Ok-clause-source : goal.returns-in-Ok-clause-source
+returns-in-Ok-clause-source g c = c.in_ok-finish_text.ensures.source
+
+pub returns-in-Ok-clause-later : goal.returns-in-Ok-clause-later
+returns-in-Ok-clause-later g c = c.in_ok-finish_text.ensures.later
+
+pub returns-in-Err-clause-source : goal.returns-in-Err-clause-source
+returns-in-Err-clause-source g c = c.in_ok-finish_text.ensures.source
+
+pub returns-in-Err-clause-later : goal.returns-in-Err-clause-later
+returns-in-Err-clause-later g c = c.in_ok-finish_text.ensures.later

@@ -8,6 +8,7 @@ use Rattle.cert_checker.specs.declared.walking.CheckFault.TheVariants.{Invalid}
 use Rattle.cert_checker.specs.Checks.{IsFailing}
 use Rattle.cert_checker.specs.Rules.{record_fault}
 use Rattle.cert_checker.specs.Summaries.{StandsFor}
+use Rattle.cert_checker.proofs.Fronts.{keeps}
 use Rattle.cert_checker.proofs.Stops.{stop_trace, end_trace, stop_count, stop_text, stop_rule, goes_further}
 use Rattle.cert_checker.proofs.walking.turn.Goals as goal
 
@@ -95,3 +96,153 @@ returns-clause-header g c =
     let s = c.requires.in_step in
     let more = c.in_ok-step.ensures.stepped c.args.checker.now.header s.some.0 s.some.1 s.some.2 in
     more.header
+
+pub returns-in_err-object-clause-in_step : goal.returns-in_err-object-clause-in_step
+returns-in_err-object-clause-in_step g c = rw (err_from_is_err_and c.from_residual.result c.from_residual.ensures.1).1 tt
+
+pub returns-in_err-object-clause-header : goal.returns-in_err-object-clause-header
+returns-in_err-object-clause-header g c = rw (err_from_is_err_and c.from_residual.result c.from_residual.ensures.1).1 tt
+
+pub returns-in_err-object-clause-fewer : goal.returns-in_err-object-clause-fewer
+returns-in_err-object-clause-fewer g c = rw (err_from_is_err_and c.from_residual.result c.from_residual.ensures.1).1 tt
+
+pub returns-in_err-object-clause-trace_source : goal.returns-in_err-object-clause-trace_source
+returns-in_err-object-clause-trace_source g c = c.in_err-object.ensures.source
+
+pub returns-in_err-object-clause-trace_later : goal.returns-in_err-object-clause-trace_later
+returns-in_err-object-clause-trace_later g c = c.in_err-object.ensures.later
+
+pub returns-in_err-object-clause-trace_ahead : goal.returns-in_err-object-clause-trace_ahead
+returns-in_err-object-clause-trace_ahead g c = c.in_err-object.ensures.ahead
+
+pub returns-in_err-object-clause-cert_source : goal.returns-in_err-object-clause-cert_source
+returns-in_err-object-clause-cert_source g c = keeps (g.Q.Source.left c.args.certificate.now)
+
+pub returns-in_err-object-clause-cert_later : goal.returns-in_err-object-clause-cert_later
+returns-in_err-object-clause-cert_later g c = omega arith
+
+pub returns-in_err-object-clause-cert_ahead : goal.returns-in_err-object-clause-cert_ahead
+returns-in_err-object-clause-cert_ahead g c = c.requires.in_step.held
+
+pub returns-in_default-clause-trace_source : goal.returns-in_default-clause-trace_source
+returns-in_default-clause-trace_source g c = c.in_ok-object.ensures.source
+
+pub returns-in_default-clause-trace_later : goal.returns-in_default-clause-trace_later
+returns-in_default-clause-trace_later g c = c.in_ok-object.ensures.later
+
+pub returns-in_default-clause-trace_ahead : goal.returns-in_default-clause-trace_ahead
+returns-in_default-clause-trace_ahead g c = c.in_ok-object.ensures.ahead
+
+pub returns-in_default-clause-cert_source : goal.returns-in_default-clause-cert_source
+returns-in_default-clause-cert_source g c = keeps (g.Q.Source.left c.args.certificate.now)
+
+pub returns-in_default-clause-cert_later : goal.returns-in_default-clause-cert_later
+returns-in_default-clause-cert_later g c = omega arith
+
+pub returns-in_default-clause-cert_ahead : goal.returns-in_default-clause-cert_ahead
+returns-in_default-clause-cert_ahead g c = c.requires.in_step.held
+
+pub returns-then-read-header-clause-trace_source : goal.returns-then-read-header-clause-trace_source
+returns-then-read-header-clause-trace_source g c = c.in_ok-object.ensures.source
+
+pub returns-then-read-header-clause-trace_later : goal.returns-then-read-header-clause-trace_later
+returns-then-read-header-clause-trace_later g c = c.in_ok-object.ensures.later
+
+pub returns-then-read-header-clause-trace_ahead : goal.returns-then-read-header-clause-trace_ahead
+returns-then-read-header-clause-trace_ahead g c = c.in_ok-object.ensures.ahead
+
+pub returns-then-read-header-clause-cert_source : goal.returns-then-read-header-clause-cert_source
+returns-then-read-header-clause-cert_source g c = keeps (g.Q.Source.left c.args.certificate.now)
+
+pub returns-then-read-header-clause-cert_later : goal.returns-then-read-header-clause-cert_later
+returns-then-read-header-clause-cert_later g c = omega arith
+
+pub returns-then-read-header-clause-cert_ahead : goal.returns-then-read-header-clause-cert_ahead
+returns-then-read-header-clause-cert_ahead g c = c.requires.in_step.held
+
+pub returns-in_err-entry-clause-in_step : goal.returns-in_err-entry-clause-in_step
+returns-in_err-entry-clause-in_step g c = rw (err_from_is_err_and c.from_residual-in_err-entry.result c.from_residual-in_err-entry.ensures.1).1 tt
+
+pub returns-in_err-entry-clause-header : goal.returns-in_err-entry-clause-header
+returns-in_err-entry-clause-header g c = rw (err_from_is_err_and c.from_residual-in_err-entry.result c.from_residual-in_err-entry.ensures.1).1 tt
+
+pub returns-in_err-entry-clause-fewer : goal.returns-in_err-entry-clause-fewer
+returns-in_err-entry-clause-fewer g c = rw (err_from_is_err_and c.from_residual-in_err-entry.result c.from_residual-in_err-entry.ensures.1).1 tt
+
+pub returns-in_err-entry-clause-trace_source : goal.returns-in_err-entry-clause-trace_source
+returns-in_err-entry-clause-trace_source g c = c.in_ok-object.ensures.source
+
+pub returns-in_err-entry-clause-trace_later : goal.returns-in_err-entry-clause-trace_later
+returns-in_err-entry-clause-trace_later g c = c.in_ok-object.ensures.later
+
+pub returns-in_err-entry-clause-trace_ahead : goal.returns-in_err-entry-clause-trace_ahead
+returns-in_err-entry-clause-trace_ahead g c = c.in_ok-object.ensures.ahead
+
+pub returns-in_err-entry-clause-cert_source : goal.returns-in_err-entry-clause-cert_source
+returns-in_err-entry-clause-cert_source g c = c.in_err-entry.ensures.source
+
+pub returns-in_err-entry-clause-cert_later : goal.returns-in_err-entry-clause-cert_later
+returns-in_err-entry-clause-cert_later g c = c.in_err-entry.ensures.later
+
+pub returns-in_err-entry-clause-cert_ahead : goal.returns-in_err-entry-clause-cert_ahead
+returns-in_err-entry-clause-cert_ahead g c = c.in_err-entry.ensures.ahead
+
+pub returns-in_err-step-clause-in_step : goal.returns-in_err-step-clause-in_step
+returns-in_err-step-clause-in_step g c = rw (err_from_is_err_and c.from_residual-in_err-step.result c.from_residual-in_err-step.ensures.1).1 tt
+
+pub returns-in_err-step-clause-header : goal.returns-in_err-step-clause-header
+returns-in_err-step-clause-header g c = rw (err_from_is_err_and c.from_residual-in_err-step.result c.from_residual-in_err-step.ensures.1).1 tt
+
+pub returns-in_err-step-clause-fewer : goal.returns-in_err-step-clause-fewer
+returns-in_err-step-clause-fewer g c = rw (err_from_is_err_and c.from_residual-in_err-step.result c.from_residual-in_err-step.ensures.1).1 tt
+
+pub returns-in_err-step-clause-trace_source : goal.returns-in_err-step-clause-trace_source
+returns-in_err-step-clause-trace_source g c = c.in_ok-object.ensures.source
+
+pub returns-in_err-step-clause-trace_later : goal.returns-in_err-step-clause-trace_later
+returns-in_err-step-clause-trace_later g c = c.in_ok-object.ensures.later
+
+pub returns-in_err-step-clause-trace_ahead : goal.returns-in_err-step-clause-trace_ahead
+returns-in_err-step-clause-trace_ahead g c = c.in_ok-object.ensures.ahead
+
+pub returns-in_err-step-clause-cert_source : goal.returns-in_err-step-clause-cert_source
+returns-in_err-step-clause-cert_source g c = c.in_ok-entry.ensures.source
+
+pub returns-in_err-step-clause-cert_later : goal.returns-in_err-step-clause-cert_later
+returns-in_err-step-clause-cert_later g c = c.in_ok-entry.ensures.later
+
+pub returns-in_err-step-clause-cert_ahead : goal.returns-in_err-step-clause-cert_ahead
+returns-in_err-step-clause-cert_ahead g c = c.in_ok-entry.ensures.ahead
+
+pub returns-clause-trace_source : goal.returns-clause-trace_source
+returns-clause-trace_source g c = c.in_ok-object.ensures.source
+
+pub returns-clause-trace_later : goal.returns-clause-trace_later
+returns-clause-trace_later g c = c.in_ok-object.ensures.later
+
+pub returns-clause-trace_ahead : goal.returns-clause-trace_ahead
+returns-clause-trace_ahead g c = c.in_ok-object.ensures.ahead
+
+pub returns-clause-cert_source : goal.returns-clause-cert_source
+returns-clause-cert_source g c = c.in_ok-entry.ensures.source
+
+pub returns-clause-cert_later : goal.returns-clause-cert_later
+returns-clause-cert_later g c = c.in_ok-entry.ensures.later
+
+pub returns-clause-cert_ahead : goal.returns-clause-cert_ahead
+returns-clause-cert_ahead g c = c.in_ok-entry.ensures.ahead
+
+pub records_read-read-requires : goal.records_read-read-requires
+records_read-read-requires g c = omega (arith, c.requires.in_step.line)
+
+pub next_record-requires : goal.next_record-requires
+next_record-requires g c = λ none. (c.requires.in_step.stage, omega (arith, c.requires.in_step.left, c.requires.in_step.line, c.records_read-read.ensures, c.if-read-header.false, ap (λ (k : Header). k.requests) c.requires.header))
+
+pub step-requires-clause-fewer : goal.step-requires-clause-fewer
+step-requires-clause-fewer g c = omega (arith, c.requires.in_step.left, c.requires.in_step.line, c.records_read-read.ensures, c.if-read-header.false, ap (λ (k : Header). k.requests) c.requires.header)
+
+pub step-requires-clause-size : goal.step-requires-clause-size
+step-requires-clause-size g c = rw c.in-Some.is at c.in_ok-object.ensures.size
+
+pub step-requires-clause-range : goal.step-requires-clause-range
+step-requires-clause-range g c = c.in_ok-entry.ensures.range

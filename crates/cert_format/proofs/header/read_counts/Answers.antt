@@ -1,4 +1,4 @@
-use Rattle.std.proofs.Common.{◌+◌, ◌^◌, ◌∙◌, sym, ap, ◌∷◌, [], codes}
+use Rattle.std.proofs.Common.{◌+◌, ◌^◌, ◌∙◌, sym, ap, arith, ◌∷◌, [], codes}
 use Rattle.std.proofs.lemmas.Result.{err_from_is_err_and}
 use Rattle.bound_io.specs.Lines.{first_text}
 use Rattle.cert_format.specs.Grammar.{number_line, count_slots, number_at}
@@ -46,3 +46,74 @@ returns-clause-read g c =
     all_done 4 _ c.args.lines.now c.read_number-4.new.lines (g.S.Source.left c.args.source.now) (g.S.Source.left c.read_number-4.new.source) (g.S.Source.faults c.args.source.now) (g.S.Source.faults c.read_number-4.new.source) (λ bytes. lines_fault (c.args.lines.now.line + 1) (count_slots (number_at 1 (first_text bytes))) bytes) counts_in _ c4 c.read_number-4.ensures.read.held
     (λ bytes p. ap (λ cap. lines_fault (c.args.lines.now.line + 1) (count_slots cap) bytes) (ap (λ b. number_at 1 (first_text b)) (sym (after_lines-zero bytes)) ∙ sym p.0.0.0.2) ∙ lines_none c.args.lines.now.line (number_line (codes "capacity") 1 (2 ^ 56) ∷ number_line (codes "requests") 0 (2 ^ 25) ∷ number_line (codes "unit") 1 (c.in_ok-capacity.capacity) ∷ number_line (codes "denominator") 1 (2 ^ 48) ∷ []) bytes (p.0.0.0.1, (p.0.0.1, (p.0.1, (p.1, tt)))))
     (λ bytes p. counts_same _ _ _ _ _ _ _ _ p.0.0.0.2 p.0.0.2 p.0.2 p.2)
+
+pub read_number-requires-clause-limit : goal.read_number-requires-clause-limit
+read_number-requires-clause-limit g c = c.requires.limit
+
+pub read_number-requires-clause-few : goal.read_number-requires-clause-few
+read_number-requires-clause-few g c = omega (arith, c.requires.few)
+
+pub read_number-requires-clause-no_fault : goal.read_number-requires-clause-no_fault
+read_number-requires-clause-no_fault g c = c.requires.no_fault
+
+pub returns-in_err-capacity-clause-range : goal.returns-in_err-capacity-clause-range
+returns-in_err-capacity-clause-range g c = rw (err_from_is_err_and c.from_residual.result c.from_residual.ensures.1).1 tt
+
+pub read_number-requires-2-clause-limit : goal.read_number-requires-2-clause-limit
+read_number-requires-2-clause-limit g c = c.in_ok-capacity.ensures.read.limit ∙ c.requires.limit
+
+pub read_number-requires-2-clause-few : goal.read_number-requires-2-clause-few
+read_number-requires-2-clause-few g c = omega (arith, c.in_ok-capacity.ensures.read.given.0, c.requires.few)
+
+pub read_number-requires-2-clause-no_fault : goal.read_number-requires-2-clause-no_fault
+read_number-requires-2-clause-no_fault g c = c.in_ok-capacity.ensures.read.given.1
+
+pub returns-in_err-requests-clause-range : goal.returns-in_err-requests-clause-range
+returns-in_err-requests-clause-range g c = rw (err_from_is_err_and c.from_residual-in_err-requests.result c.from_residual-in_err-requests.ensures.1).1 tt
+
+pub read_number-requires-3-clause-limit : goal.read_number-requires-3-clause-limit
+read_number-requires-3-clause-limit g c = c.in_ok-requests.ensures.read.limit ∙ (c.in_ok-capacity.ensures.read.limit ∙ c.requires.limit)
+
+pub read_number-requires-3-clause-few : goal.read_number-requires-3-clause-few
+read_number-requires-3-clause-few g c = omega (arith, c.in_ok-capacity.ensures.read.given.0, c.in_ok-requests.ensures.read.given.0, c.requires.few)
+
+pub read_number-requires-3-clause-no_fault : goal.read_number-requires-3-clause-no_fault
+read_number-requires-3-clause-no_fault g c = c.in_ok-requests.ensures.read.given.1
+
+pub returns-in_err-unit-clause-range : goal.returns-in_err-unit-clause-range
+returns-in_err-unit-clause-range g c = rw (err_from_is_err_and c.from_residual-in_err-unit.result c.from_residual-in_err-unit.ensures.1).1 tt
+
+pub read_number-requires-4-clause-limit : goal.read_number-requires-4-clause-limit
+read_number-requires-4-clause-limit g c = c.in_ok-unit.ensures.read.limit ∙ (c.in_ok-requests.ensures.read.limit ∙ (c.in_ok-capacity.ensures.read.limit ∙ c.requires.limit))
+
+pub read_number-requires-4-clause-few : goal.read_number-requires-4-clause-few
+read_number-requires-4-clause-few g c = omega (arith, c.in_ok-capacity.ensures.read.given.0, c.in_ok-requests.ensures.read.given.0, c.in_ok-unit.ensures.read.given.0, c.requires.few)
+
+pub read_number-requires-4-clause-no_fault : goal.read_number-requires-4-clause-no_fault
+read_number-requires-4-clause-no_fault g c = c.in_ok-unit.ensures.read.given.1
+
+pub returns-in_err-denominator-clause-range : goal.returns-in_err-denominator-clause-range
+returns-in_err-denominator-clause-range g c = rw (err_from_is_err_and c.from_residual-in_err-denominator.result c.from_residual-in_err-denominator.ensures.1).1 tt
+
+pub read_number-requires-3-clause-high : goal.read_number-requires-3-clause-high
+read_number-requires-3-clause-high g c = omega (arith, c.in_ok-capacity.ensures.range)
+
+pub overflow_cast-result : goal.overflow_cast-result
+overflow_cast-result g c = omega (arith, c.in_ok-capacity.ensures.range)
+
+pub overflow_cast-result-2 : goal.overflow_cast-result-2
+overflow_cast-result-2 g c = omega (arith, c.in_ok-requests.ensures.range)
+
+pub overflow_cast-result-3 : goal.overflow_cast-result-3
+overflow_cast-result-3 g c = omega (arith, c.in_ok-capacity.ensures.range, c.in_ok-unit.ensures.range)
+
+pub overflow_cast-result-4 : goal.overflow_cast-result-4
+overflow_cast-result-4 g c = omega (arith, c.in_ok-denominator.ensures.range)
+
+pub returns-clause-range : goal.returns-clause-range
+returns-clause-range g c = record {
+  capacity = c.in_ok-capacity.ensures.range;
+  requests = c.in_ok-requests.ensures.range.1;
+  unit = c.in_ok-unit.ensures.range;
+  denominator = c.in_ok-denominator.ensures.range;
+}

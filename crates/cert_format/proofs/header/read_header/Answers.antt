@@ -1,4 +1,4 @@
-use Rattle.std.proofs.Common.{◌∙◌, codes}
+use Rattle.std.proofs.Common.{◌∙◌, arith, codes}
 use Rattle.std.specs.Str.{bytes_eq}
 use Rattle.std.proofs.lemmas.Result.{err_from_is_err_and}
 use Rattle.bound_io.specs.Lines.{first_text}
@@ -71,3 +71,86 @@ returns-clause-read g c =
     all_done 11 _ c.args.lines.now c.read_fixed-2.new.lines (g.S.Source.left c.args.source.now) (g.S.Source.left c.read_fixed-2.new.source) (g.S.Source.faults c.args.source.now) (g.S.Source.faults c.read_fixed-2.new.source) (header_fault) header_in _ c6 c.read_fixed-2.ensures.held
     (λ bytes p. header_parts c.args.lines.now.line bytes c.requires.first ∙ (last6 _ _ _ _ _ _ p.0.0.0.0.0.1 p.0.0.0.0.1 p.0.0.0.1 p.0.0.1 p.0.1 ∙ p.1))
     (λ bytes p. header_same c.objective_of.result c.in_ok-of_objects.of_objects c.in_ok-counts.counts c.in_ok-exact.exact c.in_ok-values.values bytes c.objective_of.ensures p.0.0.0.0.2 p.0.0.0.2 p.0.0.2 p.0.2)
+
+pub read_fixed-requires-clause-limit : goal.read_fixed-requires-clause-limit
+read_fixed-requires-clause-limit g c = c.requires.limit
+
+pub read_fixed-requires-clause-few : goal.read_fixed-requires-clause-few
+read_fixed-requires-clause-few g c = omega (arith, c.requires.first)
+
+pub read_fixed-requires-clause-no_fault : goal.read_fixed-requires-clause-no_fault
+read_fixed-requires-clause-no_fault g c = c.requires.no_fault
+
+pub returns-in_err-read_fixed-clause-range : goal.returns-in_err-read_fixed-clause-range
+returns-in_err-read_fixed-clause-range g c = rw (err_from_is_err_and c.from_residual.result c.from_residual.ensures.1).1 tt
+
+pub read_choice-requires-clause-limit : goal.read_choice-requires-clause-limit
+read_choice-requires-clause-limit g c = c.in_ok-read_fixed.ensures.limit ∙ c.requires.limit
+
+pub read_choice-requires-clause-few : goal.read_choice-requires-clause-few
+read_choice-requires-clause-few g c = omega (arith, c.in_ok-read_fixed.ensures.given.0, c.requires.first)
+
+pub read_choice-requires-clause-no_fault : goal.read_choice-requires-clause-no_fault
+read_choice-requires-clause-no_fault g c = c.in_ok-read_fixed.ensures.given.1
+
+pub returns-in_err-of_objects-clause-range : goal.returns-in_err-of_objects-clause-range
+returns-in_err-of_objects-clause-range g c = rw (err_from_is_err_and c.from_residual-in_err-of_objects.result c.from_residual-in_err-of_objects.ensures.1).1 tt
+
+pub read_counts-requires-clause-limit : goal.read_counts-requires-clause-limit
+read_counts-requires-clause-limit g c = c.in_ok-of_objects.ensures.limit ∙ (c.in_ok-read_fixed.ensures.limit ∙ c.requires.limit)
+
+pub read_counts-requires-clause-few : goal.read_counts-requires-clause-few
+read_counts-requires-clause-few g c = omega (arith, c.in_ok-read_fixed.ensures.given.0, c.in_ok-of_objects.ensures.given.0, c.requires.first)
+
+pub read_counts-requires-clause-no_fault : goal.read_counts-requires-clause-no_fault
+read_counts-requires-clause-no_fault g c = c.in_ok-of_objects.ensures.given.1
+
+pub returns-in_err-counts-clause-range : goal.returns-in_err-counts-clause-range
+returns-in_err-counts-clause-range g c = rw (err_from_is_err_and c.from_residual-in_err-counts.result c.from_residual-in_err-counts.ensures.1).1 tt
+
+pub read_choice-requires-2-clause-limit : goal.read_choice-requires-2-clause-limit
+read_choice-requires-2-clause-limit g c = c.in_ok-counts.ensures.read.limit ∙ (c.in_ok-of_objects.ensures.limit ∙ (c.in_ok-read_fixed.ensures.limit ∙ c.requires.limit))
+
+pub read_choice-requires-2-clause-few : goal.read_choice-requires-2-clause-few
+read_choice-requires-2-clause-few g c = omega (arith, c.in_ok-read_fixed.ensures.given.0, c.in_ok-of_objects.ensures.given.0, c.in_ok-counts.ensures.read.given.0, c.requires.first)
+
+pub read_choice-requires-2-clause-no_fault : goal.read_choice-requires-2-clause-no_fault
+read_choice-requires-2-clause-no_fault g c = c.in_ok-counts.ensures.read.given.1
+
+pub returns-in_err-exact-clause-range : goal.returns-in_err-exact-clause-range
+returns-in_err-exact-clause-range g c = rw (err_from_is_err_and c.from_residual-in_err-exact.result c.from_residual-in_err-exact.ensures.1).1 tt
+
+pub read_values-requires-clause-limit : goal.read_values-requires-clause-limit
+read_values-requires-clause-limit g c = c.in_ok-exact.ensures.limit ∙ (c.in_ok-counts.ensures.read.limit ∙ (c.in_ok-of_objects.ensures.limit ∙ (c.in_ok-read_fixed.ensures.limit ∙ c.requires.limit)))
+
+pub read_values-requires-clause-few : goal.read_values-requires-clause-few
+read_values-requires-clause-few g c = omega (arith, c.in_ok-read_fixed.ensures.given.0, c.in_ok-of_objects.ensures.given.0, c.in_ok-counts.ensures.read.given.0, c.in_ok-exact.ensures.given.0, c.requires.first)
+
+pub read_values-requires-clause-no_fault : goal.read_values-requires-clause-no_fault
+read_values-requires-clause-no_fault g c = c.in_ok-exact.ensures.given.1
+
+pub returns-in_err-values-clause-range : goal.returns-in_err-values-clause-range
+returns-in_err-values-clause-range g c = rw (err_from_is_err_and c.from_residual-in_err-values.result c.from_residual-in_err-values.ensures.1).1 tt
+
+pub read_fixed-requires-2-clause-limit : goal.read_fixed-requires-2-clause-limit
+read_fixed-requires-2-clause-limit g c = c.in_ok-values.ensures.read.limit ∙ (c.in_ok-exact.ensures.limit ∙ (c.in_ok-counts.ensures.read.limit ∙ (c.in_ok-of_objects.ensures.limit ∙ (c.in_ok-read_fixed.ensures.limit ∙ c.requires.limit))))
+
+pub read_fixed-requires-2-clause-few : goal.read_fixed-requires-2-clause-few
+read_fixed-requires-2-clause-few g c = omega (arith, c.in_ok-read_fixed.ensures.given.0, c.in_ok-of_objects.ensures.given.0, c.in_ok-counts.ensures.read.given.0, c.in_ok-exact.ensures.given.0, c.in_ok-values.ensures.read.given.0, c.requires.first)
+
+pub read_fixed-requires-2-clause-no_fault : goal.read_fixed-requires-2-clause-no_fault
+read_fixed-requires-2-clause-no_fault g c = c.in_ok-values.ensures.read.given.1
+
+pub returns-in_err-read_fixed-2-clause-range : goal.returns-in_err-read_fixed-2-clause-range
+returns-in_err-read_fixed-2-clause-range g c = rw (err_from_is_err_and c.from_residual-in_err-read_fixed-2.result c.from_residual-in_err-read_fixed-2.ensures.1).1 tt
+
+pub returns-clause-range : goal.returns-clause-range
+returns-clause-range g c = record {
+  capacity = c.in_ok-counts.ensures.range.capacity;
+  requests = c.in_ok-counts.ensures.range.requests;
+  unit = c.in_ok-counts.ensures.range.unit;
+  denominator = c.in_ok-counts.ensures.range.denominator;
+  upper = c.in_ok-values.ensures.range.upper;
+  flow = c.in_ok-values.ensures.range.flow;
+  lower = c.in_ok-values.ensures.range.lower;
+}

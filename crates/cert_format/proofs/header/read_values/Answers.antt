@@ -1,4 +1,4 @@
-use Rattle.std.proofs.Common.{◌+◌, ◌-◌, ◌^◌, ◌∷◌, [], codes}
+use Rattle.std.proofs.Common.{◌+◌, ◌-◌, ◌^◌, ◌∙◌, arith, ◌∷◌, [], codes}
 use Rattle.std.proofs.lemmas.Result.{err_from_is_err_and}
 use Rattle.bound_io.specs.Lines.{first_text}
 use Rattle.cert_format.specs.Grammar.{number_line, value_slots, number_at}
@@ -34,3 +34,42 @@ returns-clause-read g c =
     all_done 3 _ c.args.lines.now c.read_number-3.new.lines (g.S.Source.left c.args.source.now) (g.S.Source.left c.read_number-3.new.source) (g.S.Source.faults c.args.source.now) (g.S.Source.faults c.read_number-3.new.source) (lines_fault (c.args.lines.now.line + 1) value_slots) values_in _ c3 c.read_number-3.ensures.read.held
     (λ bytes p. lines_none c.args.lines.now.line value_slots bytes (p.0.0.1, (p.0.1, (p.1, tt))))
     (λ bytes p. values_same _ _ _ _ _ _ p.0.0.2 p.0.2 p.2)
+
+pub read_number-requires-clause-limit : goal.read_number-requires-clause-limit
+read_number-requires-clause-limit g c = c.requires.limit
+
+pub read_number-requires-clause-few : goal.read_number-requires-clause-few
+read_number-requires-clause-few g c = omega (arith, c.requires.few)
+
+pub read_number-requires-clause-no_fault : goal.read_number-requires-clause-no_fault
+read_number-requires-clause-no_fault g c = c.requires.no_fault
+
+pub returns-in_err-read_number-clause-range : goal.returns-in_err-read_number-clause-range
+returns-in_err-read_number-clause-range g c = rw (err_from_is_err_and c.from_residual.result c.from_residual.ensures.1).1 tt
+
+pub read_number-requires-2-clause-limit : goal.read_number-requires-2-clause-limit
+read_number-requires-2-clause-limit g c = c.in_ok-read_number.ensures.read.limit ∙ c.requires.limit
+
+pub read_number-requires-2-clause-few : goal.read_number-requires-2-clause-few
+read_number-requires-2-clause-few g c = omega (arith, c.in_ok-read_number.ensures.read.given.0, c.requires.few)
+
+pub read_number-requires-2-clause-no_fault : goal.read_number-requires-2-clause-no_fault
+read_number-requires-2-clause-no_fault g c = c.in_ok-read_number.ensures.read.given.1
+
+pub returns-in_err-read_number-2-clause-range : goal.returns-in_err-read_number-2-clause-range
+returns-in_err-read_number-2-clause-range g c = rw (err_from_is_err_and c.from_residual-in_err-read_number-2.result c.from_residual-in_err-read_number-2.ensures.1).1 tt
+
+pub read_number-requires-3-clause-limit : goal.read_number-requires-3-clause-limit
+read_number-requires-3-clause-limit g c = c.in_ok-read_number-2.ensures.read.limit ∙ (c.in_ok-read_number.ensures.read.limit ∙ c.requires.limit)
+
+pub read_number-requires-3-clause-few : goal.read_number-requires-3-clause-few
+read_number-requires-3-clause-few g c = omega (arith, c.in_ok-read_number.ensures.read.given.0, c.in_ok-read_number-2.ensures.read.given.0, c.requires.few)
+
+pub read_number-requires-3-clause-no_fault : goal.read_number-requires-3-clause-no_fault
+read_number-requires-3-clause-no_fault g c = c.in_ok-read_number-2.ensures.read.given.1
+
+pub returns-in_err-read_number-3-clause-range : goal.returns-in_err-read_number-3-clause-range
+returns-in_err-read_number-3-clause-range g c = rw (err_from_is_err_and c.from_residual-in_err-read_number-3.result c.from_residual-in_err-read_number-3.ensures.1).1 tt
+
+pub returns-clause-range : goal.returns-clause-range
+returns-clause-range g c = record { upper = omega (arith, c.in_ok-read_number.ensures.range); flow = omega (arith, c.in_ok-read_number-2.ensures.range); lower = omega (arith, c.in_ok-read_number-3.ensures.range) }

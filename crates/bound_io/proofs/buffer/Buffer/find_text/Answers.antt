@@ -1,3 +1,4 @@
+use Rattle.std.proofs.lemmas.Grind.{common_steps}
 use Rattle.std.proofs.Common.{◌≡◌, ◌+◌, ◌∙◌, ap, length, drop, [], ◌++◌, append-nil, arith, inl, inr, length-append, length-drop}
 use Rattle.std.proofs.lemmas.List.{nil_from_length, take_rest}
 use Rattle.std.proofs.lemmas.Result.{err_from_is_err_and}
@@ -83,3 +84,15 @@ returns-then-branch-eq0 g c =
       cause = record { later = omega (arith, so_far.none_failed, given.cause.later); failed = tt };
       none_failed = given.none_failed ∙ so_far.none_failed;
     }
+
+pub loop-seen-init : goal.loop-seen-init
+loop-seen-init g c = grind (arith, common_steps)
+
+pub loop-seen-smaller : goal.loop-seen-smaller
+loop-seen-smaller g c = grind (arith, common_steps)
+
+pub slice_bounds-text_len-end : goal.slice_bounds-text_len-end
+slice_bounds-text_len-end g c = grind (arith, common_steps)
+
+pub fill-requires : goal.fill-requires
+fill-requires g c = grind (arith, common_steps)

@@ -1,3 +1,4 @@
+use Rattle.std.proofs.lemmas.Grind.{common_steps}
 use Rattle.std.proofs.Common.{◌≡◌, ◌+◌, ◌≤◌, ◌<◌, length, min, arith, ap}
 use Rattle.bound_io.proofs.FirstLine.{extent_told, too_long_told, past_limit_told}
 use Rattle.bound_io.proofs.Texts.{text_len-le}
@@ -37,3 +38,39 @@ returns-clause-within g c =
       within = room;
       none = λ empty. omega (arith, line, empty);
     }
+
+pub invariant_of-self : goal.invariant_of-self
+invariant_of-self g c = grind (arith, common_steps)
+
+pub returns-in_default-clause-still : goal.returns-in_default-clause-still
+returns-in_default-clause-still g c = grind (arith, common_steps)
+
+pub returns-in_default-clause-kept : goal.returns-in_default-clause-kept
+returns-in_default-clause-kept g c = grind (arith, common_steps)
+
+pub invariant_of-self-then-text-gt-MOST_TEXT : goal.invariant_of-self-then-text-gt-MOST_TEXT
+invariant_of-self-then-text-gt-MOST_TEXT g c = grind (arith, common_steps)
+
+pub returns-then-text-gt-MOST_TEXT-clause-still : goal.returns-then-text-gt-MOST_TEXT-clause-still
+returns-then-text-gt-MOST_TEXT-clause-still g c = grind (arith, common_steps)
+
+pub returns-then-text-gt-MOST_TEXT-clause-kept : goal.returns-then-text-gt-MOST_TEXT-clause-kept
+returns-then-text-gt-MOST_TEXT-clause-kept g c = grind (arith, common_steps)
+
+pub invariant_of-self-then-line-self : goal.invariant_of-self-then-line-self
+invariant_of-self-then-line-self g c = grind (arith, common_steps)
+
+pub returns-then-line-self-clause-still : goal.returns-then-line-self-clause-still
+returns-then-line-self-clause-still g c = grind (arith, common_steps)
+
+pub returns-then-line-self-clause-kept : goal.returns-then-line-self-clause-kept
+returns-then-line-self-clause-kept g c = grind (arith, common_steps)
+
+pub invariant_of-self-2 : goal.invariant_of-self-2
+invariant_of-self-2 g c = grind (arith, common_steps)
+
+pub returns-clause-still : goal.returns-clause-still
+returns-clause-still g c = grind (arith, common_steps)
+
+pub returns-clause-kept : goal.returns-clause-kept
+returns-clause-kept g c = grind (arith, common_steps)

@@ -1,4 +1,5 @@
-use Rattle.std.proofs.Common.{◌≡◌, refl, arith, ap, ◌∙◌}
+use Rattle.std.proofs.Common.{rules, ◌≡◌, refl, arith, ap, ◌∙◌}
+use Rattle.std.proofs.lemmas.Grind.{common_steps}
 use Rattle.std.proofs.lemmas.List.{nil_from_length}
 use Rattle.bound_io.specs.Positions.{with_held}
 use Rattle.bound_io.proofs.FirstLine.{end_told}
@@ -13,3 +14,9 @@ returns-then-extent-eq0 g c =
       (refl, λ _. tt, (record { still = f.still.0 ∙ ap (λ l. with_held c.args.self.now l) held; fault = f.still.1; nothing = end.0; rest = f.kept }, omega (arith, f.within.none none))),
       record { line = end.1; short = tt; refused = λ _. tt; again = rw (f.still.1) tt; source = f.source; later = f.later; none_failed = f.none_failed; after = tt },
     )
+
+pub returns : goal.returns
+returns g c = grind (arith, common_steps)
+
+pub returns-in_err-extent : goal.returns-in_err-extent
+returns-in_err-extent g c = search rules
