@@ -34,3 +34,10 @@ pub returns-clause-last : goal.returns-clause-last
 returns-clause-last c =
     let some : 0 < c.args.width = omega (arith, c.requires) in
     last_of c.args.whole.now c.args.width c.if-steps-width.prices.0.items c.if-steps-width.prices.1.items c.arcs-arcs.ensures.in_range some (returns-clause-windows c)
+
+pub returns-clause-one_window : goal.returns-clause-one_window
+returns-clause-one_window c = λ wide.
+    elim c.if-steps-width.branch [
+      | then-steps-width+in_ok-solve_whole w ↦ rw w.prices-is w.in_ok-solve_whole.ensures
+      | else-steps-width+in_ok-prices w ↦ absurd (omega (arith, wide))
+    ]
