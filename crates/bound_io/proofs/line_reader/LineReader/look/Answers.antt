@@ -74,3 +74,12 @@ returns-clause-still g c = grind (arith, common_steps)
 
 pub returns-clause-kept : goal.returns-clause-kept
 returns-clause-kept g c = grind (arith, common_steps)
+
+pub returns-in_default-clause-extent : goal.returns-in_default-clause-extent
+returns-in_default-clause-extent g c = tt
+
+pub returns-in_default-clause-within : goal.returns-in_default-clause-within
+returns-in_default-clause-within g c = tt
+
+pub returns-in_default-clause-none_failed : goal.returns-in_default-clause-none_failed
+returns-in_default-clause-none_failed g c = tt
