@@ -1,4 +1,4 @@
-use Rattle.std.proofs.Common.{◌≡◌, refl}
+use Rattle.std.proofs.Common.{refl}
 use Rattle.cert_checker.proofs.walking.step.Goals as goal
 
 pub returns-in-Ok : goal.returns-in-Ok
