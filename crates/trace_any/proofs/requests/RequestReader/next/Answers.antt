@@ -14,3 +14,6 @@ invariant_of-self g c = (λ none. absurd (some none), c.in-Err.ensures.few.0, c.
 
 pub invariant_of-self-in_default-found : goal.invariant_of-self-in_default-found
 invariant_of-self-in_default-found g c = (λ _. c.in_default-found.ensures.no_fault, c.in_default-found.ensures.few.0, c.in_default-found.ensures.few.1, c.in_default-found.ensures.ahead)
+
+pub returns-in_default-found-clause-next : goal.returns-in_default-found-clause-next
+returns-in_default-found-clause-next g c none = search (rules, c.in_default-found.ensures.next, c.self.view_is, none)
