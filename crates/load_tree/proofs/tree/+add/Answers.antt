@@ -1,4 +1,4 @@
-use Rattle.std.proofs.Common.{◌-◌, ◌/◌, ◌∙◌, ap, refl, length, arith}
+use Rattle.std.proofs.Common.{◌-◌, ◌/◌, ◌∙◌, ap, sym, refl, length, arith}
 use Rattle.std.specs.Prelude.{max}
 use Rattle.load_tree.specs.Trees.{root}
 use Rattle.load_tree.proofs.Joining
@@ -61,3 +61,6 @@ pub returns-else-height-eq0-clause-added : goal.returns-else-height-eq0-clause-a
 returns-else-height-eq0-clause-added t c = Halves.fork_added c.args.height c.args.nodes.now c.args.loads.now c.if-height-eq0.false c.requires.tree c.args.from c.args.to c.args.amount c.min.result c.min-else-height-eq0.result c.saturating_sub.result c.saturating_sub-else-height-eq0.result
     c.min.ensures c.min-else-height-eq0.ensures c.saturating_sub.ensures c.saturating_sub-else-height-eq0.ensures c.add-left.new.nodes c.add-left.new.loads c.add-left.ensures.tree c.add-left.ensures.added
     c.add-right.new.nodes c.add-right.new.loads c.add-right.ensures.tree c.add-right.ensures.added c.max.result (c.max.ensures ∙ ap (λ n. max n c.add-right.result) c.add-left.ensures.most ∙ ap (max (root c.add-left.new.nodes).most) c.add-right.ensures.most) c.if-from-to.false c.requires.within
+
+pub returns-then-to-loads-clause-most : goal.returns-then-to-loads-clause-most
+returns-then-to-loads-clause-most t c = sym (Adding.whole_most c.args.height c.args.nodes.now c.args.loads.now c.requires.tree c.args.amount)

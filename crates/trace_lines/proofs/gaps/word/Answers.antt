@@ -1,7 +1,10 @@
-use Rattle.std.proofs.Common.{◌-◌, ◌+◌, ◌∙◌, sym, arith}
+use Rattle.std.proofs.Common.{◌-◌, ◌+◌, ◌∙◌, refl, sym, arith}
 use Rattle.trace_lines.specs.Lines.{words}
 use Rattle.trace_lines.proofs.Cuts.{get-first, get-later, get-none}
 use Rattle.trace_lines.proofs.gaps.word.Goals as goal
+
+pub loop-place-init : goal.loop-place-init
+loop-place-init c = refl
 
 pub loop-place-preserved : goal.loop-place-preserved
 loop-place-preserved c =
