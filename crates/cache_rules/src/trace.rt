@@ -17,12 +17,24 @@ const NO_REQUEST: u32 = u32::MAX;
 /// The requests of a trace. Requests count from 0, and so do its objects, in order of first appearance.
 ///
 /// It takes 12 bytes for each request, and one entry of a hash map for each object. Each answer takes constant time.
-#[derive(Debug, Drop)]
+#[derive(Debug)]
 pub struct Trace {
     latest: IndexMap<Object, u32>,
     numbers: Vec<u32>,
     previous: Vec<u32>,
     following: Vec<u32>,
+}
+
+// Its memory goes back here, in one step of whoever drops it.
+impl Drop for Trace {
+    fn drop(self) {
+        let Trace {
+            latest: _,
+            numbers: _,
+            previous: _,
+            following: _,
+        } = self;
+    }
 }
 
 impl Model for Trace {

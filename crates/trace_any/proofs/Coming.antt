@@ -21,6 +21,7 @@ use Rattle.trace_any.specs.Volumes.{Volume}
 use Rattle.trace_any.specs.Readings.{Asked, spanned, stopped, requested, text_asked, taken_up, read_line, read_on, reading, nothing_read, fault_of}
 use Rattle.trace_any.specs.declared.format.Format.{Format}
 use Rattle.trace_any.specs.declared.format.Limits.{Limits}
+use Rattle.bound_io.specs.Reading.{LosesFront}
 use Rattle.trace_any.specs.Readers.{Reader, Ahead, fresh, room_left, so_far, to_come, onto, after, with_ahead_by, ahead_by, noted_by, number_by, bytes_after, GoesOn, GivesNone, IsOver, IsStopped, IsWhole, LineTaken}
 use Rattle.trace_any.proofs.ReadingSteps.{plain, read_on-first, read_on-stopped, read_on-onto, requested-next, requested-none, requested-full}
 
@@ -254,6 +255,18 @@ goes_then first second third (Some bytes) between after one other =
       coming = one.coming ∙ (next.coming ∙ ap (to_come third) same);
     }
 
+-- a reader that has read nothing yet stands where it stood
+pub goes_nowhere : (r : Reader) (given : List Object) (before : Option (List ℕ)) → given ≡ [] → IfSome before (λ bytes. GoesOn (after given) r r bytes before)
+goes_nowhere r given None empty = tt
+goes_nowhere r given (Some bytes) empty =
+    let none : r.lines.consumed - r.lines.consumed ≡ 0 = omega arith in
+    let same : bytes_after r r bytes ≡ bytes = ap (λ n. drop n bytes) none in
+    record {
+      further = omega arith;
+      rest = ap (λ rest. Some rest) (sym same);
+      coming = rw (empty) (ap (to_come r) (sym same));
+    }
+
 -- one request more after some
 pub loads_one : (first second third : Reader) (given : List Object) (x : Object) (before between later : Option (List ℕ)) → IfSome before (λ bytes. GoesOn (after given) first second bytes between)
     → IfSome between (λ bytes. GoesOn (onto x) second third bytes later) → IfSome before (λ bytes. GoesOn (after (given ++ x ∷ [])) first third bytes later)
@@ -289,6 +302,16 @@ loads_to_end first second third given (Some bytes) between later one none = let 
 pub no_fault : (fault : Option TraceFault) (P : TraceFault → Type 0) → IfSome fault P → ((f : TraceFault) → P f → ⊥) → fault ≡ None
 no_fault None P again not = refl
 no_fault (Some f) P again not = absurd (not f again)
+
+-- nothing is lost of what is left
+pub loses_nothing : (left : Option (List ℕ)) → LosesFront left left
+loses_nothing None = ([], tt)
+loses_nothing (Some bytes) = ([], refl)
+
+-- what holds holds of any fault
+pub of_any_fault : (fault : Option TraceFault) {P : Type 0} → P → IfSome fault (λ _. P)
+of_any_fault None holds = tt
+of_any_fault (Some f) holds = holds
 
 -- an answer is no error
 pub no_error : {A : Type 0} (x : A) (f : TraceFault) → Ok x ≡ Err f → ⊥

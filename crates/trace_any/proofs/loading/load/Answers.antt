@@ -1,7 +1,20 @@
-use Rattle.std.proofs.Common.{◌≡◌, ◌∙◌, sym, ap, arith, length-append, None, [], ◌∷◌}
+use Rattle.std.proofs.Common.{◌≡◌, ◌∙◌, refl, sym, ap, arith, length-append, None, [], ◌∷◌}
 use Rattle.bound_io.proofs.KnownLemmas.{loses_then}
-use Rattle.trace_any.proofs.Coming.{loads_all, loads_one, loads_to_end, no_error, no_fault}
+use Rattle.trace_any.proofs.Coming.{goes_nowhere, loads_all, loads_one, loads_to_end, loses_nothing, no_error, no_fault, of_any_fault}
 use Rattle.trace_any.proofs.loading.load.Goals as goal
+
+pub loop-requests-init : goal.loop-requests-init
+loop-requests-init g c =
+    let empty = c.in_ok-requests.ensures in
+    record {
+      limits = refl;
+      fault = refl;
+      given = rw empty (omega arith);
+      goes_on = λ _. goes_nowhere c.args.reader.now c.in_ok-requests.requests _ empty;
+      unread = of_any_fault c.args.reader.now.fault (refl, refl);
+      source = loses_nothing (g.S.Source.left c.args.source.now);
+      none_failed = refl;
+    }
 
 pub returns-in_err-object-clause-source : goal.returns-in_err-object-clause-source
 returns-in_err-object-clause-source g c = loses_then _ _ _ (c.next.ensures.source.0) (c.loop-requests.invariant.source) (c.next.ensures.source.1)
