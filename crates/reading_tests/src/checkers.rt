@@ -379,4 +379,5 @@ fn stays_as_it_was_after_a_fault(rt: HostRuntime) {
     let taken = step_of(&rt, rt.alloc(), &mut checker, FOUR, KEPT);
     same(&rt, "a further step", taken, Ok(()));
     same(&rt, "entries", checker.entries(), 1);
+    drop(checker);
 }

@@ -304,6 +304,8 @@ fn check(rt: &impl Abort, alloc: Global, row: &Row<'_>) {
         let mut source = source_of(rt, alloc, row.trace, 0, step);
         let mut reader = RequestReader::new(alloc, row.format, limits).expect(rt, "memory");
         check_answers(rt, alloc, &mut reader, &mut source, row, step);
+        drop(reader);
+        drop(source);
     }
 }
 
@@ -384,6 +386,8 @@ fn check_part(rt: &impl Abort, alloc: Global, part: &Part<'_>) {
         holds(rt, "a request", given);
     }
     let loaded = sizes_loaded(alloc, &mut reader, &mut source);
+    drop(reader);
+    drop(source);
     same(rt, "what is loaded", loaded, part.loaded);
 }
 
@@ -446,5 +450,6 @@ fn a_calm_source_gives_no_fault(rt: HostRuntime) {
     let reader = RequestReader::new(rt.alloc(), Format::Webcache, Limits::full());
     let mut reader = reader.expect(&rt, "memory");
     let answer = next_calmly(rt.alloc(), &mut reader, &mut source);
+    drop(reader);
     same(&rt, "a line", answer, Err(FEW));
 }

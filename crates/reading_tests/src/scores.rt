@@ -126,6 +126,7 @@ fn scores_keeps_that_fit_and_names_the_first_load_that_does_not(rt: HostRuntime)
         let trace = trace_of(&rt, rt.alloc(), requests);
         assert!(rt; keeps.len() == trace.len() as usize, "{name}");
         let scored = score(&trace, *capacity, *objective, keeps);
+        drop(trace);
         same(&rt, *name, scored, *answer);
     }
 }

@@ -51,6 +51,10 @@ fn trace_of(rt: &impl Abort, alloc: Global, objects: &[Object]) -> Trace {
     builder.finish()
 }
 
+const OBJECTS: [Object; 4] = [A, B, C, D];
+
+const TRACE: [Object; 7] = [A, B, A, C, B, A, D];
+
 // The number of the object of each request, and the nearest requests for it.
 const REQUESTS: [(u32, Option<u32>, Option<u32>); 7] = [
     (0, None, Some(2)),
@@ -65,7 +69,7 @@ const REQUESTS: [(u32, Option<u32>, Option<u32>); 7] = [
 // The answers are counted by hand.
 #[test]
 fn names_each_object_and_its_nearest_requests(rt: HostRuntime) {
-    let trace = trace_of(&rt, rt.alloc(), &[A, B, A, C, B, A, D]);
+    let trace = trace_of(&rt, rt.alloc(), &TRACE);
     same(&rt, "counts", (trace.len(), trace.objects()), (7, 4));
     for (t, want) in REQUESTS.iter().enumerate() {
         let t = t as u32;
@@ -73,15 +77,17 @@ fn names_each_object_and_its_nearest_requests(rt: HostRuntime) {
         let found = (trace.request(t), trace.prev(t), trace.next(t));
         same(&rt, t, found, *want);
     }
+    drop(trace);
 }
 
 #[test]
 fn gives_each_object_and_its_size(rt: HostRuntime) {
-    let trace = trace_of(&rt, rt.alloc(), &[A, B, A, C, B, A, D]);
-    for (number, object) in [A, B, C, D].iter().enumerate() {
+    let trace = trace_of(&rt, rt.alloc(), &TRACE);
+    for (number, object) in OBJECTS.iter().enumerate() {
         let number = number as u32;
         assert!(rt; number < trace.objects());
         let found = (trace.object(number), trace.size_of(number));
         same(&rt, number, found, (*object, object.size));
     }
+    drop(trace);
 }
