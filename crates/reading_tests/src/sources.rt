@@ -73,11 +73,7 @@ fn write_file<R: Files + Print + Abort>(
     write_pieces(&mut sink, pieces)
 }
 
-fn read_file<R: Files + Input + Abort>(
-    rt: &R,
-    alloc: Global,
-    path: &str,
-) -> Result<usize, Failed> {
+fn read_file<R: Files + Input + Abort>(rt: &R, alloc: Global, path: &str) -> Result<usize, Failed> {
     let mut source = FileSource::new(rt, alloc, path).expect(rt, "memory");
     source.read(&mut [0; 10])
 }
