@@ -98,26 +98,21 @@ fn a_certificate_that_is_cut_is_truncated(rt: HostRuntime) {
     }
 }
 
-const LONG_LINE: Row<'static> = Row {
-    shows: "a line that is too long",
-    status: Status::Invalid {
-        line: 12,
-        kind: InvalidKind::TooLong,
-    },
-    report: b"invalid line 12: line too long\n",
-    ..CHECK
-};
+// The check of a certificate with a line that is too long.
+fn check_long(rt: &impl Abort, alloc: Global, line: &str) {
+    let cert = spoilt(rt, alloc, EXACT_PAIR, 12, line);
+    let kind = InvalidKind::TooLong;
+    let status = Status::Invalid { line: 12, kind };
+    let report = b"invalid line 12: line too long\n";
+    let shows = "a line that is too long";
+    expect_of(rt, alloc, shows, PAIR, &cert, status, report);
+}
 
 #[test]
 fn a_line_of_65536_bytes_is_too_long(rt: HostRuntime) {
     let ones = "1".repeat(rt.alloc(), 65532).expect(&rt, "memory");
     let line = format!(in rt.alloc(); "0 1 {ones}").expect(&rt, "memory");
-    let cert = spoilt(&rt, rt.alloc(), EXACT_PAIR, 12, line.as_str());
-    let row = Row {
-        cert: &cert,
-        ..LONG_LINE
-    };
-    expect(&rt, rt.alloc(), &row);
+    check_long(&rt, rt.alloc(), &line);
 }
 
 const FAILED_READ: Row<'static> = Row {
