@@ -106,8 +106,13 @@ denominator 1\nform plain\nupper 0\nflow 0\nlower 0\nrecords\nend\n",
 
 // Compares what was found with what is wanted. A comparison in a test's own body would be proved there anew, with the
 // text that it prints.
-fn same<T: Copy + Debug + PartialEq>(rt: &impl Abort, shows: &str, found: T, want: T) {
-    assert_eq!(rt; found, want, "{shows}");
+fn same<P: Copy + Debug, T: Copy + Debug + PartialEq>(
+    rt: &impl Abort,
+    shows: P,
+    found: T,
+    want: T,
+) {
+    assert_eq!(rt; found, want, "{shows:?}");
 }
 
 // Expects what is to hold.
@@ -144,6 +149,8 @@ fn run_over(
     mut made: MemSink,
 ) -> Ended {
     let status = run(alloc, words, &mut trace, &mut cert, &mut report, &mut made);
+    drop(trace);
+    drop(cert);
     Ended {
         status,
         report: report.into_bytes(),
@@ -208,6 +215,7 @@ fn check_at(rt: &impl Abort, alloc: Global, row: &Row<'_>, step: usize)
     same(rt, row.shows, ended.status, row.status);
     same(rt, row.shows, ended.report.as_slice(), row.report);
     same(rt, row.shows, ended.made.as_slice(), row.made);
+    drop(ended);
 }
 
 fn check_all(rt: &impl Abort, alloc: Global, rows: &[Row<'_>]) {
@@ -253,6 +261,7 @@ fn expect_yes<'x>(rt: &impl Abort, alloc: Global, words: &'x str, trace: &'x [u8
     let ended = done(rt, alloc, &row);
     holds(rt, words, ended.report.ends_with(b"\nvalid\n"));
     holds(rt, words, ended.made.is_empty());
+    drop(ended);
 }
 
 #[test]

@@ -1,6 +1,8 @@
 //! The comparisons that the tests share.
 //!
 //! A comparison in a test's own body would be proved there anew, with the text that it prints.
+ghost use Rattle.std.specs.Prelude.{◌≡◌, true};
+
 use std::fmt::Debug;
 use std::process::Abort;
 
@@ -15,6 +17,8 @@ pub fn same<P: Copy + Debug, T: Copy + Debug + PartialEq>(
 }
 
 /// Expects what is to hold at a row or place.
-pub fn holds<P: Copy + Debug>(rt: &impl Abort, at: P, is_so: bool) {
+pub fn holds<P: Copy + Debug>(rt: &impl Abort, at: P, is_so: bool)
+    ensures { is_so ≡ true }
+{
     assert!(rt; is_so, "at {at:?}");
 }

@@ -1,5 +1,5 @@
 //! The least constant prices of small traces.
-use crate::compared::same;
+use crate::compared::{holds, same};
 use crate::made::intervals_of;
 use cache_rules::Objective;
 use constant_price::least;
@@ -136,9 +136,11 @@ const OTHERS: [Row<'static>; 6] = [
 
 fn least_of(rt: &impl Abort, alloc: Global, row: &Row<'_>) -> u128 {
     let intervals = intervals_of(rt, alloc, row.requests, row.capacity, row.objective);
-    assert!(rt; row.unit >= 1 && row.denominator <= 1 << 48);
+    holds(rt, row.shows, row.unit >= 1 && row.denominator <= 1 << 48);
     let units = row.capacity / row.unit;
-    least(&intervals, row.unit, units, row.denominator)
+    let price = least(&intervals, row.unit, units, row.denominator);
+    drop(intervals);
+    price
 }
 
 fn check_all(rt: &impl Abort, alloc: Global, rows: &[Row<'_>]) {

@@ -1,5 +1,5 @@
 //! The intervals of small traces, worked out by hand.
-use crate::compared::same;
+use crate::compared::{holds, same};
 use crate::made::intervals_of_sizes;
 use cache_rules::Objective;
 use interval_maker::Interval;
@@ -59,6 +59,7 @@ fn finds_all_that_fit_by_start_and_end(rt: HostRuntime) {
         let made = intervals_of_sizes(&rt, rt.alloc(), &SIZES, *capacity, *objective);
         same(&rt, *capacity, made.as_slice(), *want);
         same(&rt, *capacity, made.steps(), 7);
+        drop(made);
     }
 }
 
@@ -78,7 +79,8 @@ fn numbers_them_by_start(rt: HostRuntime) {
     let made = intervals_of_sizes(&rt, rt.alloc(), &SIZES, 5, Objective::Bytes);
     for (t, want) in NUMBERS.iter().enumerate() {
         let t = t as u32;
-        assert!(rt; t < made.steps());
+        holds(&rt, t, t < made.steps());
         same(&rt, t, (made.starting(t), made.ending(t)), *want);
     }
+    drop(made);
 }

@@ -1,6 +1,7 @@
 //! Intervals and arcs of few numbers.
 ghost use Rattle.std.specs.Prelude.{◌≡◌};
 
+use crate::compared::holds;
 use cache_rules::{Builder, Object, Objective, Trace};
 use interval_maker::{Intervals, make};
 use relaxation::OuterArc;
@@ -12,7 +13,7 @@ fn trace_of(rt: &impl Abort, alloc: Global, requests: &[[u64; 2]]) -> Trace {
     let mut builder = Builder::new(alloc).expect(rt, "memory");
     for request in requests {
         let [id, size] = *request;
-        assert!(rt; builder.len() < 100 && size >= 1 && size <= 1 << 48);
+        holds(rt, id, builder.len() < 100 && size >= 1 && size <= 1 << 48);
         let object = Object {
             volume: 0,
             id,
@@ -32,7 +33,9 @@ pub fn intervals_of(
     objective: Objective,
 ) -> Intervals {
     let trace = trace_of(rt, alloc, requests);
-    make(alloc, &trace, capacity, objective).expect(rt, "memory")
+    let intervals = make(alloc, &trace, capacity, objective).expect(rt, "memory");
+    drop(trace);
+    intervals
 }
 
 /// The intervals of requests for objects of these sizes, of which the ids differ.

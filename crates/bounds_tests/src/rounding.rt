@@ -66,7 +66,9 @@ fn keeps_of(alloc: Global, intervals: &Intervals, capacity: u64) -> Result<Keeps
 
 fn keeps_of_row(rt: &impl Abort, alloc: Global, row: &Row<'_>) -> Keeps {
     let intervals = intervals_of(rt, alloc, row.requests, row.capacity, Objective::Object);
-    keeps_of(alloc, &intervals, row.capacity).expect(rt, "memory")
+    let keeps = keeps_of(alloc, &intervals, row.capacity).expect(rt, "memory");
+    drop(intervals);
+    keeps
 }
 
 #[test]

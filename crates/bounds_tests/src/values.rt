@@ -2,7 +2,7 @@
 ghost use Rattle.std.specs.Prelude.{◌≡◌, ◌≤◌, ◌^◌, true};
 ghost use Rattle.relaxation.specs.Denominators.{IsChoice};
 
-use crate::compared::same;
+use crate::compared::{holds, same};
 use crate::made::{arc, intervals_of_sizes};
 use bound_base::NoMemory;
 use cache_rules::Objective;
@@ -29,8 +29,9 @@ const UNITS: [(&[u64], u64); 4] = [
 #[test]
 fn weighs_by_the_greatest_divisor(rt: HostRuntime) {
     for (sizes, want) in &UNITS {
-        let unit = unit_of(&intervals_of_sizes(&rt, rt.alloc(), sizes, LARGEST, HITS));
-        same(&rt, *sizes, unit, *want);
+        let intervals = intervals_of_sizes(&rt, rt.alloc(), sizes, LARGEST, HITS);
+        same(&rt, *sizes, unit_of(&intervals), *want);
+        drop(intervals);
     }
 }
 
@@ -46,7 +47,7 @@ const SUMS: [(&[u128], u64, Option<u32>); 5] = [
 
 // The step at which the sum passes its limit. Want of memory is at the last number.
 fn limit_step(rt: &impl Abort, alloc: Global, prices: &[u128], units: u64) -> Option<u32> {
-    assert!(rt; prices.len() <= 3 && units >= 1);
+    holds(rt, units, prices.len() <= 3 && units >= 1);
     match Sums::new(alloc, prices, units) {
         Ok(_) => None,
         Err(PriceFault::SumLimit { step }) => Some(step),
@@ -133,18 +134,21 @@ fn denominator_of(
 fn denominator_is_within_its_limit(rt: HostRuntime) {
     for row in &DENOMINATORS {
         let intervals = intervals_of_sizes(&rt, rt.alloc(), row.sizes, LARGEST, row.objective);
-        assert!(rt; is_choice(row.choice));
+        holds(&rt, row.sizes, is_choice(row.choice));
         let found = denominator_of(&intervals, row.choice);
         same(&rt, row.sizes, found, row.want);
+        drop(intervals);
     }
 }
 
 #[test]
 fn bounds_are_over_the_denominator(rt: HostRuntime) {
     let intervals = intervals_of_sizes(&rt, rt.alloc(), &BY_TURNS, LARGEST, HITS);
-    assert_eq!(rt; intervals.steps(), 4);
+    holds(&rt, "four steps", intervals.steps() == 4);
     let sums = Sums::new(rt.alloc(), &[0, 2, 0, 0], 4).expect(&rt, "memory");
     same(&rt, "the bound", bound_of(&intervals, 1, 4, 6, &sums), 10);
+    drop(sums);
+    drop(intervals);
 }
 
 const FLOWS: [([u64; 2], Result<u128, FlowFault>); 4] = [
@@ -157,11 +161,12 @@ const FLOWS: [([u64; 2], Result<u128, FlowFault>); 4] = [
 #[test]
 fn values_are_over_the_denominator(rt: HostRuntime) {
     let intervals = intervals_of_sizes(&rt, rt.alloc(), &BY_TURNS, LARGEST, HITS);
-    assert_eq!(rt; intervals.as_slice().len(), 2);
+    holds(&rt, "two intervals", intervals.as_slice().len() == 2);
     for (flows, want) in &FLOWS {
         let value = flow_value(&intervals, 1, 4, 6, flows);
         same(&rt, *flows, value, *want);
     }
+    drop(intervals);
 }
 
 fn whole_over(alloc: Global, intervals: &Intervals, denominator: u64) -> Result<Instance, NoMemory>
@@ -180,4 +185,5 @@ fn has_an_arc_for_each_interval(rt: HostRuntime) {
         let arcs = [arc(0, 2, 2, cost), arc(1, 3, 3, 2)];
         same(&rt, denominator, whole.arcs(), arcs.as_slice());
     }
+    drop(intervals);
 }

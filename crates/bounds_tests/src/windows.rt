@@ -1,7 +1,7 @@
 //! The windows of small instances, with parts that were worked out by hand.
 ghost use Rattle.std.specs.Prelude.{◌≡◌, IfOk};
 
-use crate::compared::same;
+use crate::compared::{holds, same};
 use crate::made::arc;
 use bound_base::NoMemory;
 use relaxation::{Instance, OuterArc, Windows, window_instance};
@@ -93,7 +93,7 @@ const PARTS: [(u32, u32, &[OuterArc]); 3] = [
 fn shares_the_cost_and_leaves_the_rest_to_the_last(rt: HostRuntime) {
     let whole = whole(rt.alloc()).expect(&rt, "memory");
     for (number, steps, arcs) in &PARTS {
-        assert!(rt; *number < 4);
+        holds(&rt, *number, *number < 4);
         let part = window_instance(rt.alloc(), &whole, 3, *number).expect(&rt, "memory");
         same(&rt, *number, (part.steps(), part.units()), (*steps, 2));
         same(&rt, *number, part.arcs(), *arcs);
@@ -108,11 +108,12 @@ fn goes_through_the_windows_in_order(rt: HostRuntime) {
     let whole = whole(alloc).expect(&rt, "memory");
     let mut windows = Windows::new(alloc, &whole, 3).expect(&rt, "memory");
     for numbers in &NUMBERS {
-        assert!(rt; windows.has_step());
+        holds(&rt, *numbers, windows.has_step());
         same(&rt, *numbers, windows.numbers(), *numbers);
         let parts = windows.instance(alloc).expect(&rt, "memory");
         same(&rt, *numbers, parts.arcs().len(), numbers.len());
         windows.advance();
     }
-    assert!(rt; !windows.has_step());
+    holds(&rt, "the end", !windows.has_step());
+    drop(windows);
 }

@@ -319,7 +319,7 @@ fn step_of(
     ensures counts { OnOk result ((checker.new.header ≡ checker.old.header) × (checker.new.sums.steps ≡ checker.old.sums.steps + 1)) }
     ensures kept { OnErr result (checker.new ≡ checker.old) }
 {
-    assert!(rt; is_sized(&object) && entry.in_range());
+    holds(rt, checker.entries(), is_sized(&object) && entry.in_range());
     checker.step(alloc, object, entry)
 }
 
@@ -331,12 +331,17 @@ fn answer_of(
     requests: &[Object],
     records: &[Record],
 ) -> Answer {
-    assert!(rt; header.in_range());
-    assert!(rt; requests.len() == header.requests as usize);
-    assert!(rt; records.len() == requests.len());
+    holds(rt, "the header", header.in_range());
+    holds(
+        rt,
+        "the requests",
+        requests.len() == header.requests as usize,
+    );
+    holds(rt, "the records", records.len() == requests.len());
     let mut checker = Checker::new(alloc, header).expect(rt, "memory");
     for t in 0..requests.len() {
         if let Err(fault) = step_of(rt, alloc, &mut checker, requests[t], records[t]) {
+            drop(checker);
             return Answer::Refused {
                 step: t as u32,
                 fault,
@@ -370,7 +375,7 @@ const ABOVE: Record = Record { flow: 2, ..KEPT };
 
 #[test]
 fn stays_as_it_was_after_a_fault(rt: HostRuntime) {
-    assert!(rt; PAIR_HEADER.in_range());
+    holds(&rt, "the header", PAIR_HEADER.in_range());
     let mut checker = Checker::new(rt.alloc(), PAIR_HEADER).expect(&rt, "memory");
     let refused = step_of(&rt, rt.alloc(), &mut checker, FOUR, ABOVE);
     let fault = InvalidKind::FlowAboveWeight { flow: 2, weight: 1 };
@@ -379,4 +384,5 @@ fn stays_as_it_was_after_a_fault(rt: HostRuntime) {
     let taken = step_of(&rt, rt.alloc(), &mut checker, FOUR, KEPT);
     same(&rt, "a further step", taken, Ok(()));
     same(&rt, "entries", checker.entries(), 1);
+    drop(checker);
 }

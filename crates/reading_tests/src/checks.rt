@@ -144,7 +144,12 @@ fn answer(rt: &impl Abort, alloc: Global, row: &Row) -> Result<Verdict, CheckFau
     let reader = RequestReader::new(alloc, Format::Webcache, Limits::full());
     let mut reader = reader.expect(rt, "memory");
     let mut cert = CertReader::new(alloc).expect(rt, "memory");
-    check_streams(alloc, &mut reader, &mut trace, &mut cert, &mut certificate)
+    let answer = check_streams(alloc, &mut reader, &mut trace, &mut cert, &mut certificate);
+    drop(reader);
+    drop(trace);
+    drop(cert);
+    drop(certificate);
+    answer
 }
 
 #[test]

@@ -50,6 +50,8 @@ fn check(
         let mut source = MemSource::new(bytes, Vec::new(alloc), step);
         let mut reader = LineReader::new(alloc, limit).expect(rt, "memory");
         check_answers(rt, &mut reader, &mut source, step, lines, end);
+        drop(reader);
+        drop(source);
     }
 }
 
@@ -128,20 +130,26 @@ fn gives_line(
     reader.next_line(source) == want
 }
 
+// A line, and then the fault twice.
+fn check_failed(rt: &impl Abort, reader: &mut LineReader, source: &mut MemSource) {
+    holds(rt, 1, gives_line(reader, source, Ok(Some(b"ab"))));
+    let failed = Err(LineFault::ReadFault);
+    holds(rt, 2, gives_line(reader, source, failed));
+    holds(rt, 3, gives_line(reader, source, failed));
+    let counts = [reader.taken(), reader.consumed(), reader.line()];
+    same(rt, "the counts", counts, [3, 3, 1]);
+    same(rt, "the next read", source.read(&mut [0; 10]), Ok(1));
+}
+
 #[test]
 fn a_failed_read_is_answered_again_and_nothing_more_is_read(rt: HostRuntime) {
     let bytes = b"ab\ncd\n".to_vec(rt.alloc()).expect(&rt, "memory");
     let fails = vec![in rt.alloc(); 4].expect(&rt, "memory");
     let mut source = MemSource::new(bytes, fails, 1);
     let mut reader = LineReader::new(rt.alloc(), 100).expect(&rt, "memory");
-    let given = gives_line(&mut reader, &mut source, Ok(Some(b"ab")));
-    holds(&rt, 1, given);
-    let failed = Err(LineFault::ReadFault);
-    holds(&rt, 2, gives_line(&mut reader, &mut source, failed));
-    holds(&rt, 3, gives_line(&mut reader, &mut source, failed));
-    let counts = [reader.taken(), reader.consumed(), reader.line()];
-    same(&rt, "the counts", counts, [3, 3, 1]);
-    same(&rt, "the next read", source.read(&mut [0; 10]), Ok(1));
+    check_failed(&rt, &mut reader, &mut source);
+    drop(reader);
+    drop(source);
 }
 
 // Over a source that never fails, no fault of it can be answered.
@@ -160,5 +168,6 @@ fn reads_at_most_a_buffer_ahead(rt: HostRuntime) {
     let read = read_calmly(&mut reader, &mut source);
     same(&rt, "a line", read, Ok(true));
     let counts = [reader.taken(), reader.consumed()];
+    drop(reader);
     same(&rt, "taken", counts, [65536, 1]);
 }

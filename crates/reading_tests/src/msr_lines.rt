@@ -1,5 +1,5 @@
 //! Lines of MSR traces, read by hand.
-use crate::compared::same;
+use crate::compared::{holds, same};
 use trace_lines::{LineKind, Span};
 use trace_msr::{MsrLine, parse};
 
@@ -124,7 +124,7 @@ fn line_of(row: &Row) -> MsrLine<'static> {
 fn gives_a_host_a_disk_and_each_block_that_is_touched(rt: HostRuntime) {
     for row in &ROWS {
         let (block, line) = (row.0, row.1);
-        assert!(rt; block >= 1 && block <= 1 << 48);
+        holds(&rt, line, block >= 1 && block <= 1 << 48);
         same(&rt, (line, block), parse(line, block), Ok(line_of(row)));
     }
 }

@@ -282,7 +282,7 @@ fn check_answers(
 ) {
     for given in row.given {
         let [volume, id, size] = *given;
-        assert!(rt; volume < 10);
+        holds(rt, step, volume < 10);
         let volume = volume as u32;
         let object = Object { volume, id, size };
         holds(rt, step, gives(alloc, reader, source, Ok(Some(object))));
@@ -304,6 +304,8 @@ fn check(rt: &impl Abort, alloc: Global, row: &Row<'_>) {
         let mut source = source_of(rt, alloc, row.trace, 0, step);
         let mut reader = RequestReader::new(alloc, row.format, limits).expect(rt, "memory");
         check_answers(rt, alloc, &mut reader, &mut source, row, step);
+        drop(reader);
+        drop(source);
     }
 }
 
@@ -343,9 +345,9 @@ const LONG: Row<'static> = Row {
 #[test]
 fn a_long_line_is_refused_before_its_bytes_are_counted(rt: HostRuntime) {
     let mut trace = b"1 7 4\n".to_vec(rt.alloc()).expect(&rt, "memory");
-    for _ in 0..65536 {
-        trace.push(b' ').expect(&rt, "memory");
-    }
+    trace
+        .resize(trace.len() + 65536, b' ')
+        .expect(&rt, "memory");
     let row = Row {
         trace: &trace,
         ..LONG
@@ -384,6 +386,8 @@ fn check_part(rt: &impl Abort, alloc: Global, part: &Part<'_>) {
         holds(rt, "a request", given);
     }
     let loaded = sizes_loaded(alloc, &mut reader, &mut source);
+    drop(reader);
+    drop(source);
     same(rt, "what is loaded", loaded, part.loaded);
 }
 
@@ -446,5 +450,6 @@ fn a_calm_source_gives_no_fault(rt: HostRuntime) {
     let reader = RequestReader::new(rt.alloc(), Format::Webcache, Limits::full());
     let mut reader = reader.expect(&rt, "memory");
     let answer = next_calmly(rt.alloc(), &mut reader, &mut source);
+    drop(reader);
     same(&rt, "a line", answer, Err(FEW));
 }

@@ -1,5 +1,5 @@
 //! Scores of the keeps of a few requests, counted by hand.
-use crate::compared::same;
+use crate::compared::{holds, same};
 use cache_rules::{Builder, Object, Objective, Overfull, Trace, score};
 use std::alloc::Global;
 use std::process::Abort;
@@ -112,8 +112,8 @@ const ROWS: [Row<'static>; 7] = [
 fn trace_of(rt: &impl Abort, alloc: Global, requests: &[Object]) -> Trace {
     let mut builder = Builder::new(alloc).expect(rt, "memory");
     for request in requests {
-        assert!(rt; builder.len() < 10);
-        assert!(rt; request.size >= 1 && request.size <= 9);
+        holds(rt, *request, builder.len() < 10);
+        holds(rt, *request, request.size >= 1 && request.size <= 9);
         builder.push(*request).expect(rt, "memory");
     }
     builder.finish()
@@ -122,10 +122,12 @@ fn trace_of(rt: &impl Abort, alloc: Global, requests: &[Object]) -> Trace {
 // The answers are counted by hand.
 #[test]
 fn scores_keeps_that_fit_and_names_the_first_load_that_does_not(rt: HostRuntime) {
-    for (name, requests, keeps, capacity, objective, answer) in &ROWS {
+    for row in &ROWS {
+        let (name, requests, keeps, capacity, objective, answer) = *row;
         let trace = trace_of(&rt, rt.alloc(), requests);
-        assert!(rt; keeps.len() == trace.len() as usize, "{name}");
-        let scored = score(&trace, *capacity, *objective, keeps);
-        same(&rt, *name, scored, *answer);
+        holds(&rt, name, keeps.len() == trace.len() as usize);
+        let scored = score(&trace, capacity, objective, keeps);
+        drop(trace);
+        same(&rt, name, scored, answer);
     }
 }

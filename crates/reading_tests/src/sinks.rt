@@ -2,7 +2,6 @@
 ghost use Rattle.std.specs.Prelude.{◌≤◌};
 
 use crate::compared::same;
-use bound_base::NoMemory;
 use bound_io::{Failed, FileSink, GrowSink, MemSink, Sink, write_all};
 use std::alloc::Global;
 use std::process::Abort;
@@ -18,10 +17,11 @@ fn write_each<K: Sink>(rt: &impl Abort, sink: &mut K, rows: &[Row]) {
 
 // A sink for so many bytes, which takes at most `step` of them a call and fails at one call, or at none where its
 // number is 0.
-fn sink_of(alloc: Global, room: usize, failing: u64, step: usize) -> Result<MemSink, NoMemory>
+fn sink_of(rt: &impl Abort, alloc: Global, room: usize, failing: u64, step: usize) -> MemSink
     requires { 1 ≤ step }
 {
-    MemSink::new(alloc, room, vec![in alloc; failing]?, step)
+    let fails = vec![in alloc; failing].expect(rt, "memory");
+    MemSink::new(alloc, room, fails, step).expect(rt, "memory")
 }
 
 const INTO_SEVEN_BYTES: [Row; 8] = [
@@ -36,13 +36,12 @@ const INTO_SEVEN_BYTES: [Row; 8] = [
 ];
 
 #[test]
-fn a_failed_write_takes_nothing_and_a_full_sink_fails(rt: HostRuntime) -> Result<(), NoMemory> {
-    let mut sink = sink_of(rt.alloc(), 7, 2, 3)?;
+fn a_failed_write_takes_nothing_and_a_full_sink_fails(rt: HostRuntime) {
+    let mut sink = sink_of(&rt, rt.alloc(), 7, 2, 3);
     write_each(&rt, &mut sink, &INTO_SEVEN_BYTES);
     let want = b"abcdefg".as_slice();
     same(&rt, "written", sink.written(), want);
     same(&rt, "the bytes", sink.into_bytes().as_slice(), want);
-    Ok(())
 }
 
 const WHOLE: [Row; 3] = [(b"two ", Ok(4)), (b"", Ok(0)), (b"pieces", Ok(6))];
@@ -56,10 +55,9 @@ fn keeps_each_piece_whole(rt: HostRuntime) {
 }
 
 #[test]
-fn a_full_device_is_a_fault(rt: HostRuntime) -> Result<(), NoMemory> {
-    let mut sink = FileSink::new(&rt, rt.alloc(), "/dev/full")?;
+fn a_full_device_is_a_fault(rt: HostRuntime) {
+    let mut sink = FileSink::new(&rt, rt.alloc(), "/dev/full").expect(&rt, "memory");
     write_each(&rt, &mut sink, &[(b"x", Err(Failed)), (b"x", Err(Failed))]);
-    Ok(())
 }
 
 // The room, the call that fails, two pieces, whether each is written whole, and what stands in the sink after them.
@@ -82,22 +80,19 @@ const BOTH: [BothRow; 6] = [
 ];
 
 // Whether each piece was written whole, and what stands in the sink.
-fn write_both(alloc: Global, row: &BothRow) -> Result<([bool; 2], Vec<u8>), NoMemory> {
+fn write_both(rt: &impl Abort, alloc: Global, row: &BothRow) -> ([bool; 2], Vec<u8>) {
     let (room, failing, first, second, _, _) = *row;
-    let mut sink = sink_of(alloc, room, failing, 2)?;
+    let mut sink = sink_of(rt, alloc, room, failing, 2);
     let first = write_all(&mut sink, first).is_ok();
     let second = write_all(&mut sink, second).is_ok();
-    Ok(([first, second], sink.into_bytes()))
+    ([first, second], sink.into_bytes())
 }
 
 #[test]
-fn writes_all_or_stops_at_the_first_fault_and_goes_on_after_it(
-    rt: HostRuntime,
-) -> Result<(), NoMemory> {
+fn writes_all_or_stops_at_the_first_fault_and_goes_on_after_it(rt: HostRuntime) {
     for (place, row) in BOTH.iter().enumerate() {
-        let (whole, bytes) = write_both(rt.alloc(), row)?;
+        let (whole, bytes) = write_both(&rt, rt.alloc(), row);
         same(&rt, place, whole, row.4);
         same(&rt, place, bytes.as_slice(), row.5);
     }
-    Ok(())
 }

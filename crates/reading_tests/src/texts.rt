@@ -1,6 +1,5 @@
 //! Texts against lines that were written by hand.
 use crate::compared::same;
-use bound_base::NoMemory;
 use bound_report::{
     BoundFacts, InvalidKind, LimitName, Mode, Refusal, Verdict, Window, WordKind, refusal_text,
     report_text, verdict_text,
@@ -53,7 +52,7 @@ unit 2 units 3 denominator 3\nintervals 1\nupper 14/3 floor 4\nflow 13/3\nlower 
 ];
 
 #[test]
-fn reports_each_mode(rt: HostRuntime) -> Result<(), NoMemory> {
+fn reports_each_mode(rt: HostRuntime) {
     for (row, (mode, price, want)) in REPORTS.iter().enumerate() {
         let facts = BoundFacts {
             header: HEADER,
@@ -63,23 +62,21 @@ fn reports_each_mode(rt: HostRuntime) -> Result<(), NoMemory> {
             price: *price,
             intervals: 1,
         };
-        let text = report_text(rt.alloc(), &facts)?;
+        let text = report_text(rt.alloc(), &facts).expect(&rt, "memory");
         same(&rt, row, text.as_slice(), *want);
     }
-    Ok(())
 }
 
 #[test]
-fn says_yes_in_eight_lines(rt: HostRuntime) -> Result<(), NoMemory> {
+fn says_yes_in_eight_lines(rt: HostRuntime) {
     let verdict = Verdict {
         header: HEADER,
         objects: 2,
     };
-    let text = verdict_text(rt.alloc(), &verdict, 6)?;
+    let text = verdict_text(rt.alloc(), &verdict, 6).expect(&rt, "memory");
     let want = b"trace requests 4 objects 2 dropped 6\ncapacity 7 objective bytes\nform exact\n\
 unit 2 units 3 denominator 3\nupper 14/3 floor 4\nflow 13/3\nlower 4\nvalid\n";
     same(&rt, "a verdict", text.as_slice(), want.as_slice());
-    Ok(())
 }
 
 const INVALID: [(InvalidKind, &[u8]); 6] = [

@@ -98,28 +98,21 @@ fn a_certificate_that_is_cut_is_truncated(rt: HostRuntime) {
     }
 }
 
-const LONG_LINE: Row<'static> = Row {
-    shows: "a line that is too long",
-    status: Status::Invalid {
-        line: 12,
-        kind: InvalidKind::TooLong,
-    },
-    report: b"invalid line 12: line too long\n",
-    ..CHECK
-};
+// The check of a certificate with a line that is too long.
+fn check_long(rt: &impl Abort, alloc: Global, line: &str) {
+    let cert = spoilt(rt, alloc, EXACT_PAIR, 12, line);
+    let kind = InvalidKind::TooLong;
+    let status = Status::Invalid { line: 12, kind };
+    let report = b"invalid line 12: line too long\n";
+    let shows = "a line that is too long";
+    expect_of(rt, alloc, shows, PAIR, &cert, status, report);
+}
 
 #[test]
 fn a_line_of_65536_bytes_is_too_long(rt: HostRuntime) {
-    let mut line = String::from_str(rt.alloc(), "0 1 ").expect(&rt, "memory");
-    for _ in line.len()..65536 {
-        line.push('1').expect(&rt, "memory");
-    }
-    let cert = spoilt(&rt, rt.alloc(), EXACT_PAIR, 12, line.as_str());
-    let row = Row {
-        cert: &cert,
-        ..LONG_LINE
-    };
-    expect(&rt, rt.alloc(), &row);
+    let ones = "1".repeat(rt.alloc(), 65532).expect(&rt, "memory");
+    let line = format!(in rt.alloc(); "0 1 {ones}").expect(&rt, "memory");
+    check_long(&rt, rt.alloc(), &line);
 }
 
 const FAILED_READ: Row<'static> = Row {
@@ -169,23 +162,37 @@ fn expect_accepted<'x>(
     };
     let ended = done(rt, alloc, &row);
     expect_yes(rt, alloc, check, trace, &ended.made);
+    drop(ended);
+}
+
+const MODES: [&str; 4] = ["mode=constant", "mode=infinite", "mode=flow", "window=2"];
+
+const ASKED: [&str; 6] = [
+    "capacity=4 objective=object",
+    "capacity=4 objective=bytes",
+    "capacity=5 objective=object",
+    "capacity=5 objective=bytes",
+    "capacity=8192 objective=object",
+    "capacity=8192 objective=bytes",
+];
+
+// Has the traces of both forms bounded in a mode, and the certificates checked.
+fn check_asked(rt: &impl Abort, alloc: Global, mode: &str, asked: &str) {
+    let words = format!(in alloc; "bounds t c format=webcache {mode} {asked}").expect(rt, "memory");
+    expect_accepted(rt, alloc, &words, "check t c format=webcache", TURNS);
+    let words = format!(in alloc; "bounds t c format=msr {mode} {asked}").expect(rt, "memory");
+    expect_accepted(rt, alloc, &words, "check t c format=msr", BLOCKS);
+}
+
+fn check_mode(rt: &impl Abort, alloc: Global, mode: &str) {
+    for asked in &ASKED {
+        check_asked(rt, alloc, mode, asked);
+    }
 }
 
 #[test]
 fn what_bounds_write_is_accepted(rt: HostRuntime) {
-    let alloc = rt.alloc();
-    for mode in ["mode=constant", "mode=infinite", "mode=flow", "window=2"] {
-        for capacity in [4, 5, 8192] {
-            for objective in ["object", "bytes"] {
-                let asked = format!(in alloc; "{mode} capacity={capacity} objective={objective}");
-                let asked = asked.expect(&rt, "memory");
-                let words = format!(in alloc; "bounds t c format=webcache {asked}");
-                let words = words.expect(&rt, "memory");
-                expect_accepted(&rt, alloc, &words, "check t c format=webcache", TURNS);
-                let words = format!(in alloc; "bounds t c format=msr {asked}");
-                let words = words.expect(&rt, "memory");
-                expect_accepted(&rt, alloc, &words, "check t c format=msr", BLOCKS);
-            }
-        }
+    for mode in &MODES {
+        check_mode(&rt, rt.alloc(), mode);
     }
 }

@@ -118,4 +118,6 @@ fn a_calm_source_gives_no_fault(rt: HostRuntime) {
     let status = run_over_calm(alloc, &words, &mut trace, &mut cert, &mut report, &mut made);
     same(&rt, "the status", status, Status::Done);
     same(&rt, "the certificate", made.written(), PAIR_CERT);
+    drop(made);
+    drop(report);
 }

@@ -146,6 +146,7 @@ fn check_row(rt: &impl Abort, alloc: Global, row: &FlowRow<'_>) {
     let format = row.words.split(' ').nth(3).unwrap_or("");
     let words = format!(in alloc; "check t c {format}").expect(rt, "memory");
     expect_yes(rt, alloc, words.as_str(), row.trace, &ended.made);
+    drop(ended);
 }
 
 #[test]

@@ -193,7 +193,8 @@ fn check_long(rt: &impl Abort, alloc: Global, bytes: usize, step: usize, status:
         ..GOOD
     };
     let ended = row.run_at(rt, alloc, step);
-    assert_eq!(rt; ended.status, status, "{bytes} bytes, step {step}");
+    same(rt, (bytes, step), ended.status, status);
+    drop(ended);
 }
 
 const LONG: Status = Status::BadLine {

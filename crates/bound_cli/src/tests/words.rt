@@ -7,7 +7,6 @@ use cache_rules::Objective;
 use plans::TAKEN;
 use refusals::REFUSED;
 use relaxation::DenominatorChoice;
-use std::alloc::AllocError;
 use trace_any::Format;
 
 mod plans;
@@ -25,50 +24,69 @@ fn words_of_bounds_give_their_plan(rt: HostRuntime) {
     }
 }
 
-#[test]
-fn the_first_fault_of_the_words_is_named(rt: HostRuntime) {
-    for (text, place, kind) in &REFUSED {
-        let fault = WordFault {
-            place: *place,
-            kind: *kind,
-        };
-        check_plan(&rt, rt.alloc(), text, Err(fault));
+// Words, a command on each line, that have this fault first.
+fn check_refused(rt: &impl Abort, alloc: Global, texts: &str, fault: WordFault) {
+    for text in texts.split('\n') {
+        check_plan(rt, alloc, text, Err(fault));
     }
 }
 
 #[test]
-fn takes_the_operands_in_any_order(rt: HostRuntime) -> Result<(), AllocError> {
-    let operands = [
-        "format=webcache",
-        "capacity=10",
-        "objective=bytes",
-        "mode=infinite",
-    ];
-    let wanted = Plan::Bounds {
-        format: Format::Webcache,
-        capacity: 10,
-        objective: Objective::Bytes,
-        mode: Mode::Infinite,
-        denominator: DenominatorChoice::Given(1),
-    };
-    for place in 0..4 {
-        for others in [
-            [1, 2, 3],
-            [1, 3, 2],
-            [2, 1, 3],
-            [2, 3, 1],
-            [3, 1, 2],
-            [3, 2, 1],
-        ] {
-            let mut text = format!(in rt.alloc(); "bounds t c {}", operands[place])?;
-            for other in others {
-                let operand = operands[(place + other) % 4];
-                text = format!(in rt.alloc(); "{text} {operand}")?;
-            }
-            check_plan(&rt, rt.alloc(), &text, Ok(wanted));
-        }
+fn the_first_fault_of_the_words_is_named(rt: HostRuntime) {
+    for (place, kind, texts) in &REFUSED {
+        let fault = WordFault {
+            place: *place,
+            kind: *kind,
+        };
+        check_refused(&rt, rt.alloc(), texts, fault);
     }
-    Ok(())
+}
+
+const OPERANDS: [&str; 4] = [
+    "format=webcache",
+    "capacity=10",
+    "objective=bytes",
+    "mode=infinite",
+];
+
+const ASKED: Plan = Plan::Bounds {
+    format: Format::Webcache,
+    capacity: 10,
+    objective: Objective::Bytes,
+    mode: Mode::Infinite,
+    denominator: DenominatorChoice::Given(1),
+};
+
+// How far the other operands stand after the first one, in a circle.
+const OTHERS: [[u8; 3]; 6] = [
+    [1, 2, 3],
+    [1, 3, 2],
+    [2, 1, 3],
+    [2, 3, 1],
+    [3, 1, 2],
+    [3, 2, 1],
+];
+
+fn operand(first: u8, other: u8) -> &'static str {
+    OPERANDS[(first as usize + other as usize) % 4]
+}
+
+// Takes the operands with this one first.
+fn check_orders(rt: &impl Abort, alloc: Global, first: u8) {
+    let start = operand(first, 0);
+    for others in &OTHERS {
+        let [a, b, c] = *others;
+        let (a, b, c) = (operand(first, a), operand(first, b), operand(first, c));
+        let text = format!(in alloc; "bounds t c {start} {a} {b} {c}").expect(rt, "memory");
+        check_plan(rt, alloc, &text, Ok(ASKED));
+    }
+}
+
+#[test]
+fn takes_the_operands_in_any_order(rt: HostRuntime) {
+    for first in 0..4 {
+        check_orders(&rt, rt.alloc(), first);
+    }
 }
 
 const CHECKS: [(&str, Format); 5] = [
@@ -93,41 +111,27 @@ const NO_PATHS: Paths<'static> = Paths {
     made: "-",
 };
 
-const PATHS: [(&str, Paths<'static>); 7] = [
-    (
-        "bounds t c",
-        Paths {
-            trace: "t",
-            cert: "c",
-            made: "c",
-        },
-    ),
-    (
-        "check t c",
-        Paths {
-            trace: "t",
-            cert: "c",
-            made: "-",
-        },
-    ),
-    (
-        "check t",
-        Paths {
-            trace: "t",
-            ..NO_PATHS
-        },
-    ),
-    ("bounds", NO_PATHS),
-    ("replay t c", NO_PATHS),
-    ("", NO_PATHS),
-    (" t c", NO_PATHS),
+// Words, and the paths of the trace, the certificate and what is made.
+const PATHS: [(&str, [&str; 3]); 7] = [
+    ("bounds t c", ["t", "c", "c"]),
+    ("check t c", ["t", "c", "-"]),
+    ("check t", ["t", "-", "-"]),
+    ("bounds", ["-"; 3]),
+    ("replay t c", ["-"; 3]),
+    ("", ["-"; 3]),
+    (" t c", ["-"; 3]),
 ];
+
+fn check_paths(rt: &impl Abort, alloc: Global, text: &str, paths: [&str; 3]) {
+    let words = words_of(rt, alloc, text);
+    let [trace, cert, made] = paths;
+    holds(rt, text, paths_of(&words) == Paths { trace, cert, made });
+}
 
 #[test]
 fn paths_are_those_of_the_command(rt: HostRuntime) {
     for (text, paths) in &PATHS {
-        let words = words_of(&rt, rt.alloc(), text);
-        holds(&rt, text, paths_of(&words) == *paths);
+        check_paths(&rt, rt.alloc(), text, *paths);
     }
 }
 
@@ -140,6 +144,6 @@ fn one_empty_word_is_no_command(rt: HostRuntime) {
         place: 1,
         kind: WordKind::Unknown,
     };
-    assert!(rt; plan_of(&words) == Err(fault));
-    assert!(rt; paths_of(&words) == NO_PATHS);
+    same(&rt, "its plan", plan_of(&words), Err(fault));
+    holds(&rt, "its paths", paths_of(&words) == NO_PATHS);
 }

@@ -9,182 +9,185 @@ pub(super) const TWICE: WordKind = WordKind::Twice;
 
 pub(super) const BAD_VALUE: WordKind = WordKind::BadValue;
 
-// Words, and the place and the kind of the first fault in them.
-pub(super) const REFUSED: [(&str, u64, WordKind); 108] = [
-    // Of a block and the form of the trace.
+// The place and the kind of the first fault, and words that have it, a command on each line.
+pub(super) const REFUSED: [(u64, WordKind, &str); 20] = [
+    (1, MISSING, ""),
     (
-        "bounds t c format=arc block=512 capacity=1 mode=infinite",
-        5,
+        1,
         UNKNOWN,
+        "replay\n\
+Bounds t c\n\
+format=webcache capacity=2 mode=infinite\n t c",
     ),
     (
-        "bounds t c block=512 format=arc capacity=1 mode=infinite",
+        2,
+        MISSING,
+        "check\n\
+bounds",
+    ),
+    (
+        2,
+        BAD_VALUE,
+        "bounds \n\
+bounds  \n\
+bounds  c more",
+    ),
+    (3, MISSING, "bounds t"),
+    (
+        3,
+        BAD_VALUE,
+        "check t \n\
+check - - format=webcache\n\
+bounds t \n\
+bounds t  more",
+    ),
+    (
+        4,
+        MISSING,
+        "check t c\n\
+check - -\n\
+bounds t c",
+    ),
+    (
         4,
         UNKNOWN,
+        "bounds t c block=512 format=arc capacity=1 mode=infinite\n\
+bounds t c block=512 format=webcache\n\
+bounds t c block\n\
+check t c mode=infinite\n\
+check t c block=512 format=arc\n\
+bounds t c \n\
+bounds t c =\n\
+bounds t c =x\n\
+bounds t c =format=webcache\n\
+bounds t c format\n\
+bounds t c Format=webcache\n\
+bounds t c forma=webcache\n\
+bounds t c formats=webcache\n\
+bounds t c format =webcache\n\
+bounds t c blocks=4096\n\
+bounds t c windows=3\n\
+bounds t c denominators=2\n\
+bounds t c more capacity=0 mode=flow\n\
+bounds t c window=all mode=infinite\n\
+bounds t c window=2 block=1 mode=infinite format=arc\n\
+bounds t c block=1 window=2 mode=infinite format=arc\n\
+bounds t c block=1 window=2 format=arc",
     ),
     (
-        "bounds t c capacity=1 mode=infinite block=512 format=arc",
-        6,
-        UNKNOWN,
-    ),
-    (
-        "bounds t c format=webcache capacity=1 mode=infinite block=4096",
-        7,
-        UNKNOWN,
-    ),
-    ("bounds t c block=512 format=webcache", 4, UNKNOWN),
-    ("bounds t c block=512 format=webcache x=1", 6, UNKNOWN),
-    (
-        "bounds t c block=512 format=webcache capacity=0",
-        6,
+        4,
         BAD_VALUE,
+        "bounds t c block=0 format=arc\n\
+bounds t c block=\n\
+bounds t c block=0\n\
+bounds t c block=4k\n\
+bounds t c block=18446744073709551616\n\
+bounds t c format=Msr block=512\n\
+bounds t c format=arcs\n\
+check - - format=x\n\
+bounds t c capacity=0 more\n\
+bounds t c format=\n\
+bounds t c format==webcache\n\
+bounds t c format=webcache=\n\
+bounds t c format=infinite\n\
+bounds t c capacity=\n\
+bounds t c capacity=0\n\
+bounds t c capacity=+2\n\
+bounds t c capacity=2k\n\
+bounds t c capacity=72057594037927937\n\
+bounds t c capacity=18446744073709551616\n\
+bounds t c objective=\n\
+bounds t c objective=Bytes\n\
+bounds t c mode=flows\n\
+bounds t c denominator=0\n\
+bounds t c denominator=\n\
+bounds t c denominator=281474976710657\n\
+bounds t c denominator=Auto\n\
+bounds t c mode=constants\n\
+bounds t c window=0\n\
+bounds t c window=33554433\n\
+bounds t c window=All",
     ),
     (
-        "bounds t c block=512 format=webcache mode=infinite mode",
-        7,
-        UNKNOWN,
-    ),
-    ("bounds t c block=0 format=arc", 4, BAD_VALUE),
-    ("bounds t c format=arc block=0", 5, BAD_VALUE),
-    ("bounds t c block=512 format=arc block=512", 6, TWICE),
-    ("bounds t c block=512 format=arc format=msr", 6, TWICE),
-    ("bounds t c block=512", 5, MISSING),
-    ("bounds t c block=512 capacity=2", 6, MISSING),
-    ("bounds t c block=512 capacity=2 mode=infinite", 7, MISSING),
-    ("bounds t c block=512 format=msr", 6, MISSING),
-    ("bounds t c block=512 block=512", 5, TWICE),
-    ("bounds t c block=512 format=msr block=x", 6, TWICE),
-    ("bounds t c block=", 4, BAD_VALUE),
-    ("bounds t c block=0", 4, BAD_VALUE),
-    ("bounds t c block=4k", 4, BAD_VALUE),
-    ("bounds t c format=msr block=281474976710657", 5, BAD_VALUE),
-    ("bounds t c block=18446744073709551616", 4, BAD_VALUE),
-    ("bounds t c block", 4, UNKNOWN),
-    ("bounds t c format=Msr block=512", 4, BAD_VALUE),
-    ("bounds t c format=arcs", 4, BAD_VALUE),
-    // Of the command and its paths.
-    ("", 1, MISSING),
-    (" t c", 1, UNKNOWN),
-    ("replay", 1, UNKNOWN),
-    ("check", 2, MISSING),
-    ("check t ", 3, BAD_VALUE),
-    ("check t c", 4, MISSING),
-    ("check - -", 4, MISSING),
-    ("check - - format=webcache", 3, BAD_VALUE),
-    ("check - - format=webcache capacity=2", 5, UNKNOWN),
-    ("check - - format=x", 4, BAD_VALUE),
-    ("check t c mode=infinite", 4, UNKNOWN),
-    ("check t c block=512 format=arc", 4, UNKNOWN),
-    ("check t c format=arc format=arc", 5, TWICE),
-    ("Bounds t c", 1, UNKNOWN),
-    ("format=webcache capacity=2 mode=infinite", 1, UNKNOWN),
-    ("bounds", 2, MISSING),
-    ("bounds ", 2, BAD_VALUE),
-    ("bounds  ", 2, BAD_VALUE),
-    ("bounds  c more", 2, BAD_VALUE),
-    ("bounds t", 3, MISSING),
-    ("bounds t ", 3, BAD_VALUE),
-    ("bounds t  more", 3, BAD_VALUE),
-    ("bounds t c", 4, MISSING),
-    ("bounds t c ", 4, UNKNOWN),
-    // Of the operands.
-    ("bounds t c format=webcache", 5, MISSING),
-    ("bounds t c mode=infinite format=webcache", 6, MISSING),
-    (
-        "bounds t c capacity=2 mode=infinite objective=bytes",
-        7,
+        5,
         MISSING,
+        "bounds t c block=512\n\
+bounds t c format=webcache",
     ),
     (
-        "bounds t c format=webcache mode=infinite objective=bytes",
-        7,
-        MISSING,
-    ),
-    ("bounds t c =", 4, UNKNOWN),
-    ("bounds t c =x", 4, UNKNOWN),
-    ("bounds t c =format=webcache", 4, UNKNOWN),
-    ("bounds t c format", 4, UNKNOWN),
-    ("bounds t c Format=webcache", 4, UNKNOWN),
-    ("bounds t c forma=webcache", 4, UNKNOWN),
-    ("bounds t c formats=webcache", 4, UNKNOWN),
-    ("bounds t c format =webcache", 4, UNKNOWN),
-    ("bounds t c blocks=4096", 4, UNKNOWN),
-    ("bounds t c windows=3", 4, UNKNOWN),
-    ("bounds t c denominators=2", 4, UNKNOWN),
-    ("bounds t c format=webcache more", 5, UNKNOWN),
-    ("bounds t c format=webcache format", 5, UNKNOWN),
-    (
-        "bounds t c format=webcache capacity=2 mode=infinite block=1",
-        7,
+        5,
         UNKNOWN,
+        "bounds t c format=arc block=512 capacity=1 mode=infinite\n\
+check - - format=webcache capacity=2\n\
+bounds t c format=webcache more\n\
+bounds t c format=webcache format\n\
+bounds t c mode=constant window=3\n\
+bounds t c block=1 window=2 mode=infinite",
     ),
-    ("bounds t c more capacity=0 mode=flow", 4, UNKNOWN),
-    ("bounds t c capacity=0 more", 4, BAD_VALUE),
-    ("bounds t c format=", 4, BAD_VALUE),
-    ("bounds t c format==webcache", 4, BAD_VALUE),
-    ("bounds t c format=webcache=", 4, BAD_VALUE),
-    ("bounds t c format=infinite", 4, BAD_VALUE),
-    ("bounds t c capacity=", 4, BAD_VALUE),
-    ("bounds t c capacity=0", 4, BAD_VALUE),
-    ("bounds t c capacity=+2", 4, BAD_VALUE),
-    ("bounds t c capacity=2k", 4, BAD_VALUE),
-    ("bounds t c capacity=72057594037927937", 4, BAD_VALUE),
-    ("bounds t c capacity=18446744073709551616", 4, BAD_VALUE),
-    ("bounds t c objective=", 4, BAD_VALUE),
-    ("bounds t c objective=Bytes", 4, BAD_VALUE),
-    ("bounds t c mode=flows", 4, BAD_VALUE),
     (
-        "bounds t c mode=infinite format=webcache capacity=x",
-        6,
+        5,
+        TWICE,
+        "bounds t c block=512 block=512\n\
+check t c format=arc format=arc\n\
+bounds t c capacity=2 capacity=x\n\
+bounds t c format=webcache format=webcache capacity=0 more\n\
+bounds t c denominator=1 denominator=2\n\
+bounds t c mode=constant mode=infinite\n\
+bounds t c window=2 window=all",
+    ),
+    (
+        5,
         BAD_VALUE,
+        "bounds t c format=arc block=0\n\
+bounds t c format=msr block=281474976710657",
     ),
-    ("bounds t c capacity=2 capacity=x", 5, TWICE),
-    ("bounds t c capacity=2 mode=infinite capacity=x", 6, TWICE),
-    ("bounds t c format=webcache capacity=2 capacity=2", 6, TWICE),
     (
-        "bounds t c objective=bytes mode=infinite objective=bytes",
+        6,
+        MISSING,
+        "bounds t c block=512 capacity=2\n\
+bounds t c block=512 format=msr\n\
+bounds t c mode=infinite format=webcache",
+    ),
+    (
+        6,
+        UNKNOWN,
+        "bounds t c capacity=1 mode=infinite block=512 format=arc\n\
+bounds t c block=512 format=webcache x=1\n\
+bounds t c format=webcache capacity=2 window=3 mode=constant",
+    ),
+    (
         6,
         TWICE,
+        "bounds t c block=512 format=arc block=512\n\
+bounds t c block=512 format=arc format=msr\n\
+bounds t c block=512 format=msr block=x\n\
+bounds t c capacity=2 mode=infinite capacity=x\n\
+bounds t c format=webcache capacity=2 capacity=2\n\
+bounds t c objective=bytes mode=infinite objective=bytes",
     ),
     (
+        6,
+        BAD_VALUE,
+        "bounds t c block=512 format=webcache capacity=0\n\
+bounds t c mode=infinite format=webcache capacity=x",
+    ),
+    (
+        7,
+        MISSING,
+        "bounds t c block=512 capacity=2 mode=infinite\n\
+bounds t c capacity=2 mode=infinite objective=bytes\n\
+bounds t c format=webcache mode=infinite objective=bytes",
+    ),
+    (
+        7,
+        UNKNOWN,
+        "bounds t c format=webcache capacity=1 mode=infinite block=4096\n\
+bounds t c block=512 format=webcache mode=infinite mode\n\
+bounds t c format=webcache capacity=2 mode=infinite block=1",
+    ),
+    (
+        7,
+        TWICE,
         "bounds t c format=webcache capacity=2 mode=infinite mode=flow",
-        7,
-        TWICE,
     ),
-    (
-        "bounds t c format=webcache format=webcache capacity=0 more",
-        5,
-        TWICE,
-    ),
-    // Of a mode, a window and a denominator.
-    ("bounds t c denominator=0", 4, BAD_VALUE),
-    ("bounds t c denominator=", 4, BAD_VALUE),
-    ("bounds t c denominator=281474976710657", 4, BAD_VALUE),
-    ("bounds t c denominator=Auto", 4, BAD_VALUE),
-    ("bounds t c denominator=1 denominator=2", 5, TWICE),
-    ("bounds t c mode=constants", 4, BAD_VALUE),
-    ("bounds t c mode=constant mode=infinite", 5, TWICE),
-    (
-        "bounds t c format=webcache capacity=2 window=3 mode=constant",
-        6,
-        UNKNOWN,
-    ),
-    ("bounds t c mode=constant window=3", 5, UNKNOWN),
-    ("bounds t c window=all mode=infinite", 4, UNKNOWN),
-    ("bounds t c window=0", 4, BAD_VALUE),
-    ("bounds t c window=33554433", 4, BAD_VALUE),
-    ("bounds t c window=All", 4, BAD_VALUE),
-    ("bounds t c window=2 window=all", 5, TWICE),
-    (
-        "bounds t c window=2 block=1 mode=infinite format=arc",
-        4,
-        UNKNOWN,
-    ),
-    (
-        "bounds t c block=1 window=2 mode=infinite format=arc",
-        4,
-        UNKNOWN,
-    ),
-    ("bounds t c block=1 window=2 mode=infinite", 5, UNKNOWN),
-    ("bounds t c block=1 window=2 format=arc", 4, UNKNOWN),
 ];
