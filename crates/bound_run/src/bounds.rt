@@ -319,6 +319,33 @@ fn cert_of(alloc: Global, bounds: &Bounds) -> Result<Vec<u8>, NoMemory>
     }
 }
 
+// The texts of a certificate that is made of the trace.
+fn texts_with(
+    alloc: Global,
+    asked: &Asked,
+    trace: &Trace,
+    dropped: u64,
+    bounds: &Bounds,
+) -> Result<Texts, NoMemory>
+    requires made { IsMade asked.now trace.now bounds.now.relaxed.price bounds.now.header (records_in bounds.now) }
+    requires intervals { bounds.now.intervals.items ≡ eligible_of trace.now bounds.now.header }
+    requires each { HasEach bounds.now }
+    ensures { IfOk result (λ texts. AreTexts asked.now trace.now dropped texts.cert.items texts.report.items) }
+{
+    let facts = BoundFacts {
+        header: bounds.header,
+        objects: trace.objects(),
+        dropped,
+        mode: asked.mode,
+        price: bounds.relaxed.price,
+        intervals: bounds.intervals.as_slice().len() as u32,
+    };
+    Ok(Texts {
+        cert: cert_of(alloc, bounds)?,
+        report: report_text(alloc, &facts)?,
+    })
+}
+
 /// The certificate and the report of a trace as asked for, with the number of lines of the trace that were dropped.
 pub fn texts_of(
     alloc: Global,
@@ -332,17 +359,9 @@ pub fn texts_of(
     ensures texts { IfOk result (λ texts. AreTexts asked.now trace.now dropped texts.cert.items texts.report.items) }
     ensures refused { IfErr result (FailsBounds asked.now trace.now) }
 {
-    let bounds = bounds_of(alloc, asked, trace)?;
-    let facts = BoundFacts {
-        header: bounds.header,
-        objects: trace.objects(),
-        dropped,
-        mode: asked.mode,
-        price: bounds.relaxed.price,
-        intervals: bounds.intervals.as_slice().len() as u32,
+    let texts = {
+        let bounds = bounds_of(alloc, asked, trace)?;
+        texts_with(alloc, asked, trace, dropped, &bounds)
     };
-    Ok(Texts {
-        cert: cert_of(alloc, &bounds)?,
-        report: report_text(alloc, &facts)?,
-    })
+    Ok(texts?)
 }
