@@ -10,13 +10,13 @@ ghost use Rattle.cache_model.specs.Play.{IsAllowed, score};
 ghost use Rattle.cache_model.specs.Rounding.{IsMaximal, IsRounded, by_rank};
 ghost use Rattle.cache_model.specs.Schedules.{IsFractionalSchedule, flow_value};
 ghost use Rattle.cache_model.specs.Texts.{cert_text};
-ghost use Rattle.interval_maker.specs.Timelines.{starting_at, timeline_of};
+ghost use Rattle.interval_maker.specs.Timelines.{IsTimeline, starting_at, timeline_of};
 ghost use Rattle.relaxation.specs.Denominators.{IsChoice, IsChosen};
 ghost use Rattle.relaxation.specs.Faults.{amount_of};
 ghost use Rattle.relaxation.specs.Prices.{most_paid};
 ghost use Rattle.schedule_round.specs.Laws.{full_flags};
 ghost use Rattle.bound_run.specs.BoundsFaults.{FailsBounds};
-ghost use Rattle.bound_run.specs.Made.{AreTexts, IsMade, is_unwindowed, record_of};
+ghost use Rattle.bound_run.specs.Made.{AreTexts, IsMade, is_unwindowed, record_of, records_of};
 ghost use Rattle.bound_run.specs.Records.{HasEach, records_in};
 ghost use Rattle.bound_run.specs.Words.{IsModeInRange};
 
@@ -225,6 +225,51 @@ fn is_exact(mode: Mode, steps: u32, whole_costs: bool) -> bool
     is_unwindowed(mode, steps) && whole_costs
 }
 
+// The header, the prices and flows, and what the schedule keeps, where the intervals are those of the trace.
+fn parts_of(
+    alloc: Global,
+    asked: &Asked,
+    trace: &Trace,
+    intervals: &Intervals,
+) -> Result<(Header, Relaxed, Keeps), BoundsFault>
+    requires capacity { (1 ≤ asked.now.capacity) × (asked.now.capacity ≤ 2 ^ 56) }
+    requires mode { IsModeInRange asked.now.mode }
+    requires choice { IsChoice asked.now.denominator }
+    requires intervals { intervals.now ≡ timeline_of asked.now.objective asked.now.capacity trace.now }
+    requires timeline { IsTimeline intervals.now }
+    requires fit { All (λ i. i.size ≤ asked.now.capacity) intervals.now.items }
+    ensures made { IfOk result (λ p. IsMade asked.now trace.now p.1.price p.0 (records_of p.1.prices.items p.2 intervals.now.items p.1.flows.items)) }
+    ensures intervals { IfOk result (λ p. intervals.now.items ≡ eligible_of trace.now p.0) }
+    ensures each { IfOk result (λ p. HasEach (record { header = p.0; relaxed = p.1; keeps = p.2; intervals = intervals.now })) }
+    ensures refused { IfErr result (FailsBounds asked.now trace.now) }
+{
+    let unit = unit_of(intervals);
+    let units = asked.capacity / unit;
+    let denominator = denominator_of(asked, trace, intervals, unit)?;
+    let scale = Scale {
+        unit,
+        units,
+        denominator: denominator.value,
+    };
+    let relaxed = relax(alloc, asked.mode, intervals, scale)?;
+    let upper = upper_of(alloc, intervals, scale, &relaxed.prices)?;
+    let flow = flow_of(intervals, scale, &relaxed.flows);
+    let schedule = schedule_of(alloc, asked, trace, intervals, unit, &relaxed.flows)?;
+    let requests = trace.len();
+    let header = Header {
+        objective: asked.objective,
+        capacity: asked.capacity,
+        requests,
+        unit,
+        denominator: denominator.value,
+        exact: is_exact(asked.mode, requests, denominator.exact),
+        upper,
+        flow,
+        lower: schedule.lower,
+    };
+    Ok((header, relaxed, schedule.keeps))
+}
+
 // The certificate of a trace, in parts.
 fn bounds_of(alloc: Global, asked: &Asked, trace: &Trace) -> Result<Bounds, BoundsFault>
     requires capacity { (1 ≤ asked.now.capacity) × (asked.now.capacity ≤ 2 ^ 56) }
@@ -236,33 +281,11 @@ fn bounds_of(alloc: Global, asked: &Asked, trace: &Trace) -> Result<Bounds, Boun
     ensures refused { IfErr result (FailsBounds asked.now trace.now) }
 {
     let intervals = make(alloc, trace, asked.capacity, asked.objective)?;
-    let unit = unit_of(&intervals);
-    let units = asked.capacity / unit;
-    let denominator = denominator_of(asked, trace, &intervals, unit)?;
-    let scale = Scale {
-        unit,
-        units,
-        denominator: denominator.value,
-    };
-    let relaxed = relax(alloc, asked.mode, &intervals, scale)?;
-    let upper = upper_of(alloc, &intervals, scale, &relaxed.prices)?;
-    let flow = flow_of(&intervals, scale, &relaxed.flows);
-    let schedule = schedule_of(alloc, asked, trace, &intervals, unit, &relaxed.flows)?;
-    let requests = trace.len();
+    let (header, relaxed, keeps) = parts_of(alloc, asked, trace, &intervals)?;
     Ok(Bounds {
-        header: Header {
-            objective: asked.objective,
-            capacity: asked.capacity,
-            requests,
-            unit,
-            denominator: denominator.value,
-            exact: is_exact(asked.mode, requests, denominator.exact),
-            upper,
-            flow,
-            lower: schedule.lower,
-        },
+        header,
         relaxed,
-        keeps: schedule.keeps,
+        keeps,
         intervals,
     })
 }
