@@ -54,7 +54,8 @@ fn refuse<T: Drop>(place: u64, kind: WordKind) -> Result<T, WordFault>
 fn word_at(words: &[String], at: usize) -> Option<&str>
     ensures { option_copied result ≡ slice_get (map string_bytes words.now) at }
 {
-    words.get(at).map(|word| word.as_str())
+    let word = words.get(at)?;
+    Some(word.as_str())
 }
 
 // The command that a word names.
@@ -267,10 +268,7 @@ pub fn plan_of(words: &[String]) -> Result<Plan, WordFault>
 fn word_or_dash(words: &[String], at: usize) -> &str
     ensures { result.now ≡ word_or_dash (slice_get (map string_bytes words.now) at) }
 {
-    match words.get(at) {
-        Some(word) => word.as_str(),
-        None => "-",
-    }
+    word_at(words, at).unwrap_or("-")
 }
 
 /// The paths that the words name.
