@@ -45,7 +45,7 @@ pub struct Asked {
 }
 
 /// Why there are no bounds.
-#[derive(Clone, Copy, Debug, PartialEq, Eq)]
+#[derive(Clone, Copy)]
 pub enum BoundsFault {
     /// The least denominator that rounds no cost passes 2^48, and no other may be taken.
     Denominator,
@@ -178,8 +178,11 @@ fn schedule_of(
     ensures allowed { IfOk result (λ s. IsAllowed asked.now.capacity trace.now (contents_of trace.now s.keeps)) }
     ensures lower { IfOk result (λ s. s.lower ≡ score asked.now.objective trace.now (contents_of trace.now s.keeps)) }
 {
-    let full = full_flags(alloc, intervals, unit, flows)?;
-    let keeps = round(alloc, intervals, asked.capacity, &full)?;
+    let rounded = {
+        let full = full_flags(alloc, intervals, unit, flows)?;
+        round(alloc, intervals, asked.capacity, &full)
+    };
+    let keeps = rounded?;
     match score(trace, asked.capacity, asked.objective, keeps.as_slice()) {
         Ok(lower) => Ok(Schedule { keeps, lower }),
         Err(_) => unreachable!(),
