@@ -5,7 +5,7 @@ ghost use Rattle.bound_run.specs.Words.{IsPlanInRange, block_fault, bounds_plan,
 
 use crate::operands::{
     Command, OPERANDS_AT, capacity_given, denominator_given, format_given, has_equals, has_operand,
-    is_value, mode_given, name_of, objective_given, place_given, value_given, value_of,
+    is, is_value, mode_given, name_of, objective_given, place_given, value_given, value_of,
 };
 use bound_report::WordKind;
 use cache_model::Mode;
@@ -62,9 +62,9 @@ fn word_at(words: &[String], at: usize) -> Option<&str>
 fn command_named(word: &str) -> Option<Command>
     ensures { result ≡ command_named word.now }
 {
-    if word == "bounds" {
+    if is(word, "bounds") {
         Some(Command::Bounds)
-    } else if word == "check" {
+    } else if is(word, "check") {
         Some(Command::Check)
     } else {
         None
@@ -144,7 +144,7 @@ fn block_fault(operands: &[String]) -> Option<WordFault>
     ensures { result ≡ block_fault (map string_bytes operands.now) }
 {
     match value_given("format", operands) {
-        Some(format) if format != "msr" => unknown_operand("block", operands),
+        Some(format) if !is(format, "msr") => unknown_operand("block", operands),
         _ => None,
     }
 }
@@ -154,7 +154,7 @@ fn window_fault(operands: &[String]) -> Option<WordFault>
     ensures { result ≡ window_fault (map string_bytes operands.now) }
 {
     match value_given("mode", operands) {
-        Some(mode) if mode != "flow" => unknown_operand("window", operands),
+        Some(mode) if !is(mode, "flow") => unknown_operand("window", operands),
         _ => None,
     }
 }
@@ -209,7 +209,7 @@ fn is_dash(word: Option<&str>) -> bool
     ensures { result ≡ is_dash (option_copied word.entry) }
 {
     match word {
-        Some(word) => word == "-",
+        Some(word) => is(word, "-"),
         None => false,
     }
 }
