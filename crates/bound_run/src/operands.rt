@@ -224,7 +224,9 @@ pub(crate) fn is_value(name: &str, value: &str) -> bool
 pub(crate) fn value_given<'a>(name: &str, operands: &'a [String]) -> Option<&'a str>
     ensures { option_copied result ≡ value_given name.now (map string_bytes operands.now) }
 {
-    let word = operands.iter().find(|word| name_of(word.as_str()) == name)?;
+    let word = operands
+        .iter()
+        .find(|word| is(name_of(word.as_str()), name))?;
     Some(value_of(word.as_str()))
 }
 
@@ -234,7 +236,7 @@ pub(crate) fn place_given(name: &str, operands: &[String]) -> Option<u64>
 {
     let at = operands
         .iter()
-        .position(|word| name_of(word.as_str()) == name)?;
+        .position(|word| is(name_of(word.as_str()), name))?;
     Some((at + OPERANDS_AT) as u64 + 1)
 }
 
