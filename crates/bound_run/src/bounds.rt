@@ -10,13 +10,13 @@ ghost use Rattle.cache_model.specs.Play.{IsAllowed, score};
 ghost use Rattle.cache_model.specs.Rounding.{IsMaximal, IsRounded, by_rank};
 ghost use Rattle.cache_model.specs.Schedules.{IsFractionalSchedule, flow_value};
 ghost use Rattle.cache_model.specs.Texts.{cert_text};
-ghost use Rattle.interval_maker.specs.Timelines.{starting_at, timeline_of};
+ghost use Rattle.interval_maker.specs.Timelines.{IsTimeline, starting_at, timeline_of};
 ghost use Rattle.relaxation.specs.Denominators.{IsChoice, IsChosen};
 ghost use Rattle.relaxation.specs.Faults.{amount_of};
 ghost use Rattle.relaxation.specs.Prices.{most_paid};
 ghost use Rattle.schedule_round.specs.Laws.{full_flags};
 ghost use Rattle.bound_run.specs.BoundsFaults.{FailsBounds};
-ghost use Rattle.bound_run.specs.Made.{AreTexts, IsMade, is_unwindowed, record_of};
+ghost use Rattle.bound_run.specs.Made.{AreTexts, IsMade, is_unwindowed, record_of, records_of};
 ghost use Rattle.bound_run.specs.Records.{HasEach, records_in};
 ghost use Rattle.bound_run.specs.Words.{IsModeInRange};
 
@@ -45,7 +45,7 @@ pub struct Asked {
 }
 
 /// Why there are no bounds.
-#[derive(Clone, Copy, Debug, PartialEq, Eq)]
+#[derive(Clone, Copy)]
 pub enum BoundsFault {
     /// The least denominator that rounds no cost passes 2^48, and no other may be taken.
     Denominator,
@@ -178,8 +178,11 @@ fn schedule_of(
     ensures allowed { IfOk result (λ s. IsAllowed asked.now.capacity trace.now (contents_of trace.now s.keeps)) }
     ensures lower { IfOk result (λ s. s.lower ≡ score asked.now.objective trace.now (contents_of trace.now s.keeps)) }
 {
-    let full = full_flags(alloc, intervals, unit, flows)?;
-    let keeps = round(alloc, intervals, asked.capacity, &full)?;
+    let rounded = {
+        let full = full_flags(alloc, intervals, unit, flows)?;
+        round(alloc, intervals, asked.capacity, &full)
+    };
+    let keeps = rounded?;
     match score(trace, asked.capacity, asked.objective, keeps.as_slice()) {
         Ok(lower) => Ok(Schedule { keeps, lower }),
         Err(_) => unreachable!(),
@@ -225,6 +228,51 @@ fn is_exact(mode: Mode, steps: u32, whole_costs: bool) -> bool
     is_unwindowed(mode, steps) && whole_costs
 }
 
+// The header, the prices and flows, and what the schedule keeps, where the intervals are those of the trace.
+fn parts_of(
+    alloc: Global,
+    asked: &Asked,
+    trace: &Trace,
+    intervals: &Intervals,
+) -> Result<(Header, Relaxed, Keeps), BoundsFault>
+    requires capacity { (1 ≤ asked.now.capacity) × (asked.now.capacity ≤ 2 ^ 56) }
+    requires mode { IsModeInRange asked.now.mode }
+    requires choice { IsChoice asked.now.denominator }
+    requires intervals { intervals.now ≡ timeline_of asked.now.objective asked.now.capacity trace.now }
+    requires timeline { IsTimeline intervals.now }
+    requires fit { All (λ i. i.size ≤ asked.now.capacity) intervals.now.items }
+    ensures made { IfOk result (λ p. IsMade asked.now trace.now p.1.price p.0 (records_of p.1.prices.items p.2 intervals.now.items p.1.flows.items)) }
+    ensures intervals { IfOk result (λ p. intervals.now.items ≡ eligible_of trace.now p.0) }
+    ensures each { IfOk result (λ p. HasEach (record { header = p.0; relaxed = p.1; keeps = p.2; intervals = intervals.now })) }
+    ensures refused { IfErr result (FailsBounds asked.now trace.now) }
+{
+    let unit = unit_of(intervals);
+    let units = asked.capacity / unit;
+    let denominator = denominator_of(asked, trace, intervals, unit)?;
+    let scale = Scale {
+        unit,
+        units,
+        denominator: denominator.value,
+    };
+    let relaxed = relax(alloc, asked.mode, intervals, scale)?;
+    let upper = upper_of(alloc, intervals, scale, &relaxed.prices)?;
+    let flow = flow_of(intervals, scale, &relaxed.flows);
+    let schedule = schedule_of(alloc, asked, trace, intervals, unit, &relaxed.flows)?;
+    let requests = trace.len();
+    let header = Header {
+        objective: asked.objective,
+        capacity: asked.capacity,
+        requests,
+        unit,
+        denominator: denominator.value,
+        exact: is_exact(asked.mode, requests, denominator.exact),
+        upper,
+        flow,
+        lower: schedule.lower,
+    };
+    Ok((header, relaxed, schedule.keeps))
+}
+
 // The certificate of a trace, in parts.
 fn bounds_of(alloc: Global, asked: &Asked, trace: &Trace) -> Result<Bounds, BoundsFault>
     requires capacity { (1 ≤ asked.now.capacity) × (asked.now.capacity ≤ 2 ^ 56) }
@@ -236,33 +284,11 @@ fn bounds_of(alloc: Global, asked: &Asked, trace: &Trace) -> Result<Bounds, Boun
     ensures refused { IfErr result (FailsBounds asked.now trace.now) }
 {
     let intervals = make(alloc, trace, asked.capacity, asked.objective)?;
-    let unit = unit_of(&intervals);
-    let units = asked.capacity / unit;
-    let denominator = denominator_of(asked, trace, &intervals, unit)?;
-    let scale = Scale {
-        unit,
-        units,
-        denominator: denominator.value,
-    };
-    let relaxed = relax(alloc, asked.mode, &intervals, scale)?;
-    let upper = upper_of(alloc, &intervals, scale, &relaxed.prices)?;
-    let flow = flow_of(&intervals, scale, &relaxed.flows);
-    let schedule = schedule_of(alloc, asked, trace, &intervals, unit, &relaxed.flows)?;
-    let requests = trace.len();
+    let (header, relaxed, keeps) = parts_of(alloc, asked, trace, &intervals)?;
     Ok(Bounds {
-        header: Header {
-            objective: asked.objective,
-            capacity: asked.capacity,
-            requests,
-            unit,
-            denominator: denominator.value,
-            exact: is_exact(asked.mode, requests, denominator.exact),
-            upper,
-            flow,
-            lower: schedule.lower,
-        },
+        header,
         relaxed,
-        keeps: schedule.keeps,
+        keeps,
         intervals,
     })
 }
@@ -319,6 +345,33 @@ fn cert_of(alloc: Global, bounds: &Bounds) -> Result<Vec<u8>, NoMemory>
     }
 }
 
+// The texts of a certificate that is made of the trace.
+fn texts_with(
+    alloc: Global,
+    asked: &Asked,
+    trace: &Trace,
+    dropped: u64,
+    bounds: &Bounds,
+) -> Result<Texts, NoMemory>
+    requires made { IsMade asked.now trace.now bounds.now.relaxed.price bounds.now.header (records_in bounds.now) }
+    requires intervals { bounds.now.intervals.items ≡ eligible_of trace.now bounds.now.header }
+    requires each { HasEach bounds.now }
+    ensures { IfOk result (λ texts. AreTexts asked.now trace.now dropped texts.cert.items texts.report.items) }
+{
+    let facts = BoundFacts {
+        header: bounds.header,
+        objects: trace.objects(),
+        dropped,
+        mode: asked.mode,
+        price: bounds.relaxed.price,
+        intervals: bounds.intervals.as_slice().len() as u32,
+    };
+    Ok(Texts {
+        cert: cert_of(alloc, bounds)?,
+        report: report_text(alloc, &facts)?,
+    })
+}
+
 /// The certificate and the report of a trace as asked for, with the number of lines of the trace that were dropped.
 pub fn texts_of(
     alloc: Global,
@@ -332,17 +385,9 @@ pub fn texts_of(
     ensures texts { IfOk result (λ texts. AreTexts asked.now trace.now dropped texts.cert.items texts.report.items) }
     ensures refused { IfErr result (FailsBounds asked.now trace.now) }
 {
-    let bounds = bounds_of(alloc, asked, trace)?;
-    let facts = BoundFacts {
-        header: bounds.header,
-        objects: trace.objects(),
-        dropped,
-        mode: asked.mode,
-        price: bounds.relaxed.price,
-        intervals: bounds.intervals.as_slice().len() as u32,
+    let texts = {
+        let bounds = bounds_of(alloc, asked, trace)?;
+        texts_with(alloc, asked, trace, dropped, &bounds)
     };
-    Ok(Texts {
-        cert: cert_of(alloc, &bounds)?,
-        report: report_text(alloc, &facts)?,
-    })
+    Ok(texts?)
 }

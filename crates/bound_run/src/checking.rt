@@ -36,6 +36,26 @@ fn said_of<T: Source, Q: Source>(
     }
 }
 
+// What is said of a certificate that is valid for the trace, as both are read to their ends, where the reader of its
+// records is new.
+fn said_by<T: Source, Q: Source>(
+    alloc: Global,
+    format: Format,
+    trace: &mut T,
+    records: &mut CertReader,
+    cert: &mut Q,
+) -> Result<Vec<u8>, Refusal>
+    requires format { IsFormat format }
+    requires records { records.old ≡ first_record }
+    ensures yes_text { IfOk result (λ text. IsYesText format (device (T.left trace.old) (T.left trace.new) (T.faults trace.old) (T.faults trace.new)) (device (Q.left cert.old) (Q.left cert.new) (Q.faults cert.old) (Q.faults cert.new)) text.items) }
+    ensures refused { IfErr result (RefusesCheck format (device (T.left trace.old) (T.left trace.new) (T.faults trace.old) (T.faults trace.new)) (device (Q.left cert.old) (Q.left cert.new) (Q.faults cert.old) (Q.faults cert.new))) }
+    ensures trace_source { LosesFront (T.left trace.old) (T.left trace.new) }
+    ensures cert_source { LosesFront (Q.left cert.old) (Q.left cert.new) }
+{
+    let mut requests = RequestReader::new(alloc, format, Limits::full())?;
+    said_of(alloc, &mut requests, trace, records, cert)
+}
+
 /// What is said of a certificate that is valid for the trace, as both are read to their ends.
 pub fn verdict_of<T: Source, Q: Source>(
     alloc: Global,
@@ -50,6 +70,5 @@ pub fn verdict_of<T: Source, Q: Source>(
     ensures cert_source { LosesFront (Q.left cert.old) (Q.left cert.new) }
 {
     let mut records = CertReader::new(alloc)?;
-    let mut requests = RequestReader::new(alloc, format, Limits::full())?;
-    said_of(alloc, &mut requests, trace, &mut records, cert)
+    said_by(alloc, format, trace, &mut records, cert)
 }

@@ -1,6 +1,7 @@
 //! The operands of the command line: their names and values.
 ghost use Rattle.std.specs.Prelude.{◌≡◌, ◌≤◌, ◌^◌, [], map, string_bytes, IfSome};
 ghost use Rattle.std.specs.Option.{option_copied};
+ghost use Rattle.std.specs.Str.{bytes_eq};
 ghost use Rattle.relaxation.specs.Denominators.{IsChoice};
 ghost use Rattle.trace_any.specs.Readings.{IsFormat};
 ghost use Rattle.bound_run.specs.Words.{IsModeInRange, block_given, block_of, capacity_given, capacity_of, denominator_given, denominator_of, format_given, format_of, has_equals, has_operand, is_value, mode_given, mode_of, name_of, names_bounds, names_trace, number_to, objective_given, objective_of, place_given, usual_denominator, value_given, value_of, window_given, window_of};
@@ -38,6 +39,13 @@ const MOST_WINDOW: u64 = 1 << 25;
 
 // The largest denominator.
 const MOST_DENOMINATOR: u64 = 1 << 48;
+
+/// Whether a word is this one.
+pub(crate) fn is(word: &str, other: &str) -> bool
+    ensures { result ≡ bytes_eq word.now other.now }
+{
+    word == other
+}
 
 pub(crate) fn has_equals(word: &str) -> bool
     ensures { result ≡ has_equals word.now }
@@ -96,11 +104,11 @@ fn format_of(value: &str, block: u64) -> Option<Format>
     ensures value { result ≡ format_of value.now block }
     ensures range { IfSome result IsFormat }
 {
-    if value == "webcache" {
+    if is(value, "webcache") {
         Some(Format::Webcache)
-    } else if value == "arc" {
+    } else if is(value, "arc") {
         Some(Format::Arc)
-    } else if value == "msr" {
+    } else if is(value, "msr") {
         Some(Format::Msr { block })
     } else {
         None
@@ -110,9 +118,9 @@ fn format_of(value: &str, block: u64) -> Option<Format>
 fn objective_of(value: &str) -> Option<Objective>
     ensures { result ≡ objective_of value.now }
 {
-    if value == "object" {
+    if is(value, "object") {
         Some(Objective::Object)
-    } else if value == "bytes" {
+    } else if is(value, "bytes") {
         Some(Objective::Bytes)
     } else {
         None
@@ -123,7 +131,7 @@ fn window_of(value: &str) -> Option<Window>
     ensures value { result ≡ window_of value.now }
     ensures in_range { IfSome result (λ window. IsModeInRange (Flow window)) }
 {
-    if value == "all" {
+    if is(value, "all") {
         Some(Window::All)
     } else {
         match number_to(MOST_WINDOW, value) {
@@ -139,11 +147,11 @@ fn mode_of(value: &str, window: Window) -> Option<Mode>
     ensures value { result ≡ mode_of value.now window }
     ensures in_range { IfSome result IsModeInRange }
 {
-    if value == "flow" {
+    if is(value, "flow") {
         Some(Mode::Flow { window })
-    } else if value == "constant" {
+    } else if is(value, "constant") {
         Some(Mode::Constant)
-    } else if value == "infinite" {
+    } else if is(value, "infinite") {
         Some(Mode::Infinite)
     } else {
         None
@@ -154,9 +162,9 @@ fn denominator_of(value: &str) -> Option<DenominatorChoice>
     ensures value { result ≡ denominator_of value.now }
     ensures range { IfSome result IsChoice }
 {
-    if value == "auto" {
+    if is(value, "auto") {
         Some(DenominatorChoice::Auto)
-    } else if value == "exact" {
+    } else if is(value, "exact") {
         Some(DenominatorChoice::Exact)
     } else {
         match number_to(MOST_DENOMINATOR, value) {
@@ -169,17 +177,17 @@ fn denominator_of(value: &str) -> Option<DenominatorChoice>
 fn names_trace(name: &str) -> bool
     ensures { result ≡ names_trace name.now }
 {
-    name == "format" || name == "block"
+    is(name, "format") || is(name, "block")
 }
 
 fn names_bounds(name: &str) -> bool
     ensures { result ≡ names_bounds name.now }
 {
-    name == "capacity"
-        || name == "objective"
-        || name == "mode"
-        || name == "window"
-        || name == "denominator"
+    is(name, "capacity")
+        || is(name, "objective")
+        || is(name, "mode")
+        || is(name, "window")
+        || is(name, "denominator")
 }
 
 /// Whether a command has an operand of this name.
@@ -195,20 +203,20 @@ pub(crate) fn has_operand(command: Command, name: &str) -> bool
 pub(crate) fn is_value(name: &str, value: &str) -> bool
     ensures { result ≡ is_value name.now value.now }
 {
-    if name == "format" {
+    if is(name, "format") {
         format_of(value, USUAL_BLOCK).is_some()
-    } else if name == "block" {
+    } else if is(name, "block") {
         block_of(value).is_some()
-    } else if name == "capacity" {
+    } else if is(name, "capacity") {
         capacity_of(value).is_some()
-    } else if name == "objective" {
+    } else if is(name, "objective") {
         objective_of(value).is_some()
-    } else if name == "mode" {
+    } else if is(name, "mode") {
         mode_of(value, Window::All).is_some()
-    } else if name == "window" {
+    } else if is(name, "window") {
         window_of(value).is_some()
     } else {
-        name == "denominator" && denominator_of(value).is_some()
+        is(name, "denominator") && denominator_of(value).is_some()
     }
 }
 
@@ -216,7 +224,9 @@ pub(crate) fn is_value(name: &str, value: &str) -> bool
 pub(crate) fn value_given<'a>(name: &str, operands: &'a [String]) -> Option<&'a str>
     ensures { option_copied result ≡ value_given name.now (map string_bytes operands.now) }
 {
-    let word = operands.iter().find(|word| name_of(word.as_str()) == name)?;
+    let word = operands
+        .iter()
+        .find(|word| is(name_of(word.as_str()), name))?;
     Some(value_of(word.as_str()))
 }
 
@@ -226,7 +236,7 @@ pub(crate) fn place_given(name: &str, operands: &[String]) -> Option<u64>
 {
     let at = operands
         .iter()
-        .position(|word| name_of(word.as_str()) == name)?;
+        .position(|word| is(name_of(word.as_str()), name))?;
     Some((at + OPERANDS_AT) as u64 + 1)
 }
 

@@ -85,8 +85,11 @@ fn by_windows(
     ensures last { IfOk result (λ r. slice_index_or r.prices.items (intervals.now.steps - 1) 0 ≡ 0) }
     ensures schedule { IfOk result (λ r. IsFractionalSchedule intervals.now.items scale.unit scale.units r.flows.items) }
 {
-    let whole = instance(alloc, intervals, scale.unit, scale.units, scale.denominator)?;
-    let solution = solve_windows(alloc, &whole, width_of(window, intervals.steps()))?;
+    let solved = {
+        let whole = instance(alloc, intervals, scale.unit, scale.units, scale.denominator)?;
+        solve_windows(alloc, &whole, width_of(window, intervals.steps()))
+    };
+    let solution = solved?;
     let (prices, flows) = solution.into_parts();
     Ok(Relaxed {
         prices,

@@ -159,16 +159,18 @@ fn run_plan<T: Source, Q: Source, R: Sink, K: Sink>(
         (device (R.written report.old) (R.written report.new) (R.faults report.old) (R.faults report.new))
         (device (K.written made.old) (K.written made.new) (K.faults made.old) (K.faults made.new))) result }
 {
+    let plan = match plan {
+        Ok(plan) => plan,
+        Err(WordFault { place, kind }) => return refuse(report, Refusal::Words { place, kind }),
+    };
     match plan {
-        Ok(
-            Plan::Bounds {
-                format,
-                capacity,
-                objective,
-                mode,
-                denominator,
-            },
-        ) => {
+        Plan::Bounds {
+            format,
+            capacity,
+            objective,
+            mode,
+            denominator,
+        } => {
             let asked = Asked {
                 capacity,
                 objective,
@@ -177,8 +179,7 @@ fn run_plan<T: Source, Q: Source, R: Sink, K: Sink>(
             };
             run_bounds(alloc, format, &asked, trace, report, made)
         }
-        Ok(Plan::Check { format }) => run_check(alloc, format, trace, cert, report),
-        Err(WordFault { place, kind }) => refuse(report, Refusal::Words { place, kind }),
+        Plan::Check { format } => run_check(alloc, format, trace, cert, report),
     }
 }
 

@@ -5,7 +5,7 @@ ghost use Rattle.bound_run.specs.Words.{IsPlanInRange, block_fault, bounds_plan,
 
 use crate::operands::{
     Command, OPERANDS_AT, capacity_given, denominator_given, format_given, has_equals, has_operand,
-    is_value, mode_given, name_of, objective_given, place_given, value_given, value_of,
+    is, is_value, mode_given, name_of, objective_given, place_given, value_given, value_of,
 };
 use bound_report::WordKind;
 use cache_model::Mode;
@@ -54,16 +54,17 @@ fn refuse<T: Drop>(place: u64, kind: WordKind) -> Result<T, WordFault>
 fn word_at(words: &[String], at: usize) -> Option<&str>
     ensures { option_copied result ≡ slice_get (map string_bytes words.now) at }
 {
-    words.get(at).map(|word| word.as_str())
+    let word = words.get(at)?;
+    Some(word.as_str())
 }
 
 // The command that a word names.
 fn command_named(word: &str) -> Option<Command>
     ensures { result ≡ command_named word.now }
 {
-    if word == "bounds" {
+    if is(word, "bounds") {
         Some(Command::Bounds)
-    } else if word == "check" {
+    } else if is(word, "check") {
         Some(Command::Check)
     } else {
         None
@@ -143,7 +144,7 @@ fn block_fault(operands: &[String]) -> Option<WordFault>
     ensures { result ≡ block_fault (map string_bytes operands.now) }
 {
     match value_given("format", operands) {
-        Some(format) if format != "msr" => unknown_operand("block", operands),
+        Some(format) if !is(format, "msr") => unknown_operand("block", operands),
         _ => None,
     }
 }
@@ -153,7 +154,7 @@ fn window_fault(operands: &[String]) -> Option<WordFault>
     ensures { result ≡ window_fault (map string_bytes operands.now) }
 {
     match value_given("mode", operands) {
-        Some(mode) if mode != "flow" => unknown_operand("window", operands),
+        Some(mode) if !is(mode, "flow") => unknown_operand("window", operands),
         _ => None,
     }
 }
@@ -208,7 +209,7 @@ fn is_dash(word: Option<&str>) -> bool
     ensures { result ≡ is_dash (option_copied word.entry) }
 {
     match word {
-        Some(word) => word == "-",
+        Some(word) => is(word, "-"),
         None => false,
     }
 }
@@ -267,10 +268,7 @@ pub fn plan_of(words: &[String]) -> Result<Plan, WordFault>
 fn word_or_dash(words: &[String], at: usize) -> &str
     ensures { result.now ≡ word_or_dash (slice_get (map string_bytes words.now) at) }
 {
-    match words.get(at) {
-        Some(word) => word.as_str(),
-        None => "-",
-    }
+    word_at(words, at).unwrap_or("-")
 }
 
 /// The paths that the words name.

@@ -1,8 +1,11 @@
-use Rattle.std.proofs.Common.{◌≡◌, ℕ, sym, subst, replicate, length, Result, Ok, Err, IfOk, All}
+use Rattle.std.proofs.Common.{◌≡◌, ℕ, ◌*◌, ◌-◌, ◌≤◌, sym, subst, arith, List, replicate, length, sum, get_or, Result, Ok, Err, IfOk, All}
 use Rattle.cache_model.specs.Schedules.{IsFractionalSchedule}
 use Rattle.interval_maker.specs.Timelines.{Timeline}
 use Rattle.cache_model.specs.declared.reports.Mode.TheVariants.{Constant, Infinite}
 use Rattle.constant_price.specs.Constants.{IsLeastConstant, constant_prices}
+use Rattle.constant_price.proofs.Bounds.{sum-constant_prices}
+use Rattle.constant_price.proofs.Prices.{length-constant_prices, constant_prices-last}
+use Rattle.relaxation.specs.Prices.{most_paid}
 use Rattle.bound_run.specs.declared.relaxed.Relaxed.{Relaxed}
 use Rattle.bound_run.specs.Made.{IsOfMode}
 use Rattle.bound_run.proofs.Relaxing.{all_zero, no_flows}
@@ -41,3 +44,31 @@ pub returns-in-Infinite-clause-of_mode : goal.returns-in-Infinite-clause-of_mode
 returns-in-Infinite-clause-of_mode c =
     rw c.in-Infinite.is
     (of_infinite c.args.intervals.now c.args.scale.unit c.args.scale.units c.args.scale.denominator c.at_one_price-in-Infinite.result c.at_one_price-in-Infinite.ensures.prices c.at_one_price-in-Infinite.ensures.flows c.at_one_price-in-Infinite.ensures.price)
+
+-- what holds of prices holds of those that are equal to them
+priced : {E : Type 0} (P : List ℕ → Type 0) (ps : List ℕ) (r : Result Relaxed E) → P ps → IfOk r (λ x. x.prices.items ≡ ps) → IfOk r (λ x. P x.prices.items)
+priced P ps (Ok x) holds is = subst P (sym is) holds
+priced P ps (Err e) holds is = tt
+
+pub returns-in-Constant-clause-each : goal.returns-in-Constant-clause-each
+returns-in-Constant-clause-each c =
+    priced (λ ps. length ps ≡ c.args.intervals.now.steps) _ c.at_one_price.result (length-constant_prices c.least.result c.args.intervals.now.steps) c.at_one_price.ensures.prices
+
+pub returns-in-Constant-clause-paid : goal.returns-in-Constant-clause-paid
+returns-in-Constant-clause-paid c = priced (λ ps. c.args.scale.units * sum ps ≤ most_paid) _ c.at_one_price.result (omega (arith, c.least.ensures.sum)) c.at_one_price.ensures.prices
+
+pub returns-in-Constant-clause-last : goal.returns-in-Constant-clause-last
+returns-in-Constant-clause-last c =
+    priced (λ ps. get_or ps (c.args.intervals.now.steps - 1) 0 ≡ 0) _ c.at_one_price.result (constant_prices-last c.least.result c.args.intervals.now.steps) c.at_one_price.ensures.prices
+
+pub returns-in-Infinite-clause-each : goal.returns-in-Infinite-clause-each
+returns-in-Infinite-clause-each c =
+    priced (λ ps. length ps ≡ c.args.intervals.now.steps) _ c.at_one_price-in-Infinite.result (length-constant_prices 0 c.args.intervals.now.steps) c.at_one_price-in-Infinite.ensures.prices
+
+pub returns-in-Infinite-clause-paid : goal.returns-in-Infinite-clause-paid
+returns-in-Infinite-clause-paid c =
+    priced (λ ps. c.args.scale.units * sum ps ≤ most_paid) _ c.at_one_price-in-Infinite.result (rw (sum-constant_prices 0 c.args.intervals.now.steps) (omega arith)) c.at_one_price-in-Infinite.ensures.prices
+
+pub returns-in-Infinite-clause-last : goal.returns-in-Infinite-clause-last
+returns-in-Infinite-clause-last c =
+    priced (λ ps. get_or ps (c.args.intervals.now.steps - 1) 0 ≡ 0) _ c.at_one_price-in-Infinite.result (constant_prices-last 0 c.args.intervals.now.steps) c.at_one_price-in-Infinite.ensures.prices
