@@ -168,6 +168,17 @@ search_taken state old new search is queue =
       stacked = subst (λ (f : Found). (p : ℕ) → p < f.depth → get_or f.stack p 0 ≤ state.instance.steps) (sym is) search.stacked;
     }
 
+-- the stack alone lost some
+pub search_popped : (state : State) (old new : Found) → IsSearch state old → new ≡ record old { depth = new.depth } → new.depth ≤ old.depth → IsSearch state new
+search_popped state old new search is less =
+    subst (λ (f : Found). IsSearch state f) (sym is) (record {
+      tree = search.tree;
+      queue = search.queue;
+      small_stack = search.small_stack;
+      stack_fits = omega (arith, search.stack_fits, less);
+      stacked = λ p low. search.stacked p (omega (arith, low, less));
+    })
+
 -- no distance changed
 pub Nears-refl : (state : State) (found : Found) → IsSearch state found → Nears state found found
 Nears-refl state found search = record { search = search; rests = λ v h. h; stays = λ e is rests settled. settled; falls = omega arith }
