@@ -9,7 +9,7 @@ use cert_format::Header;
 
 /// What the requests and records through one of them give: the sum of the prices, whether it is the last, whether its
 /// object was requested before, and after it the sizes of the kept objects and the flows of all objects.
-#[derive(Clone, Copy, Debug, PartialEq, Eq)]
+#[derive(Clone, Copy)]
 pub struct Figures {
     pub prices: u128,
     pub last: bool,

@@ -1,7 +1,7 @@
 //! What a checker keeps of the requests and records so far.
 
 /// What is kept of an object: its latest request, the sum of the prices of the steps before it, its keep and its flow.
-#[derive(Clone, Copy, Debug, PartialEq, Eq)]
+#[derive(Clone, Copy, Debug)]
 pub struct Seen {
     pub latest: u32,
     pub price_before: u128,
@@ -12,7 +12,7 @@ pub struct Seen {
 /// What is kept of all requests and records so far: how many there were, the sum of all prices, the sizes of the kept
 /// objects and the flows of all objects, and of the intervals that have ended the surpluses, the values of the flows
 /// and the gains of the hits.
-#[derive(Clone, Copy, Debug, PartialEq, Eq)]
+#[derive(Clone, Copy, Debug)]
 pub struct Sums {
     pub steps: u32,
     pub prices: u128,
@@ -24,7 +24,7 @@ pub struct Sums {
 }
 
 /// What the interval that ends at a request adds: its surplus, the value of its flow, and the gain if it is a hit.
-#[derive(Clone, Copy, Debug, PartialEq, Eq)]
+#[derive(Clone, Copy)]
 pub struct Added {
     pub surplus: u128,
     pub value: u128,

@@ -10,7 +10,7 @@ pub struct Verdict {
 }
 
 /// The bound of the prices and the value of the flows, over the denominator, and the score of the keeps.
-#[derive(Clone, Copy, Debug, PartialEq, Eq)]
+#[derive(Clone, Copy)]
 pub struct Counted {
     pub upper: u128,
     pub flow: u128,

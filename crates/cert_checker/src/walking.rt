@@ -142,16 +142,11 @@ fn turn<T: Source, Q: Source>(
 ) -> Result<bool, CheckFault>
     requires header { header.now ≡ checker.old.header }
     requires in_step { IsInStep (inputs reader.old (T.left trace.old) (T.faults trace.old) cert.old (Q.left certificate.old) (Q.faults certificate.old)) checker.old }
-    ensures in_step { OnOk result (IsInStep (inputs reader.new (T.left trace.new) (T.faults trace.new) cert.new (Q.left certificate.new) (Q.faults certificate.new)) checker.new) }
-    ensures header { OnOk result (checker.new.header ≡ checker.old.header) }
+    ensures in_step { OnOk result (IsInStep (inputs reader.new (T.left trace.new) (T.faults trace.new) cert.new (Q.left certificate.new) (Q.faults certificate.new)) checker.new × (checker.new.header ≡ checker.old.header)) }
     ensures fewer { IfOk result (λ more. more ≡ true → cert.new.left + 1 ≡ cert.old.left) }
     ensures turned { (start : Inputs) (h : Head) (requests : List Requested) (records : List Entry) → Came start h requests records (inputs reader.old (T.left trace.old) (T.faults trace.old) cert.old (Q.left certificate.old) (Q.faults certificate.old)) checker.old → IsTurned start h requests records (inputs reader.new (T.left trace.new) (T.faults trace.new) cert.new (Q.left certificate.new) (Q.faults certificate.new)) checker.new result }
-    ensures trace_source { LosesFront (T.left trace.old) (T.left trace.new) }
-    ensures trace_later { T.faults trace.old ≤ T.faults trace.new }
-    ensures trace_ahead { length reader.new.lines.held ≤ 65536 }
-    ensures cert_source { LosesFront (Q.left certificate.old) (Q.left certificate.new) }
-    ensures cert_later { Q.faults certificate.old ≤ Q.faults certificate.new }
-    ensures cert_ahead { length cert.new.lines.held ≤ 65536 }
+    ensures trace { LosesFront (T.left trace.old) (T.left trace.new) × (T.faults trace.old ≤ T.faults trace.new) × (length reader.new.lines.held ≤ 65536) }
+    ensures cert { LosesFront (Q.left certificate.old) (Q.left certificate.new) × (Q.faults certificate.old ≤ Q.faults certificate.new) × (length cert.new.lines.held ≤ 65536) }
 {
     let Some(object) = reader.next(alloc, trace)? else {
         return Ok(false);
@@ -190,6 +185,26 @@ fn close<Q: Source>(
     }
 }
 
+// The walk from where the checker stands, to its end.
+fn walk<T: Source, Q: Source>(
+    alloc: Global,
+    reader: &mut RequestReader,
+    trace: &mut T,
+    cert: &mut CertReader,
+    certificate: &mut Q,
+    header: &Header,
+    checker: &mut Checker,
+) -> Result<Verdict, CheckFault>
+    requires header { header.now ≡ checker.old.header }
+    requires in_step { IsInStep (inputs reader.old (T.left trace.old) (T.faults trace.old) cert.old (Q.left certificate.old) (Q.faults certificate.old)) checker.old }
+    ensures closed { (start : Inputs) (h : Head) (requests : List Requested) (records : List Entry) → Came start h requests records (inputs reader.old (T.left trace.old) (T.faults trace.old) cert.old (Q.left certificate.old) (Q.faults certificate.old)) checker.old → IsClosed start (inputs reader.new (T.left trace.new) (T.faults trace.new) cert.new (Q.left certificate.new) (Q.faults certificate.new)) result }
+    ensures trace { LosesFront (T.left trace.old) (T.left trace.new) × (T.faults trace.old ≤ T.faults trace.new) × (length reader.new.lines.held ≤ 65536) }
+    ensures cert { LosesFront (Q.left certificate.old) (Q.left certificate.new) × (Q.faults certificate.old ≤ Q.faults certificate.new) }
+{
+    while turn(alloc, reader, trace, cert, certificate, header, checker)? {}
+    close(cert, certificate, header, checker)
+}
+
 /// Whether the certificate of one source is valid for the trace of the other, and else the first that fails, as both
 /// are read side by side, from their start to their end. No call of either reader was made before.
 ///
@@ -214,7 +229,7 @@ pub fn check_streams<T: Source, Q: Source>(
 {
     let header = cert.header(certificate)?;
     let mut checker = Checker::new(alloc, header)?;
-    while turn(
+    walk(
         alloc,
         reader,
         trace,
@@ -222,6 +237,5 @@ pub fn check_streams<T: Source, Q: Source>(
         certificate,
         &header,
         &mut checker,
-    )? {}
-    close(cert, certificate, &header, &checker)
+    )
 }

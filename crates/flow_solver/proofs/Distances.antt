@@ -10,7 +10,7 @@ use Rattle.flow_model.specs.Pushes.{edge_at}
 use Rattle.flow_network.specs.States.{State}
 use Rattle.flow_solver.proofs.Lists.{set_at}
 use Rattle.flow_solver.specs.Queues.{Waiting, IsQueue, IsQueueBut, Leaves}
-use Rattle.flow_solver.specs.Searches.{Found, Rests, IsReady, IsParent, IsTree, IsSearch, IsSettled, AreSettled, Enters, Nears, at_tail, far}
+use Rattle.flow_solver.specs.Searches.{Found, Rests, IsReady, IsParent, IsTree, IsSearch, IsSettled, AreSettled, Enters, Nears, at_tail, far, limit_of}
 
 -- an edge leads from a node to another
 pub ends_within : (instance : Instance) (e : Edge) → IsInstance instance → IsEdge instance e → (tail instance.arcs e ≤ instance.steps) × (head instance.arcs e ≤ instance.steps)
@@ -157,6 +157,32 @@ tree_more state distances parents e near ready tree is_edge room value nearer =
         })
         (cases_eq u h)
 
+-- the queue alone changed
+pub search_taken : (state : State) (old new : Found) → IsSearch state old → new ≡ record old { waiting = new.waiting } → IsQueue new.waiting new.distances → IsSearch state new
+search_taken state old new search is queue =
+    record {
+      tree = subst (λ (f : Found). IsTree state f.distances f.parents) (sym is) search.tree;
+      queue = queue;
+      small_stack = omega (arith, search.small_stack, ap (λ (f : Found). length f.stack) is);
+      stack_fits = omega (arith, search.stack_fits, ap (λ (f : Found). length f.stack) is, ap (λ (f : Found). f.depth) is);
+      stacked = subst (λ (f : Found). (p : ℕ) → p < f.depth → get_or f.stack p 0 ≤ state.instance.steps) (sym is) search.stacked;
+    }
+
+-- the stack alone lost some
+pub search_popped : (state : State) (old new : Found) → IsSearch state old → new ≡ record old { depth = new.depth } → new.depth ≤ old.depth → IsSearch state new
+search_popped state old new search is less =
+    subst (λ (f : Found). IsSearch state f) (sym is) (record {
+      tree = search.tree;
+      queue = search.queue;
+      small_stack = search.small_stack;
+      stack_fits = omega (arith, search.stack_fits, less);
+      stacked = λ p low. search.stacked p (omega (arith, low, less));
+    })
+
+-- no distance changed
+pub Nears-refl : (state : State) (found : Found) → IsSearch state found → Nears state found found
+Nears-refl state found search = record { search = search; rests = λ v h. h; stays = λ e is rests settled. settled; falls = omega arith }
+
 -- one after the other
 pub Nears-trans : (state : State) (a b c : Found) → Nears state a b → Nears state b c → Nears state a c
 Nears-trans state a b c before after =
@@ -260,3 +286,16 @@ rests_after_take old taken node v is leaves other rests =
           (cases_lt 0 (get_or old.waiting.places v 0));
       unstacked = λ p within same. rests.unstacked p (omega (arith, within, ap (λ (f : Found). f.depth) is)) (ap (λ (f : Found). get_or f.stack p 0) is ∙ same);
     }
+
+-- no node waits that is nearer than the last
+pub all_settled : (state : State) (old taken : Found) → IsReady state → AreSettled state old → old.depth ≡ 0 → taken.distances ≡ old.distances
+    → ((v : ℕ) → v ≤ state.instance.steps → 0 < get_or old.waiting.places v 0 → limit_of state old.distances ≤ get_or old.distances v 0)
+    → (e : Edge) → IsEdge state.instance e → IsSettled state taken.distances e
+all_settled state old taken ready settled unstacked same far_off e is =
+    let t : ℕ = tail state.instance.arcs e in
+    subst (λ (ds : List ℕ). IsSettled state ds e) (sym same)
+    (λ has.
+    ⊎_elim
+    (λ (waits : 0 < get_or old.waiting.places t 0). omega (arith, far_off t (ends_within state.instance e ready.fits.in_range is).0 waits, ready.valid e is has))
+    (λ (none : get_or old.waiting.places t 0 ≤ 0). settled e is (record { unqueued = omega arith; unstacked = λ p h. absurd (omega arith) }) has)
+    (cases_lt 0 (get_or old.waiting.places t 0)))

@@ -1,10 +1,32 @@
--- A node that goes on the stack of a search.
+-- A node that goes to the queue or on the stack of a search.
 use Rattle.std.proofs.Common.{inl, inr, ◌≡◌, ◌≢◌, ℕ, ◌+◌, ◌<◌, ◌≤◌, ◌∙◌, sym, refl, List, length, arith, ⊎_elim, get_or, set, length-set}
 use Rattle.std.proofs.lemmas.Bool.{cases_eq, cases_lt}
 use Rattle.flow_model.specs.declared.edges.Edge.{Edge}
 use Rattle.flow_solver.proofs.Lists.{set_at}
-use Rattle.flow_solver.specs.Queues.{Waiting, Withdraws}
+use Rattle.flow_solver.specs.Queues.{Waiting, Joins, Withdraws}
 use Rattle.flow_solver.specs.Searches.{Enters, Rests}
+
+-- the node waits in the queue, and the stack is as it was
+pub queue_enters : (distances : List ℕ) (parents : List Edge) (queue more : Waiting) (stack : List ℕ) (depth node : ℕ) → depth ≤ length stack → Joins queue more node
+    → Enters (record { distances = distances; parents = parents; waiting = queue; stack = stack; depth = depth })
+    (record { distances = distances; parents = parents; waiting = more; stack = stack; depth = depth }) node
+queue_enters distances parents queue more stack depth node fits joins =
+    record {
+      distances = refl;
+      parents = refl;
+      places = joins.places;
+      stack = refl;
+      fits = fits;
+      more = omega (arith, joins.few);
+      stacked = λ p low. inr (low, refl);
+      waits = λ rests. omega (arith, rests.unqueued, joins.joined);
+      rests = λ other rests. record {
+        unqueued =
+            ⊎_elim (λ (waits : 0 < get_or queue.places other 0). absurd (omega (arith, joins.stays other waits, rests.unqueued))) (λ (none : get_or queue.places other 0 ≤ 0). omega arith)
+            (cases_lt 0 (get_or queue.places other 0));
+        unstacked = rests.unstacked;
+      };
+    }
 
 -- the node is withdrawn from the queue, and then stands on the stack
 pub stack_enters : (distances : List ℕ) (parents : List Edge) (queue left : Waiting) (stack : List ℕ) (depth node : ℕ) → depth < length stack → Withdraws queue left node

@@ -1,4 +1,5 @@
 use Rattle.std.proofs.Common.{◌≡◌, ◌+◌, ◌<◌, ◌∙◌, sym, ap, refl, subst, arith, [], ◌∷◌, ◌++◌, length}
+use Rattle.std.proofs.lemmas.Bool.{false≢true}
 use Rattle.std.proofs.lemmas.Result.{err_from_is_err_and}
 use Rattle.std.proofs.lemmas.List.{length-append}
 use Rattle.cache_model.specs.declared.certificates.Header.{Header}
@@ -80,157 +81,36 @@ returns-clause-in_step g c =
     let r = c.in_ok-entry.entry in
     let more = c.in_ok-step.ensures.stepped c.args.checker.now.header s.some.0 s.some.1 s.some.2 in
     let steps = more.sums.steps ∙ length-append s.some.0 (x ∷ []) in
-    let old = s.some.2.sums.steps in
-    record {
-      trace_fault = c.in_ok-object.ensures.fault s.trace_fault;
-      cert_fault = e.fault s.cert_fault;
-      stage = read.0;
-      line = omega (arith, read.2, s.line, steps, old);
-      left = omega (arith, read.1, s.left, steps, old, ap (λ (k : Header). k.requests) more.header);
-      held = e.ahead;
-      some = (s.some.0 ++ x ∷ [], s.some.1 ++ r ∷ [], subst (λ k. StandsFor k (s.some.0 ++ x ∷ []) (s.some.1 ++ r ∷ []) c.step.new.checker) (sym more.header) more);
-    }
-
-pub returns-clause-header : goal.returns-clause-header
-returns-clause-header g c =
-    let s = c.requires.in_step in
-    let more = c.in_ok-step.ensures.stepped c.args.checker.now.header s.some.0 s.some.1 s.some.2 in
-    more.header
+    let old = s.some.2.sums.steps in (
+      record {
+        trace_fault = c.in_ok-object.ensures.fault s.trace_fault;
+        cert_fault = e.fault s.cert_fault;
+        stage = read.0;
+        line = omega (arith, read.2, s.line, steps, old);
+        left = omega (arith, read.1, s.left, steps, old, ap (λ (k : Header). k.requests) more.header);
+        held = e.ahead;
+        some = (s.some.0 ++ x ∷ [], s.some.1 ++ r ∷ [], subst (λ k. StandsFor k (s.some.0 ++ x ∷ []) (s.some.1 ++ r ∷ []) c.step.new.checker) (sym more.header) more);
+      },
+      more.header,
+    )
 
 pub returns-in_err-object-clause-in_step : goal.returns-in_err-object-clause-in_step
 returns-in_err-object-clause-in_step g c = rw (err_from_is_err_and c.from_residual.result c.from_residual.ensures.1).1 tt
 
-pub returns-in_err-object-clause-header : goal.returns-in_err-object-clause-header
-returns-in_err-object-clause-header g c = rw (err_from_is_err_and c.from_residual.result c.from_residual.ensures.1).1 tt
-
 pub returns-in_err-object-clause-fewer : goal.returns-in_err-object-clause-fewer
 returns-in_err-object-clause-fewer g c = rw (err_from_is_err_and c.from_residual.result c.from_residual.ensures.1).1 tt
-
-pub returns-in_err-object-clause-trace_source : goal.returns-in_err-object-clause-trace_source
-returns-in_err-object-clause-trace_source g c = c.in_err-object.ensures.source
-
-pub returns-in_err-object-clause-trace_later : goal.returns-in_err-object-clause-trace_later
-returns-in_err-object-clause-trace_later g c = c.in_err-object.ensures.later
-
-pub returns-in_err-object-clause-trace_ahead : goal.returns-in_err-object-clause-trace_ahead
-returns-in_err-object-clause-trace_ahead g c = c.in_err-object.ensures.ahead
-
-pub returns-in_err-object-clause-cert_source : goal.returns-in_err-object-clause-cert_source
-returns-in_err-object-clause-cert_source g c = keeps (g.Q.Source.left c.args.certificate.now)
-
-pub returns-in_err-object-clause-cert_later : goal.returns-in_err-object-clause-cert_later
-returns-in_err-object-clause-cert_later g c = omega arith
-
-pub returns-in_err-object-clause-cert_ahead : goal.returns-in_err-object-clause-cert_ahead
-returns-in_err-object-clause-cert_ahead g c = c.requires.in_step.held
-
-pub returns-in_default-clause-trace_source : goal.returns-in_default-clause-trace_source
-returns-in_default-clause-trace_source g c = c.in_ok-object.ensures.source
-
-pub returns-in_default-clause-trace_later : goal.returns-in_default-clause-trace_later
-returns-in_default-clause-trace_later g c = c.in_ok-object.ensures.later
-
-pub returns-in_default-clause-trace_ahead : goal.returns-in_default-clause-trace_ahead
-returns-in_default-clause-trace_ahead g c = c.in_ok-object.ensures.ahead
-
-pub returns-in_default-clause-cert_source : goal.returns-in_default-clause-cert_source
-returns-in_default-clause-cert_source g c = keeps (g.Q.Source.left c.args.certificate.now)
-
-pub returns-in_default-clause-cert_later : goal.returns-in_default-clause-cert_later
-returns-in_default-clause-cert_later g c = omega arith
-
-pub returns-in_default-clause-cert_ahead : goal.returns-in_default-clause-cert_ahead
-returns-in_default-clause-cert_ahead g c = c.requires.in_step.held
-
-pub returns-then-read-header-clause-trace_source : goal.returns-then-read-header-clause-trace_source
-returns-then-read-header-clause-trace_source g c = c.in_ok-object.ensures.source
-
-pub returns-then-read-header-clause-trace_later : goal.returns-then-read-header-clause-trace_later
-returns-then-read-header-clause-trace_later g c = c.in_ok-object.ensures.later
-
-pub returns-then-read-header-clause-trace_ahead : goal.returns-then-read-header-clause-trace_ahead
-returns-then-read-header-clause-trace_ahead g c = c.in_ok-object.ensures.ahead
-
-pub returns-then-read-header-clause-cert_source : goal.returns-then-read-header-clause-cert_source
-returns-then-read-header-clause-cert_source g c = keeps (g.Q.Source.left c.args.certificate.now)
-
-pub returns-then-read-header-clause-cert_later : goal.returns-then-read-header-clause-cert_later
-returns-then-read-header-clause-cert_later g c = omega arith
-
-pub returns-then-read-header-clause-cert_ahead : goal.returns-then-read-header-clause-cert_ahead
-returns-then-read-header-clause-cert_ahead g c = c.requires.in_step.held
 
 pub returns-in_err-entry-clause-in_step : goal.returns-in_err-entry-clause-in_step
 returns-in_err-entry-clause-in_step g c = rw (err_from_is_err_and c.from_residual-in_err-entry.result c.from_residual-in_err-entry.ensures.1).1 tt
 
-pub returns-in_err-entry-clause-header : goal.returns-in_err-entry-clause-header
-returns-in_err-entry-clause-header g c = rw (err_from_is_err_and c.from_residual-in_err-entry.result c.from_residual-in_err-entry.ensures.1).1 tt
-
 pub returns-in_err-entry-clause-fewer : goal.returns-in_err-entry-clause-fewer
 returns-in_err-entry-clause-fewer g c = rw (err_from_is_err_and c.from_residual-in_err-entry.result c.from_residual-in_err-entry.ensures.1).1 tt
-
-pub returns-in_err-entry-clause-trace_source : goal.returns-in_err-entry-clause-trace_source
-returns-in_err-entry-clause-trace_source g c = c.in_ok-object.ensures.source
-
-pub returns-in_err-entry-clause-trace_later : goal.returns-in_err-entry-clause-trace_later
-returns-in_err-entry-clause-trace_later g c = c.in_ok-object.ensures.later
-
-pub returns-in_err-entry-clause-trace_ahead : goal.returns-in_err-entry-clause-trace_ahead
-returns-in_err-entry-clause-trace_ahead g c = c.in_ok-object.ensures.ahead
-
-pub returns-in_err-entry-clause-cert_source : goal.returns-in_err-entry-clause-cert_source
-returns-in_err-entry-clause-cert_source g c = c.in_err-entry.ensures.source
-
-pub returns-in_err-entry-clause-cert_later : goal.returns-in_err-entry-clause-cert_later
-returns-in_err-entry-clause-cert_later g c = c.in_err-entry.ensures.later
-
-pub returns-in_err-entry-clause-cert_ahead : goal.returns-in_err-entry-clause-cert_ahead
-returns-in_err-entry-clause-cert_ahead g c = c.in_err-entry.ensures.ahead
 
 pub returns-in_err-step-clause-in_step : goal.returns-in_err-step-clause-in_step
 returns-in_err-step-clause-in_step g c = rw (err_from_is_err_and c.from_residual-in_err-step.result c.from_residual-in_err-step.ensures.1).1 tt
 
-pub returns-in_err-step-clause-header : goal.returns-in_err-step-clause-header
-returns-in_err-step-clause-header g c = rw (err_from_is_err_and c.from_residual-in_err-step.result c.from_residual-in_err-step.ensures.1).1 tt
-
 pub returns-in_err-step-clause-fewer : goal.returns-in_err-step-clause-fewer
 returns-in_err-step-clause-fewer g c = rw (err_from_is_err_and c.from_residual-in_err-step.result c.from_residual-in_err-step.ensures.1).1 tt
-
-pub returns-in_err-step-clause-trace_source : goal.returns-in_err-step-clause-trace_source
-returns-in_err-step-clause-trace_source g c = c.in_ok-object.ensures.source
-
-pub returns-in_err-step-clause-trace_later : goal.returns-in_err-step-clause-trace_later
-returns-in_err-step-clause-trace_later g c = c.in_ok-object.ensures.later
-
-pub returns-in_err-step-clause-trace_ahead : goal.returns-in_err-step-clause-trace_ahead
-returns-in_err-step-clause-trace_ahead g c = c.in_ok-object.ensures.ahead
-
-pub returns-in_err-step-clause-cert_source : goal.returns-in_err-step-clause-cert_source
-returns-in_err-step-clause-cert_source g c = c.in_ok-entry.ensures.source
-
-pub returns-in_err-step-clause-cert_later : goal.returns-in_err-step-clause-cert_later
-returns-in_err-step-clause-cert_later g c = c.in_ok-entry.ensures.later
-
-pub returns-in_err-step-clause-cert_ahead : goal.returns-in_err-step-clause-cert_ahead
-returns-in_err-step-clause-cert_ahead g c = c.in_ok-entry.ensures.ahead
-
-pub returns-clause-trace_source : goal.returns-clause-trace_source
-returns-clause-trace_source g c = c.in_ok-object.ensures.source
-
-pub returns-clause-trace_later : goal.returns-clause-trace_later
-returns-clause-trace_later g c = c.in_ok-object.ensures.later
-
-pub returns-clause-trace_ahead : goal.returns-clause-trace_ahead
-returns-clause-trace_ahead g c = c.in_ok-object.ensures.ahead
-
-pub returns-clause-cert_source : goal.returns-clause-cert_source
-returns-clause-cert_source g c = c.in_ok-entry.ensures.source
-
-pub returns-clause-cert_later : goal.returns-clause-cert_later
-returns-clause-cert_later g c = c.in_ok-entry.ensures.later
-
-pub returns-clause-cert_ahead : goal.returns-clause-cert_ahead
-returns-clause-cert_ahead g c = c.in_ok-entry.ensures.ahead
 
 pub records_read-read-requires : goal.records_read-read-requires
 records_read-read-requires g c = omega (arith, c.requires.in_step.line)
@@ -246,3 +126,60 @@ step-requires-clause-size g c = rw c.in-Some.is at c.in_ok-object.ensures.size
 
 pub step-requires-clause-range : goal.step-requires-clause-range
 step-requires-clause-range g c = c.in_ok-entry.ensures.range
+
+pub returns-in_err-object-clause-trace : goal.returns-in_err-object-clause-trace
+returns-in_err-object-clause-trace g c = (c.in_err-object.ensures.source, c.in_err-object.ensures.later, c.in_err-object.ensures.ahead)
+
+pub returns-in_err-object-clause-cert : goal.returns-in_err-object-clause-cert
+returns-in_err-object-clause-cert g c = (keeps (g.Q.Source.left c.args.certificate.now), omega arith, c.requires.in_step.held)
+
+pub returns-in_default-clause-trace : goal.returns-in_default-clause-trace
+returns-in_default-clause-trace g c = (c.in_ok-object.ensures.source, c.in_ok-object.ensures.later, c.in_ok-object.ensures.ahead)
+
+pub returns-in_default-clause-cert : goal.returns-in_default-clause-cert
+returns-in_default-clause-cert g c = (keeps (g.Q.Source.left c.args.certificate.now), omega arith, c.requires.in_step.held)
+
+pub returns-then-read-header-clause-trace : goal.returns-then-read-header-clause-trace
+returns-then-read-header-clause-trace g c = (c.in_ok-object.ensures.source, c.in_ok-object.ensures.later, c.in_ok-object.ensures.ahead)
+
+pub returns-then-read-header-clause-cert : goal.returns-then-read-header-clause-cert
+returns-then-read-header-clause-cert g c = (keeps (g.Q.Source.left c.args.certificate.now), omega arith, c.requires.in_step.held)
+
+pub returns-in_err-entry-clause-trace : goal.returns-in_err-entry-clause-trace
+returns-in_err-entry-clause-trace g c = (c.in_ok-object.ensures.source, c.in_ok-object.ensures.later, c.in_ok-object.ensures.ahead)
+
+pub returns-in_err-entry-clause-cert : goal.returns-in_err-entry-clause-cert
+returns-in_err-entry-clause-cert g c = (c.in_err-entry.ensures.source, c.in_err-entry.ensures.later, c.in_err-entry.ensures.ahead)
+
+pub returns-in_err-step-clause-trace : goal.returns-in_err-step-clause-trace
+returns-in_err-step-clause-trace g c = (c.in_ok-object.ensures.source, c.in_ok-object.ensures.later, c.in_ok-object.ensures.ahead)
+
+pub returns-in_err-step-clause-cert : goal.returns-in_err-step-clause-cert
+returns-in_err-step-clause-cert g c = (c.in_ok-entry.ensures.source, c.in_ok-entry.ensures.later, c.in_ok-entry.ensures.ahead)
+
+pub returns-clause-trace : goal.returns-clause-trace
+returns-clause-trace g c = (c.in_ok-object.ensures.source, c.in_ok-object.ensures.later, c.in_ok-object.ensures.ahead)
+
+pub returns-clause-cert : goal.returns-clause-cert
+returns-clause-cert g c = (c.in_ok-entry.ensures.source, c.in_ok-entry.ensures.later, c.in_ok-entry.ensures.ahead)
+
+pub returns-in_default-clause-in_step : goal.returns-in_default-clause-in_step
+returns-in_default-clause-in_step g c =
+    let s = c.requires.in_step in (
+      record {
+        trace_fault = c.in_ok-object.ensures.fault s.trace_fault;
+        cert_fault = s.cert_fault;
+        stage = s.stage;
+        line = s.line;
+        left = s.left;
+        held = s.held;
+        some = s.some;
+      },
+      refl,
+    )
+
+pub returns-in_default-clause-fewer : goal.returns-in_default-clause-fewer
+returns-in_default-clause-fewer g c = λ more. absurd (false≢true more)
+
+pub returns-clause-fewer : goal.returns-clause-fewer
+returns-clause-fewer g c = λ _. omega (arith, (c.in_ok-entry.ensures.read c.requires.in_step.cert_fault).1)

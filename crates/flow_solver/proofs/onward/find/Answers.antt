@@ -1,8 +1,9 @@
-use Rattle.std.proofs.Common.{◌≡◌, ℕ, suc, ◌-◌, ◌<◌, ◌∙◌, sym, ap, subst, List, [], ◌∷◌, ◌++◌, length, take, arith, length-set, true}
+use Rattle.std.proofs.Common.{◌≡◌, ℕ, suc, ◌-◌, ◌<◌, ◌∙◌, sym, ap, refl, subst, List, [], ◌∷◌, ◌++◌, length, take, arith, length-set, true}
 use Rattle.std.proofs.lemmas.List.{length-take-le, take_more_set}
 use Rattle.std.proofs.Math.Seq.{take-suc}
 use Rattle.flow_model.specs.declared.edges.Edge.{Edge}
 use Rattle.flow_model.specs.declared.edges.Edge.TheVariants.{Inner}
+use Rattle.flow_model.specs.Instances.{Instance}
 use Rattle.flow_model.specs.Pushes.{edge_at}
 use Rattle.flow_network.specs.States.{State}
 use Rattle.flow_solver.specs.Onward.{IsOnward}
@@ -67,3 +68,48 @@ loop-preserved c =
             onward = rw (w.node-is, w.hop-node-in-None.ensures.tail, w.len-is, w.path-is) (onward_shrinks n node (take m path) e (subst (λ (es : List Edge). IsOnward n node es) whole inv.onward));
           }
     ]
+
+pub loop-init : goal.loop-init
+loop-init c =
+    record {
+      marks = c.requires.marks;
+      within = omega arith;
+      fits = omega arith;
+      onward = record { leads = refl; tight = λ k d low. absurd (omega arith); later = λ k d low. absurd (omega arith) };
+    }
+
+pub returns-then-node-last-clause-marks : goal.returns-then-node-last-clause-marks
+returns-then-node-last-clause-marks c = omega (arith, c.loop.invariant.marks, c.requires.marks)
+
+pub returns-then-node-last-clause-within : goal.returns-then-node-last-clause-within
+returns-then-node-last-clause-within c = c.loop.invariant.fits
+
+pub returns-then-node-last-clause-path : goal.returns-then-node-last-clause-path
+returns-then-node-last-clause-path c = subst (λ (k : ℕ). IsOnward c.args.network.now k (take c.loop.len c.loop.path)) (c.if-node-last.true ∙ c.steps-last.ensures ∙ ap (λ (i : Instance). i.steps) c.instance.ensures.instance) c.loop.invariant.onward
+
+pub edge_on-requires-clause-fits : goal.edge_on-requires-clause-fits
+edge_on-requires-clause-fits c = c.requires.fits
+
+pub edge_on-requires-clause-edges : goal.edge_on-requires-clause-edges
+edge_on-requires-clause-edges c = c.requires.edges
+
+pub edge_on-requires-clause-node : goal.edge_on-requires-clause-node
+edge_on-requires-clause-node c = omega (arith, c.loop.invariant.within, c.if-node-last.false, c.steps-last.ensures, ap (λ (i : Instance). i.steps) c.instance.ensures.instance)
+
+pub edge_on-requires-clause-marks : goal.edge_on-requires-clause-marks
+edge_on-requires-clause-marks c = c.loop.invariant.marks
+
+pub hop-node-requires : goal.hop-node-requires
+hop-node-requires c = c.in-Some.ensures.tight.is_edge
+
+pub mark-requires : goal.mark-requires
+mark-requires c = omega (arith, c.loop.invariant.marks, c.loop.invariant.within)
+
+pub returns-then-len-eq0-clause-marks : goal.returns-then-len-eq0-clause-marks
+returns-then-len-eq0-clause-marks c = omega (arith, ap length c.mark.ensures, length-set c.loop.dead c.loop.node true, c.loop.invariant.marks, c.requires.marks)
+
+pub overflow_sub-len : goal.overflow_sub-len
+overflow_sub-len c = omega (arith, c.if-len-eq0.false)
+
+pub returns-clause-marks : goal.returns-clause-marks
+returns-clause-marks c = omega (arith, c.loop.invariant.marks, c.requires.marks)

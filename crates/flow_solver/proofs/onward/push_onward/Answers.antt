@@ -1,4 +1,4 @@
-use Rattle.std.proofs.Common.{◌≡◌, ◌+◌, ◌*◌, ◌∙◌, sym, ap, subst, List, length, take, arith}
+use Rattle.std.proofs.Common.{◌≡◌, ◌+◌, ◌*◌, ◌∙◌, refl, sym, ap, subst, List, length, take, arith}
 use Rattle.flow_model.specs.declared.edges.Edge.{Edge}
 use Rattle.flow_model.specs.Instances.{Instance}
 use Rattle.flow_model.specs.Pushes.{push_path}
@@ -33,3 +33,57 @@ loop-network-preserved c =
       same_marks = c.in-Some.ensures.marks ∙ inv.same_marks;
       each_hop = omega (arith, c.find.auto.path, inv.each_hop, ap (λ (i : Instance). i.steps) same);
     }
+
+pub loop-network-init : goal.loop-network-init
+loop-network-init c =
+    record {
+      keeps = record { ready = c.requires.ready; same = refl; pushed = omega arith };
+      edges = c.requires.edges;
+      marks = c.clear.ensures ∙ c.requires.marks;
+      same_marks = refl;
+      each_hop = c.requires.each_hop;
+    }
+
+pub find-requires-clause-fits : goal.find-requires-clause-fits
+find-requires-clause-fits c = c.loop-network.invariant.keeps.ready.fits
+
+pub find-requires-clause-edges : goal.find-requires-clause-edges
+find-requires-clause-edges c = c.loop-network.invariant.edges
+
+pub find-requires-clause-marks : goal.find-requires-clause-marks
+find-requires-clause-marks c = c.loop-network.invariant.marks
+
+pub find-requires-clause-each_hop : goal.find-requires-clause-each_hop
+find-requires-clause-each_hop c = c.loop-network.invariant.each_hop
+
+pub returns-in_default-clause-keeps : goal.returns-in_default-clause-keeps
+returns-in_default-clause-keeps c = c.loop-network.invariant.keeps
+
+pub returns-in_default-clause-marks : goal.returns-in_default-clause-marks
+returns-in_default-clause-marks c = c.in_default.ensures.marks ∙ c.loop-network.invariant.same_marks ∙ c.clear.ensures
+
+pub slice_bounds-room_along-end : goal.slice_bounds-room_along-end
+slice_bounds-room_along-end c = c.in-Some.ensures.within
+
+pub room_along-amount-requires-clause-tight : goal.room_along-amount-requires-clause-tight
+room_along-amount-requires-clause-tight c = c.in-Some.ensures.path.tight
+
+pub room_along-amount-requires-clause-left : goal.room_along-amount-requires-clause-left
+room_along-amount-requires-clause-left c = omega (arith, c.loop-network-test.true, c.left.ensures.left)
+
+pub slice_bounds-push-end : goal.slice_bounds-push-end
+slice_bounds-push-end c = c.in-Some.ensures.within
+
+pub push-requires-clause-units : goal.push-requires-clause-units
+push-requires-clause-units c = c.room_along-amount.ensures.units
+
+pub loop-network-smaller : goal.loop-network-smaller
+loop-network-smaller c =
+    let pushed = c.push.ensures.pushed in
+    omega (arith, ap (λ (x : State). x.pushed) pushed, ap (λ (x : State). x.instance.units) pushed, c.room_along-amount.ensures.some, c.room_along-amount.ensures.units)
+
+pub returns-clause-keeps : goal.returns-clause-keeps
+returns-clause-keeps c = c.loop-network.invariant.keeps
+
+pub returns-clause-marks : goal.returns-clause-marks
+returns-clause-marks c = c.loop-network.invariant.same_marks ∙ c.clear.ensures

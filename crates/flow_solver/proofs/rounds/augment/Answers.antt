@@ -1,8 +1,10 @@
-use Rattle.std.proofs.Common.{◌≡◌, ℕ, ◌+◌, List, drop, ap, sym, subst, arith, ◌∙◌}
+use Rattle.std.proofs.Common.{◌≡◌, ℕ, ◌+◌, ◌*◌, List, length, drop, ap, sym, subst, arith, ◌∙◌}
 use Rattle.std.proofs.lemmas.List.{take_rest}
 use Rattle.flow_model.specs.declared.edges.Edge.{Edge}
-use Rattle.flow_model.specs.Pushes.{push_path}
+use Rattle.flow_model.specs.Instances.{Instance}
+use Rattle.flow_model.specs.Pushes.{CanPush, push_path}
 use Rattle.flow_network.specs.States.{State, IsState}
+use Rattle.flow_solver.specs.OuterEdges.{AreListed}
 use Rattle.flow_solver.specs.Searches.{IsReady, LeadsBack}
 use Rattle.flow_solver.proofs.Guides.{enough_at, ready_lowered, leads_back}
 use Rattle.flow_solver.proofs.LastRound.{ready_after_push}
@@ -49,3 +51,69 @@ returns-clause-advances c =
         c.trace-route.ensures.some,
       );
     }
+
+pub run-requires-clause-ready : goal.run-requires-clause-ready
+run-requires-clause-ready c = c.requires.ready
+
+pub run-requires-clause-room : goal.run-requires-clause-room
+run-requires-clause-room c = c.requires.room
+
+pub run-requires-clause-edges : goal.run-requires-clause-edges
+run-requires-clause-edges c = c.requires.edges
+
+pub lower-requires-clause-fits : goal.lower-requires-clause-fits
+lower-requires-clause-fits c = c.requires.ready.fits
+
+pub lower-requires-clause-each_distance : goal.lower-requires-clause-each_distance
+lower-requires-clause-each_distance c = c.run.ensures.search.tree.each_distance
+
+pub trace-route-requires-clause-fits : goal.trace-route-requires-clause-fits
+trace-route-requires-clause-fits c = c.lower.ensures.fits
+
+pub trace-route-requires-clause-each_hop : goal.trace-route-requires-clause-each_hop
+trace-route-requires-clause-each_hop c = c.requires.each_hop ∙ sym (ap (λ (x : State). x.instance.steps) c.lower.ensures.same)
+
+pub trace-route-requires-clause-left : goal.trace-route-requires-clause-left
+trace-route-requires-clause-left c = omega (arith, c.requires.left, ap (λ (x : State). x.pushed) c.lower.ensures.same, ap (λ (x : State). x.instance.units) c.lower.ensures.same)
+
+pub slice_bounds-push-count : goal.slice_bounds-push-count
+slice_bounds-push-count c = c.trace-route.ensures.within
+
+pub push-requires-clause-path : goal.push-requires-clause-path
+push-requires-clause-path c =
+    let s : State = c.lower.new.network in
+    let route = c.trace-route.result in
+    subst (λ (es : List Edge). CanPush s.instance s.flows es route.amount) (sym (take_rest c.trace-route.new.path route.start)) c.trace-route.ensures.can
+
+pub push-requires-clause-units : goal.push-requires-clause-units
+push-requires-clause-units c = c.trace-route.ensures.units
+
+pub push_onward-requires-clause-edges : goal.push_onward-requires-clause-edges
+push_onward-requires-clause-edges c =
+    let same : c.push.new.self.instance ≡ c.args.network.now.instance = ap (λ (x : State). x.instance) c.push.ensures.pushed ∙ ap (λ (x : State). x.instance) c.lower.ensures.same in
+    subst (λ (i : Instance). AreListed i c.args.edges.now (2 * length i.arcs)) (sym same) c.requires.edges
+
+pub push_onward-requires-clause-marks : goal.push_onward-requires-clause-marks
+push_onward-requires-clause-marks c =
+    let same : c.push.new.self.instance ≡ c.args.network.now.instance = ap (λ (x : State). x.instance) c.push.ensures.pushed ∙ ap (λ (x : State). x.instance) c.lower.ensures.same in
+    omega (arith, c.requires.marks, ap (λ (i : Instance). i.steps) same)
+
+pub push_onward-requires-clause-each_hop : goal.push_onward-requires-clause-each_hop
+push_onward-requires-clause-each_hop c =
+    let same : c.push.new.self.instance ≡ c.args.network.now.instance = ap (λ (x : State). x.instance) c.push.ensures.pushed ∙ ap (λ (x : State). x.instance) c.lower.ensures.same in
+    omega (arith, c.requires.each_hop, c.trace-route.auto.path, ap (λ (i : Instance). i.steps) same)
+
+pub returns-clause-room : goal.returns-clause-room
+returns-clause-room c =
+    let search = c.run.ensures.search in
+    let places = search.queue.each_distance in
+    record {
+      distances = search.tree.each_distance;
+      parents = search.tree.each_parent;
+      nodes = omega (arith, search.queue.placed.lengths, places, search.tree.each_distance);
+      places = omega (arith, places, search.tree.each_distance);
+      stack = search.small_stack;
+    }
+
+pub returns-clause-marks : goal.returns-clause-marks
+returns-clause-marks c = c.push_onward.ensures.marks

@@ -1,4 +1,5 @@
 use Rattle.std.proofs.Common.{sym, subst, arith}
+use Rattle.std.proofs.lemmas.Result.{err_from_is_err_and}
 use Rattle.flow_model.specs.Instances.{Instance, IsInstance, arc_of}
 use Rattle.relaxation.proofs.Whole.{timeline_weights}
 use Rattle.relaxation.proofs.WholeArcs.{whole_is_instance, whole_all}
@@ -27,3 +28,21 @@ loop-interval-preserved c =
       room = omega (arith, before.invariant.room, push.capacity);
       count = omega (arith, before.invariant.count, push.len);
     }
+
+pub returns-in_err-arcs : goal.returns-in_err-arcs
+returns-in_err-arcs c = rw (err_from_is_err_and c.from_residual.result c.from_residual.ensures.1).1 tt
+
+pub loop-interval-init : goal.loop-interval-init
+loop-interval-init c = record { arcs = c.in_ok-arcs.ensures.items; room = c.in_ok-arcs.ensures.capacity; count = c.in_ok-arcs.ensures.len }
+
+pub arc_of-requires-clause-unit : goal.arc_of-requires-clause-unit
+arc_of-requires-clause-unit c = c.requires.unit
+
+pub push_reserved-requires : goal.push_reserved-requires
+push_reserved-requires c = omega (arith, c.loop-interval.invariant.count, c.loop-interval.invariant.room, c.loop-interval-test.true)
+
+pub returns : goal.returns
+returns c =
+    let made = rw c.as_slice-items.ensures.items at c.loop-interval.invariant.arcs in
+    let past = rw c.as_slice-items.ensures.items at c.loop-interval-test.false in
+    rw (c.new.ensures, c.steps.ensures.steps) (whole_all c.args.intervals.now c.args.unit c.args.units c.args.denominator c.loop-interval.interval-index c.loop-interval.arcs.items past made)

@@ -1,3 +1,4 @@
+use Rattle.std.proofs.Common.{ℕ, ◌*◌, ◌^◌, ◌≤◌, ap, subst, arith}
 use Rattle.relaxation.proofs.Bounds.{bound_all, none_scores_more}
 use Rattle.relaxation.proofs.prices.bound_of.Goals as goal
 
@@ -7,3 +8,25 @@ returns-clause-no_play_scores_more c = λ objective capacity trace contents is s
     (bound_all c.as_slice-interval-items.result.now c.args.unit c.args.units c.args.denominator c.loop-interval.interval-index c.loop-interval.total c.args.sums.now.prices
     c.loop-interval-test.false c.loop-interval.invariant.value) in
     none_scores_more objective capacity c.args.unit c.args.units c.args.denominator trace c.args.sums.now.prices contents c.args.intervals.now c.loop-interval.total is shared c.requires.each_step value allowed
+
+pub overflow_mul-total : goal.overflow_mul-total
+overflow_mul-total c =
+    let most = subst (λ (units : ℕ). units * c.total.result ≤ 2 ^ 126) c.requires.units c.total.ensures.most in
+    omega (arith, most)
+
+pub loop-interval-init : goal.loop-interval-init
+loop-interval-init c =
+    let most = subst (λ (units : ℕ). units * c.total.result ≤ 2 ^ 126) c.requires.units c.total.ensures.most in
+    record { value = omega (arith, ap (λ sum. c.args.units * sum) c.total.ensures.sum); small = omega (arith, most) }
+
+pub surplus_of-total-requires-clause-unit : goal.surplus_of-total-requires-clause-unit
+surplus_of-total-requires-clause-unit c = c.requires.unit
+
+pub surplus_of-total-requires-clause-denominator : goal.surplus_of-total-requires-clause-denominator
+surplus_of-total-requires-clause-denominator c = c.requires.denominator
+
+pub returns-clause-value : goal.returns-clause-value
+returns-clause-value c =
+    rw c.as_slice-interval-items.ensures.items at
+    (bound_all c.as_slice-interval-items.result.now c.args.unit c.args.units c.args.denominator c.loop-interval.interval-index c.loop-interval.total c.args.sums.now.prices
+    c.loop-interval-test.false c.loop-interval.invariant.value)

@@ -1,4 +1,4 @@
-use Rattle.std.proofs.Common.{◌≡◌, ◌<◌, ◌∙◌, sym, ap, subst, arith, cond, Bool, None, Some}
+use Rattle.std.proofs.Common.{◌≡◌, ◌<◌, ◌+◌, ◌∙◌, refl, sym, ap, subst, arith, cond, Bool, None, Some}
 use Rattle.std.specs.List.{IsDistinct}
 use Rattle.std.specs.Map.{keys_of, lookup}
 use Rattle.std.proofs.lemmas.Result.{err_from_is_err_and}
@@ -6,6 +6,7 @@ use Rattle.indexmap.specs.IndexMap.{insert_entry}
 use Rattle.cache_model.specs.declared.objects.Object.{Object}
 use Rattle.cache_model.specs.Play.{same_object}
 use Rattle.cache_model.proofs.DifferentObjects.{same_object-derived}
+use Rattle.cert_checker.specs.declared.summary.Sums.{Sums}
 use Rattle.cert_checker.specs.Rules.{first_some, record_rules}
 use Rattle.cert_checker.specs.Steps.{seen_at, sums_after}
 use Rattle.cert_checker.specs.Summaries.{StandsFor, Summary}
@@ -114,3 +115,41 @@ returns-clause-stepped c = λ h trace records st.
     c.insert.new.self.entries (entered c) (looked c) c.sums_with-self-inside.result
     (c.sums_with-self-inside.ensures.sums ∙ ap (sums_after c.self.inside.sums c.figures-now.result) c.added-added.ensures.sums)
     h trace records (subst (StandsFor h trace records) (sym c.self.view_is) st)
+
+pub figures-now-requires-clause-steps : goal.figures-now-requires-clause-steps
+figures-now-requires-clause-steps c = omega (arith, c.requires.fewer, c.self.invariant.stands.input.header_in_range.requests, ap (λ (v : Summary). v.sums.steps) c.self.view_is, ap (λ (v : Summary). v.header.requests) c.self.view_is)
+
+pub check_record-requires-clause-header : goal.check_record-requires-clause-header
+check_record-requires-clause-header c = c.self.invariant.stands.input.header_in_range
+
+pub check_record-requires-clause-size : goal.check_record-requires-clause-size
+check_record-requires-clause-size c = c.requires.size
+
+pub returns-in_err-check_record-clause-counts : goal.returns-in_err-check_record-clause-counts
+returns-in_err-check_record-clause-counts c = rw (err_from_is_err_and c.from_residual.result c.from_residual.ensures.1).1 tt
+
+pub returns-in_err-check_record-clause-kept : goal.returns-in_err-check_record-clause-kept
+returns-in_err-check_record-clause-kept c = rw (err_from_is_err_and c.from_residual.result c.from_residual.ensures.1).1 refl
+
+pub added-added-requires-clause-header : goal.added-added-requires-clause-header
+added-added-requires-clause-header c = c.self.invariant.stands.input.header_in_range
+
+pub added-added-requires-clause-size : goal.added-added-requires-clause-size
+added-added-requires-clause-size c = c.requires.size.1
+
+pub returns-in_err-insert-clause-counts : goal.returns-in_err-insert-clause-counts
+returns-in_err-insert-clause-counts c = rw (err_from_is_err_and c.from_residual-in_err-insert.result c.from_residual-in_err-insert.ensures.1).1 tt
+
+pub sums_with-self-inside-requires-clause-steps : goal.sums_with-self-inside-requires-clause-steps
+sums_with-self-inside-requires-clause-steps c = omega (arith, c.requires.fewer, c.self.invariant.stands.input.header_in_range.requests, ap (λ (v : Summary). v.sums.steps) c.self.view_is, ap (λ (v : Summary). v.header.requests) c.self.view_is)
+
+pub sums_with-self-inside-requires-clause-small : goal.sums_with-self-inside-requires-clause-small
+sums_with-self-inside-requires-clause-small c = c.self.invariant.small
+
+pub sums_with-self-inside-requires-clause-added : goal.sums_with-self-inside-requires-clause-added
+sums_with-self-inside-requires-clause-added c = c.added-added.ensures.small
+
+pub returns-clause-counts : goal.returns-clause-counts
+returns-clause-counts c =
+    let steps : c.sums_with-self-inside.result.steps ≡ c.self.inside.sums.steps + 1 = ap (λ (s : Sums). s.steps) c.sums_with-self-inside.ensures.sums in
+    (ap (λ (v : Summary). v.header) c.self.view_is, steps ∙ ap (λ (v : Summary). v.sums.steps + 1) c.self.view_is)

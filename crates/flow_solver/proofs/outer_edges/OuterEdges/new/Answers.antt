@@ -1,7 +1,8 @@
-use Rattle.std.proofs.Common.{◌≡◌, ◌+◌, ◌*◌, ◌<◌, ◌∙◌, List, length, ap, sym, subst, arith}
+use Rattle.std.proofs.Common.{◌≡◌, ℕ, ◌+◌, ◌*◌, ◌<◌, ◌∙◌, List, length, ap, sym, subst, arith}
 use Rattle.flow_model.specs.declared.arcs.OuterArc.{OuterArc}
 use Rattle.flow_solver.specs.OuterEdges.{Lists, AreListed, edge_of, tail_of}
 use Rattle.flow_solver.proofs.Distances.{ends_within}
+use Rattle.std.proofs.lemmas.Result.{err_from_is_err_and}
 use Rattle.flow_solver.proofs.EdgeLists.{is_edge_of, one_more_listed}
 use Rattle.flow_solver.proofs.outer_edges.OuterEdges.new.Goals as goal
 
@@ -15,3 +16,40 @@ loop-number-preserved c =
     let own : c.tail_at.result ≡ tail_of i.arcs number = c.tail_at.ensures ∙ ap (λ (arcs : List OuterArc). tail_of arcs number) c.arcs-arcs.ensures.arcs in
     subst (λ (x : Lists). AreListed i x (number + 1)) (sym c.add.ensures)
     (one_more_listed i old number c.tail_at.result c.loop-number.invariant within (omega (arith, own, (ends_within i (edge_of (length i.arcs) number) fits (is_edge_of i number within)).0)) (sym own))
+
+pub returns-in_err-first : goal.returns-in_err-first
+returns-in_err-first c = rw (err_from_is_err_and c.from_residual.result c.from_residual.ensures.1).1 tt
+
+pub overflow_mul-arcs : goal.overflow_mul-arcs
+overflow_mul-arcs c = omega (arith, ap length c.arcs-arcs.ensures.arcs, c.arcs-arcs.ensures.in_range.few_arcs)
+
+pub returns-in_err-next : goal.returns-in_err-next
+returns-in_err-next c = rw (err_from_is_err_and c.from_residual-in_err-next.result c.from_residual-in_err-next.ensures.1).1 tt
+
+pub overflow_cast-number-end : goal.overflow_cast-number-end
+overflow_cast-number-end c = omega (arith, ap length c.arcs-arcs.ensures.arcs, c.arcs-arcs.ensures.in_range.few_arcs)
+
+pub overflow_mul-number-end : goal.overflow_mul-number-end
+overflow_mul-number-end c = omega (arith, ap length c.arcs-arcs.ensures.arcs, c.arcs-arcs.ensures.in_range.few_arcs)
+
+pub tail_at-requires : goal.tail_at-requires
+tail_at-requires c = omega (arith, c.loop-number-test.true)
+
+pub add-requires-clause-number : goal.add-requires-clause-number
+add-requires-clause-number c = omega (arith, c.loop-number.invariant.each_edge, c.loop-number-test.true, ap length c.arcs-arcs.ensures.arcs)
+
+pub add-requires-clause-node : goal.add-requires-clause-node
+add-requires-clause-node c =
+    let i = c.args.instance.now in
+    let number = c.loop-number.number in
+    let within : number < 2 * length i.arcs = omega (arith, c.loop-number-test.true, ap length c.arcs-arcs.ensures.arcs) in
+    let own : c.tail_at.result ≡ tail_of i.arcs number = c.tail_at.ensures ∙ ap (λ (arcs : List OuterArc). tail_of arcs number) c.arcs-arcs.ensures.arcs in
+    omega (arith, own, (ends_within i (edge_of (length i.arcs) number) c.arcs-arcs.ensures.in_range (is_edge_of i number within)).0, c.loop-number.invariant.each_node)
+
+pub add-requires-clause-few : goal.add-requires-clause-few
+add-requires-clause-few c = omega (arith, c.loop-number-test.true, ap length c.arcs-arcs.ensures.arcs, c.arcs-arcs.ensures.in_range.few_arcs)
+
+pub returns : goal.returns
+returns c =
+    let all : c.loop-number.number ≡ 2 * length c.args.instance.now.arcs = omega (arith, c.loop-number-test.false, c.loop-number.auto.number-end, ap length c.arcs-arcs.ensures.arcs) in
+    subst (λ (k : ℕ). AreListed c.args.instance.now c.loop-number.edges k) all c.loop-number.invariant

@@ -40,3 +40,21 @@ returns-clause-search c =
       stack_fits = omega arith;
       stacked = λ p h. absurd (omega arith);
     })
+
+pub potential-far-requires : goal.potential-far-requires
+potential-far-requires c = omega arith
+
+pub overflow_add-far : goal.overflow_add-far
+overflow_add-far c = omega (arith, c.potential-far.ensures.small)
+
+pub clear-requires-clause-lengths : goal.clear-requires-clause-lengths
+clear-requires-clause-lengths c = omega (arith, c.requires.room.nodes, c.requires.room.places, ap (λ (f : Found). length f.waiting.nodes) c.self.view_is, ap (λ (f : Found). length f.waiting.places) c.self.view_is)
+
+pub clear-requires-clause-few : goal.clear-requires-clause-few
+clear-requires-clause-few c = omega (arith, c.requires.room.places, c.requires.ready.fits.in_range.few_steps, ap (λ (f : Found). length f.waiting.places) c.self.view_is)
+
+pub offer-requires-clause-node : goal.offer-requires-clause-node
+offer-requires-clause-node c = omega (arith, c.clear.ensures.places, c.requires.room.places, ap (λ (f : Found). length f.waiting.places) c.self.view_is)
+
+pub returns-clause-waits : goal.returns-clause-waits
+returns-clause-waits c = c.offer.ensures.joins.joined

@@ -1,8 +1,9 @@
-use Rattle.std.proofs.Common.{◌≡◌, ℕ, ◌+◌, ◌-◌, ◌<◌, ◌∙◌, ap, subst, arith, get_or, set, sym}
+use Rattle.std.proofs.Common.{◌≡◌, ℕ, ◌+◌, ◌-◌, ◌<◌, ◌∙◌, ap, subst, arith, get_or, set, sym, length, length-set}
+use Rattle.flow_model.specs.Instances.{Instance}
 use Rattle.flow_model.specs.Networks.{head, gain, residual}
 use Rattle.flow_solver.specs.Queues.{IsQueueBut}
 use Rattle.flow_solver.specs.Searches.{Found, Enters, at_tail}
-use Rattle.flow_solver.proofs.Distances.{nears_more, queue_lowered}
+use Rattle.flow_solver.proofs.Distances.{Nears-refl, nears_more, queue_lowered}
 use Rattle.flow_solver.proofs.search.Search.relax.Goals as goal
 
 pub returns-clause-nears : goal.returns-clause-nears
@@ -41,3 +42,63 @@ enqueue-requires-clause-queue c =
     let along : ℕ = c.distance-near.result + (h.loss + c.potential.result) - (h.gain + c.potential-2.result) in
     let low = queue_lowered old.waiting old.distances h.head along c.requires.search.queue (omega (arith, c.requires.search.tree.each_distance, c.hop-hop.ensures.ends)) (omega arith) in
     subst (λ (f : Found). IsQueueBut f.waiting f.distances h.head) (sym c.lower.ensures) low
+
+pub residual-requires : goal.residual-requires
+residual-requires c = c.requires.edge
+
+pub returns-then-residual-eq0-clause-nears : goal.returns-then-residual-eq0-clause-nears
+returns-then-residual-eq0-clause-nears c = Nears-refl c.args.network.now c.args.self.now c.requires.search
+
+pub returns-then-residual-eq0-clause-settled : goal.returns-then-residual-eq0-clause-settled
+returns-then-residual-eq0-clause-settled c = λ has. absurd (omega (arith, has, c.residual.ensures.residual, c.if-residual-eq0.true))
+
+pub hop-hop-requires : goal.hop-hop-requires
+hop-hop-requires c = c.requires.edge
+
+pub distance-limit-requires : goal.distance-limit-requires
+distance-limit-requires c = omega (arith, c.steps.ensures, ap (λ (i : Instance). i.steps) c.instance.ensures.instance, c.requires.search.tree.each_distance)
+
+pub distance-near-requires : goal.distance-near-requires
+distance-near-requires c = omega (arith, c.hop-hop.ensures.ends.0, c.requires.search.tree.each_distance)
+
+pub distance-requires : goal.distance-requires
+distance-requires c = omega (arith, c.hop-hop.ensures.ends.1, c.requires.search.tree.each_distance)
+
+pub returns-then-near-limit-clause-nears : goal.returns-then-near-limit-clause-nears
+returns-then-near-limit-clause-nears c = Nears-refl c.args.network.now c.args.self.now c.requires.search
+
+pub potential-requires : goal.potential-requires
+potential-requires c = c.hop-hop.ensures.ends.0
+
+pub overflow_add-behind : goal.overflow_add-behind
+overflow_add-behind c = omega (arith, c.hop-hop.ensures.small.1, c.potential.ensures.small)
+
+pub potential-requires-2 : goal.potential-requires-2
+potential-requires-2 c = c.hop-hop.ensures.ends.1
+
+pub overflow_add-along : goal.overflow_add-along
+overflow_add-along c = omega (arith, c.hop-hop.ensures.small.0, c.potential-2.ensures.small)
+
+pub distance-requires-else-along-limit : goal.distance-requires-else-along-limit
+distance-requires-else-along-limit c = omega (arith, c.hop-hop.ensures.ends.1, c.requires.search.tree.each_distance)
+
+pub returns-then-along-limit-clause-nears : goal.returns-then-along-limit-clause-nears
+returns-then-along-limit-clause-nears c = Nears-refl c.args.network.now c.args.self.now c.requires.search
+
+pub lower-requires-clause-parents : goal.lower-requires-clause-parents
+lower-requires-clause-parents c = omega (arith, c.requires.search.tree.each_distance, c.requires.search.tree.each_parent)
+
+pub lower-requires-clause-node : goal.lower-requires-clause-node
+lower-requires-clause-node c = omega (arith, c.hop-hop.ensures.ends.1, c.requires.search.tree.each_distance)
+
+pub enqueue-requires-clause-node : goal.enqueue-requires-clause-node
+enqueue-requires-clause-node c =
+    let h = c.hop-hop.result in
+    let old : Found = c.args.self.now in
+    omega (arith, c.hop-hop.ensures.ends.1, c.requires.search.tree.each_distance, ap (λ (f : Found). length f.distances) c.lower.ensures, length-set old.distances h.head (c.distance-near.result + (h.loss + c.potential.result) - (h.gain + c.potential-2.result)))
+
+pub enqueue-requires-clause-small : goal.enqueue-requires-clause-small
+enqueue-requires-clause-small c = omega (arith, c.requires.search.small_stack, ap (λ (f : Found). length f.stack) c.lower.ensures)
+
+pub enqueue-requires-clause-fits : goal.enqueue-requires-clause-fits
+enqueue-requires-clause-fits c = omega (arith, c.requires.search.stack_fits, ap (λ (f : Found). f.depth) c.lower.ensures, ap (λ (f : Found). length f.stack) c.lower.ensures)

@@ -48,3 +48,24 @@ loop-left-preserved c =
           (cases_lt k number))
           (cases_eq k number);
     }
+
+pub first-left-requires : goal.first-left-requires
+first-left-requires c = omega (arith, c.requires.edges.each_node, c.requires.node)
+
+pub overflow_sub-number : goal.overflow_sub-number
+overflow_sub-number c = omega (arith, c.loop-left-test.true)
+
+pub relax-requires-clause-ready : goal.relax-requires-clause-ready
+relax-requires-clause-ready c = c.requires.ready
+
+pub relax-requires-clause-search : goal.relax-requires-clause-search
+relax-requires-clause-search c = c.loop-left.invariant.nears.search
+
+pub after-left-requires : goal.after-left-requires
+after-left-requires c = omega (arith, c.requires.edges.each_edge, c.loop-left.invariant.within, c.loop-left-test.true)
+
+pub loop-left-smaller : goal.loop-left-smaller
+loop-left-smaller c = omega (arith, c.after-left.ensures, c.requires.edges.next_low (c.loop-left.left - 1) (omega (arith, c.loop-left.invariant.within, c.loop-left-test.true)), c.loop-left-test.true)
+
+pub returns-clause-nears : goal.returns-clause-nears
+returns-clause-nears c = c.loop-left.invariant.nears

@@ -1,0 +1,74 @@
+use Rattle.std.proofs.Common.{◌∙◌, sym, subst, arith, [], ◌∷◌, ◌++◌, Ok}
+use Rattle.std.proofs.lemmas.Result.{err_from_is_err_and}
+use Rattle.cert_format.proofs.Chains.{loses_both}
+use Rattle.cert_checker.specs.Checks.{Inputs, inputs, IsTurned}
+use Rattle.cert_checker.proofs.Fronts.{keeps}
+use Rattle.cert_checker.proofs.walking.walk.Goals as goal
+
+pub loop-init : goal.loop-init
+loop-init g c = record {
+  in_step = c.requires.in_step;
+  header = c.requires.header;
+  came = λ start h requests records came. (requests, records, came);
+  trace_source = keeps (g.T.Source.left c.args.trace.now);
+  trace_later = omega arith;
+  cert_source = keeps (g.Q.Source.left c.args.certificate.now);
+  cert_later = omega arith;
+}
+
+pub loop-preserved : goal.loop-preserved
+loop-preserved g c =
+    let now : Inputs = inputs c.turn.new.reader (g.T.Source.left c.turn.new.trace) (g.T.Source.faults c.turn.new.trace) c.turn.new.cert (g.Q.Source.left c.turn.new.certificate) (g.Q.Source.faults c.turn.new.certificate) in
+    let i = c.loop.invariant in
+    let e = c.in_ok-turn.ensures in
+    record {
+      in_step = e.in_step.0;
+      header = i.header ∙ sym e.in_step.1;
+      came = λ start h requests records came.
+          let given = i.came start h requests records came in
+          let more = subst (λ m. IsTurned start h given.0 given.1 now c.turn.new.checker (Ok m)) c.if-branch.true (e.turned start h given.0 given.1 given.2) in
+          (given.0 ++ more.0 ∷ [], given.1 ++ more.1 ∷ [], more.2);
+      trace_source = loses_both (g.T.Source.left c.args.trace.now) (g.T.Source.left c.loop.trace) (g.T.Source.left c.turn.new.trace) i.trace_source e.trace.0;
+      trace_later = omega (arith, i.trace_later, e.trace.1);
+      cert_source = loses_both (g.Q.Source.left c.args.certificate.now) (g.Q.Source.left c.loop.certificate) (g.Q.Source.left c.turn.new.certificate) i.cert_source e.cert.0;
+      cert_later = omega (arith, i.cert_later, e.cert.1);
+    }
+
+pub returns-in_err-turn-clause-closed : goal.returns-in_err-turn-clause-closed
+returns-in_err-turn-clause-closed g c =
+    let p = err_from_is_err_and c.from_residual.result c.from_residual.ensures.1 in
+    rw (p.1, p.2) (λ start h requests records came.
+    let given = c.loop.invariant.came start h requests records came in
+    c.in_err-turn.ensures.turned start h given.0 given.1 given.2)
+
+pub returns-in_err-turn-clause-trace : goal.returns-in_err-turn-clause-trace
+returns-in_err-turn-clause-trace g c =
+    let i = c.loop.invariant in
+    let e = c.turn.ensures.trace in
+    (loses_both (g.T.Source.left c.args.trace.now) (g.T.Source.left c.loop.trace) (g.T.Source.left c.turn.new.trace) i.trace_source e.0, omega (arith, i.trace_later, e.1), e.2)
+
+pub returns-in_err-turn-clause-cert : goal.returns-in_err-turn-clause-cert
+returns-in_err-turn-clause-cert g c =
+    let i = c.loop.invariant in
+    let e = c.turn.ensures.cert in
+    (loses_both (g.Q.Source.left c.args.certificate.now) (g.Q.Source.left c.loop.certificate) (g.Q.Source.left c.turn.new.certificate) i.cert_source e.0, omega (arith, i.cert_later, e.1))
+
+pub returns-clause-closed : goal.returns-clause-closed
+returns-clause-closed g c = λ start h requests records came.
+    let now : Inputs = inputs c.turn.new.reader (g.T.Source.left c.turn.new.trace) (g.T.Source.faults c.turn.new.trace) c.turn.new.cert (g.Q.Source.left c.turn.new.certificate) (g.Q.Source.faults c.turn.new.certificate) in
+    let given = c.loop.invariant.came start h requests records came in
+    let ended = subst (λ m. IsTurned start h given.0 given.1 now c.turn.new.checker (Ok m)) c.if-branch.false (c.in_ok-turn.ensures.turned start h given.0 given.1 given.2) in
+    c.close.ensures.closed start c.turn.new.reader (g.T.Source.left c.turn.new.trace) (g.T.Source.faults c.turn.new.trace) h given.0 given.1 ended
+
+pub returns-clause-trace : goal.returns-clause-trace
+returns-clause-trace g c =
+    let i = c.loop.invariant in
+    let e = c.turn.ensures.trace in
+    (loses_both (g.T.Source.left c.args.trace.now) (g.T.Source.left c.loop.trace) (g.T.Source.left c.turn.new.trace) i.trace_source e.0, omega (arith, i.trace_later, e.1), e.2)
+
+pub returns-clause-cert : goal.returns-clause-cert
+returns-clause-cert g c =
+    let i = c.loop.invariant in
+    let e = c.turn.ensures.cert in
+    let before = loses_both (g.Q.Source.left c.args.certificate.now) (g.Q.Source.left c.loop.certificate) (g.Q.Source.left c.turn.new.certificate) i.cert_source e.0 in
+    (loses_both (g.Q.Source.left c.args.certificate.now) (g.Q.Source.left c.turn.new.certificate) (g.Q.Source.left c.close.new.certificate) before c.close.ensures.source, omega (arith, i.cert_later, e.1, c.close.ensures.later))
