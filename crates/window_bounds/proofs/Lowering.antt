@@ -13,8 +13,7 @@ use Rattle.relaxation.specs.Cuts.{numbers_where}
 use Rattle.relaxation.proofs.Gathering.{passing, head_or, head_low, head_within, none_before, taken, passing_more, passing_none}
 use Rattle.relaxation.proofs.Merging.{meet_test}
 use Rattle.relaxation.proofs.Numbering.{IsNumber, are_numbers}
-use Rattle.window_bounds.specs.Solutions.{flow_in}
-use Rattle.window_bounds.proofs.Rounds.{lowered}
+use Rattle.window_bounds.specs.Solutions.{flow_in, lowered}
 
 -- as many arcs before arc i meet the window as there are numbers of such arcs below i
 place_of_number : (test : OuterArc → Bool) (arcs : List OuterArc) (i : ℕ) → i ≤ length arcs → length (passing (λ j. test (arc_at arcs j)) 0 i) ≡ count_by test (take i arcs)
@@ -26,14 +25,14 @@ place_of_number test arcs i within =
     ∙ ap (count_by test) (sym front)
 
 -- the flows of the arcs before number m are lowered, and the others are as they were
-pub record AreLowered (whole : Instance) (width n : ℕ) (parts old new : List ℕ) (place m : ℕ) : Type 0 where
+pub record AreLoweredBefore (whole : Instance) (width n : ℕ) (parts old new : List ℕ) (place m : ℕ) : Type 0 where
   pub within : m ≤ length whole.arcs
   pub left : drop place (numbers_where (meets width n) whole.arcs) ≡ passing (meet_test width n whole.arcs) m (length whole.arcs - m)
   pub placed : length (passing (meet_test width n whole.arcs) 0 m) ≡ place
   pub done : (i : ℕ) → i < m → get_or new i 0 ≡ lowered whole width n parts i (get_or old i 0)
   pub others : (i : ℕ) → m ≤ i → get_or new i 0 ≡ get_or old i 0
 
-pub lowered_none : (whole : Instance) (width n : ℕ) (parts old : List ℕ) → AreLowered whole width n parts old old 0 0
+pub lowered_none : (whole : Instance) (width n : ℕ) (parts old : List ℕ) → AreLoweredBefore whole width n parts old old 0 0
 lowered_none whole width n parts old =
     let all : length whole.arcs ≡ length whole.arcs - 0 = omega arith in
     record {
@@ -44,7 +43,7 @@ lowered_none whole width n parts old =
       others = λ i above. refl;
     }
 
-module _ (whole : Instance) (width n : ℕ) (parts old new numbers : List ℕ) (place m : ℕ) (same : numbers ≡ numbers_where (meets width n) whole.arcs) (so_far : AreLowered whole width n parts old new place m)
+module _ (whole : Instance) (width n : ℕ) (parts old new numbers : List ℕ) (place m : ℕ) (same : numbers ≡ numbers_where (meets width n) whole.arcs) (so_far : AreLoweredBefore whole width n parts old new place m)
     (below : place < length numbers) where
   abbrev p : ℕ → Bool
   p = meet_test width n whole.arcs
@@ -88,7 +87,7 @@ module _ (whole : Instance) (width n : ℕ) (parts old new numbers : List ℕ) (
   stands = sym (place_of_number (meets width n) whole.arcs x (omega (arith, number_within))) ∙ ap length quiet ∙ so_far.placed
 
   -- with the part at that place
-  pub lowered_more : (next : List ℕ) → next ≡ set new x (min (get_or new x 0) (get_or parts place 0)) → length new ≡ length whole.arcs → AreLowered whole width n parts old next (place + 1) (x + 1)
+  pub lowered_more : (next : List ℕ) → next ≡ set new x (min (get_or new x 0) (get_or parts place 0)) → length new ≡ length whole.arcs → AreLoweredBefore whole width n parts old next (place + 1) (x + 1)
   lowered_more next is many =
       let value : ℕ = min (get_or new x 0) (get_or parts place 0) in
       let at : get_or next x 0 ≡ lowered whole width n parts x (get_or old x 0) =
@@ -125,7 +124,7 @@ module _ (whole : Instance) (width n : ℕ) (parts old new numbers : List ℕ) (
       }
 
 -- once all parts are done
-pub lowered_all : (whole : Instance) (width n : ℕ) (parts old new numbers : List ℕ) (place m i : ℕ) → numbers ≡ numbers_where (meets width n) whole.arcs → AreLowered whole width n parts old new place m → length numbers ≤ place → i < length whole.arcs
+pub lowered_all : (whole : Instance) (width n : ℕ) (parts old new numbers : List ℕ) (place m i : ℕ) → numbers ≡ numbers_where (meets width n) whole.arcs → AreLoweredBefore whole width n parts old new place m → length numbers ≤ place → i < length whole.arcs
     → get_or new i 0 ≡ lowered whole width n parts i (get_or old i 0)
 lowered_all whole width n parts old new numbers place m i same so_far ended within =
     let p : ℕ → Bool = meet_test width n whole.arcs in

@@ -6,7 +6,7 @@ use Rattle.std.proofs.Math.Nat.{mul-le-mul_left}
 use Rattle.flow_model.specs.declared.arcs.OuterArc.{OuterArc}
 use Rattle.flow_model.specs.Instances.{Instance, IsSolution, arc_at, no_arc}
 use Rattle.flow_model.specs.Windows.{meets, window_instance}
-use Rattle.window_bounds.specs.Solutions.{flow_in, prices_in}
+use Rattle.window_bounds.specs.Solutions.{flow_in, lowered, prices_in}
 
 -- the flow is still the weight, or that of a part in a window before window n
 abbrev pub IsReached : Instance → ℕ → ℕ → (ℕ → List ℕ) → ℕ → ℕ → Type 0
@@ -53,10 +53,6 @@ prices_next width n prices more many short =
     ap (take steps) (drop-append-le from prices more (omega arith))
     ∙ ap (λ (xs : List ℕ). take steps (xs ++ more)) (drop_all from prices (omega arith))
     ∙ take_all steps more (omega arith)
-
--- the flow after window n: where the arc meets it, at most that of the part
-abbrev pub lowered : Instance → ℕ → ℕ → List ℕ → ℕ → ℕ → ℕ
-lowered whole width n parts i flow = cond (meets width n (arc_at whole.arcs i)) (min flow (flow_in whole width n parts i)) flow
 
 module _ (whole : Instance) (width n : ℕ) (prices flows more parts new : List ℕ) (has_step : width * n < whole.steps) (solved : AreSolved whole width n prices flows)
     (solution : IsSolution (window_instance whole width n) more parts) (many : length new ≡ length flows) (lower : (i : ℕ) → i < length flows → get_or new i 0 ≡ lowered whole width n parts i (get_or flows i 0)) where

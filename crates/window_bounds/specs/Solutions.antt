@@ -25,14 +25,21 @@ prices_in width k prices = slice_range prices (width * k) (width * (k + 1))
 abbrev pub flow_in : Instance → ℕ → ℕ → List ℕ → ℕ → ℕ
 flow_in whole width k flows i = slice_index flows (count_by (meets width k) (take i whole.arcs))
 
--- one more window is solved: its prices come after those before, and the flow of each arc that meets it is at most that of its part
+-- the flow of arc i after window k, whose parts have these flows: where the arc meets the window, at most that of its part
+abbrev pub lowered : Instance → ℕ → ℕ → List ℕ → ℕ → ℕ → ℕ
+lowered whole width k parts i flow = if meets width k (arc_at whole.arcs i) then min flow (flow_in whole width k parts i) else flow
+
+-- the flow of each arc is lowered to that of its part in the current window
+abbrev pub AreLowered : Cut → List ℕ → List ℕ → List ℕ → Type 0
+AreLowered cut parts flows next = (i : ℕ) → i < length flows → slice_index next i ≡ lowered cut.whole cut.width cut.number parts i (slice_index flows i)
+
+-- one more window is solved: its prices come after those before, and the flows are lowered to those of its parts
 pub record IsNextSolution (cut : Cut) (prices flows next_prices next_flows : List ℕ) : Type 0 where
   pub found : List ℕ
   pub parts : List ℕ
   pub solution : IsSolution (window_instance cut.whole cut.width cut.number) found parts
   pub extended : next_prices ≡ prices ++ found
-  pub lowered : (i : ℕ) → i < length flows → slice_index next_flows i
-      ≡ (if meets cut.width cut.number (arc_at cut.whole.arcs i) then min (slice_index flows i) (flow_in cut.whole cut.width cut.number parts i) else slice_index flows i)
+  pub fallen : AreLowered cut parts flows next_flows
 
 -- of the flows of the parts of arc i, in all windows that it meets, this is the least
 pub record IsLeastFlow (whole : Instance) (width : ℕ) (flows : ℕ → List ℕ) (i least : ℕ) : Type 0 where

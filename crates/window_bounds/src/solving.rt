@@ -1,9 +1,8 @@
 //! The windows of an instance, solved one after another.
-ghost use Rattle.std.specs.Prelude.{◌≡◌, ℕ, ◌*◌, ◌-◌, ◌<◌, ◌≤◌, All, IfOk, length, map, min, slice_index, slice_index_or, sum, sum_by, if◌then◌else◌};
-ghost use Rattle.flow_model.specs.Instances.{IsSchedule, IsSolution, arc_at, value_at};
-ghost use Rattle.flow_model.specs.Windows.{meets};
+ghost use Rattle.std.specs.Prelude.{◌≡◌, ◌*◌, ◌-◌, ◌<◌, ◌≤◌, All, IfOk, length, map, slice_index_or, sum, sum_by};
+ghost use Rattle.flow_model.specs.Instances.{IsSchedule, IsSolution, value_at};
 ghost use Rattle.relaxation.specs.Cuts.{numbers_of};
-ghost use Rattle.window_bounds.specs.Solutions.{AreSolutions, IsNextSolution, flow_in, full_of, value_of_windows};
+ghost use Rattle.window_bounds.specs.Solutions.{AreLowered, AreSolutions, IsNextSolution, full_of, value_of_windows};
 
 use crate::solution::WindowSolution;
 use bound_base::NoMemory;
@@ -34,10 +33,7 @@ fn full_of(alloc: Global, arcs: &[OuterArc], flows: &[u64]) -> Result<Vec<bool>,
 fn lower(windows: &Windows, part_flows: &[u64], flows: &mut [u64])
     requires each_part { length part_flows.now ≡ length (numbers_of windows.now) }
     requires each_arc { length flows.old ≡ length windows.now.whole.arcs }
-    ensures { (i : ℕ) → i < length flows.old → slice_index flows.new i
-        ≡ (if meets windows.now.width windows.now.number (arc_at windows.now.whole.arcs i)
-        then min (slice_index flows.old i) (flow_in windows.now.whole windows.now.width windows.now.number part_flows.now i)
-        else slice_index flows.old i) }
+    ensures { AreLowered windows.now part_flows.now flows.old flows.new }
 {
     for (part, number) in windows.numbers().iter().enumerate() {
         let flow = flows[*number as usize].min(part_flows[part]);

@@ -20,5 +20,5 @@ returns c =
       parts = found.flows;
       solution = subst (λ (i : Instance). IsSolution i found.prices found.flows) (c.in_ok-new.ensures ∙ c.in_ok-window.ensures) c.solve-solution.ensures;
       extended = c.in_ok-extend_from_slice.ensures.items ∙ ap (λ (xs : List ℕ). c.args.prices.now.items ++ xs) c.prices.ensures;
-      lowered = rw c.flows.ensures at c.lower.ensures;
+      fallen = rw c.flows.ensures at c.lower.ensures;
     }
