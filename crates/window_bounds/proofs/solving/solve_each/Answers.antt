@@ -1,10 +1,7 @@
-use Rattle.std.proofs.Common.{◌≡◌, ◌∙◌, ℕ, ◌+◌, ◌*◌, ◌<◌, ◌≤◌, ap, sym, subst, arith, List, ◌++◌, length, ⊎_elim}
+use Rattle.std.proofs.Common.{◌≡◌, ◌∙◌, ◌+◌, ◌*◌, ◌<◌, ◌≤◌, ap, sym, arith, ◌++◌, length, ⊎_elim}
 use Rattle.std.proofs.lemmas.Bool.{cases_lt, false≢true}
-use Rattle.flow_model.specs.Instances.{Instance, IsSolution}
-use Rattle.flow_model.specs.Windows.{window_instance}
 use Rattle.flow_network.proofs.Pushed.{written}
 use Rattle.relaxation.specs.Cuts.{Cut}
-use Rattle.window_bounds.proofs.Places.{as_many_parts}
 use Rattle.window_bounds.proofs.Rounds.{AreSolved, solved_none, solved_more}
 use Rattle.window_bounds.proofs.Results.{solutions_of}
 use Rattle.window_bounds.proofs.solving.solve_each.Goals as goal

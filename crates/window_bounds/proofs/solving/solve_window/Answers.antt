@@ -1,4 +1,4 @@
-use Rattle.std.proofs.Common.{◌≡◌, ◌∙◌, ℕ, List, ◌++◌, ap, subst}
+use Rattle.std.proofs.Common.{◌∙◌, ℕ, List, ◌++◌, ap, subst}
 use Rattle.flow_model.specs.Instances.{Instance, IsSolution}
 use Rattle.flow_model.specs.Windows.{window_instance}
 use Rattle.window_bounds.proofs.Places.{as_many_parts}
