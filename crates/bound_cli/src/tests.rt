@@ -1,4 +1,6 @@
 //! Whole runs over sources and sinks in memory. The expected texts and numbers were made by hand.
+//!
+//! What a large value does at its end is proved once, in `drop` at its type, and not in each function that owns one.
 ghost use Rattle.std.specs.Prelude.{◌≤◌};
 
 use bound_io::{CalmSource, MemSink, MemSource};

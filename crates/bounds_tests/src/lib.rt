@@ -1,6 +1,9 @@
 //! Tests of the crates that make bounds, over small traces and instances.
 //!
 //! They stand apart from those crates, since a crate with tests is proved twice.
+//!
+//! What a large value does at its end is proved once, in `drop` at its type: left to the end of a scope, it would be
+//! proved anew in each function that owns one.
 #![tactic(auto)]
 
 #[cfg(test)]

@@ -7,6 +7,7 @@ use bound_io::{Failed, MemSink, MemSource, Source};
 use cache_model::{Header, Objective, Record};
 use cert_format::{CertFault, CertReader, TextKind, write_end, write_header, write_record};
 use std::alloc::Global;
+use std::fmt::Debug;
 use std::process::Abort;
 
 // The certificate of two requests of one object of 4 bytes, at a capacity of 10.
@@ -69,6 +70,10 @@ type Read = Result<(Header, Record, Record), CertFault>;
 
 const WHOLE: Read = Ok((HEADER, FIRST, LAST));
 
+fn same_read<P: Copy + Debug>(rt: &impl Abort, at: P, read: Read, want: Read) {
+    same(rt, at, read, want);
+}
+
 // What is read from a source, from the header to the end.
 fn read_through(reader: &mut CertReader, source: &mut MemSource) -> Read
     requires { reader.old.stage ≡ AtHeader }
@@ -112,7 +117,7 @@ fn bad_text(line: u64, kind: TextKind) -> Read {
 fn a_certificate_is_read_however_it_is_cut(rt: HostRuntime) {
     for step in STEPS {
         let read = read_with(&rt, rt.alloc(), 0, b"", step);
-        same(&rt, step, read, WHOLE);
+        same_read(&rt, step, read, WHOLE);
     }
 }
 
@@ -159,7 +164,7 @@ const REFUSED: [(usize, &[u8], TextKind); 24] = [
 fn a_line_is_refused_for_its_first_fault(rt: HostRuntime) {
     for (line, text, kind) in &REFUSED {
         let read = read_with(&rt, rt.alloc(), *line, text, 50);
-        same(&rt, *text, read, bad_text(*line as u64, *kind));
+        same_read(&rt, *text, read, bad_text(*line as u64, *kind));
     }
 }
 
@@ -191,7 +196,7 @@ fn a_front_is_truncated_at_the_line_where_it_ends(rt: HostRuntime) {
     for (end, byte) in text.iter().enumerate() {
         let read = read_all(&rt, rt.alloc(), &text[..end], 9);
         let want = Err(CertFault::Truncated { line });
-        same(&rt, end, read, want);
+        same_read(&rt, end, read, want);
         if *byte == b'\n' && line < 20 {
             line += 1;
         }
@@ -218,15 +223,11 @@ const MORE: [&[u8]; 4] = [b"\n", b"x", b"end\n", b"\r\n"];
 fn whatever_follows_the_end_is_trailing(rt: HostRuntime) {
     let want = Err(CertFault::Trailing { line: 15 });
     for more in &MORE {
-        same(&rt, *more, read_before(&rt, rt.alloc(), more), want);
+        same_read(&rt, *more, read_before(&rt, rt.alloc(), more), want);
     }
     let long = repeated(&rt, rt.alloc(), b'x', 70000, b"");
-    same(
-        &rt,
-        "70000 bytes",
-        read_before(&rt, rt.alloc(), &long),
-        want,
-    );
+    let read = read_before(&rt, rt.alloc(), &long);
+    same_read(&rt, "70000 bytes", read, want);
 }
 
 const LONG_LINES: [(usize, &[u8], CertFault); 4] = [
@@ -262,7 +263,7 @@ fn a_long_line_is_told_from_a_cut_one(rt: HostRuntime) {
     for (count, end, fault) in &LONG_LINES {
         let text = repeated(&rt, rt.alloc(), b'9', *count, end);
         let read = read_all(&rt, rt.alloc(), &text, 4096);
-        same(&rt, *count, read, Err(*fault));
+        same_read(&rt, *count, read, Err(*fault));
     }
 }
 
@@ -273,7 +274,7 @@ fn a_number_of_60000_digits_is_out_of_range(rt: HostRuntime) {
         .resize(words.len() + 60000, b'0')
         .expect(&rt, "memory");
     let read = read_with(&rt, rt.alloc(), 8, &words, 4096);
-    same(&rt, "60000 digits", read, bad_text(8, TextKind::Range));
+    same_read(&rt, "60000 digits", read, bad_text(8, TextKind::Range));
 }
 
 // The faults of a first call and of three more.

@@ -1,6 +1,9 @@
 //! Tests of numbers and of the crates that read and write: lines, traces, certificates and texts.
 //!
 //! They stand apart from those crates, since a crate with tests is proved twice.
+//!
+//! What a large value does at its end is proved once, in `drop` at its type: left to the end of a scope, it would be
+//! proved anew in each function that owns one.
 #![tactic(auto)]
 
 #[cfg(test)]

@@ -1,5 +1,5 @@
 //! Numbers in decimal digits, divisors and ratios. The answers were worked out by hand.
-use crate::compared::same;
+use crate::compared::{holds, same};
 use bound_base::{NumFault, Ratio, ceil_div, floor_div, gcd, lcm_to, read_u64, read_u128};
 
 const NUMBERS: [(&[u8], Result<u64, NumFault>); 13] = [
@@ -83,7 +83,7 @@ const MULTIPLES: [(u64, u64, u64, Option<u64>); 10] = [
 #[test]
 fn multiple_is_least_and_within_the_limit(rt: HostRuntime) {
     for (a, b, limit, want) in &MULTIPLES {
-        assert!(rt; *a >= 1 && *b >= 1);
+        holds(&rt, (*a, *b), *a >= 1 && *b >= 1);
         same(&rt, (*a, *b, *limit), lcm_to(*a, *b, *limit), *want);
     }
 }
@@ -101,7 +101,7 @@ const QUOTIENTS: [(u128, u128, u128, u128); 6] = [
 fn rounds_down_and_up(rt: HostRuntime) {
     for (num, den, down, up) in &QUOTIENTS {
         let (num, den) = (*num, *den);
-        assert!(rt; den >= 1);
+        holds(&rt, den, den >= 1);
         let floors = [floor_div(num, den), Ratio { num, den }.floor()];
         let rounded = (floors, ceil_div(num, den));
         same(&rt, (num, den), rounded, ([*down; 2], *up));
@@ -123,7 +123,7 @@ const RATIOS: [((u128, u128), (u128, u128), Option<bool>); 7] = [
 fn compares_by_cross_products(rt: HostRuntime) {
     for (this, that, want) in &RATIOS {
         let ((a, b), (c, d)) = (*this, *that);
-        assert!(rt; b >= 1 && d >= 1);
+        holds(&rt, (b, d), b >= 1 && d >= 1);
         let answer = Ratio { num: a, den: b }.at_most(Ratio { num: c, den: d });
         same(&rt, (*this, *that), answer, *want);
     }

@@ -295,7 +295,7 @@ fn check_answers(
 
 // The answers, however the bytes are cut.
 fn check(rt: &impl Abort, alloc: Global, row: &Row<'_>) {
-    assert!(rt; is_readable(row));
+    holds(rt, row.trace, is_readable(row));
     let limits = Limits {
         requests: row.requests,
         bytes: row.bytes,
@@ -377,7 +377,7 @@ struct Part<'a> {
 }
 
 fn check_part(rt: &impl Abort, alloc: Global, part: &Part<'_>) {
-    assert!(rt; part.step >= 1);
+    holds(rt, part.step, part.step >= 1);
     let mut source = source_of(rt, alloc, part.trace, part.failing, part.step);
     let reader = RequestReader::new(alloc, Format::Webcache, Limits::full());
     let mut reader = reader.expect(rt, "memory");

@@ -13,7 +13,7 @@ type Row = (&'static [u8], Result<usize, Failed>);
 
 // Reads into a buffer of so many bytes.
 fn read_each<S: Source>(rt: &impl Abort, source: &mut S, room: usize, rows: &[Row]) {
-    assert!(rt; room <= 5);
+    holds(rt, room, room <= 5);
     for (front, want) in rows {
         let mut buf = [0; 5];
         same(rt, *front, source.read(&mut buf[..room]), *want);

@@ -1,5 +1,5 @@
 //! Words and fields of lines, taken apart by hand.
-use crate::compared::same;
+use crate::compared::{holds, same};
 use trace_lines::{field, first_field, first_word, is_blank, trim_cr, word};
 
 // The field with that number where the mark is a comma, else the word.
@@ -55,9 +55,8 @@ const MISSING: [(u8, &[u8], usize); 7] = [
 #[test]
 fn finds_no_field_or_word_past_the_last(rt: HostRuntime) {
     for (mark, line, number) in &MISSING {
-        assert!(rt; *number >= 1);
-        let part = part(*mark, line, *number);
-        same(&rt, *line, part.is_none(), true);
+        holds(&rt, *line, *number >= 1);
+        holds(&rt, *line, part(*mark, line, *number).is_none());
     }
 }
 
