@@ -16,6 +16,21 @@ edge_of-back arcs i =
     let same : (arcs + i) - arcs ≡ i = omega arith in
     ap (λ b. cond b (Outer (arcs + i)) (OuterBack ((arcs + i) - arcs))) (le-ltb (arcs + i) arcs (omega arith)) ∙ ap OuterBack same
 
+-- no edge is listed
+pub none_listed : (instance : Instance) (lists : Lists) → length lists.first ≡ instance.steps + 1 → length lists.next ≡ 2 * length instance.arcs → ((node : ℕ) → get_or lists.first node 0 ≡ 0)
+    → AreListed instance lists 0
+none_listed instance lists each_node each_edge zeros =
+    record {
+      each_node = each_node;
+      each_edge = each_edge;
+      first_low = λ v. omega (arith, zeros v);
+      first_here = λ v within some. absurd (omega (arith, zeros v, some));
+      none_before = λ v k within low high. absurd (omega arith);
+      next_low = λ k low. absurd (omega arith);
+      next_here = λ k low some. absurd (omega arith);
+      none_between = λ k j low high before. absurd (omega arith);
+    }
+
 -- the next edge at the front of its list
 abbrev pub one_more : Lists → ℕ → ℕ → Lists
 one_more lists count node = record { first = set lists.first node (count + 1); next = set lists.next count (get_or lists.first node 0) }

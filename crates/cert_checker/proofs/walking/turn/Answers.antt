@@ -6,7 +6,7 @@ use Rattle.cache_model.specs.declared.certificates.Header.{Header}
 use Rattle.cache_model.specs.Texts.{line, record_line}
 use Rattle.cert_format.specs.declared.invalid.InvalidKind.TheVariants.{RequestCount}
 use Rattle.cert_checker.specs.declared.walking.CheckFault.TheVariants.{Invalid}
-use Rattle.cert_checker.specs.Checks.{IsFailing}
+use Rattle.cert_checker.specs.Checks.{Inputs, inputs, IsFailing}
 use Rattle.cert_checker.specs.Rules.{record_fault}
 use Rattle.cert_checker.specs.Summaries.{StandsFor}
 use Rattle.cert_checker.proofs.Fronts.{keeps}
@@ -15,16 +15,22 @@ use Rattle.cert_checker.proofs.walking.turn.Goals as goal
 
 pub returns-in_err-object-clause-turned : goal.returns-in_err-object-clause-turned
 returns-in_err-object-clause-turned g c =
+    let now : Inputs = inputs c.args.reader.now (g.T.Source.left c.args.trace.now) (g.T.Source.faults c.args.trace.now) c.args.cert.now (g.Q.Source.left c.args.certificate.now) (g.Q.Source.faults c.args.certificate.now) in
+    let end : Inputs = inputs c.next.new.self (g.T.Source.left c.next.new.source) (g.T.Source.faults c.next.new.source) c.args.cert.now (g.Q.Source.left c.args.certificate.now) (g.Q.Source.faults c.args.certificate.now) in
     let p = err_from_is_err_and c.from_residual.result c.from_residual.ensures.1 in
-    rw (p.1, p.2) (λ start h given records came. stop_trace start h given records _ _ came _ c.in_err-object.field-0.0 (c.in_err-object.ensures.next c.requires.in_step.trace_fault))
+    rw (p.1, p.2) (λ start h given records came. stop_trace start h given records now c.args.checker.now came end c.in_err-object.field-0.0 (c.in_err-object.ensures.next c.requires.in_step.trace_fault))
 
 pub returns-in_default-clause-turned : goal.returns-in_default-clause-turned
 returns-in_default-clause-turned g c = λ start h given records came.
-    end_trace start h given records _ _ came _ (rw c.in_default.is at c.in_ok-object.ensures.next c.requires.in_step.trace_fault) refl refl
+    let now : Inputs = inputs c.args.reader.now (g.T.Source.left c.args.trace.now) (g.T.Source.faults c.args.trace.now) c.args.cert.now (g.Q.Source.left c.args.certificate.now) (g.Q.Source.faults c.args.certificate.now) in
+    let end : Inputs = inputs c.next.new.self (g.T.Source.left c.next.new.source) (g.T.Source.faults c.next.new.source) c.args.cert.now (g.Q.Source.left c.args.certificate.now) (g.Q.Source.faults c.args.certificate.now) in
+    end_trace start h given records now c.args.checker.now came end (rw c.in_default.is at c.in_ok-object.ensures.next c.requires.in_step.trace_fault) refl refl
     (record { trace = omega (arith, came.later.trace, c.in_ok-object.ensures.later); certificate = came.later.certificate })
 
 pub returns-then-read-header-clause-turned : goal.returns-then-read-header-clause-turned
 returns-then-read-header-clause-turned g c = λ start h given records came.
+    let now : Inputs = inputs c.args.reader.now (g.T.Source.left c.args.trace.now) (g.T.Source.faults c.args.trace.now) c.args.cert.now (g.Q.Source.left c.args.certificate.now) (g.Q.Source.faults c.args.certificate.now) in
+    let end : Inputs = inputs c.next.new.self (g.T.Source.left c.next.new.source) (g.T.Source.faults c.next.new.source) c.args.cert.now (g.Q.Source.left c.args.certificate.now) (g.Q.Source.faults c.args.certificate.now) in
     let next = rw c.in-Some.is at c.in_ok-object.ensures.next c.requires.in_step.trace_fault in
     let many = came.stands.sums.steps in
     let at = c.requires.in_step.line in
@@ -35,20 +41,24 @@ returns-then-read-header-clause-turned g c = λ start h given records came.
     let is : c.count_differs.result ≡ Invalid (11 + length given) (RequestCount h.requests (length given + 1)) =
     c.count_differs.ensures ∙ (ap (λ l. Invalid l (RequestCount c.args.header.now.requests (c.records_read-read.result + 1))) line_is
     ∙ (ap (λ w. Invalid (11 + length given) (RequestCount w (c.records_read-read.result + 1))) written ∙ ap (λ r. Invalid (11 + length given) (RequestCount h.requests r)) read)) in
-    rw is (stop_count start h given records _ _ came c.in-Some.object _ _ next.1 _ refl refl c.requires.in_step.held (omega (arith, at, many)) full)
+    rw is (stop_count start h given records now c.args.checker.now came c.in-Some.object c.next.new.self (g.T.Source.left c.next.new.source) next.1 end refl refl c.requires.in_step.held (omega (arith, at, many)) full)
 
 pub returns-in_err-entry-clause-turned : goal.returns-in_err-entry-clause-turned
 returns-in_err-entry-clause-turned g c =
+    let now : Inputs = inputs c.args.reader.now (g.T.Source.left c.args.trace.now) (g.T.Source.faults c.args.trace.now) c.args.cert.now (g.Q.Source.left c.args.certificate.now) (g.Q.Source.faults c.args.certificate.now) in
+    let end : Inputs = inputs c.next.new.self (g.T.Source.left c.next.new.source) (g.T.Source.faults c.next.new.source) c.next_record.new.self (g.Q.Source.left c.next_record.new.source) (g.Q.Source.faults c.next_record.new.source) in
     let p = err_from_is_err_and c.from_residual-in_err-entry.result c.from_residual-in_err-entry.ensures.1 in
     rw (p.1, p.2) (λ start h given records came.
     let next = rw c.in-Some.is at c.in_ok-object.ensures.next c.requires.in_step.trace_fault in
     let written : c.args.header.now.requests ≡ h.requests = ap (λ (k : Header). k.requests) (c.requires.header ∙ came.stands.header) in
     let fewer : length given < h.requests = omega (arith, c.records_read-read.ensures, c.requires.in_step.line, came.stands.sums.steps, written, came.stands.input.within, c.if-read-header.false) in
     let e = c.in_err-entry.ensures in
-    stop_text start h given records _ _ came c.in-Some.object _ _ next.1 _ c.in_err-entry.field-0.0 fewer (e.read c.requires.in_step.cert_fault) (e.within c.requires.in_step.cert_fault) e.past e.ahead)
+    stop_text start h given records now c.args.checker.now came c.in-Some.object c.next.new.self (g.T.Source.left c.next.new.source) next.1 end c.in_err-entry.field-0.0 fewer (e.read c.requires.in_step.cert_fault) (e.within c.requires.in_step.cert_fault) e.past e.ahead)
 
 pub returns-in_err-step-clause-turned : goal.returns-in_err-step-clause-turned
 returns-in_err-step-clause-turned g c =
+    let now : Inputs = inputs c.args.reader.now (g.T.Source.left c.args.trace.now) (g.T.Source.faults c.args.trace.now) c.args.cert.now (g.Q.Source.left c.args.certificate.now) (g.Q.Source.faults c.args.certificate.now) in
+    let end : Inputs = inputs c.next.new.self (g.T.Source.left c.next.new.source) (g.T.Source.faults c.next.new.source) c.next_record.new.self (g.Q.Source.left c.next_record.new.source) (g.Q.Source.faults c.next_record.new.source) in
     let p = err_from_is_err_and c.from_residual-in_err-step.result c.from_residual-in_err-step.ensures.1 in
     rw (p.1, p.2) (λ start h given records came.
     let next = rw c.in-Some.is at c.in_ok-object.ensures.next c.requires.in_step.trace_fault in
@@ -56,18 +66,20 @@ returns-in_err-step-clause-turned g c =
     let fewer : length given < h.requests = omega (arith, c.records_read-read.ensures, c.requires.in_step.line, came.stands.sums.steps, written, came.stands.input.within, c.if-read-header.false) in
     let e = c.in_ok-entry.ensures in
     let read = e.read c.requires.in_step.cert_fault in
-    stop_rule start h given records _ _ came c.in-Some.object _ _ next.1 c.in_ok-entry.entry (line (record_line c.in_ok-entry.entry)) _ read.2 read.3 e.past c.in_err-step.field-0.0 fewer
+    stop_rule start h given records now c.args.checker.now came c.in-Some.object c.next.new.self (g.T.Source.left c.next.new.source) next.1 c.in_ok-entry.entry (line (record_line c.in_ok-entry.entry)) end read.2 read.3 e.past c.in_err-step.field-0.0 fewer
     (omega (arith, c.requires.in_step.line, came.stands.sums.steps)) e.ahead
     (subst (λ l. IsFailing l (record_fault h (given ++ c.in-Some.object ∷ []) (records ++ c.in_ok-entry.entry ∷ []) (length given)) c.in_err-step.field-0.0) c.line-2.ensures (c.in_err-step.ensures.stepped h given records came.stands)))
 
 pub returns-clause-turned : goal.returns-clause-turned
 returns-clause-turned g c = λ start h given records came.
+    let now : Inputs = inputs c.args.reader.now (g.T.Source.left c.args.trace.now) (g.T.Source.faults c.args.trace.now) c.args.cert.now (g.Q.Source.left c.args.certificate.now) (g.Q.Source.faults c.args.certificate.now) in
+    let end : Inputs = inputs c.next.new.self (g.T.Source.left c.next.new.source) (g.T.Source.faults c.next.new.source) c.next_record.new.self (g.Q.Source.left c.next_record.new.source) (g.Q.Source.faults c.next_record.new.source) in
     let next = rw c.in-Some.is at c.in_ok-object.ensures.next c.requires.in_step.trace_fault in
     let e = c.in_ok-entry.ensures in
     let read = e.read c.requires.in_step.cert_fault in (
       c.in-Some.object,
       c.in_ok-entry.entry,
-      goes_further start h given records _ _ came c.in-Some.object _ _ next.1 c.in_ok-entry.entry (line (record_line c.in_ok-entry.entry)) _ read.2 read.3 e.past _ refl refl
+      goes_further start h given records now c.args.checker.now came c.in-Some.object c.next.new.self (g.T.Source.left c.next.new.source) next.1 c.in_ok-entry.entry (line (record_line c.in_ok-entry.entry)) end read.2 read.3 e.past c.step.new.checker refl refl
           (c.in_ok-step.ensures.stepped h given records came.stands)
           (record { trace = omega (arith, came.later.trace, c.in_ok-object.ensures.later); certificate = omega (arith, came.later.certificate, e.later) }),
     )

@@ -1,5 +1,6 @@
-use Rattle.std.proofs.Common.{ℕ, ◌*◌, ◌^◌, ◌≤◌, ap, subst, arith}
+use Rattle.std.proofs.Common.{ℕ, ◌*◌, ◌^◌, ◌≤◌, ap, subst, length, arith}
 use Rattle.relaxation.proofs.Bounds.{bound_all, none_scores_more}
+use Rattle.relaxation.proofs.Divisors.{no_interval}
 use Rattle.relaxation.proofs.prices.bound_of.Goals as goal
 
 pub returns-clause-no_play_scores_more : goal.returns-clause-no_play_scores_more
@@ -30,3 +31,21 @@ returns-clause-value c =
     rw c.as_slice-interval-items.ensures.items at
     (bound_all c.as_slice-interval-items.result.now c.args.unit c.args.units c.args.denominator c.loop-interval.interval-index c.loop-interval.total c.args.sums.now.prices
     c.loop-interval-test.false c.loop-interval.invariant.value)
+
+pub surplus_of-total-requires-clause-gain : goal.surplus_of-total-requires-clause-gain
+surplus_of-total-requires-clause-gain c =
+    let intervals = rw (← c.as_slice-interval-items.ensures.items) at c.as_slice-interval-items.ensures.timeline.intervals in
+    let one = intervals c.loop-interval.interval-index no_interval c.loop-interval-test.true in
+    one.gain.1
+
+pub surplus_of-total-requires-clause-within : goal.surplus_of-total-requires-clause-within
+surplus_of-total-requires-clause-within c =
+    let intervals = rw (← c.as_slice-interval-items.ensures.items) at c.as_slice-interval-items.ensures.timeline.intervals in
+    let one = intervals c.loop-interval.interval-index no_interval c.loop-interval-test.true in
+    (omega (arith, one.order), omega (arith, one.within, c.requires.each_step))
+
+pub overflow_add-total : goal.overflow_add-total
+overflow_add-total c = omega (arith, c.loop-interval.invariant.small, c.surplus_of-total.ensures.small, c.loop-interval-test.true, ap length c.as_slice-interval-items.ensures.items, c.as_slice-interval-items.ensures.timeline.few_intervals, c.as_slice-interval-items.ensures.timeline.few_steps)
+
+pub returns-clause-small : goal.returns-clause-small
+returns-clause-small c = omega (arith, c.loop-interval.invariant.small, c.loop-interval.auto.interval-index-end, ap length c.as_slice-interval-items.ensures.items, c.as_slice-interval-items.ensures.timeline.few_intervals, c.as_slice-interval-items.ensures.timeline.few_steps)

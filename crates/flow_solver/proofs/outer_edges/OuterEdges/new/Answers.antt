@@ -1,9 +1,11 @@
-use Rattle.std.proofs.Common.{◌≡◌, ℕ, ◌+◌, ◌*◌, ◌<◌, ◌∙◌, List, length, ap, sym, subst, arith}
+use Rattle.std.proofs.Common.{◌≡◌, ℕ, ◌≤◌, ⊎_elim, get_or, replicate, ◌+◌, ◌*◌, ◌<◌, ◌∙◌, List, length, ap, sym, subst, arith}
 use Rattle.flow_model.specs.declared.arcs.OuterArc.{OuterArc}
 use Rattle.flow_solver.specs.OuterEdges.{Lists, AreListed, edge_of, tail_of}
 use Rattle.flow_solver.proofs.Distances.{ends_within}
+use Rattle.std.proofs.lemmas.List.{get_or-replicate, get_or_past, length-replicate}
+use Rattle.std.proofs.lemmas.Bool.{cases_lt}
 use Rattle.std.proofs.lemmas.Result.{err_from_is_err_and}
-use Rattle.flow_solver.proofs.EdgeLists.{is_edge_of, one_more_listed}
+use Rattle.flow_solver.proofs.EdgeLists.{is_edge_of, none_listed, one_more_listed}
 use Rattle.flow_solver.proofs.outer_edges.OuterEdges.new.Goals as goal
 
 pub loop-number-preserved : goal.loop-number-preserved
@@ -53,3 +55,23 @@ pub returns : goal.returns
 returns c =
     let all : c.loop-number.number ≡ 2 * length c.args.instance.now.arcs = omega (arith, c.loop-number-test.false, c.loop-number.auto.number-end, ap length c.arcs-arcs.ensures.arcs) in
     subst (λ (k : ℕ). AreListed c.args.instance.now c.loop-number.edges k) all c.loop-number.invariant
+
+pub loop-number-init : goal.loop-number-init
+loop-number-init c =
+    let i = c.args.instance.now in
+    let first = c.in_ok-first.first.items in
+    let next = c.in_ok-next.next.items in
+    let count : ℕ = c.steps.result + 1 in
+    let are : first ≡ replicate count 0 = c.in_ok-first.ensures.items_if_clones_equal (λ y same. same) in
+    let each_edge : length next ≡ 2 * length i.arcs = omega (
+      arith,
+      ap length (c.in_ok-next.ensures.items_if_clones_equal (λ y same. same)),
+      length-replicate {A = ℕ} (2 * length c.arcs-arcs.result.now) 0,
+      ap length c.arcs-arcs.ensures.arcs,
+    ) in
+    none_listed i (record { first = first; next = next }) (omega (arith, ap length are, length-replicate {A = ℕ} count 0, c.steps.ensures)) each_edge
+    (λ node.
+    ⊎_elim
+    (λ (low : node < count). ap (λ xs. get_or xs node 0) are ∙ get_or-replicate count node 0 0 low)
+    (λ (past : count ≤ node). get_or_past first node 0 (omega (arith, ap length are, length-replicate {A = ℕ} count 0, past)))
+    (cases_lt node count))

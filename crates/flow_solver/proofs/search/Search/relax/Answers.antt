@@ -5,6 +5,7 @@ use Rattle.flow_solver.specs.Queues.{IsQueueBut}
 use Rattle.flow_solver.specs.Searches.{Found, Enters, at_tail}
 use Rattle.flow_solver.proofs.Distances.{Nears-refl, nears_more, queue_lowered}
 use Rattle.flow_solver.proofs.search.Search.relax.Goals as goal
+use Rattle.flow_solver.proofs.search.Search.relax.Goals.{then-near-limit-via-then-near-limit, then-near-limit-via-else-near-limit+then-near-distance, then-along-limit-via-then-along-limit, then-along-limit-via-else-along-limit+then-along-distance}
 
 pub returns-clause-nears : goal.returns-clause-nears
 returns-clause-nears c =
@@ -102,3 +103,25 @@ enqueue-requires-clause-small c = omega (arith, c.requires.search.small_stack, a
 
 pub enqueue-requires-clause-fits : goal.enqueue-requires-clause-fits
 enqueue-requires-clause-fits c = omega (arith, c.requires.search.stack_fits, ap (λ (f : Found). f.depth) c.lower.ensures, ap (λ (f : Found). length f.stack) c.lower.ensures)
+
+pub returns-then-near-limit-clause-settled : goal.returns-then-near-limit-clause-settled
+returns-then-near-limit-clause-settled c = λ has.
+    let n = c.args.network.now in
+    let d = c.args.self.now.distances in
+    let is = c.hop-hop.ensures in
+    let last : c.steps.result ≡ n.instance.steps = c.steps.ensures ∙ ap (λ (i : Instance). i.steps) c.instance.ensures.instance in
+    elim c.then-near-limit.branch [
+      | then-near-limit-via-then-near-limit w ↦ omega (arith, w.if-near-limit.true, c.distance-limit.ensures, ap (λ k. get_or d k 0) last, c.distance-near.ensures, c.requires.ready.valid c.args.edge c.requires.edge has, ap (λ k. get_or d k 0) is.tail)
+      | then-near-limit-via-else-near-limit+then-near-distance w ↦ omega (arith, w.if-near-distance.true, w.distance.ensures, ap (λ k. get_or d k 0) is.head, c.distance-near.ensures, c.requires.ready.valid c.args.edge c.requires.edge has, ap (λ k. get_or d k 0) is.tail)
+    ]
+
+pub returns-then-along-limit-clause-settled : goal.returns-then-along-limit-clause-settled
+returns-then-along-limit-clause-settled c = λ has.
+    let n = c.args.network.now in
+    let d = c.args.self.now.distances in
+    let is = c.hop-hop.ensures in
+    let last : c.steps.result ≡ n.instance.steps = c.steps.ensures ∙ ap (λ (i : Instance). i.steps) c.instance.ensures.instance in
+    elim c.then-along-limit.branch [
+      | then-along-limit-via-then-along-limit w ↦ omega (arith, w.if-along-limit.true, c.distance-limit.ensures, ap (λ k. get_or d k 0) last, c.distance-near.ensures, c.requires.ready.valid c.args.edge c.requires.edge has, ap (λ k. get_or d k 0) is.tail, c.potential.ensures.potential, c.potential-2.ensures.potential, is.gain, is.loss, ap (λ k. get_or n.potentials k 0) is.head, ap (λ k. get_or n.potentials k 0) is.tail)
+      | then-along-limit-via-else-along-limit+then-along-distance w ↦ omega (arith, w.if-along-distance.true, w.distance-else-along-limit.ensures, ap (λ k. get_or d k 0) is.head, c.distance-near.ensures, c.requires.ready.valid c.args.edge c.requires.edge has, ap (λ k. get_or d k 0) is.tail, c.potential.ensures.potential, c.potential-2.ensures.potential, is.gain, is.loss, ap (λ k. get_or n.potentials k 0) is.head, ap (λ k. get_or n.potentials k 0) is.tail)
+    ]

@@ -2,7 +2,7 @@ use Rattle.std.proofs.Common.{◌-◌, ◌/◌, sym, refl, subst, arith}
 use Rattle.std.proofs.lemmas.Result.{err_from_is_err_and}
 use Rattle.flow_model.specs.Instances.{arc_at, no_arc}
 use Rattle.relaxation.specs.Cuts.{Lists}
-use Rattle.relaxation.proofs.Starting.{AreBegun, begun_more}
+use Rattle.relaxation.proofs.Starting.{AreBegun, begun_none, begun_more, begun_all}
 use Rattle.relaxation.proofs.starts.Starts.new.Goals as goal
 
 pub loop-number-preserved : goal.loop-number-preserved
@@ -45,3 +45,11 @@ loop-number-smaller c = omega (arith, c.loop-number-test.true)
 
 pub returns-clause-windows : goal.returns-clause-windows
 returns-clause-windows c = c.loop-number.invariant.each_window
+
+pub loop-number-init : goal.loop-number-init
+loop-number-init c =
+    begun_none c.args.width c.args.arcs.now c.args.windows c.in_ok-first.first.items c.in_ok-next.next.items (c.in_ok-first.ensures.items_if_clones_equal (λ y same. same))
+    (c.in_ok-next.ensures.items_if_clones_equal (λ y same. same))
+
+pub returns-clause-starts : goal.returns-clause-starts
+returns-clause-starts c = begun_all c.args.width c.args.arcs.now c.args.windows c.loop-number.starts c.loop-number.number c.loop-number.invariant (omega (arith, c.loop-number-test.false))
