@@ -10,7 +10,6 @@ fn adds_up_where_two_ranges_meet(rt: HostRuntime) {
     loads.add(0, 3, 4);
     loads.add(2, 5, 7);
     let greatest = [loads.max(0, 2), loads.max(2, 3), loads.max(3, 5)];
-    drop(loads);
     same(&rt, "of two, one and two steps", greatest, [4, 11, 7]);
 }
 
@@ -21,9 +20,8 @@ fn finds_the_greatest_of_parts(rt: HostRuntime) -> Result<(), NoMemory> {
     loads.add(0, 100, 1);
     loads.add(30, 70, 2);
     let first = [loads.max(0, 30), loads.max(0, 31)];
-    let last = [loads.max(69, 71), loads.max(70, 100)];
-    drop(loads);
     same(&rt, "of the first steps", first, [1, 3]);
+    let last = [loads.max(69, 71), loads.max(70, 100)];
     same(&rt, "of the last steps", last, [3, 1]);
     Ok(())
 }

@@ -33,9 +33,7 @@ pub fn intervals_of(
     objective: Objective,
 ) -> Intervals {
     let trace = trace_of(rt, alloc, requests);
-    let intervals = make(alloc, &trace, capacity, objective).expect(rt, "memory");
-    drop(trace);
-    intervals
+    make(alloc, &trace, capacity, objective).expect(rt, "memory")
 }
 
 /// The intervals of requests for objects of these sizes, of which the ids differ.

@@ -33,7 +33,6 @@ fn prices_the_step_that_is_too_narrow(rt: HostRuntime) {
     same(&rt, "prices", found.prices(), want.as_slice());
     let earned = earned(&THREE_ARCS, found.flows());
     same(&rt, "what is earned", earned, 2);
-    drop(found);
 }
 
 // The greater cost goes first, and the other arc gets the rest of the room. Worked out by hand.
@@ -42,7 +41,6 @@ fn splits_the_room_by_cost(rt: HostRuntime) {
     let found = solved(rt.alloc(), 4, 4, &[arc(0, 2, 2, 3), arc(1, 3, 3, 2)]).expect(&rt, "memory");
     same(&rt, "prices", found.prices(), [0, 2, 0, 0].as_slice());
     same(&rt, "flows", found.flows(), [2, 2].as_slice());
-    drop(found);
 }
 
 // Units that went along the first arc are taken back for the other two. Worked out by hand.
@@ -51,13 +49,11 @@ fn takes_back_what_went_along_an_arc(rt: HostRuntime) {
     let arcs = [arc(1, 3, 1, 5), arc(0, 2, 1, 4), arc(2, 4, 1, 4)];
     let found = solved(rt.alloc(), 4, 1, &arcs).expect(&rt, "memory");
     same(&rt, "flows", found.flows(), [0, 1, 1].as_slice());
-    drop(found);
 }
 
 #[test]
 fn solves_without_steps(rt: HostRuntime) {
     let found = solved(rt.alloc(), 0, 1, &[]).expect(&rt, "memory");
     let counts = [found.prices().len(), found.flows().len()];
-    drop(found);
     same(&rt, "counts", counts, [0, 0]);
 }

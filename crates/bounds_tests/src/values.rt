@@ -147,7 +147,6 @@ fn bounds_are_over_the_denominator(rt: HostRuntime) {
     holds(&rt, "four steps", intervals.steps() == 4);
     let sums = Sums::new(rt.alloc(), &[0, 2, 0, 0], 4).expect(&rt, "memory");
     same(&rt, "the bound", bound_of(&intervals, 1, 4, 6, &sums), 10);
-    drop(sums);
     drop(intervals);
 }
 

@@ -32,7 +32,6 @@ fn one_window_prices_the_narrow_step(rt: HostRuntime) {
         same(&rt, width, prices, [0, 0, 1, 0, 0, 0].as_slice());
         let flow = found.flows().iter().filter(|flow| **flow == 1).count();
         same(&rt, width, flow, 2);
-        drop(found);
     }
 }
 
@@ -46,7 +45,6 @@ fn narrow_windows_price_less(rt: HostRuntime) {
     }
     same(&rt, "a flow", found.flows().first().copied(), Some(1));
     same(&rt, "its flag", found.full().first().copied(), Some(true));
-    drop(found);
 }
 
 // The first arc has room in its first window, and in its second one the other arc earns more.
@@ -56,13 +54,11 @@ fn flow_is_the_least_of_its_parts(rt: HostRuntime) {
     let found = solved(rt.alloc(), 4, 1, &arcs, 2).expect(&rt, "memory");
     same(&rt, "flows", found.flows(), [0, 1].as_slice());
     same(&rt, "flags", found.full(), [false, true].as_slice());
-    drop(found);
 }
 
 #[test]
 fn no_step_has_no_price(rt: HostRuntime) {
     let found = solved(rt.alloc(), 0, 1, &[], 1).expect(&rt, "memory");
     let counts = [found.prices().len(), found.flows().len()];
-    drop(found);
     same(&rt, "counts", counts, [0, 0]);
 }

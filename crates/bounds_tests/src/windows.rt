@@ -115,5 +115,4 @@ fn goes_through_the_windows_in_order(rt: HostRuntime) {
         windows.advance();
     }
     holds(&rt, "the end", !windows.has_step());
-    drop(windows);
 }
