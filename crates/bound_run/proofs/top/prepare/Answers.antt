@@ -1,6 +1,6 @@
 use Rattle.std.proofs.lemmas.Result.{err_from_is_err_and}
 use Rattle.bound_io.specs.Devices.{device}
-use Rattle.bound_run.proofs.Outcomes.{ready_of, refused_of}
+use Rattle.bound_run.proofs.Outcomes.{refused_of}
 use Rattle.bound_run.proofs.top.prepare.Goals as goal
 
 pub load_all-requires : goal.load_all-requires
