@@ -1,5 +1,6 @@
-use Rattle.std.proofs.Common.{◌∙◌, ◌/◌, refl, arith, sym, ap}
+use Rattle.std.proofs.Common.{◌∙◌, ◌/◌, refl, arith, sym, ap, length}
 use Rattle.std.proofs.Math.Nat.{div-le_self}
+use Rattle.std.proofs.lemmas.Result.{err_from_is_err_and}
 use Rattle.bound_run.proofs.MadeOf.{made_of, some_units, unit-le_capacity}
 use Rattle.bound_run.proofs.Relaxing.{flows_each}
 use Rattle.bound_run.proofs.bounds.parts_of.Goals as goal
@@ -58,3 +59,134 @@ returns-clause-each c = record {
   keeps = c.in_ok-schedule.ensures.rounded.one_keep_each ∙ sym (ap (λ l. l.steps) c.requires.intervals);
   flows = flows_each c.unit_of-unit.result c.args.intervals.now.items c.in_ok-relaxed.relaxed.flows.items c.in_ok-relaxed.ensures.schedule.within_weights;
 }
+
+pub denominator_of-requires-clause-choice : goal.denominator_of-requires-clause-choice
+denominator_of-requires-clause-choice c = c.requires.choice
+
+pub denominator_of-requires-clause-intervals : goal.denominator_of-requires-clause-intervals
+denominator_of-requires-clause-intervals c = c.requires.intervals
+
+pub denominator_of-requires-clause-unit : goal.denominator_of-requires-clause-unit
+denominator_of-requires-clause-unit c = c.unit_of-unit.ensures.unit
+
+pub denominator_of-requires-clause-positive : goal.denominator_of-requires-clause-positive
+denominator_of-requires-clause-positive c = c.unit_of-unit.ensures.positive
+
+pub nonzero_div-units : goal.nonzero_div-units
+nonzero_div-units c = omega (arith, c.unit_of-unit.ensures.positive)
+
+pub returns-in_err-denominator-clause-made : goal.returns-in_err-denominator-clause-made
+returns-in_err-denominator-clause-made c = rw (err_from_is_err_and c.from_residual.result c.from_residual.ensures.1).1 tt
+
+pub returns-in_err-denominator-clause-refused : goal.returns-in_err-denominator-clause-refused
+returns-in_err-denominator-clause-refused c =
+    let p = err_from_is_err_and c.from_residual.result c.from_residual.ensures.1 in
+    rw (p.1, p.2) c.in_err-denominator.ensures.refused
+
+pub relax-requires-clause-mode : goal.relax-requires-clause-mode
+relax-requires-clause-mode c = c.requires.mode
+
+pub relax-requires-clause-unit : goal.relax-requires-clause-unit
+relax-requires-clause-unit c = c.unit_of-unit.ensures.positive
+
+pub relax-requires-clause-divides : goal.relax-requires-clause-divides
+relax-requires-clause-divides c = c.unit_of-unit.ensures.unit.divides
+
+pub relax-requires-clause-denominator : goal.relax-requires-clause-denominator
+relax-requires-clause-denominator c = c.in_ok-denominator.ensures.range
+
+pub returns-in_err-relaxed-clause-made : goal.returns-in_err-relaxed-clause-made
+returns-in_err-relaxed-clause-made c = rw (err_from_is_err_and c.from_residual-in_err-relaxed.result c.from_residual-in_err-relaxed.ensures.1).1 tt
+
+pub returns-in_err-relaxed-clause-refused : goal.returns-in_err-relaxed-clause-refused
+returns-in_err-relaxed-clause-refused c =
+    let p = err_from_is_err_and c.from_residual-in_err-relaxed.result c.from_residual-in_err-relaxed.ensures.1 in
+    rw (p.1, p.2) tt
+
+pub upper_of-requires-clause-unit : goal.upper_of-requires-clause-unit
+upper_of-requires-clause-unit c = c.unit_of-unit.ensures.positive
+
+pub upper_of-requires-clause-denominator : goal.upper_of-requires-clause-denominator
+upper_of-requires-clause-denominator c = c.in_ok-denominator.ensures.range.1
+
+pub upper_of-requires-clause-few : goal.upper_of-requires-clause-few
+upper_of-requires-clause-few c = omega (arith, c.requires.timeline.few_steps, c.in_ok-relaxed.ensures.each, ap length c.deref.ensures.value)
+
+pub upper_of-requires-clause-each : goal.upper_of-requires-clause-each
+upper_of-requires-clause-each c = rw c.deref.ensures.value c.in_ok-relaxed.ensures.each
+
+pub upper_of-requires-clause-paid : goal.upper_of-requires-clause-paid
+upper_of-requires-clause-paid c = rw c.deref.ensures.value c.in_ok-relaxed.ensures.paid
+
+pub returns-in_err-upper-clause-refused : goal.returns-in_err-upper-clause-refused
+returns-in_err-upper-clause-refused c =
+    let p = err_from_is_err_and c.from_residual-in_err-upper.result c.from_residual-in_err-upper.ensures.1 in
+    rw (p.1, p.2) tt
+
+pub flow_of-flow-requires-clause-unit : goal.flow_of-flow-requires-clause-unit
+flow_of-flow-requires-clause-unit c = c.unit_of-unit.ensures.positive
+
+pub flow_of-flow-requires-clause-divides : goal.flow_of-flow-requires-clause-divides
+flow_of-flow-requires-clause-divides c = c.unit_of-unit.ensures.unit.divides
+
+pub flow_of-flow-requires-clause-denominator : goal.flow_of-flow-requires-clause-denominator
+flow_of-flow-requires-clause-denominator c = c.in_ok-denominator.ensures.range.1
+
+pub flow_of-flow-requires-clause-schedule : goal.flow_of-flow-requires-clause-schedule
+flow_of-flow-requires-clause-schedule c = rw c.deref-2.ensures.value c.in_ok-relaxed.ensures.schedule
+
+pub schedule_of-requires-clause-capacity : goal.schedule_of-requires-clause-capacity
+schedule_of-requires-clause-capacity c = c.requires.capacity
+
+pub schedule_of-requires-clause-intervals : goal.schedule_of-requires-clause-intervals
+schedule_of-requires-clause-intervals c = c.requires.intervals
+
+pub schedule_of-requires-clause-fit : goal.schedule_of-requires-clause-fit
+schedule_of-requires-clause-fit c = c.requires.fit
+
+pub schedule_of-requires-clause-unit : goal.schedule_of-requires-clause-unit
+schedule_of-requires-clause-unit c = c.unit_of-unit.ensures.positive
+
+pub schedule_of-requires-clause-divides : goal.schedule_of-requires-clause-divides
+schedule_of-requires-clause-divides c = c.unit_of-unit.ensures.unit.divides
+
+pub returns-in_err-schedule-clause-refused : goal.returns-in_err-schedule-clause-refused
+returns-in_err-schedule-clause-refused c =
+    let p = err_from_is_err_and c.from_residual-in_err-schedule.result c.from_residual-in_err-schedule.ensures.1 in
+    rw (p.1, p.2) tt
+
+pub returns-clause-intervals : goal.returns-clause-intervals
+returns-clause-intervals c = ap (λ l. l.items) c.requires.intervals
+
+pub returns-clause-refused : goal.returns-clause-refused
+returns-clause-refused c = tt
+
+pub returns-in_err-upper-clause-made : goal.returns-in_err-upper-clause-made
+returns-in_err-upper-clause-made c = rw (err_from_is_err_and c.from_residual-in_err-upper.result c.from_residual-in_err-upper.ensures.1).1 tt
+
+pub returns-in_err-schedule-clause-made : goal.returns-in_err-schedule-clause-made
+returns-in_err-schedule-clause-made c = rw (err_from_is_err_and c.from_residual-in_err-schedule.result c.from_residual-in_err-schedule.ensures.1).1 tt
+
+pub returns-in_err-denominator-clause-intervals : goal.returns-in_err-denominator-clause-intervals
+returns-in_err-denominator-clause-intervals c = rw (err_from_is_err_and c.from_residual.result c.from_residual.ensures.1).1 tt
+
+pub returns-in_err-denominator-clause-each : goal.returns-in_err-denominator-clause-each
+returns-in_err-denominator-clause-each c = rw (err_from_is_err_and c.from_residual.result c.from_residual.ensures.1).1 tt
+
+pub returns-in_err-relaxed-clause-intervals : goal.returns-in_err-relaxed-clause-intervals
+returns-in_err-relaxed-clause-intervals c = rw (err_from_is_err_and c.from_residual-in_err-relaxed.result c.from_residual-in_err-relaxed.ensures.1).1 tt
+
+pub returns-in_err-relaxed-clause-each : goal.returns-in_err-relaxed-clause-each
+returns-in_err-relaxed-clause-each c = rw (err_from_is_err_and c.from_residual-in_err-relaxed.result c.from_residual-in_err-relaxed.ensures.1).1 tt
+
+pub returns-in_err-upper-clause-intervals : goal.returns-in_err-upper-clause-intervals
+returns-in_err-upper-clause-intervals c = rw (err_from_is_err_and c.from_residual-in_err-upper.result c.from_residual-in_err-upper.ensures.1).1 tt
+
+pub returns-in_err-upper-clause-each : goal.returns-in_err-upper-clause-each
+returns-in_err-upper-clause-each c = rw (err_from_is_err_and c.from_residual-in_err-upper.result c.from_residual-in_err-upper.ensures.1).1 tt
+
+pub returns-in_err-schedule-clause-intervals : goal.returns-in_err-schedule-clause-intervals
+returns-in_err-schedule-clause-intervals c = rw (err_from_is_err_and c.from_residual-in_err-schedule.result c.from_residual-in_err-schedule.ensures.1).1 tt
+
+pub returns-in_err-schedule-clause-each : goal.returns-in_err-schedule-clause-each
+returns-in_err-schedule-clause-each c = rw (err_from_is_err_and c.from_residual-in_err-schedule.result c.from_residual-in_err-schedule.ensures.1).1 tt
