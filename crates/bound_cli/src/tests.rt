@@ -63,6 +63,9 @@ const GOOD: Row<'static> = Row {
 
 const CYCLE_TRACE: &[u8] = b"1 1 1\n2 2 1\n3 3 1\n4 1 1\n5 2 1\n6 3 1\n";
 
+// Three sizes without a common divisor, whose least common multiple passes 2^48.
+const APART: &[u8] = b"1 1 65536\n2 1 65536\n3 2 59049\n4 2 59049\n5 3 78125\n6 3 78125\n";
+
 const CYCLE: Row<'static> = Row {
     shows: "three objects in turn, of which two fit",
     words: "bounds t c format=webcache capacity=2 mode=infinite",

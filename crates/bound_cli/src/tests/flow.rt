@@ -119,7 +119,7 @@ const ROWS: [FlowRow<'static>; 15] = [
     FlowRow {
         shows: "a least denominator past 2^48",
         words: "bounds t c format=webcache capacity=100000",
-        trace: b"1 1 65536\n2 1 65536\n3 2 59049\n4 2 59049\n5 3 78125\n6 3 78125\n",
+        trace: APART,
         begins: b"trace requests 6 objects 3 dropped 0\ncapacity 100000 objective object\nmode flow window all form plain\nunit 1 units 100000 denominator 281474976710656\nintervals 3\nupper 844424930131968/281474976710656 floor 3\n",
         ends: b"flow 844424930034135/281474976710656\nlower 3\n",
     },

@@ -1,12 +1,12 @@
 //! Runs in each mode and over each denominator.
-use super::{CYCLE, CYCLE_TRACE, GOOD, Row, check_all};
+use super::{APART, CYCLE, CYCLE_TRACE, GOOD, Row, check_all};
 use bound_report::LimitName;
 use bound_run::Status;
 
 // Sizes 2 and 3 by turns.
 const TURNS: &[u8] = b"1 1 2\n2 2 3\n3 1 2\n4 2 3\n";
 
-const ROWS: [Row<'static>; 14] = [
+const ROWS: [Row<'static>; 15] = [
     Row {
         shows: "the interval of the lesser rank is kept, though it starts later",
         words: "bounds t c format=webcache capacity=3 mode=infinite",
@@ -81,7 +81,16 @@ denominator 1\nform plain\nupper 0\nflow 0\nlower 0\nrecords\n0 0 0\n0 0 0\nend\
     Row {
         shows: "a least denominator past 2^48, of 302330880000000",
         words: "bounds t c format=webcache capacity=100000 mode=constant denominator=exact",
-        trace: b"1 1 65536\n2 1 65536\n3 2 59049\n4 2 59049\n5 3 78125\n6 3 78125\n",
+        trace: APART,
+        status: Status::Limit(LimitName::Denominator),
+        report: b"limit: denominator 281474976710656\n",
+        made: b"",
+        ..GOOD
+    },
+    Row {
+        shows: "the same in the usual mode",
+        words: "bounds t c format=webcache capacity=100000 denominator=exact",
+        trace: APART,
         status: Status::Limit(LimitName::Denominator),
         report: b"limit: denominator 281474976710656\n",
         made: b"",
