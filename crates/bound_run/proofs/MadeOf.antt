@@ -26,9 +26,8 @@ use Rattle.flow_model.specs.Windows.{window_instance}
 use Rattle.flow_model.proofs.Equal.{solution_is_best}
 use Rattle.flow_model.proofs.Whole.{rounded_is_near}
 use Rattle.flow_model.proofs.Whole.{exact_is_least as exact_values}
-use Rattle.interval_maker.specs.Timelines.{Timeline, IsTimeline, IsInterval, timeline_of}
+use Rattle.interval_maker.specs.Timelines.{Timeline, IsTimeline, IsInterval, timeline_of, no_interval}
 use Rattle.relaxation.specs.Denominators.{IsChosen}
-use Rattle.relaxation.specs.Faults.{no_interval}
 use Rattle.relaxation.specs.Prices.{most_paid}
 use Rattle.relaxation.proofs.Whole.{timeline_weights}
 use Rattle.schedule_round.specs.Laws.{IsBestPlay, full_flags}

@@ -12,9 +12,9 @@ use Rattle.cache_model.specs.declared.intervals.Interval.{Interval}
 use Rattle.cache_model.specs.declared.certificates.Record.{Record}
 use Rattle.cache_model.specs.Certificates.{IsRecordInRange, flow_at, flows_of, keeps_of, prices_of}
 use Rattle.cache_model.specs.Units.{weight}
-use Rattle.interval_maker.specs.Timelines.{IsInterval, IsTimeline, starting_at}
+use Rattle.interval_maker.specs.Timelines.{IsInterval, IsTimeline, starting_at, no_interval}
 use Rattle.interval_maker.proofs.Places.{position_none}
-use Rattle.relaxation.specs.Faults.{amount_of, no_interval}
+use Rattle.relaxation.specs.Faults.{amount_of}
 use Rattle.relaxation.proofs.Loads.{starting_at_start}
 use Rattle.bound_run.specs.Made.{record_of, records_of}
 

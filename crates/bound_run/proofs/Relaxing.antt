@@ -16,13 +16,13 @@ use Rattle.cache_model.specs.Schedules.{covers, load_at, IsFractionalSchedule}
 use Rattle.cache_model.specs.Units.{weight}
 use Rattle.flow_model.specs.declared.arcs.OuterArc.{OuterArc}
 use Rattle.flow_model.specs.Instances.{Instance, IsInstance, arc_of, surplus, whole_instance}
-use Rattle.interval_maker.specs.Timelines.{Timeline, IsInterval, IsTimeline}
+use Rattle.interval_maker.specs.Timelines.{Timeline, IsInterval, IsTimeline, no_interval}
 use Rattle.std.specs.declared.option.Option.{Option}
 use Rattle.std.specs.Option.{is_some}
 use Rattle.interval_maker.specs.Timelines.{starting_at}
 use Rattle.relaxation.specs.declared.flows.FlowFault.{FlowFault}
 use Rattle.relaxation.specs.declared.flows.FlowFault.TheVariants.{AboveWeight, Overfull}
-use Rattle.relaxation.specs.Faults.{IsFirstFault, fault_at, fault_from, load_fault, no_interval, weight_at}
+use Rattle.relaxation.specs.Faults.{IsFirstFault, fault_at, fault_from, load_fault, weight_at}
 use Rattle.relaxation.proofs.Loads.{place_within}
 use Rattle.schedule_round.proofs.Lists.{get_or-AllZip}
 use Rattle.relaxation.specs.Prices.{most_paid}

@@ -13,7 +13,7 @@ use Rattle.cache_model.specs.Laws.{IsEligible}
 use Rattle.cache_model.proofs.Eligible.{eligible_more}
 use Rattle.cache_model.proofs.Members.{All-eligible_from, All-flat_map_range}
 use Rattle.interval_maker.specs.Timelines.{Timeline, IsInterval, IsTimeline, timeline_of}
-use Rattle.interval_maker.specs.Stored.{AreNumbers, IsStored, named, no_interval}
+use Rattle.interval_maker.specs.Stored.{AreNumbers, IsStored, named, no_number}
 use Rattle.interval_maker.proofs.Places.{numbers_more}
 use Rattle.interval_maker.proofs.Timelines.{eligible_timeline, same_next}
 
@@ -28,17 +28,17 @@ pub record IsMade (o : Objective) (c : ℕ) (trace : List Object) (t : ℕ) (ite
   pub ends : AreNumbers (λ i. i.end) items ending
 
 -- no interval has a number yet
-no_numbers : (key : Interval → ℕ) (steps : ℕ) → AreNumbers key [] (replicate steps no_interval)
-no_numbers key steps = λ t lt. ap named (get_or-replicate steps t no_interval 0 (omega (arith, length-replicate steps no_interval)))
+no_numbers : (key : Interval → ℕ) (steps : ℕ) → AreNumbers key [] (replicate steps no_number)
+no_numbers key steps = λ t lt. ap named (get_or-replicate steps t no_number 0 (omega (arith, length-replicate steps no_number)))
 
 -- of no interval yet
-pub made_none : (o : Objective) (c : ℕ) (trace : List Object) → IsMade o c trace 0 [] (replicate (length trace) no_interval) (replicate (length trace) no_interval)
+pub made_none : (o : Objective) (c : ℕ) (trace : List Object) → IsMade o c trace 0 [] (replicate (length trace) no_number) (replicate (length trace) no_number)
 made_none o c trace = record {
   so_far = refl;
   few = omega arith;
   intervals = All-nil (IsInterval (length trace));
-  each_start = length-replicate (length trace) no_interval;
-  each_end = length-replicate (length trace) no_interval;
+  each_start = length-replicate (length trace) no_number;
+  each_end = length-replicate (length trace) no_number;
   starts = no_numbers (λ i. i.start) (length trace);
   ends = no_numbers (λ i. i.end) (length trace);
 }
@@ -60,7 +60,7 @@ made_more o c trace t i items starting ending made within small row fits =
     All-head (λ j. IsEligible o c trace j × (j.start ≡ t)) i [] (subst (All (λ j. IsEligible o c trace j × (j.start ≡ t))) row (All-eligible_from o c trace t)) in
     let at_t : i.start ≡ t = here.1 in
     let before : All (λ j. IsEligible o c trace j × (j.start < t)) items = subst (All (λ j. IsEligible o c trace j × (j.start < t))) (sym made.so_far) (started o c trace t) in
-    let few : length items < no_interval = omega (arith, made.few) in
+    let few : length items < no_number = omega (arith, made.few) in
     let other_starts : All (λ j. (j.start == i.start) ≡ false) items =
     All-weaker (λ j. IsEligible o c trace j × (j.start < t)) (λ j. (j.start == i.start) ≡ false)
     (λ j from. let low : j.start < t = from.1 in ne_eqb j.start i.start (λ same. omega arith)) items before in

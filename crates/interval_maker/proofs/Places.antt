@@ -7,7 +7,7 @@ use Rattle.std.proofs.lemmas.List.{get_or-set_same, get_or-set_other, length-set
 use Rattle.std.proofs.lemmas.List.Elements.{All-head, All-tail}
 use Rattle.std.proofs.lemmas.Iterator.Adapters.{position_from-zero}
 use Rattle.cache_model.specs.declared.intervals.Interval.{Interval}
-use Rattle.interval_maker.specs.Stored.{named, no_interval, AreNumbers}
+use Rattle.interval_maker.specs.Stored.{named, no_number, AreNumbers}
 
 -- an element that fails the test changes no place
 from_push_other : {X : Type 0} (p : X → Bool) (i : ℕ) (xs : List X) (y : X) → p y ≡ false → position_from p i (xs ++ y ∷ []) ≡ position_from p i xs
@@ -38,12 +38,12 @@ pub position_none : {X : Type 0} (p : X → Bool) (xs : List X) → All (λ x. p
 position_none p xs none = position_from-zero p xs ∙ from_none p 0 xs none
 
 -- a number below the mark of no interval is named
-named_some : (n : ℕ) → n < no_interval → named n ≡ Some n
-named_some n low = cond-false (n == no_interval) None (Some n) (ne_eqb n no_interval (λ same. omega arith))
+named_some : (n : ℕ) → n < no_number → named n ≡ Some n
+named_some n low = cond-false (n == no_number) None (Some n) (ne_eqb n no_number (λ same. omega arith))
 
 -- where an interval is added, its number is stored at its key, which no interval before it has
 pub numbers_more : (key : Interval → ℕ) (items : List Interval) (i : Interval) (numbers : List ℕ)
-    → AreNumbers key items numbers → key i < length numbers → length items < no_interval → All (λ j. (key j == key i) ≡ false) items
+    → AreNumbers key items numbers → key i < length numbers → length items < no_number → All (λ j. (key j == key i) ≡ false) items
     → AreNumbers key (items ++ i ∷ []) (set numbers (key i) (length items))
 numbers_more key items i numbers so_far within few apart = λ t lt.
     let in_range : t < length numbers = omega (arith, length-set {A = ℕ} numbers (key i) (length items)) in

@@ -5,12 +5,12 @@ use Rattle.cache_model.specs.declared.intervals.Interval.{Interval}
 use Rattle.interval_maker.specs.Timelines.{Timeline, IsTimeline}
 
 -- what is stored where no interval starts or ends
-abbrev pub no_interval : ℕ
-no_interval = 4294967295
+abbrev pub no_number : ℕ
+no_number = 4294967295
 
 -- the number of the interval that is stored, if any
 abbrev pub named : ℕ → Option ℕ
-named stored = if stored == no_interval then None else Some stored
+named stored = if stored == no_number then None else Some stored
 
 -- at each request stands the number of the interval whose start or end is there
 abbrev pub AreNumbers : (Interval → ℕ) → List Interval → List ℕ → Type 0

@@ -11,6 +11,10 @@ pub record Timeline : Type 0 where
   pub steps : ℕ
   pub items : List Interval
 
+-- what stands where a list has no interval of some number
+abbrev pub no_interval : Interval
+no_interval = record { start = 0; end = 0; size = 0; gain = 0 }
+
 -- the eligible intervals over the steps of a trace
 abbrev pub timeline_of : Objective → ℕ → List Object → Timeline
 timeline_of objective capacity trace = record { steps = length trace; items = eligible_intervals objective capacity trace }

@@ -1,6 +1,6 @@
 //! The intervals over the steps of a trace, found by their number, their start or their end.
 ghost use Rattle.std.specs.Prelude.{◌≡◌, ◌<◌, ◌≤◌, ◌^◌, length, All, AllPairs};
-ghost use Rattle.interval_maker.specs.Stored.{named, no_interval};
+ghost use Rattle.interval_maker.specs.Stored.{named, no_number};
 ghost use Rattle.interval_maker.specs.Timelines.{IsTimeline, ending_at, starting_at};
 
 use cache_model::Interval;

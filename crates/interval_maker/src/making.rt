@@ -1,7 +1,7 @@
 //! The eligible intervals of a trace, by the next request of each request's object.
 ghost use Rattle.std.specs.Prelude.{◌≡◌, ◌<◌, ◌≤◌, ◌-◌, ◌^◌, ◌∷◌, ◌++◌, [], length, replicate, slice_set, All, IfOk, MatchOption, OnOk};
 ghost use Rattle.cache_model.specs.Intervals.{eligible_from};
-ghost use Rattle.interval_maker.specs.Stored.{no_interval};
+ghost use Rattle.interval_maker.specs.Stored.{no_number};
 ghost use Rattle.interval_maker.specs.Timelines.{IsInterval, IsTimeline, timeline_of};
 
 use crate::intervals::{Intervals, NO_INTERVAL};
@@ -33,7 +33,7 @@ fn interval_from(trace: &Trace, t: u32, capacity: u64, objective: Objective) -> 
 
 // A number for each step, of no interval yet.
 fn no_numbers(alloc: Global, steps: u32) -> Result<Vec<u32>, NoMemory>
-    ensures { IfOk result (λ numbers. numbers.items ≡ replicate steps no_interval) }
+    ensures { IfOk result (λ numbers. numbers.items ≡ replicate steps no_number) }
 {
     Ok(vec![in alloc; NO_INTERVAL; steps as usize]?)
 }

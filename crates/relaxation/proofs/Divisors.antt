@@ -11,10 +11,6 @@ use Rattle.cache_model.specs.Units.{IsUnit}
 use Rattle.interval_maker.specs.Timelines.{Timeline, IsInterval, IsTimeline}
 use Rattle.relaxation.specs.Divisors.{IsGreatest}
 
--- what stands past the last interval
-abbrev pub no_interval : Interval
-no_interval = record { start = 0; end = 0; size = 0; gain = 0 }
-
 -- what holds of the elements up to one more holds of those before it
 All-before : (P : Interval → Type 0) (xs : List Interval) (k : ℕ) → k < length xs → All P (take (k + 1) xs) → All P (take k xs)
 All-before P xs k within all = λ j e lt.

@@ -14,9 +14,9 @@ use Rattle.cache_model.specs.declared.intervals.Interval.{Interval}
 use Rattle.cache_model.specs.Schedules.{covers, load_at}
 use Rattle.cache_model.specs.Schedules.{IsFractionalSchedule}
 use Rattle.cache_model.specs.Units.{weight}
-use Rattle.interval_maker.specs.Timelines.{Timeline, IsInterval, IsTimeline, starting_at, ending_at}
+use Rattle.interval_maker.specs.Timelines.{Timeline, IsInterval, IsTimeline, starting_at, ending_at, no_interval}
 use Rattle.relaxation.specs.declared.flows.FlowFault.TheVariants.{AboveWeight, Overfull}
-use Rattle.relaxation.specs.Faults.{HasNoFault, amount_of, fault_from, load_fault, no_interval, weight_at}
+use Rattle.relaxation.specs.Faults.{HasNoFault, amount_of, fault_from, load_fault, weight_at}
 
 -- the flows of the intervals whose key is t, summed
 abbrev pub flow_with : (Interval → ℕ) → List Interval → List ℕ → ℕ → ℕ

@@ -7,7 +7,8 @@ use Rattle.std.proofs.Math.Nat.{mul-le-mul_left, mul-le-mul_right, div-mul-le_se
 use Rattle.cache_model.specs.declared.intervals.Interval.{Interval}
 use Rattle.cache_model.specs.Schedules.{flow_value}
 use Rattle.cache_model.specs.Units.{weight}
-use Rattle.relaxation.specs.Faults.{no_interval, weight_at}
+use Rattle.interval_maker.specs.Timelines.{no_interval}
+use Rattle.relaxation.specs.Faults.{weight_at}
 
 -- flows that are within the weights one by one are as many as the intervals, and within them at each place
 pub within_at : (unit : ℕ) (intervals : List Interval) (flows : List ℕ) → AllZip (λ i f. f ≤ weight unit i) intervals flows

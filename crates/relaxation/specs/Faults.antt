@@ -4,13 +4,9 @@ use Rattle.std.specs.declared.option.Option.{Option}
 use Rattle.cache_model.specs.declared.intervals.Interval.{Interval}
 use Rattle.cache_model.specs.Units.{weight}
 use Rattle.cache_model.specs.Schedules.{load_at}
-use Rattle.interval_maker.specs.Timelines.{Timeline, starting_at}
+use Rattle.interval_maker.specs.Timelines.{Timeline, starting_at, no_interval}
 use Rattle.relaxation.specs.declared.flows.FlowFault.{FlowFault}
 use Rattle.relaxation.specs.declared.flows.FlowFault.TheVariants.{AboveWeight, Overfull}
-
--- what stands past the last interval
-abbrev pub no_interval : Interval
-no_interval = record { start = 0; end = 0; size = 0; gain = 0 }
 
 -- the weight of the interval of a number
 abbrev pub weight_at : List Interval → ℕ → ℕ → ℕ

@@ -24,9 +24,9 @@ use Rattle.cache_model.proofs.Members.{All-eligible_intervals, intervals_are_eli
 use Rattle.cache_model.proofs.Scores.{earned_at, holds-next, score-requests}
 use Rattle.cache_model.proofs.Steps.{no_play_scores_more_lem}
 use Rattle.cache_model.proofs.Streams.{sum_by-range_one}
+use Rattle.interval_maker.specs.Timelines.{no_interval}
 use Rattle.interval_maker.proofs.Timelines.{same_next}
 use Rattle.schedule_round.specs.Laws.{full_flags, IsBestPlay}
-use Rattle.schedule_round.specs.Ranks.{no_interval}
 use Rattle.schedule_round.proofs.Lists.{AllZip-weaker}
 
 -- ---- weights

@@ -10,10 +10,10 @@ use Rattle.cache_model.specs.declared.intervals.Interval.{Interval}
 use Rattle.cache_model.specs.Schedules.{covers}
 use Rattle.cache_model.specs.Keeps.{is_kept}
 use Rattle.cache_model.specs.Rounding.{FitTogether, IsRounded, by_rank, by_start, rank, load_beside, fits_beside, taken_load}
-use Rattle.interval_maker.specs.Timelines.{Timeline, IsInterval, IsTimeline}
+use Rattle.interval_maker.specs.Timelines.{Timeline, IsInterval, IsTimeline, no_interval}
 use Rattle.load_tree.specs.Ranges.{AddsOver}
 use Rattle.schedule_round.specs.declared.order.Ranked.{Ranked}
-use Rattle.schedule_round.specs.Ranks.{no_interval, interval_at, IsRankOrder}
+use Rattle.schedule_round.specs.Ranks.{interval_at, IsRankOrder}
 use Rattle.schedule_round.specs.Taken.{IsTaken}
 use Rattle.schedule_round.proofs.Lists.{AllZip-from_get_or, get_or-AllZip, list_all-agree, list_all-at, list_all-from}
 use Rattle.schedule_round.proofs.Ranking.{counted}

@@ -13,8 +13,9 @@ use Rattle.std.proofs.lemmas.Bool.{cases_Bool, cases_lt, cases_order, cond_both,
 use Rattle.std.proofs.lemmas.List.Sums.{sum_by-append, sum_by-cons, get_or-le-sum_by}
 use Rattle.cache_model.specs.declared.intervals.Interval.{Interval}
 use Rattle.cache_model.specs.Rounding.{rank, by_rank, by_start}
+use Rattle.interval_maker.specs.Timelines.{no_interval}
 use Rattle.schedule_round.specs.declared.order.Ranked.{Ranked}
-use Rattle.schedule_round.specs.Ranks.{no_interval, interval_at, IsRankOrder}
+use Rattle.schedule_round.specs.Ranks.{interval_at, IsRankOrder}
 
 -- the intervals without a flag of the first k are in the list once, with their ranks
 pub record IsCollected (intervals : List Interval) (full : List Bool) (k : ℕ) (order : List Ranked) : Type 0 where

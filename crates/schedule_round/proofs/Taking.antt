@@ -11,9 +11,9 @@ use Rattle.cache_model.specs.declared.intervals.Interval.{Interval}
 use Rattle.cache_model.specs.Schedules.{covers}
 use Rattle.cache_model.specs.Keeps.{is_kept}
 use Rattle.cache_model.specs.Rounding.{FitTogether, taken_load}
-use Rattle.interval_maker.specs.Timelines.{Timeline, IsInterval, IsTimeline}
+use Rattle.interval_maker.specs.Timelines.{Timeline, IsInterval, IsTimeline, no_interval}
 use Rattle.load_tree.specs.Ranges.{AddsOver, HasRoom}
-use Rattle.schedule_round.specs.Ranks.{no_interval, interval_at}
+use Rattle.schedule_round.specs.Ranks.{interval_at}
 use Rattle.schedule_round.specs.Taken.{IsTaken}
 use Rattle.schedule_round.proofs.Lists.{AllZip-from_get_or}
 

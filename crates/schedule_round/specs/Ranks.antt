@@ -2,11 +2,8 @@
 use Rattle.std.specs.Prelude.{◌≡◌, ℕ, Bool, true, ◌==◌, if◌then◌else◌, List, slice_index_or, count_by, AllPairs}
 use Rattle.cache_model.specs.declared.intervals.Interval.{Interval}
 use Rattle.cache_model.specs.Rounding.{by_rank}
+use Rattle.interval_maker.specs.Timelines.{no_interval}
 use Rattle.schedule_round.specs.declared.order.Ranked.{Ranked}
-
--- what stands past the last interval
-abbrev pub no_interval : Interval
-no_interval = record { start = 0; end = 0; size = 0; gain = 0 }
 
 -- the interval of that number
 abbrev pub interval_at : List Interval → ℕ → Interval

@@ -3,7 +3,7 @@ use Rattle.std.proofs.lemmas.List.{get_or-map, length-map, take_all, take_more}
 use Rattle.std.proofs.lemmas.Slice.Zip.{get_or-zip, length-zip}
 use Rattle.cache_model.specs.declared.intervals.Interval.{Interval}
 use Rattle.cache_model.specs.Units.{weight}
-use Rattle.relaxation.specs.Faults.{no_interval}
+use Rattle.interval_maker.specs.Timelines.{no_interval}
 use Rattle.schedule_round.specs.Laws.{full_flags}
 use Rattle.bound_run.proofs.bounds.full_flags.Goals as goal
 

@@ -3,7 +3,7 @@ use Rattle.std.proofs.lemmas.Bool.{cases_lt}
 use Rattle.std.proofs.lemmas.Nat.{mul-le}
 use Rattle.std.proofs.lemmas.List.Sums.{sum_by_more}
 use Rattle.cache_model.specs.declared.intervals.Interval.{Interval}
-use Rattle.interval_maker.specs.Timelines.{IsInterval}
+use Rattle.interval_maker.specs.Timelines.{IsInterval, no_interval}
 use Rattle.constant_price.specs.Surpluses.{surplus_at, fall_at}
 use Rattle.constant_price.proofs.Falls.{gain_within}
 use Rattle.constant_price.proofs.tangents.tangent_at.Goals as goal
@@ -38,9 +38,6 @@ surplus_and_fall-left-requires-clause-most c = within_top (2 ^ 96) c.args.price 
 
 pub surplus_and_fall-left-requires-clause-more : goal.surplus_and_fall-left-requires-clause-more
 surplus_and_fall-left-requires-clause-more c n more below = past_top (2 ^ 96) c.args.price c.max-most.result n c.max-most.ensures more below
-
-abbrev no_interval : Interval
-no_interval = record { start = 0; end = 0; size = 0; gain = 0 }
 
 -- the parts of this interval
 within : (c : goal.After-surplus_and_fall-left) → (c.surplus_and_fall-left.result.0 ≤ 2 ^ 96) × (c.surplus_and_fall-left.result.1 ≤ 2 ^ 96)

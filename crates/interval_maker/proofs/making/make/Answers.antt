@@ -1,14 +1,14 @@
 use Rattle.std.proofs.Common.{◌≡◌, ◌∙◌, ap, length, replicate, arith}
-use Rattle.interval_maker.specs.Stored.{no_interval}
+use Rattle.interval_maker.specs.Stored.{no_number}
 use Rattle.interval_maker.proofs.Made.{made_none, made_step, made_rest, made_fit, made_stored, made_is}
 use Rattle.interval_maker.proofs.making.make.Goals as goal
 use Rattle.interval_maker.proofs.making.make.Goals.{in-Some+in_ok-push-in-Some, in-None}
 
 pub loop-t-init : goal.loop-t-init
 loop-t-init c =
-    let steps = ap (λ n. replicate n no_interval) c.len-steps.ensures.requests in
-    let starting : c.in_ok-starting.starting.items ≡ replicate (length c.args.trace.now) no_interval = c.in_ok-starting.ensures ∙ steps in
-    let ending : c.in_ok-ending.ending.items ≡ replicate (length c.args.trace.now) no_interval = c.in_ok-ending.ensures ∙ steps in
+    let steps = ap (λ n. replicate n no_number) c.len-steps.ensures.requests in
+    let starting : c.in_ok-starting.starting.items ≡ replicate (length c.args.trace.now) no_number = c.in_ok-starting.ensures ∙ steps in
+    let ending : c.in_ok-ending.ending.items ≡ replicate (length c.args.trace.now) no_number = c.in_ok-ending.ensures ∙ steps in
     rw (c.in_ok-items.ensures.items, starting, ending) (made_none c.args.objective c.args.capacity c.args.trace.now)
 
 pub loop-t-preserved : goal.loop-t-preserved

@@ -1,6 +1,6 @@
 use Rattle.std.proofs.Common.{refl}
+use Rattle.interval_maker.specs.Timelines.{no_interval}
 use Rattle.bound_base.proofs.Multiples.{IsGcd_positive}
-use Rattle.relaxation.proofs.Divisors.{no_interval}
 use Rattle.relaxation.proofs.Whole.{so_far_none, so_far_more, so_far_all, first_past, found_within, reduced_positive}
 use Rattle.relaxation.proofs.denominators.least_whole.Goals as goal
 

@@ -1,6 +1,6 @@
 use Rattle.std.proofs.Common.{ℕ, ◌*◌, ◌^◌, ◌≤◌, ap, subst, length, arith}
+use Rattle.interval_maker.specs.Timelines.{no_interval}
 use Rattle.relaxation.proofs.Bounds.{bound_all, none_scores_more}
-use Rattle.relaxation.proofs.Divisors.{no_interval}
 use Rattle.relaxation.proofs.prices.bound_of.Goals as goal
 
 pub returns-clause-no_play_scores_more : goal.returns-clause-no_play_scores_more

@@ -1,4 +1,5 @@
-use Rattle.relaxation.proofs.Divisors.{one_more_size, whole_greatest, no_interval}
+use Rattle.interval_maker.specs.Timelines.{no_interval}
+use Rattle.relaxation.proofs.Divisors.{one_more_size, whole_greatest}
 use Rattle.relaxation.proofs.units.divisor_of.Goals as goal
 
 pub loop-interval-preserved : goal.loop-interval-preserved
