@@ -75,10 +75,10 @@ IsLcm_positive a b m first second h =
     let some : 0 < a * b = grind arith in
     pos_of_dvd_of_pos (h.least (a * b) (dvd-mul_right a b) (dvd-mul_left b a)) some
 
--- what holds of each of a joined list holds of each of its front
-pub All-front : {X : Type 0} (P : X → Type 0) (xs ys : List X) → All P (xs ++ ys) → All P xs
-All-front P [] ys each = All-nil P
-All-front P (x ∷ xs) ys each = All-cons P x xs (All-head P x (xs ++ ys) each) (All-front P xs ys (All-tail P x (xs ++ ys) each))
+-- what holds of each of a joined list holds of each of its beginning
+pub All-prefix : {X : Type 0} (P : X → Type 0) (xs ys : List X) → All P (xs ++ ys) → All P xs
+All-prefix P [] ys each = All-nil P
+All-prefix P (x ∷ xs) ys each = All-cons P x xs (All-head P x (xs ++ ys) each) (All-prefix P xs ys (All-tail P x (xs ++ ys) each))
 
 -- and of its last
 pub All-last : {X : Type 0} (P : X → Type 0) (xs : List X) (x : X) → All P (xs ++ x ∷ []) → P x
@@ -108,10 +108,10 @@ IsLcmOfAll-push xs x m n positive before h = record {
       All-push Divides xs x (All-weaker (λ k. k ∣ m) Divides (λ k divides. dvd_trans k divides h.of_first) xs before.of_each) h.of_second;
   least = λ k each.
       let Divides : ℕ → Type 0 = λ i. i ∣ k in
-      h.least k (before.least k (All-front Divides xs (x ∷ []) each)) (All-last Divides xs x each);
+      h.least k (before.least k (All-prefix Divides xs (x ∷ []) each)) (All-last Divides xs x each);
 }
 
--- the same with one more number in front
+-- the same with one more number in prefix
 IsLcmOfAll-cons : (xs : List ℕ) (x m n : ℕ) → 0 < x → IsLcmOfAll xs m → IsLcm x m n → IsLcmOfAll (x ∷ xs) n
 IsLcmOfAll-cons xs x m n positive later h = record {
   positive = IsLcm_positive x m n positive later.positive h;
@@ -139,4 +139,4 @@ same_from_IsLcmOfAll xs m n h k = dvd_antisymm (h.least n k.of_each) (k.least m 
 
 -- more numbers have no smaller one
 pub IsLcmOfAll-append_le : (xs ys : List ℕ) (m n : ℕ) → IsLcmOfAll xs m → IsLcmOfAll (xs ++ ys) n → m ≤ n
-IsLcmOfAll-append_le xs ys m n h k = le_of_dvd k.positive (h.least n (All-front (λ i. i ∣ n) xs ys k.of_each))
+IsLcmOfAll-append_le xs ys m n h k = le_of_dvd k.positive (h.least n (All-prefix (λ i. i ∣ n) xs ys k.of_each))

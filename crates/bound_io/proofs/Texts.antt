@@ -32,17 +32,17 @@ text_len_ends xs ys ends = rw (prefix_len-append, ne_eqb (text_len xs) (length x
 pub text_len_goes_on : (xs ys : List ℕ) → text_len xs ≡ length xs → text_len (xs ++ ys) ≡ length xs + text_len ys
 text_len_goes_on xs ys none = rw (prefix_len-append, eq-eqb (text_len xs) (length xs) none) refl
 
--- some bytes from the front, and then some that were put behind them
-front_more : (old buf post : List ℕ) (end count : ℕ) → end ≤ length old → count ≤ length buf → take (end + count) (take end old ++ (buf ++ post)) ≡ take end old ++ take count buf
-front_more old buf post end count within some =
+-- some bytes from the prefix, and then some that were put behind them
+prefix_more : (old buf post : List ℕ) (end count : ℕ) → end ≤ length old → count ≤ length buf → take (end + count) (take end old ++ (buf ++ post)) ≡ take end old ++ take count buf
+prefix_more old buf post end count within some =
     rw (length-take-le end old within, take-append-le count buf post some) at (take-append-add (take end old) (buf ++ post) count)
 
--- a front of what a buffer shows
-pub shows_front : (bytes : List ℕ) (start end text : ℕ) → text ≤ length (take (end - start) (drop start bytes)) → take (start + text - start) (drop start bytes) ≡ take text (take (end - start) (drop start bytes))
-shows_front bytes start end text within =
+-- a prefix of what a buffer shows
+pub shows_prefix : (bytes : List ℕ) (start end text : ℕ) → text ≤ length (take (end - start) (drop start bytes)) → take (start + text - start) (drop start bytes) ≡ take text (take (end - start) (drop start bytes))
+shows_prefix bytes start end text within =
     let count : start + text - start ≡ text = omega arith in
-    let front = take-append-le text (take (end - start) (drop start bytes)) (drop (end - start) (drop start bytes)) within in
-    rw count (rw (take-append-drop) at front)
+    let prefix = take-append-le text (take (end - start) (drop start bytes)) (drop (end - start) (drop start bytes)) within in
+    rw count (rw (take-append-drop) at prefix)
 
 -- what a buffer shows from a later place on
 pub shows_rest : (bytes : List ℕ) (start end line : ℕ) → line ≤ length (take (end - start) (drop start bytes)) → take (end - (start + line)) (drop (start + line) bytes) ≡ drop line (take (end - start) (drop start bytes))
@@ -63,4 +63,4 @@ read_over v old buf end count size within room some =
     let whole : length (take end old ++ (buf ++ post)) ≡ vec_len v = rw (none, length-append (take end old) (buf ++ []), append-nil) (omega (arith, length-take-le end old within)) in
     let items = with_items_is v (take end old ++ (buf ++ post)) whole in
     let plain : end + count - 0 ≡ end + count = omega arith in
-    ap (λ l. take (end + count - 0) (drop 0 l)) items ∙ (ap (λ n. take n (take end old ++ (buf ++ post))) plain ∙ front_more old buf post end count within some)
+    ap (λ l. take (end + count - 0) (drop 0 l)) items ∙ (ap (λ n. take n (take end old ++ (buf ++ post))) plain ∙ prefix_more old buf post end count within some)

@@ -2,10 +2,10 @@
 use Rattle.std.specs.Prelude.{◌≡◌, ℕ, ◌⊎◌, List}
 use Rattle.std.specs.declared.option.Option.{Option}
 use Rattle.std.specs.Io.KnownBytes.{Appends}
-use Rattle.bound_io.specs.Causes.{Rose}
-use Rattle.bound_io.specs.Writing.{AppendsProperFront}
+use Rattle.bound_io.specs.Causes.{HasNewFault}
+use Rattle.bound_io.specs.Writing.{AppendsProperPrefix}
 
--- the bytes that a source has left, or that a sink was written, where they are told, and the count of faults
+-- the bytes that a source has left, or that a sink was written, where they are known, and the count of faults
 pub record Device : Type 0 where
   pub before : Option (List ℕ)
   pub after : Option (List ℕ)
@@ -18,11 +18,11 @@ device before after faults_before faults_after = record { before = before; after
 
 -- its count of faults rose
 abbrev pub HasFailed : Device → Type 0
-HasFailed d = Rose d.faults_before d.faults_after
+HasFailed d = HasNewFault d.faults_before d.faults_after
 
 -- a sink was written the text, or failed and was written less of it
 abbrev pub Gets : Device → List ℕ → Type 0
-Gets d text = Appends d.before d.after text ⊎ (HasFailed d × AppendsProperFront d.before d.after text)
+Gets d text = Appends d.before d.after text ⊎ (HasFailed d × AppendsProperPrefix d.before d.after text)
 
 -- nothing was asked of it
 abbrev pub IsUntouched : Device → Type 0

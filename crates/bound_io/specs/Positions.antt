@@ -2,7 +2,7 @@
 use Rattle.std.specs.Prelude.{◌≡◌, ℕ, ◌+◌, ◌≤◌, ◌<◌, List, [], length, None, Some, IfSome, Result, Ok, Err}
 use Rattle.std.specs.declared.option.Option.{Option}
 use Rattle.std.specs.Io.KnownBytes.{IsAtEnd, Keeps}
-use Rattle.bound_io.specs.Causes.{Rose}
+use Rattle.bound_io.specs.Causes.{HasNewFault}
 use Rattle.bound_io.specs.Lines.{text_len, first_line, first_text, after_line}
 use Rattle.bound_io.specs.declared.line_reader.LineFault.{LineFault}
 use Rattle.bound_io.specs.declared.line_reader.LineFault.TheVariants.{ReadFault, LineTooLong, InputTooLong}
@@ -34,13 +34,13 @@ pub record Fits (at : Position) (held : List ℕ) (text line : ℕ) : Type 0 whe
   pub within : at.consumed + line ≤ at.limit
   pub none : line ≡ 0 → length held ≡ 0
 
--- why the first line of the bytes that a reader stands in, where they are told, isn't given; and a failed read only where the count of faults rose
+-- why the first line of the bytes that a reader stands in, where they are known, isn't given; and a failed read only where the count of faults rose
 abbrev pub IsRefused : Position → Option (List ℕ) → ℕ → ℕ → LineFault → Type 0
-IsRefused at told faults_before faults_after ReadFault = Rose faults_before faults_after
-IsRefused at told faults_before faults_after (LineTooLong line) = (line ≡ at.line + 1) × IfSome told (λ bytes. 65535 < text_len bytes)
-IsRefused at told faults_before faults_after InputTooLong = IfSome told (λ bytes. (text_len bytes ≤ 65535) × (at.limit < at.consumed + length (first_line bytes)))
+IsRefused at known faults_before faults_after ReadFault = HasNewFault faults_before faults_after
+IsRefused at known faults_before faults_after (LineTooLong line) = (line ≡ at.line + 1) × IfSome known (λ bytes. 65535 < text_len bytes)
+IsRefused at known faults_before faults_after InputTooLong = IfSome known (λ bytes. (text_len bytes ≤ 65535) × (at.limit < at.consumed + length (first_line bytes)))
 
--- one line was given: it is gone from what the reader stands in, told before and after
+-- one line was given: it is gone from what the reader stands in, known before and after
 pub record GivesLine (old new : Position) (before after : Option (List ℕ)) : Type 0 where
   pub limit : new.limit ≡ old.limit
   pub line : new.line ≡ old.line + 1

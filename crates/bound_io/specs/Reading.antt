@@ -3,9 +3,9 @@ use Rattle.std.specs.Prelude.{◌≡◌, ℕ, List, ◌++◌, length, Result, If
 use Rattle.std.specs.declared.option.Option.{Option}
 use Rattle.std.specs.Io.KnownBytes.{Consumes, IsAtEnd}
 
--- what was left lost some of its front
-abbrev pub LosesFront : Option (List ℕ) → Option (List ℕ) → Type 0
-LosesFront old new = (bytes : List ℕ) × Consumes old new bytes
+-- what was left lost some of its beginning
+abbrev pub LosesPrefix : Option (List ℕ) → Option (List ℕ) → Type 0
+LosesPrefix old new = (bytes : List ℕ) × Consumes old new bytes
 
 -- new is old with the bytes that were taken from a source, so many as the answer says; none only at its end
 abbrev pub ReadsOn : {E : Type 0} → Option (List ℕ) → Option (List ℕ) → List ℕ → List ℕ → Result ℕ E → Type 0

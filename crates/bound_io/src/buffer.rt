@@ -3,7 +3,7 @@ ghost use Rattle.std.specs.Prelude.{◌≡◌, ◌-◌, ◌≤◌, ◌<◌, ◌�
 ghost use Rattle.std.specs.Io.KnownBytes.{IsAtEnd, Keeps};
 ghost use Rattle.bound_io.specs.Causes.{HasCause};
 ghost use Rattle.bound_io.specs.Lines.{stands_in, text_len};
-ghost use Rattle.bound_io.specs.Reading.{LosesFront, ReadsOn};
+ghost use Rattle.bound_io.specs.Reading.{LosesPrefix, ReadsOn};
 
 use crate::device::{Failed, Source};
 use bound_base::NoMemory;
@@ -44,7 +44,7 @@ fn text_len(bytes: &[u8]) -> usize
     memchr(b'\n', bytes).unwrap_or(bytes.len())
 }
 
-// Moves the bytes from `start` up to `end` to the front, and says how many they are.
+// Moves the bytes from `start` up to `end` to the beginning, and says how many they are.
 fn move_to_front(bytes: &mut Vec<u8>, start: usize, end: usize) -> usize
     requires start { start ≤ end }
     requires end { end ≤ vec_len bytes.old }
@@ -112,7 +112,7 @@ impl Buffer {
         ensures whole { IfOk result (λ n. n < length self.new ⊎ ((length self.new ≡ 65536) ⊎ IsAtEnd (S.left source.new))) }
         ensures kept { Keeps (stands_in self.old (S.left source.old)) (stands_in self.new (S.left source.new)) }
         ensures room { length self.new ≤ 65536 }
-        ensures source { LosesFront (S.left source.old) (S.left source.new) }
+        ensures source { LosesPrefix (S.left source.old) (S.left source.new) }
         ensures cause { HasCause (S.faults source.old) (S.faults source.new) result }
         ensures none_failed { OnOk result (S.faults source.new ≡ S.faults source.old) }
     {

@@ -5,7 +5,7 @@ ghost use Rattle.std.specs.Io.KnownBytes.{ReadConsumes};
 ghost use Rattle.bound_io.specs.Causes.{HasCause};
 
 use crate::device::{Failed, Source};
-use crate::front::copy_front;
+use crate::prefix::copy_prefix;
 
 /// Gives as many bytes as fit, and never fails. Its count of faults is the constant 0, so a caller over it proves
 /// that no fault of its source can be answered.
@@ -43,7 +43,7 @@ impl Source for CalmSource {
         ensures count { IfOk result (λ n. n ≡ min (length (bytes_left self.old)) (length buf.old)) }
     {
         let rest = &self.bytes.as_slice()[self.at..];
-        let count = copy_front(rest, buf, buf.len());
+        let count = copy_prefix(rest, buf, buf.len());
         self.at += count;
         Ok(count)
     }

@@ -2,7 +2,7 @@
 ghost use Rattle.std.specs.Prelude.{◌≡◌, ◌+◌, ◌≤◌, ◌<◌, ◌^◌, [], length, IfOk, IfErr, OnOk, IfSome, IfNone};
 ghost use Rattle.std.specs.Io.KnownBytes.{IsAtEnd, Keeps};
 ghost use Rattle.bound_io.specs.Lines.{HasExtent, first_text, stands_in};
-ghost use Rattle.bound_io.specs.Reading.{LosesFront};
+ghost use Rattle.bound_io.specs.Reading.{LosesPrefix};
 
 use crate::buffer::Buffer;
 use crate::device::{Failed, Source};
@@ -119,7 +119,7 @@ impl LineReader {
         ensures still { self.new ≡ with_held self.old self.new.held }
         ensures room { length self.new.held ≤ 65536 }
         ensures kept { Keeps (stands_in self.old.held (S.left source.old)) (stands_in self.new.held (S.left source.new)) }
-        ensures source { LosesFront (S.left source.old) (S.left source.new) }
+        ensures source { LosesPrefix (S.left source.old) (S.left source.new) }
         ensures later { S.faults source.old ≤ S.faults source.new }
         ensures none_failed { OnOk result (S.faults source.new ≡ S.faults source.old) }
     {
@@ -148,7 +148,7 @@ impl LineReader {
         ensures again { IfSome self.old.fault (λ fault. (result ≡ Err fault) × (S.left source.new ≡ S.left source.old) × (S.faults source.new ≡ S.faults source.old)) }
         ensures room { length self.new.held ≤ 65536 }
         ensures kept { Keeps (stands_in self.old.held (S.left source.old)) (stands_in self.new.held (S.left source.new)) }
-        ensures source { LosesFront (S.left source.old) (S.left source.new) }
+        ensures source { LosesPrefix (S.left source.old) (S.left source.new) }
         ensures later { S.faults source.old ≤ S.faults source.new }
         ensures none_failed { OnOk result (S.faults source.new ≡ S.faults source.old) }
     {
@@ -168,7 +168,7 @@ impl LineReader {
         ensures short { IfOk result (λ line. IfSome (given line) (λ text. length text ≤ 65535)) }
         ensures refused { self.old.fault ≡ None → IfErr result (IsRefused self.old (stands_in self.old.held (S.left source.old)) (S.faults source.old) (S.faults source.new)) }
         ensures again { IfSome self.old.fault (λ fault. (result ≡ Err fault) × (S.left source.new ≡ S.left source.old) × (S.faults source.new ≡ S.faults source.old)) }
-        ensures source { LosesFront (S.left source.old) (S.left source.new) }
+        ensures source { LosesPrefix (S.left source.old) (S.left source.new) }
         ensures later { S.faults source.old ≤ S.faults source.new }
         ensures none_failed { OnOk result (S.faults source.new ≡ S.faults source.old) }
         ensures* after { sem 𝓛 (Rests the_row self.entry (λ new. NextLine self.old new (stands_in self.old.held (S.left source.old)) (stands_in new.held (S.left source.new)) (given_by result) × (length new.held ≤ 65536))) }
@@ -194,7 +194,7 @@ impl LineReader {
         ensures short { IfOk result (λ found. IfSome found (λ text. length text.now ≤ 65535)) }
         ensures refused { self.old.fault ≡ None → IfErr result (IsRefused self.old (stands_in self.old.held (S.left source.old)) (S.faults source.old) (S.faults source.new)) }
         ensures again { IfSome self.old.fault (λ fault. (result ≡ Err fault) × (S.left source.new ≡ S.left source.old) × (S.faults source.new ≡ S.faults source.old)) }
-        ensures source { LosesFront (S.left source.old) (S.left source.new) }
+        ensures source { LosesPrefix (S.left source.old) (S.left source.new) }
         ensures later { S.faults source.old ≤ S.faults source.new }
         ensures none_failed { OnOk result (S.faults source.new ≡ S.faults source.old) }
         ensures* after { sem 𝓛 (Rests the_row self.entry (λ new. NextLine self.old new (stands_in self.old.held (S.left source.old)) (stands_in new.held (S.left source.new)) result × (length new.held ≤ 65536))) }

@@ -98,12 +98,12 @@ some_is_not_none x o is none = false≢true (ap is_some (sym none ∙ is))
 module _ (format : Format) (asked : Asked) (source report made : Device) (good : IsGoodTrace format source.before) (denominator : HasDenominator format asked source.before)
     (source_works : ¬ (HasFailed source)) (report_works : ¬ (HasFailed report)) (made_works : ¬ (HasFailed made)) where
   not_refused : (before : Option (List ℕ)) (fault : FaultOfTrace) → IsGoodTrace format before → IfSome before (λ bytes. (reading format full_limits bytes).refused ≡ Some fault) → ⊥
-  not_refused None fault told why = told
-  not_refused (Some bytes) fault told why = some_is_not_none fault _ why told
+  not_refused None fault known_trace why = known_trace
+  not_refused (Some bytes) fault known_trace why = some_is_not_none fault _ why known_trace
 
   not_past : (before : Option (List ℕ)) (requests : List Object) (dropped : ℕ) → HasDenominator format asked before → IfSome before (λ bytes. IsWhole (reading format full_limits bytes) requests dropped) → RefusesDenominator asked requests → IsGoodTrace format before → ⊥
-  not_past None requests dropped has whole refused told = told
-  not_past (Some bytes) requests dropped has whole refused told = has (subst (RefusesDenominator asked) (sym whole.requests) refused)
+  not_past None requests dropped has whole refused known_trace = known_trace
+  not_past (Some bytes) requests dropped has whole refused known_trace = has (subst (RefusesDenominator asked) (sym whole.requests) refused)
 
   bounds_complete : (status : Status) → BoundsEnd format asked source report made status → (status ≡ Done) ⊎ (status ≡ NoMemory)
   bounds_complete Done e = inl refl
@@ -113,8 +113,8 @@ module _ (format : Format) (asked : Asked) (source report made : Device) (good :
   bounds_complete (Limit TraceBytes) e = absurd (not_refused source.before trace.InputTooLong good e.0)
   bounds_complete (Limit Denominator) e = absurd (not_past source.before e.0.requests e.0.dropped denominator e.0.loaded.read e.0.refused good)
   bounds_complete TraceFault e = absurd (source_works e.0)
-  bounds_complete ReportFault (cert, text, ready, failed, all, front) = absurd (report_works failed)
-  bounds_complete MadeFault (cert, text, ready, failed, front, line) = absurd (made_works failed)
+  bounds_complete ReportFault (cert, text, ready, failed, all, prefix) = absurd (report_works failed)
+  bounds_complete MadeFault (cert, text, ready, failed, prefix, line) = absurd (made_works failed)
   bounds_complete (Invalid line kind) e = absurd e
   bounds_complete (Words fault) e = absurd e
   bounds_complete CertFault e = absurd e
@@ -124,42 +124,42 @@ module _ (format : Format) (asked : Asked) (source report made : Device) (good :
 module _ (format : Format) where
   yes_at : (before text : Option (List ℕ)) (requests : List Object) (dropped : ℕ) (h : Header) (records : List Record) → IsGoodTrace format before → IsSome text
       → IfSome before (λ bytes. IsWhole (reading format full_limits bytes) requests dropped) → IfSome text (λ t. t ≡ cert_text h records) → IsValid requests h records → AnswersOf format before text Done
-  yes_at None text requests dropped h records told known whole is valid = absurd told
-  yes_at (Some bytes) None requests dropped h records told known whole is valid = absurd (false≢true known)
-  yes_at (Some bytes) (Some t) requests dropped h records told known whole is valid =
+  yes_at None text requests dropped h records known_trace known_cert whole is valid = absurd known_trace
+  yes_at (Some bytes) None requests dropped h records known_trace known_cert whole is valid = absurd (false≢true known_cert)
+  yes_at (Some bytes) (Some t) requests dropped h records known_trace known_cert whole is valid =
       record { header = h; records = records; text_is = is; valid = subst (λ xs. IsValid xs h records) (sym whole.requests) valid }
 
   no_at : (before text : Option (List ℕ)) (line : ℕ) (kind : InvalidKind) → IsGoodTrace format before → IsSome text
       → IfSome before (λ bytes. IfSome text (λ t. walk (reading format full_limits bytes) t ≡ Some (walks.Invalid line kind))) → AnswersOf format before text (Invalid line kind)
-  no_at None text line kind told known first = absurd told
-  no_at (Some bytes) None line kind told known first = absurd (false≢true known)
-  no_at (Some bytes) (Some t) line kind told known first = λ certified.
+  no_at None text line kind known_trace known_cert first = absurd known_trace
+  no_at (Some bytes) None line kind known_trace known_cert first = absurd (false≢true known_cert)
+  no_at (Some bytes) (Some t) line kind known_trace known_cert first = λ certified.
       some_is_not_none (walks.Invalid line kind) _ first
-      ((passing_is_valid_lem (reading format full_limits bytes) t told).1 (certified.header, certified.records, certified.text_is, certified.valid))
+      ((passing_is_valid_lem (reading format full_limits bytes) t known_trace).1 (certified.header, certified.records, certified.text_is, certified.valid))
 
   not_refused_at : (before text : Option (List ℕ)) (fault : FaultOfTrace) → IsGoodTrace format before → IsSome text
       → IfSome before (λ bytes. IfSome text (λ t. walk (reading format full_limits bytes) t ≡ Some (walks.Refused fault))) → ⊥
-  not_refused_at None text fault told known first = told
-  not_refused_at (Some bytes) None fault told known first = false≢true known
-  not_refused_at (Some bytes) (Some t) fault told known first = never_refused (reading format full_limits bytes) t fault told first
+  not_refused_at None text fault known_trace known_cert first = known_trace
+  not_refused_at (Some bytes) None fault known_trace known_cert first = false≢true known_cert
+  not_refused_at (Some bytes) (Some t) fault known_trace known_cert first = never_refused (reading format full_limits bytes) t fault known_trace first
 
   free_at : (before text : Option (List ℕ)) → AnswersOf format before text NoMemory
   free_at None text = tt
   free_at (Some bytes) None = tt
   free_at (Some bytes) (Some t) = tt
 
-  module _ (source cert report : Device) (good : IsGoodTrace format source.before) (known : IsSome cert.before)
+  module _ (source cert report : Device) (good : IsGoodTrace format source.before) (known_cert : IsSome cert.before)
       (source_works : ¬ (HasFailed source)) (cert_works : ¬ (HasFailed cert)) (report_works : ¬ (HasFailed report)) where
     check_complete : (status : Status) → CheckEnds format source cert report status → AnswersOf format source.before cert.before status
-    check_complete Done (verdict, dropped, accepted, all) = yes_at source.before cert.before accepted.requests dropped verdict.header accepted.records good known accepted.loaded.read accepted.text accepted.valid
-    check_complete (Invalid line kind) e = no_at source.before cert.before line kind good known e.0
-    check_complete (BadLine line kind) e = absurd (not_refused_at source.before cert.before (trace.BadLine line kind) good known e.0)
-    check_complete (Limit Requests) e = absurd (not_refused_at source.before cert.before trace.TooManyRequests good known e.0)
-    check_complete (Limit TraceBytes) e = absurd (not_refused_at source.before cert.before trace.InputTooLong good known e.0)
+    check_complete Done (verdict, dropped, accepted, all) = yes_at source.before cert.before accepted.requests dropped verdict.header accepted.records good known_cert accepted.loaded.read accepted.text accepted.valid
+    check_complete (Invalid line kind) e = no_at source.before cert.before line kind good known_cert e.0
+    check_complete (BadLine line kind) e = absurd (not_refused_at source.before cert.before (trace.BadLine line kind) good known_cert e.0)
+    check_complete (Limit Requests) e = absurd (not_refused_at source.before cert.before trace.TooManyRequests good known_cert e.0)
+    check_complete (Limit TraceBytes) e = absurd (not_refused_at source.before cert.before trace.InputTooLong good known_cert e.0)
     check_complete (Limit Denominator) e = absurd e
     check_complete TraceFault e = absurd (source_works e.0)
     check_complete CertFault e = absurd (cert_works e.0)
-    check_complete ReportFault (verdict, dropped, accepted, failed, front) = absurd (report_works failed)
+    check_complete ReportFault (verdict, dropped, accepted, failed, prefix) = absurd (report_works failed)
     check_complete NoMemory e = free_at source.before cert.before
     check_complete (Words fault) e = absurd e
     check_complete MadeFault e = absurd e

@@ -53,13 +53,13 @@ next_operand command place at words below =
     let word = get_or words at [] in
     ap (operands_fault command (place + at) (take at words)) (drop_more words at [] below)
     ∙ ap (λ n. option_or (option_map (fault (place + at)) (operand_fault command (take at words) word)) (operands_fault command n (take at words ++ word ∷ []) (drop (at + 1) words))) next
-    ∙ ap (λ front. option_or (option_map (fault (place + at)) (operand_fault command (take at words) word)) (operands_fault command (place + (at + 1)) front (drop (at + 1) words))) (sym (take_more words at [] below))
+    ∙ ap (λ prefix. option_or (option_map (fault (place + at)) (operand_fault command (take at words) word)) (operands_fault command (place + (at + 1)) prefix (drop (at + 1) words))) (sym (take_more words at [] below))
 
 -- the words of the items, of which those before one passed
 module _ {A : Type 0} (command : Command) (f : A → List ℕ) (items : List A) (place at : ℕ) (item : A) (below : at < length items) (is : item ≡ get_or items at item) where
   looked_at : operand_fault command (take at (map f items)) (get_or (map f items) at []) ≡ operand_fault command (map f (take at items)) (f item)
   looked_at =
-      ap (λ front. operand_fault command front (get_or (map f items) at [])) (take-map f at items)
+      ap (λ prefix. operand_fault command prefix (get_or (map f items) at [])) (take-map f at items)
       ∙ ap (operand_fault command (map f (take at items))) (get_or-map f items at item [] below ∙ ap f (sym is))
 
   one_more : (found : Option WordKind) → found ≡ operand_fault command (map f (take at items)) (f item)

@@ -5,7 +5,7 @@ use Rattle.std.specs.Io.KnownBytes.{Appends}
 use Rattle.cache_model.specs.declared.objects.Object.{Object}
 use Rattle.cache_model.specs.declared.certificates.Header.{Header}
 use Rattle.cache_model.specs.declared.certificates.Record.{Record}
-use Rattle.cache_model.specs.Certificates.{BoundsEveryPlay, IsValid}
+use Rattle.cache_model.specs.Certificates.{BoundsEveryPolicy, IsValid}
 use Rattle.bound_run.specs.declared.words.Plan.{Plan}
 use Rattle.bound_run.specs.declared.words.Plan.TheVariants.{Bounds, Check}
 use Rattle.bound_run.specs.declared.words.WordFault.{WordFault}
@@ -16,7 +16,7 @@ use Rattle.bound_run.specs.Run.{Devices, Explains, RunEnds}
 use Rattle.bound_run.specs.Words.{plan}
 
 -- a valid certificate has true bounds
-true_bounds : (trace : List Object) (h : Header) (records : List Record) → IsValid trace h records → BoundsEveryPlay trace h → AreTrueBounds trace h records
+true_bounds : (trace : List Object) (h : Header) (records : List Record) → IsValid trace h records → BoundsEveryPolicy trace h → AreTrueBounds trace h records
 true_bounds trace h records valid bounds = record {
   some_capacity = valid.certificate.header.capacity;
   upper = bounds;

@@ -51,7 +51,7 @@ module _ (format : Format) (start end : Inputs) (new : start.reader ≡ fresh fo
         loaded = record { read = rw (same_format, same_limits) at passed.trace; nothing_left = passed.trace_end };
         objects = passed.yes.objects;
         valid = passed.yes.valid;
-        bounds = passed.yes.bounds_every_play;
+        bounds = passed.yes.bounds_every_policy;
         least = exact_is_least passed.requests verdict.header passed.records passed.yes.valid;
         text = texts_of_whole start.certificate verdict.header passed.records passed.certificate;
         nothing_left = passed.certificate_end;

@@ -15,8 +15,8 @@ use Rattle.cache_model.specs.declared.reports.Mode.{Mode}
 use Rattle.cache_model.specs.declared.reports.Mode.TheVariants.{Flow, Constant, Infinite}
 use Rattle.cache_model.specs.Intervals.{bound_of}
 use Rattle.cache_model.specs.Units.{IsUnit, HasWholeCosts, weight}
-use Rattle.cache_model.specs.Certificates.{IsHeaderInRange, IsValid, BoundsEveryPlay, flows_of, keeps_of, prices_of, upper_of}
-use Rattle.cache_model.specs.Play.{IsAllowed, score}
+use Rattle.cache_model.specs.Certificates.{IsHeaderInRange, IsValid, BoundsEveryPolicy, flows_of, keeps_of, prices_of, upper_of}
+use Rattle.cache_model.specs.Claim.{IsAllowed, score}
 use Rattle.cache_model.specs.Keeps.{contents_of}
 use Rattle.cache_model.specs.Rounding.{IsMaximal, IsRounded, by_rank}
 use Rattle.cache_model.specs.Schedules.{IsFractionalSchedule, flow_value}
@@ -30,8 +30,8 @@ use Rattle.interval_maker.specs.Timelines.{Timeline, IsTimeline, IsInterval, tim
 use Rattle.relaxation.specs.Denominators.{IsChosen}
 use Rattle.relaxation.specs.Prices.{most_paid}
 use Rattle.relaxation.proofs.Whole.{timeline_weights}
-use Rattle.schedule_round.specs.Laws.{IsBestPlay, full_flags}
-use Rattle.schedule_round.proofs.EqualSizes.{best_play, equal_sizes_whole}
+use Rattle.schedule_round.specs.Laws.{IsBestSchedule, full_flags}
+use Rattle.schedule_round.proofs.EqualSizes.{best_schedule, equal_sizes_whole}
 use Rattle.bound_run.specs.declared.bounds.Asked.{Asked}
 use Rattle.window_bounds.specs.Solutions.{prices_in}
 use Rattle.bound_run.specs.Made.{HasLeastWindows, IsBelowWindows, IsMade, IsNear, IsOfMode, is_unwindowed, records_of, width_of}
@@ -145,7 +145,7 @@ module _ (asked : Asked) (trace : List Object) (unit d : ℕ) (whole_costs : Boo
     bound : upper ≡ upper_of trace h rs
     bound = found.bound ∙ ap (bound_of line.items unit units d) (sym priced)
 
-    bounds : BoundsEveryPlay trace h
+    bounds : BoundsEveryPolicy trace h
     bounds = prices_bound trace h rs counted (omega (arith, found.range.0)) bound
 
     scored_once : (n m : ℕ) → 1 ≤ n → m ≤ n * m
@@ -159,7 +159,7 @@ module _ (asked : Asked) (trace : List Object) (unit d : ℕ) (whole_costs : Boo
       denominator = found.range;
       upper = found.small;
       flow = found.small_value;
-      lower = omega (arith, found.scored, found.small, bounds.no_play_scores_more (contents_of trace keeps) found.allowed, scored_once d (score asked.objective trace (contents_of trace keeps)) found.range.0);
+      lower = omega (arith, found.scored, found.small, bounds.no_policy_scores_more (contents_of trace keeps) found.allowed, scored_once d (score asked.objective trace (contents_of trace keeps)) found.range.0);
     }
 
     once : (p : ℕ) → p ≤ units * p
@@ -220,11 +220,11 @@ module _ (asked : Asked) (trace : List Object) (unit d : ℕ) (whole_costs : Boo
         (λ (empty : length line.items ≤ 0). λ k e low. absurd (omega arith))
         (cases_lt 0 (length line.items))
 
-    best : (size : ℕ) → IsTrue (is_unwindowed asked.mode (length trace)) → All (λ i. i.size ≡ size) line.items → IsBestPlay asked.objective asked.capacity trace d upper keeps
+    best : (size : ℕ) → IsTrue (is_unwindowed asked.mode (length trace)) → All (λ i. i.size ≡ size) line.items → IsBestSchedule asked.objective asked.capacity trace d upper keeps
     best size wide same =
         let values = (exact_values line.items line.steps unit units d prices flows weights (whole_of_equal size same) (solved asked.mode line unit units d price prices flows found.of_mode wide)).0 in
-        subst (λ u. IsBestPlay asked.objective asked.capacity trace d u keeps) (sym found.bound)
-        (best_play asked.objective asked.capacity trace size unit d prices flows by_rank keeps same found.unit_is found.each found.schedule values found.rounded found.allowed)
+        subst (λ u. IsBestSchedule asked.objective asked.capacity trace d u keeps) (sym found.bound)
+        (best_schedule asked.objective asked.capacity trace size unit d prices flows by_rank keeps same found.unit_is found.each found.schedule values found.rounded found.allowed)
 
     near : IsTrue (is_unwindowed asked.mode (length trace)) → IsNear trace h flows
     near wide =
@@ -251,7 +251,7 @@ module _ (asked : Asked) (trace : List Object) (unit d : ℕ) (whole_costs : Boo
       bounds = bounds;
       least = exact_is_least trace h rs valid;
       near = λ wide. subst (IsNear trace h) (sym flowing) (near wide);
-      equal_sizes = λ size wide same. subst (IsBestPlay asked.objective asked.capacity trace d upper) (sym kept) (best size wide same);
+      equal_sizes = λ size wide same. subst (IsBestSchedule asked.objective asked.capacity trace d upper) (sym kept) (best size wide same);
     }
 
 -- what is found makes the certificate

@@ -11,7 +11,7 @@ use Rattle.trace_any.specs.declared.fault.TraceFault.{TraceFault as FaultOfTrace
 use Rattle.trace_any.specs.declared.fault.TraceFault.TheVariants as trace
 use Rattle.trace_any.specs.declared.format.Format.{Format}
 use Rattle.trace_any.specs.Readings.{full_limits}
-use Rattle.trace_any.specs.Readers.{IsNotLoaded, IsWhole, fresh, to_come, told}
+use Rattle.trace_any.specs.Readers.{IsNotLoaded, IsWhole, fresh, to_come, known}
 use Rattle.trace_any.proofs.Coming.{fresh_to_come}
 use Rattle.bound_run.specs.declared.bounds.Asked.{Asked}
 use Rattle.bound_run.specs.declared.bounds.BoundsFault.{BoundsFault}
@@ -26,7 +26,7 @@ use Rattle.bound_report.specs.Refusals.{refusal_line}
 use Rattle.bound_run.specs.Statuses.{refusal_of, refusal_of_bounds, status_of}
 use Rattle.bound_run.specs.Inputs.{IsLoaded, IsReady, IsRefused}
 use Rattle.bound_run.specs.Run.{BoundsEnd, CheckEnds}
-use Rattle.bound_run.specs.Parts.{IsYesText, RefusesBounds, RefusesCheck, RefusesLoading, WritesOut, WritesReport}
+use Rattle.bound_run.specs.Parts.{IsVerdictText, RefusesBounds, RefusesCheck, RefusesLoading, WritesOut, WritesReport}
 
 -- where nothing is left to stand in, the source has nothing left
 left_nothing : (held : List ℕ) (left : Option (List ℕ)) → stands_in held left ≡ Some [] → left ≡ Some []
@@ -41,19 +41,19 @@ nothing_left (Some bytes) left held end = left_nothing held left end
 
 -- what a reader that has read nothing loads is the trace of all that the source had left
 pub loaded_all : (format : Format) (before after : Option (List ℕ)) (faults_before faults_after : ℕ) (requests : List Object) (dropped : ℕ)
-    → IfSome (told (fresh format full_limits) before) (λ bytes. IsWhole (to_come (fresh format full_limits) bytes) requests dropped)
-    → IfSome (told (fresh format full_limits) before) (λ bytes. after ≡ Some []) → IsLoaded format (device before after faults_before faults_after) requests dropped
+    → IfSome (known (fresh format full_limits) before) (λ bytes. IsWhole (to_come (fresh format full_limits) bytes) requests dropped)
+    → IfSome (known (fresh format full_limits) before) (λ bytes. after ≡ Some []) → IsLoaded format (device before after faults_before faults_after) requests dropped
 loaded_all format None after faults_before faults_after requests dropped whole end = record { read = tt; nothing_left = tt }
 loaded_all format (Some bytes) after faults_before faults_after requests dropped whole end = record { read = rw (fresh_to_come) at whole; nothing_left = end }
 
 refused_all : (format : Format) (before after : Option (List ℕ)) (faults_before faults_after : ℕ) (fault : FaultOfTrace)
-    → IfSome (told (fresh format full_limits) before) (λ bytes. (to_come (fresh format full_limits) bytes).refused ≡ Some fault) → IsRefused format (device before after faults_before faults_after) fault
+    → IfSome (known (fresh format full_limits) before) (λ bytes. (to_come (fresh format full_limits) bytes).refused ≡ Some fault) → IsRefused format (device before after faults_before faults_after) fault
 refused_all format None after faults_before faults_after fault refused = tt
 refused_all format (Some bytes) after faults_before faults_after fault refused = rw (fresh_to_come) at refused
 
 -- why nothing is loaded, as the refusal of a run
 pub not_loaded : (format : Format) (before after : Option (List ℕ)) (faults_before faults_after : ℕ) (fault : FaultOfTrace)
-    → IsNotLoaded (fresh format full_limits) (told (fresh format full_limits) before) faults_before faults_after fault
+    → IsNotLoaded (fresh format full_limits) (known (fresh format full_limits) before) faults_before faults_after fault
     → RefusesLoading format (device before after faults_before faults_after) (refusal_of fault)
 not_loaded format before after faults_before faults_after (trace.BadLine line kind) why = refused_all format before after faults_before faults_after (trace.BadLine line kind) why
 not_loaded format before after faults_before faults_after trace.ReadFault why = why
@@ -78,8 +78,8 @@ module _ (format : Format) (asked : Asked) (source report made : Device) where
   -- a run that wrote its bounds, or failed to
   pub bounds_written : (cert text : List ℕ) (status : Status) → IsReady format asked source cert text → WritesOut report made cert text status → BoundsEnd format asked source report made status
   bounds_written cert text status ready (inl (made_all, inl (is, report_all))) = subst (BoundsEnd format asked source report made) (sym is) (cert, text, ready, made_all, report_all)
-  bounds_written cert text status ready (inl (made_all, inr (is, failed, front))) = subst (BoundsEnd format asked source report made) (sym is) (cert, text, ready, failed, made_all, front)
-  bounds_written cert text status ready (inr (is, failed, front, line)) = subst (BoundsEnd format asked source report made) (sym is) (cert, text, ready, failed, front, line)
+  bounds_written cert text status ready (inl (made_all, inr (is, failed, prefix))) = subst (BoundsEnd format asked source report made) (sym is) (cert, text, ready, failed, made_all, prefix)
+  bounds_written cert text status ready (inr (is, failed, prefix, line)) = subst (BoundsEnd format asked source report made) (sym is) (cert, text, ready, failed, prefix, line)
 
   -- a run whose trace or denominator is refused
   pub bounds_refused : (why : Refusal) → RefusesBounds format asked source why → IsUntouched made → Gets report (refusal_line why) → BoundsEnd format asked source report made (status_of why)
@@ -103,9 +103,9 @@ module _ (format : Format) (asked : Asked) (source report made : Device) where
 
 module _ (format : Format) (source cert report : Device) where
   -- a check that said yes, or failed to
-  pub check_written : (text : List ℕ) (status : Status) → IsYesText format source cert text → WritesReport report text status → CheckEnds format source cert report status
+  pub check_written : (text : List ℕ) (status : Status) → IsVerdictText format source cert text → WritesReport report text status → CheckEnds format source cert report status
   check_written text status yes_text (inl (is, all)) = subst (CheckEnds format source cert report) (sym is) (yes_text.verdict, yes_text.dropped, yes_text.accepted, rw yes_text.text_is at all)
-  check_written text status yes_text (inr (is, failed, front)) = subst (CheckEnds format source cert report) (sym is) (yes_text.verdict, yes_text.dropped, yes_text.accepted, failed, rw yes_text.text_is at front)
+  check_written text status yes_text (inr (is, failed, prefix)) = subst (CheckEnds format source cert report) (sym is) (yes_text.verdict, yes_text.dropped, yes_text.accepted, failed, rw yes_text.text_is at prefix)
 
   -- a check that says no, or that can't be made
   pub check_refused : (why : Refusal) → RefusesCheck format source cert why → Gets report (refusal_line why) → CheckEnds format source cert report (status_of why)

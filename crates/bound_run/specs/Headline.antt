@@ -5,9 +5,9 @@ use Rattle.bound_io.specs.Devices.{Device}
 use Rattle.cache_model.specs.declared.objects.Object.{Object}
 use Rattle.cache_model.specs.declared.certificates.Header.{Header}
 use Rattle.cache_model.specs.declared.certificates.Record.{Record}
-use Rattle.cache_model.specs.Certificates.{BoundsEveryPlay, eligible_of, flow_of, keeps_of, upper_of}
+use Rattle.cache_model.specs.Certificates.{BoundsEveryPolicy, eligible_of, flow_of, keeps_of, upper_of}
 use Rattle.cache_model.specs.Keeps.{contents_of}
-use Rattle.cache_model.specs.Play.{IsAllowed, score}
+use Rattle.cache_model.specs.Claim.{IsAllowed, score}
 use Rattle.cache_model.specs.Texts.{cert_text, report_text}
 use Rattle.cache_model.specs.Units.{HasWholeCosts}
 use Rattle.cert_checker.specs.declared.verdict.Verdict.{Verdict}
@@ -23,10 +23,10 @@ use Rattle.bound_run.specs.Made.{facts_of, is_unwindowed}
 use Rattle.bound_run.specs.Run.{Devices, asked_for}
 use Rattle.bound_run.specs.Words.{plan}
 
--- the bounds of a certificate are true of the trace: no allowed contents score more than the upper one, the keeps are an allowed play that scores the lower one, and in the form exact prices and flows have the upper one as their value
+-- the bounds of a certificate are true of the trace: no allowed contents score more than the upper one, the keeps are allowed contents that scores the lower one, and in the form exact prices and flows have the upper one as their value
 pub record AreTrueBounds (trace : List Object) (h : Header) (records : List Record) : Type 0 where
   pub some_capacity : (1 ≤ h.capacity) × (h.capacity ≤ 2 ^ 56)
-  pub upper : BoundsEveryPlay trace h
+  pub upper : BoundsEveryPolicy trace h
   pub schedule : IsAllowed h.capacity trace (contents_of trace (keeps_of records))
   pub lower : score h.objective trace (contents_of trace (keeps_of records)) ≡ h.lower
   pub equal_values : IsTrue h.exact → (upper_of trace h records ≡ h.upper) × (flow_of trace h records ≡ h.upper)

@@ -5,7 +5,7 @@ use Rattle.bound_io.specs.Devices.{Device}
 use Rattle.cache_model.specs.declared.objects.Object.{Object}
 use Rattle.cache_model.specs.declared.certificates.Header.{Header}
 use Rattle.cache_model.specs.declared.certificates.Record.{Record}
-use Rattle.cache_model.specs.Certificates.{BoundsEveryPlay, IsLeastOverAll, IsValid}
+use Rattle.cache_model.specs.Certificates.{BoundsEveryPolicy, IsLeastOverAll, IsValid}
 use Rattle.cache_model.specs.Objects.{objects_of}
 use Rattle.cache_model.specs.Texts.{cert_text}
 use Rattle.trace_any.specs.declared.fault.TraceFault.{TraceFault as FaultOfTrace}
@@ -45,14 +45,14 @@ abbrev pub IsFirstEvent : Format → Device → Device → Event → Type 0
 IsFirstEvent format trace cert event =
     IfSome trace.before (λ bytes. IfSome cert.before (λ text. walk (reading format full_limits bytes) text ≡ Some event))
 
--- a yes: all that the sources had left is a trace and the text of a valid certificate of it, so no play scores more than its upper bound, and in the form exact no prices have a smaller one
+-- a yes: all that the sources had left is a trace and the text of a valid certificate of it, so no policy scores more than its upper bound, and in the form exact no prices have a smaller one
 pub record IsAccepted (format : Format) (trace cert : Device) (verdict : Verdict) (dropped : ℕ) : Type 0 where
   pub requests : List Object
   pub records : List Record
   pub loaded : IsLoaded format trace requests dropped
   pub objects : verdict.objects ≡ length (objects_of requests)
   pub valid : IsValid requests verdict.header records
-  pub bounds : BoundsEveryPlay requests verdict.header
+  pub bounds : BoundsEveryPolicy requests verdict.header
   pub least : IsTrue verdict.header.exact → IsLeastOverAll requests verdict.header records
   pub text : IfSome cert.before (λ text. text ≡ cert_text verdict.header records)
   pub nothing_left : IfSome cert.before (λ text. cert.after ≡ Some [])
@@ -64,7 +64,7 @@ pub record IsCertified (format : Format) (bytes text : List ℕ) : Type 0 where
   pub text_is : text ≡ cert_text header records
   pub valid : IsValid (reading format full_limits bytes).requests header records
 
--- the bytes are told, and are a trace within the limits
+-- the bytes are known, and are a trace within the limits
 abbrev pub IsGoodTrace : Format → Option (List ℕ) → Type 0
 IsGoodTrace format None = ⊥
 IsGoodTrace format (Some bytes) = (reading format full_limits bytes).refused ≡ None

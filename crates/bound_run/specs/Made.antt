@@ -14,7 +14,7 @@ use Rattle.cache_model.specs.Intervals.{eligible_intervals}
 use Rattle.cache_model.specs.Keeps.{is_kept}
 use Rattle.cache_model.specs.Objects.{objects_of}
 use Rattle.cache_model.specs.Units.{IsUnit, HasWholeCosts}
-use Rattle.cache_model.specs.Certificates.{eligible_of, flows_of, keeps_of, prices_of, units_of, IsValid, BoundsEveryPlay, IsLeastOverAll}
+use Rattle.cache_model.specs.Certificates.{eligible_of, flows_of, keeps_of, prices_of, units_of, IsValid, BoundsEveryPolicy, IsLeastOverAll}
 use Rattle.cache_model.specs.Rounding.{IsMaximal, IsRounded, by_rank}
 use Rattle.cache_model.specs.Texts.{cert_text, report_text}
 use Rattle.flow_model.specs.Instances.{IsLeast, IsSolution, total_cost, whole_instance}
@@ -24,7 +24,7 @@ use Rattle.relaxation.specs.declared.denominators.DenominatorChoice.TheVariants.
 use Rattle.relaxation.specs.Denominators.{IsChosen, PassesMost}
 use Rattle.relaxation.specs.Faults.{amount_of}
 use Rattle.constant_price.specs.Constants.{IsLeastConstant, constant_prices}
-use Rattle.schedule_round.specs.Laws.{IsBestPlay, full_flags}
+use Rattle.schedule_round.specs.Laws.{IsBestSchedule, full_flags}
 use Rattle.window_bounds.specs.Solutions.{AreSolutions, prices_in, value_of_windows, window_count}
 use Rattle.bound_run.specs.declared.bounds.Asked.{Asked}
 
@@ -81,10 +81,10 @@ pub record IsMade (asked : Asked) (trace : List Object) (price : ℕ) (h : Heade
   pub below_windows : IsBelowWindows asked.mode (timeline_of h.objective h.capacity trace) h.unit (units_of h) h.denominator (prices_of records) h.upper
   pub rounded : IsRounded by_rank (eligible_of trace h) h.capacity (length trace) (full_flags h.unit (eligible_of trace h) (flows_of (eligible_of trace h) records)) (keeps_of records)
   pub maximal : IsMaximal (eligible_of trace h) h.capacity (keeps_of records)
-  pub bounds : BoundsEveryPlay trace h
+  pub bounds : BoundsEveryPolicy trace h
   pub least : IsTrue h.exact → IsLeastOverAll trace h records
   pub near : IsTrue (is_unwindowed asked.mode (length trace)) → IsNear trace h (flows_of (eligible_of trace h) records)
-  pub equal_sizes : (size : ℕ) → IsTrue (is_unwindowed asked.mode (length trace)) → All (λ i. i.size ≡ size) (eligible_of trace h) → IsBestPlay h.objective h.capacity trace h.denominator h.upper (keeps_of records)
+  pub equal_sizes : (size : ℕ) → IsTrue (is_unwindowed asked.mode (length trace)) → All (λ i. i.size ≡ size) (eligible_of trace h) → IsBestSchedule h.objective h.capacity trace h.denominator h.upper (keeps_of records)
 
 -- what the report states beside the header
 abbrev pub facts_of : Asked → List Object → ℕ → ℕ → Header → BoundFacts

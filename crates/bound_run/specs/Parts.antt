@@ -1,7 +1,7 @@
 -- How the parts of a run end.
 use Rattle.std.specs.Prelude.{◌≡◌, ℕ, ◌⊎◌, List}
 use Rattle.std.specs.Io.KnownBytes.{Appends}
-use Rattle.bound_io.specs.Writing.{AppendsProperFront}
+use Rattle.bound_io.specs.Writing.{AppendsProperPrefix}
 use Rattle.bound_io.specs.Devices.{Device, HasFailed, Gets}
 use Rattle.trace_any.specs.declared.fault.TraceFault.TheVariants as trace
 use Rattle.trace_any.specs.declared.format.Format.{Format}
@@ -48,7 +48,7 @@ RefusesCheck format source cert (refusal.Words place kind) = ⊥
 RefusesCheck format source cert refusal.MadeFault = ⊥
 
 -- the text of a yes
-pub record IsYesText (format : Format) (source cert : Device) (text : List ℕ) : Type 0 where
+pub record IsVerdictText (format : Format) (source cert : Device) (text : List ℕ) : Type 0 where
   pub verdict : Verdict
   pub dropped : ℕ
   pub accepted : IsAccepted format source cert verdict dropped
@@ -58,10 +58,10 @@ pub record IsYesText (format : Format) (source cert : Device) (text : List ℕ) 
 abbrev pub WritesReport : Device → List ℕ → Status → Type 0
 WritesReport report text status =
     ((status ≡ Done) × Appends report.before report.after text)
-    ⊎ ((status ≡ ReportFault) × HasFailed report × AppendsProperFront report.before report.after text)
+    ⊎ ((status ≡ ReportFault) × HasFailed report × AppendsProperPrefix report.before report.after text)
 
 -- how the writing of the certificate and then of the report ends
 abbrev pub WritesOut : Device → Device → List ℕ → List ℕ → Status → Type 0
 WritesOut report made cert text status =
     (Appends made.before made.after cert × WritesReport report text status)
-    ⊎ ((status ≡ MadeFault) × HasFailed made × AppendsProperFront made.before made.after cert × Gets report (refusal_line refusal.MadeFault))
+    ⊎ ((status ≡ MadeFault) × HasFailed made × AppendsProperPrefix made.before made.after cert × Gets report (refusal_line refusal.MadeFault))

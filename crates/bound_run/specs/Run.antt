@@ -2,8 +2,8 @@
 use Rattle.std.specs.Prelude.{◌≡◌, ℕ, ◌⊎◌, List, Result, Ok, Err, Some, IsSome}
 use Rattle.std.specs.declared.option.Option.{Option}
 use Rattle.std.specs.Io.KnownBytes.{Appends}
-use Rattle.bound_io.specs.Reading.{LosesFront}
-use Rattle.bound_io.specs.Writing.{AppendsProperFront}
+use Rattle.bound_io.specs.Reading.{LosesPrefix}
+use Rattle.bound_io.specs.Writing.{AppendsProperPrefix}
 use Rattle.bound_io.specs.Devices.{Device, HasFailed, Gets, IsUntouched}
 use Rattle.cache_model.specs.declared.objects.Objective.{Objective}
 use Rattle.cache_model.specs.declared.reports.Mode.{Mode}
@@ -48,8 +48,8 @@ BoundsEnd format asked source report made (Limit Requests) = IsRefused format so
 BoundsEnd format asked source report made (Limit TraceBytes) = IsRefused format source trace.InputTooLong × Gets report (refusal_line (refusal.Limit TraceBytes)) × IsUntouched made
 BoundsEnd format asked source report made (Limit Denominator) = IsPastDenominator format asked source × Gets report (refusal_line (refusal.Limit Denominator)) × IsUntouched made
 BoundsEnd format asked source report made TraceFault = HasFailed source × Gets report (refusal_line refusal.TraceFault) × IsUntouched made
-BoundsEnd format asked source report made ReportFault = (cert : List ℕ) × (text : List ℕ) × IsReady format asked source cert text × HasFailed report × Appends made.before made.after cert × AppendsProperFront report.before report.after text
-BoundsEnd format asked source report made MadeFault = (cert : List ℕ) × (text : List ℕ) × IsReady format asked source cert text × HasFailed made × AppendsProperFront made.before made.after cert × Gets report (refusal_line refusal.MadeFault)
+BoundsEnd format asked source report made ReportFault = (cert : List ℕ) × (text : List ℕ) × IsReady format asked source cert text × HasFailed report × Appends made.before made.after cert × AppendsProperPrefix report.before report.after text
+BoundsEnd format asked source report made MadeFault = (cert : List ℕ) × (text : List ℕ) × IsReady format asked source cert text × HasFailed made × AppendsProperPrefix made.before made.after cert × Gets report (refusal_line refusal.MadeFault)
 BoundsEnd format asked source report made NoMemory = Gets report (refusal_line refusal.NoMemory) × IsUntouched made
 BoundsEnd format asked source report made (Invalid line kind) = ⊥
 BoundsEnd format asked source report made (Words fault) = ⊥
@@ -64,18 +64,18 @@ CheckEnds format source cert report (Limit Requests) = IsFirstEvent format sourc
 CheckEnds format source cert report (Limit TraceBytes) = IsFirstEvent format source cert (walk.Refused trace.InputTooLong) × Gets report (refusal_line (refusal.Limit TraceBytes))
 CheckEnds format source cert report TraceFault = HasFailed source × Gets report (refusal_line refusal.TraceFault)
 CheckEnds format source cert report CertFault = HasFailed cert × Gets report (refusal_line refusal.CertFault)
-CheckEnds format source cert report ReportFault = (verdict : Verdict) × (dropped : ℕ) × IsAccepted format source cert verdict dropped × HasFailed report × AppendsProperFront report.before report.after (verdict_text verdict dropped)
+CheckEnds format source cert report ReportFault = (verdict : Verdict) × (dropped : ℕ) × IsAccepted format source cert verdict dropped × HasFailed report × AppendsProperPrefix report.before report.after (verdict_text verdict dropped)
 CheckEnds format source cert report NoMemory = Gets report (refusal_line refusal.NoMemory)
 CheckEnds format source cert report (Limit Denominator) = ⊥
 CheckEnds format source cert report (Words fault) = ⊥
 CheckEnds format source cert report MadeFault = ⊥
 
--- how a run ends: what a plan doesn't need is left alone, and what it reads loses no more than a front
+-- how a run ends: what a plan doesn't need is left alone, and what it reads loses no more than a prefix
 abbrev pub RunEnds : Result Plan WordFault → Devices → Status → Type 0
 RunEnds (Ok (Bounds format capacity objective mode denominator)) d status =
-    BoundsEnd format (asked_for capacity objective mode denominator) d.trace d.report d.made status × LosesFront d.trace.before d.trace.after × IsUntouched d.cert
+    BoundsEnd format (asked_for capacity objective mode denominator) d.trace d.report d.made status × LosesPrefix d.trace.before d.trace.after × IsUntouched d.cert
 RunEnds (Ok (Check format)) d status =
-    CheckEnds format d.trace d.cert d.report status × LosesFront d.trace.before d.trace.after × LosesFront d.cert.before d.cert.after × IsUntouched d.made
+    CheckEnds format d.trace d.cert d.report status × LosesPrefix d.trace.before d.trace.after × LosesPrefix d.cert.before d.cert.after × IsUntouched d.made
 RunEnds (Err fault) d status =
     (status ≡ Words fault) × Gets d.report (refusal_line (refusal.Words fault.place fault.kind)) × IsUntouched d.trace × IsUntouched d.cert × IsUntouched d.made
 
@@ -90,7 +90,7 @@ pub record NoneFails (d : Devices) : Type 0 where
   pub report : ¬ (HasFailed d.report)
   pub made : ¬ (HasFailed d.made)
 
--- the inputs are told, and nothing of them is refused before the certificate is looked at
+-- the inputs are known, and nothing of them is refused before the certificate is looked at
 abbrev pub AreGoodInputs : Plan → Devices → Type 0
 AreGoodInputs (Bounds format capacity objective mode denominator) d =
     IsGoodTrace format d.trace.before × HasDenominator format (asked_for capacity objective mode denominator) d.trace.before

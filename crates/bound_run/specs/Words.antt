@@ -44,14 +44,14 @@ command_named word =
     else None)
 
 -- a command that is none is unknown
-abbrev pub known : Option Command → Result Command WordFault
-known None = Err (fault 1 Unknown)
-known (Some command) = Ok command
+abbrev pub known_command : Option Command → Result Command WordFault
+known_command None = Err (fault 1 Unknown)
+known_command (Some command) = Ok command
 
 -- the first word has to be a command
 abbrev pub command_of : Option (List ℕ) → Result Command WordFault
 command_of None = Err (fault 1 Missing)
-command_of (Some word) = known (command_named word)
+command_of (Some word) = known_command (command_named word)
 
 -- a path is any word but the empty one
 abbrev pub path : ℕ → Option (List ℕ) → Result (Unit {0}) WordFault

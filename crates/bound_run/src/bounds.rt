@@ -6,7 +6,7 @@ ghost use Rattle.cache_model.specs.Intervals.{bound_of};
 ghost use Rattle.cache_model.specs.Certificates.{eligible_of, IsCertificate};
 ghost use Rattle.cache_model.specs.Keeps.{contents_of};
 ghost use Rattle.cache_model.specs.Units.{HasWholeCosts, IsUnit};
-ghost use Rattle.cache_model.specs.Play.{IsAllowed, score};
+ghost use Rattle.cache_model.specs.Claim.{IsAllowed, score};
 ghost use Rattle.cache_model.specs.Rounding.{IsMaximal, IsRounded, by_rank};
 ghost use Rattle.cache_model.specs.Schedules.{IsFractionalSchedule, flow_value};
 ghost use Rattle.cache_model.specs.Texts.{cert_text};

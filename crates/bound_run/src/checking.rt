@@ -1,11 +1,11 @@
 //! Whether a certificate is valid for a trace, and what is said of it.
 ghost use Rattle.std.specs.Prelude.{◌≡◌, IfOk, IfErr};
 ghost use Rattle.bound_io.specs.Devices.{device};
-ghost use Rattle.bound_io.specs.Reading.{LosesFront};
+ghost use Rattle.bound_io.specs.Reading.{LosesPrefix};
 ghost use Rattle.cert_format.specs.Readers.{fresh as first_record};
 ghost use Rattle.trace_any.specs.Readers.{fresh as first_request};
 ghost use Rattle.trace_any.specs.Readings.{IsFormat, full_limits};
-ghost use Rattle.bound_run.specs.Parts.{IsYesText, RefusesCheck};
+ghost use Rattle.bound_run.specs.Parts.{IsVerdictText, RefusesCheck};
 
 use crate::status::refusal_of_check;
 use bound_io::Source;
@@ -16,7 +16,7 @@ use std::alloc::Global;
 use trace_any::{Format, Limits, RequestReader};
 
 // What is said of a certificate that is valid for the trace, as both are read to their ends. Neither was begun before.
-fn said_of<T: Source, Q: Source>(
+fn verdict_with<T: Source, Q: Source>(
     alloc: Global,
     requests: &mut RequestReader,
     trace: &mut T,
@@ -25,10 +25,10 @@ fn said_of<T: Source, Q: Source>(
 ) -> Result<Vec<u8>, Refusal>
     requires requests { requests.old ≡ first_request requests.old.format full_limits }
     requires records { records.old ≡ first_record }
-    ensures yes_text { IfOk result (λ text. IsYesText requests.old.format (device (T.left trace.old) (T.left trace.new) (T.faults trace.old) (T.faults trace.new)) (device (Q.left cert.old) (Q.left cert.new) (Q.faults cert.old) (Q.faults cert.new)) text.items) }
+    ensures yes_text { IfOk result (λ text. IsVerdictText requests.old.format (device (T.left trace.old) (T.left trace.new) (T.faults trace.old) (T.faults trace.new)) (device (Q.left cert.old) (Q.left cert.new) (Q.faults cert.old) (Q.faults cert.new)) text.items) }
     ensures refused { IfErr result (RefusesCheck requests.old.format (device (T.left trace.old) (T.left trace.new) (T.faults trace.old) (T.faults trace.new)) (device (Q.left cert.old) (Q.left cert.new) (Q.faults cert.old) (Q.faults cert.new))) }
-    ensures trace_source { LosesFront (T.left trace.old) (T.left trace.new) }
-    ensures cert_source { LosesFront (Q.left cert.old) (Q.left cert.new) }
+    ensures trace_source { LosesPrefix (T.left trace.old) (T.left trace.new) }
+    ensures cert_source { LosesPrefix (Q.left cert.old) (Q.left cert.new) }
 {
     match check_streams(alloc, requests, trace, records, cert) {
         Ok(verdict) => Ok(verdict_text(alloc, &verdict, requests.dropped())?),
@@ -38,7 +38,7 @@ fn said_of<T: Source, Q: Source>(
 
 // What is said of a certificate that is valid for the trace, as both are read to their ends, where the reader of its
 // records is new.
-fn said_by<T: Source, Q: Source>(
+fn verdict_by<T: Source, Q: Source>(
     alloc: Global,
     format: Format,
     trace: &mut T,
@@ -47,13 +47,13 @@ fn said_by<T: Source, Q: Source>(
 ) -> Result<Vec<u8>, Refusal>
     requires format { IsFormat format }
     requires records { records.old ≡ first_record }
-    ensures yes_text { IfOk result (λ text. IsYesText format (device (T.left trace.old) (T.left trace.new) (T.faults trace.old) (T.faults trace.new)) (device (Q.left cert.old) (Q.left cert.new) (Q.faults cert.old) (Q.faults cert.new)) text.items) }
+    ensures yes_text { IfOk result (λ text. IsVerdictText format (device (T.left trace.old) (T.left trace.new) (T.faults trace.old) (T.faults trace.new)) (device (Q.left cert.old) (Q.left cert.new) (Q.faults cert.old) (Q.faults cert.new)) text.items) }
     ensures refused { IfErr result (RefusesCheck format (device (T.left trace.old) (T.left trace.new) (T.faults trace.old) (T.faults trace.new)) (device (Q.left cert.old) (Q.left cert.new) (Q.faults cert.old) (Q.faults cert.new))) }
-    ensures trace_source { LosesFront (T.left trace.old) (T.left trace.new) }
-    ensures cert_source { LosesFront (Q.left cert.old) (Q.left cert.new) }
+    ensures trace_source { LosesPrefix (T.left trace.old) (T.left trace.new) }
+    ensures cert_source { LosesPrefix (Q.left cert.old) (Q.left cert.new) }
 {
     let mut requests = RequestReader::new(alloc, format, Limits::full())?;
-    said_of(alloc, &mut requests, trace, records, cert)
+    verdict_with(alloc, &mut requests, trace, records, cert)
 }
 
 /// What is said of a certificate that is valid for the trace, as both are read to their ends.
@@ -64,11 +64,11 @@ pub fn verdict_of<T: Source, Q: Source>(
     cert: &mut Q,
 ) -> Result<Vec<u8>, Refusal>
     requires { IsFormat format }
-    ensures yes_text { IfOk result (λ text. IsYesText format (device (T.left trace.old) (T.left trace.new) (T.faults trace.old) (T.faults trace.new)) (device (Q.left cert.old) (Q.left cert.new) (Q.faults cert.old) (Q.faults cert.new)) text.items) }
+    ensures yes_text { IfOk result (λ text. IsVerdictText format (device (T.left trace.old) (T.left trace.new) (T.faults trace.old) (T.faults trace.new)) (device (Q.left cert.old) (Q.left cert.new) (Q.faults cert.old) (Q.faults cert.new)) text.items) }
     ensures refused { IfErr result (RefusesCheck format (device (T.left trace.old) (T.left trace.new) (T.faults trace.old) (T.faults trace.new)) (device (Q.left cert.old) (Q.left cert.new) (Q.faults cert.old) (Q.faults cert.new))) }
-    ensures trace_source { LosesFront (T.left trace.old) (T.left trace.new) }
-    ensures cert_source { LosesFront (Q.left cert.old) (Q.left cert.new) }
+    ensures trace_source { LosesPrefix (T.left trace.old) (T.left trace.new) }
+    ensures cert_source { LosesPrefix (Q.left cert.old) (Q.left cert.new) }
 {
     let mut records = CertReader::new(alloc)?;
-    said_by(alloc, format, trace, &mut records, cert)
+    verdict_by(alloc, format, trace, &mut records, cert)
 }

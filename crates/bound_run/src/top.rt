@@ -1,7 +1,7 @@
 //! All that the program does, over any sources and sinks.
 ghost use Rattle.std.specs.Prelude.{◌≡◌, ◌≤◌, ◌^◌, map, string_bytes, Result, IfOk, IfErr};
 ghost use Rattle.bound_io.specs.Devices.{Gets, device};
-ghost use Rattle.bound_io.specs.Reading.{LosesFront};
+ghost use Rattle.bound_io.specs.Reading.{LosesPrefix};
 ghost use Rattle.trace_any.specs.Readings.{IsFormat};
 ghost use Rattle.relaxation.specs.Denominators.{IsChoice};
 ghost use Rattle.bound_report.specs.Refusals.{refusal_line};
@@ -31,7 +31,7 @@ fn load_all<T: Source>(
     requires { IsFormat format }
     ensures loaded { IfOk result (λ read. IsLoaded format (device (T.left trace.old) (T.left trace.new) (T.faults trace.old) (T.faults trace.new)) read.0 read.1) }
     ensures refused { IfErr result (RefusesLoading format (device (T.left trace.old) (T.left trace.new) (T.faults trace.old) (T.faults trace.new))) }
-    ensures source { LosesFront (T.left trace.old) (T.left trace.new) }
+    ensures source { LosesPrefix (T.left trace.old) (T.left trace.new) }
 {
     let read = {
         let mut reader = RequestReader::new(alloc, format, Limits::full())?;
@@ -56,7 +56,7 @@ fn prepare<T: Source>(
     requires choice { IsChoice asked.now.denominator }
     ensures ready { IfOk result (λ texts. IsReady format asked.now (device (T.left trace.old) (T.left trace.new) (T.faults trace.old) (T.faults trace.new)) texts.cert.items texts.report.items) }
     ensures refused { IfErr result (RefusesBounds format asked.now (device (T.left trace.old) (T.left trace.new) (T.faults trace.old) (T.faults trace.new))) }
-    ensures source { LosesFront (T.left trace.old) (T.left trace.new) }
+    ensures source { LosesPrefix (T.left trace.old) (T.left trace.new) }
 {
     let texts = {
         let (requests, dropped) = load_all(alloc, format, trace)?;
@@ -68,7 +68,7 @@ fn prepare<T: Source>(
 // Writes the line that tells why the run stopped, as far as the report takes it.
 fn refuse<R: Sink>(report: &mut R, refusal: Refusal) -> Status
     ensures status { result ≡ status_of refusal }
-    ensures told { Gets (device (R.written report.old) (R.written report.new) (R.faults report.old) (R.faults report.new)) (refusal_line refusal) }
+    ensures reported { Gets (device (R.written report.old) (R.written report.new) (R.faults report.old) (R.faults report.new)) (refusal_line refusal) }
 {
     let _ = write_all(report, refusal_text(&refusal).as_bytes());
     Status::from(refusal)
@@ -113,7 +113,7 @@ fn run_bounds<T: Source, R: Sink, K: Sink>(
         (device (T.left trace.old) (T.left trace.new) (T.faults trace.old) (T.faults trace.new))
         (device (R.written report.old) (R.written report.new) (R.faults report.old) (R.faults report.new))
         (device (K.written made.old) (K.written made.new) (K.faults made.old) (K.faults made.new)) result }
-    ensures source { LosesFront (T.left trace.old) (T.left trace.new) }
+    ensures source { LosesPrefix (T.left trace.old) (T.left trace.new) }
 {
     match prepare(alloc, format, asked, trace) {
         Ok(texts) => write_out(report, made, &texts),
@@ -134,8 +134,8 @@ fn run_check<T: Source, Q: Source, R: Sink>(
         (device (T.left trace.old) (T.left trace.new) (T.faults trace.old) (T.faults trace.new))
         (device (Q.left cert.old) (Q.left cert.new) (Q.faults cert.old) (Q.faults cert.new))
         (device (R.written report.old) (R.written report.new) (R.faults report.old) (R.faults report.new)) result }
-    ensures trace_source { LosesFront (T.left trace.old) (T.left trace.new) }
-    ensures cert_source { LosesFront (Q.left cert.old) (Q.left cert.new) }
+    ensures trace_source { LosesPrefix (T.left trace.old) (T.left trace.new) }
+    ensures cert_source { LosesPrefix (Q.left cert.old) (Q.left cert.new) }
 {
     match verdict_of(alloc, format, trace, cert) {
         Ok(text) => write_report(report, &text),

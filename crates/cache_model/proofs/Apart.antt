@@ -33,9 +33,9 @@ split_first sep (x ∷ a) (y ∷ b) xs ys la lb e =
     let same : a ≡ b = both.0 in
     (cc, both.1)
 
-cancel_front : (a xs ys : List ℕ) → a ++ xs ≡ a ++ ys → xs ≡ ys
-cancel_front [] xs ys e = e
-cancel_front (x ∷ a) xs ys e = let rest : a ++ xs ≡ a ++ ys = cc in cancel_front a xs ys rest
+cancel_prefix : (a xs ys : List ℕ) → a ++ xs ≡ a ++ ys → xs ≡ ys
+cancel_prefix [] xs ys e = e
+cancel_prefix (x ∷ a) xs ys e = let rest : a ++ xs ≡ a ++ ys = cc in cancel_prefix a xs ys rest
 
 abbrev HasDigits : ℕ → List ℕ → Type 0
 HasDigits n ds = AllByRecursion (λ d. 48 ≤ d) ds
@@ -91,7 +91,7 @@ lines_apart (l ∷ ls) (m ∷ ms) xs ys same a b e =
     (cc, rest.1)
 
 entry_injective : (word : List ℕ) (m n : ℕ) → m < 10 ^ 64 → n < 10 ^ 64 → entry word m ≡ entry word n → m ≡ n
-entry_injective word m n a b e = decimal_injective_wide m n a b (cancel_front (word ++ codes " ") (decimal m) (decimal n) e)
+entry_injective word m n a b e = decimal_injective_wide m n a b (cancel_prefix (word ++ codes " ") (decimal m) (decimal n) e)
 
 heads : (m n : ℕ) (xs ys : List ℕ) → m ∷ xs ≡ n ∷ ys → m ≡ n
 heads m n xs ys e = cc
@@ -178,7 +178,7 @@ record_from p k f = record { price = p; keep = k; flow = f }
 header_injective : (h k : Header) → IsHeaderInRange h → IsHeaderInRange k → header_lines h ≡ header_lines k → h ≡ k
 unfolding header_from
 header_injective h k a b e =
-    let o : h.objective ≡ k.objective = objective_word_injective _ _ (cancel_front (codes "objective ") _ _ (nth e 1)) in
+    let o : h.objective ≡ k.objective = objective_word_injective _ _ (cancel_prefix (codes "objective ") _ _ (nth e 1)) in
     let c : h.capacity ≡ k.capacity = entry_injective (codes "capacity") _ _ (let x : h.capacity ≤ 2 ^ 56 = a.capacity.1 in omega arith) (let x : k.capacity ≤ 2 ^ 56 = b.capacity.1 in omega arith) (nth e 2) in
     let n : h.requests ≡ k.requests = entry_injective (codes "requests") _ _ (let x : h.requests ≤ 2 ^ 25 = a.requests in omega arith) (let x : k.requests ≤ 2 ^ 25 = b.requests in omega arith) (nth e 3) in
     let u : h.unit ≡ k.unit = entry_injective (codes "unit") _ _
@@ -186,7 +186,7 @@ header_injective h k a b e =
     (let x : k.unit ≤ k.capacity = b.unit.1 in let y : k.capacity ≤ 2 ^ 56 = b.capacity.1 in omega arith) (nth e 4) in
     let d : h.denominator ≡ k.denominator = entry_injective (codes "denominator") _ _
     (let x : h.denominator ≤ 2 ^ 48 = a.denominator.1 in omega arith) (let x : k.denominator ≤ 2 ^ 48 = b.denominator.1 in omega arith) (nth e 5) in
-    let x : h.exact ≡ k.exact = form_word_injective _ _ (cancel_front (codes "form ") _ _ (nth e 6)) in
+    let x : h.exact ≡ k.exact = form_word_injective _ _ (cancel_prefix (codes "form ") _ _ (nth e 6)) in
     let v : h.upper ≡ k.upper = entry_injective (codes "upper") _ _ (wide h.upper a.upper) (wide k.upper b.upper) (nth e 7) in
     let f : h.flow ≡ k.flow = entry_injective (codes "flow") _ _ (wide h.flow a.flow) (wide k.flow b.flow) (nth e 8) in
     let l : h.lower ≡ k.lower = entry_injective (codes "lower") _ _ (wide h.lower a.lower) (wide k.lower b.lower) (nth e 9) in

@@ -5,7 +5,7 @@ use Rattle.std.proofs.lemmas.Bool.{cases_lt, lt-ltb, le-ltb, and_left, and_right
 use Rattle.std.proofs.lemmas.List.Sums.{sum_by-cons}
 use Rattle.cache_model.specs.declared.objects.Object.{Object}
 use Rattle.cache_model.specs.declared.objects.Objective.{Objective}
-use Rattle.cache_model.specs.Play.{same_object, gain_of}
+use Rattle.cache_model.specs.Claim.{same_object, gain_of}
 use Rattle.cache_model.specs.Intervals.{is_eligible, interval_of, eligible_intervals, surplus}
 use Rattle.cache_model.specs.Objects.{request_at}
 use Rattle.cache_model.proofs.Duality.{same_object-true, same_object-refl, worth, extra}

@@ -8,7 +8,7 @@ use Rattle.std.proofs.lemmas.List.Sums.{sum_by-cons}
 use Rattle.cache_model.specs.declared.objects.Object.{Object}
 use Rattle.cache_model.specs.declared.objects.Objective.{Objective}
 use Rattle.cache_model.specs.declared.intervals.Interval.{Interval}
-use Rattle.cache_model.specs.Play.{same_object, total_size}
+use Rattle.cache_model.specs.Claim.{same_object, total_size}
 use Rattle.cache_model.specs.Intervals.{interval_of, eligible_from, eligible_intervals}
 use Rattle.cache_model.specs.Objects.{request_at, no_object, IsNext}
 use Rattle.cache_model.specs.Schedules.{covers}

@@ -14,7 +14,7 @@ use Rattle.cache_model.specs.declared.certificates.Header.{Header}
 use Rattle.cache_model.specs.declared.certificates.Record.{Record}
 use Rattle.cache_model.specs.declared.reports.Mode.TheVariants.{Flow, Infinite}
 use Rattle.cache_model.specs.declared.reports.Window.TheVariants.{All as Whole}
-use Rattle.cache_model.specs.Play.{score, total_size}
+use Rattle.cache_model.specs.Claim.{score, total_size}
 use Rattle.cache_model.specs.Objects.{objects_of}
 use Rattle.cache_model.specs.Intervals.{eligible_intervals, bound_of}
 use Rattle.cache_model.specs.Schedules.{load_at, flow_value, covers}

@@ -7,7 +7,7 @@ use Rattle.std.proofs.lemmas.List.Folds.{list_any_at, list_any_none, Any-from_li
 use Rattle.std.proofs.lemmas.List.Sums.{sum_by-cons, get_or-le-sum_by}
 use Rattle.cache_model.specs.declared.objects.Object.{Object}
 use Rattle.cache_model.specs.declared.objects.Objective.{Objective}
-use Rattle.cache_model.specs.Play.{same_object, gain_of, total_size, holds, score, IsAllowed}
+use Rattle.cache_model.specs.Claim.{same_object, gain_of, total_size, holds, score, IsAllowed}
 use Rattle.cache_model.specs.Objects.{request_at, no_object, IsFirst, IsNext}
 use Rattle.cache_model.specs.Keeps.{is_kept, is_held, is_latest, latest_sum, held_before, contents_of, load_after}
 use Rattle.cache_model.proofs.Duality.{same_object-true}
@@ -209,7 +209,7 @@ size-le-total_size held x h = at (Any-from_list_any (same_object x) held h)
         let here : x ≡ y = same_object-true x y same in
         omega (arith, ap (λ (z : Object). z.size) here, ap (λ (z : Object). z.size) e, get_or-le-sum_by (λ (z : Object). z.size) held k y low)
 
--- keeps whose load is within the capacity after each request are an allowed play
+-- keeps whose load is within the capacity after each request are allowed contents
 pub allowed-from_loads : (trace : List Object) (capacity : ℕ) (keeps : List Bool)
     → ((t : ℕ) → t < length trace → load_after trace keeps t ≤ capacity)
     → IsAllowed capacity trace (contents_of trace keeps)

@@ -10,7 +10,7 @@ use Rattle.std.proofs.lemmas.List.Sums.{sum_by-cons, get_or-le-sum_by}
 use Rattle.std.proofs.lemmas.Map.Made.{IsDistinct-from_AllPairs}
 use Rattle.cache_model.specs.declared.objects.Object.{Object}
 use Rattle.cache_model.specs.declared.objects.Objective.{Objective}
-use Rattle.cache_model.specs.Play.{same_object, gain_of, total_size, holds, before_request, IsAllowed, score}
+use Rattle.cache_model.specs.Claim.{same_object, gain_of, total_size, holds, before_request, IsAllowed, score}
 use Rattle.cache_model.specs.Intervals.{eligible_intervals, bound_of}
 use Rattle.cache_model.proofs.Duality.{same_object-true, same_object-refl, Follows, earned, earned-le, worth, extra}
 use Rattle.cache_model.proofs.Sums.{sum_by-nothing}
@@ -77,11 +77,11 @@ score-mul o d (x ∷ trace) (held ∷ contents) =
     at true = refl
     at false = omega arith
 
-pub no_play_scores_more_lem : (o : Objective) (c u d : ℕ) (trace : List Object) (prices : List ℕ) (contents : List (List Object))
+pub no_policy_scores_more_lem : (o : Objective) (c u d : ℕ) (trace : List Object) (prices : List ℕ) (contents : List (List Object))
     → IsAllowed c trace contents → length prices ≡ length trace
     → d * score o trace contents ≤ bound_of (eligible_intervals o c trace) u (c / u) d prices
-no_play_scores_more_lem o c u d trace prices [] allowed same = absurd (omega arith)
-no_play_scores_more_lem o c u d trace prices (held ∷ nexts) allowed same =
+no_policy_scores_more_lem o c u d trace prices [] allowed same = absurd (omega arith)
+no_policy_scores_more_lem o c u d trace prices (held ∷ nexts) allowed same =
     let g : Object → ℕ = counted_of o c d in
     let w : Object → ℕ = weight_of u in
     let fits : total_size held ≤ c = All-head (λ xs. total_size xs ≤ c) held nexts allowed.within_capacity in

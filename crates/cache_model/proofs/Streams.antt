@@ -8,7 +8,7 @@ use Rattle.std.proofs.lemmas.List.Sums.{sum_by-cons, sum_by_push}
 use Rattle.cache_model.specs.declared.objects.Object.{Object}
 use Rattle.cache_model.specs.declared.objects.Objective.{Objective}
 use Rattle.cache_model.specs.declared.intervals.Interval.{Interval}
-use Rattle.cache_model.specs.Play.{same_object, gain_of}
+use Rattle.cache_model.specs.Claim.{same_object, gain_of}
 use Rattle.cache_model.specs.Objects.{IsLatest}
 use Rattle.cache_model.specs.Intervals.{is_eligible, interval_of, eligible_from, eligible_intervals}
 use Rattle.cache_model.specs.Objects.{request_at, no_object}
@@ -92,10 +92,10 @@ module _ (f : Interval → ℕ) (o : Objective) (c : ℕ) (trace : List Object) 
       → sum_by f (eligible_from o c (trace ++ x ∷ []) a) ≡ sum_by f (eligible_from o c trace a) + pair_sum f o c (trace ++ x ∷ []) a (length trace)
   earlier_row a la =
       let g : ℕ → ℕ = pair_sum f o c (trace ++ x ∷ []) a in
-      let front : sum_by g (range_with_len 0 (length trace)) ≡ sum_by f (eligible_from o c trace a) =
+      let prefix : sum_by g (range_with_len 0 (length trace)) ≡ sum_by f (eligible_from o c trace a) =
       sum_by-range_agree g (pair_sum f o c trace a) 0 (length trace) (λ b low high. earlier_pair a b la (omega arith)) ∙ sym (from_sum f o c trace a) in
       from_sum f o c (trace ++ x ∷ []) a ∙ ap (λ k. sum_by g (range_with_len 0 k)) size_more ∙ sum_by-range_last g (length trace)
-      ∙ ap (λ k. k + g (length trace)) front
+      ∙ ap (λ k. k + g (length trace)) prefix
 
   last_row : sum_by f (eligible_from o c (trace ++ x ∷ []) (length trace)) ≡ 0
   last_row = ap (sum_by f) (eligible_from_last o c (trace ++ x ∷ []) (length trace) (λ k low high. absurd (omega (arith, size_more))))

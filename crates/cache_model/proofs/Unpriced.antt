@@ -13,7 +13,7 @@ use Rattle.cache_model.specs.declared.objects.Object.{Object}
 use Rattle.cache_model.specs.declared.objects.Objective.{Objective}
 use Rattle.cache_model.specs.declared.intervals.Interval.{Interval}
 use Rattle.cache_model.specs.declared.certificates.Header.{Header}
-use Rattle.cache_model.specs.Play.{holds, gain_of, total_size, IsAllowed, score}
+use Rattle.cache_model.specs.Claim.{holds, gain_of, total_size, IsAllowed, score}
 use Rattle.cache_model.specs.Objects.{request_at, no_object, IsNext}
 use Rattle.cache_model.specs.Intervals.{surplus, eligible_intervals}
 use Rattle.cache_model.specs.Units.{weight, IsUnit}

@@ -6,7 +6,7 @@ use Rattle.cache_model.specs.declared.objects.Object.{Object}
 use Rattle.cache_model.specs.declared.intervals.Interval.{Interval}
 use Rattle.cache_model.specs.declared.certificates.Header.{Header}
 use Rattle.cache_model.specs.declared.certificates.Record.{Record}
-use Rattle.cache_model.specs.Play.{IsAllowed, score}
+use Rattle.cache_model.specs.Claim.{IsAllowed, score}
 use Rattle.cache_model.specs.Intervals.{eligible_intervals, bound_of}
 use Rattle.cache_model.specs.Schedules.{IsFractionalSchedule, flow_value}
 use Rattle.cache_model.specs.Units.{HasWholeCosts}
@@ -69,7 +69,7 @@ upper_of trace h records = bound_of (eligible_of trace h) h.unit (units_of h) h.
 abbrev pub flow_of : List Object → Header → List Record → ℕ
 flow_of trace h records = flow_value (eligible_of trace h) h.unit h.denominator (flows_of (eligible_of trace h) records)
 
--- the keeps are an allowed play, the flows a fractional schedule, and the header has their score, their value and the bound of the prices
+-- the keeps are allowed contents, the flows a fractional schedule, and the header has their score, their value and the bound of the prices
 pub record IsValid (trace : List Object) (h : Header) (records : List Record) : Type 0 where
   pub certificate : IsCertificate h records
   pub requests : h.requests ≡ length trace
@@ -85,12 +85,12 @@ pub record IsValid (trace : List Object) (h : Header) (records : List Record) : 
   pub whole_costs : IsTrue h.exact → HasWholeCosts (eligible_of trace h) h.unit h.denominator
   pub exact_values : IsTrue h.exact → h.upper ≡ h.flow
 
--- no play within the capacity scores more than the upper bound, nor than its floor
-pub record BoundsEveryPlay (trace : List Object) (h : Header) : Type 0 where
+-- no policy within the capacity scores more than the upper bound, nor than its floor
+pub record BoundsEveryPolicy (trace : List Object) (h : Header) : Type 0 where
   pub denominator_positive : 0 < h.denominator
-  pub no_play_scores_more : (contents : List (List Object)) → IsAllowed h.capacity trace contents
+  pub no_policy_scores_more : (contents : List (List Object)) → IsAllowed h.capacity trace contents
       → h.denominator * score h.objective trace contents ≤ h.upper
-  pub no_play_passes_the_floor : (contents : List (List Object)) → IsAllowed h.capacity trace contents
+  pub no_policy_passes_the_floor : (contents : List (List Object)) → IsAllowed h.capacity trace contents
       → score h.objective trace contents ≤ h.upper / h.denominator
 
 -- no prices over any denominator give a smaller bound than the records' prices

@@ -4,7 +4,7 @@ use Rattle.std.specs.List.{list_any}
 use Rattle.cache_model.specs.declared.objects.Object.{Object}
 use Rattle.cache_model.specs.declared.objects.Objective.{Objective}
 use Rattle.cache_model.specs.declared.intervals.Interval.{Interval}
-use Rattle.cache_model.specs.Play.{same_object, gain_of}
+use Rattle.cache_model.specs.Claim.{same_object, gain_of}
 use Rattle.cache_model.specs.Objects.{request_at, numbers_of}
 
 -- request a comes before request b, both are of one object that fits, and no request between them is of it

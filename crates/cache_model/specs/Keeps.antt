@@ -2,7 +2,7 @@
 use Rattle.std.specs.Prelude.{◌≡◌, ℕ, ◌+◌, ◌<◌, ◌≤◌, Bool, false, not, ◌&&◌, if◌then◌else◌, List, length, map, slice_index_or, slice_range, filter, sum_by}
 use Rattle.std.specs.List.{list_any, range_with_len}
 use Rattle.cache_model.specs.declared.objects.Object.{Object}
-use Rattle.cache_model.specs.Play.{same_object, total_size}
+use Rattle.cache_model.specs.Claim.{same_object, total_size}
 use Rattle.cache_model.specs.Objects.{request_at}
 
 -- whether request t is kept

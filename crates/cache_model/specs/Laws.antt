@@ -5,9 +5,9 @@ use Rattle.cache_model.specs.declared.objects.Objective.{Objective}
 use Rattle.cache_model.specs.declared.intervals.Interval.{Interval}
 use Rattle.cache_model.specs.declared.certificates.Header.{Header}
 use Rattle.cache_model.specs.declared.certificates.Record.{Record}
-use Rattle.cache_model.specs.Certificates.{IsCertificate, IsValid, BoundsEveryPlay, IsLeastOverAll}
+use Rattle.cache_model.specs.Certificates.{IsCertificate, IsValid, BoundsEveryPolicy, IsLeastOverAll}
 use Rattle.cache_model.specs.Texts.{cert_text}
-use Rattle.cache_model.specs.Play.{IsAllowed, total_size}
+use Rattle.cache_model.specs.Claim.{IsAllowed, total_size}
 use Rattle.cache_model.specs.Objects.{IsLatest, IsNew}
 use Rattle.cache_model.specs.Intervals.{interval_of, eligible_intervals, bound_of}
 use Rattle.cache_model.specs.Objects.{request_at, IsNext}
@@ -32,7 +32,7 @@ pub record EligibleIntervals (objective : Objective) (capacity : ℕ) (trace : L
 abbrev pub IntervalsAreEligible : Type 0
 IntervalsAreEligible = (objective : Objective) (capacity : ℕ) (trace : List Object) → EligibleIntervals objective capacity trace
 
--- where the contents of keeps fit, they are an allowed play
+-- where the contents of keeps fit, they are allowed contents
 abbrev pub KeepsAreAllowed : Type 0
 KeepsAreAllowed =
     (trace : List Object) (capacity : ℕ) (keeps : List Bool)
@@ -97,9 +97,9 @@ LoadIsLatestSum =
     → t < length trace
     → load_at (eligible_intervals objective capacity trace) (map (λ i. amount i.start) (eligible_intervals objective capacity trace)) t ≡ latest_sum trace amount (t + 1)
 
--- a valid certificate bounds every play
-abbrev pub ValidBoundsEveryPlay : Type 0
-ValidBoundsEveryPlay = (trace : List Object) (h : Header) (records : List Record) → IsValid trace h records → BoundsEveryPlay trace h
+-- a valid certificate bounds every policy
+abbrev pub ValidBoundsEveryPolicy : Type 0
+ValidBoundsEveryPolicy = (trace : List Object) (h : Header) (records : List Record) → IsValid trace h records → BoundsEveryPolicy trace h
 
 -- a valid certificate of the form exact gives the least bound of all prices over every denominator
 abbrev pub ExactIsLeast : Type 0

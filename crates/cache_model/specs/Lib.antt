@@ -1,4 +1,4 @@
-pub mod Play
+pub mod Claim
 pub mod Objects
 pub mod Intervals
 pub mod Units
@@ -7,5 +7,5 @@ pub mod Keeps
 pub mod Rounding
 pub mod Certificates
 pub mod Texts
-pub mod NoPlayScoresMore
+pub mod NoPolicyScoresMore
 pub mod Laws

@@ -2,7 +2,7 @@
 use Rattle.std.specs.Prelude.{◌≡◌, ℕ, ◌<◌, Bool, false, IsTrue, not, List, length, map, take, slice_index_or, filter}
 use Rattle.std.specs.List.{list_any, range_with_len}
 use Rattle.cache_model.specs.declared.objects.Object.{Object}
-use Rattle.cache_model.specs.Play.{same_object}
+use Rattle.cache_model.specs.Claim.{same_object}
 
 -- what stands past the end of a trace
 abbrev pub no_object : Object

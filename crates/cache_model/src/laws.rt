@@ -1,10 +1,10 @@
 //! What is proved of the definitions: each law is the contract of a function that does nothing.
-ghost use Rattle.cache_model.specs.Laws.{ContentsWeighTheirIntervals, ExactIsLeast, FlowsAreBelowPrices, IntervalsAreEligible, KeepsAreAllowed, LeastWholeIsLeastCommonMultiple, LoadIsLatestSum, OneMoreRequest, OneReading, RoundedIsMaximal, UnitIsOneNumber, ValidBoundsEveryPlay};
-ghost use Rattle.cache_model.specs.NoPlayScoresMore.{NoPlayScoresMore};
+ghost use Rattle.cache_model.specs.Laws.{ContentsWeighTheirIntervals, ExactIsLeast, FlowsAreBelowPrices, IntervalsAreEligible, KeepsAreAllowed, LeastWholeIsLeastCommonMultiple, LoadIsLatestSum, OneMoreRequest, OneReading, RoundedIsMaximal, UnitIsOneNumber, ValidBoundsEveryPolicy};
+ghost use Rattle.cache_model.specs.NoPolicyScoresMore.{NoPolicyScoresMore};
 
 /// No contents that the rules allow score more than the bound of any prices.
-pub fn no_play_scores_more()
-    ensures { NoPlayScoresMore }
+pub fn no_policy_scores_more()
+    ensures { NoPolicyScoresMore }
 {}
 
 /// The list of eligible intervals has all and only those, in order of start.
@@ -47,9 +47,9 @@ pub fn one_reading()
     ensures { OneReading }
 {}
 
-/// A valid certificate bounds every play.
-pub fn valid_bounds_every_play()
-    ensures { ValidBoundsEveryPlay }
+/// A valid certificate bounds every policy.
+pub fn valid_bounds_every_policy()
+    ensures { ValidBoundsEveryPolicy }
 {}
 
 /// A valid certificate of the form exact gives the least bound of all prices.

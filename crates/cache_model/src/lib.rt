@@ -15,8 +15,8 @@ pub use intervals::Interval;
 pub use laws::{
     contents_weigh_their_intervals, exact_is_least, flows_are_below_prices, intervals_are_eligible,
     keeps_are_allowed, least_whole_is_least_common_multiple, load_is_latest_sum,
-    no_play_scores_more, one_more_request, one_reading, rounded_is_maximal, unit_is_one_number,
-    valid_bounds_every_play,
+    no_policy_scores_more, one_more_request, one_reading, rounded_is_maximal, unit_is_one_number,
+    valid_bounds_every_policy,
 };
 pub use objects::{Object, Objective};
 pub use reports::{BoundFacts, Mode, Window};

@@ -2,7 +2,7 @@
 ghost use Rattle.std.specs.Prelude.{◌≡◌, ◌↔◌, ◌≤◌, ◌<◌, ◌+◌, ◌^◌, ℕ, Bool, true, if◌then◌else◌, length, IfOk, IfErr, OnOk, IsOk};
 ghost use Rattle.cache_model.specs.Keeps.{contents_of, held_before, load_after, IsFirstOverfull};
 ghost use Rattle.cache_model.specs.Objects.{request_at};
-ghost use Rattle.cache_model.specs.Play.{gain_of, holds, score, IsAllowed};
+ghost use Rattle.cache_model.specs.Claim.{gain_of, holds, score, IsAllowed};
 
 use crate::trace::Trace;
 use cache_model::{Object, Objective};

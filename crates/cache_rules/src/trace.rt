@@ -2,7 +2,7 @@
 ghost use Rattle.std.specs.Prelude.{◌≡◌, ◌≤◌, ◌<◌, ◌^◌, ◌++◌, [], ◌∷◌, length, Some, slice_get, slice_index_or, position, OnOk, OnErr, MatchOption};
 ghost use Rattle.std.specs.Vec.{vec_len, vec_capacity};
 ghost use Rattle.cache_model.specs.Objects.{no_object, request_at, objects_of, IsNext, IsLast, IsFirst};
-ghost use Rattle.cache_model.specs.Play.{same_object};
+ghost use Rattle.cache_model.specs.Claim.{same_object};
 ghost use Rattle.cache_rules.specs.Stored.{no_request};
 
 use bound_base::NoMemory;

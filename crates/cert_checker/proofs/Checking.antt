@@ -11,7 +11,7 @@ use Rattle.indexmap.specs.IndexMap.{insert_entry}
 use Rattle.cache_model.specs.declared.objects.Object.{Object}
 use Rattle.cache_model.specs.declared.certificates.Header.{Header}
 use Rattle.cache_model.specs.declared.certificates.Record.{Record}
-use Rattle.cache_model.specs.Play.{same_object}
+use Rattle.cache_model.specs.Claim.{same_object}
 use Rattle.cache_model.specs.Objects.{objects_of}
 use Rattle.cache_model.proofs.DifferentObjects.{length-objects_of}
 use Rattle.std.proofs.lemmas.Map.Entries.{length-keys_of}

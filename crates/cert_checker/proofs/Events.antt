@@ -16,7 +16,7 @@ use Rattle.cert_format.specs.Readings as certificates
 use Rattle.cert_checker.specs.Checks.{after_records}
 use Rattle.cert_checker.specs.Rules.{found, first_some, record_fault, end_fault}
 use Rattle.cert_checker.specs.Walks.{Event, Invalid, Refused, at_line, text_event, text_after, refusal_event, turn, closing, walk_under}
-use Rattle.cert_checker.proofs.Prefixes.{record_fault-front}
+use Rattle.cert_checker.proofs.Prefixes.{record_fault-prefix}
 
 -- what gives nothing is passed
 skip : {A : Type 0} (o : Option A) (others : List (Option A)) → o ≡ None → first_some (o ∷ others) ≡ first_some others
@@ -72,7 +72,7 @@ module _ (h : Header) (given : List Object) (records : List Record) (one : lengt
         let rule = at_line (12 + t) (record_fault h (given ++ more) cc.records t) in
         skip (at_line (11 + t) (found (t == h.requests) (RequestCount h.requests (t + 1)))) (text ∷ rule ∷ []) (not_found (t == h.requests) (11 + t) (RequestCount h.requests (t + 1)) (ne_eqb t h.requests (λ e. omega (arith, e, low, within))))
         ∙ skip text (rule ∷ []) (text_none t low)
-        ∙ skip rule [] (ap (at_line (12 + t)) (record_fault-front h given more records c.records t low (omega (arith, low, one)) ∙ no_fault t low))
+        ∙ skip rule [] (ap (at_line (12 + t)) (record_fault-prefix h given more records c.records t low (omega (arith, low, one)) ∙ no_fault t low))
 
   -- a turn that gives an event is the first of the walk
   turn_first : (x : Object) (rest : traces.Reading) (c : certificates.Reading) (e : Event) → first_some (turn h (after_records h records c) (given ++ x ∷ rest.requests) (length given)) ≡ Some e
@@ -120,13 +120,13 @@ module _ (h : Header) (given : List Object) (records : List Record) (one : lengt
       let rule = at_line (12 + t) (record_fault h trace next.records t) in
       let trace_is : trace ≡ (given ++ x ∷ []) ++ rest.requests = sym (append_assoc given (x ∷ []) rest.requests) in
       let records_are : next.records ≡ (records ++ r ∷ []) ++ others.records = sym (append_assoc records (r ∷ []) others.records) in
-      let front = ap (λ xs. record_fault h xs next.records t) trace_is
+      let prefix = ap (λ xs. record_fault h xs next.records t) trace_is
       ∙ (ap (λ rs. record_fault h ((given ++ x ∷ []) ++ rest.requests) rs t) records_are
-      ∙ (record_fault-front h (given ++ x ∷ []) rest.requests (records ++ r ∷ []) others.records t (omega (arith, length-append given (x ∷ []))) (omega (arith, one, length-append records (r ∷ []))) ∙ fails)) in
+      ∙ (record_fault-prefix h (given ++ x ∷ []) rest.requests (records ++ r ∷ []) others.records t (omega (arith, length-append given (x ∷ []))) (omega (arith, one, length-append records (r ∷ []))) ∙ fails)) in
       ap W is ∙ turn_first x rest (certificates.onto r others) _
       (skip (at_line (11 + t) (found (t == h.requests) (RequestCount h.requests (t + 1)))) (text_after next t ∷ rule ∷ []) (not_found (t == h.requests) (11 + t) (RequestCount h.requests (t + 1)) (ne_eqb t h.requests (λ same. omega (arith, same, fewer))))
       ∙ (skip (text_after next t) (rule ∷ []) (ap (λ b. cond b (text_event others.fault) None) (ne_eqb (length (records ++ r ∷ others.records)) t (λ e. omega (arith, e, one, length-append records (r ∷ others.records)))))
-      ∙ stop rule [] _ (ap (at_line (12 + t)) front)))
+      ∙ stop rule [] _ (ap (at_line (12 + t)) prefix)))
 
   -- all turns pass
   close_first : (trace : traces.Reading) (c : certificates.Reading) → trace.requests ≡ given → walk_of trace (after_records h records c) ≡ first_some (closing h (after_records h records c) trace)

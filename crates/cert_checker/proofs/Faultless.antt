@@ -15,7 +15,7 @@ use Rattle.cache_model.specs.declared.objects.Object.{Object}
 use Rattle.cache_model.specs.declared.intervals.Interval.{Interval}
 use Rattle.cache_model.specs.declared.certificates.Header.{Header}
 use Rattle.cache_model.specs.declared.certificates.Record.{Record}
-use Rattle.cache_model.specs.Play.{same_object, gain_of, total_size}
+use Rattle.cache_model.specs.Claim.{same_object, gain_of, total_size}
 use Rattle.cache_model.specs.Objects.{request_at, no_object, IsFirst, IsNext}
 use Rattle.cache_model.specs.Intervals.{interval_of}
 use Rattle.cache_model.specs.Keeps.{contents_of, held_before, is_latest, latest_sum, load_after}

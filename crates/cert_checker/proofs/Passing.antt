@@ -10,7 +10,7 @@ use Rattle.cert_format.specs.declared.invalid.InvalidKind.TheVariants.{Unused}
 use Rattle.cache_model.specs.declared.objects.Object.{Object}
 use Rattle.cache_model.specs.declared.certificates.Header.{Header}
 use Rattle.cache_model.specs.declared.certificates.Record.{Record}
-use Rattle.cache_model.specs.Play.{gain_of}
+use Rattle.cache_model.specs.Claim.{gain_of}
 use Rattle.cache_model.specs.Certificates.{units_of}
 use Rattle.cert_format.specs.declared.invalid.InvalidKind.{InvalidKind}
 use Rattle.cert_checker.specs.declared.rules.Figures.{Figures}

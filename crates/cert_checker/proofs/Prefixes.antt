@@ -6,7 +6,7 @@ use Rattle.cache_model.specs.declared.objects.Object.{Object}
 use Rattle.cache_model.specs.declared.objects.Objective.{Objective}
 use Rattle.cache_model.specs.declared.certificates.Header.{Header}
 use Rattle.cache_model.specs.declared.certificates.Record.{Record}
-use Rattle.cache_model.specs.Play.{same_object, gain_of, holds, total_size}
+use Rattle.cache_model.specs.Claim.{same_object, gain_of, holds, total_size}
 use Rattle.cache_model.specs.Objects.{request_at, no_object}
 use Rattle.cache_model.specs.Keeps.{is_kept, is_held, is_latest, held_before, latest_sum, load_after}
 use Rattle.cache_model.specs.Certificates.{flow_at, keeps_of, prices_of, unpriced}
@@ -15,9 +15,9 @@ use Rattle.cache_model.proofs.Scores.{earned_at}
 use Rattle.cert_checker.specs.declared.rules.Figures.{Figures}
 use Rattle.cert_checker.specs.Rules.{first_some, record_rules, record_at, was_requested, figures_at, record_fault}
 
--- a part of a list that ends within its front
-pub slice_range-front : {X : Type 0} (xs ys : List X) (i j : ℕ) → i ≤ length xs → j ≤ length xs → slice_range (xs ++ ys) i j ≡ slice_range xs i j
-slice_range-front xs ys i j low high =
+-- a part of a list that ends within its prefix
+pub slice_range-prefix : {X : Type 0} (xs ys : List X) (i j : ℕ) → i ≤ length xs → j ≤ length xs → slice_range (xs ++ ys) i j ≡ slice_range xs i j
+slice_range-prefix xs ys i j low high =
     ap (take (j - i)) (drop-append-le i xs ys low) ∙ take-append-le (j - i) (drop i xs) ys (omega (arith, length-drop i xs))
 
 -- two filters of a range that agree there, and two maps of what they keep
@@ -36,40 +36,40 @@ map-filter_agree f g p q a (suc n) values tests =
     at false rest = rest
 
 module _ (trace ys : List Object) where
-  pub request_at-front : (a : ℕ) → a < length trace → request_at (trace ++ ys) a ≡ request_at trace a
-  request_at-front a low = get_or_append_left trace ys no_object a low
+  pub request_at-prefix : (a : ℕ) → a < length trace → request_at (trace ++ ys) a ≡ request_at trace a
+  request_at-prefix a low = get_or_append_left trace ys no_object a low
 
-  pub is_latest-front : (t a : ℕ) → a < t → t ≤ length trace → is_latest (trace ++ ys) t a ≡ is_latest trace t a
-  is_latest-front t a low high =
-      ap (λ x. not (list_any (same_object x) (slice_range (trace ++ ys) (a + 1) t))) (request_at-front a (omega arith))
-      ∙ ap (λ xs. not (list_any (same_object (request_at trace a)) xs)) (slice_range-front trace ys (a + 1) t (omega arith) high)
+  pub is_latest-prefix : (t a : ℕ) → a < t → t ≤ length trace → is_latest (trace ++ ys) t a ≡ is_latest trace t a
+  is_latest-prefix t a low high =
+      ap (λ x. not (list_any (same_object x) (slice_range (trace ++ ys) (a + 1) t))) (request_at-prefix a (omega arith))
+      ∙ ap (λ xs. not (list_any (same_object (request_at trace a)) xs)) (slice_range-prefix trace ys (a + 1) t (omega arith) high)
 
-  pub latest_sum-front : (f g : ℕ → ℕ) (t : ℕ) → t ≤ length trace → ((a : ℕ) → a < t → f a ≡ g a) → latest_sum (trace ++ ys) f t ≡ latest_sum trace g t
-  latest_sum-front f g t high same =
+  pub latest_sum-prefix : (f g : ℕ → ℕ) (t : ℕ) → t ≤ length trace → ((a : ℕ) → a < t → f a ≡ g a) → latest_sum (trace ++ ys) f t ≡ latest_sum trace g t
+  latest_sum-prefix f g t high same =
       sum_by-range_agree (λ a. cond (is_latest (trace ++ ys) t a) (f a) 0) (λ a. cond (is_latest trace t a) (g a) 0) 0 t
-      (λ a low lt. ap (λ b. cond b (f a) 0) (is_latest-front t a (omega arith) high) ∙ ap (λ n. cond (is_latest trace t a) n 0) (same a (omega arith)))
+      (λ a low lt. ap (λ b. cond b (f a) 0) (is_latest-prefix t a (omega arith) high) ∙ ap (λ n. cond (is_latest trace t a) n 0) (same a (omega arith)))
 
-  pub held_before-front : (keeps bits : List Bool) (t : ℕ) → t ≤ length trace → ((a : ℕ) → a < t → is_kept bits a ≡ is_kept keeps a)
+  pub held_before-prefix : (keeps bits : List Bool) (t : ℕ) → t ≤ length trace → ((a : ℕ) → a < t → is_kept bits a ≡ is_kept keeps a)
       → held_before (trace ++ ys) bits t ≡ held_before trace keeps t
-  held_before-front keeps bits t high same =
+  held_before-prefix keeps bits t high same =
       map-filter_agree (request_at (trace ++ ys)) (request_at trace) (is_held (trace ++ ys) bits t) (is_held trace keeps t) 0 t
-      (λ k lt. request_at-front k (omega arith))
-      (λ k lt. ap (λ b. b && is_latest (trace ++ ys) t k) (same k (omega arith)) ∙ ap (λ b. is_kept keeps k && b) (is_latest-front t k (omega arith) high))
+      (λ k lt. request_at-prefix k (omega arith))
+      (λ k lt. ap (λ b. b && is_latest (trace ++ ys) t k) (same k (omega arith)) ∙ ap (λ b. is_kept keeps k && b) (is_latest-prefix t k (omega arith) high))
 
-  pub earned_at-front : (o : Objective) (keeps bits : List Bool) (t : ℕ) → t < length trace → ((a : ℕ) → a < t → is_kept bits a ≡ is_kept keeps a)
+  pub earned_at-prefix : (o : Objective) (keeps bits : List Bool) (t : ℕ) → t < length trace → ((a : ℕ) → a < t → is_kept bits a ≡ is_kept keeps a)
       → earned_at o (trace ++ ys) bits t ≡ earned_at o trace keeps t
-  earned_at-front o keeps bits t high same =
-      ap (λ x. cond (holds (held_before (trace ++ ys) bits t) x) (gain_of o x) 0) (request_at-front t high)
-      ∙ ap (λ held. cond (holds held (request_at trace t)) (gain_of o (request_at trace t)) 0) (held_before-front keeps bits t (omega arith) same)
+  earned_at-prefix o keeps bits t high same =
+      ap (λ x. cond (holds (held_before (trace ++ ys) bits t) x) (gain_of o x) 0) (request_at-prefix t high)
+      ∙ ap (λ held. cond (holds held (request_at trace t)) (gain_of o (request_at trace t)) 0) (held_before-prefix keeps bits t (omega arith) same)
 
 module _ (records ss : List Record) where
-  pub is_kept-front : (a : ℕ) → a < length records → is_kept (keeps_of (records ++ ss)) a ≡ is_kept (keeps_of records) a
-  is_kept-front a low =
+  pub is_kept-prefix : (a : ℕ) → a < length records → is_kept (keeps_of (records ++ ss)) a ≡ is_kept (keeps_of records) a
+  is_kept-prefix a low =
       ap (λ ks. get_or ks a false) (map-append (λ (r : Record). r.keep) records ss)
       ∙ get_or_append_left (keeps_of records) (keeps_of ss) false a (omega (arith, length-map records (λ (r : Record). r.keep)))
 
-  pub flow_at-front : (a : ℕ) → a < length records → flow_at (records ++ ss) a ≡ flow_at records a
-  flow_at-front a low =
+  pub flow_at-prefix : (a : ℕ) → a < length records → flow_at (records ++ ss) a ≡ flow_at records a
+  flow_at-prefix a low =
       ap (λ fs. get_or fs a 0) (map-append (λ (r : Record). r.flow) records ss)
       ∙ get_or_append_left (map (λ (r : Record). r.flow) records) (map (λ (r : Record). r.flow) ss) 0 a (omega (arith, length-map records (λ (r : Record). r.flow)))
 
@@ -82,34 +82,34 @@ module _ (records ss : List Record) where
   pub slice_range-prices : (i j : ℕ) → i ≤ length records → j ≤ length records → slice_range (prices_of (records ++ ss)) i j ≡ slice_range (prices_of records) i j
   slice_range-prices i j low high =
       let size : length (prices_of records) ≡ length records = length-map records (λ (r : Record). r.price) in
-      ap (λ ps. slice_range ps i j) prices_of-append ∙ slice_range-front (prices_of records) (prices_of ss) i j (omega (arith, size)) (omega (arith, size))
+      ap (λ ps. slice_range ps i j) prices_of-append ∙ slice_range-prefix (prices_of records) (prices_of ss) i j (omega (arith, size)) (omega (arith, size))
 
 -- the figures, and the rule that fails, are those of the lists so far
 module _ (h : Header) (trace ys : List Object) (records ss : List Record) (t : ℕ) (within : t < length trace) (recorded : t < length records) where
-  was_requested-front : was_requested (trace ++ ys) t ≡ was_requested trace t
-  was_requested-front =
-      ap (λ x. list_any (same_object x) (take t (trace ++ ys))) (request_at-front trace ys t within)
+  was_requested-prefix : was_requested (trace ++ ys) t ≡ was_requested trace t
+  was_requested-prefix =
+      ap (λ x. list_any (same_object x) (take t (trace ++ ys))) (request_at-prefix trace ys t within)
       ∙ ap (list_any (same_object (request_at trace t))) (take-append-le t trace ys (omega arith))
 
-  load_after-front : load_after (trace ++ ys) (keeps_of (records ++ ss)) t ≡ load_after trace (keeps_of records) t
-  load_after-front =
-      ap total_size (held_before-front trace ys (keeps_of records) (keeps_of (records ++ ss)) (t + 1) (omega arith) (λ a low. is_kept-front records ss a (omega arith)))
+  load_after-prefix : load_after (trace ++ ys) (keeps_of (records ++ ss)) t ≡ load_after trace (keeps_of records) t
+  load_after-prefix =
+      ap total_size (held_before-prefix trace ys (keeps_of records) (keeps_of (records ++ ss)) (t + 1) (omega arith) (λ a low. is_kept-prefix records ss a (omega arith)))
 
-  figures_at-front : figures_at h (trace ++ ys) (records ++ ss) t ≡ figures_at h trace records t
-  figures_at-front =
+  figures_at-prefix : figures_at h (trace ++ ys) (records ++ ss) t ≡ figures_at h trace records t
+  figures_at-prefix =
       let F : ℕ → Bool → ℕ → ℕ → Figures = λ prices again load flows. record { prices = prices; last = t + 1 == h.requests; again = again; load = load; flows = flows } in
       let again : Bool = was_requested (trace ++ ys) t in
       let load : ℕ = load_after (trace ++ ys) (keeps_of (records ++ ss)) t in
       let flows : ℕ = latest_sum (trace ++ ys) (flow_at (records ++ ss)) (t + 1) in
       let prices : ℕ = sum (take (t + 1) (prices_of records)) in
       ap (λ ps. F (sum ps) again load flows) (take-prices records ss (t + 1) (omega arith))
-      ∙ ap (λ b. F prices b load flows) was_requested-front
-      ∙ ap (λ n. F prices (was_requested trace t) n flows) load_after-front
+      ∙ ap (λ b. F prices b load flows) was_requested-prefix
+      ∙ ap (λ n. F prices (was_requested trace t) n flows) load_after-prefix
       ∙ ap (F prices (was_requested trace t) (load_after trace (keeps_of records) t))
-      (latest_sum-front trace ys (flow_at (records ++ ss)) (flow_at records) (t + 1) (omega arith) (λ a low. flow_at-front records ss a (omega arith)))
+      (latest_sum-prefix trace ys (flow_at (records ++ ss)) (flow_at records) (t + 1) (omega arith) (λ a low. flow_at-prefix records ss a (omega arith)))
 
-  pub record_fault-front : record_fault h (trace ++ ys) (records ++ ss) t ≡ record_fault h trace records t
-  record_fault-front =
-      ap (λ x. first_some (record_rules h x (record_at (records ++ ss) t) (figures_at h (trace ++ ys) (records ++ ss) t))) (request_at-front trace ys t within)
+  pub record_fault-prefix : record_fault h (trace ++ ys) (records ++ ss) t ≡ record_fault h trace records t
+  record_fault-prefix =
+      ap (λ x. first_some (record_rules h x (record_at (records ++ ss) t) (figures_at h (trace ++ ys) (records ++ ss) t))) (request_at-prefix trace ys t within)
       ∙ ap (λ r. first_some (record_rules h (request_at trace t) r (figures_at h (trace ++ ys) (records ++ ss) t))) (get_or_append_left records ss (unpriced false) t recorded)
-      ∙ ap (λ f. first_some (record_rules h (request_at trace t) (record_at records t) f)) figures_at-front
+      ∙ ap (λ f. first_some (record_rules h (request_at trace t) (record_at records t) f)) figures_at-prefix

@@ -12,7 +12,7 @@ use Rattle.cache_model.specs.declared.objects.Object.{Object}
 use Rattle.cache_model.specs.declared.intervals.Interval.{Interval}
 use Rattle.cache_model.specs.declared.certificates.Header.{Header}
 use Rattle.cache_model.specs.declared.certificates.Record.{Record}
-use Rattle.cache_model.specs.Play.{same_object, gain_of, holds, score, total_size}
+use Rattle.cache_model.specs.Claim.{same_object, gain_of, holds, score, total_size}
 use Rattle.cache_model.specs.Objects.{request_at, no_object, IsLatest, IsNew}
 use Rattle.cache_model.specs.Intervals.{interval_of, surplus}
 use Rattle.cache_model.specs.Keeps.{contents_of, is_kept, is_latest, held_before, latest_sum, load_after}
@@ -32,7 +32,7 @@ use Rattle.cert_checker.specs.declared.summary.Sums.{Sums}
 use Rattle.cert_checker.specs.Rules.{figures_at, record_at, was_requested}
 use Rattle.cert_checker.specs.Steps.{added, AreNext, flow_before, size_before}
 use Rattle.cert_checker.specs.Summaries.{AreSums, IsSeen}
-use Rattle.cert_checker.proofs.Prefixes.{earned_at-front, flow_at-front, is_kept-front, request_at-front, slice_range-prices, prices_of-append}
+use Rattle.cert_checker.proofs.Prefixes.{earned_at-prefix, flow_at-prefix, is_kept-prefix, request_at-prefix, slice_range-prices, prices_of-append}
 
 -- two sums over a list whose terms agree
 pub sum_by-all_agree : {X : Type 0} (f g : X → ℕ) (xs : List X) → ((k : ℕ) (d : X) → k < length xs → f (get_or xs k d) ≡ g (get_or xs k d)) → sum_by f xs ≡ sum_by g xs
@@ -86,7 +86,7 @@ module _ (h : Header) (trace : List Object) (records : List Record) (x : Object)
   all_prices = ap sum (take_all (n + 1) (prices_of records') (omega (arith, length-prices))) ∙ prices-pushed
 
   same_keeps : (t : ℕ) → t ≤ n → (a : ℕ) → a < t → is_kept (keeps_of records') a ≡ is_kept (keeps_of records) a
-  same_keeps t high a low = is_kept-front records (r ∷ []) a (omega (arith, one))
+  same_keeps t high a low = is_kept-prefix records (r ∷ []) a (omega (arith, one))
 
   -- the amounts of the latest requests
   module _ (f g : ℕ → ℕ) (same : (a : ℕ) → a < n → f a ≡ g a) where
@@ -110,7 +110,7 @@ module _ (h : Header) (trace : List Object) (records : List Record) (x : Object)
   unfolding kept_size
   kept_size-same a low =
       ap (λ b. cond b (request_at trace' a).size 0) (same_keeps n (omega arith) a low)
-      ∙ ap (λ (y : Object). cond (is_kept (keeps_of records) a) y.size 0) (request_at-front trace (x ∷ []) a low)
+      ∙ ap (λ (y : Object). cond (is_kept (keeps_of records) a) y.size 0) (request_at-prefix trace (x ∷ []) a low)
 
   kept_size-pushed : kept_size trace' (keeps_of records') n ≡ cond r.keep x.size 0
   unfolding kept_size
@@ -154,7 +154,7 @@ module _ (h : Header) (trace : List Object) (records : List Record) (x : Object)
     flows-pushed = at before known
       where
         same : (a : ℕ) → a < n → flow_at records' a ≡ flow_at records a
-        same a low = flow_at-front records (r ∷ []) a (omega (arith, one))
+        same a low = flow_at-prefix records (r ∷ []) a (omega (arith, one))
 
         at : (b : Option Seen) → MatchOption b (IsNew trace x) (IsSeen trace records x)
             → latest_sum trace' (flow_at records') (n + 1) + flow_before b ≡ latest_sum trace (flow_at records) n + r.flow
@@ -199,7 +199,7 @@ module _ (h : Header) (trace : List Object) (records : List Record) (x : Object)
     -- the interval that ends at the request has its object's size and gain
     ended : (a : ℕ) → IsLatest trace x a → interval_of h.objective trace' a n ≡ record { start = a; end = n; size = x.size; gain = gain_of h.objective x }
     ended a l =
-        let first : request_at trace' a ≡ x = request_at-front trace (x ∷ []) a l.within ∙ sym (same_object-true x (request_at trace a) l.same) in
+        let first : request_at trace' a ≡ x = request_at-prefix trace (x ∷ []) a l.within ∙ sym (same_object-true x (request_at trace a) l.same) in
         let F : Object → Object → Interval = λ y z. record { start = a; end = n; size = y.size; gain = gain_of h.objective z } in
         ap (λ y. F y (request_at trace' n)) first ∙ ap (F x) (request_at-pushed trace x)
 
@@ -239,7 +239,7 @@ module _ (h : Header) (trace : List Object) (records : List Record) (x : Object)
     same_value i e =
         let low : i.start < i.end = e.next.before in
         let high : i.end < n = e.next.within in
-        ap (λ f. (h.denominator * i.gain / weight h.unit i) * f) (flow_at-front records (r ∷ []) i.start (omega (arith, one)))
+        ap (λ f. (h.denominator * i.gain / weight h.unit i) * f) (flow_at-prefix records (r ∷ []) i.start (omega (arith, one)))
 
     pub values-pushed : flow_of trace' h records' ≡ flow_of trace h records + (added h x (sum (prices_of records)) before).value
     values-pushed = at before known
@@ -251,7 +251,7 @@ module _ (h : Header) (trace : List Object) (records : List Record) (x : Object)
             let low : seen.latest < n = is.latest.within in
             let own : value_in h records' (interval_of h.objective trace' seen.latest n) ≡ (h.denominator * gain_of h.objective x / (x.size / h.unit)) * seen.flow =
             ap (value_in h records') (ended seen.latest is.latest)
-            ∙ ap (λ f. (h.denominator * gain_of h.objective x / (x.size / h.unit)) * f) (flow_at-front records (r ∷ []) seen.latest (omega (arith, one)) ∙ sym is.flow) in
+            ∙ ap (λ f. (h.denominator * gain_of h.objective x / (x.size / h.unit)) * f) (flow_at-prefix records (r ∷ []) seen.latest (omega (arith, one)) ∙ sym is.flow) in
             flow_of-sum h trace' records'
             ∙ intervals-again (value_in h records') (value_in h records) same_value seen.latest is.latest
             ∙ ap (λ v. sum_by (value_in h records) (eligible_of trace h) + cond (nat_le x.size h.capacity) v 0) own
@@ -288,5 +288,5 @@ module _ (h : Header) (trace : List Object) (records : List Record) (x : Object)
         ∙ ap (λ e. sum_by earned (range_with_len 0 n) + e) earned-pushed
         ∙ ap (λ s. s + (added h x (sum (prices_of records)) before).gain)
         (sum_by-range_agree earned (earned_at h.objective trace (keeps_of records)) 0 n
-        (λ k low lt. earned_at-front trace (x ∷ []) h.objective (keeps_of records) (keeps_of records') k (omega arith) (same_keeps k (omega arith)))
+        (λ k low lt. earned_at-prefix trace (x ∷ []) h.objective (keeps_of records) (keeps_of records') k (omega arith) (same_keeps k (omega arith)))
         ∙ sym (score-requests h.objective trace (keeps_of records)))

@@ -109,11 +109,11 @@ apart : record_fault (record { objective = Hits; capacity = 1; requests = 2; uni
 apart = refl
 
 -- ---- walks
-abbrev told : List Object → Option TraceFault → traces.Reading
-told requests refused = record { requests = requests; volumes = []; dropped = 0; lines = 0; bytes = 0; refused = refused }
+abbrev known : List Object → Option TraceFault → traces.Reading
+known requests refused = record { requests = requests; volumes = []; dropped = 0; lines = 0; bytes = 0; refused = refused }
 
 abbrev walked : List Object → Header → List Record → Option Event
-walked trace h records = walk_under (Some h) (told trace None) (certificates.whole h records)
+walked trace h records = walk_under (Some h) (known trace None) (certificates.whole h records)
 
 cycle_walk : walked cycle (cycle_header 2) (cycle_records 0 (entry 1 false 0)) ≡ None
 cycle_walk = refl
@@ -140,17 +140,17 @@ unit_walk : walked pair (pair_header 3 1 1 1) (pair_records 1 0 0) ≡ Some (Inv
 unit_walk = refl
 
 -- the trace is refused after its first request: the record of that is still read, and the next is not
-refused_walk : walk_under (Some (pair_header 4 1 1 1)) (told (object 7 4 ∷ []) (Some InputTooLong)) (certificates.whole (pair_header 4 1 1 1) (pair_records 1 0 0)) ≡ Some (Refused InputTooLong)
+refused_walk : walk_under (Some (pair_header 4 1 1 1)) (known (object 7 4 ∷ []) (Some InputTooLong)) (certificates.whole (pair_header 4 1 1 1) (pair_records 1 0 0)) ≡ Some (Refused InputTooLong)
 refused_walk = refl
 
 -- ---- walks over the bytes of a certificate
-pair_bytes : walk (told pair None) (cert_text (pair_header 4 1 1 1) (pair_records 1 0 0)) ≡ None
+pair_bytes : walk (known pair None) (cert_text (pair_header 4 1 1 1) (pair_records 1 0 0)) ≡ None
 unfolding digits certificates.after_lines certificates.header_in certificates.read_records
 pair_bytes = refl
 
-pair_bytes_more : walk (told pair None) (cert_text (pair_header 4 1 1 1) (pair_records 1 0 0) ++ 10 ∷ []) ≡ Some (Invalid 15 Trailing)
+pair_bytes_more : walk (known pair None) (cert_text (pair_header 4 1 1 1) (pair_records 1 0 0) ++ 10 ∷ []) ≡ Some (Invalid 15 Trailing)
 unfolding digits certificates.after_lines certificates.header_in certificates.read_records
 pair_bytes_more = refl
 
-no_bytes : walk (told pair None) [] ≡ Some (Invalid 1 Truncated)
+no_bytes : walk (known pair None) [] ≡ Some (Invalid 1 Truncated)
 no_bytes = refl

@@ -11,7 +11,7 @@ use Rattle.indexmap.specs.IndexMap.{insert_entry}
 use Rattle.cache_model.specs.declared.objects.Object.{Object}
 use Rattle.cache_model.specs.declared.certificates.Header.{Header}
 use Rattle.cache_model.specs.declared.certificates.Record.{Record}
-use Rattle.cache_model.specs.Play.{same_object, total_size}
+use Rattle.cache_model.specs.Claim.{same_object, total_size}
 use Rattle.cache_model.specs.Objects.{request_at, objects_of, IsNew}
 use Rattle.cache_model.specs.Keeps.{held_before, latest_sum, load_after}
 use Rattle.cache_model.specs.Certificates.{flow_at, keeps_of, prices_of, units_of, unpriced, IsRecordInRange}
@@ -26,7 +26,7 @@ use Rattle.cert_checker.specs.Rules.{first_some, figures_at, record_at, record_f
 use Rattle.cert_checker.specs.Steps.{added, AreNext, flow_before, seen_at, size_before, sums_after}
 use Rattle.cert_checker.specs.Summaries.{AreSums, IsInput, IsSeen, IsSized, StandsFor, Summary}
 use Rattle.cert_checker.proofs.Passing.{Passes, Passes-from_none}
-use Rattle.cert_checker.proofs.Prefixes.{flow_at-front, is_kept-front, record_fault-front, take-prices}
+use Rattle.cert_checker.proofs.Prefixes.{flow_at-prefix, is_kept-prefix, record_fault-prefix, take-prices}
 use Rattle.cert_checker.proofs.Pushed.{figures-pushed, flow_at-pushed, flows-pushed, is_kept-pushed, load-pushed, prices-pushed, record_at-pushed, score-pushed, surpluses-pushed, values-pushed}
 
 -- a keyed list has the key at its end, or keeps its keys
@@ -140,7 +140,7 @@ module _ (h : Header) (trace : List Object) (records : List Record) (s : Summary
         no_fault-pushed t low =
             ⊎_elim
             (λ (early : t < length trace).
-            record_fault-front h trace (x ∷ []) records (r ∷ []) t early (omega (arith, st.input.one_record_each)) ∙ st.no_fault t early)
+            record_fault-prefix h trace (x ∷ []) records (r ∷ []) t early (omega (arith, st.input.one_record_each)) ∙ st.no_fault t early)
             (λ (late : length trace ≤ t).
             let here : t ≡ length trace = omega (arith, length-pushed trace x) in
             ap (record_fault h (trace ++ x ∷ []) (records ++ r ∷ [])) here ∙ record_fault-pushed ∙ passes)
@@ -204,8 +204,8 @@ module _ (h : Header) (trace : List Object) (records : List Record) (s : Summary
             record {
               latest = IsLatest-early trace x y seen.latest (same_object-sym y x ∙ differs) is.latest;
               price_before = is.price_before ∙ ap sum (sym (take-prices records (r ∷ []) seen.latest (omega (arith, one))));
-              keep = is.keep ∙ sym (is_kept-front records (r ∷ []) seen.latest (omega (arith, one)));
-              flow = is.flow ∙ sym (flow_at-front records (r ∷ []) seen.latest (omega (arith, one)));
+              keep = is.keep ∙ sym (is_kept-prefix records (r ∷ []) seen.latest (omega (arith, one)));
+              flow = is.flow ∙ sym (flow_at-prefix records (r ∷ []) seen.latest (omega (arith, one)));
             }
 
         module _ (after : List (Object × Seen)) (entered : after ≡ insert_entry same_object s.entries x (seen_at s.sums r))

@@ -1,7 +1,7 @@
 -- Why a walk ends where it does, and how it goes on.
 use Rattle.std.proofs.Common.{◌≡◌, ℕ, ◌+◌, ◌-◌, ◌<◌, ◌≤◌, ◌∙◌, sym, refl, ap, subst, List, [], ◌∷◌, ◌++◌, append_assoc, length, arith, Option, Some, None, IfSome, IfErr, Ok, Err, inl, inr}
 use Rattle.std.proofs.lemmas.List.{append-nil}
-use Rattle.bound_io.specs.Causes.{Rose}
+use Rattle.bound_io.specs.Causes.{HasNewFault}
 use Rattle.bound_io.specs.Lines.{stands_in}
 use Rattle.bound_io.specs.Devices.{device}
 use Rattle.cache_model.specs.declared.objects.Object.{Object}
@@ -15,7 +15,7 @@ use Rattle.trace_any.specs.Readers.{IsWhole}
 use Rattle.cert_format.specs.declared.fault.CertFault.{CertFault}
 use Rattle.cert_format.specs.declared.fault.CertFault.TheVariants as text
 use Rattle.cert_format.specs.declared.invalid.InvalidKind.TheVariants.{RequestCount}
-use Rattle.cert_format.specs.Lines.{told, IsPast, IsWithin}
+use Rattle.cert_format.specs.Lines.{known, IsPast, IsWithin}
 use Rattle.cert_format.specs.Readings as certificates
 use Rattle.cert_format.specs.Readings.{after_lines, bytes_through}
 use Rattle.cert_format.specs.Readers as lines
@@ -23,13 +23,13 @@ use Rattle.cert_format.proofs.Chains.{after_lines-add, bytes_through-add}
 use Rattle.cert_format.proofs.Taken.{at_some}
 use Rattle.cert_checker.specs.declared.walking.CheckFault.{CheckFault}
 use Rattle.cert_checker.specs.declared.walking.CheckFault.TheVariants as fault
-use Rattle.cert_checker.specs.Checks.{Inputs, Came, Ended, HasRecords, IsFailing, IsLater, IsStop, IsWalked, after_records, of_text, of_trace, taken}
+use Rattle.cert_checker.specs.Checks.{Inputs, HasChecked, HasCheckedAll, HasRecords, IsFailing, IsLater, IsStop, IsWalked, after_records, of_text, of_trace, taken}
 use Rattle.cert_checker.specs.Rules.{record_fault}
 use Rattle.cert_checker.specs.Summaries.{StandsFor, Summary}
 use Rattle.cert_checker.specs.Walks.{Event, Invalid, Refused, text_event, walk}
 use Rattle.cert_checker.proofs.Events.{walk_of, walked_too_many, walked_text, walked_rule, walked_refused}
 
--- a fact of both, where both are told
+-- a fact of both, where both are known
 pub if_both : (a b : Option (List ℕ)) (P Q : List ℕ → Type 0) (S : List ℕ → List ℕ → Type 0) → IfSome a P → IfSome b Q → ((x y : List ℕ) → P x → Q y → S x y) → IfSome a (λ x. IfSome b (S x))
 if_both None b P Q S p q f = tt
 if_both (Some x) None P Q S p q f = tt
@@ -40,9 +40,9 @@ if_one None P Q p f = tt
 if_one (Some x) P Q p f = f x p
 
 -- a count that rose lately rose since before
-pub rose_since : (first before now : ℕ) → first ≤ before → Rose before now → Rose first now
-rose_since first before now earlier (inl higher) = inl (omega (arith, earlier, higher))
-rose_since first before now earlier (inr last) = inr last
+pub new_fault_since : (first before now : ℕ) → first ≤ before → HasNewFault before now → HasNewFault first now
+new_fault_since first before now earlier (inl higher) = inl (omega (arith, earlier, higher))
+new_fault_since first before now earlier (inr last) = inr last
 
 -- more lines have no fewer bytes
 pub through : (j k : ℕ) (bytes : List ℕ) → j ≤ k → bytes_through k bytes ≡ bytes_through j bytes + bytes_through (k - j) (after_lines j bytes)
@@ -51,14 +51,14 @@ through j k bytes low =
     ap (λ n. bytes_through n bytes) same ∙ bytes_through-add j (k - j) bytes
 
 -- the bytes of the lines given, after more of them are
-pub consumed_on : (h : Header) (records : List Record) (now end : Inputs) (bytes : List ℕ) → HasRecords h records now bytes → IfSome (told now.cert.lines now.certificate) (IsPast now.cert.lines end.cert.lines)
+pub consumed_on : (h : Header) (records : List Record) (now end : Inputs) (bytes : List ℕ) → HasRecords h records now bytes → IfSome (known now.cert.lines now.certificate) (IsPast now.cert.lines end.cert.lines)
     → (now.cert.lines.line ≤ end.cert.lines.line) × (end.cert.lines.consumed ≡ bytes_through end.cert.lines.line bytes)
 consumed_on h records now end bytes has past =
-    let is = at_some (told now.cert.lines now.certificate) _ _ has.stands_in past in
+    let is = at_some (known now.cert.lines now.certificate) _ _ has.stands_in past in
     (is.further, is.consumed ∙ (ap (λ n. n + bytes_through (end.cert.lines.line - now.cert.lines.line) (after_lines now.cert.lines.line bytes)) has.consumed ∙ sym (through now.cert.lines.line end.cert.lines.line bytes is.further)))
 
 -- a buffer at most was taken past a line that was reached
-pub near_line : (h : Header) (records : List Record) (start now end : Inputs) (line : ℕ) → IfSome start.certificate (HasRecords h records now) → IfSome (told now.cert.lines now.certificate) (IsPast now.cert.lines end.cert.lines)
+pub near_line : (h : Header) (records : List Record) (start now end : Inputs) (line : ℕ) → IfSome start.certificate (HasRecords h records now) → IfSome (known now.cert.lines now.certificate) (IsPast now.cert.lines end.cert.lines)
     → length end.cert.lines.held ≤ 65536 → end.cert.lines.line ≤ line → IfSome start.certificate (λ text. taken end.cert ≤ bytes_through line text + 65536)
 near_line h records start now end line has past held reached =
     if_one start.certificate _ _ has (λ bytes p.
@@ -78,17 +78,17 @@ walk_at start b t trace c trace_is c_is = ap (λ r. walk_of r (certificates.read
 -- the same records, where the certificate is read no further
 pub same_records : (h : Header) (records : List Record) (now end : Inputs) (t : List ℕ) → HasRecords h records now t → end.cert ≡ now.cert → end.certificate ≡ now.certificate → HasRecords h records end t
 same_records h records now end t q same_cert same_left = record {
-  stands_in = ap (λ (c : lines.Reader). told c.lines end.certificate) same_cert ∙ (ap (λ l. told now.cert.lines l) same_left ∙ (q.stands_in ∙ ap (λ (c : lines.Reader). Some (after_lines c.lines.line t)) (sym same_cert)));
+  stands_in = ap (λ (c : lines.Reader). known c.lines end.certificate) same_cert ∙ (ap (λ l. known now.cert.lines l) same_left ∙ (q.stands_in ∙ ap (λ (c : lines.Reader). Some (after_lines c.lines.line t)) (sym same_cert)));
   reading = q.reading ∙ ap (λ (c : lines.Reader). after_records h records (lines.to_come c (after_lines c.lines.line t))) (sym same_cert);
   consumed = ap (λ (c : lines.Reader). c.lines.consumed) same_cert ∙ (q.consumed ∙ ap (λ (c : lines.Reader). bytes_through c.lines.line t) (sym same_cert));
 }
 
 -- one record more
 one_record : (h : Header) (records : List Record) (r : Record) (text : List ℕ) (now end : Inputs) (t : List ℕ) → HasRecords h records now t → end.cert.lines.line ≡ now.cert.lines.line + 1
-    → IfSome (told now.cert.lines now.certificate) (lines.GoesOn (certificates.onto r) 1 text now.cert end.cert end.certificate) → IfSome (told now.cert.lines now.certificate) (IsPast now.cert.lines end.cert.lines)
+    → IfSome (known now.cert.lines now.certificate) (lines.GoesOn (certificates.onto r) 1 text now.cert end.cert end.certificate) → IfSome (known now.cert.lines now.certificate) (IsPast now.cert.lines end.cert.lines)
     → HasRecords h (records ++ r ∷ []) end t
 one_record h records r text now end t has line_is goes past =
-    let is = at_some (told now.cert.lines now.certificate) _ _ has.stands_in goes in
+    let is = at_some (known now.cert.lines now.certificate) _ _ has.stands_in goes in
     let rest : after_lines 1 (after_lines now.cert.lines.line t) ≡ after_lines end.cert.lines.line t = sym (after_lines-add now.cert.lines.line 1 t) ∙ ap (λ k. after_lines k t) (sym line_is) in
     let coming = lines.to_come end.cert (after_lines end.cert.lines.line t) in
     record {
@@ -101,14 +101,14 @@ one_record h records r text now end t has line_is goes past =
 -- the text of the certificate is refused, where that is the event
 pub text_stop : (start end : Inputs) (cert : lines.Reader) (left : Option (List ℕ)) (faults : ℕ) (f : CertFault) → lines.IsRefused cert (device left end.certificate faults end.certificate_faults) f → start.certificate_faults ≤ faults
     → IfErr {T = Unit {0}} (Err f) (IsWithin end.cert.lines.line) → ((n : ℕ) → end.cert.lines.line ≤ n → IfSome start.certificate (λ text. taken end.cert ≤ bytes_through n text + 65536))
-    → ((g : CertFault) (e : Event) → text_event (Some g) ≡ Some e → IfSome (told cert.lines left) (λ bytes. lines.to_come cert bytes ≡ certificates.stopped (Some g)) → IsWalked start (Some e))
+    → ((g : CertFault) (e : Event) → text_event (Some g) ≡ Some e → IfSome (known cert.lines left) (λ bytes. lines.to_come cert bytes ≡ certificates.stopped (Some g)) → IsWalked start (Some e))
     → IsStop start end (of_text f)
 text_stop start end cert left faults (text.BadText n kind) refused earlier reached near walked = record { event = walked (text.BadText n kind) _ refl refused; near = near n reached }
 text_stop start end cert left faults (text.Truncated n) refused earlier reached near walked = record { event = walked (text.Truncated n) _ refl refused; near = near n reached }
 text_stop start end cert left faults (text.Trailing n) refused earlier reached near walked = record { event = walked (text.Trailing n) _ refl refused; near = near n reached }
-text_stop start end cert left faults text.ReadFault refused earlier reached near walked = record { event = rose_since start.certificate_faults faults end.certificate_faults earlier refused; near = tt }
+text_stop start end cert left faults text.ReadFault refused earlier reached near walked = record { event = new_fault_since start.certificate_faults faults end.certificate_faults earlier refused; near = tt }
 
-module _ (start : Inputs) (h : Header) (given : List Object) (records : List Record) (now : Inputs) (checker : Summary) (came : Came start h given records now checker) where
+module _ (start : Inputs) (h : Header) (given : List Object) (records : List Record) (now : Inputs) (checker : Summary) (came : HasChecked start h given records now checker) where
   input : length records ≡ length given
   input = came.stands.input.one_record_each
 
@@ -116,30 +116,30 @@ module _ (start : Inputs) (h : Header) (given : List Object) (records : List Rec
   within = came.stands.input.within
 
   -- a refusal of the trace is the event
-  refused_event : (why : TraceFault) (dropped : ℕ) → IfSome (requests.told now.reader now.trace) (λ bytes. requests.IsOver (requests.to_come now.reader bytes) dropped (Some why)) → IsWalked start (Some (Refused why))
+  refused_event : (why : TraceFault) (dropped : ℕ) → IfSome (requests.known now.reader now.trace) (λ bytes. requests.IsOver (requests.to_come now.reader bytes) dropped (Some why)) → IsWalked start (Some (Refused why))
   refused_event why dropped over =
       if_both start.trace start.certificate _ _ _ came.trace_read came.records_read (λ b t p q.
-      let is = at_some (requests.told now.reader now.trace) _ _ p.stands_in over in
+      let is = at_some (requests.known now.reader now.trace) _ _ p.stands_in over in
       let coming = requests.to_come now.reader p.rest in
       let none : given ++ coming.requests ≡ given = ap (λ xs. given ++ xs) is.requests ∙ append-nil given in
       walk_at start b t _ _ p.reading q.reading
       ∙ walked_refused h given records input within came.stands.no_fault (requests.after given coming) (lines.to_come now.cert (after_lines now.cert.lines.line t)) why none is.stop)
 
   -- the next request is not given
-  pub stop_trace : (end : Inputs) (why : TraceFault) → requests.IsStopped now.reader end.reader (requests.told now.reader now.trace) now.trace_faults end.trace_faults why → IsStop start end (of_trace why)
+  pub stop_trace : (end : Inputs) (why : TraceFault) → requests.IsStopped now.reader end.reader (requests.known now.reader now.trace) now.trace_faults end.trace_faults why → IsStop start end (of_trace why)
   stop_trace end (refusal.BadLine line kind) stopped = record { event = refused_event (refusal.BadLine line kind) end.reader.dropped stopped; near = tt }
-  stop_trace end refusal.ReadFault stopped = record { event = rose_since start.trace_faults now.trace_faults end.trace_faults came.later.trace stopped; near = tt }
+  stop_trace end refusal.ReadFault stopped = record { event = new_fault_since start.trace_faults now.trace_faults end.trace_faults came.later.trace stopped; near = tt }
   stop_trace end refusal.InputTooLong stopped = record { event = refused_event refusal.InputTooLong end.reader.dropped stopped; near = tt }
   stop_trace end refusal.TooManyRequests stopped = record { event = refused_event refusal.TooManyRequests end.reader.dropped stopped; near = tt }
   stop_trace end refusal.NoMemory stopped = record { event = tt; near = tt }
 
   -- no request is left
-  pub end_trace : (end : Inputs) → requests.NextRequest now.reader end.reader (requests.told now.reader now.trace) (requests.told end.reader end.trace) now.trace_faults end.trace_faults (Ok None)
-      → end.cert ≡ now.cert → end.certificate ≡ now.certificate → IsLater start end → Ended start h given records end checker
+  pub end_trace : (end : Inputs) → requests.NextRequest now.reader end.reader (requests.known now.reader now.trace) (requests.known end.reader end.trace) now.trace_faults end.trace_faults (Ok None)
+      → end.cert ≡ now.cert → end.certificate ≡ now.certificate → IsLater start end → HasCheckedAll start h given records end checker
   end_trace end over same_cert same_left later = record {
     stands = came.stands;
     trace_read = if_one start.trace _ _ came.trace_read (λ b p.
-        let is = at_some (requests.told now.reader now.trace) _ _ p.stands_in over in
+        let is = at_some (requests.known now.reader now.trace) _ _ p.stands_in over in
         let coming = requests.to_come now.reader p.rest in
         record {
           requests = ap (λ r. r.requests) p.reading ∙ (ap (λ xs. given ++ xs) is.0.requests ∙ append-nil given);
@@ -147,7 +147,7 @@ module _ (start : Inputs) (h : Header) (given : List Object) (records : List Rec
           stop = ap (λ r. r.refused) p.reading ∙ is.0.stop;
         });
     trace_end = if_one start.trace _ _ came.trace_read (λ b p.
-        let is = at_some (requests.told now.reader now.trace) _ _ p.stands_in over in nothing_left end.reader.lines.held end.trace is.1);
+        let is = at_some (requests.known now.reader now.trace) _ _ p.stands_in over in nothing_left end.reader.lines.held end.trace is.1);
     records_read = if_one start.certificate _ _ came.records_read (λ t q. same_records h records now end t q same_cert same_left);
     later = later;
   }
@@ -160,16 +160,16 @@ module _ (start : Inputs) (h : Header) (given : List Object) (records : List Rec
       nothing_left held None is = let wrong : None ≡ Some [] = is in cc
       nothing_left held (Some rest) is = let both : held ++ rest ≡ [] = cc in ap (λ r. Some r) (end_of held rest both)
 
-  module _ (x : Object) (reader : requests.Reader) (left : Option (List ℕ)) (goes : IfSome (requests.told now.reader now.trace) (λ bytes. requests.GoesOn (requests.onto x) now.reader reader bytes (requests.told reader left))) where
+  module _ (x : Object) (reader : requests.Reader) (left : Option (List ℕ)) (goes : IfSome (requests.known now.reader now.trace) (λ bytes. requests.GoesOn (requests.onto x) now.reader reader bytes (requests.known reader left))) where
     -- the requests after this one
     record Took (b : List ℕ) : Type 0 where
       rest : List ℕ
-      stands : requests.told reader left ≡ Some rest
+      stands : requests.known reader left ≡ Some rest
       reading : traces.reading start.reader.format start.reader.limits b ≡ requests.after given (requests.onto x (requests.to_come reader rest))
 
     took : IfSome start.trace Took
     took = if_one start.trace _ _ came.trace_read (λ b p.
-        let is = at_some (requests.told now.reader now.trace) _ _ p.stands_in goes in
+        let is = at_some (requests.known now.reader now.trace) _ _ p.stands_in goes in
         record { rest = requests.bytes_after now.reader reader p.rest; stands = is.rest; reading = p.reading ∙ ap (requests.after given) is.coming })
 
     -- one request more than the header says
@@ -186,18 +186,18 @@ module _ (start : Inputs) (h : Header) (given : List Object) (records : List Rec
 
     -- the record is not read
     pub stop_text : (end : Inputs) (f : CertFault) → length given < h.requests → lines.IsRefused now.cert (device now.certificate end.certificate now.certificate_faults end.certificate_faults) f
-        → IfErr {T = Unit {0}} (Err f) (IsWithin end.cert.lines.line) → IfSome (told now.cert.lines now.certificate) (IsPast now.cert.lines end.cert.lines) → length end.cert.lines.held ≤ 65536
+        → IfErr {T = Unit {0}} (Err f) (IsWithin end.cert.lines.line) → IfSome (known now.cert.lines now.certificate) (IsPast now.cert.lines end.cert.lines) → length end.cert.lines.held ≤ 65536
         → IsStop start end (of_text f)
     stop_text end f fewer refused reached past held = text_stop start end now.cert now.certificate now.certificate_faults f refused came.later.certificate reached
         (λ n low. near_line h records start now end n came.records_read past held low) (λ g e event stopped.
         if_both start.trace start.certificate _ _ _ took came.records_read (λ b t p q.
         walk_at start b t _ _ p.reading q.reading
         ∙ walked_text h given records input within came.stands.no_fault x (requests.to_come reader p.rest) (lines.to_come now.cert (after_lines now.cert.lines.line t)) g e fewer
-        (at_some (told now.cert.lines now.certificate) _ _ q.stands_in stopped) event))
+        (at_some (known now.cert.lines now.certificate) _ _ q.stands_in stopped) event))
 
     module _ (r : Record) (written : List ℕ) (end : Inputs) (line_is : end.cert.lines.line ≡ now.cert.lines.line + 1)
-        (goes_on : IfSome (told now.cert.lines now.certificate) (lines.GoesOn (certificates.onto r) 1 written now.cert end.cert end.certificate))
-        (past : IfSome (told now.cert.lines now.certificate) (IsPast now.cert.lines end.cert.lines)) where
+        (goes_on : IfSome (known now.cert.lines now.certificate) (lines.GoesOn (certificates.onto r) 1 written now.cert end.cert end.certificate))
+        (past : IfSome (known now.cert.lines now.certificate) (IsPast now.cert.lines end.cert.lines)) where
       -- the record is read
       pub records_on : IfSome start.certificate (HasRecords h (records ++ r ∷ []) end)
       records_on = if_one start.certificate _ _ came.records_read (λ t q. one_record h records r written now end t q line_is goes_on past)
@@ -208,7 +208,7 @@ module _ (start : Inputs) (h : Header) (given : List Object) (records : List Rec
       stop_rule (fault.Invalid line kind) fewer first held fails = record {
         event = if_both start.trace start.certificate _ _ _ took came.records_read (λ b t p q.
             let at : line ≡ 12 + length given = omega (arith, fails.0, line_is, first) in
-            let is = at_some (told now.cert.lines now.certificate) _ _ q.stands_in goes_on in
+            let is = at_some (known now.cert.lines now.certificate) _ _ q.stands_in goes_on in
             walk_at start b t _ _ p.reading q.reading
             ∙ (walked_rule h given records input within came.stands.no_fault x (requests.to_come reader p.rest) r _ (lines.to_come now.cert (after_lines now.cert.lines.line t)) kind fewer is.coming_is fails.1
             ∙ ap (λ l. Some (Invalid l kind)) (sym at)));
@@ -219,14 +219,14 @@ module _ (start : Inputs) (h : Header) (given : List Object) (records : List Rec
       stop_rule fault.NoMemory fewer first held fails = record { event = tt; near = tt }
 
       -- or passes
-      pub goes_further : (next : Summary) → end.reader ≡ reader → end.trace ≡ left → StandsFor h (given ++ x ∷ []) (records ++ r ∷ []) next → IsLater start end → Came start h (given ++ x ∷ []) (records ++ r ∷ []) end next
+      pub goes_further : (next : Summary) → end.reader ≡ reader → end.trace ≡ left → StandsFor h (given ++ x ∷ []) (records ++ r ∷ []) next → IsLater start end → HasChecked start h (given ++ x ∷ []) (records ++ r ∷ []) end next
       goes_further next same_reader same_left stands later = record {
         stands = stands;
         trace_read = if_one start.trace _ _ took (λ b p.
             let coming = requests.to_come reader p.rest in
             record {
               rest = p.rest;
-              stands_in = ap (λ (s : requests.Reader). requests.told s end.trace) same_reader ∙ (ap (requests.told reader) same_left ∙ p.stands);
+              stands_in = ap (λ (s : requests.Reader). requests.known s end.trace) same_reader ∙ (ap (requests.known reader) same_left ∙ p.stands);
               reading = p.reading ∙ (ap (λ xs. record coming { requests = xs }) (sym (append_assoc given (x ∷ []) coming.requests))
                   ∙ ap (λ (s : requests.Reader). requests.after (given ++ x ∷ []) (requests.to_come s p.rest)) (sym same_reader));
             });

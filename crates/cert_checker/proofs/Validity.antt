@@ -12,7 +12,7 @@ use Rattle.cache_model.specs.declared.objects.Object.{Object}
 use Rattle.cache_model.specs.declared.intervals.Interval.{Interval}
 use Rattle.cache_model.specs.declared.certificates.Header.{Header}
 use Rattle.cache_model.specs.declared.certificates.Record.{Record}
-use Rattle.cache_model.specs.Play.{same_object, gain_of}
+use Rattle.cache_model.specs.Claim.{same_object, gain_of}
 use Rattle.cache_model.specs.Objects.{request_at, no_object, IsNext}
 use Rattle.cache_model.specs.Intervals.{interval_of}
 use Rattle.cache_model.specs.Keeps.{is_latest, latest_sum, load_after}

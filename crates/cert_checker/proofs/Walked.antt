@@ -77,8 +77,8 @@ record IsRead (most : ℕ) (r : Reading) : Type 0 where
   few : length r.records ≤ most
 
 IsRead-unless : (o : Option CertFault) (most : ℕ) (r : Reading) → Tells o → IsRead most r → IsRead most (unless o r)
-IsRead-unless None most r told is = is
-IsRead-unless (Some f) most r told is = record { tells = told; few = omega arith }
+IsRead-unless None most r known is = is
+IsRead-unless (Some f) most r known is = record { tells = known; few = omega arith }
 
 IsRead-records : (k n : ℕ) (bytes : List ℕ) → IsRead k (read_records k n bytes)
 unfolding read_records
@@ -107,13 +107,13 @@ reading-is bytes =
 
     at : (o : Option CertFault) → Tells o → IsRead (header_in bytes).requests (read_records (header_in bytes).requests 12 (after_lines 11 bytes))
         → IsReading (unless o (under (header_in bytes) (read_records (header_in bytes).requests 12 (after_lines 11 bytes))))
-    at None told is = record {
+    at None known is = record {
       tells = is.tells;
       headless = λ e. absurd (none≢some (sym e));
       few = λ h e. let same : header_in bytes ≡ h = ap (λ o. unwrap_or o h) e in subst (λ (g : Header). length (read_records (header_in bytes).requests 12 (after_lines 11 bytes)).records ≤ g.requests) same is.few;
     }
-    at (Some f) told is = record {
-      tells = told;
+    at (Some f) known is = record {
+      tells = known;
       headless = λ e none. none≢some (sym none);
       few = λ h e. absurd (none≢some e);
     }

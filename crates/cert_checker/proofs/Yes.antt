@@ -39,5 +39,5 @@ module _ (h : Header) (trace : List Object) (records : List Record) (s : Summary
       header = header ∙ st.header;
       objects = objects;
       valid = valid;
-      bounds_every_play = valid_bounds trace h records valid;
+      bounds_every_policy = valid_bounds trace h records valid;
     }

@@ -1,7 +1,7 @@
 -- A check of a certificate against a trace, both read as streams.
 use Rattle.std.specs.Prelude.{◌≡◌, ℕ, ◌+◌, ◌≤◌, List, [], ◌∷◌, ◌++◌, length, Bool, true, false, None, Some, IfSome, Result, Ok, Err}
 use Rattle.std.specs.declared.option.Option.{Option}
-use Rattle.bound_io.specs.Causes.{Rose}
+use Rattle.bound_io.specs.Causes.{HasNewFault}
 use Rattle.cache_model.specs.declared.objects.Object.{Object}
 use Rattle.cache_model.specs.declared.certificates.Header.{Header}
 use Rattle.cache_model.specs.declared.certificates.Record.{Record}
@@ -18,7 +18,7 @@ use Rattle.cert_format.specs.declared.reader.Stage.TheVariants.{InRecords}
 use Rattle.cert_format.specs.Readings.{after_lines, bytes_through, whole}
 use Rattle.cert_format.specs.Readings as certificates
 use Rattle.cert_format.specs.Readers as lines
-use Rattle.cert_format.specs.Lines.{told}
+use Rattle.cert_format.specs.Lines.{known}
 use Rattle.cert_checker.specs.declared.verdict.Verdict.{Verdict}
 use Rattle.cert_checker.specs.declared.walking.CheckFault.{CheckFault}
 use Rattle.cert_checker.specs.declared.walking.CheckFault.TheVariants as fault
@@ -27,7 +27,7 @@ use Rattle.cert_checker.specs.Rules.{record_fault}
 use Rattle.cert_checker.specs.Summaries.{Summary, StandsFor}
 use Rattle.cert_checker.specs.Walks.{Event, Invalid, Refused, text_kind, walk}
 
--- where the reader of a trace and that of a certificate stand, and their sources: what is left where it is told, and the count of faults
+-- where the reader of a trace and that of a certificate stand, and their sources: what is left where it is known, and the count of faults
 pub record Inputs : Type 0 where
   pub reader : requests.Reader
   pub trace : Option (List ℕ)
@@ -92,9 +92,9 @@ IsEvent start end (fault.Invalid line kind) = IsWalked start (Some (Invalid line
 IsEvent start end (fault.Trace (refusal.BadLine line kind)) = IsWalked start (Some (Refused (refusal.BadLine line kind)))
 IsEvent start end (fault.Trace refusal.InputTooLong) = IsWalked start (Some (Refused refusal.InputTooLong))
 IsEvent start end (fault.Trace refusal.TooManyRequests) = IsWalked start (Some (Refused refusal.TooManyRequests))
-IsEvent start end (fault.Trace refusal.ReadFault) = Rose start.trace_faults end.trace_faults
+IsEvent start end (fault.Trace refusal.ReadFault) = HasNewFault start.trace_faults end.trace_faults
 IsEvent start end (fault.Trace refusal.NoMemory) = ⊥
-IsEvent start end fault.CertReadFault = Rose start.certificate_faults end.certificate_faults
+IsEvent start end fault.CertReadFault = HasNewFault start.certificate_faults end.certificate_faults
 IsEvent start end fault.NoMemory = Unit {0}
 
 -- how many bytes a reader of a certificate has taken from the source
@@ -122,7 +122,7 @@ pub record IsPassed (start end : Inputs) (verdict : Verdict) : Type 0 where
 -- these are the first requests of the trace, and what is still to come follows them
 pub record HasRequests (given : List Object) (start now : Inputs) (bytes : List ℕ) : Type 0 where
   pub rest : List ℕ
-  pub stands_in : requests.told now.reader now.trace ≡ Some rest
+  pub stands_in : requests.known now.reader now.trace ≡ Some rest
   pub reading : traces.reading start.reader.format start.reader.limits bytes ≡ after given (requests.to_come now.reader rest)
 
 -- a reading after a header and these records
@@ -131,7 +131,7 @@ after_records h records c = record { header = Some h; records = records ++ c.rec
 
 -- these are the first records of the certificate, and what is still to come follows them
 pub record HasRecords (h : Header) (records : List Record) (now : Inputs) (text : List ℕ) : Type 0 where
-  pub stands_in : told now.cert.lines now.certificate ≡ Some (after_lines now.cert.lines.line text)
+  pub stands_in : known now.cert.lines now.certificate ≡ Some (after_lines now.cert.lines.line text)
   pub reading : certificates.reading text ≡ after_records h records (lines.to_come now.cert (after_lines now.cert.lines.line text))
   pub consumed : now.cert.lines.consumed ≡ bytes_through now.cert.lines.line text
 
@@ -151,14 +151,14 @@ pub record IsLater (start now : Inputs) : Type 0 where
   pub certificate : start.certificate_faults ≤ now.certificate_faults
 
 -- so many requests and records were read and passed
-pub record Came (start : Inputs) (h : Header) (trace : List Object) (records : List Record) (now : Inputs) (checker : Summary) : Type 0 where
+pub record HasChecked (start : Inputs) (h : Header) (trace : List Object) (records : List Record) (now : Inputs) (checker : Summary) : Type 0 where
   pub stands : StandsFor h trace records checker
   pub trace_read : IfSome start.trace (HasRequests trace start now)
   pub records_read : IfSome start.certificate (HasRecords h records now)
   pub later : IsLater start now
 
 -- the trace has no more requests
-pub record Ended (start : Inputs) (h : Header) (trace : List Object) (records : List Record) (now : Inputs) (checker : Summary) : Type 0 where
+pub record HasCheckedAll (start : Inputs) (h : Header) (trace : List Object) (records : List Record) (now : Inputs) (checker : Summary) : Type 0 where
   pub stands : StandsFor h trace records checker
   pub trace_read : IfSome start.trace (λ bytes. IsWhole (traces.reading start.reader.format start.reader.limits bytes) trace now.reader.dropped)
   pub trace_end : IfSome start.trace (λ _. now.trace ≡ Some [])
@@ -171,12 +171,12 @@ pub record IsStop (start end : Inputs) (why : CheckFault) : Type 0 where
   pub near : IsNear start end why
 
 -- one turn of the walk: one request and its record, or the end of the trace, or why it ends here
-abbrev pub IsTurned : Inputs → Header → List Object → List Record → Inputs → Summary → Result Bool CheckFault → Type 0
-IsTurned start h trace records now checker (Ok true) = (x : Object) × (r : Record) × Came start h (trace ++ x ∷ []) (records ++ r ∷ []) now checker
-IsTurned start h trace records now checker (Ok false) = Ended start h trace records now checker
-IsTurned start h trace records now checker (Err why) = IsStop start now why
+abbrev pub IsNextCheck : Inputs → Header → List Object → List Record → Inputs → Summary → Result Bool CheckFault → Type 0
+IsNextCheck start h trace records now checker (Ok true) = (x : Object) × (r : Record) × HasChecked start h (trace ++ x ∷ []) (records ++ r ∷ []) now checker
+IsNextCheck start h trace records now checker (Ok false) = HasCheckedAll start h trace records now checker
+IsNextCheck start h trace records now checker (Err why) = IsStop start now why
 
 -- the end of the walk: a yes, or why it is none
-abbrev pub IsClosed : Inputs → Inputs → Result Verdict CheckFault → Type 0
-IsClosed start end (Ok verdict) = IsPassed start end verdict
-IsClosed start end (Err why) = IsStop start end why
+abbrev pub IsLastCheck : Inputs → Inputs → Result Verdict CheckFault → Type 0
+IsLastCheck start end (Ok verdict) = IsPassed start end verdict
+IsLastCheck start end (Err why) = IsStop start end why

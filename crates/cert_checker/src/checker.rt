@@ -81,7 +81,7 @@ const NOTHING: Sums = Sums {
 
 impl Checker {
     ghost use Rattle.std.specs.Map.{lookup};
-    ghost use Rattle.cache_model.specs.Play.{same_object};
+    ghost use Rattle.cache_model.specs.Claim.{same_object};
     ghost use Rattle.cert_checker.specs.declared.checker.StepFault.TheVariants.{NoMemory as WantOfMemory};
     ghost use Rattle.cert_checker.specs.Answers.{IsFinished, IsStepped};
     ghost use Rattle.cert_checker.specs.Rules.{counted_of, first_unused};

@@ -1,7 +1,7 @@
 //! The rules of a record.
 ghost use Rattle.std.specs.Prelude.{◌≡◌, ◌≤◌, ◌*◌, ◌^◌};
 ghost use Rattle.cache_model.specs.Certificates.{units_of};
-ghost use Rattle.cache_model.specs.Play.{gain_of};
+ghost use Rattle.cache_model.specs.Claim.{gain_of};
 
 use cache_model::Object;
 use cache_rules::gain;

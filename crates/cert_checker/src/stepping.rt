@@ -1,7 +1,7 @@
 //! What one more request and its record change.
 ghost use Rattle.std.specs.Prelude.{◌≡◌, ◌≤◌, ◌<◌, ◌+◌, ◌-◌, ◌*◌, ◌/◌, ◌^◌, IfSome, if◌then◌else◌};
 ghost use Rattle.cache_model.specs.Certificates.{IsHeaderInRange};
-ghost use Rattle.cache_model.specs.Play.{gain_of};
+ghost use Rattle.cache_model.specs.Claim.{gain_of};
 ghost use Rattle.cert_checker.specs.Rules.{weight_in};
 ghost use Rattle.cert_checker.specs.Steps.{added, added_by, AreNext, flow_before, seen_at, size_before, sums_after};
 ghost use Rattle.cert_checker.specs.Summaries.{AreSmall};

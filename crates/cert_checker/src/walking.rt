@@ -1,7 +1,7 @@
 //! The check of a certificate against a trace, both read as streams.
 ghost use Rattle.std.specs.Prelude.{◌≡◌, ◌≤◌, ◌<◌, ◌+◌, ◌^◌, ℕ, List, IfOk, IfErr, OnOk, length, true};
 ghost use Rattle.std.specs.declared.option.Option.{Option};
-ghost use Rattle.bound_io.specs.Reading.{LosesFront};
+ghost use Rattle.bound_io.specs.Reading.{LosesPrefix};
 ghost use Rattle.trace_any.specs.Readers.{Reader};
 ghost use Rattle.cache_model.specs.declared.objects.Object.{Object as Requested};
 ghost use Rattle.cache_model.specs.declared.certificates.Header.{Header as Head};
@@ -10,7 +10,7 @@ ghost use Rattle.cache_model.specs.Certificates.{IsRecordInRange};
 ghost use Rattle.cert_format.specs.declared.invalid.InvalidKind.TheVariants.{RequestCount};
 ghost use Rattle.cert_format.specs.Readers.{fresh};
 ghost use Rattle.cert_checker.specs.declared.walking.CheckFault.TheVariants.{Invalid};
-ghost use Rattle.cert_checker.specs.Checks.{Came, Ended, Inputs, IsClosed, IsEvent, IsFresh, IsInStep, IsNear, IsPassed, IsSteppedAt, IsTurned, inputs};
+ghost use Rattle.cert_checker.specs.Checks.{HasChecked, HasCheckedAll, Inputs, IsLastCheck, IsEvent, IsFresh, IsInStep, IsNear, IsPassed, IsSteppedAt, IsNextCheck, inputs};
 ghost use Rattle.cert_checker.specs.Walks.{text_kind};
 
 use crate::checker::{Checker, StepFault};
@@ -144,9 +144,9 @@ fn turn<T: Source, Q: Source>(
     requires in_step { IsInStep (inputs reader.old (T.left trace.old) (T.faults trace.old) cert.old (Q.left certificate.old) (Q.faults certificate.old)) checker.old }
     ensures in_step { OnOk result (IsInStep (inputs reader.new (T.left trace.new) (T.faults trace.new) cert.new (Q.left certificate.new) (Q.faults certificate.new)) checker.new × (checker.new.header ≡ checker.old.header)) }
     ensures fewer { IfOk result (λ more. more ≡ true → cert.new.left + 1 ≡ cert.old.left) }
-    ensures turned { (start : Inputs) (h : Head) (requests : List Requested) (records : List Entry) → Came start h requests records (inputs reader.old (T.left trace.old) (T.faults trace.old) cert.old (Q.left certificate.old) (Q.faults certificate.old)) checker.old → IsTurned start h requests records (inputs reader.new (T.left trace.new) (T.faults trace.new) cert.new (Q.left certificate.new) (Q.faults certificate.new)) checker.new result }
-    ensures trace { LosesFront (T.left trace.old) (T.left trace.new) × (T.faults trace.old ≤ T.faults trace.new) × (length reader.new.lines.held ≤ 65536) }
-    ensures cert { LosesFront (Q.left certificate.old) (Q.left certificate.new) × (Q.faults certificate.old ≤ Q.faults certificate.new) × (length cert.new.lines.held ≤ 65536) }
+    ensures turned { (start : Inputs) (h : Head) (requests : List Requested) (records : List Entry) → HasChecked start h requests records (inputs reader.old (T.left trace.old) (T.faults trace.old) cert.old (Q.left certificate.old) (Q.faults certificate.old)) checker.old → IsNextCheck start h requests records (inputs reader.new (T.left trace.new) (T.faults trace.new) cert.new (Q.left certificate.new) (Q.faults certificate.new)) checker.new result }
+    ensures trace { LosesPrefix (T.left trace.old) (T.left trace.new) × (T.faults trace.old ≤ T.faults trace.new) × (length reader.new.lines.held ≤ 65536) }
+    ensures cert { LosesPrefix (Q.left certificate.old) (Q.left certificate.new) × (Q.faults certificate.old ≤ Q.faults certificate.new) × (length cert.new.lines.held ≤ 65536) }
 {
     let Some(object) = reader.next(alloc, trace)? else {
         return Ok(false);
@@ -169,8 +169,8 @@ fn close<Q: Source>(
 ) -> Result<Verdict, CheckFault>
     requires header { header.now ≡ checker.now.header }
     requires in_step { (reader : Reader) × (left : Option (List ℕ)) × (faults : ℕ) × IsInStep (inputs reader left faults cert.old (Q.left certificate.old) (Q.faults certificate.old)) checker.now }
-    ensures closed { (start : Inputs) (reader : Reader) (left : Option (List ℕ)) (faults : ℕ) (h : Head) (requests : List Requested) (records : List Entry) → Ended start h requests records (inputs reader left faults cert.old (Q.left certificate.old) (Q.faults certificate.old)) checker.now → IsClosed start (inputs reader left faults cert.new (Q.left certificate.new) (Q.faults certificate.new)) result }
-    ensures source { LosesFront (Q.left certificate.old) (Q.left certificate.new) }
+    ensures closed { (start : Inputs) (reader : Reader) (left : Option (List ℕ)) (faults : ℕ) (h : Head) (requests : List Requested) (records : List Entry) → HasCheckedAll start h requests records (inputs reader left faults cert.old (Q.left certificate.old) (Q.faults certificate.old)) checker.now → IsLastCheck start (inputs reader left faults cert.new (Q.left certificate.new) (Q.faults certificate.new)) result }
+    ensures source { LosesPrefix (Q.left certificate.old) (Q.left certificate.new) }
     ensures later { Q.faults certificate.old ≤ Q.faults certificate.new }
 {
     let read = records_read(cert);
@@ -197,9 +197,9 @@ fn walk<T: Source, Q: Source>(
 ) -> Result<Verdict, CheckFault>
     requires header { header.now ≡ checker.old.header }
     requires in_step { IsInStep (inputs reader.old (T.left trace.old) (T.faults trace.old) cert.old (Q.left certificate.old) (Q.faults certificate.old)) checker.old }
-    ensures closed { (start : Inputs) (h : Head) (requests : List Requested) (records : List Entry) → Came start h requests records (inputs reader.old (T.left trace.old) (T.faults trace.old) cert.old (Q.left certificate.old) (Q.faults certificate.old)) checker.old → IsClosed start (inputs reader.new (T.left trace.new) (T.faults trace.new) cert.new (Q.left certificate.new) (Q.faults certificate.new)) result }
-    ensures trace { LosesFront (T.left trace.old) (T.left trace.new) × (T.faults trace.old ≤ T.faults trace.new) × (length reader.new.lines.held ≤ 65536) }
-    ensures cert { LosesFront (Q.left certificate.old) (Q.left certificate.new) × (Q.faults certificate.old ≤ Q.faults certificate.new) }
+    ensures closed { (start : Inputs) (h : Head) (requests : List Requested) (records : List Entry) → HasChecked start h requests records (inputs reader.old (T.left trace.old) (T.faults trace.old) cert.old (Q.left certificate.old) (Q.faults certificate.old)) checker.old → IsLastCheck start (inputs reader.new (T.left trace.new) (T.faults trace.new) cert.new (Q.left certificate.new) (Q.faults certificate.new)) result }
+    ensures trace { LosesPrefix (T.left trace.old) (T.left trace.new) × (T.faults trace.old ≤ T.faults trace.new) × (length reader.new.lines.held ≤ 65536) }
+    ensures cert { LosesPrefix (Q.left certificate.old) (Q.left certificate.new) × (Q.faults certificate.old ≤ Q.faults certificate.new) }
 {
     while turn(alloc, reader, trace, cert, certificate, header, checker)? {}
     close(cert, certificate, header, checker)
@@ -221,10 +221,10 @@ pub fn check_streams<T: Source, Q: Source>(
     ensures yes { IfOk result (IsPassed (inputs reader.old (T.left trace.old) (T.faults trace.old) cert.old (Q.left certificate.old) (Q.faults certificate.old)) (inputs reader.new (T.left trace.new) (T.faults trace.new) cert.new (Q.left certificate.new) (Q.faults certificate.new))) }
     ensures event { IfErr result (IsEvent (inputs reader.old (T.left trace.old) (T.faults trace.old) cert.old (Q.left certificate.old) (Q.faults certificate.old)) (inputs reader.new (T.left trace.new) (T.faults trace.new) cert.new (Q.left certificate.new) (Q.faults certificate.new))) }
     ensures near { IfErr result (IsNear (inputs reader.old (T.left trace.old) (T.faults trace.old) cert.old (Q.left certificate.old) (Q.faults certificate.old)) (inputs reader.new (T.left trace.new) (T.faults trace.new) cert.new (Q.left certificate.new) (Q.faults certificate.new))) }
-    ensures trace_source { LosesFront (T.left trace.old) (T.left trace.new) }
+    ensures trace_source { LosesPrefix (T.left trace.old) (T.left trace.new) }
     ensures trace_later { T.faults trace.old ≤ T.faults trace.new }
     ensures trace_ahead { length reader.new.lines.held ≤ 65536 }
-    ensures cert_source { LosesFront (Q.left certificate.old) (Q.left certificate.new) }
+    ensures cert_source { LosesPrefix (Q.left certificate.old) (Q.left certificate.new) }
     ensures cert_later { Q.faults certificate.old ≤ Q.faults certificate.new }
 {
     let header = cert.header(certificate)?;

@@ -1,18 +1,18 @@
 -- Lines that are read one after another.
 use Rattle.std.proofs.Common.{◌≡◌, ℕ, zero, suc, ◌+◌, ◌-◌, ◌≤◌, ◌∙◌, sym, refl, ap, subst, List, [], ◌∷◌, ◌++◌, append_assoc, length, arith, Some, None, Option, Ok, Err, Result, IfSome, IfOk, IfErr, inl, inr, length-drop}
 use Rattle.std.specs.Option.{option_or}
-use Rattle.bound_io.specs.Causes.{Rose}
+use Rattle.bound_io.specs.Causes.{HasNewFault}
 use Rattle.bound_io.specs.Devices.{Device, device}
 use Rattle.bound_io.specs.Lines.{text_len, after_line}
 use Rattle.bound_io.specs.Positions.{Position}
-use Rattle.bound_io.specs.Reading.{LosesFront}
+use Rattle.bound_io.specs.Reading.{LosesPrefix}
 use Rattle.cert_format.specs.declared.fault.CertFault.{CertFault}
 use Rattle.cert_format.specs.declared.fault.CertFault.TheVariants.{BadText, Truncated, Trailing, ReadFault}
 use Rattle.cert_format.specs.Grammar.{Slot, end_slots}
 use Rattle.cert_format.specs.Readings.{first_fault, lines_fault, after_lines, bytes_through, end_fault, trailing}
-use Rattle.cert_format.specs.Lines.{told, IsPast, Passes, IsStopped, IsWithin, Reads}
+use Rattle.cert_format.specs.Lines.{known, IsPast, Passes, IsStopped, IsWithin, Reads}
 use Rattle.cert_format.proofs.Headers.{after_lines-suc, after_lines-zero}
-use Rattle.cert_format.proofs.Taken.{at_some, if_told, after_lines-one}
+use Rattle.cert_format.proofs.Taken.{at_some, if_known, after_lines-one}
 
 -- some lines after others
 pub after_lines-add : (j k : ℕ) (bytes : List ℕ) → after_lines (j + k) bytes ≡ after_lines k (after_lines j bytes)
@@ -30,7 +30,7 @@ pub bytes_through-add : (j k : ℕ) (bytes : List ℕ) → bytes_through (j + k)
 bytes_through-add j k bytes = omega (arith, ap length (after_lines-add j k bytes), length-after_lines j bytes, length-after_lines k (after_lines j bytes))
 
 -- what was lost at two times
-pub loses_both : (a b d : Option (List ℕ)) → LosesFront a b → LosesFront b d → LosesFront a d
+pub loses_both : (a b d : Option (List ℕ)) → LosesPrefix a b → LosesPrefix b d → LosesPrefix a d
 loses_both None b d one other = ([], tt)
 loses_both (Some xs) None d one other = absurd one.1
 loses_both (Some xs) (Some ys) None one other = absurd other.1
@@ -39,18 +39,18 @@ loses_both (Some xs) (Some ys) (Some zs) one other =
     let second : ys ≡ other.0 ++ zs = other.1 in
     (one.0 ++ other.0, first ∙ (ap (λ r. one.0 ++ r) second ∙ sym (append_assoc one.0 other.0 zs)))
 
-keeps_front : (a : Option (List ℕ)) → LosesFront a a
-keeps_front None = ([], tt)
-keeps_front (Some xs) = ([], refl)
+keeps_prefix : (a : Option (List ℕ)) → LosesPrefix a a
+keeps_prefix None = ([], tt)
+keeps_prefix (Some xs) = ([], refl)
 
 -- so many lines were read, and this holds of the bytes
 pub record Came (count : ℕ) (P : List ℕ → Type 0) (old now : Position) (source : Device) : Type 0 where
   pub limit : now.limit ≡ old.limit
   pub given : now.line ≡ old.line + count
   pub no_fault : now.fault ≡ None
-  pub tells : IfSome (told old source.before) (λ bytes. P bytes × (told now source.after ≡ Some (after_lines count bytes)))
-  pub past : IfSome (told old source.before) (IsPast old now)
-  pub loses : LosesFront source.before source.after
+  pub tells : IfSome (known old source.before) (λ bytes. P bytes × (known now source.after ≡ Some (after_lines count bytes)))
+  pub past : IfSome (known old source.before) (IsPast old now)
+  pub loses : LosesPrefix source.before source.after
   pub later : source.faults_before ≤ source.faults_after
 
 abbrev pub Nothing : List ℕ → Type 0
@@ -61,9 +61,9 @@ start at left faults none = record {
   limit = refl;
   given = omega arith;
   no_fault = none;
-  tells = if_told (told at left) _ (λ bytes e. (tt, e ∙ ap (λ b. Some b) (sym (after_lines-zero bytes))));
-  past = if_told (told at left) _ (λ bytes e. record { further = omega arith; consumed = omega (arith, ap (λ n. length (after_lines n bytes)) (sub_same at.line), ap length (after_lines-zero bytes)) });
-  loses = keeps_front left;
+  tells = if_known (known at left) _ (λ bytes e. (tt, e ∙ ap (λ b. Some b) (sym (after_lines-zero bytes))));
+  past = if_known (known at left) _ (λ bytes e. record { further = omega arith; consumed = omega (arith, ap (λ n. length (after_lines n bytes)) (sub_same at.line), ap length (after_lines-zero bytes)) });
+  loses = keeps_prefix left;
   later = omega arith;
 }
   where
@@ -78,9 +78,9 @@ past_both first second third bytes k line one other =
     = ap (λ n. bytes_through n bytes) (omega (arith, line, other.further)) ∙ bytes_through-add k (third.line - second.line) bytes in
     record { further = omega (arith, one.further, other.further); consumed = omega (arith, one.consumed, other.consumed, here, both) }
 
-rose_later : (first second third : ℕ) → first ≤ second → Rose second third → Rose first third
-rose_later first second third later (inl more) = inl (omega (arith, later, more))
-rose_later first second third later (inr last) = inr last
+new_fault_later : (first second third : ℕ) → first ≤ second → HasNewFault second third → HasNewFault first third
+new_fault_later first second third later (inl more) = inl (omega (arith, later, more))
+new_fault_later first second third later (inr last) = inr last
 
 -- some lines more are read
 module _ {A : Type 0} (count : ℕ) (P : List ℕ → Type 0) (fault_of : ℕ → List ℕ → Option CertFault) (more : ℕ) (value : List ℕ → A) (old now new : Position) (a b d : Option (List ℕ)) (x y z : ℕ) where
@@ -90,21 +90,21 @@ module _ {A : Type 0} (count : ℕ) (P : List ℕ → Type 0) (fault_of : ℕ �
   pub then_more : (v : A) (r : Result A CertFault) → r ≡ Ok v → Came count P old now (device a b x y) → Reads (fault_of (now.line + 1)) more value now new (device b d y z) r → Came (count + more) (Then v) old new (device a d x z)
   then_more v r is came reads =
       let given = at_ok (λ _. (new.line ≡ now.line + more) × (new.fault ≡ None)) reads.given in
-      let passes = at_ok (λ _. IfSome (told now b) (λ bytes. Passes (fault_of (now.line + 1)) more bytes (told new d))) reads.passes in
-      let value_is = at_ok (λ w. IfSome (told now b) (λ bytes. w ≡ value bytes)) reads.value_is in
+      let passes = at_ok (λ _. IfSome (known now b) (λ bytes. Passes (fault_of (now.line + 1)) more bytes (known new d))) reads.passes in
+      let value_is = at_ok (λ w. IfSome (known now b) (λ bytes. w ≡ value bytes)) reads.value_is in
       record {
         limit = reads.limit ∙ came.limit;
         given = omega (arith, given.0, came.given);
         no_fault = given.1;
-        tells = if_told (told old a) _ (λ bytes e.
-            let so_far = at_some (told old a) bytes _ e came.tells in
-            let pass = at_some (told now b) (after_lines count bytes) _ so_far.1 passes in (
-              (so_far.0, ap (λ n. fault_of n (after_lines count bytes)) (omega (arith, came.given)) ∙ pass.none, at_some (told now b) (after_lines count bytes) _ so_far.1 value_is),
+        tells = if_known (known old a) _ (λ bytes e.
+            let so_far = at_some (known old a) bytes _ e came.tells in
+            let pass = at_some (known now b) (after_lines count bytes) _ so_far.1 passes in (
+              (so_far.0, ap (λ n. fault_of n (after_lines count bytes)) (omega (arith, came.given)) ∙ pass.none, at_some (known now b) (after_lines count bytes) _ so_far.1 value_is),
               pass.rest ∙ ap (λ r. Some r) (sym (after_lines-add count more bytes)),
             ));
-        past = if_told (told old a) _ (λ bytes e.
-            let so_far = at_some (told old a) bytes _ e came.tells in
-            past_both old now new bytes count came.given (at_some (told old a) bytes _ e came.past) (at_some (told now b) (after_lines count bytes) _ so_far.1 reads.past));
+        past = if_known (known old a) _ (λ bytes e.
+            let so_far = at_some (known old a) bytes _ e came.tells in
+            past_both old now new bytes count came.given (at_some (known old a) bytes _ e came.past) (at_some (known now b) (after_lines count bytes) _ so_far.1 reads.past));
         loses = loses_both a b d came.loses reads.loses;
         later = omega (arith, came.later, reads.later);
       }
@@ -122,23 +122,23 @@ module _ {A : Type 0} (count : ℕ) (P : List ℕ → Type 0) (fault_of : ℕ �
     given = tt;
     passes = tt;
     value_is = tt;
-    stopped = stopped fault (subst (λ s. IfErr s (IsStopped (fault_of (now.line + 1)) (told now b) (device b d y z))) is reads.stopped);
+    stopped = stopped fault (subst (λ s. IfErr s (IsStopped (fault_of (now.line + 1)) (known now b) (device b d y z))) is reads.stopped);
     within = subst (λ s. IfErr s (IsWithin new.line)) is reads.within;
-    past = if_told (told old a) _ (λ bytes e.
-        let so_far = at_some (told old a) bytes _ e came.tells in
-        past_both old now new bytes count came.given (at_some (told old a) bytes _ e came.past) (at_some (told now b) (after_lines count bytes) _ so_far.1 reads.past));
+    past = if_known (known old a) _ (λ bytes e.
+        let so_far = at_some (known old a) bytes _ e came.tells in
+        past_both old now new bytes count came.given (at_some (known old a) bytes _ e came.past) (at_some (known now b) (after_lines count bytes) _ so_far.1 reads.past));
     loses = loses_both a b d came.loses reads.loses;
     later = omega (arith, came.later, reads.later);
   }
     where
-      has : (g : CertFault) → IfSome (told now b) (λ bytes. fault_of (now.line + 1) bytes ≡ Some g) → IfSome (told old a) (λ bytes. whole bytes ≡ Some g)
-      has g h = if_told (told old a) _ (λ bytes e.
-          let so_far = at_some (told old a) bytes _ e came.tells in
+      has : (g : CertFault) → IfSome (known now b) (λ bytes. fault_of (now.line + 1) bytes ≡ Some g) → IfSome (known old a) (λ bytes. whole bytes ≡ Some g)
+      has g h = if_known (known old a) _ (λ bytes e.
+          let so_far = at_some (known old a) bytes _ e came.tells in
           let same : now.line + 1 ≡ old.line + count + 1 = omega (arith, came.given) in
-          first bytes so_far.0 g (ap (λ n. fault_of n (after_lines count bytes)) (sym same) ∙ at_some (told now b) (after_lines count bytes) _ so_far.1 h))
+          first bytes so_far.0 g (ap (λ n. fault_of n (after_lines count bytes)) (sym same) ∙ at_some (known now b) (after_lines count bytes) _ so_far.1 h))
 
-      stopped : (f : CertFault) → IsStopped (fault_of (now.line + 1)) (told now b) (device b d y z) f → IsStopped whole (told old a) (device a d x z) f
-      stopped ReadFault why = rose_later x y z came.later why
+      stopped : (f : CertFault) → IsStopped (fault_of (now.line + 1)) (known now b) (device b d y z) f → IsStopped whole (known old a) (device a d x z) f
+      stopped ReadFault why = new_fault_later x y z came.later why
       stopped (BadText n kind) why = has (BadText n kind) why
       stopped (Truncated n) why = has (Truncated n) why
       stopped (Trailing n) why = has (Trailing n) why
@@ -150,8 +150,8 @@ all_done count P old now a b x y whole value_of v came held none is = record {
   limit = came.limit;
   held = held;
   given = (came.given, came.no_fault);
-  passes = if_told (told old a) _ (λ bytes e. let so_far = at_some (told old a) bytes _ e came.tells in record { none = none bytes so_far.0; rest = so_far.1 });
-  value_is = if_told (told old a) _ (λ bytes e. is bytes (at_some (told old a) bytes _ e came.tells).0);
+  passes = if_known (known old a) _ (λ bytes e. let so_far = at_some (known old a) bytes _ e came.tells in record { none = none bytes so_far.0; rest = so_far.1 });
+  value_is = if_known (known old a) _ (λ bytes e. is bytes (at_some (known old a) bytes _ e came.tells).0);
   stopped = tt;
   within = tt;
   past = came.past;
@@ -183,24 +183,24 @@ next_none n k slots more bytes none =
     ap (λ o. option_or o (lines_fault (n + k + 1 + 1) more (after_line (after_lines k bytes)))) none
     ∙ (ap (lines_fault (n + k + 1 + 1) more) (sym (after_lines-suc k bytes)) ∙ ap (λ m. lines_fault m more (after_lines (suc k) bytes)) same)
 
-stop_after : (n k : ℕ) (front : List (List Slot)) (slots : List Slot) (more : List (List Slot)) (bytes : List ℕ) (g : CertFault) → NoneFaulty n k front bytes
-    → first_fault (n + (k + length front) + 1) slots (after_lines (k + length front) bytes) ≡ Some g → lines_fault (n + k + 1) (front ++ slots ∷ more) (after_lines k bytes) ≡ Some g
+stop_after : (n k : ℕ) (prefix : List (List Slot)) (slots : List Slot) (more : List (List Slot)) (bytes : List ℕ) (g : CertFault) → NoneFaulty n k prefix bytes
+    → first_fault (n + (k + length prefix) + 1) slots (after_lines (k + length prefix) bytes) ≡ Some g → lines_fault (n + k + 1) (prefix ++ slots ∷ more) (after_lines k bytes) ≡ Some g
 stop_after n k [] slots more bytes g none is =
     let same : k + 0 ≡ k = omega arith in
     let here : first_fault (n + k + 1) slots (after_lines k bytes) ≡ Some g = ap (λ m. first_fault (n + m + 1) slots (after_lines m bytes)) (sym same) ∙ is in
     ap (λ o. option_or o (lines_fault (n + k + 1 + 1) more (after_line (after_lines k bytes)))) here
-stop_after n k (s ∷ front) slots more bytes g none is =
-    let same : k + suc (length front) ≡ suc k + length front = omega arith in
-    next_none n k s (front ++ slots ∷ more) bytes none.0 ∙ stop_after n (suc k) front slots more bytes g none.1 (ap (λ m. first_fault (n + m + 1) slots (after_lines m bytes)) (sym same) ∙ is)
+stop_after n k (s ∷ prefix) slots more bytes g none is =
+    let same : k + suc (length prefix) ≡ suc k + length prefix = omega arith in
+    next_none n k s (prefix ++ slots ∷ more) bytes none.0 ∙ stop_after n (suc k) prefix slots more bytes g none.1 (ap (λ m. first_fault (n + m + 1) slots (after_lines m bytes)) (sym same) ∙ is)
 
 -- the first fault of some lines
-pub lines_stop : (n : ℕ) (front : List (List Slot)) (slots : List Slot) (more : List (List Slot)) (bytes : List ℕ) (g : CertFault) → NoneFaulty n 0 front bytes
-    → first_fault (n + length front + 1) slots (after_lines (length front) bytes) ≡ Some g → lines_fault (n + 1) (front ++ slots ∷ more) bytes ≡ Some g
-lines_stop n front slots more bytes g none is =
-    let same : 0 + length front ≡ length front = omega arith in
+pub lines_stop : (n : ℕ) (prefix : List (List Slot)) (slots : List Slot) (more : List (List Slot)) (bytes : List ℕ) (g : CertFault) → NoneFaulty n 0 prefix bytes
+    → first_fault (n + length prefix + 1) slots (after_lines (length prefix) bytes) ≡ Some g → lines_fault (n + 1) (prefix ++ slots ∷ more) bytes ≡ Some g
+lines_stop n prefix slots more bytes g none is =
+    let same : 0 + length prefix ≡ length prefix = omega arith in
     let zero' : n + 1 ≡ n + 0 + 1 = omega arith in
-    ap (λ m. lines_fault m (front ++ slots ∷ more) bytes) zero' ∙ (ap (lines_fault (n + 0 + 1) (front ++ slots ∷ more)) (sym (after_lines-zero bytes))
-    ∙ stop_after n 0 front slots more bytes g none (ap (λ m. first_fault (n + m + 1) slots (after_lines m bytes)) same ∙ is))
+    ap (λ m. lines_fault m (prefix ++ slots ∷ more) bytes) zero' ∙ (ap (lines_fault (n + 0 + 1) (prefix ++ slots ∷ more)) (sym (after_lines-zero bytes))
+    ∙ stop_after n 0 prefix slots more bytes g none (ap (λ m. first_fault (n + m + 1) slots (after_lines m bytes)) same ∙ is))
 
 none_after : (n k : ℕ) (lines : List (List Slot)) (bytes : List ℕ) → NoneFaulty n k lines bytes → lines_fault (n + k + 1) lines (after_lines k bytes) ≡ None
 none_after n k [] bytes none = refl

@@ -111,22 +111,22 @@ only_more : (n : ℕ) (ds : List ℕ) → 10 ≤ n → Only (n / 10) ds → Only
 only_more n ds high only word canonical is =
     let parts = canonical_parts word canonical in
     let size = length word - 1 in
-    let front = take size word in
+    let prefix = take size word in
     let last = get_or word size 0 in
-    let split : word ≡ front ++ last ∷ [] = sym (take_all (size + 1) word (omega arith)) ∙ take_more word size 0 (omega (arith, parts.1)) in
-    let value : number_in word ≡ 10 * number_in front + (last - 48) = ap number_in split ∙ value_after-append 0 front last in
-    let digits = and_parts (list_all is_ascii_digit front) _ (sym (list_all-append is_ascii_digit front (last ∷ [])) ∙ (ap (list_all is_ascii_digit) (sym split) ∙ parts.0)) in
+    let split : word ≡ prefix ++ last ∷ [] = sym (take_all (size + 1) word (omega arith)) ∙ take_more word size 0 (omega (arith, parts.1)) in
+    let value : number_in word ≡ 10 * number_in prefix + (last - 48) = ap number_in split ∙ value_after-append 0 prefix last in
+    let digits = and_parts (list_all is_ascii_digit prefix) _ (sym (list_all-append is_ascii_digit prefix (last ∷ [])) ∙ (ap (list_all is_ascii_digit) (sym split) ∙ parts.0)) in
     let digit = digit_range last (and_parts (is_ascii_digit last) true digits.1).0 in
-    let some : 0 < length front = some_front front (omega (arith, value, is, high, digit)) in
-    let first : 48 < get_or front 0 0 = rw (sym (get_or_append_left front (last ∷ []) 0 0 some) ∙ ap (λ w. get_or w 0 0) (sym split)) (parts.2 (omega (arith, ap length split, length-append front (last ∷ []), some))) in
-    let front_canonical : is_canonical front ≡ true = and_from (list_all is_ascii_digit front) _ digits.0 (or_right (length front == 1) (nat_lt 48 (get_or front 0 0)) (lt-ltb 48 (get_or front 0 0) first)) in
-    let here : front ≡ ds = only front front_canonical (omega (arith, value, is, digit)) in
+    let some : 0 < length prefix = some_prefix prefix (omega (arith, value, is, high, digit)) in
+    let first : 48 < get_or prefix 0 0 = rw (sym (get_or_append_left prefix (last ∷ []) 0 0 some) ∙ ap (λ w. get_or w 0 0) (sym split)) (parts.2 (omega (arith, ap length split, length-append prefix (last ∷ []), some))) in
+    let prefix_canonical : is_canonical prefix ≡ true = and_from (list_all is_ascii_digit prefix) _ digits.0 (or_right (length prefix == 1) (nat_lt 48 (get_or prefix 0 0)) (lt-ltb 48 (get_or prefix 0 0) first)) in
+    let here : prefix ≡ ds = only prefix prefix_canonical (omega (arith, value, is, digit)) in
     let there : last ≡ 48 + n % 10 = omega (arith, value, is, digit) in
     split ∙ (ap (λ f. f ++ last ∷ []) here ∙ ap (λ d. ds ++ d ∷ []) there)
   where
-    some_front : (front : List ℕ) → 0 < number_in front → 0 < length front
-    some_front [] above = absurd (omega (arith, above))
-    some_front (x ∷ xs) above = omega arith
+    some_prefix : (prefix : List ℕ) → 0 < number_in prefix → 0 < length prefix
+    some_prefix [] above = absurd (omega (arith, above))
+    some_prefix (x ∷ xs) above = omega arith
 
 -- a canonical text is what its number is written as
 pub decimal-number_in : (word : List ℕ) → is_canonical word ≡ true → number_in word < 10 ^ 64 → decimal (number_in word) ≡ word

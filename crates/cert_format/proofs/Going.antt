@@ -12,22 +12,22 @@ use Rattle.cert_format.specs.declared.reader.Stage.{Stage}
 use Rattle.cert_format.specs.declared.reader.Stage.TheVariants.{AtHeader, InRecords, AtEnd}
 use Rattle.cert_format.specs.Grammar.{record_slots, end_slots}
 use Rattle.cert_format.specs.Readings.{reading, read_records, stopped, unless, onto, under, trailing, end_fault, first_fault, header_fault, header_in, record_in, after_lines}
-use Rattle.cert_format.specs.Lines.{told, IsStopped, Reads}
+use Rattle.cert_format.specs.Lines.{known, IsStopped, Reads}
 use Rattle.cert_format.specs.Finish.{finish_fault, lines_left}
 use Rattle.cert_format.specs.Readers.{Reader, fresh, to_come, IsRefused, HeaderRead, RecordRead, EndRead}
 use Rattle.cert_format.proofs.Spellings.{record_spelled}
-use Rattle.cert_format.proofs.Fronts.{fits_first}
+use Rattle.cert_format.proofs.Prefixes.{fits_first}
 use Rattle.cert_format.proofs.Headers.{header_spelled, after_lines-zero, no_either}
-use Rattle.cert_format.proofs.Taken.{at_some, if_told, told_some, after_lines-one}
+use Rattle.cert_format.proofs.Taken.{at_some, if_known, known_some, after_lines-one}
 use Rattle.cert_format.proofs.Wholes.{nothing_read}
 
 -- why lines are not given is why nothing more is read
-refused_by : (old : Reader) (source : Device) (fault_of : List ℕ → Option CertFault) (fault : CertFault) → IsStopped fault_of (told old.lines source.before) source fault
+refused_by : (old : Reader) (source : Device) (fault_of : List ℕ → Option CertFault) (fault : CertFault) → IsStopped fault_of (known old.lines source.before) source fault
     → ((bytes : List ℕ) (f : CertFault) → fault_of bytes ≡ Some f → to_come old bytes ≡ stopped (Some f)) → IsRefused old source fault
 refused_by old source fault_of ReadFault why is = why
-refused_by old source fault_of (BadText n kind) why is = if_told (told old.lines source.before) _ (λ bytes e. is bytes (BadText n kind) (at_some (told old.lines source.before) bytes _ e why))
-refused_by old source fault_of (Truncated n) why is = if_told (told old.lines source.before) _ (λ bytes e. is bytes (Truncated n) (at_some (told old.lines source.before) bytes _ e why))
-refused_by old source fault_of (Trailing n) why is = if_told (told old.lines source.before) _ (λ bytes e. is bytes (Trailing n) (at_some (told old.lines source.before) bytes _ e why))
+refused_by old source fault_of (BadText n kind) why is = if_known (known old.lines source.before) _ (λ bytes e. is bytes (BadText n kind) (at_some (known old.lines source.before) bytes _ e why))
+refused_by old source fault_of (Truncated n) why is = if_known (known old.lines source.before) _ (λ bytes e. is bytes (Truncated n) (at_some (known old.lines source.before) bytes _ e why))
+refused_by old source fault_of (Trailing n) why is = if_known (known old.lines source.before) _ (λ bytes e. is bytes (Trailing n) (at_some (known old.lines source.before) bytes _ e why))
 
 -- what the reader reads next
 coming_header : (old : Reader) (bytes : List ℕ) → old.stage ≡ AtHeader → to_come old bytes ≡ reading bytes
@@ -46,9 +46,9 @@ header_goes old new source h at first now left reads =
       now,
       left,
       eleven,
-      if_told (told old.lines source.before) _ (λ bytes e.
-          let pass = at_some (told old.lines source.before) bytes _ e reads.passes in
-          let is = at_some (told old.lines source.before) bytes _ e reads.value_is in
+      if_known (known old.lines source.before) _ (λ bytes e.
+          let pass = at_some (known old.lines source.before) bytes _ e reads.passes in
+          let is = at_some (known old.lines source.before) bytes _ e reads.value_is in
           let spelled = header_spelled bytes pass.none in
           let rest = after_lines 11 bytes in
           let new_coming : to_come new rest ≡ read_records h.requests 12 rest = coming_records new rest now ∙ (ap (λ k. read_records k (new.lines.line + 1) rest) left ∙ ap (λ n. read_records h.requests (n + 1) rest) eleven) in
@@ -81,9 +81,9 @@ record_goes old new source r at now left reads =
       now,
       left,
       one,
-      if_told (told old.lines source.before) _ (λ bytes e.
-          let pass = at_some (told old.lines source.before) bytes _ e reads.passes in
-          let is = at_some (told old.lines source.before) bytes _ e reads.value_is in
+      if_known (known old.lines source.before) _ (λ bytes e.
+          let pass = at_some (known old.lines source.before) bytes _ e reads.passes in
+          let is = at_some (known old.lines source.before) bytes _ e reads.value_is in
           let has = fits_first (old.lines.line + 1) record_slots bytes pass.none in
           let spelled = record_spelled (first_text bytes) has.fits in
           let rest = after_lines 1 bytes in
@@ -123,8 +123,8 @@ end_of [] b is = is
 end_of (x ∷ a) b is = let wrong : x ∷ (a ++ b) ≡ [] = is in cc
 
 -- where nothing is held or left, nothing is left
-nothing_left : (at : Position) (left : Option (List ℕ)) → told at left ≡ Some [] → left ≡ Some []
-nothing_left at left none = by left (told_some at left [] none).1
+nothing_left : (at : Position) (left : Option (List ℕ)) → known at left ≡ Some [] → left ≡ Some []
+nothing_left at left none = by left (known_some at left [] none).1
   where
     by : (o : Option (List ℕ)) → stands_in at.held o ≡ Some [] → o ≡ Some []
     by None is = let wrong : None ≡ Some [] = is in cc
@@ -135,8 +135,8 @@ pub end_goes : (old new : Reader) (source : Device) (stage : Stage) (v : Unit {0
 end_goes old new source stage v at other none now left reads = (
   now,
   left,
-  if_told (told old.lines source.before) _ (λ bytes e.
-      let pass = at_some (told old.lines source.before) bytes _ e reads.passes in
+  if_known (known old.lines source.before) _ (λ bytes e.
+      let pass = at_some (known old.lines source.before) bytes _ e reads.passes in
       let rest = pass.rest ∙ ap (λ b. Some b) (nothing_after stage (old.lines.line + 1) bytes pass.none) in
       (coming_finish old stage bytes at other none ∙ ap stopped pass.none, rest, nothing_left new.lines source.after rest)),
 )
@@ -146,9 +146,9 @@ pub end_stops : (old new : Reader) (source : Device) (stage : Stage) (fault : Ce
 end_stops old new source stage fault at other none reads = refused_by old source (finish_fault stage (old.lines.line + 1)) fault reads.stopped (λ bytes f is. coming_finish old stage bytes at other none ∙ ap stopped is)
 
 -- a reader that has read nothing stands in what the source has left, and all of it is to come
-pub fresh_told : (left : Option (List ℕ)) → told fresh.lines left ≡ left
-fresh_told None = refl
-fresh_told (Some bytes) = refl
+pub fresh_known : (left : Option (List ℕ)) → known fresh.lines left ≡ left
+fresh_known None = refl
+fresh_known (Some bytes) = refl
 
 pub fresh_coming : (bytes : List ℕ) → to_come fresh bytes ≡ reading bytes
 fresh_coming bytes = refl

@@ -39,14 +39,14 @@ or_assoc None p q = refl
 or_assoc (Some x) p q = refl
 
 -- the first fault of some lines and others
-lines_fault-append : (n : ℕ) (front more : List (List Slot)) (bytes : List ℕ) → lines_fault n (front ++ more) bytes ≡ option_or (lines_fault n front bytes) (lines_fault (n + length front) more (after_lines (length front) bytes))
+lines_fault-append : (n : ℕ) (prefix more : List (List Slot)) (bytes : List ℕ) → lines_fault n (prefix ++ more) bytes ≡ option_or (lines_fault n prefix bytes) (lines_fault (n + length prefix) more (after_lines (length prefix) bytes))
 unfolding after_lines
 lines_fault-append n [] more bytes = let same : n ≡ n + 0 = omega arith in ap (λ m. lines_fault m more bytes) same
-lines_fault-append n (slots ∷ front) more bytes =
-    let same : n + 1 + length front ≡ n + suc (length front) = omega arith in
-    ap (option_or (first_fault n slots bytes)) (lines_fault-append (n + 1) front more (after_line bytes))
-    ∙ (ap (λ m. option_or (first_fault n slots bytes) (option_or (lines_fault (n + 1) front (after_line bytes)) (lines_fault m more (after_lines (length front) (after_line bytes))))) same
-    ∙ sym (or_assoc (first_fault n slots bytes) (lines_fault (n + 1) front (after_line bytes)) (lines_fault (n + suc (length front)) more (after_lines (length front) (after_line bytes)))))
+lines_fault-append n (slots ∷ prefix) more bytes =
+    let same : n + 1 + length prefix ≡ n + suc (length prefix) = omega arith in
+    ap (option_or (first_fault n slots bytes)) (lines_fault-append (n + 1) prefix more (after_line bytes))
+    ∙ (ap (λ m. option_or (first_fault n slots bytes) (option_or (lines_fault (n + 1) prefix (after_line bytes)) (lines_fault m more (after_lines (length prefix) (after_line bytes))))) same
+    ∙ sym (or_assoc (first_fault n slots bytes) (lines_fault (n + 1) prefix (after_line bytes)) (lines_fault (n + suc (length prefix)) more (after_lines (length prefix) (after_line bytes)))))
 
 -- one line at the end of the lines
 last_line : (n : ℕ) (slots : List Slot) (bytes : List ℕ) → lines_fault n (slots ∷ []) bytes ≡ first_fault n slots bytes

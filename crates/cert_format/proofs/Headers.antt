@@ -12,7 +12,7 @@ use Rattle.cert_format.specs.Grammar.{Slot, line_fault, header_slots, number_at,
 use Rattle.cert_format.specs.Readings.{first_fault, lines_fault, after_lines, line_text, header_fault, header_in, objective_in}
 use Rattle.cert_format.proofs.Shapes.{fixed_fits, fixed_only}
 use Rattle.cert_format.proofs.Spellings.{IsLine, number_fits, number_spelled, objective_fits, objective_spelled, form_fits, form_spelled, entry_line, objective_line, form_line}
-use Rattle.cert_format.proofs.Fronts.{HasLine, first_fits, fits_first, first_text-line, after_line-line}
+use Rattle.cert_format.proofs.Prefixes.{HasLine, first_fits, fits_first, first_text-line, after_line-line}
 
 -- one line after some
 pub after_lines-suc : (k : ℕ) (bytes : List ℕ) → after_lines (suc k) bytes ≡ after_line (after_lines k bytes)
@@ -54,7 +54,7 @@ eleven : (a b c d e f g h i j k b0 b1 b2 b3 b4 b5 b6 b7 b8 b9 b10 b11 : List ℕ
 eleven a b c d e f g h i j k b0 b1 b2 b3 b4 b5 b6 b7 b8 b9 b10 b11 e0 e1 e2 e3 e4 e5 e6 e7 e8 e9 e10 =
     rw (e0, e1, e2, e3, e4, e5, e6, e7, e8, e9, e10) (simp append_assoc)
 
--- the header of some bytes is in range, and its lines are their front
+-- the header of some bytes is in range, and its lines are their prefix
 pub header_spelled : (bytes : List ℕ) → header_fault bytes ≡ None → IsHeaderInRange (header_in bytes) × (bytes ≡ text_of (header_lines (header_in bytes)) ++ after_lines 11 bytes)
 unfolding header_in
 header_spelled bytes none =

@@ -4,7 +4,7 @@ pub mod Shapes
 pub mod Numbers
 pub mod Decimals
 pub mod Spellings
-pub mod Fronts
+pub mod Prefixes
 pub mod Headers
 pub mod Wholes
 pub mod Short

@@ -7,7 +7,7 @@ use Rattle.std.proofs.lemmas.Bool.{true≢false, cases_Bool, ne_eqb, leb-true, l
 use Rattle.std.proofs.lemmas.List.Sums.{prefix_len-le-length}
 use Rattle.std.specs.Io.KnownBytes.{Keeps}
 use Rattle.bound_io.specs.Devices.{Device}
-use Rattle.bound_io.specs.Reading.{LosesFront}
+use Rattle.bound_io.specs.Reading.{LosesPrefix}
 use Rattle.bound_io.specs.Lines.{is_lf, text_len, first_text, first_line, after_line, stands_in}
 use Rattle.bound_io.specs.Positions.{Position, GivesLine, GivesNone, Stops, NextLine, IsRefused, IsLine, given, given_by}
 use Rattle.bound_io.specs.declared.line_reader.LineFault.{LineFault}
@@ -21,8 +21,8 @@ use Rattle.cert_format.specs.declared.fault.CertFault.{CertFault}
 use Rattle.cert_format.specs.declared.fault.CertFault.TheVariants.{BadText, Truncated, Trailing, ReadFault}
 use Rattle.cert_format.specs.Grammar.{Slot, line_fault, value_unless}
 use Rattle.cert_format.specs.Readings.{first_fault, after_lines, bytes_through, in_line, trailing}
-use Rattle.cert_format.specs.Lines.{told, text_given, nothing_given, of_line, IsPast, IsStopped, IsWithin, Reads}
-use Rattle.cert_format.proofs.Fronts.{whole_line, cut_line, long_line}
+use Rattle.cert_format.specs.Lines.{known, text_given, nothing_given, of_line, IsPast, IsStopped, IsWithin, Reads}
+use Rattle.cert_format.proofs.Prefixes.{whole_line, cut_line, long_line}
 use Rattle.cert_format.proofs.Headers.{after_lines-suc, after_lines-zero}
 
 -- what a call for the next line tells
@@ -32,7 +32,7 @@ pub record Gave (old new : Position) (source : Device) (r : Result WholeLine Lin
   pub next : NextLine old new (stands_in old.held source.before) (stands_in new.held source.after) (given_by r)
   pub short : IfOk r (λ w. IfSome (given w) (λ text. length text ≤ 65535))
   pub held : length new.held ≤ 65536
-  pub loses : LosesFront source.before source.after
+  pub loses : LosesPrefix source.before source.after
   pub later : source.faults_before ≤ source.faults_after
 
 -- the bytes of no line, and of one
@@ -45,21 +45,21 @@ after_lines-one bytes = after_lines-suc 0 bytes ∙ ap after_line (after_lines-z
 bytes_through-one : (bytes : List ℕ) → bytes_through 1 bytes ≡ length (first_line bytes)
 bytes_through-one bytes = omega (arith, ap length (after_lines-one bytes), length-drop (text_len bytes + 1) bytes, length-take (text_len bytes + 1) bytes)
 
--- the bytes that are told
-pub told_some : (at : Position) (left : Option (List ℕ)) (bytes : List ℕ) → told at left ≡ Some bytes → (at.consumed ≤ 64 * at.line) × (stands_in at.held left ≡ Some bytes)
-told_some at left bytes is = by (cases_Bool (nat_le at.consumed (64 * at.line)))
+-- the bytes that are known
+pub known_some : (at : Position) (left : Option (List ℕ)) (bytes : List ℕ) → known at left ≡ Some bytes → (at.consumed ≤ 64 * at.line) × (stands_in at.held left ≡ Some bytes)
+known_some at left bytes is = by (cases_Bool (nat_le at.consumed (64 * at.line)))
   where
     by : (nat_le at.consumed (64 * at.line) ≡ true) ⊎ (nat_le at.consumed (64 * at.line) ≡ false) → (at.consumed ≤ 64 * at.line) × (stands_in at.held left ≡ Some bytes)
     by (inl few) = (leb-true at.consumed (64 * at.line) few, sym (ap (λ b. cond b (stands_in at.held left) None) few) ∙ is)
     by (inr many) = let wrong : None ≡ Some bytes = sym (ap (λ b. cond b (stands_in at.held left) None) many) ∙ is in cc
 
-pub told_all : (at : Position) (left : Option (List ℕ)) → at.consumed ≤ 64 * at.line → told at left ≡ stands_in at.held left
-told_all at left few = ap (λ b. cond b (stands_in at.held left) None) (le-leb at.consumed (64 * at.line) few)
+pub known_all : (at : Position) (left : Option (List ℕ)) → at.consumed ≤ 64 * at.line → known at left ≡ stands_in at.held left
+known_all at left few = ap (λ b. cond b (stands_in at.held left) None) (le-leb at.consumed (64 * at.line) few)
 
--- a fact of the bytes that are told
-pub if_told : (o : Option (List ℕ)) (P : List ℕ → Type 0) → ((bytes : List ℕ) → o ≡ Some bytes → P bytes) → IfSome o P
-if_told None P f = tt
-if_told (Some bytes) P f = f bytes refl
+-- a fact of the bytes that are known
+pub if_known : (o : Option (List ℕ)) (P : List ℕ → Type 0) → ((bytes : List ℕ) → o ≡ Some bytes → P bytes) → IfSome o P
+if_known None P f = tt
+if_known (Some bytes) P f = f bytes refl
 
 pub at_some : {A : Type 0} (o : Option A) (x : A) (P : A → Type 0) → o ≡ Some x → IfSome o P → P x
 at_some (Some y) x P is h = let same : y ≡ x = cc in subst P same h
@@ -84,38 +84,38 @@ one_past old new bytes line consumed =
     record { further = omega (arith, line); consumed = omega (arith, consumed, one) }
 
 -- no line is read: the input ends, the line is too long, or a read failed
-module _ {A : Type 0} (slots : List Slot) (value : List ℕ → A) (old new : Position) (source : Device) (limit : old.limit ≡ 2 ^ 36) (few : old.line < 2 ^ 26) (loses : LosesFront source.before source.after) (later : source.faults_before ≤ source.faults_after) where
+module _ {A : Type 0} (slots : List Slot) (value : List ℕ → A) (old new : Position) (source : Device) (limit : old.limit ≡ 2 ^ 36) (few : old.line < 2 ^ 26) (loses : LosesPrefix source.before source.after) (later : source.faults_before ≤ source.faults_after) where
   abbrev Stopped : CertFault → Type 0
   Stopped fault = Reads (first_fault (old.line + 1) slots) 1 value old new source (Err fault)
 
   -- from its parts
-  stops : (fault : CertFault) → (new.limit ≡ old.limit) → (length new.held ≤ 65536) → IsStopped (first_fault (old.line + 1) slots) (told old source.before) source fault → IsWithin new.line fault → IfSome (told old source.before) (IsPast old new) → Stopped fault
+  stops : (fault : CertFault) → (new.limit ≡ old.limit) → (length new.held ≤ 65536) → IsStopped (first_fault (old.line + 1) slots) (known old source.before) source fault → IsWithin new.line fault → IfSome (known old source.before) (IsPast old new) → Stopped fault
   stops fault same held stopped within past = record { limit = same; held = held; given = tt; passes = tt; value_is = tt; stopped = stopped; within = within; past = past; loses = loses; later = later }
 
-  -- the bytes that the reader of lines stands in are told too
-  in_told : (P : List ℕ → Type 0) → IfSome (stands_in old.held source.before) P → (bytes : List ℕ) → told old source.before ≡ Some bytes → P bytes
-  in_told P all bytes is = at_some (stands_in old.held source.before) bytes P (told_some old source.before bytes is).1 all
+  -- the bytes that the reader of lines stands in are known too
+  in_known : (P : List ℕ → Type 0) → IfSome (stands_in old.held source.before) P → (bytes : List ℕ) → known old source.before ≡ Some bytes → P bytes
+  in_known P all bytes is = at_some (stands_in old.held source.before) bytes P (known_some old source.before bytes is).1 all
 
   stop_unended : (text : List ℕ) → length text ≤ 65535 → GivesLine old new (stands_in old.held source.before) (stands_in new.held source.after) → length new.held ≤ 65536
       → IfSome (stands_in old.held source.before) (λ bytes. (text ≡ bytes) × (text_len bytes ≡ length bytes) × (0 < length bytes)) → Stopped (Truncated (old.line + 1))
   stop_unended text short gives held is = stops (Truncated (old.line + 1)) gives.limit held
-      (if_told (told old source.before) _ (λ bytes e. let whole = in_told _ is bytes e in (cut_line (old.line + 1) slots bytes (omega (arith, whole.1)) (omega (arith, whole.1, ap length whole.0, short)))))
-      (omega (arith, gives.line)) (if_told (told old source.before) _ (λ bytes e. one_past old new bytes gives.line (in_told _ gives.consumed bytes e)))
+      (if_known (known old source.before) _ (λ bytes e. let whole = in_known _ is bytes e in (cut_line (old.line + 1) slots bytes (omega (arith, whole.1)) (omega (arith, whole.1, ap length whole.0, short)))))
+      (omega (arith, gives.line)) (if_known (known old source.before) _ (λ bytes e. one_past old new bytes gives.line (in_known _ gives.consumed bytes e)))
 
   stop_end : GivesNone old new (stands_in old.held source.before) (stands_in new.held source.after) → length new.held ≤ 65536 → IfSome (stands_in old.held source.before) (λ bytes. bytes ≡ []) → Stopped (Truncated (old.line + 1))
   stop_end gives held is = stops (Truncated (old.line + 1)) (ap (λ p. p.limit) gives.still) held
-      (if_told (told old source.before) _ (λ bytes e. let none = in_told _ is bytes e in rw none refl))
-      (omega (arith, ap (λ p. p.line) gives.still)) (if_told (told old source.before) _ (λ bytes e. kept_past old new bytes (ap (λ p. p.line) gives.still) (ap (λ p. p.consumed) gives.still)))
+      (if_known (known old source.before) _ (λ bytes e. let none = in_known _ is bytes e in rw none refl))
+      (omega (arith, ap (λ p. p.line) gives.still)) (if_known (known old source.before) _ (λ bytes e. kept_past old new bytes (ap (λ p. p.line) gives.still) (ap (λ p. p.consumed) gives.still)))
 
-  stop_fault : (given : LineFault) (fault : CertFault) → Stops old new (stands_in old.held source.before) (stands_in new.held source.after) given → length new.held ≤ 65536 → IsStopped (first_fault (old.line + 1) slots) (told old source.before) source fault → IsWithin old.line fault → Stopped fault
+  stop_fault : (given : LineFault) (fault : CertFault) → Stops old new (stands_in old.held source.before) (stands_in new.held source.after) given → length new.held ≤ 65536 → IsStopped (first_fault (old.line + 1) slots) (known old source.before) source fault → IsWithin old.line fault → Stopped fault
   stop_fault given fault stop held why within = stops fault (ap (λ p. p.limit) stop.still) held why (rw (ap (λ p. p.line) stop.still) within)
-      (if_told (told old source.before) _ (λ bytes e. kept_past old new bytes (ap (λ p. p.line) stop.still) (ap (λ p. p.consumed) stop.still)))
+      (if_known (known old source.before) _ (λ bytes e. kept_past old new bytes (ap (λ p. p.line) stop.still) (ap (λ p. p.consumed) stop.still)))
 
   -- a certificate doesn't pass the limit
-  not_past : IfSome (stands_in old.held source.before) (λ bytes. (text_len bytes ≤ 65535) × (old.limit < old.consumed + length (first_line bytes))) → IsStopped (first_fault (old.line + 1) slots) (told old source.before) source (BadText (old.line + 1) TooLong)
-  not_past past = if_told (told old source.before) _ (λ bytes e.
-      let some = told_some old source.before bytes e in
-      let wrong = in_told _ past bytes e in
+  not_past : IfSome (stands_in old.held source.before) (λ bytes. (text_len bytes ≤ 65535) × (old.limit < old.consumed + length (first_line bytes))) → IsStopped (first_fault (old.line + 1) slots) (known old source.before) source (BadText (old.line + 1) TooLong)
+  not_past past = if_known (known old source.before) _ (λ bytes e.
+      let some = known_some old source.before bytes e in
+      let wrong = in_known _ past bytes e in
       absurd (omega (arith, wrong, some.0, limit, few, length-take (text_len bytes + 1) bytes)))
 
   pub stop_line : (r : Result WholeLine LineFault) (fault : CertFault) → Gave old new source r → text_given (old.line + 1) r ≡ Err fault → Stopped fault
@@ -132,17 +132,17 @@ module _ {A : Type 0} (slots : List Slot) (value : List ℕ → A) (old new : Po
   stop_line (Err (line.LineTooLong m)) fault gave is =
       let same : BadText (old.line + 1) TooLong ≡ fault = cc in
       subst Stopped same (stop_fault (line.LineTooLong m) (BadText (old.line + 1) TooLong) gave.next gave.held
-      (if_told (told old source.before) _ (λ bytes e. long_line (old.line + 1) slots bytes (in_told _ gave.refused.1 bytes e))) (omega arith))
+      (if_known (known old source.before) _ (λ bytes e. long_line (old.line + 1) slots bytes (in_known _ gave.refused.1 bytes e))) (omega arith))
   stop_line (Err line.InputTooLong) fault gave is =
       let same : BadText (old.line + 1) TooLong ≡ fault = cc in
       subst Stopped same (stop_fault line.InputTooLong (BadText (old.line + 1) TooLong) gave.next gave.held (not_past gave.refused) (omega arith))
 
 -- a whole line is read: its text has this fault, or this value
-module _ {A : Type 0} (slots : List Slot) (value : List ℕ → A) (old new : Position) (source : Device) (text : List ℕ) (short : line_fault slots text ≡ None → length text ≤ 63) (loses : LosesFront source.before source.after) (later : source.faults_before ≤ source.faults_after) where
+module _ {A : Type 0} (slots : List Slot) (value : List ℕ → A) (old new : Position) (source : Device) (text : List ℕ) (short : line_fault slots text ≡ None → length text ≤ 63) (loses : LosesPrefix source.before source.after) (later : source.faults_before ≤ source.faults_after) where
   abbrev Read : Result A CertFault → Type 0
   Read result = Reads (first_fault (old.line + 1) slots) 1 (λ bytes. value (first_text bytes)) old new source result
 
-  -- the first line of the bytes that are told is this text
+  -- the first line of the bytes that are known is this text
   abbrev IsFirst : List ℕ → Type 0
   IsFirst bytes = (text ≡ first_text bytes) × (text_len bytes < length bytes)
 
@@ -152,8 +152,8 @@ module _ {A : Type 0} (slots : List Slot) (value : List ℕ → A) (old new : Po
     limit = gives.limit;
     held = held;
     given = (gives.line, gives.fault);
-    passes = if_told (told old source.before) _ (λ bytes e.
-        let some = told_some old source.before bytes e in
+    passes = if_known (known old source.before) _ (λ bytes e.
+        let some = known_some old source.before bytes e in
         let first = at_some (stands_in old.held source.before) bytes IsFirst some.1 is in
         let consumed = at_some (stands_in old.held source.before) bytes _ some.1 gives.consumed in
         let rest = at_some (stands_in old.held source.before) bytes _ some.1 gives.rest in
@@ -161,12 +161,12 @@ module _ {A : Type 0} (slots : List Slot) (value : List ℕ → A) (old new : Po
         let fault : first_fault (old.line + 1) slots bytes ≡ None = whole_line (old.line + 1) slots bytes first.1 (omega (arith, size, long)) ∙ ap (option_map (in_line (old.line + 1))) (ap (line_fault slots) (sym first.0) ∙ fits) in
         record {
           none = fault;
-          rest = told_all new source.after (omega (arith, consumed, some.0, gives.line, size, short fits, length-take (text_len bytes + 1) bytes)) ∙ (rest ∙ ap (λ b. Some b) (sym (after_lines-one bytes)));
+          rest = known_all new source.after (omega (arith, consumed, some.0, gives.line, size, short fits, length-take (text_len bytes + 1) bytes)) ∙ (rest ∙ ap (λ b. Some b) (sym (after_lines-one bytes)));
         });
-    value_is = if_told (told old source.before) _ (λ bytes e. ap value (at_some (stands_in old.held source.before) bytes IsFirst (told_some old source.before bytes e).1 is).0);
+    value_is = if_known (known old source.before) _ (λ bytes e. ap value (at_some (stands_in old.held source.before) bytes IsFirst (known_some old source.before bytes e).1 is).0);
     stopped = tt;
     within = tt;
-    past = if_told (told old source.before) _ (λ bytes e. one_past old new bytes gives.line (at_some (stands_in old.held source.before) bytes _ (told_some old source.before bytes e).1 gives.consumed));
+    past = if_known (known old source.before) _ (λ bytes e. one_past old new bytes gives.line (at_some (stands_in old.held source.before) bytes _ (known_some old source.before bytes e).1 gives.consumed));
     loses = loses;
     later = later;
   }
@@ -176,12 +176,12 @@ module _ {A : Type 0} (slots : List Slot) (value : List ℕ → A) (old new : Po
     given = tt;
     passes = tt;
     value_is = tt;
-    stopped = if_told (told old source.before) _ (λ bytes e.
-        let first = at_some (stands_in old.held source.before) bytes IsFirst (told_some old source.before bytes e).1 is in
+    stopped = if_known (known old source.before) _ (λ bytes e.
+        let first = at_some (stands_in old.held source.before) bytes IsFirst (known_some old source.before bytes e).1 is in
         let size = ap length first.0 ∙ length-first_text bytes in
         whole_line (old.line + 1) slots bytes first.1 (omega (arith, size, long)) ∙ ap (option_map (in_line (old.line + 1))) (ap (line_fault slots) (sym first.0) ∙ fault));
     within = omega (arith, gives.line);
-    past = if_told (told old source.before) _ (λ bytes e. one_past old new bytes gives.line (at_some (stands_in old.held source.before) bytes _ (told_some old source.before bytes e).1 gives.consumed));
+    past = if_known (known old source.before) _ (λ bytes e. one_past old new bytes gives.line (at_some (stands_in old.held source.before) bytes _ (known_some old source.before bytes e).1 gives.consumed));
     loses = loses;
     later = later;
   }
@@ -205,39 +205,39 @@ reads_as fault_of count value old new source result other same reads = subst (λ
 some_trailing : (n : ℕ) (bytes : List ℕ) → 0 < length bytes → trailing n bytes ≡ Some (Trailing n)
 some_trailing n bytes some = ap (λ b. cond b None (Some (Trailing n))) (ne_eqb (length bytes) 0 (λ e. omega (arith, e, some)))
 
-pub same_past : (at : Position) (left : Option (List ℕ)) → IfSome (told at left) (IsPast at at)
-same_past at left = if_told (told at left) _ (λ bytes e. kept_past at at bytes refl refl)
+pub same_past : (at : Position) (left : Option (List ℕ)) → IfSome (known at left) (IsPast at at)
+same_past at left = if_known (known at left) _ (λ bytes e. kept_past at at bytes refl refl)
 
 longer : (o : Option (List ℕ)) (P : List ℕ → Type 0) → IfSome o P → ((bytes : List ℕ) → P bytes → 0 < length bytes) → IfSome o (λ bytes. 0 < length bytes)
 longer None P h f = tt
 longer (Some bytes) P h f = f bytes h
 
 -- the next line is looked at where nothing is to come
-module _ (old new : Position) (source : Device) (limit : old.limit ≡ 2 ^ 36) (few : old.line < 2 ^ 26) (loses : LosesFront source.before source.after) (later : source.faults_before ≤ source.faults_after) where
+module _ (old new : Position) (source : Device) (limit : old.limit ≡ 2 ^ 36) (few : old.line < 2 ^ 26) (loses : LosesPrefix source.before source.after) (later : source.faults_before ≤ source.faults_after) where
   abbrev Looked : Result (Unit {0}) CertFault → Type 0
   Looked result = Reads (trailing (old.line + 1)) 0 (λ bytes. tt) old new source result
 
-  refuses : (fault : CertFault) → (new.limit ≡ old.limit) → (length new.held ≤ 65536) → IsStopped (trailing (old.line + 1)) (told old source.before) source fault → IsWithin new.line fault → IfSome (told old source.before) (IsPast old new) → Looked (Err fault)
+  refuses : (fault : CertFault) → (new.limit ≡ old.limit) → (length new.held ≤ 65536) → IsStopped (trailing (old.line + 1)) (known old source.before) source fault → IsWithin new.line fault → IfSome (known old source.before) (IsPast old new) → Looked (Err fault)
   refuses fault same held stopped within past = record { limit = same; held = held; given = tt; passes = tt; value_is = tt; stopped = stopped; within = within; past = past; loses = loses; later = later }
 
-  told_in : (P : List ℕ → Type 0) → IfSome (stands_in old.held source.before) P → (bytes : List ℕ) → told old source.before ≡ Some bytes → P bytes
-  told_in P all bytes is = at_some (stands_in old.held source.before) bytes P (told_some old source.before bytes is).1 all
+  known_in : (P : List ℕ → Type 0) → IfSome (stands_in old.held source.before) P → (bytes : List ℕ) → known old source.before ≡ Some bytes → P bytes
+  known_in P all bytes is = at_some (stands_in old.held source.before) bytes P (known_some old source.before bytes is).1 all
 
   -- a line, whatever it is
   refuse_line : GivesLine old new (stands_in old.held source.before) (stands_in new.held source.after) → length new.held ≤ 65536 → IfSome (stands_in old.held source.before) (λ bytes. 0 < length bytes) → Looked (Err (Trailing (old.line + 1)))
-  refuse_line gives held some = refuses (Trailing (old.line + 1)) gives.limit held (if_told (told old source.before) _ (λ bytes e. some_trailing (old.line + 1) bytes (told_in _ some bytes e))) (omega (arith, gives.line))
-      (if_told (told old source.before) _ (λ bytes e. one_past old new bytes gives.line (told_in _ gives.consumed bytes e)))
+  refuse_line gives held some = refuses (Trailing (old.line + 1)) gives.limit held (if_known (known old source.before) _ (λ bytes e. some_trailing (old.line + 1) bytes (known_in _ some bytes e))) (omega (arith, gives.line))
+      (if_known (known old source.before) _ (λ bytes e. one_past old new bytes gives.line (known_in _ gives.consumed bytes e)))
 
   -- no line, for a fault of the reader of lines
-  refuse_fault : (given : LineFault) (fault : CertFault) → Stops old new (stands_in old.held source.before) (stands_in new.held source.after) given → length new.held ≤ 65536 → IsStopped (trailing (old.line + 1)) (told old source.before) source fault → IsWithin old.line fault → Looked (Err fault)
+  refuse_fault : (given : LineFault) (fault : CertFault) → Stops old new (stands_in old.held source.before) (stands_in new.held source.after) given → length new.held ≤ 65536 → IsStopped (trailing (old.line + 1)) (known old source.before) source fault → IsWithin old.line fault → Looked (Err fault)
   refuse_fault given fault stop held why within = refuses fault (ap (λ p. p.limit) stop.still) held why (rw (ap (λ p. p.line) stop.still) within)
-      (if_told (told old source.before) _ (λ bytes e. kept_past old new bytes (ap (λ p. p.line) stop.still) (ap (λ p. p.consumed) stop.still)))
+      (if_known (known old source.before) _ (λ bytes e. kept_past old new bytes (ap (λ p. p.line) stop.still) (ap (λ p. p.consumed) stop.still)))
 
-  keeps_told : GivesNone old new (stands_in old.held source.before) (stands_in new.held source.after) → (bytes : List ℕ) → told old source.before ≡ Some bytes → told new source.after ≡ Some bytes
-  keeps_told gives bytes e =
-      let some = told_some old source.before bytes e in
+  keeps_known : GivesNone old new (stands_in old.held source.before) (stands_in new.held source.after) → (bytes : List ℕ) → known old source.before ≡ Some bytes → known new source.after ≡ Some bytes
+  keeps_known gives bytes e =
+      let some = known_some old source.before bytes e in
       let kept = rw (some.1) at gives.rest in
-      told_all new source.after (omega (arith, some.0, ap (λ p. p.line) gives.still, ap (λ p. p.consumed) gives.still)) ∙ by (stands_in new.held source.after) kept
+      known_all new source.after (omega (arith, some.0, ap (λ p. p.line) gives.still, ap (λ p. p.consumed) gives.still)) ∙ by (stands_in new.held source.after) kept
     where
       by : (o : Option (List ℕ)) → Keeps (Some bytes) o → o ≡ Some bytes
       by None kept = absurd kept
@@ -248,13 +248,13 @@ module _ (old new : Position) (source : Device) (limit : old.limit ≡ 2 ^ 36) (
     limit = ap (λ p. p.limit) gives.still;
     held = held;
     given = (omega (arith, ap (λ p. p.line) gives.still), ap (λ p. p.fault) gives.still ∙ gives.fault);
-    passes = if_told (told old source.before) _ (λ bytes e.
-        let none : bytes ≡ [] = rw (told_some old source.before bytes e).1 at gives.nothing in
-        record { none = ap (trailing (old.line + 1)) none; rest = keeps_told gives bytes e ∙ ap (λ b. Some b) (sym (after_lines-zero bytes)) });
-    value_is = if_told (told old source.before) _ (λ bytes e. refl);
+    passes = if_known (known old source.before) _ (λ bytes e.
+        let none : bytes ≡ [] = rw (known_some old source.before bytes e).1 at gives.nothing in
+        record { none = ap (trailing (old.line + 1)) none; rest = keeps_known gives bytes e ∙ ap (λ b. Some b) (sym (after_lines-zero bytes)) });
+    value_is = if_known (known old source.before) _ (λ bytes e. refl);
     stopped = tt;
     within = tt;
-    past = if_told (told old source.before) _ (λ bytes e. kept_past old new bytes (ap (λ p. p.line) gives.still) (ap (λ p. p.consumed) gives.still));
+    past = if_known (known old source.before) _ (λ bytes e. kept_past old new bytes (ap (λ p. p.line) gives.still) (ap (λ p. p.consumed) gives.still));
     loses = loses;
     later = later;
   }
@@ -265,11 +265,11 @@ module _ (old new : Position) (source : Device) (limit : old.limit ≡ 2 ^ 36) (
   look_on (Ok AtEnd) gave = no_line gave.next gave.held
   look_on (Err line.ReadFault) gave = refuse_fault line.ReadFault ReadFault gave.next gave.held gave.refused tt
   look_on (Err (line.LineTooLong m)) gave = refuse_fault (line.LineTooLong m) (Trailing (old.line + 1)) gave.next gave.held
-      (if_told (told old source.before) _ (λ bytes e. some_trailing (old.line + 1) bytes (omega (arith, told_in _ gave.refused.1 bytes e, prefix_len-le-length (λ b. not (is_lf b)) bytes)))) (omega arith)
+      (if_known (known old source.before) _ (λ bytes e. some_trailing (old.line + 1) bytes (omega (arith, known_in _ gave.refused.1 bytes e, prefix_len-le-length (λ b. not (is_lf b)) bytes)))) (omega arith)
   look_on (Err line.InputTooLong) gave = refuse_fault line.InputTooLong (Trailing (old.line + 1)) gave.next gave.held
-      (if_told (told old source.before) _ (λ bytes e.
-      let past = told_in _ gave.refused bytes e in
-      some_trailing (old.line + 1) bytes (omega (arith, past.1, (told_some old source.before bytes e).0, limit, few, length-take (text_len bytes + 1) bytes)))) (omega arith)
+      (if_known (known old source.before) _ (λ bytes e.
+      let past = known_in _ gave.refused bytes e in
+      some_trailing (old.line + 1) bytes (omega (arith, past.1, (known_some old source.before bytes e).0, limit, few, length-take (text_len bytes + 1) bytes)))) (omega arith)
 
 -- what is made of the text of a line
 pub read_of_line : {A : Type 0} (n line : ℕ) (result : Result A CertFault) (parsed : Result A TextKind) (fault : Option TextKind) (value : A) → result ≡ of_line (n + 1) parsed → parsed ≡ value_unless fault value → n ≡ line → result ≡ of_line (line + 1) (value_unless fault value)

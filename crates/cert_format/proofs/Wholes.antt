@@ -17,7 +17,7 @@ use Rattle.cert_format.specs.Readings.{Reading, reading, whole, stopped, unless,
 use Rattle.cert_format.specs.Laws.{IsSpelled}
 use Rattle.cert_format.proofs.Shapes.{fixed_fits, fixed_only}
 use Rattle.cert_format.proofs.Spellings.{record_fits, record_spelled, record_is_line}
-use Rattle.cert_format.proofs.Fronts.{first_fits, fits_first, first_text-line, after_line-line}
+use Rattle.cert_format.proofs.Prefixes.{first_fits, fits_first, first_text-line, after_line-line}
 use Rattle.cert_format.proofs.Headers.{header_read, header_spelled, no_either}
 
 -- the lines of records, and the end

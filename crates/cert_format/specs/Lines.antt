@@ -2,7 +2,7 @@
 use Rattle.std.specs.Prelude.{◌≡◌, ℕ, ◌+◌, ◌-◌, ◌*◌, ◌≤◌, List, length, nat_le, if◌then◌else◌, Result, Ok, Err, None, Some, IfSome, IfOk, IfErr, OnOk}
 use Rattle.std.specs.declared.option.Option.{Option}
 use Rattle.bound_io.specs.Devices.{Device, HasFailed}
-use Rattle.bound_io.specs.Reading.{LosesFront}
+use Rattle.bound_io.specs.Reading.{LosesPrefix}
 use Rattle.bound_io.specs.Lines.{stands_in}
 use Rattle.bound_io.specs.Positions.{Position}
 use Rattle.bound_io.specs.declared.line_reader.LineFault.{LineFault}
@@ -15,9 +15,9 @@ use Rattle.cert_format.specs.declared.fault.CertFault.{CertFault}
 use Rattle.cert_format.specs.declared.fault.CertFault.TheVariants.{BadText, Truncated, Trailing, ReadFault}
 use Rattle.cert_format.specs.Readings.{after_lines, bytes_through}
 
--- the bytes that a reader stands in, where the source tells those that it has left, and told those of the lines so far, which have at most 64 bytes each
-abbrev pub told : Position → Option (List ℕ) → Option (List ℕ)
-told at left = if nat_le at.consumed (64 * at.line) then stands_in at.held left else None
+-- the bytes that a reader stands in, where the source tells those that it has left, and known those of the lines so far, which have at most 64 bytes each
+abbrev pub known : Position → Option (List ℕ) → Option (List ℕ)
+known at left = if nat_le at.consumed (64 * at.line) then stands_in at.held left else None
 
 -- the text of a whole line, or why there is none, where it would be line n
 abbrev pub text_given : ℕ → Result WholeLine LineFault → Result (List ℕ) CertFault
@@ -71,10 +71,10 @@ pub record Reads {A : Type 0} (fault_of : List ℕ → Option CertFault) (count 
   pub limit : new.limit ≡ old.limit
   pub held : length new.held ≤ 65536
   pub given : OnOk result ((new.line ≡ old.line + count) × (new.fault ≡ None))
-  pub passes : OnOk result (IfSome (told old source.before) (λ bytes. Passes fault_of count bytes (told new source.after)))
-  pub value_is : IfOk result (λ v. IfSome (told old source.before) (λ bytes. v ≡ value bytes))
-  pub stopped : IfErr result (IsStopped fault_of (told old source.before) source)
+  pub passes : OnOk result (IfSome (known old source.before) (λ bytes. Passes fault_of count bytes (known new source.after)))
+  pub value_is : IfOk result (λ v. IfSome (known old source.before) (λ bytes. v ≡ value bytes))
+  pub stopped : IfErr result (IsStopped fault_of (known old source.before) source)
   pub within : IfErr result (IsWithin new.line)
-  pub past : IfSome (told old source.before) (IsPast old new)
-  pub loses : LosesFront source.before source.after
+  pub past : IfSome (known old source.before) (IsPast old new)
+  pub loses : LosesPrefix source.before source.after
   pub later : source.faults_before ≤ source.faults_after

@@ -11,7 +11,7 @@ use Rattle.cert_format.specs.declared.fault.CertFault.TheVariants.{BadText, Trun
 use Rattle.cert_format.specs.declared.reader.Stage.{Stage}
 use Rattle.cert_format.specs.declared.reader.Stage.TheVariants.{AtHeader, InRecords, AtEnd}
 use Rattle.cert_format.specs.Readings.{Reading, reading, read_records, stopped, trailing, onto, under, after_lines}
-use Rattle.cert_format.specs.Lines.{told}
+use Rattle.cert_format.specs.Lines.{known}
 
 -- where a reader of a certificate stands: its lines, what it reads next, how many records are left, and the fault that was answered
 pub record Reader : Type 0 where
@@ -42,27 +42,27 @@ err_of (Err fault) = Some fault
 -- the bytes that the reader stands in begin with these lines, which are given, and what is to come is what was, but for what was read
 pub record GoesOn (with_read : Reading → Reading) (count : ℕ) (text : List ℕ) (old new : Reader) (after : Option (List ℕ)) (bytes : List ℕ) : Type 0 where
   pub text_is : bytes ≡ text ++ after_lines count bytes
-  pub rest : told new.lines after ≡ Some (after_lines count bytes)
+  pub rest : known new.lines after ≡ Some (after_lines count bytes)
   pub coming_is : to_come old bytes ≡ with_read (to_come new (after_lines count bytes))
 
 -- why nothing more is read: what is to come is this fault, or the source failed
 abbrev pub IsRefused : Reader → Device → CertFault → Type 0
 IsRefused old source ReadFault = HasFailed source
-IsRefused old source (BadText n kind) = IfSome (told old.lines source.before) (λ bytes. to_come old bytes ≡ stopped (Some (BadText n kind)))
-IsRefused old source (Truncated n) = IfSome (told old.lines source.before) (λ bytes. to_come old bytes ≡ stopped (Some (Truncated n)))
-IsRefused old source (Trailing n) = IfSome (told old.lines source.before) (λ bytes. to_come old bytes ≡ stopped (Some (Trailing n)))
+IsRefused old source (BadText n kind) = IfSome (known old.lines source.before) (λ bytes. to_come old bytes ≡ stopped (Some (BadText n kind)))
+IsRefused old source (Truncated n) = IfSome (known old.lines source.before) (λ bytes. to_come old bytes ≡ stopped (Some (Truncated n)))
+IsRefused old source (Trailing n) = IfSome (known old.lines source.before) (λ bytes. to_come old bytes ≡ stopped (Some (Trailing n)))
 
 -- how the header is read
 abbrev pub HeaderRead : Reader → Reader → Device → Result Header CertFault → Type 0
-HeaderRead old new source (Ok h) = (new.stage ≡ InRecords) × (new.left ≡ h.requests) × (new.lines.line ≡ 11) × IfSome (told old.lines source.before) (GoesOn (under h) 11 (text_of (header_lines h)) old new source.after)
+HeaderRead old new source (Ok h) = (new.stage ≡ InRecords) × (new.left ≡ h.requests) × (new.lines.line ≡ 11) × IfSome (known old.lines source.before) (GoesOn (under h) 11 (text_of (header_lines h)) old new source.after)
 HeaderRead old new source (Err fault) = IsRefused old source fault
 
 -- how a record is read
 abbrev pub RecordRead : Reader → Reader → Device → Result Record CertFault → Type 0
-RecordRead old new source (Ok r) = (new.stage ≡ InRecords) × (new.left + 1 ≡ old.left) × (new.lines.line ≡ old.lines.line + 1) × IfSome (told old.lines source.before) (GoesOn (onto r) 1 (line (record_line r)) old new source.after)
+RecordRead old new source (Ok r) = (new.stage ≡ InRecords) × (new.left + 1 ≡ old.left) × (new.lines.line ≡ old.lines.line + 1) × IfSome (known old.lines source.before) (GoesOn (onto r) 1 (line (record_line r)) old new source.after)
 RecordRead old new source (Err fault) = IsRefused old source fault
 
 -- how the end is read: nothing is to come, and nothing is left, neither held nor in the source
 abbrev pub EndRead : {A : Type 0} → Reader → Reader → Device → Result A CertFault → Type 0
-EndRead old new source (Ok value) = (new.stage ≡ AtEnd) × (new.left ≡ 0) × IfSome (told old.lines source.before) (λ bytes. (to_come old bytes ≡ stopped None) × (told new.lines source.after ≡ Some []) × (source.after ≡ Some []))
+EndRead old new source (Ok value) = (new.stage ≡ AtEnd) × (new.left ≡ 0) × IfSome (known old.lines source.before) (λ bytes. (to_come old bytes ≡ stopped None) × (known new.lines source.after ≡ Some []) × (source.after ≡ Some []))
 EndRead old new source (Err fault) = IsRefused old source fault

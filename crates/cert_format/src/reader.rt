@@ -1,9 +1,9 @@
 //! A reader of certificates.
 ghost use Rattle.std.specs.Prelude.{◌≡◌, ◌≢◌, ◌+◌, ◌^◌, ◌<◌, ◌≤◌, IfOk, IfErr, IfSome, OnOk, length, None, Err};
 ghost use Rattle.bound_io.specs.Devices.{IsUntouched, device};
-ghost use Rattle.bound_io.specs.Reading.{LosesFront};
+ghost use Rattle.bound_io.specs.Reading.{LosesPrefix};
 ghost use Rattle.cache_model.specs.Certificates.{IsHeaderInRange, IsRecordInRange};
-ghost use Rattle.cert_format.specs.Lines.{IsPast, IsWithin, Reads, told};
+ghost use Rattle.cert_format.specs.Lines.{IsPast, IsWithin, Reads, known};
 ghost use Rattle.cert_format.specs.Finish.{finish_fault, lines_left};
 
 use crate::fault::CertFault;
@@ -113,9 +113,9 @@ impl CertReader {
         ensures fault { self.old.fault ≡ None → self.new.fault ≡ err_of result }
         ensures again { IfSome self.old.fault (λ fault. (result ≡ Err fault) × (self.new ≡ self.old) × IsUntouched (device (Q.left source.old) (Q.left source.new) (Q.faults source.old) (Q.faults source.new))) }
         ensures within { self.old.fault ≡ None → IfErr result (IsWithin self.new.lines.line) }
-        ensures past { IfSome (told self.old.lines (Q.left source.old)) (IsPast self.old.lines self.new.lines) }
+        ensures past { IfSome (known self.old.lines (Q.left source.old)) (IsPast self.old.lines self.new.lines) }
         ensures ahead { length self.new.lines.held ≤ 65536 }
-        ensures source { LosesFront (Q.left source.old) (Q.left source.new) }
+        ensures source { LosesPrefix (Q.left source.old) (Q.left source.new) }
         ensures later { Q.faults source.old ≤ Q.faults source.new }
     {
         if let Some(fault) = self.fault {
@@ -140,9 +140,9 @@ impl CertReader {
         ensures fault { self.old.fault ≡ None → self.new.fault ≡ err_of result }
         ensures again { IfSome self.old.fault (λ fault. (result ≡ Err fault) × (self.new ≡ self.old) × IsUntouched (device (Q.left source.old) (Q.left source.new) (Q.faults source.old) (Q.faults source.new))) }
         ensures within { self.old.fault ≡ None → IfErr result (IsWithin self.new.lines.line) }
-        ensures past { IfSome (told self.old.lines (Q.left source.old)) (IsPast self.old.lines self.new.lines) }
+        ensures past { IfSome (known self.old.lines (Q.left source.old)) (IsPast self.old.lines self.new.lines) }
         ensures ahead { length self.new.lines.held ≤ 65536 }
-        ensures source { LosesFront (Q.left source.old) (Q.left source.new) }
+        ensures source { LosesPrefix (Q.left source.old) (Q.left source.new) }
         ensures later { Q.faults source.old ≤ Q.faults source.new }
     {
         if let Some(fault) = self.fault {
@@ -164,9 +164,9 @@ impl CertReader {
         ensures fault { self.old.fault ≡ None → self.new.fault ≡ err_of result }
         ensures again { IfSome self.old.fault (λ fault. (result ≡ Err fault) × (self.new ≡ self.old) × IsUntouched (device (Q.left source.old) (Q.left source.new) (Q.faults source.old) (Q.faults source.new))) }
         ensures within { self.old.fault ≡ None → IfErr result (IsWithin self.new.lines.line) }
-        ensures past { IfSome (told self.old.lines (Q.left source.old)) (IsPast self.old.lines self.new.lines) }
+        ensures past { IfSome (known self.old.lines (Q.left source.old)) (IsPast self.old.lines self.new.lines) }
         ensures ahead { length self.new.lines.held ≤ 65536 }
-        ensures source { LosesFront (Q.left source.old) (Q.left source.new) }
+        ensures source { LosesPrefix (Q.left source.old) (Q.left source.new) }
         ensures later { Q.faults source.old ≤ Q.faults source.new }
     {
         if let Some(fault) = self.fault {

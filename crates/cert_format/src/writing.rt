@@ -2,7 +2,7 @@
 ghost use Rattle.std.specs.Prelude.{codes, OnErr, OnOk};
 ghost use Rattle.std.specs.Io.KnownBytes.{Appends};
 ghost use Rattle.bound_io.specs.Causes.{HasCause};
-ghost use Rattle.bound_io.specs.Writing.{AppendsProperFront};
+ghost use Rattle.bound_io.specs.Writing.{AppendsProperPrefix};
 ghost use Rattle.cache_model.specs.Certificates.{IsHeaderInRange, IsRecordInRange};
 ghost use Rattle.cache_model.specs.Texts.{header_lines, line, record_line, text_of};
 
@@ -14,7 +14,7 @@ use cache_model::{Header, Record};
 pub fn write_header<K: Sink>(sink: &mut K, header: &Header) -> Result<(), Failed>
     requires { IsHeaderInRange header.now }
     ensures all { OnOk result (Appends (K.written sink.old) (K.written sink.new) (text_of (header_lines header.now))) }
-    ensures front { OnErr result (AppendsProperFront (K.written sink.old) (K.written sink.new) (text_of (header_lines header.now))) }
+    ensures prefix { OnErr result (AppendsProperPrefix (K.written sink.old) (K.written sink.new) (text_of (header_lines header.now))) }
     ensures cause { HasCause (K.faults sink.old) (K.faults sink.new) result }
 {
     write_all(sink, Text::of_header(header).as_bytes())
@@ -24,7 +24,7 @@ pub fn write_header<K: Sink>(sink: &mut K, header: &Header) -> Result<(), Failed
 pub fn write_record<K: Sink>(sink: &mut K, entry: &Record) -> Result<(), Failed>
     requires { IsRecordInRange entry.now }
     ensures all { OnOk result (Appends (K.written sink.old) (K.written sink.new) (line (record_line entry.now))) }
-    ensures front { OnErr result (AppendsProperFront (K.written sink.old) (K.written sink.new) (line (record_line entry.now))) }
+    ensures prefix { OnErr result (AppendsProperPrefix (K.written sink.old) (K.written sink.new) (line (record_line entry.now))) }
     ensures cause { HasCause (K.faults sink.old) (K.faults sink.new) result }
 {
     write_all(sink, Text::of_record(entry).as_bytes())
@@ -33,7 +33,7 @@ pub fn write_record<K: Sink>(sink: &mut K, entry: &Record) -> Result<(), Failed>
 /// Writes the line after the records.
 pub fn write_end<K: Sink>(sink: &mut K) -> Result<(), Failed>
     ensures all { OnOk result (Appends (K.written sink.old) (K.written sink.new) (line (codes "end"))) }
-    ensures front { OnErr result (AppendsProperFront (K.written sink.old) (K.written sink.new) (line (codes "end"))) }
+    ensures prefix { OnErr result (AppendsProperPrefix (K.written sink.old) (K.written sink.new) (line (codes "end"))) }
     ensures cause { HasCause (K.faults sink.old) (K.faults sink.new) result }
 {
     write_all(sink, b"end\n")

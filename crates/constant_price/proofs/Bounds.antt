@@ -29,8 +29,8 @@ sum-slice_range price (suc n) a b order within =
     let long : length (replicate n price) ≡ n = length-replicate n price in
     let rest : drop a (replicate n price ++ 0 ∷ []) ≡ replicate (n - a) price ++ 0 ∷ [] = drop-append-le a (replicate n price) (0 ∷ []) (omega arith) ∙ ap (λ xs. xs ++ 0 ∷ []) (drop-replicate a n price) in
     let short : length (replicate (n - a) price) ≡ n - a = length-replicate (n - a) price in
-    let front : take (b - a) (replicate (n - a) price ++ 0 ∷ []) ≡ replicate (b - a) price = take-append-le (b - a) (replicate (n - a) price) (0 ∷ []) (omega arith) ∙ take-replicate (b - a) (n - a) price (omega arith) in
-    ap (λ xs. sum (take (b - a) xs)) rest ∙ ap sum front ∙ sum_by-replicate (λ (x : ℕ). x) (b - a) price
+    let prefix : take (b - a) (replicate (n - a) price ++ 0 ∷ []) ≡ replicate (b - a) price = take-append-le (b - a) (replicate (n - a) price) (0 ∷ []) (omega arith) ∙ take-replicate (b - a) (n - a) price (omega arith) in
+    ap (λ xs. sum (take (b - a) xs)) rest ∙ ap sum prefix ∙ sum_by-replicate (λ (x : ℕ). x) (b - a) price
 
 -- an interval's surplus at these prices
 surplus-constant_prices : (unit d price steps : ℕ) (i : Interval) → IsInterval steps i → surplus unit d (constant_prices price steps) i ≡ surplus_at unit d price i

@@ -31,7 +31,7 @@ none_listed instance lists each_node each_edge zeros =
       none_between = λ k j low high before. absurd (omega arith);
     }
 
--- the next edge at the front of its list
+-- the next edge at the beginning of its list
 abbrev pub one_more : Lists → ℕ → ℕ → Lists
 one_more lists count node = record { first = set lists.first node (count + 1); next = set lists.next count (get_or lists.first node 0) }
 

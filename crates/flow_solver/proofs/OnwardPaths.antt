@@ -14,9 +14,9 @@ leads_on : (arcs : List OuterArc) (path : List Edge) (from mid : ℕ) (e : Edge)
 leads_on arcs [] from mid e leads at = (at ∙ sym leads, refl)
 leads_on arcs (f ∷ path) from mid e leads at = (leads.0, leads_on arcs path (head arcs f) mid e leads.1 at)
 
-leads_front : (arcs : List OuterArc) (path : List Edge) (from to : ℕ) (e : Edge) → Leads arcs from (path ++ e ∷ []) to → Leads arcs from path (tail arcs e)
-leads_front arcs [] from to e leads = sym leads.0
-leads_front arcs (f ∷ path) from to e leads = (leads.0, leads_front arcs path (head arcs f) to e leads.1)
+leads_prefix : (arcs : List OuterArc) (path : List Edge) (from to : ℕ) (e : Edge) → Leads arcs from (path ++ e ∷ []) to → Leads arcs from path (tail arcs e)
+leads_prefix arcs [] from to e leads = sym leads.0
+leads_prefix arcs (f ∷ path) from to e leads = (leads.0, leads_prefix arcs path (head arcs f) to e leads.1)
 
 -- each edge leads to a later node
 abbrev AreLater : List OuterArc → List Edge → Type 0
@@ -45,17 +45,17 @@ onward_grows state node path e onward on =
       later = All-append (λ f. tail arcs f < head arcs f) path (e ∷ []) onward.later (All-one (λ f. tail arcs f < head arcs f) e on.later);
     }
 
-All-front : {X : Type 0} (P : X → Type 0) (xs : List X) (x : X) → All P (xs ++ x ∷ []) → All P xs
-All-front P xs x all = λ k d h. subst P (get_or_append_left xs (x ∷ []) d k h) (all k d (omega (arith, h, length-append xs (x ∷ []))))
+All-prefix : {X : Type 0} (P : X → Type 0) (xs : List X) (x : X) → All P (xs ++ x ∷ []) → All P xs
+All-prefix P xs x all = λ k d h. subst P (get_or_append_left xs (x ∷ []) d k h) (all k d (omega (arith, h, length-append xs (x ∷ []))))
 
 -- one edge less
 pub onward_shrinks : (state : State) (node : ℕ) (path : List Edge) (e : Edge) → IsOnward state node (path ++ e ∷ []) → IsOnward state (tail state.instance.arcs e) path
 onward_shrinks state node path e onward =
     let arcs = state.instance.arcs in
     record {
-      leads = leads_front arcs path 0 node e onward.leads;
-      tight = All-front (IsTight state.instance state.flows (slice_index state.potentials)) path e onward.tight;
-      later = All-front (λ f. tail arcs f < head arcs f) path e onward.later;
+      leads = leads_prefix arcs path 0 node e onward.leads;
+      tight = All-prefix (IsTight state.instance state.flows (slice_index state.potentials)) path e onward.tight;
+      later = All-prefix (λ f. tail arcs f < head arcs f) path e onward.later;
     }
 
 -- a path onward to the last node takes what each of its edges has room for

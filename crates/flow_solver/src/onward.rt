@@ -118,7 +118,7 @@ fn edge_on(network: &Network, edges: &OuterEdges, dead: &DeadEnds, node: u32) ->
     }
 }
 
-// Writes a path onward to the last node, along which nothing is lost, to the front of the list, and answers how many
+// Writes a path onward to the last node, along which nothing is lost, to the beginning of the list, and answers how many
 // edges it has. Dead ends on the way are marked.
 fn find(
     network: &Network,

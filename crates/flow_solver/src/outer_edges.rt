@@ -64,7 +64,7 @@ impl OuterEdges {
         Ok(edges)
     }
 
-    // Puts the edge of that number at the front of the list of the node.
+    // Puts the edge of that number at the beginning of the list of the node.
     fn add(&mut self, number: u32, node: u32)
         requires number { number < length self.old.next }
         requires node { node < length self.old.first }

@@ -4,7 +4,7 @@ use Rattle.std.proofs.lemmas.Bool.{cases_order, both_ways}
 use Rattle.cache_model.specs.declared.objects.Object.{Object}
 use Rattle.cache_model.specs.declared.objects.Objective.{Objective}
 use Rattle.cache_model.specs.declared.intervals.Interval.{Interval}
-use Rattle.cache_model.specs.Play.{same_object}
+use Rattle.cache_model.specs.Claim.{same_object}
 use Rattle.cache_model.specs.Objects.{request_at, IsNext}
 use Rattle.cache_model.specs.Intervals.{eligible_intervals}
 use Rattle.cache_model.specs.Laws.{IsEligible}

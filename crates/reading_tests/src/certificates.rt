@@ -190,7 +190,7 @@ fn a_number_at_the_end_of_its_range_is_read(rt: HostRuntime) {
 }
 
 #[test]
-fn a_front_is_truncated_at_the_line_where_it_ends(rt: HostRuntime) {
+fn a_prefix_is_truncated_at_the_line_where_it_ends(rt: HostRuntime) {
     let text = text_with(&rt, rt.alloc(), 0, b"");
     let mut line = 1;
     for (end, byte) in text.iter().enumerate() {
@@ -325,7 +325,7 @@ fn long_text(rt: &impl Abort, alloc: Global) -> Vec<u8> {
 }
 
 // The header and the first record of a text, which is the last where there is none.
-fn read_front(
+fn read_prefix(
     reader: &mut CertReader,
     source: &mut MemSource,
 ) -> Result<(Header, Record), CertFault>
@@ -344,11 +344,11 @@ fn at_most_a_buffer_is_taken_ahead(rt: HostRuntime) {
     let text = long_text(&rt, rt.alloc());
     let mut source = MemSource::new(text, Vec::new(rt.alloc()), 100000);
     let mut reader = CertReader::new(rt.alloc()).expect(&rt, "memory");
-    let front = read_front(&mut reader, &mut source);
+    let prefix = read_prefix(&mut reader, &mut source);
     let counts = [reader.line(), reader.consumed(), reader.taken()];
     drop(reader);
     drop(source);
-    same(&rt, "the front", front, Ok((LONG_HEADER, FIRST)));
+    same(&rt, "the prefix", prefix, Ok((LONG_HEADER, FIRST)));
     // The lines of the header have 133 bytes, that of the record 6.
     same(&rt, "the counts", counts, [12, 139, 65536]);
 }

@@ -130,8 +130,8 @@ const ROWS: [Row; 10] = [
     (TRACE, 0, REST, 19, Err(CheckFault::CertReadFault)),
 ];
 
-fn source(rt: &impl Abort, alloc: Global, front: &[u8], rest: &[u8], failing: u64) -> MemSource {
-    let mut bytes = front.to_vec(alloc).expect(rt, "memory");
+fn source(rt: &impl Abort, alloc: Global, prefix: &[u8], rest: &[u8], failing: u64) -> MemSource {
+    let mut bytes = prefix.to_vec(alloc).expect(rt, "memory");
     bytes.extend_from_slice(rest).expect(rt, "memory");
     let fails = vec![in alloc; failing].expect(rt, "memory");
     MemSource::new(bytes, fails, 7)

@@ -14,10 +14,10 @@ type Row = (&'static [u8], Result<usize, Failed>);
 // Reads into a buffer of so many bytes.
 fn read_each<S: Source>(rt: &impl Abort, source: &mut S, room: usize, rows: &[Row]) {
     holds(rt, room, room <= 5);
-    for (front, want) in rows {
+    for (prefix, want) in rows {
         let mut buf = [0; 5];
-        same(rt, *front, source.read(&mut buf[..room]), *want);
-        holds(rt, *front, buf.starts_with(front));
+        same(rt, *prefix, source.read(&mut buf[..room]), *want);
+        holds(rt, *prefix, buf.starts_with(prefix));
     }
 }
 

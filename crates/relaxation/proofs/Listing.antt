@@ -23,7 +23,7 @@ listed_kept past next p b v a (suc n) from before listed = at (λ f is. listed_k
         )
     at later false is = later from is
 
--- with the number b at the front of the list w, each list has its numbers from b on
+-- with the number b at the beginning of the list w, each list has its numbers from b on
 pub listed_more : (past : ℕ) (q : ℕ → ℕ → Bool) (first next : List ℕ) (b n w : ℕ) → b < length next → w < length first → ((k : ℕ) → q k b ≡ eqb w k)
     → ((k : ℕ) → k < length first → IsListed past next (get_or first k 0) (passing (q k) (b + 1) n))
     → (k : ℕ) → k < length first → IsListed past (set next b (get_or first w 0)) (get_or (set first w b) k 0) (passing (q k) b (suc n))

@@ -66,7 +66,7 @@ up_to width arc first last (suc m) are low =
 -- shares of parts that have no more steps than the arc cost no more than it
 pub together-le : (c long a n w : ℕ) → 0 < long → a + n * w ≤ long → c * a / long + n * (c * w / long) ≤ c
 together-le c long a n w some fits =
-    let front : long * (c * a / long) ≤ c * a = mul-div-le (c * a) long in
+    let prefix : long * (c * a / long) ≤ c * a = mul-div-le (c * a) long in
     let each : n * (long * (c * w / long)) ≤ n * (c * w) = mul-le-mul_left n (mul-div-le (c * w) long) in
     let all : c * (a + n * w) ≤ c * long = mul-le-mul_left c fits in
     le_of_mul-le-mul_left {m = c * a / long + n * (c * w / long)} {n = c} {k = long} (omega arith) some

@@ -11,7 +11,7 @@ use Rattle.std.proofs.lemmas.List.Sums.{AllPass-from_list_all, list_all-from_All
 use Rattle.std.proofs.lemmas.Nat.Gcd.{dvd_trans, le_of_dvd, dvd_of_mod-eq-zero, mod-eq-zero_of_dvd}
 use Rattle.std.proofs.Math.Nat.{mul-dvd-mul_right, one-dvd, div-mul_cancel}
 use Rattle.bound_base.specs.Multiples.{IsLcm}
-use Rattle.bound_base.proofs.Multiples.{All-front, All-last, gcd_of, lcm_of, IsLcm_positive}
+use Rattle.bound_base.proofs.Multiples.{All-prefix, All-last, gcd_of, lcm_of, IsLcm_positive}
 use Rattle.cache_model.specs.declared.intervals.Interval.{Interval}
 use Rattle.cache_model.specs.Units.{weight, HasWholeCosts, IsLeastWhole}
 use Rattle.cache_model.proofs.Units.{weight-dvd_iff}
@@ -41,11 +41,11 @@ least_push xs x unit m g n some least gcd lcm positive =
       positive = positive;
       whole = All-push (λ i. weight unit i ∣ n * i.gain) xs x (whole_at_multiple xs unit m n lcm.of_first least.whole) (at_n.1 lcm.of_second);
       multiples = λ d whole.
-          lcm.least d (least.multiples d (All-front (λ i. weight unit i ∣ d * i.gain) xs (x ∷ []) whole))
+          lcm.least d (least.multiples d (All-prefix (λ i. weight unit i ∣ d * i.gain) xs (x ∷ []) whole))
           ((weight-dvd_iff (weight unit x) x.gain g d (omega arith) gcd).0 (All-last (λ i. weight unit i ∣ d * i.gain) xs x whole));
     }
 
--- and so in front
+-- and so in prefix
 least_cons : (xs : List Interval) (x : Interval) (unit m g n : ℕ) → 1 ≤ weight unit x → IsLeastWhole xs unit m → IsGcd (weight unit x) x.gain g → IsLcm m (weight unit x / g) n → 0 < n
     → IsLeastWhole (x ∷ xs) unit n
 least_cons xs x unit m g n some least gcd lcm positive =

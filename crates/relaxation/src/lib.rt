@@ -2,7 +2,7 @@
 //! and instances of the flow, whole and by windows.
 //!
 //! The rules are those of "Intervals, units and prices" and "The flow on a chain" in docs/DEFINITIONS.md, after Berger,
-//! Beckmann and Harchol-Balter 2018. What is said of prices here holds of every play that the rules allow.
+//! Beckmann and Harchol-Balter 2018. What is said of prices here holds of every policy that the rules allow.
 #![tactic(auto)]
 
 mod arcs;

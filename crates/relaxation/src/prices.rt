@@ -5,7 +5,7 @@ ghost use Rattle.std.specs.Vec.{vec_len, vec_capacity};
 ghost use Rattle.cache_model.specs.declared.objects.Object.{Object};
 ghost use Rattle.cache_model.specs.declared.objects.Objective.{Objective};
 ghost use Rattle.cache_model.specs.Intervals.{bound_of, surplus};
-ghost use Rattle.cache_model.specs.Play.{IsAllowed, score};
+ghost use Rattle.cache_model.specs.Claim.{IsAllowed, score};
 ghost use Rattle.interval_maker.specs.Timelines.{timeline_of};
 ghost use Rattle.relaxation.specs.PriceFaults.{FailsAt};
 ghost use Rattle.relaxation.specs.Prices.{most_paid};
@@ -135,7 +135,7 @@ fn surplus_of(interval: &Interval, unit: u64, denominator: u64, sums: &Sums) -> 
     }
 }
 
-/// The numerator, over the denominator, of the bound that the prices give: no play that the rules allow scores more.
+/// The numerator, over the denominator, of the bound that the prices give: no policy that the rules allow scores more.
 /// It takes one pass over the intervals.
 pub fn bound_of(intervals: &Intervals, unit: u64, units: u64, denominator: u64, sums: &Sums) -> u128
     requires unit { 1 ≤ unit }
@@ -144,7 +144,7 @@ pub fn bound_of(intervals: &Intervals, unit: u64, units: u64, denominator: u64, 
     requires each_step { length sums.now.prices ≡ intervals.now.steps }
     ensures value { result ≡ bound_of intervals.now.items unit units denominator sums.now.prices }
     ensures small { result < 2 ^ 127 }
-    ensures no_play_scores_more { (objective : Objective) (capacity : ℕ) (trace : List Object) (contents : List (List Object))
+    ensures no_policy_scores_more { (objective : Objective) (capacity : ℕ) (trace : List Object) (contents : List (List Object))
         → intervals.now ≡ timeline_of objective capacity trace
         → units ≡ capacity / unit
         → IsAllowed capacity trace contents

@@ -48,7 +48,7 @@ impl Starts {
         Ok(starts)
     }
 
-    // Puts the number at the front of the list of the window.
+    // Puts the number at the beginning of the list of the window.
     fn add(&mut self, number: u32, window: u32)
         requires number { number < length self.old.next }
         requires window { window < length self.old.first }

@@ -16,17 +16,17 @@ use Rattle.cache_model.specs.Intervals.{eligible_intervals, bound_of}
 use Rattle.cache_model.specs.Keeps.{contents_of, is_kept}
 use Rattle.cache_model.specs.Laws.{IsEligible}
 use Rattle.cache_model.specs.Objects.{request_at, IsNext}
-use Rattle.cache_model.specs.Play.{IsAllowed, score, gain_of}
+use Rattle.cache_model.specs.Claim.{IsAllowed, score, gain_of}
 use Rattle.cache_model.specs.Rounding.{IsRounded, fits_beside}
 use Rattle.cache_model.specs.Schedules.{IsFractionalSchedule, flow_value}
 use Rattle.cache_model.specs.Units.{IsUnit, HasWholeCosts, weight}
 use Rattle.cache_model.proofs.Members.{All-eligible_intervals, intervals_are_eligible}
 use Rattle.cache_model.proofs.Scores.{earned_at, holds-next, score-requests}
-use Rattle.cache_model.proofs.Steps.{no_play_scores_more_lem}
+use Rattle.cache_model.proofs.Steps.{no_policy_scores_more_lem}
 use Rattle.cache_model.proofs.Streams.{sum_by-range_one}
 use Rattle.interval_maker.specs.Timelines.{no_interval}
 use Rattle.interval_maker.proofs.Timelines.{same_next}
-use Rattle.schedule_round.specs.Laws.{full_flags, IsBestPlay}
+use Rattle.schedule_round.specs.Laws.{full_flags, IsBestSchedule}
 use Rattle.schedule_round.proofs.Lists.{AllZip-weaker}
 
 -- ---- weights
@@ -153,7 +153,7 @@ flow_value-le unit denominator keeps (i ∷ items) (f ∷ flows) light fits full
         ))
         (cases_eq f 0)
 
-pub best_play : (objective : Objective) (capacity : ℕ) (trace : List Object) (size unit denominator : ℕ) (prices flows : List ℕ) (ahead : Interval → Interval → Bool) (keeps : List Bool)
+pub best_schedule : (objective : Objective) (capacity : ℕ) (trace : List Object) (size unit denominator : ℕ) (prices flows : List ℕ) (ahead : Interval → Interval → Bool) (keeps : List Bool)
     → All (λ i. i.size ≡ size) (eligible_intervals objective capacity trace)
     → IsUnit (eligible_intervals objective capacity trace) unit
     → length prices ≡ length trace
@@ -161,15 +161,15 @@ pub best_play : (objective : Objective) (capacity : ℕ) (trace : List Object) (
     → bound_of (eligible_intervals objective capacity trace) unit (capacity / unit) denominator prices ≡ flow_value (eligible_intervals objective capacity trace) unit denominator flows
     → IsRounded ahead (eligible_intervals objective capacity trace) capacity (length trace) (full_flags unit (eligible_intervals objective capacity trace) flows) keeps
     → IsAllowed capacity trace (contents_of trace keeps)
-    → IsBestPlay objective capacity trace denominator (bound_of (eligible_intervals objective capacity trace) unit (capacity / unit) denominator prices) keeps
-best_play objective capacity trace size unit denominator prices flows ahead keeps same is priced scheduled equal rounded allowed = record {
+    → IsBestSchedule objective capacity trace denominator (bound_of (eligible_intervals objective capacity trace) unit (capacity / unit) denominator prices) keeps
+best_schedule objective capacity trace size unit denominator prices flows ahead keeps same is priced scheduled equal rounded allowed = record {
   equal = met;
   best = λ some contents play. le_of_mul-le-mul_left (omega (arith, met, above contents play)) some;
 }
   where
     -- weak duality
     above : (contents : List (List Object)) → IsAllowed capacity trace contents → denominator * score objective trace contents ≤ bound_of (eligible_intervals objective capacity trace) unit (capacity / unit) denominator prices
-    above contents play = no_play_scores_more_lem objective capacity unit denominator trace prices contents play priced
+    above contents play = no_policy_scores_more_lem objective capacity unit denominator trace prices contents play priced
 
     -- what is full is kept
     full_kept : AllZip (λ (i : Interval) (flagged : Bool). flagged ≡ true → is_kept keeps i.start ≡ true) (eligible_intervals objective capacity trace) (full_flags unit (eligible_intervals objective capacity trace) flows)

@@ -6,7 +6,7 @@ use Rattle.cache_model.specs.declared.objects.Objective.{Objective}
 use Rattle.cache_model.specs.declared.intervals.Interval.{Interval}
 use Rattle.cache_model.specs.Intervals.{eligible_intervals, bound_of}
 use Rattle.cache_model.specs.Keeps.{contents_of}
-use Rattle.cache_model.specs.Play.{IsAllowed, score}
+use Rattle.cache_model.specs.Claim.{IsAllowed, score}
 use Rattle.cache_model.specs.Rounding.{IsRounded, FitTogether}
 use Rattle.cache_model.specs.Schedules.{IsFractionalSchedule, flow_value}
 use Rattle.cache_model.specs.Units.{IsUnit, HasWholeCosts, weight}
@@ -32,12 +32,12 @@ EqualSizesAreWhole =
     → IsUnit intervals unit
     → HasWholeCosts intervals unit denominator
 
--- the keeps score the whole bound, over the denominator, and no play scores more than they do
-pub record IsBestPlay (objective : Objective) (capacity : ℕ) (trace : List Object) (denominator bound : ℕ) (keeps : List Bool) : Type 0 where
+-- the keeps score the whole bound, over the denominator, and no policy scores more than they do
+pub record IsBestSchedule (objective : Objective) (capacity : ℕ) (trace : List Object) (denominator bound : ℕ) (keeps : List Bool) : Type 0 where
   pub equal : bound ≡ denominator * score objective trace (contents_of trace keeps)
   pub best : 0 < denominator → (contents : List (List Object)) → IsAllowed capacity trace contents → score objective trace contents ≤ score objective trace (contents_of trace keeps)
 
--- where all eligible intervals have one size and flows are worth the bound of prices, the keeps that are rounded from the full flows are a best play
+-- where all eligible intervals have one size and flows are worth the bound of prices, the keeps that are rounded from the full flows are a best schedule
 abbrev pub EqualSizesMeetTheBound : Type 0
 EqualSizesMeetTheBound =
     (objective : Objective) (capacity : ℕ) (trace : List Object) (size unit denominator : ℕ) (prices flows : List ℕ) (ahead : Interval → Interval → Bool) (keeps : List Bool)
@@ -48,4 +48,4 @@ EqualSizesMeetTheBound =
     → bound_of (eligible_intervals objective capacity trace) unit (capacity / unit) denominator prices ≡ flow_value (eligible_intervals objective capacity trace) unit denominator flows
     → IsRounded ahead (eligible_intervals objective capacity trace) capacity (length trace) (full_flags unit (eligible_intervals objective capacity trace) flows) keeps
     → IsAllowed capacity trace (contents_of trace keeps)
-    → IsBestPlay objective capacity trace denominator (bound_of (eligible_intervals objective capacity trace) unit (capacity / unit) denominator prices) keeps
+    → IsBestSchedule objective capacity trace denominator (bound_of (eligible_intervals objective capacity trace) unit (capacity / unit) denominator prices) keeps

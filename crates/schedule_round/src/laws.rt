@@ -11,7 +11,7 @@ pub fn equal_sizes_are_whole()
     ensures { EqualSizesAreWhole }
 {}
 
-/// Where all eligible intervals have one size and flows are worth the bound of prices, rounding gives a best play.
+/// Where all eligible intervals have one size and flows are worth the bound of prices, rounding gives a best schedule.
 pub fn equal_sizes_meet_the_bound()
     ensures { EqualSizesMeetTheBound }
 {}

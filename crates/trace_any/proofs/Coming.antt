@@ -18,11 +18,11 @@ use Rattle.trace_lines.specs.declared.line.LineKind.TheVariants.{TooLong}
 use Rattle.trace_any.specs.declared.fault.TraceFault.{TraceFault}
 use Rattle.trace_any.specs.declared.fault.TraceFault.TheVariants.{BadLine, InputTooLong, TooManyRequests}
 use Rattle.trace_any.specs.Volumes.{Volume}
-use Rattle.trace_any.specs.Readings.{Asked, spanned, stopped, requested, text_asked, taken_up, read_line, read_on, reading, nothing_read, fault_of}
+use Rattle.trace_any.specs.Readings.{LineContents, spanned, stopped, requested, text_content, with_line, read_line, read_on, reading, nothing_read, fault_of}
 use Rattle.trace_any.specs.declared.format.Format.{Format}
 use Rattle.trace_any.specs.declared.format.Limits.{Limits}
-use Rattle.bound_io.specs.Reading.{LosesFront}
-use Rattle.trace_any.specs.Readers.{Reader, Ahead, fresh, room_left, so_far, to_come, onto, after, with_ahead_by, ahead_by, noted_by, number_by, bytes_after, GoesOn, GivesNone, IsOver, IsStopped, IsWhole, LineTaken}
+use Rattle.bound_io.specs.Reading.{LosesPrefix}
+use Rattle.trace_any.specs.Readers.{Reader, Ahead, fresh, room_left, so_far, to_come, onto, after, with_ahead_by, ahead_by, with_named_by, number_by, bytes_after, GoesOn, GivesNone, IsOver, IsStopped, IsWhole, LineTaken}
 use Rattle.trace_any.proofs.ReadingSteps.{plain, read_on-first, read_on-stopped, read_on-onto, requested-next, requested-none, requested-full}
 
 -- no block is left of the last line
@@ -37,10 +37,10 @@ to_come_line : (r : Reader) (bytes : List ℕ) → r.ahead.count ≡ 0 → 0 < l
 to_come_line r bytes none some = to_come_lines r bytes none ∙ read_on-first r.format (room_left r) (so_far r) bytes some
 
 -- a line that is neither too long nor past the limit is taken up
-line_taken_up : (r : Reader) (bytes : List ℕ) (line consumed : ℕ) → r.ahead.count ≡ 0 → 0 < length bytes → text_len bytes ≤ 65535 → consumed ≤ r.limits.bytes
+line_read : (r : Reader) (bytes : List ℕ) (line consumed : ℕ) → r.ahead.count ≡ 0 → 0 < length bytes → text_len bytes ≤ 65535 → consumed ≤ r.limits.bytes
     → line ≡ r.lines.line + 1 → consumed ≡ r.lines.consumed + length (first_line bytes)
-    → to_come r bytes ≡ read_on r.format (room_left r) (taken_up (r.limits.requests - r.given) (plain r.volumes r.dropped line consumed) (text_asked r.format (first_text bytes))) (after_line bytes)
-line_taken_up r bytes line consumed none some short within line_is consumed_is =
+    → to_come r bytes ≡ read_on r.format (room_left r) (with_line (r.limits.requests - r.given) (plain r.volumes r.dropped line consumed) (text_content r.format (first_text bytes))) (after_line bytes)
+line_read r bytes line consumed none some short within line_is consumed_is =
     to_come_line r bytes none some
     ∙ rw (line_is, consumed_is, le-ltb 65535 (length (first_text bytes)) (omega (arith, length-first_text bytes, short)), le-ltb r.limits.bytes (r.lines.consumed + length (first_line bytes)) (omega (arith, within, consumed_is))) refl
 
@@ -49,12 +49,12 @@ abbrev pub with_lines : Reader → Position → Reader
 with_lines r lines = record r { lines = lines }
 
 -- the first line is taken up, and the rest is still there
-pub record TakesUp (r new : Reader) (said : Result (Option Asked) LineKind) (bytes : List ℕ) (after : Option (List ℕ)) : Type 0 where
+pub record TakesUp (r new : Reader) (said : Result (Option LineContents) LineKind) (bytes : List ℕ) (after : Option (List ℕ)) : Type 0 where
   pub further : r.lines.consumed ≤ new.lines.consumed
   pub rest : after ≡ Some (bytes_after r new bytes)
-  pub coming : to_come r bytes ≡ read_on r.format (room_left r) (taken_up (r.limits.requests - r.given) (so_far new) said) (bytes_after r new bytes)
+  pub coming : to_come r bytes ≡ read_on r.format (room_left r) (with_line (r.limits.requests - r.given) (so_far new) said) (bytes_after r new bytes)
 
--- as many bytes as there are of so many from the front
+-- as many bytes as there are of so many from the prefix
 drop_taken : (n : ℕ) (bytes : List ℕ) → drop (length (take n bytes)) bytes ≡ drop n bytes
 drop_taken n bytes = by (cases_lt n (length bytes))
   where
@@ -63,23 +63,23 @@ drop_taken n bytes = by (cases_lt n (length bytes))
     by (inr all) = drop_all (length (take n bytes)) bytes (omega (arith, length-take n bytes, all)) ∙ sym (drop_all n bytes all)
 
 pub takes_up : (r : Reader) (l : Position) (before after : Option (List ℕ)) (text : List ℕ) → r.ahead.count ≡ 0 → r.lines.limit ≡ r.limits.bytes → GivesLine r.lines l before after
-    → IfSome before (λ bytes. (text ≡ first_text bytes) × (0 < length bytes)) → length text ≤ 65535 → IfSome before (λ bytes. TakesUp r (with_lines r l) (text_asked r.format text) bytes after)
+    → IfSome before (λ bytes. (text ≡ first_text bytes) × (0 < length bytes)) → length text ≤ 65535 → IfSome before (λ bytes. TakesUp r (with_lines r l) (text_content r.format text) bytes after)
 takes_up r l None after text none limit gives texts short = tt
 takes_up r l (Some bytes) after text none limit gives texts short =
     let within : l.consumed ≤ r.limits.bytes = omega (arith, gives.within, gives.limit, limit) in
     let text_short : text_len bytes ≤ 65535 = omega (arith, length-first_text bytes, ap length (texts.0), short) in
     let size : l.consumed - r.lines.consumed ≡ length (first_line bytes) = omega (arith, gives.consumed) in
     let past : after_line bytes ≡ bytes_after r (with_lines r l) bytes = sym (ap (λ n. drop n bytes) size ∙ drop_taken (text_len bytes + 1) bytes) in
-    let taken = line_taken_up r bytes l.line l.consumed none (texts.1) text_short within gives.line gives.consumed in
+    let taken = line_read r bytes l.line l.consumed none (texts.1) text_short within gives.line gives.consumed in
     record {
       further = omega (arith, gives.some);
       rest = gives.rest ∙ ap (λ rest. Some rest) past;
-      coming = taken ∙ (ap (λ t. read_on r.format (room_left r) (taken_up (r.limits.requests - r.given) (plain r.volumes r.dropped l.line l.consumed) (text_asked r.format t)) (after_line bytes)) (sym (texts.0))
-          ∙ ap (λ rest. read_on r.format (room_left r) (taken_up (r.limits.requests - r.given) (plain r.volumes r.dropped l.line l.consumed) (text_asked r.format text)) rest) past);
+      coming = taken ∙ (ap (λ t. read_on r.format (room_left r) (with_line (r.limits.requests - r.given) (plain r.volumes r.dropped l.line l.consumed) (text_content r.format t)) (after_line bytes)) (sym (texts.0))
+          ∙ ap (λ rest. read_on r.format (room_left r) (with_line (r.limits.requests - r.given) (plain r.volumes r.dropped l.line l.consumed) (text_content r.format text)) rest) past);
     }
 
 -- a line without a word changes nothing
-pub goes_blank : (r : Reader) (l : Position) (before after : Option (List ℕ)) (said : Result (Option Asked) LineKind) → said ≡ Ok None → r.ahead.count ≡ 0
+pub goes_blank : (r : Reader) (l : Position) (before after : Option (List ℕ)) (said : Result (Option LineContents) LineKind) → said ≡ Ok None → r.ahead.count ≡ 0
     → IfSome before (λ bytes. TakesUp r (with_lines r l) said bytes after) → IfSome before (λ bytes. GoesOn (λ s. s) r (with_lines r l) bytes after)
 goes_blank r l None after said blank none takes = tt
 goes_blank r l (Some bytes) after said blank none takes =
@@ -87,12 +87,12 @@ goes_blank r l (Some bytes) after said blank none takes =
     record {
       further = takes.further;
       rest = takes.rest;
-      coming = takes.coming ∙ (ap (λ t. read_on r.format (room_left r) (taken_up (r.limits.requests - r.given) (so_far (with_lines r l)) t) rest) blank ∙ sym (to_come_lines (with_lines r l) rest none));
+      coming = takes.coming ∙ (ap (λ t. read_on r.format (room_left r) (with_line (r.limits.requests - r.given) (so_far (with_lines r l)) t) rest) blank ∙ sym (to_come_lines (with_lines r l) rest none));
     }
 
 -- a reader whose last line asked for this
 abbrev pub with_asked : Reader → Option Volume → Span → Reader
-with_asked r volume span = with_ahead_by (record r { volumes = noted_by span r.volumes volume }) (ahead_by (number_by span r.volumes volume) span)
+with_asked r volume span = with_ahead_by (record r { volumes = with_named_by span r.volumes volume }) (ahead_by (number_by span r.volumes volume) span)
 
 -- the blocks that a line asks for are those to come next
 asked_next : (r : Reader) (volume : Option Volume) (span : Span) (rest : List ℕ) → r.ahead.count ≡ 0
@@ -108,7 +108,7 @@ lines_asked r volume (One id size) = refl
 lines_asked r volume (Blocks first count size) = refl
 
 -- a reader that holds the volumes and the blocks of what was asked
-pub is_asked : (r : Reader) (volume : Option Volume) (span : Span) (number : ℕ) (volumes : List Volume) (ahead : Option Ahead) → number ≡ number_by span r.volumes volume → volumes ≡ noted_by span r.volumes volume → ahead_by number span ≡ ahead
+pub is_asked : (r : Reader) (volume : Option Volume) (span : Span) (number : ℕ) (volumes : List Volume) (ahead : Option Ahead) → number ≡ number_by span r.volumes volume → volumes ≡ with_named_by span r.volumes volume → ahead_by number span ≡ ahead
     → with_asked r volume span ≡ with_ahead_by (record r { volumes = volumes }) ahead
 is_asked r volume span number volumes ahead number_is volumes_are ahead_is =
     ap (λ v. with_ahead_by (record r { volumes = v }) (ahead_by (number_by span r.volumes volume) span)) (sym volumes_are)
@@ -118,24 +118,24 @@ is_asked r volume span number volumes ahead number_is volumes_are ahead_is =
 abbrev GoesAt : Reader → Reader → List ℕ → Option (List ℕ) → Position → Type 0
 GoesAt r new bytes after p = (r.lines.consumed ≤ p.consumed) × (after ≡ Some (drop (p.consumed - r.lines.consumed) bytes)) × (to_come r bytes ≡ to_come new (drop (p.consumed - r.lines.consumed) bytes))
 
-pub goes_asked : (r : Reader) (l : Position) (what : Asked) (before after : Option (List ℕ)) (said : Result (Option Asked) LineKind) → said ≡ Ok (Some what) → r.ahead.count ≡ 0
+pub goes_asked : (r : Reader) (l : Position) (what : LineContents) (before after : Option (List ℕ)) (said : Result (Option LineContents) LineKind) → said ≡ Ok (Some what) → r.ahead.count ≡ 0
     → IfSome before (λ bytes. TakesUp r (with_lines r l) said bytes after) → IfSome before (λ bytes. GoesOn (λ s. s) r (with_asked (with_lines r l) what.volume what.span) bytes after)
 goes_asked r l what None after said asks none takes = tt
 goes_asked r l what (Some bytes) after said asks none takes =
     let next = with_lines r l in
     let rest = bytes_after r next bytes in
-    let coming = takes.coming ∙ (ap (λ t. read_on r.format (room_left r) (taken_up (r.limits.requests - r.given) (so_far next) t) rest) asks ∙ asked_next next what.volume what.span rest none) in
+    let coming = takes.coming ∙ (ap (λ t. read_on r.format (room_left r) (with_line (r.limits.requests - r.given) (so_far next) t) rest) asks ∙ asked_next next what.volume what.span rest none) in
     let lines = sym (lines_asked next what.volume what.span) in
     let goes = subst (λ p. GoesAt r (with_asked next what.volume what.span) bytes after p) lines (takes.further, takes.rest, coming) in
     record { further = goes.0; rest = goes.1; coming = goes.2 }
 
 -- a line that is refused ends the reading
-pub refused_line : (r : Reader) (l : Position) (kind : LineKind) (before after : Option (List ℕ)) (said : Result (Option Asked) LineKind) → said ≡ Err kind
+pub refused_line : (r : Reader) (l : Position) (kind : LineKind) (before after : Option (List ℕ)) (said : Result (Option LineContents) LineKind) → said ≡ Err kind
     → IfSome before (λ bytes. TakesUp r (with_lines r l) said bytes after) → IfSome before (λ bytes. IsOver (to_come r bytes) r.dropped (Some (BadLine l.line kind)))
 refused_line r l kind None after said refused takes = tt
 refused_line r l kind (Some bytes) after said refused takes =
     let now = so_far (with_lines r l) in
-    let stop : to_come r bytes ≡ stopped now (BadLine l.line kind) = takes.coming ∙ (ap (λ t. read_on r.format (room_left r) (taken_up (r.limits.requests - r.given) now t) (bytes_after r (with_lines r l) bytes)) refused ∙ read_on-stopped r.format (room_left r) now (BadLine l.line kind) (bytes_after r (with_lines r l) bytes)) in
+    let stop : to_come r bytes ≡ stopped now (BadLine l.line kind) = takes.coming ∙ (ap (λ t. read_on r.format (room_left r) (with_line (r.limits.requests - r.given) now t) (bytes_after r (with_lines r l) bytes)) refused ∙ read_on-stopped r.format (room_left r) now (BadLine l.line kind) (bytes_after r (with_lines r l) bytes)) in
     record { requests = ap (λ s. s.requests) stop; dropped_lines = ap (λ s. s.dropped) stop; stop = ap (λ s. s.refused) stop }
 
 some_text : (bytes : List ℕ) → 0 < text_len bytes → 0 < length bytes
@@ -304,7 +304,7 @@ no_fault None P again not = refl
 no_fault (Some f) P again not = absurd (not f again)
 
 -- nothing is lost of what is left
-pub loses_nothing : (left : Option (List ℕ)) → LosesFront left left
+pub loses_nothing : (left : Option (List ℕ)) → LosesPrefix left left
 loses_nothing None = ([], tt)
 loses_nothing (Some bytes) = ([], refl)
 

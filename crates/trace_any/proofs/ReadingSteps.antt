@@ -12,7 +12,7 @@ use Rattle.trace_any.specs.declared.fault.TraceFault.{TraceFault}
 use Rattle.trace_any.specs.declared.fault.TraceFault.TheVariants.{BadLine, InputTooLong, TooManyRequests}
 use Rattle.trace_any.specs.declared.format.Format.{Format}
 use Rattle.trace_any.specs.declared.format.Limits.{Limits}
-use Rattle.trace_any.specs.Readings.{Reading, stopped, blocks, requested, Asked, spanned, noted, number_of, text_asked, taken_up, read_line, lines_of, read_on}
+use Rattle.trace_any.specs.Readings.{Reading, stopped, blocks, requested, LineContents, spanned, with_named, number_of, text_content, with_line, read_line, lines_of, read_on}
 use Rattle.trace_any.specs.Volumes.{Volume}
 use Rattle.trace_any.specs.Readers.{onto}
 use Rattle.trace_any.proofs.FirstLines.{lines_of-first}
@@ -48,7 +48,7 @@ lt-next m n = by (cases_lt m n)
     by (inl less) = lt-ltb (m + 1) (n + 1) (omega (arith, less)) ∙ sym (lt-ltb m n less)
     by (inr more) = le-ltb (m + 1) (n + 1) (omega (arith, more)) ∙ sym (le-ltb m n more)
 
--- a request more in front takes one place of the room
+-- a request more in prefix takes one place of the room
 requested-onto : (most : ℕ) (x : Object) (r : Reading) (volume first count size : ℕ) → requested (most + 1) (onto x r) volume first count size ≡ onto x (requested most r volume first count size)
 requested-onto most x r volume first count size =
     let places = most - length r.requests in
@@ -58,24 +58,24 @@ requested-onto most x r volume first count size =
 
 spanned-onto : (most : ℕ) (x : Object) (r : Reading) (volume : Option Volume) (span : Span) → spanned (most + 1) (onto x r) volume span ≡ onto x (spanned most r volume span)
 spanned-onto most x r volume Nothing = refl
-spanned-onto most x r volume (One id size) = requested-onto most x (record r { volumes = noted r.volumes volume }) (number_of r.volumes volume) id 1 size
-spanned-onto most x r volume (Blocks first count size) = requested-onto most x (record r { volumes = noted r.volumes volume }) (number_of r.volumes volume) first count size
+spanned-onto most x r volume (One id size) = requested-onto most x (record r { volumes = with_named r.volumes volume }) (number_of r.volumes volume) id 1 size
+spanned-onto most x r volume (Blocks first count size) = requested-onto most x (record r { volumes = with_named r.volumes volume }) (number_of r.volumes volume) first count size
 
-taken_up-onto : (most : ℕ) (x : Object) (r : Reading) (said : Result (Option Asked) LineKind) → taken_up (most + 1) (onto x r) said ≡ onto x (taken_up most r said)
-taken_up-onto most x r (Ok None) = refl
-taken_up-onto most x r (Ok (Some what)) = spanned-onto most x r what.volume what.span
-taken_up-onto most x r (Err kind) = refl
+with_line-onto : (most : ℕ) (x : Object) (r : Reading) (said : Result (Option LineContents) LineKind) → with_line (most + 1) (onto x r) said ≡ onto x (with_line most r said)
+with_line-onto most x r (Ok None) = refl
+with_line-onto most x r (Ok (Some what)) = spanned-onto most x r what.volume what.span
+with_line-onto most x r (Err kind) = refl
 
 read_line-onto : (format : Format) (most bytes : ℕ) (x : Object) (r : Reading) (line : List ℕ × ℕ) → read_line format (room (most + 1) bytes) (onto x r) line ≡ onto x (read_line format (room most bytes) r line)
 read_line-onto format most bytes x r (text, size) =
     let now : Reading = record r { lines = r.lines + 1; bytes = r.bytes + size } in
     let long = nat_lt 65535 (length text) in
     let past = nat_lt bytes now.bytes in
-    let said = text_asked format text in
-    let up = taken_up most now said in
+    let said = text_content format text in
+    let up = with_line most now said in
     let within = cond past (stopped now InputTooLong) up in
     let short = cond long (stopped now (BadLine now.lines TooLong)) within in
-    rw (taken_up-onto most x now said)
+    rw (with_line-onto most x now said)
     (ap (λ t. cond (is_some r.refused) (onto x r) (cond long (onto x (stopped now (BadLine now.lines TooLong))) t)) (onto_either past x (stopped now InputTooLong) up)
     ∙ (ap (λ t. cond (is_some r.refused) (onto x r) t) (onto_either long x (stopped now (BadLine now.lines TooLong)) within)
     ∙ onto_either (is_some r.refused) x r short))
@@ -85,7 +85,7 @@ fold-onto format most bytes x r [] = refl
 fold-onto format most bytes x r (line ∷ lines) =
     ap (λ s. fold (read_line format (room (most + 1) bytes)) s lines) (read_line-onto format most bytes x r line) ∙ fold-onto format most bytes x (read_line format (room most bytes) r line) lines
 
--- a reading with a request more in front and one place more
+-- a reading with a request more in prefix and one place more
 pub read_on-onto : (format : Format) (most bytes : ℕ) (x : Object) (r : Reading) (rest : List ℕ) → read_on format (room (most + 1) bytes) (onto x r) rest ≡ onto x (read_on format (room most bytes) r rest)
 read_on-onto format most bytes x r rest = fold-onto format most bytes x r (lines_of rest)
 

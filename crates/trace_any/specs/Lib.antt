@@ -1,4 +1,4 @@
 pub mod Volumes
 pub mod Readings
-pub mod Wanted
+pub mod LineContent
 pub mod Readers

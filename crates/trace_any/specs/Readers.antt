@@ -3,7 +3,7 @@ use Rattle.std.specs.Prelude.{◌≡◌, ℕ, ◌+◌, ◌-◌, ◌<◌, ◌≤�
 use Rattle.trace_lines.specs.declared.line.Span.{Span}
 use Rattle.trace_lines.specs.declared.line.Span.TheVariants.{Nothing, One, Blocks}
 use Rattle.std.specs.declared.option.Option.{Option}
-use Rattle.bound_io.specs.Causes.{Rose}
+use Rattle.bound_io.specs.Causes.{HasNewFault}
 use Rattle.bound_io.specs.Positions.{Position}
 use Rattle.bound_io.specs.Lines.{stands_in}
 use Rattle.cache_model.specs.declared.objects.Object.{Object}
@@ -12,7 +12,7 @@ use Rattle.trace_any.specs.declared.fault.TraceFault.TheVariants.{BadLine, ReadF
 use Rattle.trace_any.specs.declared.format.Format.{Format}
 use Rattle.trace_any.specs.declared.format.Limits.{Limits}
 use Rattle.trace_any.specs.Volumes.{Volume}
-use Rattle.trace_any.specs.Readings.{Reading, requested, read_on, noted, number_of}
+use Rattle.trace_any.specs.Readings.{Reading, requested, read_on, with_named, number_of}
 
 -- what is left of the blocks that the last line asked for
 pub record Ahead : Type 0 where
@@ -89,15 +89,15 @@ pub record IsOver (r : Reading) (dropped : ℕ) (refused : Option TraceFault) : 
   pub stop : r.refused ≡ refused
 
 -- the bytes that a reader stands in, where the source tells those that it has left
-abbrev pub told : Reader → Option (List ℕ) → Option (List ℕ)
-told r left = stands_in r.lines.held left
+abbrev pub known : Reader → Option (List ℕ) → Option (List ℕ)
+known r left = stands_in r.lines.held left
 
 -- why the next request is not given: what is to come is a refusal, or the source's faults rose; want of memory is free
 abbrev pub IsStopped : Reader → Reader → Option (List ℕ) → ℕ → ℕ → TraceFault → Type 0
 IsStopped old new before faults_before faults_after (BadLine line kind) = IfSome before (λ bytes. IsOver (to_come old bytes) new.dropped (Some (BadLine line kind)))
 IsStopped old new before faults_before faults_after InputTooLong = IfSome before (λ bytes. IsOver (to_come old bytes) new.dropped (Some InputTooLong))
 IsStopped old new before faults_before faults_after TooManyRequests = IfSome before (λ bytes. IsOver (to_come old bytes) new.dropped (Some TooManyRequests))
-IsStopped old new before faults_before faults_after ReadFault = Rose faults_before faults_after
+IsStopped old new before faults_before faults_after ReadFault = HasNewFault faults_before faults_after
 IsStopped old new before faults_before faults_after NoMemory = Unit {0}
 
 -- the bytes after those that a reader has given the lines of
@@ -138,10 +138,10 @@ with_ahead_by r (Some ahead) = record r { ahead = ahead }
 with_ahead_by r None = record r { dropped = r.dropped + 1 }
 
 -- the volumes after a line with this span
-abbrev pub noted_by : Span → List Volume → Option Volume → List Volume
-noted_by Nothing volumes volume = volumes
-noted_by (One id size) volumes volume = noted volumes volume
-noted_by (Blocks first count size) volumes volume = noted volumes volume
+abbrev pub with_named_by : Span → List Volume → Option Volume → List Volume
+with_named_by Nothing volumes volume = volumes
+with_named_by (One id size) volumes volume = with_named volumes volume
+with_named_by (Blocks first count size) volumes volume = with_named volumes volume
 
 -- the number of the volume of a line with this span, which is 0 where it asks for nothing
 abbrev pub number_by : Span → List Volume → Option Volume → ℕ
@@ -160,5 +160,5 @@ abbrev pub IsNotLoaded : Reader → Option (List ℕ) → ℕ → ℕ → TraceF
 IsNotLoaded old before faults_before faults_after (BadLine line kind) = IfSome before (λ bytes. (to_come old bytes).refused ≡ Some (BadLine line kind))
 IsNotLoaded old before faults_before faults_after InputTooLong = IfSome before (λ bytes. (to_come old bytes).refused ≡ Some InputTooLong)
 IsNotLoaded old before faults_before faults_after TooManyRequests = IfSome before (λ bytes. (to_come old bytes).refused ≡ Some TooManyRequests)
-IsNotLoaded old before faults_before faults_after ReadFault = Rose faults_before faults_after
+IsNotLoaded old before faults_before faults_after ReadFault = HasNewFault faults_before faults_after
 IsNotLoaded old before faults_before faults_after NoMemory = Unit {0}

@@ -56,34 +56,34 @@ requested most r volume first count size =
     if nat_lt room count then stopped taken TooManyRequests else taken
 
 -- what a line asks for, and of which volume, where its form names volumes
-pub record Asked : Type 0 where
+pub record LineContents : Type 0 where
   pub span : Span
   pub volume : Option Volume
 
 -- what a line of a form without volumes asks for
-abbrev pub of_no_volume : Result Span LineKind → Result Asked LineKind
+abbrev pub of_no_volume : Result Span LineKind → Result LineContents LineKind
 of_no_volume (Ok span) = Ok (record { span = span; volume = None })
 of_no_volume (Err kind) = Err kind
 
 -- what a line of a form with volumes asks for
-abbrev pub of_volume : Result Parts LineKind → Result Asked LineKind
+abbrev pub of_volume : Result Parts LineKind → Result LineContents LineKind
 of_volume (Ok parts) = Ok (record { span = parts.span; volume = Some (record { host = parts.host; disk = parts.disk }) })
 of_volume (Err kind) = Err kind
 
 -- what a line asks for, by the form of the trace
-abbrev pub asked : Format → List ℕ → Result Asked LineKind
-asked Webcache text = of_no_volume (webcache.line_span text)
-asked Arc text = of_no_volume (arc.line_span text)
-asked (Msr block) text = of_volume (msr.line_parts block text)
+abbrev pub content_named : Format → List ℕ → Result LineContents LineKind
+content_named Webcache text = of_no_volume (webcache.line_span text)
+content_named Arc text = of_no_volume (arc.line_span text)
+content_named (Msr block) text = of_volume (msr.line_parts block text)
 
 -- what is asked for is something
-abbrev pub some_asked : Result Asked LineKind → Result (Option Asked) LineKind
-some_asked (Ok what) = Ok (Some what)
-some_asked (Err kind) = Err kind
+abbrev pub some_content : Result LineContents LineKind → Result (Option LineContents) LineKind
+some_content (Ok what) = Ok (Some what)
+some_content (Err kind) = Err kind
 
 -- what a text asks for, once a CR at its end is dropped; one without a word is skipped
-abbrev pub text_asked : Format → List ℕ → Result (Option Asked) LineKind
-text_asked format text = if is_blank (without_cr text) then Ok None else some_asked (asked format (without_cr text))
+abbrev pub text_content : Format → List ℕ → Result (Option LineContents) LineKind
+text_content format text = if is_blank (without_cr text) then Ok None else some_content (content_named format (without_cr text))
 
 -- the number of a volume after these, where one is named, and else 0
 abbrev pub number_of : List Volume → Option Volume → ℕ
@@ -91,21 +91,21 @@ number_of volumes None = 0
 number_of volumes (Some v) = volume_number volumes v
 
 -- the volumes with the one that is named, if any
-abbrev pub noted : List Volume → Option Volume → List Volume
-noted volumes None = volumes
-noted volumes (Some v) = with_volume volumes v
+abbrev pub with_named : List Volume → Option Volume → List Volume
+with_named volumes None = volumes
+with_named volumes (Some v) = with_volume volumes v
 
--- a line asks for nothing and is dropped, or for some blocks of its volume, which is noted
+-- a line asks for nothing and is dropped, or for some blocks of its volume, which is with_named
 abbrev pub spanned : ℕ → Reading → Option Volume → Span → Reading
 spanned most r volume Nothing = record r { dropped = r.dropped + 1 }
-spanned most r volume (One id size) = requested most (record r { volumes = noted r.volumes volume }) (number_of r.volumes volume) id 1 size
-spanned most r volume (Blocks first count size) = requested most (record r { volumes = noted r.volumes volume }) (number_of r.volumes volume) first count size
+spanned most r volume (One id size) = requested most (record r { volumes = with_named r.volumes volume }) (number_of r.volumes volume) id 1 size
+spanned most r volume (Blocks first count size) = requested most (record r { volumes = with_named r.volumes volume }) (number_of r.volumes volume) first count size
 
 -- one more line is skipped, asks for something or nothing, or is refused
-abbrev pub taken_up : ℕ → Reading → Result (Option Asked) LineKind → Reading
-taken_up most r (Ok None) = r
-taken_up most r (Ok (Some what)) = spanned most r what.volume what.span
-taken_up most r (Err kind) = stopped r (BadLine r.lines kind)
+abbrev pub with_line : ℕ → Reading → Result (Option LineContents) LineKind → Reading
+with_line most r (Ok None) = r
+with_line most r (Ok (Some what)) = spanned most r what.volume what.span
+with_line most r (Err kind) = stopped r (BadLine r.lines kind)
 
 -- one more line, of a text and so many bytes, where the reading has not stopped
 abbrev pub read_line : Format → Limits → Reading → List ℕ × ℕ → Reading
@@ -114,7 +114,7 @@ read_line format limits r (text, size) =
     if is_some r.refused then r
     else (if nat_lt 65535 (length text) then stopped now (BadLine now.lines TooLong)
     else (if nat_lt limits.bytes now.bytes then stopped now InputTooLong
-    else taken_up limits.requests now (text_asked format text)))
+    else with_line limits.requests now (text_content format text)))
 
 -- the texts between the LFs, each with the bytes of its line; what stands after the last LF is a line if it isn't empty
 abbrev pub ended : List (List ℕ) → List (List ℕ × ℕ)

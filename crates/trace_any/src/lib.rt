@@ -3,13 +3,13 @@
 //! The rules are "A line of a trace", "The reading of a trace", "Volume" and "What is to come" in docs/DEFINITIONS.md.
 #![tactic(auto)]
 
+mod content;
 mod fault;
 mod format;
 mod loading;
 mod progress;
 mod requests;
 mod volumes;
-mod wanted;
 
 pub use fault::TraceFault;
 pub use format::{Format, Limits};

@@ -1,7 +1,7 @@
 //! Whole traces.
 ghost use Rattle.std.specs.Prelude.{◌≡◌, ◌≤◌, ◌⊎◌, Some, [], None, Err, IfOk, IfErr, OnOk, IfSome};
-ghost use Rattle.bound_io.specs.Reading.{LosesFront};
-ghost use Rattle.trace_any.specs.Readers.{IsNotLoaded, IsWhole, to_come, told};
+ghost use Rattle.bound_io.specs.Reading.{LosesPrefix};
+ghost use Rattle.trace_any.specs.Readers.{IsNotLoaded, IsWhole, to_come, known};
 
 use crate::fault::TraceFault;
 use crate::requests::RequestReader;
@@ -17,11 +17,11 @@ pub fn load<S: Source>(
     reader: &mut RequestReader,
     source: &mut S,
 ) -> Result<(Trace, u64), TraceFault>
-    ensures whole { reader.old.fault ≡ None → IfOk result (λ loaded. IfSome (told reader.old (S.left source.old)) (λ bytes. IsWhole (to_come reader.old bytes) loaded.0 loaded.1)) }
-    ensures end { reader.old.fault ≡ None → IfOk result (λ _. IfSome (told reader.old (S.left source.old)) (λ _. told reader.new (S.left source.new) ≡ Some [])) }
-    ensures refused { reader.old.fault ≡ None → IfErr result (IsNotLoaded reader.old (told reader.old (S.left source.old)) (S.faults source.old) (S.faults source.new)) }
+    ensures whole { reader.old.fault ≡ None → IfOk result (λ loaded. IfSome (known reader.old (S.left source.old)) (λ bytes. IsWhole (to_come reader.old bytes) loaded.0 loaded.1)) }
+    ensures end { reader.old.fault ≡ None → IfOk result (λ _. IfSome (known reader.old (S.left source.old)) (λ _. known reader.new (S.left source.new) ≡ Some [])) }
+    ensures refused { reader.old.fault ≡ None → IfErr result (IsNotLoaded reader.old (known reader.old (S.left source.old)) (S.faults source.old) (S.faults source.new)) }
     ensures again { IfSome reader.old.fault (λ fault. ((result ≡ Err fault) ⊎ (result ≡ Err TraceFault.NoMemory)) × (S.left source.new ≡ S.left source.old) × (S.faults source.new ≡ S.faults source.old)) }
-    ensures source { LosesFront (S.left source.old) (S.left source.new) }
+    ensures source { LosesPrefix (S.left source.old) (S.left source.new) }
     ensures later { S.faults source.old ≤ S.faults source.new }
     ensures none_failed { OnOk result (S.faults source.new ≡ S.faults source.old) }
 {

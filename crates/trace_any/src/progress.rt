@@ -1,16 +1,16 @@
 //! How far the reading of a trace has come.
 ghost use Rattle.std.specs.Prelude.{List, ℕ, ◌≡◌, ◌+◌, ◌≤◌, ◌<◌, ◌^◌, None, Some, Err, true, false, length, IfOk, IfErr, IfSome, IfNone, OnOk};
-ghost use Rattle.bound_io.specs.Causes.{Rose};
-ghost use Rattle.bound_io.specs.Reading.{LosesFront};
+ghost use Rattle.bound_io.specs.Causes.{HasNewFault};
+ghost use Rattle.bound_io.specs.Reading.{LosesPrefix};
 ghost use Rattle.std.specs.Option.{option_map};
 ghost use Rattle.trace_lines.specs.Lines.{IsSpan};
 ghost use Rattle.trace_any.specs.Readings.{IsFormat, NamesVolumes};
 ghost use Rattle.trace_any.specs.Readers.{ahead_by};
 
+use crate::content::{content_of, number_of};
 use crate::fault::TraceFault;
 use crate::format::{Format, Limits};
 use crate::volumes::Volumes;
-use crate::wanted::{number_of, wanted_of};
 use bound_base::NoMemory;
 use bound_io::{LineReader, Source};
 use cache_rules::Object;
@@ -83,7 +83,7 @@ fn range_of(volume: u32, span: Span) -> Option<Range>
 }
 
 impl Progress {
-    ghost use Rattle.trace_any.specs.Readers.{GoesOn, IsOver, IsStopped, LineTaken, NextRequest, fresh, onto, to_come, told};
+    ghost use Rattle.trace_any.specs.Readers.{GoesOn, IsOver, IsStopped, LineTaken, NextRequest, fresh, onto, to_come, known};
 
     /// Nothing is read yet. The buffer is taken here.
     pub fn new(alloc: Global, format: Format, limits: Limits) -> Result<Self, NoMemory>
@@ -123,8 +123,8 @@ impl Progress {
         ensures no_fault { OnOk result (self.new.lines.fault ≡ None) }
         ensures within { (self.new.lines.consumed ≤ self.new.limits.bytes) × (length self.new.lines.held ≤ 65536) }
         ensures few { (self.new.given ≤ self.new.limits.requests) × (self.new.limits.requests ≤ 2 ^ 25) }
-        ensures taken { LineTaken self.old self.new (told self.old (S.left source.old)) (told self.new (S.left source.new)) (S.faults source.old) (S.faults source.new) result }
-        ensures source { LosesFront (S.left source.old) (S.left source.new) }
+        ensures taken { LineTaken self.old self.new (known self.old (S.left source.old)) (known self.new (S.left source.new)) (S.faults source.old) (S.faults source.new) result }
+        ensures source { LosesPrefix (S.left source.old) (S.left source.new) }
         ensures later { S.faults source.old ≤ S.faults source.new }
         ensures none_failed { OnOk result (S.faults source.new ≡ S.faults source.old) }
         ensures memory { IfErr result (λ fault. fault ≡ TraceFault.NoMemory → NamesVolumes self.old.format) }
@@ -132,8 +132,8 @@ impl Progress {
         let Some(text) = self.lines.next_line(source)? else {
             return Ok(false);
         };
-        let wanted = match wanted_of(self.format, text) {
-            Ok(wanted) => wanted,
+        let content = match content_of(self.format, text) {
+            Ok(content) => content,
             Err(kind) => {
                 return Err(TraceFault::BadLine {
                     line: self.lines.line(),
@@ -141,9 +141,9 @@ impl Progress {
                 });
             }
         };
-        if let Some(wanted) = wanted {
-            let span = wanted.span;
-            let volume = number_of(&mut self.volumes, alloc, &wanted)?;
+        if let Some(content) = content {
+            let span = content.span;
+            let volume = number_of(&mut self.volumes, alloc, &content)?;
             match range_of(volume, span) {
                 Some(range) => self.ahead = range,
                 None => self.dropped += 1,
@@ -187,8 +187,8 @@ impl Progress {
         ensures size { IfOk result (λ found. IfSome found (λ x. (1 ≤ x.size) × (x.size ≤ 2 ^ 48))) }
         ensures few { (self.new.given ≤ self.new.limits.requests) × (self.new.limits.requests ≤ 2 ^ 25) }
         ensures ahead { length self.new.lines.held ≤ 65536 }
-        ensures next { NextRequest self.old self.new (told self.old (S.left source.old)) (told self.new (S.left source.new)) (S.faults source.old) (S.faults source.new) result }
-        ensures source { LosesFront (S.left source.old) (S.left source.new) }
+        ensures next { NextRequest self.old self.new (known self.old (S.left source.old)) (known self.new (S.left source.new)) (S.faults source.old) (S.faults source.new) result }
+        ensures source { LosesPrefix (S.left source.old) (S.left source.new) }
         ensures later { S.faults source.old ≤ S.faults source.new }
         ensures none_failed { OnOk result (S.faults source.new ≡ S.faults source.old) }
         ensures memory { IfErr result (λ fault. fault ≡ TraceFault.NoMemory → NamesVolumes self.old.format) }

@@ -1,6 +1,6 @@
 //! A reader of requests.
 ghost use Rattle.std.specs.Prelude.{◌≡◌, ◌≤◌, ◌^◌, None, Some, Err, IfOk, IfErr, IfSome, OnOk, length};
-ghost use Rattle.bound_io.specs.Reading.{LosesFront};
+ghost use Rattle.bound_io.specs.Reading.{LosesPrefix};
 ghost use Rattle.trace_any.specs.Readings.{IsFormat, NamesVolumes};
 
 use crate::fault::TraceFault;
@@ -37,7 +37,7 @@ impl Model for RequestReader {
 }
 
 impl RequestReader {
-    ghost use Rattle.trace_any.specs.Readers.{NextRequest, err_of, fresh, told};
+    ghost use Rattle.trace_any.specs.Readers.{NextRequest, err_of, fresh, known};
 
     /// A reader of a trace of this form, within these limits. It takes its buffer here, and later memory for each
     /// volume alone.
@@ -66,13 +66,13 @@ impl RequestReader {
         alloc: Global,
         source: &mut S,
     ) -> Result<Option<Object>, TraceFault>
-        ensures next { self.old.fault ≡ None → NextRequest self.old self.new (told self.old (S.left source.old)) (told self.new (S.left source.new)) (S.faults source.old) (S.faults source.new) result }
+        ensures next { self.old.fault ≡ None → NextRequest self.old self.new (known self.old (S.left source.old)) (known self.new (S.left source.new)) (S.faults source.old) (S.faults source.new) result }
         ensures fault { self.old.fault ≡ None → self.new.fault ≡ err_of result }
         ensures again { IfSome self.old.fault (λ fault. (result ≡ Err fault) × (self.new ≡ self.old) × (S.left source.new ≡ S.left source.old) × (S.faults source.new ≡ S.faults source.old)) }
         ensures size { IfOk result (λ found. IfSome found (λ x. (1 ≤ x.size) × (x.size ≤ 2 ^ 48))) }
         ensures few { (self.new.limits ≡ self.old.limits) × (self.new.given ≤ self.new.limits.requests) × (self.new.limits.requests ≤ 2 ^ 25) }
         ensures ahead { length self.new.lines.held ≤ 65536 }
-        ensures source { LosesFront (S.left source.old) (S.left source.new) }
+        ensures source { LosesPrefix (S.left source.old) (S.left source.new) }
         ensures later { S.faults source.old ≤ S.faults source.new }
         ensures none_failed { OnOk result (S.faults source.new ≡ S.faults source.old) }
         ensures memory { self.old.fault ≡ None → IfErr result (λ fault. fault ≡ TraceFault.NoMemory → NamesVolumes self.old.format) }

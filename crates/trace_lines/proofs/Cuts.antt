@@ -52,13 +52,13 @@ cons_part part others some =
     let no : (length part == 0) ≡ false = grind (arith, nat_tests) in
     rw no refl
 
--- one more byte at the front, by whether it passes
+-- one more byte at the beginning, by whether it passes
 skip_case : (p : ℕ → Bool) (byte : ℕ) (text : List ℕ) (test : Bool) → p byte ≡ test → parts p text ≡ parts p (drop (position_or_len (other p) text) text)
     → parts p (byte ∷ text) ≡ parts p (drop (position_or_len (other p) (byte ∷ text)) (byte ∷ text))
 skip_case p byte text true is later = rw (parts-cons_yes p byte text is, is, one-add) later
 skip_case p byte text false is later = rw (is, is) refl
 
--- the bytes at the front that pass stand in no part
+-- the bytes at the beginning that pass stand in no part
 parts-skip : (p : ℕ → Bool) (text : List ℕ) → parts p text ≡ parts p (drop (position_or_len (other p) text) text)
 parts-skip p [] = refl
 parts-skip p (byte ∷ text) = skip_case p byte text (p byte) refl (parts-skip p text)
@@ -69,7 +69,7 @@ parts-whole p text some past =
     let none : All (λ byte. p byte ≡ false) text = All-from_get_or (λ byte. p byte ≡ false) text 0 (λ k below. fails_before_first p text k 0 (omega arith)) in
     rw (slice_split_none p text none) (cons_part text [] some)
 
--- a part at the front ends at the first byte that passes
+-- a part at the beginning ends at the first byte that passes
 parts-cut : (p : ℕ → Bool) (text : List ℕ) (k : ℕ) → k ≡ position_or_len p text → 0 < k → k < length text → parts p text ≡ take k text ∷ parts p (drop k text)
 parts-cut p text k is some within =
     let passes : p (get_or text k 0) ≡ true = rw is (passes_at_first p text 0 (omega (arith, is))) in
@@ -90,9 +90,9 @@ parts-first p text k is some =
     ]
 
 -- a text whose first byte does not pass has a byte before the first that does
-front_len-pos : (p : ℕ → Bool) (text : List ℕ) → 0 < length text → p (get_or text 0 0) ≡ false → 0 < position_or_len p text
-front_len-pos p [] some fails = absurd (omega arith)
-front_len-pos p (byte ∷ text) some fails = rw fails (omega arith)
+prefix_len-pos : (p : ℕ → Bool) (text : List ℕ) → 0 < length text → p (get_or text 0 0) ≡ false → 0 < position_or_len p text
+prefix_len-pos p [] some fails = absurd (omega arith)
+prefix_len-pos p (byte ∷ text) some fails = rw fails (omega arith)
 
 -- where every byte passes, there is no part
 pub parts-none : (p : ℕ → Bool) (text : List ℕ) → position (other p) text ≡ None → parts p text ≡ []
@@ -109,7 +109,7 @@ part_len-pos p text start found =
     let at = position-Some (other p) text start 0 found in
     let long : 0 < length (drop start text) = omega (arith, at.0, length-drop start text) in
     let fails : p (get_or (drop start text) 0 0) ≡ false = rw (get_or-drop start text 0 0, add-zero start) (not-true (p (get_or text start 0)) at.1) in
-    front_len-pos p (drop start text) long fails
+    prefix_len-pos p (drop start text) long fails
 
 -- the first part begins at the first byte that does not pass, and ends at the next that does
 pub parts-at : (p : ℕ → Bool) (text : List ℕ) (start : ℕ) → position (other p) text ≡ Some start

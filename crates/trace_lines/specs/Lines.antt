@@ -14,7 +14,7 @@ words line = filter (λ word. not (length word == 0)) (slice_split is_gap line)
 
 -- a text ends in these bytes
 abbrev pub EndsIn : List ℕ → List ℕ → Type 0
-EndsIn text end = (front : List ℕ) × (text ≡ front ++ end)
+EndsIn text end = (prefix : List ℕ) × (text ≡ prefix ++ end)
 
 -- the fields of a line: what stands between its commas, before the first and after the last, empty ones too
 abbrev pub fields : List ℕ → List (List ℕ)

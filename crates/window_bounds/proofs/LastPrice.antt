@@ -18,33 +18,33 @@ pub record IsBefore (step : ℕ) (arc : OuterArc) : Type 0 where
   pub before : arc.end ≤ step
 
 -- so what it earns is the same at any price of that step
-same_surplus : (front : List ℕ) (price : ℕ) (arcs : List OuterArc) → All (IsBefore (length front)) arcs → sum_by (surplus (front ++ price ∷ [])) arcs ≡ sum_by (surplus front) arcs
-same_surplus front price [] fit = refl
-same_surplus front price (arc ∷ arcs) fit =
-    let first = All-head (IsBefore (length front)) arc arcs fit in
-    let over : slice_range (front ++ price ∷ []) arc.start arc.end ≡ slice_range front arc.start arc.end = slice_range-append front price arc.start arc.end (omega (arith, first.order, first.before)) first.before in
+same_surplus : (prefix : List ℕ) (price : ℕ) (arcs : List OuterArc) → All (IsBefore (length prefix)) arcs → sum_by (surplus (prefix ++ price ∷ [])) arcs ≡ sum_by (surplus prefix) arcs
+same_surplus prefix price [] fit = refl
+same_surplus prefix price (arc ∷ arcs) fit =
+    let first = All-head (IsBefore (length prefix)) arc arcs fit in
+    let over : slice_range (prefix ++ price ∷ []) arc.start arc.end ≡ slice_range prefix arc.start arc.end = slice_range-append prefix price arc.start arc.end (omega (arith, first.order, first.before)) first.before in
     omega (
       arith,
-      same_surplus front price arcs (All-tail (IsBefore (length front)) arc arcs fit),
-      sum_by-cons (surplus (front ++ price ∷ [])) arc arcs,
-      sum_by-cons (surplus front) arc arcs,
+      same_surplus prefix price arcs (All-tail (IsBefore (length prefix)) arc arcs fit),
+      sum_by-cons (surplus (prefix ++ price ∷ [])) arc arcs,
+      sum_by-cons (surplus prefix) arc arcs,
       ap (λ (ps : List ℕ). arc.weight * arc.cost - arc.weight * sum ps) over,
     )
 
-sum_push : (front : List ℕ) (price : ℕ) → sum (front ++ price ∷ []) ≡ sum front + price
-sum_push front price = omega (arith, sum_by-append (λ (n : ℕ). n) front (price ∷ []), sum_by-cons (λ (n : ℕ). n) price [])
+sum_push : (prefix : List ℕ) (price : ℕ) → sum (prefix ++ price ∷ []) ≡ sum prefix + price
+sum_push prefix price = omega (arith, sum_by-append (λ (n : ℕ). n) prefix (price ∷ []), sum_by-cons (λ (n : ℕ). n) price [])
 
 -- least prices have no price there
-least_last : (instance : Instance) (front : List ℕ) (price : ℕ) → IsLeast instance (front ++ price ∷ []) → length front + 1 ≡ instance.steps → 0 < instance.units → All (IsBefore (length front)) instance.arcs → price ≡ 0
-least_last instance front price least many some fit =
-    let low = least (front ++ 0 ∷ []) (length-append front (0 ∷ []) ∙ many) in
+least_last : (instance : Instance) (prefix : List ℕ) (price : ℕ) → IsLeast instance (prefix ++ price ∷ []) → length prefix + 1 ≡ instance.steps → 0 < instance.units → All (IsBefore (length prefix)) instance.arcs → price ≡ 0
+least_last instance prefix price least many some fit =
+    let low = least (prefix ++ 0 ∷ []) (length-append prefix (0 ∷ []) ∙ many) in
     let paid : instance.units * price ≤ 0 = omega (
       arith,
       low,
-      ap (λ s. instance.units * s) (sum_push front price),
-      ap (λ s. instance.units * s) (sum_push front 0),
-      same_surplus front price instance.arcs fit,
-      same_surplus front 0 instance.arcs fit,
+      ap (λ s. instance.units * s) (sum_push prefix price),
+      ap (λ s. instance.units * s) (sum_push prefix 0),
+      same_surplus prefix price instance.arcs fit,
+      same_surplus prefix 0 instance.arcs fit,
     ) in
     ⊎_elim
     (λ (priced : 0 < price). let one : instance.units * 1 ≤ instance.units * price = mul-le-mul_left instance.units priced in absurd (omega arith))
@@ -55,10 +55,10 @@ least_last instance front price least many some fit =
 pub last_price : (instance : Instance) (prices : List ℕ) (last : ℕ) → IsLeast instance prices → length prices ≡ instance.steps → last + 1 ≡ instance.steps → 0 < instance.units → All (IsBefore last) instance.arcs
     → get_or prices last 0 ≡ 0
 last_price instance prices last least many is some fit =
-    let front : List ℕ = take last prices in
-    let split : prices ≡ front ++ get_or prices last 0 ∷ [] = sym (take_all (last + 1) prices (omega arith)) ∙ take_more prices last 0 (omega arith) in
-    let long : length front ≡ last = length-take-le last prices (omega arith) in
-    least_last instance front (get_or prices last 0) (rw (← split) least) (omega arith) some (rw long fit)
+    let prefix : List ℕ = take last prices in
+    let split : prices ≡ prefix ++ get_or prices last 0 ∷ [] = sym (take_all (last + 1) prices (omega arith)) ∙ take_more prices last 0 (omega arith) in
+    let long : length prefix ≡ last = length-take-le last prices (omega arith) in
+    least_last instance prefix (get_or prices last 0) (rw (← split) least) (omega arith) some (rw long fit)
 
 -- where no arc covers the last step of the whole, no part covers it in its window
 part_before : (width k last : ℕ) (arc : OuterArc) → width * k ≤ last → arc.end ≤ last → meets width k arc ≡ true → IsBefore (last - width * k) (part_of width k arc)

@@ -19,10 +19,10 @@ use Rattle.window_bounds.specs.Solutions.{flow_in, lowered}
 place_of_number : (test : OuterArc → Bool) (arcs : List OuterArc) (i : ℕ) → i ≤ length arcs → length (passing (λ j. test (arc_at arcs j)) 0 i) ≡ count_by test (take i arcs)
 place_of_number test arcs i within =
     let all : arcs ≡ map (arc_at arcs) (range_with_len 0 (length arcs)) = fill_by_all (arc_at arcs) arcs (length arcs) no_arc refl (λ k low. refl) in
-    let front : take i arcs ≡ map (arc_at arcs) (range_with_len 0 i) = ap (take i) all ∙ take-map-range_with_len (arc_at arcs) 0 (length arcs) i within in
+    let prefix : take i arcs ≡ map (arc_at arcs) (range_with_len 0 i) = ap (take i) all ∙ take-map-range_with_len (arc_at arcs) 0 (length arcs) i within in
     length-filter (λ j. test (arc_at arcs j)) (range_with_len 0 i)
     ∙ sym (sum_by-map (λ (arc : OuterArc). cond (test arc) 1 0) (arc_at arcs) (range_with_len 0 i))
-    ∙ ap (count_by test) (sym front)
+    ∙ ap (count_by test) (sym prefix)
 
 -- the flows of the arcs before number m are lowered, and the others are as they were
 pub record AreLoweredBefore (whole : Instance) (width n : ℕ) (parts old new : List ℕ) (place m : ℕ) : Type 0 where

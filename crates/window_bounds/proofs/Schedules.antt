@@ -50,7 +50,7 @@ over-none width k t arc flow low high apart =
 abbrev pub AreBelowParts : ℕ → ℕ → List OuterArc → List ℕ → List ℕ → Type 0
 AreBelowParts width k arcs flows parts = (i : ℕ) → i < length arcs → meets width k (arc_at arcs i) ≡ true → get_or flows i 0 ≤ get_or parts (count_by (meets width k) (take i arcs)) 0
 
--- with one more arc in front
+-- with one more arc in prefix
 below-tail : (width k : ℕ) (arc : OuterArc) (arcs : List OuterArc) (flow : ℕ) (flows parts rest : List ℕ)
     → ((place : ℕ) → get_or parts (cond (meets width k arc) 1 0 + place) 0 ≡ get_or rest place 0)
     → AreBelowParts width k (arc ∷ arcs) (flow ∷ flows) parts → AreBelowParts width k arcs flows rest

@@ -82,19 +82,19 @@ fn line_at(bytes: &[u8]) -> u64 {
 }
 
 // The check of the first bytes of a certificate.
-fn check_front(rt: &impl Abort, alloc: Global, front: &[u8]) {
-    let line = line_at(front);
+fn check_prefix(rt: &impl Abort, alloc: Global, prefix: &[u8]) {
+    let line = line_at(prefix);
     let report = format!(in alloc; "invalid line {line}: truncated\n").expect(rt, "memory");
     let kind = InvalidKind::Truncated;
     let status = Status::Invalid { line, kind };
     let shows = "a certificate that is cut";
-    expect_of(rt, alloc, shows, PAIR, front, status, report.as_bytes());
+    expect_of(rt, alloc, shows, PAIR, prefix, status, report.as_bytes());
 }
 
 #[test]
 fn a_certificate_that_is_cut_is_truncated(rt: HostRuntime) {
     for taken in 0..EXACT_PAIR.len() {
-        check_front(&rt, rt.alloc(), &EXACT_PAIR[..taken]);
+        check_prefix(&rt, rt.alloc(), &EXACT_PAIR[..taken]);
     }
 }
 

@@ -6,4 +6,4 @@ pub returns-in-Ok-clause-ends : goal.returns-in-Ok-clause-ends
 returns-in-Ok-clause-ends g c = bounds_written c.args.format c.args.asked.now _ _ _ c.in-Ok.texts.cert.items c.in-Ok.texts.report.items c.write_out.result c.in-Ok.ensures.ready c.write_out.ensures
 
 pub returns-in-Err-clause-ends : goal.returns-in-Err-clause-ends
-returns-in-Err-clause-ends g c = rw c.refuse.ensures.status (bounds_refused c.args.format c.args.asked.now _ _ _ c.in-Err.refusal c.in-Err.ensures.refused (refl, refl) c.refuse.ensures.told)
+returns-in-Err-clause-ends g c = rw c.refuse.ensures.status (bounds_refused c.args.format c.args.asked.now _ _ _ c.in-Err.refusal c.in-Err.ensures.refused (refl, refl) c.refuse.ensures.reported)

@@ -5,4 +5,4 @@ pub returns-in-Ok-clause-ends : goal.returns-in-Ok-clause-ends
 returns-in-Ok-clause-ends g c = check_written c.args.format _ _ _ c.in-Ok.text.items c.write_report.result c.in-Ok.ensures.yes_text (rw c.deref.ensures.value at c.write_report.ensures)
 
 pub returns-in-Err-clause-ends : goal.returns-in-Err-clause-ends
-returns-in-Err-clause-ends g c = rw c.refuse.ensures.status (check_refused c.args.format _ _ _ c.in-Err.refusal c.in-Err.ensures.refused c.refuse.ensures.told)
+returns-in-Err-clause-ends g c = rw c.refuse.ensures.status (check_refused c.args.format _ _ _ c.in-Err.refusal c.in-Err.ensures.refused c.refuse.ensures.reported)

@@ -2,7 +2,7 @@ use Rattle.std.proofs.Common.{refl}
 use Rattle.bound_run.proofs.top.run_plan.Goals as goal
 
 pub returns-in-Err : goal.returns-in-Err
-returns-in-Err g c = rw c.in-Err.is (c.refuse.ensures.status, c.refuse.ensures.told, (refl, refl), (refl, refl), (refl, refl))
+returns-in-Err g c = rw c.in-Err.is (c.refuse.ensures.status, c.refuse.ensures.reported, (refl, refl), (refl, refl), (refl, refl))
 
 pub returns-in-Bounds : goal.returns-in-Bounds
 returns-in-Bounds g c = rw (c.in-Ok.is, c.in-Bounds.is) (c.run_bounds.ensures.ends, c.run_bounds.ensures.source, (refl, refl))

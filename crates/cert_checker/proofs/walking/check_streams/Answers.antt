@@ -5,21 +5,21 @@ use Rattle.cache_model.specs.declared.certificates.Header.{Header}
 use Rattle.cert_format.proofs.Chains.{loses_both}
 use Rattle.cert_checker.specs.declared.verdict.Verdict.{Verdict}
 use Rattle.cert_checker.specs.declared.walking.CheckFault.{CheckFault}
-use Rattle.cert_checker.specs.Checks.{Inputs, inputs, IsClosed, IsEvent, IsNear, IsPassed}
+use Rattle.cert_checker.specs.Checks.{Inputs, inputs, IsLastCheck, IsEvent, IsNear, IsPassed}
 use Rattle.cert_checker.specs.Summaries.{StandsFor}
 use Rattle.cert_checker.proofs.Closings.{stop_header, opens}
-use Rattle.cert_checker.proofs.Fronts.{keeps}
+use Rattle.cert_checker.proofs.Losses.{keeps}
 use Rattle.cert_checker.proofs.walking.check_streams.Goals as goal
 
-yes_closed : (start end : Inputs) (result : Result Verdict CheckFault) → IsClosed start end result → IfOk result (IsPassed start end)
+yes_closed : (start end : Inputs) (result : Result Verdict CheckFault) → IsLastCheck start end result → IfOk result (IsPassed start end)
 yes_closed start end (Ok verdict) closed = closed
 yes_closed start end (Err why) closed = tt
 
-event_closed : (start end : Inputs) (result : Result Verdict CheckFault) → IsClosed start end result → IfErr result (IsEvent start end)
+event_closed : (start end : Inputs) (result : Result Verdict CheckFault) → IsLastCheck start end result → IfErr result (IsEvent start end)
 event_closed start end (Ok verdict) closed = tt
 event_closed start end (Err why) closed = closed.event
 
-near_closed : (start end : Inputs) (result : Result Verdict CheckFault) → IsClosed start end result → IfErr result (IsNear start end)
+near_closed : (start end : Inputs) (result : Result Verdict CheckFault) → IsLastCheck start end result → IfErr result (IsNear start end)
 near_closed start end (Ok verdict) closed = tt
 near_closed start end (Err why) closed = closed.near
 

@@ -9,7 +9,7 @@ use Rattle.cert_checker.specs.declared.walking.CheckFault.TheVariants.{Invalid}
 use Rattle.cert_checker.specs.Checks.{Inputs, inputs, IsFailing}
 use Rattle.cert_checker.specs.Rules.{record_fault}
 use Rattle.cert_checker.specs.Summaries.{StandsFor}
-use Rattle.cert_checker.proofs.Fronts.{keeps}
+use Rattle.cert_checker.proofs.Losses.{keeps}
 use Rattle.cert_checker.proofs.Stops.{stop_trace, end_trace, stop_count, stop_text, stop_rule, goes_further}
 use Rattle.cert_checker.proofs.walking.turn.Goals as goal
 

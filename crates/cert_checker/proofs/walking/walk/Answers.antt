@@ -1,8 +1,8 @@
 use Rattle.std.proofs.Common.{◌∙◌, sym, subst, arith, [], ◌∷◌, ◌++◌, Ok}
 use Rattle.std.proofs.lemmas.Result.{err_from_is_err_and}
 use Rattle.cert_format.proofs.Chains.{loses_both}
-use Rattle.cert_checker.specs.Checks.{Inputs, inputs, IsTurned}
-use Rattle.cert_checker.proofs.Fronts.{keeps}
+use Rattle.cert_checker.specs.Checks.{Inputs, inputs, IsNextCheck}
+use Rattle.cert_checker.proofs.Losses.{keeps}
 use Rattle.cert_checker.proofs.walking.walk.Goals as goal
 
 pub loop-init : goal.loop-init
@@ -26,7 +26,7 @@ loop-preserved g c =
       header = i.header ∙ sym e.in_step.1;
       came = λ start h requests records came.
           let given = i.came start h requests records came in
-          let more = subst (λ m. IsTurned start h given.0 given.1 now c.turn.new.checker (Ok m)) c.if-branch.true (e.turned start h given.0 given.1 given.2) in
+          let more = subst (λ m. IsNextCheck start h given.0 given.1 now c.turn.new.checker (Ok m)) c.if-branch.true (e.turned start h given.0 given.1 given.2) in
           (given.0 ++ more.0 ∷ [], given.1 ++ more.1 ∷ [], more.2);
       trace_source = loses_both (g.T.Source.left c.args.trace.now) (g.T.Source.left c.loop.trace) (g.T.Source.left c.turn.new.trace) i.trace_source e.trace.0;
       trace_later = omega (arith, i.trace_later, e.trace.1);
@@ -57,7 +57,7 @@ pub returns-clause-closed : goal.returns-clause-closed
 returns-clause-closed g c = λ start h requests records came.
     let now : Inputs = inputs c.turn.new.reader (g.T.Source.left c.turn.new.trace) (g.T.Source.faults c.turn.new.trace) c.turn.new.cert (g.Q.Source.left c.turn.new.certificate) (g.Q.Source.faults c.turn.new.certificate) in
     let given = c.loop.invariant.came start h requests records came in
-    let ended = subst (λ m. IsTurned start h given.0 given.1 now c.turn.new.checker (Ok m)) c.if-branch.false (c.in_ok-turn.ensures.turned start h given.0 given.1 given.2) in
+    let ended = subst (λ m. IsNextCheck start h given.0 given.1 now c.turn.new.checker (Ok m)) c.if-branch.false (c.in_ok-turn.ensures.turned start h given.0 given.1 given.2) in
     c.close.ensures.closed start c.turn.new.reader (g.T.Source.left c.turn.new.trace) (g.T.Source.faults c.turn.new.trace) h given.0 given.1 ended
 
 pub returns-clause-trace : goal.returns-clause-trace

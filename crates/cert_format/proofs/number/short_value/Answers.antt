@@ -12,14 +12,14 @@ use Rattle.cert_format.proofs.number.short_value.Goals as goal
 
 pub overflow_mul-value : goal.overflow_mul-value
 overflow_mul-value c =
-    let front = take c.loop-byte.byte-index c.args.digits.now in
-    let low = digits_value_short own front 18 c.loop-byte.invariant.digits (omega (arith, length-take c.loop-byte.byte-index c.args.digits.now)) in
+    let prefix = take c.loop-byte.byte-index c.args.digits.now in
+    let low = digits_value_short own prefix 18 c.loop-byte.invariant.digits (omega (arith, length-take c.loop-byte.byte-index c.args.digits.now)) in
     omega (arith, low, c.loop-byte.invariant.number)
 
 pub overflow_add-value : goal.overflow_add-value
 overflow_add-value c =
-    let front = take c.loop-byte.byte-index c.args.digits.now in
-    let low = digits_value_short own front 18 c.loop-byte.invariant.digits (omega (arith, length-take c.loop-byte.byte-index c.args.digits.now)) in
+    let prefix = take c.loop-byte.byte-index c.args.digits.now in
+    let low = digits_value_short own prefix 18 c.loop-byte.invariant.digits (omega (arith, length-take c.loop-byte.byte-index c.args.digits.now)) in
     let digit = digit_range (get_or c.args.digits.now c.loop-byte.byte-index 0) (sym c.is_ascii_digit.ensures.value ∙ c.if-not-is_ascii_digit.false) in
     omega (arith, low, c.loop-byte.invariant.number, digit, c.from.ensures)
 

@@ -1,6 +1,6 @@
 use Rattle.std.proofs.Common.{◌≡◌, ◌+◌, ◌-◌, length, None, IfSome}
-use Rattle.bound_io.specs.Reading.{LosesFront}
-use Rattle.trace_any.specs.Readers.{GoesOn, after, told}
+use Rattle.bound_io.specs.Reading.{LosesPrefix}
+use Rattle.trace_any.specs.Readers.{GoesOn, after, known}
 use Rattle.trace_any.proofs.loading.load.Given as goal
 
 abbrev pub invariant-loop-requests : goal.invariant-loop-requests
@@ -8,9 +8,9 @@ invariant-loop-requests g l = record {
   limits : l.reader.limits ≡ l.initial.reader.limits;
   fault : l.reader.fault ≡ l.initial.reader.fault;
   given : l.reader.given ≡ l.initial.reader.given + length l.requests;
-  goes_on : l.initial.reader.fault ≡ None → IfSome (told l.initial.reader (g.S.Source.left l.initial.source)) (λ bytes. GoesOn (after l.requests) l.initial.reader l.reader bytes (told l.reader (g.S.Source.left l.source)));
+  goes_on : l.initial.reader.fault ≡ None → IfSome (known l.initial.reader (g.S.Source.left l.initial.source)) (λ bytes. GoesOn (after l.requests) l.initial.reader l.reader bytes (known l.reader (g.S.Source.left l.source)));
   unread : IfSome l.initial.reader.fault (λ _. (g.S.Source.left l.source ≡ g.S.Source.left l.initial.source) × (g.S.Source.faults l.source ≡ g.S.Source.faults l.initial.source));
-  source : LosesFront (g.S.Source.left l.initial.source) (g.S.Source.left l.source);
+  source : LosesPrefix (g.S.Source.left l.initial.source) (g.S.Source.left l.source);
   none_failed : g.S.Source.faults l.source ≡ g.S.Source.faults l.initial.source;
 }
 

@@ -4,10 +4,10 @@ use Rattle.trace_lines.specs.Lines.{without_cr}
 use Rattle.trace_lines.proofs.last.trim_cr.Goals as goal
 
 -- a line that ends in a CR, without it
-cr_dropped : (line front : List ℕ) (last : ℕ) → line ≡ front ++ last ∷ [] → last ≡ 13 → front ≡ without_cr line
-cr_dropped line front last whole is_cr =
-    let before : length (front ++ 13 ∷ []) - 1 ≡ length front = omega (arith, length-append front (13 ∷ [])) in
-    rw (whole, is_cr, before, get_or_push front 13 0 (length front) refl, take_at front (13 ∷ []) (length front) refl) refl
+cr_dropped : (line prefix : List ℕ) (last : ℕ) → line ≡ prefix ++ last ∷ [] → last ≡ 13 → prefix ≡ without_cr line
+cr_dropped line prefix last whole is_cr =
+    let before : length (prefix ++ 13 ∷ []) - 1 ≡ length prefix = omega (arith, length-append prefix (13 ∷ [])) in
+    rw (whole, is_cr, before, get_or_push prefix 13 0 (length prefix) refl, take_at prefix (13 ∷ []) (length prefix) refl) refl
 
 pub returns-in-Some-eq13-default : goal.returns-in-Some-eq13-default
 returns-in-Some-eq13-default c =

@@ -13,11 +13,11 @@ returns-clause-bytes g c =
     let count = c.in_ok-count.count in
     let given = c.in_ok-count.ensures in
     let within : end ≤ length bytes = omega (arith, moved.count, moved.len, c.self.invariant, c.deref_mut.ensures.len) in
-    let front : take end bytes ≡ c.args.self.now = rw (c.deref_mut.ensures.value, moved.count, moved.moved) (c.self.view_is) in
-    let held : length c.args.self.now ≡ end = rw (← front) (length-take-le end bytes within) in
+    let prefix : take end bytes ≡ c.args.self.now = rw (c.deref_mut.ensures.value, moved.count, moved.moved) (c.self.view_is) in
+    let held : length c.args.self.now ≡ end = rw (← prefix) (length-take-le end bytes within) in
     let asked : length buf ≡ length bytes - end = omega (arith, c.read.auto.buf, length-take (length bytes - end) (drop end bytes), length-drop end bytes) in
     let room : 0 < length buf = omega (arith, asked, c.requires.room, held, moved.len, c.self.invariant, c.deref_mut.ensures.len) in
-    let more = read_over c.move_to_front-self-inside.new.bytes bytes buf end count (omega (arith, c.deref_mut.ensures.len)) within asked (given.bound.0) ∙ ap (λ l. l ++ take count buf) front in
+    let more = read_over c.move_to_front-self-inside.new.bytes bytes buf end count (omega (arith, c.deref_mut.ensures.len)) within asked (given.bound.0) ∙ ap (λ l. l ++ take count buf) prefix in
     ((take count buf, more, sym (given.bound.1), given.bytes.0), λ none. given.bytes.1 none room)
 
 pub invariant_of-self : goal.invariant_of-self

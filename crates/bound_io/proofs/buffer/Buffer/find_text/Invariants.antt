@@ -1,7 +1,7 @@
 use Rattle.std.proofs.Common.{◌≡◌, ◌+◌, ◌-◌, ◌≤◌, length, drop}
 use Rattle.std.specs.Io.KnownBytes.{Keeps}
 use Rattle.bound_io.specs.Lines.{stands_in, text_len}
-use Rattle.bound_io.specs.Reading.{LosesFront}
+use Rattle.bound_io.specs.Reading.{LosesPrefix}
 use Rattle.bound_io.proofs.buffer.Buffer.find_text.Given as goal
 
 abbrev pub invariant-loop-seen : goal.invariant-loop-seen
@@ -9,7 +9,7 @@ invariant-loop-seen g l = record {
   within : l.seen ≤ length l.self;
   seen : text_len l.self ≡ l.seen + text_len (drop l.seen l.self);
   kept : Keeps (stands_in l.initial.self (g.S.Source.left l.initial.source)) (stands_in l.self (g.S.Source.left l.source));
-  source : LosesFront (g.S.Source.left l.initial.source) (g.S.Source.left l.source);
+  source : LosesPrefix (g.S.Source.left l.initial.source) (g.S.Source.left l.source);
   none_failed : g.S.Source.faults l.source ≡ g.S.Source.faults l.initial.source;
 }
 

@@ -4,7 +4,7 @@ use Rattle.bound_io.proofs.Rests.{copied}
 use Rattle.bound_io.proofs.calm_source.CalmSourceSource.read.Goals as goal
 
 pub returns-clause-bytes : goal.returns-clause-bytes
-returns-clause-bytes c = rw c.as_slice.ensures.value at (copied c.as_slice.result.now _ _ c.args.self.now.at c.copy_front-count.result _ _ _ (omega (arith, c.args.self.now.in_range, c.as_slice.ensures.len)) (λ wide. omega (arith, wide, c.copy_front-count.ensures.len)) refl c.copy_front-count.ensures.count c.copy_front-count.ensures.copied c.copy_front-count.ensures.len)
+returns-clause-bytes c = rw c.as_slice.ensures.value at (copied c.as_slice.result.now _ _ c.args.self.now.at c.copy_prefix-count.result _ _ _ (omega (arith, c.args.self.now.in_range, c.as_slice.ensures.len)) (λ wide. omega (arith, wide, c.copy_prefix-count.ensures.len)) refl c.copy_prefix-count.ensures.count c.copy_prefix-count.ensures.copied c.copy_prefix-count.ensures.len)
 
 pub returns-clause-count : goal.returns-clause-count
 returns-clause-count c = grind (arith, common_steps)

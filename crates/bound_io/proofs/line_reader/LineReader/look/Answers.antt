@@ -1,29 +1,29 @@
 use Rattle.std.proofs.lemmas.Grind.{common_steps}
 use Rattle.std.proofs.Common.{◌≡◌, ◌+◌, ◌≤◌, ◌<◌, length, min, arith, ap}
-use Rattle.bound_io.proofs.FirstLine.{extent_told, too_long_told, past_limit_told}
+use Rattle.bound_io.proofs.FirstLine.{extent_known, too_long_known, past_limit_known}
 use Rattle.bound_io.proofs.Texts.{text_len-le}
 use Rattle.bound_io.proofs.line_reader.LineReader.look.Goals as goal
 
 pub returns-then-text-gt-MOST_TEXT-clause-refused : goal.returns-then-text-gt-MOST_TEXT-clause-refused
 returns-then-text-gt-MOST_TEXT-clause-refused g c =
     let f = c.in-Ok.ensures in
-    (ap (λ p. p.line + 1) c.self.view_is, rw (ap (λ p. p.held) c.self.view_is) at (too_long_told _ _ c.find_text.new.self c.in-Ok.text f.kept f.text (omega (arith, c.if-text-gt-MOST_TEXT.true))))
+    (ap (λ p. p.line + 1) c.self.view_is, rw (ap (λ p. p.held) c.self.view_is) at (too_long_known _ _ c.find_text.new.self c.in-Ok.text f.kept f.text (omega (arith, c.if-text-gt-MOST_TEXT.true))))
 
 pub returns-then-line-self-clause-refused : goal.returns-then-line-self-clause-refused
 returns-then-line-self-clause-refused g c =
     let f = c.in-Ok.ensures in
     let short : c.in-Ok.text ≤ 65535 = omega (arith, c.if-text-gt-MOST_TEXT.false) in
     let line : c.min-line.result ≡ min (length c.find_text.new.self) (c.in-Ok.text + 1) = omega (arith, c.min-line.ensures, c.len.ensures.len) in
-    let extent = rw (← line, ap (λ p. p.held) c.self.view_is) at (extent_told _ _ c.find_text.new.self c.in-Ok.text f.kept f.text f.whole short) in
+    let extent = rw (← line, ap (λ p. p.held) c.self.view_is) at (extent_known _ _ c.find_text.new.self c.in-Ok.text f.kept f.text f.whole short) in
     let past : c.args.self.now.limit < c.args.self.now.consumed + c.min-line.result = omega (arith, c.if-line-self.true, ap (λ p. p.limit) c.self.view_is, ap (λ p. p.consumed) c.self.view_is, c.self.invariant) in
-    past_limit_told _ _ _ c.in-Ok.text c.min-line.result extent short past
+    past_limit_known _ _ _ c.in-Ok.text c.min-line.result extent short past
 
 pub returns-clause-extent : goal.returns-clause-extent
 returns-clause-extent g c =
     let f = c.in-Ok.ensures in
     let short : c.in-Ok.text ≤ 65535 = omega (arith, c.if-text-gt-MOST_TEXT.false) in
     let line : c.min-line.result ≡ min (length c.find_text.new.self) (c.in-Ok.text + 1) = omega (arith, c.min-line.ensures, c.len.ensures.len) in
-    rw (← line, ap (λ p. p.held) c.self.view_is) at (extent_told _ _ c.find_text.new.self c.in-Ok.text f.kept f.text f.whole short)
+    rw (← line, ap (λ p. p.held) c.self.view_is) at (extent_known _ _ c.find_text.new.self c.in-Ok.text f.kept f.text f.whole short)
 
 pub returns-clause-within : goal.returns-clause-within
 returns-clause-within g c =

@@ -3,7 +3,7 @@ use Rattle.std.specs.HashMap.{keys}
 use Rattle.std.specs.List.{position_or_len}
 use Rattle.std.specs.Map.{lookup}
 use Rattle.indexmap.specs.IndexMap.{insert_entry}
-use Rattle.cache_model.specs.Play.{same_object}
+use Rattle.cache_model.specs.Claim.{same_object}
 use Rattle.cache_model.proofs.DifferentObjects.{same_object-derived}
 use Rattle.cache_rules.specs.Stored.{no_request, trace_of, IsStored}
 use Rattle.cache_rules.proofs.Appended.{few_numbers, earlier_within, IsStored-added, IsStored-updated}

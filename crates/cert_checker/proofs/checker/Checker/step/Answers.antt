@@ -4,7 +4,7 @@ use Rattle.std.specs.Map.{keys_of, lookup}
 use Rattle.std.proofs.lemmas.Result.{err_from_is_err_and}
 use Rattle.indexmap.specs.IndexMap.{insert_entry}
 use Rattle.cache_model.specs.declared.objects.Object.{Object}
-use Rattle.cache_model.specs.Play.{same_object}
+use Rattle.cache_model.specs.Claim.{same_object}
 use Rattle.cache_model.proofs.DifferentObjects.{same_object-derived}
 use Rattle.cert_checker.specs.declared.summary.Sums.{Sums}
 use Rattle.cert_checker.specs.Rules.{first_some, record_rules}

@@ -1,6 +1,6 @@
 use Rattle.std.proofs.Common.{◌≡◌, ◌-◌, None, IfSome}
-use Rattle.bound_io.specs.Reading.{LosesFront}
-use Rattle.trace_any.specs.Readers.{GoesOn, told}
+use Rattle.bound_io.specs.Reading.{LosesPrefix}
+use Rattle.trace_any.specs.Readers.{GoesOn, known}
 use Rattle.trace_any.proofs.progress.Progress.find.Given as goal
 
 abbrev pub invariant-loop-self : goal.invariant-loop-self
@@ -9,8 +9,8 @@ invariant-loop-self g l = record {
   limits : l.self.limits ≡ l.initial.self.limits;
   given : l.self.given ≡ l.initial.self.given;
   no_fault : l.self.lines.fault ≡ None;
-  goes_on : IfSome (told l.initial.self (g.S.Source.left l.initial.source)) (λ bytes. GoesOn (λ r. r) l.initial.self l.self bytes (told l.self (g.S.Source.left l.source)));
-  source : LosesFront (g.S.Source.left l.initial.source) (g.S.Source.left l.source);
+  goes_on : IfSome (known l.initial.self (g.S.Source.left l.initial.source)) (λ bytes. GoesOn (λ r. r) l.initial.self l.self bytes (known l.self (g.S.Source.left l.source)));
+  source : LosesPrefix (g.S.Source.left l.initial.source) (g.S.Source.left l.source);
   none_failed : g.S.Source.faults l.source ≡ g.S.Source.faults l.initial.source;
 }
 

@@ -1,6 +1,6 @@
 use Rattle.std.proofs.Common.{◌≡◌, ◌<◌, refl, arith, ap, sym, ◌∙◌, subst, IfSome, Some, None, Ok}
-use Rattle.trace_any.specs.Readers.{LineTaken, IsOver, GoesOn, Ahead, told, to_come, with_ahead_by}
-use Rattle.trace_any.specs.Wanted.{answer_of, asked_by, volume_of}
+use Rattle.trace_any.specs.Readers.{LineTaken, IsOver, GoesOn, Ahead, known, to_come, with_ahead_by}
+use Rattle.trace_any.specs.LineContent.{answer_of, content_by, volume_of}
 use Rattle.std.specs.Option.{option_map}
 use Rattle.trace_any.specs.declared.progress.Range.{Range}
 use Rattle.trace_any.specs.Readings.{fault_of}
@@ -23,7 +23,7 @@ returns-in_err-text-clause-taken g c =
     let fault = ap (λ r. r.lines.fault) is ∙ c.requires.no_fault in
     let new = with_lines s l in
     let why = lines_refused s new _ _ _ c.in_err-text.field-0.0 none (c.self.invariant.3) (c.self.invariant.4) refl (f.refused fault) in
-    subst (λ r. LineTaken r new (told r (g.S.Source.left c.args.source.now)) (told new (g.S.Source.left c.next_line.new.source)) (g.S.Source.faults c.args.source.now) (g.S.Source.faults c.next_line.new.source) c.from_residual.result) is
+    subst (λ r. LineTaken r new (known r (g.S.Source.left c.args.source.now)) (known new (g.S.Source.left c.next_line.new.source)) (g.S.Source.faults c.args.source.now) (g.S.Source.faults c.next_line.new.source) c.from_residual.result) is
     (taken_err s new _ _ _ _ (fault_of c.in_err-text.field-0.0) c.from_residual.result (c.from_residual.ensures.0) (c.from_residual.ensures.1) why)
 
 pub returns-in-Err-clause-taken : goal.returns-in-Err-clause-taken
@@ -35,8 +35,8 @@ returns-in-Err-clause-taken g c =
     let none : c.self.inside.ahead.count ≡ 0 = ap (λ r. r.ahead.count) is ∙ c.requires.nothing_ahead in
     let gives = rw (c.in_ok-text.was, c.in-Some.is) at (c.next_line.follows.holds-at-none.0) in
     let takes = takes_up s l _ _ c.in-Some.text.now none (c.self.invariant.3) gives (rw (c.in-Some.is) at f.text) (rw (c.in-Some.is) at f.short) in
-    let said = sym (c.wanted_of.ensures.asked) ∙ ap answer_of c.in-Err.is in
-    subst (λ r. IfSome (told r (g.S.Source.left c.args.source.now)) (λ bytes. IsOver (to_come r bytes) s.dropped (Some (BadLine c.line.result c.in-Err.kind)))) is
+    let said = sym (c.content_of.ensures.content_named) ∙ ap answer_of c.in-Err.is in
+    subst (λ r. IfSome (known r (g.S.Source.left c.args.source.now)) (λ bytes. IsOver (to_come r bytes) s.dropped (Some (BadLine c.line.result c.in-Err.kind)))) is
     (rw (c.line.ensures) (refused_line s l c.in-Err.kind _ _ _ said takes))
 
 pub returns-in-Some-range_of-clause-taken : goal.returns-in-Some-range_of-clause-taken
@@ -48,13 +48,13 @@ returns-in-Some-range_of-clause-taken g c =
     let none : c.self.inside.ahead.count ≡ 0 = ap (λ r. r.ahead.count) is ∙ c.requires.nothing_ahead in
     let gives = rw (c.in_ok-text.was, c.in-Some.is) at (c.next_line.follows.holds-at-none.0) in
     let takes = takes_up s l _ _ c.in-Some.text.now none (c.self.invariant.3) gives (rw (c.in-Some.is) at f.text) (rw (c.in-Some.is) at f.short) in
-    let wanted = c.in-Some-wanted.wanted in
-    let said = sym (c.wanted_of.ensures.asked) ∙ (ap answer_of c.in-Ok.is ∙ ap (λ w. answer_of (Ok w)) c.in-Some-wanted.is) in
-    let goes = goes_asked s l (asked_by wanted) _ _ _ said none takes in
+    let content = c.in-Some-content.content in
+    let said = sym (c.content_of.ensures.content_named) ∙ (ap answer_of c.in-Ok.is ∙ ap (λ w. answer_of (Ok w)) c.in-Some-content.is) in
+    let goes = goes_asked s l (content_by content) _ _ _ said none takes in
     let moved = with_lines s l in
-    let new = is_asked moved (volume_of wanted.volume) wanted.span _ _ _ (c.in_ok-volume.ensures.number) (c.in_ok-volume.ensures.volumes) (sym (c.range_of.ensures.ahead) ∙ ap (option_map range_ahead) c.in-Some-range_of.is) in
-    subst (λ r. (r.lines.consumed < l.consumed) × IfSome (told r (g.S.Source.left c.args.source.now)) (λ bytes. GoesOn (λ x. x) r (with_ahead_by (record moved { volumes = c.number_of.new.volumes }) (Some (range_ahead c.in-Some-range_of.range))) bytes (told moved (g.S.Source.left c.next_line.new.source)))) is
-    (gives.some, subst (λ n. IfSome (told s (g.S.Source.left c.args.source.now)) (λ bytes. GoesOn (λ x. x) s n bytes (told moved (g.S.Source.left c.next_line.new.source)))) new goes)
+    let new = is_asked moved (volume_of content.volume) content.span _ _ _ (c.in_ok-volume.ensures.number) (c.in_ok-volume.ensures.volumes) (sym (c.range_of.ensures.ahead) ∙ ap (option_map range_ahead) c.in-Some-range_of.is) in
+    subst (λ r. (r.lines.consumed < l.consumed) × IfSome (known r (g.S.Source.left c.args.source.now)) (λ bytes. GoesOn (λ x. x) r (with_ahead_by (record moved { volumes = c.number_of.new.volumes }) (Some (range_ahead c.in-Some-range_of.range))) bytes (known moved (g.S.Source.left c.next_line.new.source)))) is
+    (gives.some, subst (λ n. IfSome (known s (g.S.Source.left c.args.source.now)) (λ bytes. GoesOn (λ x. x) s n bytes (known moved (g.S.Source.left c.next_line.new.source)))) new goes)
 
 pub returns-in-None-clause-taken : goal.returns-in-None-clause-taken
 returns-in-None-clause-taken g c =
@@ -65,16 +65,16 @@ returns-in-None-clause-taken g c =
     let none : c.self.inside.ahead.count ≡ 0 = ap (λ r. r.ahead.count) is ∙ c.requires.nothing_ahead in
     let gives = rw (c.in_ok-text.was, c.in-Some.is) at (c.next_line.follows.holds-at-none.0) in
     let takes = takes_up s l _ _ c.in-Some.text.now none (c.self.invariant.3) gives (rw (c.in-Some.is) at f.text) (rw (c.in-Some.is) at f.short) in
-    let wanted = c.in-Some-wanted.wanted in
-    let said = sym (c.wanted_of.ensures.asked) ∙ (ap answer_of c.in-Ok.is ∙ ap (λ w. answer_of (Ok w)) c.in-Some-wanted.is) in
-    let goes = goes_asked s l (asked_by wanted) _ _ _ said none takes in
+    let content = c.in-Some-content.content in
+    let said = sym (c.content_of.ensures.content_named) ∙ (ap answer_of c.in-Ok.is ∙ ap (λ w. answer_of (Ok w)) c.in-Some-content.is) in
+    let goes = goes_asked s l (content_by content) _ _ _ said none takes in
     let moved = with_lines s l in
-    let new = is_asked moved (volume_of wanted.volume) wanted.span _ _ _ (c.in_ok-volume.ensures.number) (c.in_ok-volume.ensures.volumes) (sym (c.range_of.ensures.ahead) ∙ ap (option_map range_ahead) c.in-None.is) in
-    subst (λ r. (r.lines.consumed < l.consumed) × IfSome (told r (g.S.Source.left c.args.source.now)) (λ bytes. GoesOn (λ x. x) r (with_ahead_by (record moved { volumes = c.number_of.new.volumes }) None) bytes (told moved (g.S.Source.left c.next_line.new.source)))) is
-    (gives.some, subst (λ n. IfSome (told s (g.S.Source.left c.args.source.now)) (λ bytes. GoesOn (λ x. x) s n bytes (told moved (g.S.Source.left c.next_line.new.source)))) new goes)
+    let new = is_asked moved (volume_of content.volume) content.span _ _ _ (c.in_ok-volume.ensures.number) (c.in_ok-volume.ensures.volumes) (sym (c.range_of.ensures.ahead) ∙ ap (option_map range_ahead) c.in-None.is) in
+    subst (λ r. (r.lines.consumed < l.consumed) × IfSome (known r (g.S.Source.left c.args.source.now)) (λ bytes. GoesOn (λ x. x) r (with_ahead_by (record moved { volumes = c.number_of.new.volumes }) None) bytes (known moved (g.S.Source.left c.next_line.new.source)))) is
+    (gives.some, subst (λ n. IfSome (known s (g.S.Source.left c.args.source.now)) (λ bytes. GoesOn (λ x. x) s n bytes (known moved (g.S.Source.left c.next_line.new.source)))) new goes)
 
-pub returns-in_default-wanted-clause-taken : goal.returns-in_default-wanted-clause-taken
-returns-in_default-wanted-clause-taken g c =
+pub returns-in_default-content-clause-taken : goal.returns-in_default-content-clause-taken
+returns-in_default-content-clause-taken g c =
     let is = c.self.view_is in
     let s = the_view c.self.inside in
     let l = c.next_line.follows.lender-at-none in
@@ -82,10 +82,10 @@ returns-in_default-wanted-clause-taken g c =
     let none : c.self.inside.ahead.count ≡ 0 = ap (λ r. r.ahead.count) is ∙ c.requires.nothing_ahead in
     let gives = rw (c.in_ok-text.was, c.in-Some.is) at (c.next_line.follows.holds-at-none.0) in
     let takes = takes_up s l _ _ c.in-Some.text.now none (c.self.invariant.3) gives (rw (c.in-Some.is) at f.text) (rw (c.in-Some.is) at f.short) in
-    let said = sym (c.wanted_of.ensures.asked) ∙ ap answer_of c.in-Ok.is in
-    let blank : c.in-Ok.wanted ≡ None = c.in_default-wanted.is in
+    let said = sym (c.content_of.ensures.content_named) ∙ ap answer_of c.in-Ok.is in
+    let blank : c.in-Ok.content ≡ None = c.in_default-content.is in
     let goes = goes_blank s l _ _ _ (said ∙ ap (λ w. answer_of (Ok w)) blank) none takes in
-    subst (λ r. (r.lines.consumed < l.consumed) × IfSome (told r (g.S.Source.left c.args.source.now)) (λ bytes. GoesOn (λ x. x) r (with_lines s l) bytes (told (with_lines s l) (g.S.Source.left c.next_line.new.source)))) is
+    subst (λ r. (r.lines.consumed < l.consumed) × IfSome (known r (g.S.Source.left c.args.source.now)) (λ bytes. GoesOn (λ x. x) r (with_lines s l) bytes (known (with_lines s l) (g.S.Source.left c.next_line.new.source)))) is
     (gives.some, goes)
 
 pub invariant_of-self : goal.invariant_of-self
@@ -109,8 +109,8 @@ invariant_of-self-in-Err g c =
     let lines = goes_onward _ _ c.self.inside.lines c.next_line.follows.lender-at-none _ _ c.next_line.result i.3 i.4 i.5 i.8 next.0 in
     (i.0, i.1, i.2, lines.limit, lines.within, lines.counted, next.1, i.7, lines.some_dropped, i.9, i.10, i.11)
 
-pub invariant_of-self-in_default-wanted : goal.invariant_of-self-in_default-wanted
-invariant_of-self-in_default-wanted g c =
+pub invariant_of-self-in_default-content : goal.invariant_of-self-in_default-content
+invariant_of-self-in_default-content g c =
     let i = c.self.invariant in
     let next = c.next_line.follows.holds-at-none in
     let lines = goes_onward _ _ c.self.inside.lines c.next_line.follows.lender-at-none _ _ c.next_line.result i.3 i.4 i.5 i.8 next.0 in
@@ -180,8 +180,8 @@ returns-in-None-clause-still g c = let is = c.self.view_is in (ap (λ r. r.forma
 pub returns-in-None-clause-few : goal.returns-in-None-clause-few
 returns-in-None-clause-few g c = (c.self.invariant.7, c.self.invariant.1)
 
-pub returns-in_default-wanted-clause-still : goal.returns-in_default-wanted-clause-still
-returns-in_default-wanted-clause-still g c = let is = c.self.view_is in (ap (λ r. r.format) is, ap (λ r. r.limits) is, ap (λ r. r.given) is)
+pub returns-in_default-content-clause-still : goal.returns-in_default-content-clause-still
+returns-in_default-content-clause-still g c = let is = c.self.view_is in (ap (λ r. r.format) is, ap (λ r. r.limits) is, ap (λ r. r.given) is)
 
-pub returns-in_default-wanted-clause-few : goal.returns-in_default-wanted-clause-few
-returns-in_default-wanted-clause-few g c = (c.self.invariant.7, c.self.invariant.1)
+pub returns-in_default-content-clause-few : goal.returns-in_default-content-clause-few
+returns-in_default-content-clause-few g c = (c.self.invariant.7, c.self.invariant.1)

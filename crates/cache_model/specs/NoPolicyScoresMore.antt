@@ -2,12 +2,12 @@
 use Rattle.std.specs.Prelude.{◌≡◌, ℕ, ◌*◌, ◌/◌, ◌≤◌, List, length}
 use Rattle.cache_model.specs.declared.objects.Object.{Object}
 use Rattle.cache_model.specs.declared.objects.Objective.{Objective}
-use Rattle.cache_model.specs.Play.{IsAllowed, score}
+use Rattle.cache_model.specs.Claim.{IsAllowed, score}
 use Rattle.cache_model.specs.Intervals.{eligible_intervals, bound_of}
 
 -- over the denominator, no allowed contents score more than the priced bound
-abbrev pub NoPlayScoresMore : Type 0
-NoPlayScoresMore =
+abbrev pub NoPolicyScoresMore : Type 0
+NoPolicyScoresMore =
     (objective : Objective) (capacity unit denominator : ℕ) (trace : List Object) (prices : List ℕ) (contents : List (List Object))
     → IsAllowed capacity trace contents
     → length prices ≡ length trace

@@ -36,7 +36,7 @@ after_line-line t rest lacks = ap after_line (line-append t rest) ∙ (ap (λ n.
 pub text_len-line : (t rest : List ℕ) → list_any is_lf t ≡ false → text_len (line t ++ rest) ≡ length t
 text_len-line t rest lacks = ap text_len (line-append t rest) ∙ text_len-first t rest lacks
 
--- a line without a fault at the front
+-- a line without a fault at the beginning
 pub first_fits : (n : ℕ) (slots : List Slot) (t rest : List ℕ) → IsLine t → line_fault slots t ≡ None → first_fault n slots (line t ++ rest) ≡ None
 first_fits n slots t rest is fits =
     let size = text_len-line t rest is.0 in
@@ -56,8 +56,8 @@ split_line bytes whole =
     let place = text_len bytes in
     let found : position is_lf bytes ≡ Some place = ap (λ b. cond b (Some place) None) (lt-ltb place (length bytes) whole) in
     let lf : get_or bytes place 0 ≡ 10 = eqb-true (get_or bytes place 0) 10 (position-Some is_lf bytes place 0 found).1 in
-    let front : take (place + 1) bytes ≡ line (first_text bytes) = take_more bytes place 0 whole ∙ ap (λ x. take place bytes ++ x ∷ []) lf in
-    sym (take-append-drop (place + 1) bytes) ∙ ap (λ f. f ++ drop (place + 1) bytes) front
+    let prefix : take (place + 1) bytes ≡ line (first_text bytes) = take_more bytes place 0 whole ∙ ap (λ x. take place bytes ++ x ∷ []) lf in
+    sym (take-append-drop (place + 1) bytes) ∙ ap (λ f. f ++ drop (place + 1) bytes) prefix
 
 none_of_map : (n : ℕ) (o : Option TextKind) → option_map (in_line n) o ≡ None → o ≡ None
 none_of_map n None h = refl

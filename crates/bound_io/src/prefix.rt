@@ -1,8 +1,8 @@
-//! Copying the front of some bytes.
+//! Copying the prefix of some bytes.
 ghost use Rattle.std.specs.Prelude.{◌≡◌, length, min, take};
 
-// Copies the front of the bytes into the front of the buffer, at most so many, and says how many.
-pub(crate) fn copy_front(bytes: &[u8], buf: &mut [u8], most: usize) -> usize
+// Copies the prefix of the bytes into the beginning of the buffer, at most so many, and says how many.
+pub(crate) fn copy_prefix(bytes: &[u8], buf: &mut [u8], most: usize) -> usize
     ensures count { result ≡ min (min (length bytes.now) (length buf.old)) most }
     ensures copied { take result buf.new ≡ take result bytes.now }
     ensures len { length buf.new ≡ length buf.old }

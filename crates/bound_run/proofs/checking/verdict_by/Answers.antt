@@ -2,7 +2,7 @@ use Rattle.std.proofs.Common.{◌≡◌, ◌∙◌, ap, sym}
 use Rattle.std.proofs.lemmas.Result.{err_from_is_err_and}
 use Rattle.trace_any.specs.Readings.{full_limits}
 use Rattle.trace_any.specs.Readers.{fresh}
-use Rattle.bound_run.proofs.checking.said_by.Goals as goal
+use Rattle.bound_run.proofs.checking.verdict_by.Goals as goal
 
 pub returns-in_err-requests-clause-yes_text : goal.returns-in_err-requests-clause-yes_text
 returns-in_err-requests-clause-yes_text g c = rw (err_from_is_err_and c.from_residual.result c.from_residual.ensures.1).1 tt
@@ -12,29 +12,29 @@ returns-in_err-requests-clause-refused g c =
     let p = err_from_is_err_and c.from_residual.result c.from_residual.ensures.1 in
     rw (p.1, p.2) tt
 
-pub said_of-requires-clause-requests : goal.said_of-requires-clause-requests
-said_of-requires-clause-requests g c =
+pub verdict_with-requires-clause-requests : goal.verdict_with-requires-clause-requests
+verdict_with-requires-clause-requests g c =
     let reader = c.in_ok-requests.requests in
     let new : reader ≡ fresh c.args.format full_limits = c.in_ok-requests.ensures ∙ ap (fresh c.args.format) c.full.ensures in
     new ∙ ap (λ f. fresh f full_limits) (sym (ap (λ r. r.format) new))
 
-pub said_of-requires-clause-records : goal.said_of-requires-clause-records
-said_of-requires-clause-records g c = c.requires.records
+pub verdict_with-requires-clause-records : goal.verdict_with-requires-clause-records
+verdict_with-requires-clause-records g c = c.requires.records
 
 pub returns-clause-yes_text : goal.returns-clause-yes_text
 returns-clause-yes_text g c =
     let reader = c.in_ok-requests.requests in
     let new : reader ≡ fresh c.args.format full_limits = c.in_ok-requests.ensures ∙ ap (fresh c.args.format) c.full.ensures in
-    rw (ap (λ r. r.format) new) at c.said_of.ensures.yes_text
+    rw (ap (λ r. r.format) new) at c.verdict_with.ensures.yes_text
 
 pub returns-clause-refused : goal.returns-clause-refused
 returns-clause-refused g c =
     let reader = c.in_ok-requests.requests in
     let new : reader ≡ fresh c.args.format full_limits = c.in_ok-requests.ensures ∙ ap (fresh c.args.format) c.full.ensures in
-    rw (ap (λ r. r.format) new) at c.said_of.ensures.refused
+    rw (ap (λ r. r.format) new) at c.verdict_with.ensures.refused
 
 pub returns-clause-trace_source : goal.returns-clause-trace_source
-returns-clause-trace_source g c = c.said_of.ensures.trace_source
+returns-clause-trace_source g c = c.verdict_with.ensures.trace_source
 
 pub returns-clause-cert_source : goal.returns-clause-cert_source
-returns-clause-cert_source g c = c.said_of.ensures.cert_source
+returns-clause-cert_source g c = c.verdict_with.ensures.cert_source

@@ -1,9 +1,9 @@
 //! What a line asks for, by the form of the trace.
 ghost use Rattle.std.specs.Prelude.{◌≡◌, ◌+◌, ◌≤◌, ◌^◌, None, Some, length, IfOk, IfSome, IsSome, OnOk, OnErr};
-ghost use Rattle.trace_any.specs.Readers.{noted_by, number_by};
-ghost use Rattle.trace_any.specs.Readings.{IsFormat, NamesVolumes, text_asked};
+ghost use Rattle.trace_any.specs.Readers.{with_named_by, number_by};
+ghost use Rattle.trace_any.specs.Readings.{IsFormat, NamesVolumes, text_content};
 ghost use Rattle.trace_lines.specs.Lines.{IsSpan};
-ghost use Rattle.trace_any.specs.Wanted.{answer_of, volume_of};
+ghost use Rattle.trace_any.specs.LineContent.{answer_of, volume_of};
 
 use crate::format::Format;
 use crate::volumes::Volumes;
@@ -14,35 +14,35 @@ use trace_msr::MsrLine;
 
 /// What a line asks for, and the host and the disk of its volume, where its form names volumes.
 #[derive(Clone, Copy)]
-pub struct Wanted<'a> {
+pub struct LineContent<'a> {
     pub span: Span,
     pub volume: Option<(&'a [u8], u64)>,
 }
 
 // What a line of a form without volumes asks for.
-fn of_no_volume(span: Span) -> Wanted<'static>
+fn of_no_volume(span: Span) -> LineContent<'static>
     ensures { result ≡ record { span = span; volume = None } }
 {
-    Wanted { span, volume: None }
+    LineContent { span, volume: None }
 }
 
 // What a line of a form with volumes asks for.
-fn of_volume(line: MsrLine<'_>) -> Wanted<'_>
+fn of_volume(line: MsrLine<'_>) -> LineContent<'_>
     ensures span { result.span ≡ line.entry.span }
     ensures volume { volume_of result.volume ≡ Some (record { host = line.entry.host.now; disk = line.entry.disk }) }
 {
-    Wanted {
+    LineContent {
         span: line.span,
         volume: Some((line.host, line.disk)),
     }
 }
 
 /// What the text of a line asks for, where it has a word.
-pub fn wanted_of(format: Format, text: &[u8]) -> Result<Option<Wanted<'_>>, LineKind>
+pub fn content_of(format: Format, text: &[u8]) -> Result<Option<LineContent<'_>>, LineKind>
     requires { IsFormat format }
-    ensures asked { answer_of result ≡ text_asked format text.now }
-    ensures range { IfOk result (λ found. IfSome found (λ wanted. IsSpan wanted.span)) }
-    ensures volume { IfOk result (λ found. IfSome found (λ wanted. IfSome wanted.volume (λ _. NamesVolumes format))) }
+    ensures content_named { answer_of result ≡ text_content format text.now }
+    ensures range { IfOk result (λ found. IfSome found (λ content. IsSpan content.span)) }
+    ensures volume { IfOk result (λ found. IfSome found (λ content. IfSome content.volume (λ _. NamesVolumes format))) }
 {
     let text = trim_cr(text);
     if is_blank(text) {
@@ -56,18 +56,22 @@ pub fn wanted_of(format: Format, text: &[u8]) -> Result<Option<Wanted<'_>>, Line
 }
 
 /// The number of the volume of a line, which is 0 where it names none or asks for nothing.
-pub fn number_of(volumes: &mut Volumes, alloc: Global, wanted: &Wanted<'_>) -> Result<u32, NoMemory>
+pub fn number_of(
+    volumes: &mut Volumes,
+    alloc: Global,
+    content: &LineContent<'_>,
+) -> Result<u32, NoMemory>
     requires few { length volumes.old ≤ 2 ^ 25 }
-    ensures number { IfOk result (λ n. n ≡ number_by wanted.now.span volumes.old (volume_of wanted.now.volume)) }
-    ensures volumes { OnOk result (volumes.new ≡ noted_by wanted.now.span volumes.old (volume_of wanted.now.volume)) }
+    ensures number { IfOk result (λ n. n ≡ number_by content.now.span volumes.old (volume_of content.now.volume)) }
+    ensures volumes { OnOk result (volumes.new ≡ with_named_by content.now.span volumes.old (volume_of content.now.volume)) }
     ensures err { OnErr result (volumes.new ≡ volumes.old) }
-    ensures memory { OnErr result (IsSome wanted.now.volume) }
+    ensures memory { OnErr result (IsSome content.now.volume) }
     ensures most { length volumes.new ≤ length volumes.old + 1 }
 {
-    if wanted.span == Span::Nothing {
+    if content.span == Span::Nothing {
         return Ok(0);
     }
-    match wanted.volume {
+    match content.volume {
         Some((host, disk)) => volumes.number(alloc, host, disk),
         None => Ok(0),
     }

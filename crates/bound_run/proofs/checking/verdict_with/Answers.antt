@@ -2,7 +2,7 @@ use Rattle.std.proofs.Common.{◌∙◌, ap, sym}
 use Rattle.trace_any.specs.Readers.{fresh}
 use Rattle.cert_checker.specs.Checks.{inputs}
 use Rattle.bound_run.proofs.Judged.{accepted, refused}
-use Rattle.bound_run.proofs.checking.said_of.Goals as goal
+use Rattle.bound_run.proofs.checking.verdict_with.Goals as goal
 
 pub returns-in_ok-verdict_text-in-Ok-clause-yes_text : goal.returns-in_ok-verdict_text-in-Ok-clause-yes_text
 returns-in_ok-verdict_text-in-Ok-clause-yes_text g c =

@@ -1,5 +1,0 @@
-use Rattle.cache_model.proofs.Steps.{no_play_scores_more_lem}
-use Rattle.cache_model.proofs.laws.no_play_scores_more.Goals as goal
-
-pub returns : goal.returns
-returns c = no_play_scores_more_lem
