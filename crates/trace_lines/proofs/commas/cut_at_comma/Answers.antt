@@ -7,5 +7,5 @@ returns-in_err-comma c = rw c.from_residual.ensures (split-missing (λ byte. byt
 
 pub returns : goal.returns
 returns c =
-    rw (c.split_at.ensures.prefix, c.split_at-2.ensures.back)
+    rw (c.split_at.ensures.front, c.split_at-2.ensures.back)
     (split-found (λ byte. byte == 44) c.args.text.now c.in_ok-comma.comma c.in_ok-comma.ensures.0 c.in_ok-comma.ensures.1)
