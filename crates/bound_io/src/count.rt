@@ -6,6 +6,7 @@ ghost use Rattle.std.specs.Result.{result_ok};
 ghost use Rattle.bound_io.specs.Causes.{HasCause, count_after};
 
 use crate::device::Failed;
+use std::io;
 use std::io::{Read, Write};
 
 // The answer of the system, where there is one, and else a fault that is counted.
@@ -23,25 +24,42 @@ pub(crate) fn count_fault(answer: Option<usize>, faults: &mut u64) -> Result<usi
     }
 }
 
-// Reads once, where a read that fails is a fault.
+// The answer of the system, of which the reason is kept where it is an error.
+fn keep_reason(answer: io::Result<usize>, reason: &mut Option<io::Error>) -> Option<usize>
+    ensures { result ≡ result_ok answer }
+{
+    match answer {
+        Ok(count) => Some(count),
+        Err(error) => {
+            *reason = Some(error);
+            None
+        }
+    }
+}
+
+// Reads once, where a read that fails is a fault, and keeps the system's reason.
 pub(crate) fn read_once<R: Read>(
     input: &mut R,
     buf: &mut [u8],
     faults: &mut u64,
+    reason: &mut Option<io::Error>,
 ) -> Result<usize, Failed>
     ensures bound { ReadsAtMost result buf.new }
     ensures bytes { ReadConsumes (R.remaining input.old) (R.remaining input.new) result buf.new }
     ensures cause { HasCause faults.old faults.new result }
     ensures none_failed { OnOk result (faults.new ≡ faults.old) }
 {
-    count_fault(input.read(buf).ok(), faults)
+    let answer = input.read(buf);
+    count_fault(keep_reason(answer, reason), faults)
 }
 
-// Writes once, where a write that fails is a fault, and one that takes none of a piece that has some.
+// Writes once, where a write that fails is a fault, and one that takes none of a piece that has some; and keeps the
+// system's reason.
 pub(crate) fn write_once<W: Write>(
     output: &mut W,
     bytes: &[u8],
     faults: &mut u64,
+    reason: &mut Option<io::Error>,
 ) -> Result<usize, Failed>
     ensures bound { IfOk result (λ n. n ≤ length bytes.now) }
     ensures progress { IfOk result (λ n. 0 < length bytes.now → 0 < n) }
@@ -51,7 +69,11 @@ pub(crate) fn write_once<W: Write>(
 {
     let answer = match output.write(bytes) {
         Ok(count) if count > 0 || bytes.is_empty() => Some(count),
-        _ => None,
+        Ok(_) => None,
+        Err(error) => {
+            *reason = Some(error);
+            None
+        }
     };
     count_fault(answer, faults)
 }

@@ -1,0 +1,44 @@
+//! The first bytes that were read from a source.
+ghost use Rattle.std.specs.Prelude.{◌≤◌, length};
+
+use crate::prefix::copy_prefix;
+
+// How many bytes are kept.
+const KEPT: usize = 64;
+
+/// The first 64 bytes that were read, to tell what kind of file a source is where its first line is refused.
+pub(crate) struct Start {
+    bytes: [u8; KEPT],
+    len: usize,
+    ghost within: { len ≤ 64 },
+}
+
+impl Start {
+    // Nothing was read yet.
+    pub(crate) fn new() -> Start {
+        Start {
+            bytes: [0; KEPT],
+            len: 0,
+        }
+    }
+
+    // Keeps what still has room of a piece that was read.
+    pub(crate) fn keep(&mut self, piece: &[u8]) {
+        let room = &mut self.bytes[self.len..];
+        let count = copy_prefix(piece, room, KEPT);
+        self.len += count;
+    }
+
+    // The bytes that are kept.
+    pub(crate) fn as_slice(&self) -> &[u8]
+        ensures { length result.now ≤ 64 }
+    {
+        &self.bytes[..self.len]
+    }
+}
+
+impl Drop for Start {
+    fn drop(self) {
+        let Start { bytes: _, len: _ } = self;
+    }
+}
