@@ -1,0 +1,202 @@
+//! What to do about a run that did not end well: for the person at the terminal, beside the report's line.
+use crate::help::{operands_of, values_of};
+use bound_report::WordKind;
+use bound_run::{Status, WordFault};
+use std::alloc::{AllocError, Global};
+use std::io;
+
+/// What was seen of a device: what it is called, why a call of it failed last, and how its bytes begin.
+#[derive(Clone, Copy)]
+pub struct Seen<'a> {
+    pub name: &'a str,
+    pub reason: Option<io::Error>,
+    pub start: &'a [u8],
+}
+
+/// The devices of a run.
+#[derive(Clone, Copy)]
+pub struct Devices<'a> {
+    pub trace: Seen<'a>,
+    pub cert: Seen<'a>,
+    pub report: Seen<'a>,
+    pub made: Seen<'a>,
+}
+
+// The name of an operand: what stands before the `=`.
+fn name_of(word: &str) -> &str {
+    match word.split_once('=') {
+        Some((name, _)) => name,
+        None => word,
+    }
+}
+
+// The word at a place, counted from 1.
+fn word_at(words: &[String], place: u64) -> &str {
+    match words.get(place.saturating_sub(1) as usize) {
+        Some(word) => word.as_str(),
+        None => "",
+    }
+}
+
+// Whether an operand of this name is given.
+fn is_given(words: &[String], name: &str) -> bool {
+    words.iter().any(|word| name_of(word.as_str()) == name)
+}
+
+// What is missing at a place: a path, or a required operand after the last word.
+fn missing(alloc: Global, words: &[String], place: u64) -> Result<String, AllocError> {
+    match place {
+        1 => String::from_str(alloc, "a command is missing"),
+        2 => String::from_str(alloc, "the path of the trace is missing"),
+        3 => String::from_str(alloc, "the path of the certificate is missing"),
+        _ => {
+            let name = if is_given(words, "format") {
+                "capacity"
+            } else {
+                "format"
+            };
+            let values = values_of(name).unwrap_or("");
+            format!(in alloc; "{name} is missing: {values}")
+        }
+    }
+}
+
+// Why a word stands for nothing.
+fn unknown(alloc: Global, words: &[String], place: u64) -> Result<String, AllocError> {
+    let word = word_at(words, place);
+    if place == 1 {
+        return format!(in alloc; "{word}: no command; the commands are bounds and check");
+    }
+    if word.as_bytes().starts_with(b"--") {
+        return format!(in alloc; "{word}: operands have no dashes, as format=webcache");
+    }
+    let command = word_at(words, 1);
+    match name_of(word) {
+        "block" => format!(in alloc; "{word}: a block goes with format=msr alone"),
+        "window" if command == "bounds" => {
+            format!(in alloc; "{word}: a window goes with mode=flow alone")
+        }
+        _ => {
+            let operands = operands_of(command);
+            format!(in alloc; "{word}: no operand of {command}, which are {operands}")
+        }
+    }
+}
+
+// Why a value may not stand there.
+fn bad_value(alloc: Global, words: &[String], place: u64) -> Result<String, AllocError> {
+    let word = word_at(words, place);
+    if word.is_empty() {
+        return String::from_str(alloc, "a path is empty");
+    }
+    match values_of(name_of(word)) {
+        Some(values) if place > 3 => format!(in alloc; "{word}: {values}"),
+        _ => String::from_str(
+            alloc,
+            "trace and certificate can't both be the standard input",
+        ),
+    }
+}
+
+// What is wrong with a word of the command line, and what may stand there.
+fn word_advice(alloc: Global, words: &[String], fault: WordFault) -> Result<String, AllocError> {
+    match fault.kind {
+        WordKind::Missing => missing(alloc, words, fault.place),
+        WordKind::Unknown => unknown(alloc, words, fault.place),
+        WordKind::Twice => {
+            let word = word_at(words, fault.place);
+            let name = name_of(word);
+            format!(in alloc; "{word}: {name} is given twice")
+        }
+        WordKind::BadValue => bad_value(alloc, words, fault.place),
+    }
+}
+
+// Why a call of a device failed.
+fn device_advice(alloc: Global, seen: Seen<'_>) -> Result<String, AllocError> {
+    let name = seen.name;
+    match seen.reason {
+        Some(reason) => format!(in alloc; "{name}: {reason}"),
+        None => format!(in alloc; "{name}: it took no more bytes"),
+    }
+}
+
+// What a program that unpacks a file is called, if the file begins as a packed one does.
+fn unpacker_of(start: &[u8]) -> Option<(&'static str, &'static str)> {
+    if start.starts_with(b"\x1f\x8b") {
+        Some(("gzip", "zcat"))
+    } else if start.starts_with(b"\x28\xb5\x2f\xfd") {
+        Some(("zstd", "zstd -dc"))
+    } else if start.starts_with(b"\xfd7zXZ") {
+        Some(("xz", "xz -dc"))
+    } else if start.starts_with(b"BZh") {
+        Some(("bzip2", "bzip2 -dc"))
+    } else {
+        None
+    }
+}
+
+// Whether the bytes are of text in two bytes a letter.
+fn is_utf16(start: &[u8]) -> bool {
+    start.starts_with(b"\xff\xfe")
+        || start.starts_with(b"\xfe\xff")
+        || start.iter().any(|b| *b == 0)
+}
+
+// What a trace may be of which the first line is refused.
+fn start_advice(alloc: Global, command: &str, trace: Seen<'_>) -> Result<String, AllocError> {
+    let name = trace.name;
+    let start = trace.start;
+    if let Some((packed, unpack)) = unpacker_of(start) {
+        return format!(in alloc;
+            "{name}: it is packed by {packed}; unpack it: {unpack} {name} | bound_cli {command} - .."
+        );
+    }
+    if is_utf16(start) {
+        return format!(in alloc;
+            "{name}: it is no text of one byte a letter; if it is UTF-16: iconv -f UTF-16 -t UTF-8 {name} | bound_cli {command} - .."
+        );
+    }
+    if start.starts_with(b"\xef\xbb\xbf") {
+        return format!(in alloc;
+            "{name}: it begins with a byte order mark; drop it: tail -c +4 {name} | bound_cli {command} - .."
+        );
+    }
+    if start.starts_with(b"cache-bound-certificate") {
+        return format!(in alloc; "{name}: it is a certificate; the path of the trace comes first");
+    }
+    if start.starts_with(b"{") || start.starts_with(b"[") {
+        return format!(in alloc;
+            "{name}: it begins as JSON does; docs/GUIDE.md, \"Bring another form\", says what to make of it"
+        );
+    }
+    if start.iter().any(|b| *b == b',') {
+        return format!(in alloc;
+            "{name}: its first line has commas; for a table take examples/forms/key_table.awk or device_table.awk"
+        );
+    }
+    format!(in alloc;
+        "{name}: its first line may be a heading; leave it out: tail -n +2 {name} | bound_cli {command} - .."
+    )
+}
+
+/// What to do about a status, where something is known to do.
+pub fn advice_on(
+    alloc: Global,
+    words: &[String],
+    devices: Devices<'_>,
+    status: Status,
+) -> Result<Option<String>, AllocError> {
+    let text = match status {
+        Status::Words(fault) => word_advice(alloc, words, fault)?,
+        Status::BadLine { line: 1, kind: _ } => {
+            start_advice(alloc, word_at(words, 1), devices.trace)?
+        }
+        Status::TraceFault => device_advice(alloc, devices.trace)?,
+        Status::CertFault => device_advice(alloc, devices.cert)?,
+        Status::ReportFault => device_advice(alloc, devices.report)?,
+        Status::MadeFault => device_advice(alloc, devices.made)?,
+        _ => return Ok(None),
+    };
+    Ok(Some(text))
+}
