@@ -16,13 +16,25 @@ pub record Device : Type 0 where
 abbrev pub device : Option (List ℕ) → Option (List ℕ) → ℕ → ℕ → Device
 device before after faults_before faults_after = record { before = before; after = after; faults_before = faults_before; faults_after = faults_after }
 
--- its count of faults rose
+-- what is seen of a device: its bytes by the one function and its faults by the other, before a call and after it
+abbrev pub seen : {D : Type 0} → (D → Option (List ℕ)) → (D → ℕ) → D → D → Device
+seen bytes faults old new = device (bytes old) (bytes new) (faults old) (faults new)
+
+-- it has a new fault
 abbrev pub HasFailed : Device → Type 0
 HasFailed d = HasNewFault d.faults_before d.faults_after
 
+-- a sink was written the text
+abbrev pub GetsAll : Device → List ℕ → Type 0
+GetsAll d text = Appends d.before d.after text
+
+-- a sink failed, and was written a proper prefix of the text
+abbrev pub GetsLess : Device → List ℕ → Type 0
+GetsLess d text = HasFailed d × AppendsProperPrefix d.before d.after text
+
 -- a sink was written the text, or failed and was written less of it
 abbrev pub Gets : Device → List ℕ → Type 0
-Gets d text = Appends d.before d.after text ⊎ (HasFailed d × AppendsProperPrefix d.before d.after text)
+Gets d text = GetsAll d text ⊎ GetsLess d text
 
 -- nothing was asked of it
 abbrev pub IsUntouched : Device → Type 0

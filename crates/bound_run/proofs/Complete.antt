@@ -1,5 +1,5 @@
 -- What is answered of good inputs, where no device fails.
-use Rattle.std.proofs.Common.{◌≡◌, ◌∙◌, ℕ, ◌+◌, ◌==◌, nat_lt, refl, sym, ap, subst, inl, inr, ◌⊎◌, Bool, true, false, cond, List, [], ◌∷◌, ◌++◌, map, length, Ok, Some, None, IfSome}
+use Rattle.std.proofs.Common.{◌≡◌, ◌∙◌, ℕ, ◌+◌, ◌==◌, nat_lt, refl, sym, ap, subst, inl, inr, ◌⊎◌, Bool, true, false, cond, List, [], ◌∷◌, ◌++◌, map, length, Ok, Err, Some, None, IfSome, Result}
 use Rattle.std.specs.Prelude.{IsSome}
 use Rattle.std.specs.declared.option.Option.{Option}
 use Rattle.std.specs.Option.{is_some}
@@ -29,12 +29,14 @@ use Rattle.cert_checker.specs.Walks as walks
 use Rattle.cert_checker.proofs.Walked.{passing_is_valid_lem}
 use Rattle.bound_run.specs.declared.bounds.Asked.{Asked}
 use Rattle.bound_run.specs.declared.words.Plan.{Plan}
-use Rattle.bound_run.specs.declared.words.Plan.TheVariants.{Bounds, Check}
+use Rattle.bound_run.specs.declared.words.WordFault.{WordFault}
 use Rattle.bound_run.specs.declared.status.Status.{Status}
 use Rattle.bound_run.specs.declared.status.Status.TheVariants.{Done, Invalid, Words, BadLine, Limit, TraceFault, CertFault, ReportFault, MadeFault, NoMemory}
 use Rattle.bound_run.specs.Made.{RefusesDenominator}
 use Rattle.bound_run.specs.Inputs.{HasDenominator, IsGoodTrace}
-use Rattle.bound_run.specs.Run.{AnswersOf, Answers, AreGoodInputs, BoundsEnd, CheckEnds, Completes, Devices, Explains, RunEnds, asked_for}
+use Rattle.bound_run.specs.Run.{AnswersOf, Answers, AreGoodInputs, BoundsEnd, CheckEnds, Completes, Devices, NoneFails, RunEnds, TaskEnds}
+use Rattle.bound_run.specs.Statuses.{ending_of}
+use Rattle.bound_run.specs.Tasks.{Task, bounds, check, task_of}
 
 -- ---- the walk over a trace that isn't refused
 
@@ -105,7 +107,7 @@ module _ (format : Format) (asked : Asked) (source report made : Device) (good :
   not_past None requests dropped has whole refused known_trace = known_trace
   not_past (Some bytes) requests dropped has whole refused known_trace = has (subst (RefusesDenominator asked) (sym whole.requests) refused)
 
-  bounds_complete : (status : Status) → BoundsEnd format asked source report made status → (status ≡ Done) ⊎ (status ≡ NoMemory)
+  bounds_complete : (status : Status) → BoundsEnd format asked source report made (ending_of status) → (status ≡ Done) ⊎ (status ≡ NoMemory)
   bounds_complete Done e = inl refl
   bounds_complete NoMemory e = inr refl
   bounds_complete (BadLine line kind) e = absurd (not_refused source.before (trace.BadLine line kind) good e.0)
@@ -113,11 +115,11 @@ module _ (format : Format) (asked : Asked) (source report made : Device) (good :
   bounds_complete (Limit TraceBytes) e = absurd (not_refused source.before trace.InputTooLong good e.0)
   bounds_complete (Limit Denominator) e = absurd (not_past source.before e.0.requests e.0.dropped denominator e.0.loaded.read e.0.refused good)
   bounds_complete TraceFault e = absurd (source_works e.0)
-  bounds_complete ReportFault (cert, text, ready, failed, all, prefix) = absurd (report_works failed)
-  bounds_complete MadeFault (cert, text, ready, failed, prefix, line) = absurd (made_works failed)
-  bounds_complete (Invalid line kind) e = absurd e
-  bounds_complete (Words fault) e = absurd e
-  bounds_complete CertFault e = absurd e
+  bounds_complete ReportFault (cert, text, ready, all, failed) = absurd (report_works failed.0)
+  bounds_complete MadeFault (cert, text, ready, failed, line) = absurd (made_works failed.0)
+  bounds_complete (Invalid line kind) e = absurd e.0
+  bounds_complete (Words fault) e = absurd e.0
+  bounds_complete CertFault e = absurd e.0
 
 -- ---- checks
 
@@ -150,26 +152,28 @@ module _ (format : Format) where
 
   module _ (source cert report : Device) (good : IsGoodTrace format source.before) (known_cert : IsSome cert.before)
       (source_works : ¬ (HasFailed source)) (cert_works : ¬ (HasFailed cert)) (report_works : ¬ (HasFailed report)) where
-    check_complete : (status : Status) → CheckEnds format source cert report status → AnswersOf format source.before cert.before status
+    check_complete : (status : Status) → CheckEnds format source cert report (ending_of status) → AnswersOf format source.before cert.before status
     check_complete Done (verdict, dropped, accepted, all) = yes_at source.before cert.before accepted.requests dropped verdict.header accepted.records good known_cert accepted.loaded.read accepted.text accepted.valid
     check_complete (Invalid line kind) e = no_at source.before cert.before line kind good known_cert e.0
     check_complete (BadLine line kind) e = absurd (not_refused_at source.before cert.before (trace.BadLine line kind) good known_cert e.0)
     check_complete (Limit Requests) e = absurd (not_refused_at source.before cert.before trace.TooManyRequests good known_cert e.0)
     check_complete (Limit TraceBytes) e = absurd (not_refused_at source.before cert.before trace.InputTooLong good known_cert e.0)
-    check_complete (Limit Denominator) e = absurd e
+    check_complete (Limit Denominator) e = absurd e.0
     check_complete TraceFault e = absurd (source_works e.0)
     check_complete CertFault e = absurd (cert_works e.0)
-    check_complete ReportFault (verdict, dropped, accepted, failed, prefix) = absurd (report_works failed)
+    check_complete ReportFault (verdict, dropped, accepted, failed) = absurd (report_works failed.0)
     check_complete NoMemory e = free_at source.before cert.before
-    check_complete (Words fault) e = absurd e
-    check_complete MadeFault e = absurd e
+    check_complete (Words fault) e = absurd e.0
+    check_complete MadeFault e = absurd e.0
 
 -- ---- a whole run
 
-pub complete : (words : List (List ℕ)) (d : Devices) (status : Status) → Explains words d status → Completes words d status
-complete words d status ends asked planned good works = at asked (subst (λ r. RunEnds r d status) planned ends) good
-  where
-    at : (asked : Plan) → RunEnds (Ok asked) d status → AreGoodInputs asked d → Answers asked d status
-    at (Bounds format capacity objective mode denominator) e inputs =
-        bounds_complete format (asked_for capacity objective mode denominator) d.trace d.report d.made inputs.0 inputs.1 works.trace works.report works.made status e.0
-    at (Check format) e inputs = check_complete format d.trace d.cert d.report inputs.0 inputs.1 works.trace works.cert works.report status e.0
+-- a task whose inputs are good ends in its answer
+module _ (d : Devices) (status : Status) (works : NoneFails d) where
+  task_complete : (task : Task) → TaskEnds task d (ending_of status) → AreGoodInputs task d → Answers task d status
+  task_complete (bounds format asked) e inputs = bounds_complete format asked d.trace d.report d.made inputs.0 inputs.1 works.trace works.report works.made status e.0
+  task_complete (check format) e inputs = check_complete format d.trace d.cert d.report inputs.0 inputs.1 works.trace works.cert works.report status e.0
+
+pub complete : (read : Result Plan WordFault) (d : Devices) (status : Status) → RunEnds read d status → Completes read d status
+complete (Ok plan) d status ends = λ good works. task_complete d status works (task_of plan) ends good
+complete (Err fault) d status ends = tt

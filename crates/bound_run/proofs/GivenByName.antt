@@ -1,5 +1,5 @@
 -- Operands found by name, and looked at one by one.
-use Rattle.std.proofs.Common.{◌≡◌, ◌∙◌, ℕ, ◌+◌, ◌<◌, ap, sym, refl, arith, Bool, true, false, cond, List, [], ◌∷◌, ◌++◌, take, drop, length, map, get_or, Some, None}
+use Rattle.std.proofs.Common.{◌≡◌, ◌∙◌, ℕ, ◌+◌, ◌<◌, ap, sym, refl, arith, Bool, true, false, cond, List, [], ◌∷◌, ◌++◌, take, drop, length, map, get_or, Some, None, zero-add}
 use Rattle.std.specs.declared.option.Option.{Option}
 use Rattle.std.specs.List.{find, position_from}
 use Rattle.std.specs.Option.{option_map, option_or}
@@ -40,9 +40,12 @@ place_mapped f p at start (x ∷ xs) =
     ∙ choice_mapped (λ n. n + start) (p (f x)) at _ _ (place_mapped f p (at + 1) start xs)
 
 -- the place that the items give to a name is that of the first item of the name
-pub place_given_by : {A : Type 0} (f : A → List ℕ) (name : List ℕ) (items : List A) (found : Option ℕ)
-    → found ≡ position_from (λ x. bytes_eq (name_of (f x)) name) 0 items → place_given name (map f items) ≡ option_map (λ n. n + 4) found
-place_given_by f name items found is = place_mapped f (λ word. bytes_eq (name_of word) name) 0 4 items ∙ ap (option_map (λ n. n + 4)) (sym is)
+pub place_given_by : {A : Type 0} (f : A → List ℕ) (name : List ℕ) (items : List A) (first : ℕ) (found : Option ℕ)
+    → found ≡ position_from (λ x. bytes_eq (name_of (f x)) name) 0 items → place_given first name (map f items) ≡ option_map (λ n. n + first) found
+place_given_by f name items first found is =
+    ap (λ n. position_from (λ word. bytes_eq (name_of word) name) n (map f items)) (sym (zero-add first))
+    ∙ place_mapped f (λ word. bytes_eq (name_of word) name) 0 first items
+    ∙ ap (option_map (λ n. n + first)) (sym is)
 
 -- the operands from one on are refused at that one, or from the next one on
 next_operand : (command : Command) (place at : ℕ) (words : List (List ℕ)) → at < length words

@@ -7,19 +7,19 @@ use Rattle.cache_model.specs.declared.certificates.Header.{Header}
 use Rattle.cache_model.specs.declared.certificates.Record.{Record}
 use Rattle.cache_model.specs.Certificates.{BoundsEveryPolicy, IsValid}
 use Rattle.bound_run.specs.declared.words.Plan.{Plan}
-use Rattle.bound_run.specs.declared.words.Plan.TheVariants.{Bounds, Check}
 use Rattle.bound_run.specs.declared.words.WordFault.{WordFault}
 use Rattle.bound_run.specs.declared.status.Status.{Status}
 use Rattle.bound_run.specs.declared.status.Status.TheVariants.{Done, Words}
 use Rattle.bound_run.specs.Headline.{AreTrueBounds, Headline, Shows}
-use Rattle.bound_run.specs.Run.{Devices, Explains, RunEnds}
-use Rattle.bound_run.specs.Words.{plan}
+use Rattle.bound_run.specs.Run.{Devices, RunEnds, TaskEnds}
+use Rattle.bound_run.specs.Statuses.{done, ending_of}
+use Rattle.bound_run.specs.Tasks.{Task, bounds, check, task_of}
 
 -- a valid certificate has true bounds
 true_bounds : (trace : List Object) (h : Header) (records : List Record) → IsValid trace h records → BoundsEveryPolicy trace h → AreTrueBounds trace h records
-true_bounds trace h records valid bounds = record {
+true_bounds trace h records valid above = record {
   some_capacity = valid.certificate.header.capacity;
-  upper = bounds;
+  upper = above;
   schedule = valid.keeps;
   lower = sym valid.lower;
   equal_values = λ exact. (sym valid.upper, sym valid.flow ∙ sym (valid.exact_values exact));
@@ -29,9 +29,9 @@ true_bounds trace h records valid bounds = record {
 not_done : (fault : WordFault) → Done ≡ Words fault → ⊥
 not_done fault is = cc
 
--- each plan that ends well has shown what it printed
-shown : (asked : Result Plan WordFault) (d : Devices) → RunEnds asked d Done → Shows asked d
-shown (Ok (Bounds format capacity objective mode denominator)) d ((cert, text, ready, certified, printed), source, untouched) =
+-- each task that ends well has shown what it printed
+shown : (task : Task) (d : Devices) → TaskEnds task d done → Shows task d
+shown (bounds format asked) d ((cert, text, ready, certified, printed), source, untouched) =
     let made = ready.texts.made in (
       ready.requests,
       ready.dropped,
@@ -49,7 +49,7 @@ shown (Ok (Bounds format capacity objective mode denominator)) d ((cert, text, r
         equal_sizes = λ size unwindowed same. (made.equal_sizes size unwindowed same).equal ∙ ap (λ n. ready.texts.header.denominator * n) (sym made.valid.lower);
       },
     )
-shown (Ok (Check format)) d ((verdict, dropped, accepted, printed), trace, cert, untouched) = (
+shown (check format) d ((verdict, dropped, accepted, printed), trace, cert, untouched) = (
   accepted.requests,
   dropped,
   accepted.loaded,
@@ -61,7 +61,7 @@ shown (Ok (Check format)) d ((verdict, dropped, accepted, printed), trace, cert,
     bounds = true_bounds accepted.requests verdict.header accepted.records accepted.valid accepted.bounds;
   },
 )
-shown (Err fault) d e = absurd (not_done fault e.0)
 
-pub headlined : (words : List (List ℕ)) (d : Devices) (status : Status) → Explains words d status → Headline words d status
-headlined words d status ends done = shown (plan words) d (subst (λ s. RunEnds (plan words) d s) done ends)
+pub headlined : (read : Result Plan WordFault) (d : Devices) (status : Status) → RunEnds read d status → Headline read d status
+headlined (Ok plan) d status ends = λ is. shown (task_of plan) d (subst (λ s. TaskEnds (task_of plan) d (ending_of s)) is ends)
+headlined (Err fault) d status ends = λ is. not_done fault (sym is ∙ ends.0)

@@ -35,7 +35,7 @@ use Rattle.schedule_round.proofs.EqualSizes.{best_schedule, equal_sizes_whole}
 use Rattle.bound_run.specs.declared.bounds.Asked.{Asked}
 use Rattle.window_bounds.specs.Solutions.{prices_in}
 use Rattle.bound_run.specs.Made.{HasLeastWindows, IsBelowWindows, IsMade, IsNear, IsOfMode, is_unwindowed, records_of, width_of}
-use Rattle.bound_run.specs.Words.{IsModeInRange}
+use Rattle.bound_run.specs.Modes.{IsModeInRange}
 use Rattle.bound_run.proofs.RecordsOf.{length-records, prices_of-records, keeps_of-records, flow_at-unused, flows_of-records, records_in_range}
 use Rattle.bound_run.proofs.Relaxing.{below_windows, flows_each, width_positive}
 

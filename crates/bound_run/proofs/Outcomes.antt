@@ -23,10 +23,10 @@ use Rattle.bound_report.specs.declared.refusal.LimitName.TheVariants.{Requests, 
 use Rattle.bound_report.specs.declared.refusal.Refusal.{Refusal}
 use Rattle.bound_report.specs.declared.refusal.Refusal.TheVariants as refusal
 use Rattle.bound_report.specs.Refusals.{refusal_line}
-use Rattle.bound_run.specs.Statuses.{refusal_of, refusal_of_bounds, status_of}
+use Rattle.bound_run.specs.Statuses.{Ending, done, refused, unreported, ending_of, refusal_of, refusal_of_bounds, status_of}
 use Rattle.bound_run.specs.Inputs.{IsLoaded, IsReady, IsRefused}
 use Rattle.bound_run.specs.Run.{BoundsEnd, CheckEnds}
-use Rattle.bound_run.specs.Parts.{IsVerdictText, RefusesBounds, RefusesCheck, RefusesLoading, WritesOut, WritesReport}
+use Rattle.bound_run.specs.Parts.{IsVerdictText, RefusesBounds, RefusesLoading, WritesOut, WritesReport}
 
 -- where nothing is left to stand in, the source has nothing left
 left_nothing : (held : List ℕ) (left : Option (List ℕ)) → stands_in held left ≡ Some [] → left ≡ Some []
@@ -48,8 +48,8 @@ loaded_all format (Some bytes) after faults_before faults_after requests dropped
 
 refused_all : (format : Format) (before after : Option (List ℕ)) (faults_before faults_after : ℕ) (fault : FaultOfTrace)
     → IfSome (known (fresh format full_limits) before) (λ bytes. (to_come (fresh format full_limits) bytes).refused ≡ Some fault) → IsRefused format (device before after faults_before faults_after) fault
-refused_all format None after faults_before faults_after fault refused = tt
-refused_all format (Some bytes) after faults_before faults_after fault refused = rw (fresh_to_come) at refused
+refused_all format None after faults_before faults_after fault why = tt
+refused_all format (Some bytes) after faults_before faults_after fault why = rw (fresh_to_come) at why
 
 -- why nothing is loaded, as the refusal of a run
 pub not_loaded : (format : Format) (before after : Option (List ℕ)) (faults_before faults_after : ℕ) (fault : FaultOfTrace)
@@ -71,51 +71,43 @@ ready_of format asked d requests dropped cert report loaded texts = record { req
 -- what refuses the bounds of a trace that is loaded
 pub refused_of : (format : Format) (asked : Asked) (d : Device) (requests : List Object) (dropped : ℕ) (fault : BoundsFault)
     → IsLoaded format d requests dropped → FailsBounds asked requests fault → RefusesBounds format asked d (refusal_of_bounds fault)
-refused_of format asked d requests dropped bounds.Denominator loaded refused = inr (refl, record { requests = requests; dropped = dropped; loaded = loaded; refused = refused })
-refused_of format asked d requests dropped bounds.NoMemory loaded refused = inl tt
+refused_of format asked d requests dropped bounds.Denominator loaded why = record { requests = requests; dropped = dropped; loaded = loaded; refused = why }
+refused_of format asked d requests dropped bounds.NoMemory loaded why = tt
+
+-- what refuses the trace refuses its bounds
+pub loading_refuses : (format : Format) (asked : Asked) (d : Device) (why : Refusal) → RefusesLoading format d why → RefusesBounds format asked d why
+loading_refuses format asked d (refusal.Limit Denominator) e = absurd e
+loading_refuses format asked d why e = e
+
+-- a refusal is what its status tells
+pub ending_of-status_of : (why : Refusal) → ending_of (status_of why) ≡ refused why
+ending_of-status_of (refusal.Invalid line kind) = refl
+ending_of-status_of (refusal.Words place kind) = refl
+ending_of-status_of (refusal.BadLine line kind) = refl
+ending_of-status_of (refusal.Limit name) = refl
+ending_of-status_of refusal.TraceFault = refl
+ending_of-status_of refusal.CertFault = refl
+ending_of-status_of refusal.MadeFault = refl
+ending_of-status_of refusal.NoMemory = refl
 
 module _ (format : Format) (asked : Asked) (source report made : Device) where
   -- a run that wrote its bounds, or failed to
-  pub bounds_written : (cert text : List ℕ) (status : Status) → IsReady format asked source cert text → WritesOut report made cert text status → BoundsEnd format asked source report made status
-  bounds_written cert text status ready (inl (made_all, inl (is, report_all))) = subst (BoundsEnd format asked source report made) (sym is) (cert, text, ready, made_all, report_all)
-  bounds_written cert text status ready (inl (made_all, inr (is, failed, prefix))) = subst (BoundsEnd format asked source report made) (sym is) (cert, text, ready, failed, made_all, prefix)
-  bounds_written cert text status ready (inr (is, failed, prefix, line)) = subst (BoundsEnd format asked source report made) (sym is) (cert, text, ready, failed, prefix, line)
+  pub bounds_written : (cert text : List ℕ) (ending : Ending) → IsReady format asked source cert text → WritesOut report made cert text ending → BoundsEnd format asked source report made ending
+  bounds_written cert text done ready (made_all, report_all) = (cert, text, ready, made_all, report_all)
+  bounds_written cert text unreported ready (made_all, report_less) = (cert, text, ready, made_all, report_less)
+  bounds_written cert text (refused refusal.MadeFault) ready (made_less, line) = (cert, text, ready, made_less, line)
+  bounds_written cert text (refused why) ready written = absurd (written.1)
 
   -- a run whose trace or denominator is refused
-  pub bounds_refused : (why : Refusal) → RefusesBounds format asked source why → IsUntouched made → Gets report (refusal_line why) → BoundsEnd format asked source report made (status_of why)
-  bounds_refused why (inl loading) untouched line = at why loading line
-    where
-      at : (r : Refusal) → RefusesLoading format source r → Gets report (refusal_line r) → BoundsEnd format asked source report made (status_of r)
-      at (refusal.BadLine line kind) e t = (e, t, untouched)
-      at (refusal.Limit Requests) e t = (e, t, untouched)
-      at (refusal.Limit TraceBytes) e t = (e, t, untouched)
-      at (refusal.Limit Denominator) e t = absurd e
-      at refusal.TraceFault e t = (e, t, untouched)
-      at refusal.NoMemory e t = (t, untouched)
-      at (refusal.Invalid line kind) e t = absurd e
-      at (refusal.Words place kind) e t = absurd e
-      at refusal.CertFault e t = absurd e
-      at refusal.MadeFault e t = absurd e
-  bounds_refused why (inr (is, past)) untouched line =
-      subst (λ r. BoundsEnd format asked source report made (status_of r)) (sym is) (past, subst (λ r. Gets report (refusal_line r)) is line, untouched)
+  pub bounds_refused : (why : Refusal) → RefusesBounds format asked source why → IsUntouched made → Gets report (refusal_line why) → BoundsEnd format asked source report made (refused why)
+  bounds_refused refusal.MadeFault e untouched line = absurd e
+  bounds_refused why e untouched line = (e, line, untouched)
 
 -- ---- checks
 
 module _ (format : Format) (source cert report : Device) where
   -- a check that said yes, or failed to
-  pub check_written : (text : List ℕ) (status : Status) → IsVerdictText format source cert text → WritesReport report text status → CheckEnds format source cert report status
-  check_written text status yes_text (inl (is, all)) = subst (CheckEnds format source cert report) (sym is) (yes_text.verdict, yes_text.dropped, yes_text.accepted, rw yes_text.text_is at all)
-  check_written text status yes_text (inr (is, failed, prefix)) = subst (CheckEnds format source cert report) (sym is) (yes_text.verdict, yes_text.dropped, yes_text.accepted, failed, rw yes_text.text_is at prefix)
-
-  -- a check that says no, or that can't be made
-  pub check_refused : (why : Refusal) → RefusesCheck format source cert why → Gets report (refusal_line why) → CheckEnds format source cert report (status_of why)
-  check_refused (refusal.Invalid line kind) e t = (e, t)
-  check_refused (refusal.BadLine line kind) e t = (e, t)
-  check_refused (refusal.Limit Requests) e t = (e, t)
-  check_refused (refusal.Limit TraceBytes) e t = (e, t)
-  check_refused (refusal.Limit Denominator) e t = absurd e
-  check_refused refusal.TraceFault e t = (e, t)
-  check_refused refusal.CertFault e t = (e, t)
-  check_refused refusal.NoMemory e t = t
-  check_refused (refusal.Words place kind) e t = absurd e
-  check_refused refusal.MadeFault e t = absurd e
+  pub check_written : (text : List ℕ) (ending : Ending) → IsVerdictText format source cert text → WritesReport report text ending → CheckEnds format source cert report ending
+  check_written text done yes_text all = (yes_text.verdict, yes_text.dropped, yes_text.accepted, rw yes_text.text_is at all)
+  check_written text unreported yes_text less = (yes_text.verdict, yes_text.dropped, yes_text.accepted, rw yes_text.text_is at less)
+  check_written text (refused why) yes_text written = absurd written

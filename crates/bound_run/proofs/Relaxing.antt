@@ -33,7 +33,7 @@ use Rattle.window_bounds.specs.Solutions.{AreSolutions, value_of_windows}
 use Rattle.window_bounds.proofs.Results.{above_of}
 use Rattle.cache_model.specs.declared.reports.Window.TheVariants.{Steps, All as Whole}
 use Rattle.bound_run.specs.Made.{width_of}
-use Rattle.bound_run.specs.Words.{IsModeInRange}
+use Rattle.bound_run.specs.Modes.{IsModeInRange}
 
 -- the whole weight at its cost, rounded up, is at most the gain and the weight
 ceil_below : (n w : ℕ) → 0 < w → w * (n / w + min 1 (n % w)) ≤ n + w

@@ -1,5 +1,5 @@
 -- The headline: what is known of the numbers that a run printed, in the words of the trace and its plays alone.
-use Rattle.std.specs.Prelude.{◌≡◌, ◌↔◌, ℕ, ◌*◌, ◌^◌, ◌≤◌, IsTrue, IfSome, List, length, All, Result, Ok, Err}
+use Rattle.std.specs.Prelude.{◌≡◌, ◌≢◌, ◌↔◌, ℕ, ◌*◌, ◌^◌, ◌≤◌, IsTrue, IfSome, List, length, All, Result, Ok, Err}
 use Rattle.std.specs.Io.KnownBytes.{Appends}
 use Rattle.bound_io.specs.Devices.{Device}
 use Rattle.cache_model.specs.declared.objects.Object.{Object}
@@ -14,14 +14,13 @@ use Rattle.cert_checker.specs.declared.verdict.Verdict.{Verdict}
 use Rattle.bound_report.specs.Verdicts.{verdict_text}
 use Rattle.bound_run.specs.declared.bounds.Asked.{Asked}
 use Rattle.bound_run.specs.declared.words.Plan.{Plan}
-use Rattle.bound_run.specs.declared.words.Plan.TheVariants.{Bounds, Check}
 use Rattle.bound_run.specs.declared.words.WordFault.{WordFault}
 use Rattle.bound_run.specs.declared.status.Status.{Status}
 use Rattle.bound_run.specs.declared.status.Status.TheVariants.{Done}
 use Rattle.bound_run.specs.Inputs.{IsLoaded}
 use Rattle.bound_run.specs.Made.{facts_of, is_unwindowed}
-use Rattle.bound_run.specs.Run.{Devices, asked_for}
-use Rattle.bound_run.specs.Words.{plan}
+use Rattle.bound_run.specs.Run.{Devices}
+use Rattle.bound_run.specs.Tasks.{Task, bounds, check, task_of}
 
 -- the bounds of a certificate are true of the trace: no allowed contents score more than the upper one, the keeps are allowed contents that scores the lower one, and in the form exact prices and flows have the upper one as their value
 pub record AreTrueBounds (trace : List Object) (h : Header) (records : List Record) : Type 0 where
@@ -52,17 +51,15 @@ pub record ShowsCheck (trace : List Object) (dropped : ℕ) (cert report : Devic
   pub certified : IfSome cert.before (λ text. text ≡ cert_text verdict.header records)
   pub bounds : AreTrueBounds trace verdict.header records
 
--- all that the trace source had left was read, and the numbers that a run printed are true of it
-abbrev pub Shows : Result Plan WordFault → Devices → Type 0
-Shows (Ok (Bounds format capacity objective mode denominator)) d =
-    (trace : List Object) × (dropped : ℕ) × IsLoaded format d.trace trace dropped × ShowsBounds (asked_for capacity objective mode denominator) trace dropped d.report d.made
-Shows (Ok (Check format)) d =
-    (trace : List Object) × (dropped : ℕ) × IsLoaded format d.trace trace dropped × ShowsCheck trace dropped d.cert d.report
-Shows (Err fault) d = ⊥
+-- all that the trace source had left was read, and the numbers that a task printed are true of it
+abbrev pub Shows : Task → Devices → Type 0
+Shows (bounds format asked) d = (trace : List Object) × (dropped : ℕ) × IsLoaded format d.trace trace dropped × ShowsBounds asked trace dropped d.report d.made
+Shows (check format) d = (trace : List Object) × (dropped : ℕ) × IsLoaded format d.trace trace dropped × ShowsCheck trace dropped d.cert d.report
 
 -- Whatever trace is read and whatever the capacity, no allowed sequence of cache contents scores more than the printed
 -- upper bound, the certified schedule is allowed and scores exactly the lower bound, exact-form prices and flows have
 -- equal value, equal sizes make both bounds one under an unwindowed flow, and the checker's yes on any file implies the
 -- bounds it prints.
-abbrev pub Headline : List (List ℕ) → Devices → Status → Type 0
-Headline words d status = status ≡ Done → Shows (plan words) d
+abbrev pub Headline : Result Plan WordFault → Devices → Status → Type 0
+Headline (Ok plan) d status = status ≡ Done → Shows (task_of plan) d
+Headline (Err fault) d status = status ≢ Done

@@ -1,3 +1,5 @@
+pub mod Modes
+pub mod Tasks
 pub mod Words
 pub mod Statuses
 pub mod Made

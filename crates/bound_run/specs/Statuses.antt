@@ -25,6 +25,25 @@ code_of ReportFault = 7
 code_of MadeFault = 8
 code_of NoMemory = 9
 
+-- how a run ended: all was done, it was refused, or its report could not be written
+pub data Ending : Type 0 where
+  done : Ending
+  refused : Refusal → Ending
+  unreported : Ending
+
+-- the ending that a status tells
+abbrev pub ending_of : Status → Ending
+ending_of Done = done
+ending_of (Invalid line kind) = refused (refusal.Invalid line kind)
+ending_of (Words fault) = refused (refusal.Words fault.place fault.kind)
+ending_of (BadLine line kind) = refused (refusal.BadLine line kind)
+ending_of (Limit name) = refused (refusal.Limit name)
+ending_of TraceFault = refused refusal.TraceFault
+ending_of CertFault = refused refusal.CertFault
+ending_of ReportFault = unreported
+ending_of MadeFault = refused refusal.MadeFault
+ending_of NoMemory = refused refusal.NoMemory
+
 -- the status that a refusal ends in
 abbrev pub status_of : Refusal → Status
 status_of (refusal.Invalid line kind) = Invalid line kind

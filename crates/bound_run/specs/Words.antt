@@ -1,5 +1,5 @@
 -- The words of the command line.
-use Rattle.std.specs.Prelude.{ℕ, ◌^◌, ◌+◌, ◌≤◌, List, [], ◌∷◌, ◌++◌, length, ◌==◌, nat_le, nat_lt, Bool, false, not, ◌&&◌, ◌||◌, if◌then◌else◌, codes, slice_get, Result, Ok, Err, None, Some, unwrap_or, option_and_then, find}
+use Rattle.std.specs.Prelude.{ℕ, zero, suc, ◌^◌, ◌+◌, List, [], ◌∷◌, ◌++◌, drop, length, ◌==◌, nat_le, nat_lt, Bool, false, not, ◌&&◌, ◌||◌, if◌then◌else◌, codes, slice_get, Result, Ok, Err, None, Some, unwrap_or, option_and_then, find}
 use Rattle.std.specs.declared.option.Option.{Option}
 use Rattle.std.specs.List.{list_any, before_first, after_first, position_from}
 use Rattle.std.specs.Option.{is_some, option_map, option_or}
@@ -12,15 +12,14 @@ use Rattle.cache_model.specs.declared.reports.Mode.{Mode}
 use Rattle.cache_model.specs.declared.reports.Mode.TheVariants.{Flow, Constant, Infinite}
 use Rattle.cache_model.specs.declared.reports.Window.{Window}
 use Rattle.cache_model.specs.declared.reports.Window.TheVariants.{Steps, All as Whole}
-use Rattle.relaxation.specs.Denominators.{IsChoice}
 use Rattle.relaxation.specs.declared.denominators.DenominatorChoice.{DenominatorChoice}
 use Rattle.relaxation.specs.declared.denominators.DenominatorChoice.TheVariants.{Auto, Exact, Given}
-use Rattle.trace_any.specs.Readings.{IsFormat}
 use Rattle.trace_any.specs.declared.format.Format.{Format}
 use Rattle.trace_any.specs.declared.format.Format.TheVariants.{Webcache, Arc, Msr}
 use Rattle.bound_run.specs.declared.words.Plan.{Plan}
 use Rattle.bound_run.specs.declared.words.Plan.TheVariants.{Bounds, Check}
 use Rattle.bound_run.specs.declared.operands.Command.{Command}
+use Rattle.bound_run.specs.declared.operands.PathPlaces.{PathPlaces}
 use Rattle.bound_run.specs.declared.operands.Command.TheVariants as command
 use Rattle.bound_run.specs.declared.words.WordFault.{WordFault}
 use Rattle.bound_report.specs.declared.refusal.WordKind.{WordKind}
@@ -58,10 +57,23 @@ abbrev pub path : ℕ → Option (List ℕ) → Result (Unit {0}) WordFault
 path place None = Err (fault place Missing)
 path place (Some word) = if length word == 0 then Err (fault place BadValue) else Ok tt
 
--- the operands are the words after the command and its two paths
-abbrev pub operands_of : List (List ℕ) → List (List ℕ)
-operands_of (command ∷ trace ∷ cert ∷ operands) = operands
-operands_of words = []
+-- where the paths of a command stand among its words, of which the command is word 0
+abbrev pub places_of : Command → PathPlaces
+places_of command.Bounds = record { count = 2; trace = Some 1; cert = Some 2; made = Some 2 }
+places_of command.Check = record { count = 2; trace = Some 1; cert = Some 2; made = None }
+
+-- so many words from word `at` on are paths
+abbrev pub paths : ℕ → ℕ → List (List ℕ) → Result (Unit {0}) WordFault
+paths at zero words = Ok tt
+paths at (suc count) words = path (at + 1) (slice_get words at) >>= (λ named. paths (at + 1) count words)
+
+-- the first operand is the word after the command and its paths
+abbrev pub operands_at : Command → ℕ
+operands_at command = (places_of command).count + 1
+
+-- the operands of a command
+abbrev pub operands_of : Command → List (List ℕ) → List (List ℕ)
+operands_of command words = drop (operands_at command) words
 
 -- whether a word has a `=`
 abbrev pub has_equals : List ℕ → Bool
@@ -132,13 +144,6 @@ usual_denominator (Flow window) = Auto
 usual_denominator Constant = Given (2 ^ 48)
 usual_denominator Infinite = Given 1
 
--- a window has a step, and at most 2^25 steps
-abbrev pub IsModeInRange : Mode → Type 0
-IsModeInRange (Flow Whole) = Unit {0}
-IsModeInRange (Flow (Steps width)) = (1 ≤ width) × (width ≤ 2 ^ 25)
-IsModeInRange Constant = Unit {0}
-IsModeInRange Infinite = Unit {0}
-
 -- whether an operand of this name says how a trace is read
 abbrev pub names_trace : List ℕ → Bool
 names_trace name = bytes_eq name (codes "format") || bytes_eq name (codes "block")
@@ -185,13 +190,13 @@ abbrev pub operands_fault : Command → ℕ → List (List ℕ) → List (List �
 operands_fault command place before [] = None
 operands_fault command place before (word ∷ words) = option_or (option_map (fault place) (operand_fault command before word)) (operands_fault command (place + 1) (before ++ word ∷ []) words)
 
--- the place of the operand of this name, where the first operand is at place 4
-abbrev pub place_given : List ℕ → List (List ℕ) → Option ℕ
-place_given name operands = position_from (λ word. bytes_eq (name_of word) name) 4 operands
+-- the place of the operand of this name, where the first operand is at this place
+abbrev pub place_given : ℕ → List ℕ → List (List ℕ) → Option ℕ
+place_given first name operands = position_from (λ word. bytes_eq (name_of word) name) first operands
 
 -- the operand of this name, if it is given, is unknown
-abbrev pub unknown_operand : List ℕ → List (List ℕ) → Option WordFault
-unknown_operand name operands = option_map (λ place. fault place Unknown) (place_given name operands)
+abbrev pub unknown_operand : ℕ → List ℕ → List (List ℕ) → Option WordFault
+unknown_operand first name operands = option_map (λ place. fault place Unknown) (place_given first name operands)
 
 -- whether a form of the trace is given that takes no block
 abbrev pub takes_no_block : Option (List ℕ) → Bool
@@ -199,8 +204,8 @@ takes_no_block None = false
 takes_no_block (Some format) = not (bytes_eq format (codes "msr"))
 
 -- a block is unknown beside a form of the trace that takes none
-abbrev pub block_fault : List (List ℕ) → Option WordFault
-block_fault operands = if takes_no_block (value_given (codes "format") operands) then unknown_operand (codes "block") operands else None
+abbrev pub block_fault : ℕ → List (List ℕ) → Option WordFault
+block_fault first operands = if takes_no_block (value_given (codes "format") operands) then unknown_operand first (codes "block") operands else None
 
 -- whether a mode is given that takes no window
 abbrev pub takes_no_window : Option (List ℕ) → Bool
@@ -208,8 +213,8 @@ takes_no_window None = false
 takes_no_window (Some mode) = not (bytes_eq mode (codes "flow"))
 
 -- a window is unknown beside a mode that takes none
-abbrev pub window_fault : List (List ℕ) → Option WordFault
-window_fault operands = if takes_no_window (value_given (codes "mode") operands) then unknown_operand (codes "window") operands else None
+abbrev pub window_fault : ℕ → List (List ℕ) → Option WordFault
+window_fault first operands = if takes_no_window (value_given (codes "mode") operands) then unknown_operand first (codes "window") operands else None
 
 -- the fault at the lesser place
 abbrev pub earlier : Option WordFault → Option WordFault → Option WordFault
@@ -267,65 +272,64 @@ abbrev pub is_dash : Option (List ℕ) → Bool
 is_dash None = false
 is_dash (Some word) = bytes_eq word (codes "-")
 
--- trace and certificate can't both be standard input
-abbrev pub inputs_fault : List (List ℕ) → Option WordFault
-inputs_fault words = if is_dash (slice_get words 1) && is_dash (slice_get words 2) then Some (fault 3 BadValue) else None
+-- trace and certificate, which stand at these words, can't both be standard input
+abbrev pub inputs_fault : Option ℕ → Option ℕ → List (List ℕ) → Option WordFault
+inputs_fault (Some trace) (Some cert) words = if is_dash (slice_get words trace) && is_dash (slice_get words cert) then Some (fault (cert + 1) BadValue) else None
+inputs_fault trace cert words = None
 
 -- the plan of a check, where the operands are accepted
-abbrev pub check_plan : List (List ℕ) → Result Plan WordFault
-check_plan words = do
-  format ← required (length words + 1) (format_given (operands_of words))
-  apart ← passed (inputs_fault words)
+abbrev pub check_plan : PathPlaces → List (List ℕ) → List (List ℕ) → Result Plan WordFault
+check_plan places words operands = do
+  format ← required (length words + 1) (format_given operands)
+  apart ← passed (inputs_fault places.trace places.cert words)
   Ok (Check format)
 
 -- the plan of a command, where the operands are accepted
-abbrev pub plan_of_command : Command → List (List ℕ) → Result Plan WordFault
-plan_of_command command.Bounds words = bounds_plan (length words + 1) (operands_of words)
-plan_of_command command.Check words = check_plan words
+abbrev pub plan_of_command : Command → List (List ℕ) → List (List ℕ) → Result Plan WordFault
+plan_of_command command.Bounds words operands = bounds_plan (length words + 1) operands
+plan_of_command command.Check words operands = check_plan (places_of command.Check) words operands
+
+-- what operands ask for that are the words of a command from this place on, or the first fault in them
+abbrev pub plan_of_operands : Command → ℕ → List (List ℕ) → List (List ℕ) → Result Plan WordFault
+plan_of_operands asked first words operands = do
+  accepted ← passed (operands_fault asked first [] operands)
+  fitting ← passed (earlier (block_fault first operands) (window_fault first operands))
+  plan_of_command asked words operands
 
 -- what the words ask for, or the first fault in them
 unfoldable pub plan : List (List ℕ) → Result Plan WordFault
 plan words = do
   asked ← command_of (slice_get words 0)
-  trace ← path 2 (slice_get words 1)
-  cert ← path 3 (slice_get words 2)
-  accepted ← passed (operands_fault asked 4 [] (operands_of words))
-  fitting ← passed (earlier (block_fault (operands_of words)) (window_fault (operands_of words)))
-  plan_of_command asked words
-
--- the form of the trace, the capacity and the denominator are in their ranges
-abbrev pub IsPlanInRange : Plan → Type 0
-IsPlanInRange (Bounds format capacity objective mode denominator) = IsFormat format × (1 ≤ capacity) × (capacity ≤ 2 ^ 56) × IsModeInRange mode × IsChoice denominator
-IsPlanInRange (Check format) = IsFormat format
+  named ← paths 1 (places_of asked).count words
+  plan_of_operands asked (operands_at asked + 1) words (operands_of asked words)
 
 -- the word, or a dash where there is none
 abbrev pub word_or_dash : Option (List ℕ) → List ℕ
 word_or_dash (Some word) = word
 word_or_dash None = codes "-"
 
--- the word, where the words begin with a command
-abbrev pub path_of : Option Command → List ℕ → List ℕ
-path_of None word = codes "-"
-path_of (Some command) word = word
+-- where the paths stand, if the words begin with a command
+abbrev pub places_in : Option Command → PathPlaces
+places_in None = record { count = 0; trace = None; cert = None; made = None }
+places_in (Some command) = places_of command
 
--- the word, where the words begin with the command that makes a certificate
-abbrev pub made_path_of : Option Command → List ℕ → List ℕ
-made_path_of None word = codes "-"
-made_path_of (Some command.Bounds) word = word
-made_path_of (Some command.Check) word = codes "-"
+-- the path at a word, or a dash where the command has no such path
+abbrev pub path_at : Option ℕ → List (List ℕ) → List ℕ
+path_at None words = codes "-"
+path_at (Some at) words = word_or_dash (slice_get words at)
 
--- the command that the words begin with
-abbrev pub command_in : List (List ℕ) → Option Command
-command_in words = command_named (word_or_dash (slice_get words 0))
+-- where the paths of the words stand
+abbrev pub places_named : List (List ℕ) → PathPlaces
+places_named words = places_in (command_named (word_or_dash (slice_get words 0)))
 
 -- the path of the trace
 abbrev pub trace_path : List (List ℕ) → List ℕ
-trace_path words = path_of (command_in words) (word_or_dash (slice_get words 1))
+trace_path words = path_at (places_named words).trace words
 
 -- the path of the certificate that is read
 abbrev pub cert_path : List (List ℕ) → List ℕ
-cert_path words = path_of (command_in words) (word_or_dash (slice_get words 2))
+cert_path words = path_at (places_named words).cert words
 
 -- the path of the certificate that is made
 abbrev pub made_path : List (List ℕ) → List ℕ
-made_path words = made_path_of (command_in words) (word_or_dash (slice_get words 2))
+made_path words = path_at (places_named words).made words

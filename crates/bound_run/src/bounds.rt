@@ -18,7 +18,7 @@ ghost use Rattle.schedule_round.specs.Laws.{full_flags};
 ghost use Rattle.bound_run.specs.BoundsFaults.{FailsBounds};
 ghost use Rattle.bound_run.specs.Made.{AreTexts, IsMade, is_unwindowed, record_of, records_of};
 ghost use Rattle.bound_run.specs.Records.{HasEach, records_in};
-ghost use Rattle.bound_run.specs.Words.{IsModeInRange};
+ghost use Rattle.bound_run.specs.Modes.{IsModeInRange};
 
 use crate::relaxed::{Relaxed, Scale, relax, width_of};
 use bound_base::NoMemory;

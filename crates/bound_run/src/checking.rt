@@ -1,6 +1,6 @@
 //! Whether a certificate is valid for a trace, and what is said of it.
 ghost use Rattle.std.specs.Prelude.{◌≡◌, IfOk, IfErr};
-ghost use Rattle.bound_io.specs.Devices.{device};
+ghost use Rattle.bound_io.specs.Devices.{seen};
 ghost use Rattle.bound_io.specs.Reading.{LosesPrefix};
 ghost use Rattle.cert_format.specs.Readers.{fresh as first_record};
 ghost use Rattle.trace_any.specs.Readers.{fresh as first_request};
@@ -25,8 +25,8 @@ fn verdict_with<T: Source, Q: Source>(
 ) -> Result<Vec<u8>, Refusal>
     requires requests { requests.old ≡ first_request requests.old.format full_limits }
     requires records { records.old ≡ first_record }
-    ensures yes_text { IfOk result (λ text. IsVerdictText requests.old.format (device (T.left trace.old) (T.left trace.new) (T.faults trace.old) (T.faults trace.new)) (device (Q.left cert.old) (Q.left cert.new) (Q.faults cert.old) (Q.faults cert.new)) text.items) }
-    ensures refused { IfErr result (RefusesCheck requests.old.format (device (T.left trace.old) (T.left trace.new) (T.faults trace.old) (T.faults trace.new)) (device (Q.left cert.old) (Q.left cert.new) (Q.faults cert.old) (Q.faults cert.new))) }
+    ensures yes_text { IfOk result (λ text. IsVerdictText requests.old.format (seen T.left T.faults trace.old trace.new) (seen Q.left Q.faults cert.old cert.new) text.items) }
+    ensures refused { IfErr result (RefusesCheck requests.old.format (seen T.left T.faults trace.old trace.new) (seen Q.left Q.faults cert.old cert.new)) }
     ensures trace_source { LosesPrefix (T.left trace.old) (T.left trace.new) }
     ensures cert_source { LosesPrefix (Q.left cert.old) (Q.left cert.new) }
 {
@@ -47,8 +47,8 @@ fn verdict_by<T: Source, Q: Source>(
 ) -> Result<Vec<u8>, Refusal>
     requires format { IsFormat format }
     requires records { records.old ≡ first_record }
-    ensures yes_text { IfOk result (λ text. IsVerdictText format (device (T.left trace.old) (T.left trace.new) (T.faults trace.old) (T.faults trace.new)) (device (Q.left cert.old) (Q.left cert.new) (Q.faults cert.old) (Q.faults cert.new)) text.items) }
-    ensures refused { IfErr result (RefusesCheck format (device (T.left trace.old) (T.left trace.new) (T.faults trace.old) (T.faults trace.new)) (device (Q.left cert.old) (Q.left cert.new) (Q.faults cert.old) (Q.faults cert.new))) }
+    ensures yes_text { IfOk result (λ text. IsVerdictText format (seen T.left T.faults trace.old trace.new) (seen Q.left Q.faults cert.old cert.new) text.items) }
+    ensures refused { IfErr result (RefusesCheck format (seen T.left T.faults trace.old trace.new) (seen Q.left Q.faults cert.old cert.new)) }
     ensures trace_source { LosesPrefix (T.left trace.old) (T.left trace.new) }
     ensures cert_source { LosesPrefix (Q.left cert.old) (Q.left cert.new) }
 {
@@ -64,8 +64,8 @@ pub fn verdict_of<T: Source, Q: Source>(
     cert: &mut Q,
 ) -> Result<Vec<u8>, Refusal>
     requires { IsFormat format }
-    ensures yes_text { IfOk result (λ text. IsVerdictText format (device (T.left trace.old) (T.left trace.new) (T.faults trace.old) (T.faults trace.new)) (device (Q.left cert.old) (Q.left cert.new) (Q.faults cert.old) (Q.faults cert.new)) text.items) }
-    ensures refused { IfErr result (RefusesCheck format (device (T.left trace.old) (T.left trace.new) (T.faults trace.old) (T.faults trace.new)) (device (Q.left cert.old) (Q.left cert.new) (Q.faults cert.old) (Q.faults cert.new))) }
+    ensures yes_text { IfOk result (λ text. IsVerdictText format (seen T.left T.faults trace.old trace.new) (seen Q.left Q.faults cert.old cert.new) text.items) }
+    ensures refused { IfErr result (RefusesCheck format (seen T.left T.faults trace.old trace.new) (seen Q.left Q.faults cert.old cert.new)) }
     ensures trace_source { LosesPrefix (T.left trace.old) (T.left trace.new) }
     ensures cert_source { LosesPrefix (Q.left cert.old) (Q.left cert.new) }
 {

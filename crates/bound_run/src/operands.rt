@@ -4,7 +4,8 @@ ghost use Rattle.std.specs.Option.{option_copied};
 ghost use Rattle.std.specs.Str.{bytes_eq};
 ghost use Rattle.relaxation.specs.Denominators.{IsChoice};
 ghost use Rattle.trace_any.specs.Readings.{IsFormat};
-ghost use Rattle.bound_run.specs.Words.{IsModeInRange, block_given, block_of, capacity_given, capacity_of, denominator_given, denominator_of, format_given, format_of, has_equals, has_operand, is_value, mode_given, mode_of, name_of, names_bounds, names_trace, number_to, objective_given, objective_of, place_given, usual_denominator, value_given, value_of, window_given, window_of};
+ghost use Rattle.bound_run.specs.Modes.{IsModeInRange};
+ghost use Rattle.bound_run.specs.Words.{operands_at, places_of, block_given, block_of, capacity_given, capacity_of, denominator_given, denominator_of, format_given, format_of, has_equals, has_operand, is_value, mode_given, mode_of, name_of, names_bounds, names_trace, number_to, objective_given, objective_of, place_given, usual_denominator, value_given, value_of, window_given, window_of};
 ghost use Rattle.cache_model.specs.declared.reports.Mode.TheVariants.{Flow};
 
 use bound_base::read_u64;
@@ -22,8 +23,39 @@ pub enum Command {
     Check,
 }
 
-/// The words before the operands: the command and its two paths.
-pub(crate) const OPERANDS_AT: usize = 3;
+/// Where the paths of a command stand among its words, of which the command is word 0, and how many there are.
+#[derive(Clone, Copy)]
+pub struct PathPlaces {
+    pub count: usize,
+    pub trace: Option<usize>,
+    pub cert: Option<usize>,
+    pub made: Option<usize>,
+}
+
+impl Command {
+    /// Where its paths stand. The certificate of bounds is made, and has the path of one that is read as well.
+    pub(crate) fn places(self) -> PathPlaces
+        ensures { result ≡ places_of self }
+    {
+        PathPlaces {
+            count: 2,
+            trace: Some(1),
+            cert: Some(2),
+            made: match self {
+                Command::Bounds => Some(2),
+                Command::Check => None,
+            },
+        }
+    }
+
+    /// Which word is the first operand.
+    pub(crate) fn operands_at(self) -> usize
+        ensures value { result ≡ operands_at self }
+        ensures few { result ≤ 9 }
+    {
+        self.places().count + 1
+    }
+}
 
 // The largest capacity, in bytes.
 const MOST_CAPACITY: u64 = 1 << 56;
@@ -230,14 +262,15 @@ pub(crate) fn value_given<'a>(name: &str, operands: &'a [String]) -> Option<&'a 
     Some(value_of(word.as_str()))
 }
 
-/// The place of the operand of a name.
-pub(crate) fn place_given(name: &str, operands: &[String]) -> Option<u64>
-    ensures { result ≡ place_given name.now (map string_bytes operands.now) }
+/// The place of the operand of a name, where the first operand is at a place.
+pub(crate) fn place_given(first: u64, name: &str, operands: &[String]) -> Option<u64>
+    requires { first ≤ 10 }
+    ensures { result ≡ place_given first name.now (map string_bytes operands.now) }
 {
     let at = operands
         .iter()
         .position(|word| is(name_of(word.as_str()), name))?;
-    Some((at + OPERANDS_AT) as u64 + 1)
+    Some(at as u64 + first)
 }
 
 fn block_given(operands: &[String]) -> u64

@@ -6,7 +6,7 @@ ghost use Rattle.constant_price.specs.Constants.{constant_prices};
 ghost use Rattle.cache_model.specs.declared.reports.Mode.TheVariants.{Flow};
 ghost use Rattle.relaxation.specs.Prices.{most_paid};
 ghost use Rattle.bound_run.specs.Made.{IsOfMode, width_of};
-ghost use Rattle.bound_run.specs.Words.{IsModeInRange};
+ghost use Rattle.bound_run.specs.Modes.{IsModeInRange};
 
 use bound_base::NoMemory;
 use cache_model::{Mode, Window};

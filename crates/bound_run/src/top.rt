@@ -1,6 +1,6 @@
 //! All that the program does, over any sources and sinks.
 ghost use Rattle.std.specs.Prelude.{◌≡◌, ◌≤◌, ◌^◌, map, string_bytes, Result, IfOk, IfErr};
-ghost use Rattle.bound_io.specs.Devices.{Gets, device};
+ghost use Rattle.bound_io.specs.Devices.{Gets, seen};
 ghost use Rattle.bound_io.specs.Reading.{LosesPrefix};
 ghost use Rattle.trace_any.specs.Readings.{IsFormat};
 ghost use Rattle.relaxation.specs.Denominators.{IsChoice};
@@ -8,9 +8,11 @@ ghost use Rattle.bound_report.specs.Refusals.{refusal_line};
 ghost use Rattle.bound_run.specs.Headline.{Headline};
 ghost use Rattle.bound_run.specs.Inputs.{IsLoaded, IsReady};
 ghost use Rattle.bound_run.specs.Parts.{RefusesBounds, RefusesLoading, WritesOut, WritesReport};
-ghost use Rattle.bound_run.specs.Run.{BoundsEnd, CheckEnds, Completes, Explains, RunEnds, devices};
-ghost use Rattle.bound_run.specs.Statuses.{status_of};
-ghost use Rattle.bound_run.specs.Words.{IsModeInRange, IsPlanInRange};
+ghost use Rattle.bound_run.specs.Run.{BoundsEnd, CheckEnds, Completes, RunEnds, devices};
+ghost use Rattle.bound_run.specs.Statuses.{ending_of, status_of};
+ghost use Rattle.bound_run.specs.Modes.{IsModeInRange};
+ghost use Rattle.bound_run.specs.Tasks.{IsPlanInRange};
+ghost use Rattle.bound_run.specs.Words.{plan};
 
 use crate::bounds::{Asked, Texts, texts_of};
 use crate::checking::verdict_of;
@@ -29,8 +31,8 @@ fn load_all<T: Source>(
     trace: &mut T,
 ) -> Result<(Trace, u64), Refusal>
     requires { IsFormat format }
-    ensures loaded { IfOk result (λ read. IsLoaded format (device (T.left trace.old) (T.left trace.new) (T.faults trace.old) (T.faults trace.new)) read.0 read.1) }
-    ensures refused { IfErr result (RefusesLoading format (device (T.left trace.old) (T.left trace.new) (T.faults trace.old) (T.faults trace.new))) }
+    ensures loaded { IfOk result (λ read. IsLoaded format (seen T.left T.faults trace.old trace.new) read.0 read.1) }
+    ensures refused { IfErr result (RefusesLoading format (seen T.left T.faults trace.old trace.new)) }
     ensures source { LosesPrefix (T.left trace.old) (T.left trace.new) }
 {
     let read = {
@@ -54,8 +56,8 @@ fn prepare<T: Source>(
     requires capacity { (1 ≤ asked.now.capacity) × (asked.now.capacity ≤ 2 ^ 56) }
     requires mode { IsModeInRange asked.now.mode }
     requires choice { IsChoice asked.now.denominator }
-    ensures ready { IfOk result (λ texts. IsReady format asked.now (device (T.left trace.old) (T.left trace.new) (T.faults trace.old) (T.faults trace.new)) texts.cert.items texts.report.items) }
-    ensures refused { IfErr result (RefusesBounds format asked.now (device (T.left trace.old) (T.left trace.new) (T.faults trace.old) (T.faults trace.new))) }
+    ensures ready { IfOk result (λ texts. IsReady format asked.now (seen T.left T.faults trace.old trace.new) texts.cert.items texts.report.items) }
+    ensures refused { IfErr result (RefusesBounds format asked.now (seen T.left T.faults trace.old trace.new)) }
     ensures source { LosesPrefix (T.left trace.old) (T.left trace.new) }
 {
     let texts = {
@@ -68,14 +70,14 @@ fn prepare<T: Source>(
 // Writes the line that tells why the run stopped, as far as the report takes it.
 fn refuse<R: Sink>(report: &mut R, refusal: Refusal) -> Status
     ensures status { result ≡ status_of refusal }
-    ensures reported { Gets (device (R.written report.old) (R.written report.new) (R.faults report.old) (R.faults report.new)) (refusal_line refusal) }
+    ensures reported { Gets (seen R.written R.faults report.old report.new) (refusal_line refusal) }
 {
     let _ = write_all(report, refusal_text(&refusal).as_bytes());
     Status::from(refusal)
 }
 
 fn write_report<R: Sink>(report: &mut R, text: &[u8]) -> Status
-    ensures { WritesReport (device (R.written report.old) (R.written report.new) (R.faults report.old) (R.faults report.new)) text.now result }
+    ensures { WritesReport (seen R.written R.faults report.old report.new) text.now (ending_of result) }
 {
     match write_all(report, text) {
         Ok(()) => Status::Done,
@@ -86,9 +88,9 @@ fn write_report<R: Sink>(report: &mut R, text: &[u8]) -> Status
 // Writes the certificate, and then the report.
 fn write_out<R: Sink, K: Sink>(report: &mut R, made: &mut K, texts: &Texts) -> Status
     ensures { WritesOut
-        (device (R.written report.old) (R.written report.new) (R.faults report.old) (R.faults report.new))
-        (device (K.written made.old) (K.written made.new) (K.faults made.old) (K.faults made.new))
-        texts.now.cert.items texts.now.report.items result }
+        (seen R.written R.faults report.old report.new)
+        (seen K.written K.faults made.old made.new)
+        texts.now.cert.items texts.now.report.items (ending_of result) }
 {
     if write_all(made, &texts.cert).is_err() {
         return refuse(report, Refusal::MadeFault);
@@ -110,9 +112,9 @@ fn run_bounds<T: Source, R: Sink, K: Sink>(
     requires mode { IsModeInRange asked.now.mode }
     requires choice { IsChoice asked.now.denominator }
     ensures ends { BoundsEnd format asked.now
-        (device (T.left trace.old) (T.left trace.new) (T.faults trace.old) (T.faults trace.new))
-        (device (R.written report.old) (R.written report.new) (R.faults report.old) (R.faults report.new))
-        (device (K.written made.old) (K.written made.new) (K.faults made.old) (K.faults made.new)) result }
+        (seen T.left T.faults trace.old trace.new)
+        (seen R.written R.faults report.old report.new)
+        (seen K.written K.faults made.old made.new) (ending_of result) }
     ensures source { LosesPrefix (T.left trace.old) (T.left trace.new) }
 {
     match prepare(alloc, format, asked, trace) {
@@ -131,9 +133,9 @@ fn run_check<T: Source, Q: Source, R: Sink>(
 ) -> Status
     requires { IsFormat format }
     ensures ends { CheckEnds format
-        (device (T.left trace.old) (T.left trace.new) (T.faults trace.old) (T.faults trace.new))
-        (device (Q.left cert.old) (Q.left cert.new) (Q.faults cert.old) (Q.faults cert.new))
-        (device (R.written report.old) (R.written report.new) (R.faults report.old) (R.faults report.new)) result }
+        (seen T.left T.faults trace.old trace.new)
+        (seen Q.left Q.faults cert.old cert.new)
+        (seen R.written R.faults report.old report.new) (ending_of result) }
     ensures trace_source { LosesPrefix (T.left trace.old) (T.left trace.new) }
     ensures cert_source { LosesPrefix (Q.left cert.old) (Q.left cert.new) }
 {
@@ -154,10 +156,8 @@ fn run_plan<T: Source, Q: Source, R: Sink, K: Sink>(
 ) -> Status
     requires { IfOk plan IsPlanInRange }
     ensures { RunEnds plan (devices
-        (device (T.left trace.old) (T.left trace.new) (T.faults trace.old) (T.faults trace.new))
-        (device (Q.left cert.old) (Q.left cert.new) (Q.faults cert.old) (Q.faults cert.new))
-        (device (R.written report.old) (R.written report.new) (R.faults report.old) (R.faults report.new))
-        (device (K.written made.old) (K.written made.new) (K.faults made.old) (K.faults made.new))) result }
+        (seen T.left T.faults trace.old trace.new) (seen Q.left Q.faults cert.old cert.new)
+        (seen R.written R.faults report.old report.new) (seen K.written K.faults made.old made.new)) result }
 {
     let plan = match plan {
         Ok(plan) => plan,
@@ -194,21 +194,15 @@ pub fn run<T: Source, Q: Source, R: Sink, K: Sink>(
     report: &mut R,
     made: &mut K,
 ) -> Status
-    ensures headline { Headline (map string_bytes words.now) (devices
-        (device (T.left trace.old) (T.left trace.new) (T.faults trace.old) (T.faults trace.new))
-        (device (Q.left cert.old) (Q.left cert.new) (Q.faults cert.old) (Q.faults cert.new))
-        (device (R.written report.old) (R.written report.new) (R.faults report.old) (R.faults report.new))
-        (device (K.written made.old) (K.written made.new) (K.faults made.old) (K.faults made.new))) result }
-    ensures explains { Explains (map string_bytes words.now) (devices
-        (device (T.left trace.old) (T.left trace.new) (T.faults trace.old) (T.faults trace.new))
-        (device (Q.left cert.old) (Q.left cert.new) (Q.faults cert.old) (Q.faults cert.new))
-        (device (R.written report.old) (R.written report.new) (R.faults report.old) (R.faults report.new))
-        (device (K.written made.old) (K.written made.new) (K.faults made.old) (K.faults made.new))) result }
-    ensures completes { Completes (map string_bytes words.now) (devices
-        (device (T.left trace.old) (T.left trace.new) (T.faults trace.old) (T.faults trace.new))
-        (device (Q.left cert.old) (Q.left cert.new) (Q.faults cert.old) (Q.faults cert.new))
-        (device (R.written report.old) (R.written report.new) (R.faults report.old) (R.faults report.new))
-        (device (K.written made.old) (K.written made.new) (K.faults made.old) (K.faults made.new))) result }
+    ensures headline { Headline (plan (map string_bytes words.now)) (devices
+        (seen T.left T.faults trace.old trace.new) (seen Q.left Q.faults cert.old cert.new)
+        (seen R.written R.faults report.old report.new) (seen K.written K.faults made.old made.new)) result }
+    ensures explains { RunEnds (plan (map string_bytes words.now)) (devices
+        (seen T.left T.faults trace.old trace.new) (seen Q.left Q.faults cert.old cert.new)
+        (seen R.written R.faults report.old report.new) (seen K.written K.faults made.old made.new)) result }
+    ensures completes { Completes (plan (map string_bytes words.now)) (devices
+        (seen T.left T.faults trace.old trace.new) (seen Q.left Q.faults cert.old cert.new)
+        (seen R.written R.faults report.old report.new) (seen K.written K.faults made.old made.new)) result }
 {
     run_plan(alloc, plan_of(words), trace, cert, report, made)
 }

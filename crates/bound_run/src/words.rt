@@ -1,10 +1,12 @@
 //! The words of the command line.
-ghost use Rattle.std.specs.Prelude.{◌≡◌, [], map, slice_get, string_bytes, IfOk};
+ghost use Rattle.std.specs.Prelude.{◌≡◌, ◌≤◌, [], map, slice_get, string_bytes, IfOk};
 ghost use Rattle.std.specs.Option.{option_copied};
-ghost use Rattle.bound_run.specs.Words.{IsPlanInRange, block_fault, bounds_plan, cert_path, check_plan, command_named, command_of, earlier, inputs_fault, is_dash, made_path, operand_fault, operands_fault, operands_of, passed, path, plan, plan_of_command, required, trace_path, unknown_operand, window_fault, word_or_dash};
+ghost use Rattle.bound_run.specs.Tasks.{IsPlanInRange};
+ghost use Rattle.std.specs.Option.{ForSome};
+ghost use Rattle.bound_run.specs.Words.{block_fault, bounds_plan, cert_path, check_plan, command_named, command_of, earlier, inputs_fault, is_dash, made_path, operand_fault, operands_fault, operands_of, passed, path, path_at, paths, places_in, places_of, plan, plan_of_command, plan_of_operands, required, trace_path, unknown_operand, window_fault, word_or_dash};
 
 use crate::operands::{
-    Command, OPERANDS_AT, capacity_given, denominator_given, format_given, has_equals, has_operand,
+    Command, PathPlaces, capacity_given, denominator_given, format_given, has_equals, has_operand,
     is, is_value, mode_given, name_of, objective_given, place_given, value_given, value_of,
 };
 use bound_report::WordKind;
@@ -110,29 +112,42 @@ fn operand_fault(command: Command, before: &[String], word: &str) -> Option<Word
     None
 }
 
-fn operands_of(words: &[String]) -> &[String]
-    ensures { map string_bytes result.now ≡ operands_of (map string_bytes words.now) }
+// Looks at the paths of a command, which are the words after it.
+fn check_paths(command: Command, words: &[String]) -> Result<(), WordFault>
+    ensures { result ≡ paths 1 (places_of command).count (map string_bytes words.now) }
 {
-    words.get(OPERANDS_AT..).unwrap_or(&[])
+    for at in 0..command.places().count {
+        expect_path(at as u64 + 2, word_at(words, at + 1))?;
+    }
+    Ok(())
 }
 
-// Looks at the operands from left to right. Names come from a fixed set, so few are looked at.
-fn check_operands(command: Command, operands: &[String]) -> Result<(), WordFault>
-    ensures { result ≡ passed (operands_fault command 4 [] (map string_bytes operands.now)) }
+fn operands_of(command: Command, words: &[String]) -> &[String]
+    ensures { map string_bytes result.now ≡ operands_of command (map string_bytes words.now) }
+{
+    words.get(command.operands_at()..).unwrap_or(&[])
+}
+
+// Looks at the operands from left to right, of which the first is at a place. Names come from a fixed set, so few are
+// looked at.
+fn check_operands(command: Command, first: u64, operands: &[String]) -> Result<(), WordFault>
+    requires { first ≤ 10 }
+    ensures { result ≡ passed (operands_fault command first [] (map string_bytes operands.now)) }
 {
     for (at, word) in operands.iter().enumerate() {
         if let Some(kind) = operand_fault(command, &operands[..at], word.as_str()) {
-            return refuse((at + OPERANDS_AT) as u64 + 1, kind);
+            return refuse(at as u64 + first, kind);
         }
     }
     Ok(())
 }
 
 // An operand that may not stand there, if it is given.
-fn unknown_operand(name: &str, operands: &[String]) -> Option<WordFault>
-    ensures { result ≡ unknown_operand name.now (map string_bytes operands.now) }
+fn unknown_operand(first: u64, name: &str, operands: &[String]) -> Option<WordFault>
+    requires { first ≤ 10 }
+    ensures { result ≡ unknown_operand first name.now (map string_bytes operands.now) }
 {
-    let place = place_given(name, operands)?;
+    let place = place_given(first, name, operands)?;
     Some(WordFault {
         place,
         kind: WordKind::Unknown,
@@ -140,21 +155,23 @@ fn unknown_operand(name: &str, operands: &[String]) -> Option<WordFault>
 }
 
 // A block may stand only where the trace isn't of another form than msr.
-fn block_fault(operands: &[String]) -> Option<WordFault>
-    ensures { result ≡ block_fault (map string_bytes operands.now) }
+fn block_fault(first: u64, operands: &[String]) -> Option<WordFault>
+    requires { first ≤ 10 }
+    ensures { result ≡ block_fault first (map string_bytes operands.now) }
 {
     match value_given("format", operands) {
-        Some(format) if !is(format, "msr") => unknown_operand("block", operands),
+        Some(format) if !is(format, "msr") => unknown_operand(first, "block", operands),
         _ => None,
     }
 }
 
 // A window may stand only where the mode isn't another one than flow.
-fn window_fault(operands: &[String]) -> Option<WordFault>
-    ensures { result ≡ window_fault (map string_bytes operands.now) }
+fn window_fault(first: u64, operands: &[String]) -> Option<WordFault>
+    requires { first ≤ 10 }
+    ensures { result ≡ window_fault first (map string_bytes operands.now) }
 {
     match value_given("mode", operands) {
-        Some(mode) if !is(mode, "flow") => unknown_operand("window", operands),
+        Some(mode) if !is(mode, "flow") => unknown_operand(first, "window", operands),
         _ => None,
     }
 }
@@ -215,38 +232,62 @@ fn is_dash(word: Option<&str>) -> bool
 }
 
 // Standard input holds the trace or the certificate, and not both.
-fn inputs_fault(words: &[String]) -> Option<WordFault>
-    ensures { result ≡ inputs_fault (map string_bytes words.now) }
+fn inputs_fault(places: PathPlaces, words: &[String]) -> Option<WordFault>
+    requires { ForSome places.cert (λ at. at ≤ 9) }
+    ensures { result ≡ inputs_fault places.trace places.cert (map string_bytes words.now) }
 {
-    if is_dash(word_at(words, 1)) && is_dash(word_at(words, 2)) {
-        Some(WordFault {
-            place: 3,
-            kind: WordKind::BadValue,
-        })
-    } else {
-        None
+    match (places.trace, places.cert) {
+        (Some(trace), Some(cert))
+            if is_dash(word_at(words, trace)) && is_dash(word_at(words, cert)) => {
+            Some(WordFault {
+                place: cert as u64 + 1,
+                kind: WordKind::BadValue,
+            })
+        }
+        _ => None,
     }
 }
 
 // The plan that these words give, of which the operands are accepted.
-fn check_plan(words: &[String]) -> Result<Plan, WordFault>
-    ensures plan { result ≡ check_plan (map string_bytes words.now) }
+fn check_plan(places: PathPlaces, words: &[String], operands: &[String]) -> Result<Plan, WordFault>
+    requires { ForSome places.cert (λ at. at ≤ 9) }
+    ensures plan { result ≡ check_plan places (map string_bytes words.now) (map string_bytes operands.now) }
     ensures range { IfOk result IsPlanInRange }
 {
-    let format = required(words.len() as u64 + 1, format_given(operands_of(words)))?;
-    passed(inputs_fault(words))?;
+    let format = required(words.len() as u64 + 1, format_given(operands))?;
+    passed(inputs_fault(places, words))?;
     Ok(Plan::Check { format })
 }
 
 // The plan of a command, where the operands are accepted.
-fn plan_of_command(command: Command, words: &[String]) -> Result<Plan, WordFault>
-    ensures plan { result ≡ plan_of_command command (map string_bytes words.now) }
+fn plan_of_command(
+    command: Command,
+    words: &[String],
+    operands: &[String],
+) -> Result<Plan, WordFault>
+    ensures plan { result ≡ plan_of_command command (map string_bytes words.now) (map string_bytes operands.now) }
     ensures range { IfOk result IsPlanInRange }
 {
     match command {
-        Command::Bounds => bounds_plan(words.len() as u64 + 1, operands_of(words)),
-        Command::Check => check_plan(words),
+        Command::Bounds => bounds_plan(words.len() as u64 + 1, operands),
+        Command::Check => check_plan(command.places(), words, operands),
     }
+}
+
+// What the operands of a command ask for, or the first fault in them.
+fn plan_of_operands(
+    command: Command,
+    first: u64,
+    words: &[String],
+    operands: &[String],
+) -> Result<Plan, WordFault>
+    requires { first ≤ 10 }
+    ensures plan { result ≡ plan_of_operands command first (map string_bytes words.now) (map string_bytes operands.now) }
+    ensures range { IfOk result IsPlanInRange }
+{
+    check_operands(command, first, operands)?;
+    passed(earlier(block_fault(first, operands), window_fault(first, operands)))?;
+    plan_of_command(command, words, operands)
 }
 
 /// What the words ask for, or the first fault in them. The words are those after the program's name.
@@ -256,12 +297,9 @@ pub fn plan_of(words: &[String]) -> Result<Plan, WordFault>
     ensures range { IfOk result IsPlanInRange }
 {
     let command = command_of(word_at(words, 0))?;
-    expect_path(2, word_at(words, 1))?;
-    expect_path(3, word_at(words, 2))?;
-    let operands = operands_of(words);
-    check_operands(command, operands)?;
-    passed(earlier(block_fault(operands), window_fault(operands)))?;
-    plan_of_command(command, words)
+    check_paths(command, words)?;
+    let first = command.operands_at() as u64 + 1;
+    plan_of_operands(command, first, words, operands_of(command, words))
 }
 
 // The word at a place, counted from 0, or a dash where there is none.
@@ -271,29 +309,41 @@ fn word_or_dash(words: &[String], at: usize) -> &str
     word_at(words, at).unwrap_or("-")
 }
 
+// Where the paths stand, if the words begin with a command.
+fn places_in(command: Option<Command>) -> PathPlaces
+    ensures { result ≡ places_in command }
+{
+    match command {
+        Some(command) => command.places(),
+        None => PathPlaces {
+            count: 0,
+            trace: None,
+            cert: None,
+            made: None,
+        },
+    }
+}
+
+// The path at a word, or a dash where the command has no such path.
+fn path_at(at: Option<usize>, words: &[String]) -> &str
+    ensures { result.now ≡ path_at at (map string_bytes words.now) }
+{
+    match at {
+        Some(at) => word_or_dash(words, at),
+        None => "-",
+    }
+}
+
 /// The paths that the words name.
 pub fn paths_of(words: &[String]) -> Paths<'_>
     ensures trace { result.trace.now ≡ trace_path (map string_bytes words.now) }
     ensures cert { result.cert.now ≡ cert_path (map string_bytes words.now) }
     ensures made { result.made.now ≡ made_path (map string_bytes words.now) }
 {
-    let trace = word_or_dash(words, 1);
-    let cert = word_or_dash(words, 2);
-    match command_named(word_or_dash(words, 0)) {
-        Some(Command::Bounds) => Paths {
-            trace,
-            cert,
-            made: cert,
-        },
-        Some(Command::Check) => Paths {
-            trace,
-            cert,
-            made: "-",
-        },
-        None => Paths {
-            trace: "-",
-            cert: "-",
-            made: "-",
-        },
+    let places = places_in(command_named(word_or_dash(words, 0)));
+    Paths {
+        trace: path_at(places.trace, words),
+        cert: path_at(places.cert, words),
+        made: path_at(places.made, words),
     }
 }

@@ -1,4 +1,4 @@
-use Rattle.std.proofs.Common.{rules, ◌≡◌, ◌∙◌, ◌+◌, ap, arith, sym, string_bytes, Some, None}
+use Rattle.std.proofs.Common.{rules, ◌≡◌, ◌∙◌, ap, sym, string_bytes, Some, None}
 use Rattle.std.specs.List.{position_from}
 use Rattle.std.specs.Str.{bytes_eq}
 use Rattle.std.proofs.lemmas.Iterator.{YieldsList-from_slice}
@@ -14,13 +14,11 @@ returns-in_err-at c =
     = position_from_yields_List (λ w. bytes_eq (name_of (string_bytes w)) c.args.name.now) _ _ _ c.position.ensures.ran (YieldsList-from_slice c.args.operands.now cc) (λ x b q k. search rules)
     ∙ position_from-zero (λ w. bytes_eq (name_of (string_bytes w)) c.args.name.now) c.args.operands.now in
     c.from_residual.ensures
-    ∙ sym (place_given_by string_bytes c.args.name.now c.args.operands.now None (sym c.in_err-at.was ∙ found))
+    ∙ sym (place_given_by string_bytes c.args.name.now c.args.operands.now c.args.first None (sym c.in_err-at.was ∙ found))
 
 pub returns : goal.returns
 returns c =
     let found : c.position.result ≡ position_from (λ w. bytes_eq (name_of (string_bytes w)) c.args.name.now) 0 c.args.operands.now
     = position_from_yields_List (λ w. bytes_eq (name_of (string_bytes w)) c.args.name.now) _ _ _ c.position.ensures.ran (YieldsList-from_slice c.args.operands.now cc) (λ x b q k. search rules)
     ∙ position_from-zero (λ w. bytes_eq (name_of (string_bytes w)) c.args.name.now) c.args.operands.now in
-    let place : c.in_ok-at.at + 3 + 1 ≡ c.in_ok-at.at + 4 = omega arith in
-    ap Some place
-    ∙ sym (place_given_by string_bytes c.args.name.now c.args.operands.now (Some c.in_ok-at.at) (sym c.in_ok-at.was ∙ found))
+    sym (place_given_by string_bytes c.args.name.now c.args.operands.now c.args.first (Some c.in_ok-at.at) (sym c.in_ok-at.was ∙ found))

@@ -1,0 +1,12 @@
+-- The modes that the program has.
+use Rattle.std.specs.Prelude.{◌^◌, ◌≤◌}
+use Rattle.cache_model.specs.declared.reports.Mode.{Mode}
+use Rattle.cache_model.specs.declared.reports.Mode.TheVariants.{Flow, Constant, Infinite}
+use Rattle.cache_model.specs.declared.reports.Window.TheVariants.{Steps, All as Whole}
+
+-- a window has a step, and at most 2^25 steps
+abbrev pub IsModeInRange : Mode → Type 0
+IsModeInRange (Flow Whole) = Unit {0}
+IsModeInRange (Flow (Steps width)) = (1 ≤ width) × (width ≤ 2 ^ 25)
+IsModeInRange Constant = Unit {0}
+IsModeInRange Infinite = Unit {0}
