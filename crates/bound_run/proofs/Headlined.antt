@@ -62,6 +62,6 @@ shown (check format) d ((verdict, dropped, accepted, printed), trace, cert, unto
   },
 )
 
-pub headlined : (read : Result Plan WordFault) (d : Devices) (status : Status) → RunEnds read d status → Headline read d status
-headlined (Ok plan) d status ends = λ is. shown (task_of plan) d (subst (λ s. TaskEnds (task_of plan) d (ending_of s)) is ends)
-headlined (Err fault) d status ends = λ is. not_done fault (sym is ∙ ends.0)
+pub headlined : (read : Result Plan WordFault) (d : Devices) (status : Status) → RunEnds read d status → status ≡ Done → Headline read d
+headlined (Ok plan) d status ends is = shown (task_of plan) d (subst (λ s. TaskEnds (task_of plan) d (ending_of s)) is ends)
+headlined (Err fault) d status ends is = not_done fault (sym is ∙ ends.0)

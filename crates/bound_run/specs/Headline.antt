@@ -1,5 +1,5 @@
 -- The headline: what is known of the numbers that a run printed, in the words of the trace and its plays alone.
-use Rattle.std.specs.Prelude.{◌≡◌, ◌≢◌, ◌↔◌, ℕ, ◌*◌, ◌^◌, ◌≤◌, IsTrue, IfSome, List, length, All, Result, Ok, Err}
+use Rattle.std.specs.Prelude.{◌≡◌, ◌↔◌, ℕ, ◌*◌, ◌^◌, ◌≤◌, IsTrue, IfSome, List, length, All, Result, Ok, Err}
 use Rattle.std.specs.Io.KnownBytes.{Appends}
 use Rattle.bound_io.specs.Devices.{Device}
 use Rattle.cache_model.specs.declared.objects.Object.{Object}
@@ -15,8 +15,6 @@ use Rattle.bound_report.specs.Verdicts.{verdict_text}
 use Rattle.bound_run.specs.declared.bounds.Asked.{Asked}
 use Rattle.bound_run.specs.declared.words.Plan.{Plan}
 use Rattle.bound_run.specs.declared.words.WordFault.{WordFault}
-use Rattle.bound_run.specs.declared.status.Status.{Status}
-use Rattle.bound_run.specs.declared.status.Status.TheVariants.{Done}
 use Rattle.bound_run.specs.Inputs.{IsLoaded}
 use Rattle.bound_run.specs.Made.{facts_of, is_unwindowed}
 use Rattle.bound_run.specs.Run.{Devices}
@@ -60,6 +58,6 @@ Shows (check format) d = (trace : List Object) × (dropped : ℕ) × IsLoaded fo
 -- upper bound, the certified schedule is allowed and scores exactly the lower bound, exact-form prices and flows have
 -- equal value, equal sizes make both bounds one under an unwindowed flow, and the checker's yes on any file implies the
 -- bounds it prints.
-abbrev pub Headline : Result Plan WordFault → Devices → Status → Type 0
-Headline (Ok plan) d status = status ≡ Done → Shows (task_of plan) d
-Headline (Err fault) d status = status ≢ Done
+abbrev pub Headline : Result Plan WordFault → Devices → Type 0
+Headline (Ok plan) d = Shows (task_of plan) d
+Headline (Err fault) d = ⊥

@@ -194,9 +194,9 @@ pub fn run<T: Source, Q: Source, R: Sink, K: Sink>(
     report: &mut R,
     made: &mut K,
 ) -> Status
-    ensures headline { Headline (plan (map string_bytes words.now)) (devices
+    ensures headline { result ≡ Status.Done → Headline (plan (map string_bytes words.now)) (devices
         (seen T.left T.faults trace.old trace.new) (seen Q.left Q.faults cert.old cert.new)
-        (seen R.written R.faults report.old report.new) (seen K.written K.faults made.old made.new)) result }
+        (seen R.written R.faults report.old report.new) (seen K.written K.faults made.old made.new)) }
     ensures explains { RunEnds (plan (map string_bytes words.now)) (devices
         (seen T.left T.faults trace.old trace.new) (seen Q.left Q.faults cert.old cert.new)
         (seen R.written R.faults report.old report.new) (seen K.written K.faults made.old made.new)) result }
