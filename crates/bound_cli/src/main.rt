@@ -7,17 +7,18 @@ ghost use Rattle.std.specs.Prelude.{◌≡◌, ◌⊎◌, map, string_bytes, IfE
 ghost use Rattle.bound_run.specs.Words.{plan};
 ghost use Rattle.bound_run.specs.declared.words.WordFault.{WordFault};
 
-use crate::advice::{Devices, Seen, advice_on};
-use crate::help::{USAGE, page_of};
+use crate::messages::{
+    Devices, EXAMPLES, PURPOSE, Page, STANDARD_INPUT, STANDARD_OUTPUT, Seen, USAGE, VERSION,
+    advice_on, page_of,
+};
 use bound_io::{FileSink, FileSource};
 use bound_run::{Status, paths_of, run};
 use std::alloc::Global;
-use std::env;
 use std::process::ExitCode;
 use std::rt::{Env, Files};
+use std::{env, io};
 
-mod advice;
-mod help;
+mod messages;
 
 // The exit status where the system doesn't give the words of the command line.
 const NO_WORDS: u8 = 11;
@@ -30,7 +31,7 @@ fn name_of<'a>(path: &'a str, standard: &'a str) -> &'a str {
 // What is known of a source for a message.
 fn seen_source<'a, R: Files + Input>(path: &'a str, source: &'a FileSource<'_, R>) -> Seen<'a> {
     Seen {
-        name: name_of(path, "standard input"),
+        name: name_of(path, STANDARD_INPUT),
         reason: source.reason(),
         start: source.start(),
     }
@@ -39,7 +40,7 @@ fn seen_source<'a, R: Files + Input>(path: &'a str, source: &'a FileSource<'_, R
 // What is known of a sink for a message.
 fn seen_sink<'a, R: Files + Print>(path: &'a str, sink: &FileSink<'_, R>) -> Seen<'a> {
     Seen {
-        name: name_of(path, "standard output"),
+        name: name_of(path, STANDARD_OUTPUT),
         reason: sink.reason(),
         start: &[],
     }
@@ -57,7 +58,9 @@ fn advise<R: Eprint>(
         let _ = eprintln!(rt; "bound_cli: {text}");
     }
     if let Status::Words(_) = status {
-        let _ = eprintln!(rt; "bound_cli: {USAGE}");
+        for line in USAGE {
+            let _ = eprintln!(rt; "bound_cli: {line}");
+        }
     }
 }
 
@@ -110,9 +113,22 @@ fn run_files<R: Files + Input + Print + Eprint>(rt: &R, alloc: Global, words: &[
     settle(rt, made, paths.made, status)
 }
 
-// Prints a page that is asked for in place of a run.
-fn print_page<R: Print>(rt: &R, page: &str) -> u8 {
-    match rt.println(page) {
+// How the program is called.
+fn print_help<R: Print>(rt: &R) -> io::Result<()> {
+    println!(rt; "{PURPOSE}")?;
+    for line in USAGE {
+        println!(rt; "{line}")?;
+    }
+    println!(rt; "{EXAMPLES}")
+}
+
+// The exit status of printing a page.
+fn print_page<R: Print>(rt: &R, page: Page) -> u8 {
+    let printed = match page {
+        Page::Help => print_help(rt),
+        Page::Version => println!(rt; "{VERSION}"),
+    };
+    match printed {
         Ok(()) => Status::Done.code(),
         Err(_) => Status::ReportFault.code(),
     }

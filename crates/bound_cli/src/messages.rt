@@ -1,9 +1,82 @@
-//! What to do about a run that did not end well: for the person at the terminal, beside the report's line.
-use crate::help::{operands_of, values_of};
+//! What the program says beside its reports: how it is called, and what to do about a run that did not end well.
+//!
+//! It is for the person at the terminal. The lines of the report, on which scripts rest, stand in bound_report.
 use bound_report::WordKind;
 use bound_run::{Status, WordFault};
 use std::alloc::{AllocError, Global};
 use std::io;
+
+/// The program and its version.
+pub const VERSION: &str = "bound_cli 0.2.0";
+
+/// What the standard input is called.
+pub const STANDARD_INPUT: &str = "standard input";
+
+/// What the standard output is called.
+pub const STANDARD_OUTPUT: &str = "standard output";
+
+/// The commands with their operands, a line each.
+pub const USAGE: [&str; 4] = [
+    "usage: bound_cli bounds TRACE CERT format=FORM capacity=BYTES [block=BYTES]",
+    "           [objective=OBJECTIVE] [mode=MODE] [window=STEPS] [denominator=NUMBER]",
+    "       bound_cli check TRACE CERT format=FORM [block=BYTES]",
+    "       bound_cli help",
+];
+
+/// What the program is for.
+pub const PURPOSE: &str =
+    "bound_cli computes how well any cache could do on a trace of requests: an upper bound that no
+replacement policy can exceed, a schedule that comes close to it, and a certificate of both.
+";
+
+/// What stands for what, and two examples.
+pub const EXAMPLES: &str = "
+FORM is webcache, arc or msr, OBJECTIVE is object or bytes, MODE is flow, constant or infinite.
+A path - is the standard input or output. The report goes to the standard output.
+
+examples:
+  bound_cli bounds examples/build-files.webcache build.cert format=webcache capacity=8388608
+  bound_cli check examples/build-files.webcache build.cert format=webcache
+
+docs/GUIDE.md goes from a trace to a decision; man -l docs/bound_cli.1 has every operand.";
+
+/// What is asked for in place of a run.
+#[derive(Clone, Copy)]
+pub enum Page {
+    Help,
+    Version,
+}
+
+/// The page that a first word asks for.
+pub fn page_of(word: &str) -> Option<Page> {
+    match word {
+        "help" | "--help" | "-h" => Some(Page::Help),
+        "--version" => Some(Page::Version),
+        _ => None,
+    }
+}
+
+// What an operand's value may be.
+fn values_of(name: &str) -> Option<&'static str> {
+    match name {
+        "format" => Some("webcache, arc or msr"),
+        "block" => Some("digits alone, from 1 to 281474976710656"),
+        "capacity" => Some("digits alone, from 1 to 72057594037927936"),
+        "objective" => Some("object or bytes"),
+        "mode" => Some("flow, constant or infinite"),
+        "window" => Some("all, or digits alone, from 1 to 33554432"),
+        "denominator" => Some("auto, exact, or digits alone, from 1 to 281474976710656"),
+        _ => None,
+    }
+}
+
+// The operands of a command.
+fn operands_of(command: &str) -> &'static str {
+    match command {
+        "check" => "format and block",
+        _ => "format, capacity, block, objective, mode, window and denominator",
+    }
+}
 
 /// What was seen of a device: what it is called, why a call of it failed last, and how its bytes begin.
 #[derive(Clone, Copy)]
@@ -140,7 +213,16 @@ fn unpacker_of(start: &[u8]) -> Option<(&'static str, &'static str)> {
 fn is_utf16(start: &[u8]) -> bool {
     start.starts_with(b"\xff\xfe")
         || start.starts_with(b"\xfe\xff")
-        || start.iter().any(|b| *b == 0)
+        || start.iter().any(|byte| *byte == 0)
+}
+
+// A pipe through a filter of what stands at a name.
+fn pipe(alloc: Global, filter: &str, name: &str, command: &str) -> Result<String, AllocError> {
+    if name == STANDARD_INPUT {
+        format!(in alloc; "{filter} | bound_cli {command} - ..")
+    } else {
+        format!(in alloc; "{filter} {name} | bound_cli {command} - ..")
+    }
 }
 
 // What a trace may be of which the first line is refused.
@@ -148,36 +230,30 @@ fn start_advice(alloc: Global, command: &str, trace: Seen<'_>) -> Result<String,
     let name = trace.name;
     let start = trace.start;
     if let Some((packed, unpack)) = unpacker_of(start) {
-        return format!(in alloc;
-            "{name}: it is packed by {packed}; unpack it: {unpack} {name} | bound_cli {command} - .."
-        );
+        let pipe = pipe(alloc, unpack, name, command)?;
+        return format!(in alloc; "{name}: it is packed by {packed}; unpack it: {pipe}");
     }
     if is_utf16(start) {
-        return format!(in alloc;
-            "{name}: it is no text of one byte a letter; if it is UTF-16: iconv -f UTF-16 -t UTF-8 {name} | bound_cli {command} - .."
-        );
+        let pipe = pipe(alloc, "iconv -f UTF-16 -t UTF-8", name, command)?;
+        return format!(in alloc; "{name}: it has bytes of 0; if it is UTF-16: {pipe}");
     }
     if start.starts_with(b"\xef\xbb\xbf") {
-        return format!(in alloc;
-            "{name}: it begins with a byte order mark; drop it: tail -c +4 {name} | bound_cli {command} - .."
-        );
+        let pipe = pipe(alloc, "tail -c +4", name, command)?;
+        return format!(in alloc; "{name}: it begins with a byte order mark; leave it out: {pipe}");
     }
     if start.starts_with(b"cache-bound-certificate") {
         return format!(in alloc; "{name}: it is a certificate; the path of the trace comes first");
     }
     if start.starts_with(b"{") || start.starts_with(b"[") {
+        return format!(in alloc; "{name}: it is JSON; see \"Bring another form\" in docs/GUIDE.md");
+    }
+    if start.iter().any(|byte| *byte == b',') {
         return format!(in alloc;
-            "{name}: it begins as JSON does; docs/GUIDE.md, \"Bring another form\", says what to make of it"
+            "{name}: its first line has commas; for a table see examples/forms/key_table.awk"
         );
     }
-    if start.iter().any(|b| *b == b',') {
-        return format!(in alloc;
-            "{name}: its first line has commas; for a table take examples/forms/key_table.awk or device_table.awk"
-        );
-    }
-    format!(in alloc;
-        "{name}: its first line may be a heading; leave it out: tail -n +2 {name} | bound_cli {command} - .."
-    )
+    let pipe = pipe(alloc, "tail -n +2", name, command)?;
+    format!(in alloc; "{name}: its first line may be a heading; leave it out: {pipe}")
 }
 
 /// What to do about a status, where something is known to do.
