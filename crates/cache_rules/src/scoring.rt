@@ -1,8 +1,7 @@
 //! The score of contents that are given by keeps.
 ghost use Rattle.std.specs.Prelude.{◌≡◌, ◌↔◌, ◌≤◌, ◌<◌, ◌+◌, ◌^◌, ℕ, Bool, true, if◌then◌else◌, length, IfOk, IfErr, OnOk, IsOk};
-ghost use Rattle.cache_model.specs.Keeps.{contents_of, held_before, load_after, IsFirstOverfull};
-ghost use Rattle.cache_model.specs.Objects.{request_at};
-ghost use Rattle.cache_model.specs.Claim.{gain_of, holds, score, IsAllowed};
+ghost use Rattle.cache_model.specs.Keeps.{load_after, IsFirstOverfull};
+ghost use Rattle.cache_model.specs.Claim.{gain_of, holds, score, IsAllowed, contents_of, held_before, request_at};
 
 use crate::trace::Trace;
 use cache_model::{Object, Objective};

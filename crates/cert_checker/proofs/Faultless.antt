@@ -15,10 +15,10 @@ use Rattle.cache_model.specs.declared.objects.Object.{Object}
 use Rattle.cache_model.specs.declared.intervals.Interval.{Interval}
 use Rattle.cache_model.specs.declared.certificates.Header.{Header}
 use Rattle.cache_model.specs.declared.certificates.Record.{Record}
-use Rattle.cache_model.specs.Claim.{same_object, gain_of, total_size}
-use Rattle.cache_model.specs.Objects.{request_at, no_object, IsFirst, IsNext}
+use Rattle.cache_model.specs.Claim.{same_object, gain_of, total_size, request_at, no_object, contents_of, held_before, is_latest}
+use Rattle.cache_model.specs.Objects.{IsFirst, IsNext}
 use Rattle.cache_model.specs.Intervals.{interval_of}
-use Rattle.cache_model.specs.Keeps.{contents_of, held_before, is_latest, latest_sum, load_after}
+use Rattle.cache_model.specs.Keeps.{latest_sum, load_after}
 use Rattle.cache_model.specs.Laws.{IsEligible}
 use Rattle.cache_model.specs.Units.{weight}
 use Rattle.cache_model.specs.Certificates.{eligible_of, flow_at, keeps_of, prices_of, units_of, unpriced, IsValid}

@@ -6,9 +6,8 @@ use Rattle.cache_model.specs.declared.objects.Object.{Object}
 use Rattle.cache_model.specs.declared.objects.Objective.{Objective}
 use Rattle.cache_model.specs.declared.certificates.Header.{Header}
 use Rattle.cache_model.specs.declared.certificates.Record.{Record}
-use Rattle.cache_model.specs.Claim.{same_object, gain_of, holds, total_size}
-use Rattle.cache_model.specs.Objects.{request_at, no_object}
-use Rattle.cache_model.specs.Keeps.{is_kept, is_held, is_latest, held_before, latest_sum, load_after}
+use Rattle.cache_model.specs.Claim.{same_object, gain_of, holds, total_size, request_at, no_object, is_kept, is_held, is_latest, held_before}
+use Rattle.cache_model.specs.Keeps.{latest_sum, load_after}
 use Rattle.cache_model.specs.Certificates.{flow_at, keeps_of, prices_of, unpriced}
 use Rattle.cache_model.proofs.Streams.{sum_by-range_agree}
 use Rattle.cache_model.proofs.Scores.{earned_at}

@@ -12,10 +12,10 @@ use Rattle.cache_model.specs.declared.objects.Object.{Object}
 use Rattle.cache_model.specs.declared.intervals.Interval.{Interval}
 use Rattle.cache_model.specs.declared.certificates.Header.{Header}
 use Rattle.cache_model.specs.declared.certificates.Record.{Record}
-use Rattle.cache_model.specs.Claim.{same_object, gain_of, holds, score, total_size}
-use Rattle.cache_model.specs.Objects.{request_at, no_object, IsLatest, IsNew}
+use Rattle.cache_model.specs.Claim.{same_object, gain_of, holds, score, total_size, request_at, no_object, contents_of, is_kept, is_latest, held_before}
+use Rattle.cache_model.specs.Objects.{IsLatest, IsNew}
 use Rattle.cache_model.specs.Intervals.{interval_of, surplus}
-use Rattle.cache_model.specs.Keeps.{contents_of, is_kept, is_latest, held_before, latest_sum, load_after}
+use Rattle.cache_model.specs.Keeps.{latest_sum, load_after}
 use Rattle.cache_model.specs.Laws.{IsEligible}
 use Rattle.cache_model.specs.Schedules.{flow_value}
 use Rattle.cache_model.specs.Units.{weight}

@@ -12,10 +12,10 @@ use Rattle.cache_model.specs.declared.objects.Object.{Object}
 use Rattle.cache_model.specs.declared.intervals.Interval.{Interval}
 use Rattle.cache_model.specs.declared.certificates.Header.{Header}
 use Rattle.cache_model.specs.declared.certificates.Record.{Record}
-use Rattle.cache_model.specs.Claim.{same_object, gain_of}
-use Rattle.cache_model.specs.Objects.{request_at, no_object, IsNext}
+use Rattle.cache_model.specs.Claim.{same_object, gain_of, request_at, no_object, is_latest}
+use Rattle.cache_model.specs.Objects.{IsNext}
 use Rattle.cache_model.specs.Intervals.{interval_of}
-use Rattle.cache_model.specs.Keeps.{is_latest, latest_sum, load_after}
+use Rattle.cache_model.specs.Keeps.{latest_sum, load_after}
 use Rattle.cache_model.specs.Laws.{IsEligible}
 use Rattle.cache_model.specs.Schedules.{covers, load_at}
 use Rattle.cache_model.specs.Units.{weight, HasWholeCosts}

@@ -5,9 +5,9 @@ use Rattle.std.specs.Map.{keys_of, lookup}
 use Rattle.cache_model.specs.declared.objects.Object.{Object}
 use Rattle.cache_model.specs.declared.certificates.Header.{Header}
 use Rattle.cache_model.specs.declared.certificates.Record.{Record}
-use Rattle.cache_model.specs.Claim.{same_object, score, total_size}
+use Rattle.cache_model.specs.Claim.{same_object, score, total_size, contents_of, held_before, is_kept}
 use Rattle.cache_model.specs.Objects.{objects_of, IsLatest, IsNew}
-use Rattle.cache_model.specs.Keeps.{contents_of, held_before, is_kept, latest_sum}
+use Rattle.cache_model.specs.Keeps.{latest_sum}
 use Rattle.cache_model.specs.Intervals.{surplus}
 use Rattle.cache_model.specs.Certificates.{eligible_of, flow_at, flow_of, keeps_of, prices_of, IsHeaderInRange, IsRecordInRange}
 pub use Rattle.cache_rules.specs.Stored.{IsSized}

@@ -7,7 +7,8 @@ use Rattle.std.proofs.lemmas.List.Elements.{All-append, All-cons, All-nil, All-h
 use Rattle.cache_model.specs.declared.objects.Object.{Object}
 use Rattle.cache_model.specs.declared.objects.Objective.{Objective}
 use Rattle.cache_model.specs.declared.intervals.Interval.{Interval}
-use Rattle.cache_model.specs.Objects.{IsNext, request_at}
+use Rattle.cache_model.specs.Claim.{request_at}
+use Rattle.cache_model.specs.Objects.{IsNext}
 use Rattle.cache_model.specs.Intervals.{eligible_from, eligible_intervals}
 use Rattle.cache_model.specs.Laws.{IsEligible}
 use Rattle.cache_model.proofs.Eligible.{eligible_more}

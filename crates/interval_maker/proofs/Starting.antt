@@ -5,8 +5,8 @@ use Rattle.cache_model.specs.declared.objects.Object.{Object}
 use Rattle.cache_model.specs.declared.objects.Objective.{Objective}
 use Rattle.cache_model.specs.declared.intervals.Interval.{Interval}
 use Rattle.cache_model.specs.declared.objects.Objective.TheVariants.{Object as Hits, Bytes}
-use Rattle.cache_model.specs.Claim.{gain_of}
-use Rattle.cache_model.specs.Objects.{request_at, objects_of, IsNext, IsLast}
+use Rattle.cache_model.specs.Claim.{gain_of, request_at}
+use Rattle.cache_model.specs.Objects.{objects_of, IsNext, IsLast}
 use Rattle.cache_model.specs.Intervals.{interval_of, eligible_from}
 use Rattle.cache_model.proofs.Duality.{same_object-true}
 use Rattle.interval_maker.specs.Timelines.{IsInterval}

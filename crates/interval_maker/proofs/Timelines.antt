@@ -4,8 +4,8 @@ use Rattle.std.proofs.lemmas.Bool.{cases_order, both_ways}
 use Rattle.cache_model.specs.declared.objects.Object.{Object}
 use Rattle.cache_model.specs.declared.objects.Objective.{Objective}
 use Rattle.cache_model.specs.declared.intervals.Interval.{Interval}
-use Rattle.cache_model.specs.Claim.{same_object}
-use Rattle.cache_model.specs.Objects.{request_at, IsNext}
+use Rattle.cache_model.specs.Claim.{same_object, request_at}
+use Rattle.cache_model.specs.Objects.{IsNext}
 use Rattle.cache_model.specs.Intervals.{eligible_intervals}
 use Rattle.cache_model.specs.Laws.{IsEligible}
 use Rattle.cache_model.proofs.Duality.{same_object-true, same_object-refl}

@@ -13,10 +13,9 @@ use Rattle.cache_model.specs.declared.objects.Object.{Object}
 use Rattle.cache_model.specs.declared.objects.Objective.{Objective}
 use Rattle.cache_model.specs.declared.intervals.Interval.{Interval}
 use Rattle.cache_model.specs.Intervals.{eligible_intervals, bound_of}
-use Rattle.cache_model.specs.Keeps.{contents_of, is_kept}
 use Rattle.cache_model.specs.Laws.{IsEligible}
-use Rattle.cache_model.specs.Objects.{request_at, IsNext}
-use Rattle.cache_model.specs.Claim.{IsAllowed, score, gain_of}
+use Rattle.cache_model.specs.Objects.{IsNext}
+use Rattle.cache_model.specs.Claim.{IsAllowed, score, gain_of, contents_of, is_kept, request_at}
 use Rattle.cache_model.specs.Rounding.{IsRounded, fits_beside}
 use Rattle.cache_model.specs.Schedules.{IsFractionalSchedule, flow_value}
 use Rattle.cache_model.specs.Units.{IsUnit, HasWholeCosts, weight}

@@ -5,8 +5,7 @@ use Rattle.cache_model.specs.declared.objects.Object.{Object}
 use Rattle.cache_model.specs.declared.objects.Objective.{Objective}
 use Rattle.cache_model.specs.declared.intervals.Interval.{Interval}
 use Rattle.cache_model.specs.Intervals.{eligible_intervals, bound_of}
-use Rattle.cache_model.specs.Keeps.{contents_of}
-use Rattle.cache_model.specs.Claim.{IsAllowed, score}
+use Rattle.cache_model.specs.Claim.{IsAllowed, score, contents_of}
 use Rattle.cache_model.specs.Rounding.{IsRounded, FitTogether}
 use Rattle.cache_model.specs.Schedules.{IsFractionalSchedule, flow_value}
 use Rattle.cache_model.specs.Units.{IsUnit, HasWholeCosts, weight}

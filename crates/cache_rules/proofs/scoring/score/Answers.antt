@@ -4,9 +4,8 @@ use Rattle.std.proofs.lemmas.Bool.{cases_lt, both_ways}
 use Rattle.cache_model.specs.declared.objects.Object.{Object}
 use Rattle.cache_model.specs.declared.objects.Objective.{Objective}
 use Rattle.cache_model.specs.declared.objects.Objective.TheVariants.{Object as Hits, Bytes}
-use Rattle.cache_model.specs.Keeps.{is_kept, held_before, load_after}
-use Rattle.cache_model.specs.Objects.{request_at}
-use Rattle.cache_model.specs.Claim.{gain_of, holds, total_size}
+use Rattle.cache_model.specs.Keeps.{load_after}
+use Rattle.cache_model.specs.Claim.{gain_of, holds, total_size, is_kept, held_before, request_at}
 use Rattle.cache_model.proofs.Scores.{earned_at, earned-more, score-requests, load_after-request, size-le-total_size, allowed-from_loads}
 use Rattle.cache_rules.proofs.scoring.score.Goals as goal
 use Rattle.cache_rules.proofs.scoring.score.Goals.{then-hit, else-hit}

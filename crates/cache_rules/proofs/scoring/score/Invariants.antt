@@ -1,7 +1,7 @@
 use Rattle.std.proofs.Common.{◌≡◌, ◌*◌, ◌^◌, ◌≤◌, ◌<◌, ℕ, sum_by}
 use Rattle.std.specs.List.{range_with_len}
-use Rattle.cache_model.specs.Keeps.{held_before, load_after}
-use Rattle.cache_model.specs.Claim.{total_size}
+use Rattle.cache_model.specs.Keeps.{load_after}
+use Rattle.cache_model.specs.Claim.{total_size, held_before}
 use Rattle.cache_model.proofs.Scores.{earned_at}
 use Rattle.cache_rules.proofs.scoring.score.Given as goal
 
