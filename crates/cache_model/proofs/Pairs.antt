@@ -6,7 +6,7 @@ use Rattle.std.proofs.lemmas.List.Sums.{sum_by-cons}
 use Rattle.cache_model.specs.declared.objects.Object.{Object}
 use Rattle.cache_model.specs.declared.objects.Objective.{Objective}
 use Rattle.cache_model.specs.declared.terms.Terms.{Terms}
-use Rattle.cache_model.specs.Claim.{same_object, gain_of, request_at}
+use Rattle.cache_model.specs.Claim.{same_object, gain_of, request_at, terms_from}
 use Rattle.cache_model.specs.Intervals.{is_eligible, interval_of, eligible_intervals, surplus}
 use Rattle.cache_model.proofs.Duality.{same_object-true, same_object-refl, fewer, earns_now, worth, extra}
 use Rattle.cache_model.proofs.Sums.{sum_by-map, sum_by-filter, sum_by-flat_map, sum_by-agree, sum_by-range, sum_by-nothing}
@@ -31,13 +31,9 @@ pub leb-fewer : (m b : ℕ) → nat_le m (suc b) ≡ nat_le (fewer m) b
 leb-fewer zero b = le-leb 0 (suc b) (omega arith) ∙ sym (le-leb 0 b (omega arith))
 leb-fewer (suc m) b = ⊎_elim (λ (h : b < m). lt-leb (suc m) (suc b) (omega arith) ∙ sym (lt-leb m b h)) (λ (h : m ≤ b). le-leb (suc m) (suc b) (omega arith) ∙ sym (le-leb m b h)) (cases_lt b m)
 
--- what is asked for, where the first m requests earn nothing
-abbrev pub terms_from : ℕ → Objective → ℕ → Terms
-terms_from m o c = record { objective = o; capacity = c; warmup = m }
-
 -- what the pair (a, b) adds
 abbrev pub pair_surplus : ℕ → Objective → ℕ → ℕ → ℕ → List Object → List ℕ → ℕ → ℕ → ℕ
-pair_surplus m o c u d trace prices a b = cond (is_eligible (terms_from m o c) trace a b) (surplus u d prices (interval_of o trace a b)) 0
+pair_surplus m o c u d trace prices a b = cond (is_eligible (terms_from o c m) trace a b) (surplus u d prices (interval_of o trace a b)) 0
 
 pub surplus_by_pairs : (terms : Terms) (u d : ℕ) (trace : List Object) (prices : List ℕ)
     → sum_by (surplus u d prices) (eligible_intervals terms trace)

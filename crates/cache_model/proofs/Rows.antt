@@ -15,7 +15,7 @@ use Rattle.cache_model.specs.declared.certificates.Header.{Header}
 use Rattle.cache_model.specs.declared.certificates.Record.{Record}
 use Rattle.cache_model.specs.declared.reports.Mode.TheVariants.{Flow, Infinite}
 use Rattle.cache_model.specs.declared.reports.Window.TheVariants.{All as Whole}
-use Rattle.cache_model.specs.Claim.{score, total_size, held_before, contents_of, is_kept}
+use Rattle.cache_model.specs.Claim.{score, terms_from, total_size, held_before, contents_of, is_kept}
 use Rattle.cache_model.specs.Objects.{objects_of}
 use Rattle.cache_model.specs.Intervals.{eligible_intervals, bound_of}
 use Rattle.cache_model.specs.Schedules.{load_at, flow_value, covers}
@@ -36,12 +36,9 @@ interval a b s g = record { start = a; end = b; size = s; gain = g }
 abbrev entry : ℕ → Bool → ℕ → Record
 entry p k f = record { price = p; keep = k; flow = f }
 
--- what is asked for without a warm-up, and with one
+-- what is asked for without a warm-up
 abbrev asked : Objective → ℕ → Terms
-asked o c = record { objective = o; capacity = c; warmup = 0 }
-
-abbrev warmed : ℕ → Objective → ℕ → Terms
-warmed m o c = record { objective = o; capacity = c; warmup = m }
+asked o c = terms_from o c 0
 
 abbrev bound : Objective → ℕ → ℕ → ℕ → List Object → List ℕ → ℕ
 bound o c u d trace prices = bound_of (eligible_intervals (asked o c) trace) u (c / u) d prices
@@ -83,23 +80,23 @@ unfolding cycle_keeps
 cycle_held = refl
 
 -- ---- the same with a warm-up: five requests leave the interval that ends at request 5, six leave none
-cycle_warm_intervals : eligible_intervals (warmed 5 Hits 2) cycle ≡ interval 2 5 1 1 ∷ []
+cycle_warm_intervals : eligible_intervals (terms_from Hits 2 5) cycle ≡ interval 2 5 1 1 ∷ []
 cycle_warm_intervals = refl
 
-cycle_warm_bound : bound_of (eligible_intervals (warmed 5 Hits 2) cycle) 1 2 1 (0 ∷ 0 ∷ 0 ∷ 0 ∷ 0 ∷ 0 ∷ []) ≡ 1
+cycle_warm_bound : bound_of (eligible_intervals (terms_from Hits 2 5) cycle) 1 2 1 (0 ∷ 0 ∷ 0 ∷ 0 ∷ 0 ∷ 0 ∷ []) ≡ 1
 cycle_warm_bound = refl
 
-cycle_late_intervals : eligible_intervals (warmed 6 Hits 2) cycle ≡ []
+cycle_late_intervals : eligible_intervals (terms_from Hits 2 6) cycle ≡ []
 cycle_late_intervals = refl
 
 -- the keeps of requests 0 and 2 hit requests 3 and 5, and request 5 alone is past five requests
-cycle_warm_score : score (warmed 5 Hits 2) cycle (contents_of cycle (true ∷ false ∷ true ∷ false ∷ false ∷ false ∷ [])) ≡ 1
+cycle_warm_score : score (terms_from Hits 2 5) cycle (contents_of cycle (true ∷ false ∷ true ∷ false ∷ false ∷ false ∷ [])) ≡ 1
 cycle_warm_score = refl
 
-cycle_whole_score : score (warmed 3 Hits 2) cycle (contents_of cycle (true ∷ false ∷ true ∷ false ∷ false ∷ false ∷ [])) ≡ 2
+cycle_whole_score : score (terms_from Hits 2 3) cycle (contents_of cycle (true ∷ false ∷ true ∷ false ∷ false ∷ false ∷ [])) ≡ 2
 cycle_whole_score = refl
 
-cycle_late_score : score (warmed 6 Hits 2) cycle (contents_of cycle (true ∷ false ∷ true ∷ false ∷ false ∷ false ∷ [])) ≡ 0
+cycle_late_score : score (terms_from Hits 2 6) cycle (contents_of cycle (true ∷ false ∷ true ∷ false ∷ false ∷ false ∷ [])) ≡ 0
 cycle_late_score = refl
 
 -- ---- the same at capacity 1 and the constant price 1 over 3

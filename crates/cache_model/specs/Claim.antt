@@ -68,9 +68,13 @@ held_before trace keeps t = map (request_at trace) (filter (is_held trace keeps 
 abbrev pub contents_of : List Object → List Bool → List (List Object)
 contents_of trace keeps = map (held_before trace keeps) (range_with_len 0 (length trace + 1))
 
+-- the terms of an objective, a capacity and a warm-up
+abbrev pub terms_from : Objective → ℕ → ℕ → Terms
+terms_from objective capacity warmup = record { objective = objective; capacity = capacity; warmup = warmup }
+
 -- the terms of a header: every request counts
 abbrev pub terms_of : Header → Terms
-terms_of h = record { objective = h.objective; capacity = h.capacity; warmup = 0 }
+terms_of h = terms_from h.objective h.capacity 0
 
 -- no policy within the capacity scores more than the upper bound, nor than its floor
 pub record BoundsEveryPolicy (trace : List Object) (h : Header) : Type 0 where

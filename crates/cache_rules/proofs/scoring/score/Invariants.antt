@@ -7,7 +7,7 @@ use Rattle.cache_rules.proofs.scoring.score.Given as goal
 
 abbrev pub invariant-loop-t : goal.invariant-loop-t
 invariant-loop-t l = record {
-  gains : l.gains ≡ sum_by (earned_at l.objective l.trace l.keeps) (range_with_len 0 l.t);
+  gains : l.gains ≡ sum_by (earned_at l.terms l.trace l.keeps) (range_with_len 0 l.t);
   few : l.gains ≤ l.t * 2 ^ 48;
   load : l.load ≡ total_size (held_before l.trace l.keeps l.t);
   room : l.load ≤ l.capacity;
