@@ -5,7 +5,8 @@ use Rattle.std.specs.Io.KnownBytes.{Appends}
 use Rattle.cache_model.specs.declared.objects.Object.{Object}
 use Rattle.cache_model.specs.declared.certificates.Header.{Header}
 use Rattle.cache_model.specs.declared.certificates.Record.{Record}
-use Rattle.cache_model.specs.Certificates.{BoundsEveryPolicy, IsValid}
+use Rattle.cache_model.specs.Claim.{BoundsEveryPolicy}
+use Rattle.cache_model.specs.Certificates.{IsValid}
 use Rattle.bound_run.specs.declared.words.Plan.{Plan}
 use Rattle.bound_run.specs.declared.words.WordFault.{WordFault}
 use Rattle.bound_run.specs.declared.status.Status.{Status}

@@ -15,9 +15,8 @@ use Rattle.cache_model.specs.declared.reports.Mode.{Mode}
 use Rattle.cache_model.specs.declared.reports.Mode.TheVariants.{Flow, Constant, Infinite}
 use Rattle.cache_model.specs.Intervals.{bound_of}
 use Rattle.cache_model.specs.Units.{IsUnit, HasWholeCosts, weight}
-use Rattle.cache_model.specs.Certificates.{IsHeaderInRange, IsValid, BoundsEveryPolicy, flows_of, keeps_of, prices_of, upper_of}
-use Rattle.cache_model.specs.Claim.{IsAllowed, score}
-use Rattle.cache_model.specs.Keeps.{contents_of}
+use Rattle.cache_model.specs.Certificates.{IsHeaderInRange, IsValid, flows_of, keeps_of, prices_of, upper_of}
+use Rattle.cache_model.specs.Claim.{IsAllowed, score, BoundsEveryPolicy, contents_of}
 use Rattle.cache_model.specs.Rounding.{IsMaximal, IsRounded, by_rank}
 use Rattle.cache_model.specs.Schedules.{IsFractionalSchedule, flow_value}
 use Rattle.cache_model.proofs.Headline.{prices_bound, exact_is_least}

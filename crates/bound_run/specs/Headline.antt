@@ -5,9 +5,8 @@ use Rattle.bound_io.specs.Devices.{Device}
 use Rattle.cache_model.specs.declared.objects.Object.{Object}
 use Rattle.cache_model.specs.declared.certificates.Header.{Header}
 use Rattle.cache_model.specs.declared.certificates.Record.{Record}
-use Rattle.cache_model.specs.Certificates.{BoundsEveryPolicy, eligible_of, flow_of, keeps_of, upper_of}
-use Rattle.cache_model.specs.Keeps.{contents_of}
-use Rattle.cache_model.specs.Claim.{IsAllowed, score}
+use Rattle.cache_model.specs.Certificates.{eligible_of, flow_of, keeps_of, upper_of}
+use Rattle.cache_model.specs.Claim.{IsAllowed, score, BoundsEveryPolicy, contents_of}
 use Rattle.cache_model.specs.Texts.{cert_text, report_text}
 use Rattle.cache_model.specs.Units.{HasWholeCosts}
 use Rattle.cert_checker.specs.declared.verdict.Verdict.{Verdict}

@@ -5,7 +5,8 @@ use Rattle.bound_io.specs.Devices.{Device}
 use Rattle.cache_model.specs.declared.objects.Object.{Object}
 use Rattle.cache_model.specs.declared.certificates.Header.{Header}
 use Rattle.cache_model.specs.declared.certificates.Record.{Record}
-use Rattle.cache_model.specs.Certificates.{BoundsEveryPolicy, IsLeastOverAll, IsValid}
+use Rattle.cache_model.specs.Claim.{BoundsEveryPolicy}
+use Rattle.cache_model.specs.Certificates.{IsLeastOverAll, IsValid}
 use Rattle.cache_model.specs.Objects.{objects_of}
 use Rattle.cache_model.specs.Texts.{cert_text}
 use Rattle.trace_any.specs.declared.fault.TraceFault.{TraceFault as FaultOfTrace}

@@ -11,10 +11,10 @@ use Rattle.cache_model.specs.declared.reports.Window.{Window}
 use Rattle.cache_model.specs.declared.reports.Window.TheVariants.{Steps, All as Whole}
 use Rattle.cache_model.specs.declared.reports.BoundFacts.{BoundFacts}
 use Rattle.cache_model.specs.Intervals.{eligible_intervals}
-use Rattle.cache_model.specs.Keeps.{is_kept}
+use Rattle.cache_model.specs.Claim.{is_kept, BoundsEveryPolicy}
 use Rattle.cache_model.specs.Objects.{objects_of}
 use Rattle.cache_model.specs.Units.{IsUnit, HasWholeCosts}
-use Rattle.cache_model.specs.Certificates.{eligible_of, flows_of, keeps_of, prices_of, units_of, IsValid, BoundsEveryPolicy, IsLeastOverAll}
+use Rattle.cache_model.specs.Certificates.{eligible_of, flows_of, keeps_of, prices_of, units_of, IsValid, IsLeastOverAll}
 use Rattle.cache_model.specs.Rounding.{IsMaximal, IsRounded, by_rank}
 use Rattle.cache_model.specs.Texts.{cert_text, report_text}
 use Rattle.flow_model.specs.Instances.{IsLeast, IsSolution, total_cost, whole_instance}

@@ -10,9 +10,9 @@ use Rattle.std.proofs.lemmas.List.FromFn.{length-range_with_len}
 use Rattle.std.proofs.lemmas.List.Sums.{length-filter, count_by-le-length}
 use Rattle.cache_model.specs.contracts.objects.ObjectPartialEq.TheImpl.{eq-value}
 use Rattle.cache_model.specs.declared.objects.Object.{Object}
-use Rattle.cache_model.specs.Claim.{same_object}
+use Rattle.cache_model.specs.Claim.{same_object, request_at, no_object}
 use Rattle.cache_model.specs.Objects.{IsLatest, IsNew}
-use Rattle.cache_model.specs.Objects.{request_at, no_object, numbers_of, IsNext, IsLast, IsFirst, is_first, objects_of}
+use Rattle.cache_model.specs.Objects.{numbers_of, IsNext, IsLast, IsFirst, is_first, objects_of}
 use Rattle.cache_model.proofs.Duality.{same_object-true, same_object-refl}
 use Rattle.cache_model.proofs.Pairs.{same_object-sym}
 use Rattle.cache_model.proofs.Eligible.{range-suc}

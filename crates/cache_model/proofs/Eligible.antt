@@ -1,17 +1,17 @@
 -- The eligible interval that starts at a request: the one to the next request of its object.
 use Rattle.std.proofs.Common.{◌≡◌, ◌≢◌, ℕ, suc, zero, ◌+◌, ◌-◌, ◌<◌, ◌≤◌, ◌∙◌, sym, refl, ap, Bool, true, false, not, ◌&&◌, ◌||◌, cond, nat_lt, nat_le, List, [], ◌∷◌, length, arith, ⊎_elim, append-nil, ◌++◌, map, flat_map, filter, get_or, slice_range}
 use Rattle.std.specs.List.{range_with_len, list_any}
-use Rattle.std.proofs.lemmas.Bool.{cases_lt, cases_eq, lt-ltb, le-ltb, lt-leb, and_left, and_right, and_from}
+use Rattle.std.proofs.lemmas.Bool.{cases_lt, cases_eq, lt-ltb, le-ltb, le-leb, lt-leb, and_left, and_right, and_from}
 use Rattle.std.proofs.lemmas.List.Concat.{flat_map-append}
 use Rattle.std.proofs.lemmas.List.Folds.{list_any_at, list_any_none, list_any-append}
 use Rattle.std.proofs.lemmas.List.Elements.{All-from_get_or}
 use Rattle.std.proofs.lemmas.List.Edits.{length-between, get_or-between, between_more}
 use Rattle.cache_model.specs.declared.objects.Object.{Object}
-use Rattle.cache_model.specs.Claim.{same_object}
-use Rattle.cache_model.specs.declared.objects.Objective.{Objective}
+use Rattle.cache_model.specs.Claim.{same_object, request_at, no_object}
+use Rattle.cache_model.specs.declared.terms.Terms.{Terms}
 use Rattle.cache_model.specs.declared.intervals.Interval.{Interval}
 use Rattle.cache_model.specs.Intervals.{is_eligible, interval_of, eligible_from}
-use Rattle.cache_model.specs.Objects.{request_at, no_object, IsNext, IsLast}
+use Rattle.cache_model.specs.Objects.{IsNext, IsLast}
 
 -- no number of a range passes the test
 pub filter-range_none : (p : ℕ → Bool) (a n : ℕ) → ((k : ℕ) → a ≤ k → k < a + n → p k ≡ false) → filter p (range_with_len a n) ≡ []
@@ -78,34 +78,65 @@ is_next_no trace a b k n lt ne =
     (λ (h : k ≤ a). and_left _ _ (and_left (nat_lt a k) _ (le-ltb a k h)))
     (cases_lt a k)
 
-pub eligible_next : (trace : List Object) (c a b : ℕ) → IsNext trace a b
-    → filter (is_eligible c trace a) (range_with_len 0 (length trace)) ≡ cond (nat_le (request_at trace a).size c) (b ∷ []) []
-eligible_next trace c a b n = at (nat_le (request_at trace a).size c)
+pub eligible_next : (terms : Terms) (trace : List Object) (a b : ℕ) → IsNext trace a b
+    → filter (is_eligible terms trace a) (range_with_len 0 (length trace)) ≡ cond (nat_le (request_at trace a).size terms.capacity && nat_le terms.warmup b) (b ∷ []) []
+eligible_next terms trace a b n = at (nat_le (request_at trace a).size terms.capacity) (nat_le terms.warmup b) refl
   where
-    at : (t : Bool) → filter (λ k. is_next trace a k && t) (range_with_len 0 (length trace)) ≡ cond t (b ∷ []) []
-    at true = filter-range_one (λ k. is_next trace a k && true) b 0 (length trace) (omega arith) (omega arith) (and_from _ true (is_next_yes trace a b n) refl)
-        (λ k low high ne. and_left _ true (is_next_no trace a b k n (omega arith) ne))
-    at false = filter-range_none (λ k. is_next trace a k && false) 0 (length trace) (λ k low high. and_right (is_next trace a k) false refl)
+    passes : Bool → ℕ → Bool
+    passes fits k = is_next trace a k && fits && nat_le terms.warmup k
+
+    -- b alone is the next request, and it does not count
+    none : (fits counts : Bool) → nat_le terms.warmup b ≡ counts → (fits && counts) ≡ false → (k : ℕ) → k < length trace → passes fits k ≡ false
+    none fits counts e neither k lt =
+        ⊎_elim
+        (λ (here : k ≡ b). ap (λ j. is_next trace a j && fits && nat_le terms.warmup j) here ∙ ap (λ t. is_next trace a b && fits && t) e ∙ shut (is_next trace a b) fits counts neither)
+        (λ (ne : k ≢ b). and_left _ _ (and_left _ fits (is_next_no trace a b k n lt ne)))
+        (cases_eq k b)
+      where
+        shut : (s t u : Bool) → (t && u) ≡ false → (s && t && u) ≡ false
+        shut true t u h = h
+        shut false t u h = refl
+
+    at : (fits counts : Bool) → nat_le terms.warmup b ≡ counts → filter (passes fits) (range_with_len 0 (length trace)) ≡ cond (fits && counts) (b ∷ []) []
+    at true true e = filter-range_one (passes true) b 0 (length trace) (omega arith) (omega arith) (and_from _ _ (and_from _ true (is_next_yes trace a b n) refl) e)
+        (λ k low high ne. and_left _ _ (and_left _ true (is_next_no trace a b k n (omega arith) ne)))
+    at true false e = filter-range_none (passes true) 0 (length trace) (λ k low high. none true false e refl k (omega arith))
+    at false counts e = filter-range_none (passes false) 0 (length trace) (λ k low high. none false counts e refl k (omega arith))
 
 -- no later request is of the object
-pub eligible_last : (trace : List Object) (c a : ℕ) → IsLast trace a
-    → filter (is_eligible c trace a) (range_with_len 0 (length trace)) ≡ []
-eligible_last trace c a none =
-    filter-range_none (is_eligible c trace a) 0 (length trace) (λ k low high. and_left _ (nat_le (request_at trace a).size c) (and_left _ _ (at k (omega arith))))
+pub eligible_last : (terms : Terms) (trace : List Object) (a : ℕ) → IsLast trace a
+    → filter (is_eligible terms trace a) (range_with_len 0 (length trace)) ≡ []
+eligible_last terms trace a none =
+    filter-range_none (is_eligible terms trace a) 0 (length trace)
+    (λ k low high. and_left _ (nat_le terms.warmup k) (and_left _ (nat_le (request_at trace a).size terms.capacity) (and_left _ _ (at k (omega arith)))))
   where
     at : (k : ℕ) → k < length trace → (nat_lt a k && same_object (request_at trace a) (request_at trace k)) ≡ false
     at k lt = ⊎_elim (λ (h : a < k). and_right (nat_lt a k) _ (none k h lt)) (λ (h : k ≤ a). and_left (nat_lt a k) _ (le-ltb a k h)) (cases_lt a k)
 
-pub eligible_from_next : (o : Objective) (c : ℕ) (trace : List Object) (a b : ℕ) → IsNext trace a b
-    → eligible_from o c trace a ≡ cond (nat_le (request_at trace a).size c) (interval_of o trace a b ∷ []) []
-eligible_from_next o c trace a b n = ap (map (interval_of o trace a)) (eligible_next trace c a b n) ∙ at (nat_le (request_at trace a).size c)
+pub eligible_from_next : (terms : Terms) (trace : List Object) (a b : ℕ) → IsNext trace a b
+    → eligible_from terms trace a ≡ cond (nat_le (request_at trace a).size terms.capacity && nat_le terms.warmup b) (interval_of terms.objective trace a b ∷ []) []
+eligible_from_next terms trace a b n =
+    ap (map (interval_of terms.objective trace a)) (eligible_next terms trace a b n) ∙ at (nat_le (request_at trace a).size terms.capacity && nat_le terms.warmup b)
   where
-    at : (t : Bool) → map (interval_of o trace a) (cond t (b ∷ []) []) ≡ cond t (interval_of o trace a b ∷ []) []
+    at : (t : Bool) → map (interval_of terms.objective trace a) (cond t (b ∷ []) []) ≡ cond t (interval_of terms.objective trace a b ∷ []) []
     at true = refl
     at false = refl
 
-pub eligible_from_last : (o : Objective) (c : ℕ) (trace : List Object) (a : ℕ) → IsLast trace a → eligible_from o c trace a ≡ []
-eligible_from_last o c trace a last = ap (map (interval_of o trace a)) (eligible_last trace c a last)
+-- the object fits, and its next request is past the warm-up
+pub eligible_from_one : (terms : Terms) (trace : List Object) (a b : ℕ) → IsNext trace a b → (request_at trace a).size ≤ terms.capacity → terms.warmup ≤ b
+    → eligible_from terms trace a ≡ interval_of terms.objective trace a b ∷ []
+eligible_from_one terms trace a b n fits counts =
+    eligible_from_next terms trace a b n
+    ∙ ap (λ t. cond t (interval_of terms.objective trace a b ∷ []) []) (and_from _ _ (le-leb (request_at trace a).size terms.capacity fits) (le-leb terms.warmup b counts))
+
+-- the next request is one of the warm-up
+pub eligible_from_early : (terms : Terms) (trace : List Object) (a b : ℕ) → IsNext trace a b → b < terms.warmup → eligible_from terms trace a ≡ []
+eligible_from_early terms trace a b n early =
+    eligible_from_next terms trace a b n
+    ∙ ap (λ t. cond t (interval_of terms.objective trace a b ∷ []) []) (and_right (nat_le (request_at trace a).size terms.capacity) _ (lt-leb terms.warmup b early))
+
+pub eligible_from_last : (terms : Terms) (trace : List Object) (a : ℕ) → IsLast trace a → eligible_from terms trace a ≡ []
+eligible_from_last terms trace a last = ap (map (interval_of terms.objective trace a)) (eligible_last terms trace a last)
 
 pub range-suc : (a n j : ℕ) → a + n ≡ j → range_with_len a (suc n) ≡ range_with_len a n ++ j ∷ []
 range-suc a zero j e = let e' : a ≡ j = omega arith in ap (λ k. k ∷ []) e'
@@ -119,12 +150,14 @@ flat_map-range_more f n =
     ∙ flat_map-append f (range_with_len 0 n) (n ∷ []) ∙ ap (λ xs. flat_map f (range_with_len 0 n) ++ xs) (append-nil (f n))
 
 -- one more request, whose interval is given
-pub eligible_more : (o : Objective) (c : ℕ) (trace : List Object) (a : ℕ) (items more piece : List Interval)
-    → items ≡ flat_map (eligible_from o c trace) (range_with_len 0 a) → eligible_from o c trace a ≡ piece → more ≡ items ++ piece
-    → more ≡ flat_map (eligible_from o c trace) (range_with_len 0 (a + 1))
-eligible_more o c trace a items more piece so_far row e = e ∙ ap (λ xs. xs ++ piece) so_far ∙ ap (λ xs. flat_map (eligible_from o c trace) (range_with_len 0 a) ++ xs) (sym row) ∙ sym (flat_map-range_more (eligible_from o c trace) a)
+pub eligible_more : (terms : Terms) (trace : List Object) (a : ℕ) (items more piece : List Interval)
+    → items ≡ flat_map (eligible_from terms trace) (range_with_len 0 a) → eligible_from terms trace a ≡ piece → more ≡ items ++ piece
+    → more ≡ flat_map (eligible_from terms trace) (range_with_len 0 (a + 1))
+eligible_more terms trace a items more piece so_far row e = e ∙ ap (λ xs. xs ++ piece) so_far ∙ ap (λ xs. flat_map (eligible_from terms trace) (range_with_len 0 a) ++ xs) (sym row) ∙ sym (flat_map-range_more (eligible_from terms trace) a)
 
 -- an object that does not fit
-pub eligible_from_too_large : (o : Objective) (c : ℕ) (trace : List Object) (a : ℕ) → c < (request_at trace a).size → eligible_from o c trace a ≡ []
-eligible_from_too_large o c trace a large =
-    ap (map (interval_of o trace a)) (filter-range_none (is_eligible c trace a) 0 (length trace) (λ k low high. and_right (is_next trace a k) _ (lt-leb (request_at trace a).size c large)))
+pub eligible_from_too_large : (terms : Terms) (trace : List Object) (a : ℕ) → terms.capacity < (request_at trace a).size → eligible_from terms trace a ≡ []
+eligible_from_too_large terms trace a large =
+    ap (map (interval_of terms.objective trace a))
+    (filter-range_none (is_eligible terms trace a) 0 (length trace)
+    (λ k low high. and_left _ (nat_le terms.warmup k) (and_right (is_next trace a k) _ (lt-leb (request_at trace a).size terms.capacity large))))

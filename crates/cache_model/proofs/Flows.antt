@@ -1,14 +1,14 @@
 -- A fractional schedule is worth at most the bound of any prices, over any two denominators.
-use Rattle.std.proofs.Common.{◌≡◌, ℕ, suc, zero, ◌+◌, ◌-◌, ◌*◌, ◌/◌, ◌<◌, ◌≤◌, ◌∙◌, sym, refl, ap, Bool, true, false, ◌&&◌, cond, nat_lt, nat_le, leb, List, [], ◌∷◌, length, arith, ⊎_elim, sum, sum_by, zip, take, drop, get_or, slice_range}
+use Rattle.std.proofs.Common.{◌≡◌, ℕ, ◌+◌, ◌-◌, ◌*◌, ◌/◌, ◌<◌, ◌≤◌, ◌∙◌, sym, refl, ap, Bool, cond, List, [], ◌∷◌, length, arith, ⊎_elim, sum, sum_by, zip, get_or, slice_range}
 use Rattle.std.specs.List.{range_with_len, AllZip}
 use Rattle.std.proofs.Math.Nat.{mul-le-mul_left, mul-le-mul_right, div-mul-le_self}
-use Rattle.std.proofs.lemmas.Bool.{cases_lt, lt-ltb, le-ltb, le-leb, lt-leb, and_left, and_right}
+use Rattle.std.proofs.lemmas.Bool.{cases_lt}
 use Rattle.std.proofs.lemmas.List.Sums.{sum_by-cons}
 use Rattle.cache_model.specs.declared.intervals.Interval.{Interval}
 use Rattle.cache_model.specs.Intervals.{surplus, bound_of}
 use Rattle.cache_model.specs.Units.{weight}
 use Rattle.cache_model.specs.Schedules.{covers, load_at, IsFractionalSchedule, flow_value}
-use Rattle.cache_model.proofs.Sums.{sum_by-range, sum_by-nothing, sum_by-agree}
+use Rattle.cache_model.proofs.Sums.{sum_by-nothing, sum_by-agree}
 use Rattle.cache_model.proofs.Ranges.{within, priced, range_sum, sum_by-add, sum_by-times, cond-mul, loads_paid}
 
 -- what each flow pays for its room is what each step is paid for its load

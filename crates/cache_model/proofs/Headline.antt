@@ -6,9 +6,9 @@ use Rattle.std.proofs.lemmas.Nat.{le-div}
 use Rattle.cache_model.specs.declared.objects.Object.{Object}
 use Rattle.cache_model.specs.declared.certificates.Header.{Header}
 use Rattle.cache_model.specs.declared.certificates.Record.{Record}
-use Rattle.cache_model.specs.Claim.{score, IsAllowed}
+use Rattle.cache_model.specs.Claim.{score, terms_of, IsAllowed, BoundsEveryPolicy}
 use Rattle.cache_model.specs.Intervals.{bound_of}
-use Rattle.cache_model.specs.Certificates.{prices_of, eligible_of, units_of, flow_of, upper_of, flows_of, IsValid, BoundsEveryPolicy, IsLeastOverAll}
+use Rattle.cache_model.specs.Certificates.{prices_of, eligible_of, units_of, flow_of, upper_of, flows_of, IsValid, IsLeastOverAll}
 use Rattle.cache_model.proofs.Flows.{flow_value-le}
 use Rattle.cache_model.proofs.Steps.{no_policy_scores_more_lem}
 
@@ -16,12 +16,12 @@ use Rattle.cache_model.proofs.Steps.{no_policy_scores_more_lem}
 pub prices_bound : (trace : List Object) (h : Header) (records : List Record) → length records ≡ length trace → 0 < h.denominator → h.upper ≡ upper_of trace h records → BoundsEveryPolicy trace h
 prices_bound trace h records each positive upper =
     let many : length (prices_of records) ≡ length trace = omega (arith, length-map records (λ (r : Record). r.price)) in
-    let most : (contents : List (List Object)) → IsAllowed h.capacity trace contents → h.denominator * score h.objective trace contents ≤ h.upper
-    = λ contents allowed. omega (arith, no_policy_scores_more_lem h.objective h.capacity h.unit h.denominator trace (prices_of records) contents allowed many) in
+    let most : (contents : List (List Object)) → IsAllowed h.capacity trace contents → h.denominator * score (terms_of h) trace contents ≤ h.upper
+    = λ contents allowed. omega (arith, no_policy_scores_more_lem (terms_of h) h.unit h.denominator trace (prices_of records) contents allowed many) in
     record {
       denominator_positive = positive;
       no_policy_scores_more = most;
-      no_policy_passes_the_floor = λ contents allowed. le-div (score h.objective trace contents) h.upper h.denominator positive (omega (arith, most contents allowed));
+      no_policy_passes_the_floor = λ contents allowed. le-div (score (terms_of h) trace contents) h.upper h.denominator positive (omega (arith, most contents allowed));
     }
 
 pub valid_bounds : (trace : List Object) (h : Header) (records : List Record) → IsValid trace h records → BoundsEveryPolicy trace h

@@ -7,9 +7,7 @@ use Rattle.std.proofs.lemmas.List.FromFn.{length-map-range_with_len, get_or-map-
 use Rattle.std.proofs.lemmas.Option.{slice_get-get_or}
 use Rattle.std.proofs.lemmas.Map.Made.{AllPairs-from_IsDistinct}
 use Rattle.cache_model.specs.declared.objects.Object.{Object}
-use Rattle.cache_model.specs.Claim.{same_object, total_size, before_request, IsAllowed}
-use Rattle.cache_model.specs.Objects.{request_at, no_object}
-use Rattle.cache_model.specs.Keeps.{is_kept, is_held, held_before, contents_of}
+use Rattle.cache_model.specs.Claim.{same_object, total_size, before_request, IsAllowed, request_at, no_object, is_kept, is_held, held_before, contents_of}
 use Rattle.cache_model.proofs.Duality.{same_object-true}
 use Rattle.cache_model.proofs.Steps.{same_object-from}
 use Rattle.cache_model.proofs.Eligible.{list_any-range_false, list_any-range_true}

@@ -5,10 +5,9 @@ use Rattle.std.proofs.Math.Seq.{get_or-append_seam}
 use Rattle.std.proofs.lemmas.Bool.{cases_Bool, cases_lt}
 use Rattle.std.proofs.lemmas.List.{get_or_append_left, length-append}
 use Rattle.cache_model.specs.declared.objects.Object.{Object}
-use Rattle.cache_model.specs.Claim.{same_object, total_size}
+use Rattle.cache_model.specs.Claim.{same_object, total_size, request_at, no_object, is_kept, is_held, held_before, is_latest}
 use Rattle.cache_model.specs.Objects.{IsLatest}
-use Rattle.cache_model.specs.Objects.{request_at, no_object}
-use Rattle.cache_model.specs.Keeps.{is_kept, is_held, held_before, is_latest, latest_sum}
+use Rattle.cache_model.specs.Keeps.{latest_sum}
 use Rattle.cache_model.proofs.Duality.{same_object-true}
 use Rattle.cache_model.proofs.Sums.{sum_by-map, sum_by-filter, sum_by-agree}
 use Rattle.cache_model.proofs.Eligible.{list_any-range_false, list_any-range_true, list_any-range_more, or_false}

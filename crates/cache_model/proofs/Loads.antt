@@ -5,17 +5,17 @@ use Rattle.std.proofs.lemmas.Bool.{cases_Bool, cases_lt, and_left, and_right, an
 use Rattle.std.proofs.lemmas.List.Folds.{Any-from_list_any}
 use Rattle.std.proofs.lemmas.List.Sums.{sum_by-cons}
 use Rattle.cache_model.specs.declared.objects.Object.{Object}
-use Rattle.cache_model.specs.declared.objects.Objective.{Objective}
+use Rattle.cache_model.specs.declared.terms.Terms.{Terms}
 use Rattle.cache_model.specs.declared.intervals.Interval.{Interval}
-use Rattle.cache_model.specs.Claim.{same_object}
+use Rattle.cache_model.specs.Claim.{same_object, request_at, no_object, is_latest}
 use Rattle.cache_model.specs.Intervals.{interval_of, eligible_from, eligible_intervals}
-use Rattle.cache_model.specs.Objects.{request_at, no_object, IsNext}
+use Rattle.cache_model.specs.Objects.{IsNext}
 use Rattle.cache_model.specs.Schedules.{covers, load_at}
-use Rattle.cache_model.specs.Keeps.{is_latest, latest_sum}
+use Rattle.cache_model.specs.Keeps.{latest_sum}
 use Rattle.cache_model.specs.Laws.{IsEligible}
 use Rattle.cache_model.proofs.Sums.{sum_by-flat_map}
 use Rattle.cache_model.proofs.Streams.{sum_by-range_agree}
-use Rattle.cache_model.proofs.Eligible.{eligible_from_next, list_any-range_false, list_any-range_true}
+use Rattle.cache_model.proofs.Eligible.{eligible_from_one, list_any-range_false, list_any-range_true}
 use Rattle.cache_model.proofs.Members.{All-eligible_from, All-eligible_intervals}
 use Rattle.cache_model.proofs.Rounding.{sum_by-none, sum_by-range_upto}
 
@@ -29,27 +29,27 @@ load_at-map h t [] = refl
 load_at-map h t (i ∷ intervals) =
     omega (arith, load_at-map h t intervals, sum_by-cons (λ (i, amount). cond (covers t i) amount 0) (i, h i) (zip intervals (map h intervals)), sum_by-cons (λ i. cond (covers t i) (h i) 0) i intervals)
 
-module _ (o : Objective) (c : ℕ) (trace : List Object) (g : ℕ → ℕ) (t : ℕ) where
+module _ (terms : Terms) (trace : List Object) (g : ℕ → ℕ) (t : ℕ) where
   share : Interval → ℕ
   share i = cond (covers t i) (g i.start) 0
 
   own : ℕ → ℕ
   own a = cond (is_latest trace (t + 1) a) (g a) 0
 
-  no_amount : (a : ℕ) → g a ≡ 0 → own a ≡ sum_by share (eligible_from o c trace a)
+  no_amount : (a : ℕ) → g a ≡ 0 → own a ≡ sum_by share (eligible_from terms trace a)
   unfolding share own
   no_amount a e =
       cond_zero (is_latest trace (t + 1) a) (g a) e
-      ∙ sym (sum_by-none share (eligible_from o c trace a)
-      (λ k d lt. let i : Interval = get_or (eligible_from o c trace a) k d in let from : i.start ≡ a = (All-eligible_from o c trace a k d lt).1 in
+      ∙ sym (sum_by-none share (eligible_from terms trace a)
+      (λ k d lt. let i : Interval = get_or (eligible_from terms trace a) k d in let from : i.start ≡ a = (All-eligible_from terms trace a k d lt).1 in
       cond_zero (covers t i) (g i.start) (ap g from ∙ e)))
 
-  started : (a b : ℕ) → a ≤ t → t < length trace → IsNext trace a b → (request_at trace a).size ≤ c → own a ≡ sum_by share (eligible_from o c trace a)
+  started : (a b : ℕ) → a ≤ t → t < length trace → IsNext trace a b → (request_at trace a).size ≤ terms.capacity → terms.warmup ≤ b → own a ≡ sum_by share (eligible_from terms trace a)
   unfolding share own
-  started a b low high n fits =
-      let i : Interval = interval_of o trace a b in
-      let of_start : eligible_from o c trace a ≡ i ∷ [] = eligible_from_next o c trace a b n ∙ ap (λ s. cond s (i ∷ []) []) (le-leb (request_at trace a).size c fits) in
-      let one : sum_by share (eligible_from o c trace a) ≡ cond (covers t i) (g a) 0 = ap (sum_by share) of_start ∙ (omega (arith, sum_by-cons share i [])) in
+  started a b low high n fits counts =
+      let i : Interval = interval_of terms.objective trace a b in
+      let of_start : eligible_from terms trace a ≡ i ∷ [] = eligible_from_one terms trace a b n fits counts in
+      let one : sum_by share (eligible_from terms trace a) ≡ cond (covers t i) (g a) 0 = ap (sum_by share) of_start ∙ (omega (arith, sum_by-cons share i [])) in
       let p : Object → Bool = same_object (request_at trace a) in
       ⊎_elim
       (λ (before : t < b).
@@ -62,36 +62,36 @@ module _ (o : Objective) (c : ℕ) (trace : List Object) (g : ℕ → ℕ) (t : 
       ap (λ s. cond (not s) (g a) 0) again ∙ sym (one ∙ ap (λ s. cond s (g a) 0) (and_right _ _ (le-ltb t b after))))
       (cases_lt t b)
 
-  each_share : ((a : ℕ) → list_any (λ i. i.start == a) (eligible_intervals o c trace) ≡ false → g a ≡ 0)
-      → t < length trace → (a : ℕ) → a ≤ t → own a ≡ sum_by share (eligible_from o c trace a)
+  each_share : ((a : ℕ) → list_any (λ i. i.start == a) (eligible_intervals terms trace) ≡ false → g a ≡ 0)
+      → t < length trace → (a : ℕ) → a ≤ t → own a ≡ sum_by share (eligible_from terms trace a)
   each_share only high a low =
       ⊎_elim
-      (λ (starts : list_any (λ i. i.start == a) (eligible_intervals o c trace) ≡ true). found (Any-from_list_any (λ i. i.start == a) (eligible_intervals o c trace) starts))
-      (λ (none : list_any (λ i. i.start == a) (eligible_intervals o c trace) ≡ false). no_amount a (only a none))
-      (cases_Bool (list_any (λ i. i.start == a) (eligible_intervals o c trace)))
+      (λ (starts : list_any (λ i. i.start == a) (eligible_intervals terms trace) ≡ true). found (Any-from_list_any (λ i. i.start == a) (eligible_intervals terms trace) starts))
+      (λ (none : list_any (λ i. i.start == a) (eligible_intervals terms trace) ≡ false). no_amount a (only a none))
+      (cases_Bool (list_any (λ i. i.start == a) (eligible_intervals terms trace)))
     where
-      found : Any (λ i. (i.start == a) ≡ true) (eligible_intervals o c trace) → own a ≡ sum_by share (eligible_from o c trace a)
+      found : Any (λ i. (i.start == a) ≡ true) (eligible_intervals terms trace) → own a ≡ sum_by share (eligible_from terms trace a)
       found (k, i, lt, at, starts) =
-          let el : IsEligible o c trace i = subst (IsEligible o c trace) at (All-eligible_intervals o c trace k i lt) in
+          let el : IsEligible terms trace i = subst (IsEligible terms trace) at (All-eligible_intervals terms trace k i lt) in
           let here : i.start ≡ a = eqb-true i.start a starts in
-          started a i.end low high (subst (λ j. IsNext trace j i.end) here el.next) (subst (λ j. (request_at trace j).size ≤ c) here el.fits)
+          started a i.end low high (subst (λ j. IsNext trace j i.end) here el.next) (subst (λ j. (request_at trace j).size ≤ terms.capacity) here el.fits) el.counts
 
-  later_share : (a : ℕ) → t + 1 ≤ a → sum_by share (eligible_from o c trace a) ≡ 0
+  later_share : (a : ℕ) → t + 1 ≤ a → sum_by share (eligible_from terms trace a) ≡ 0
   unfolding share
   later_share a late =
-      sum_by-none share (eligible_from o c trace a)
-      (λ k d lt. let i : Interval = get_or (eligible_from o c trace a) k d in let from : i.start ≡ a = (All-eligible_from o c trace a k d lt).1 in
+      sum_by-none share (eligible_from terms trace a)
+      (λ k d lt. let i : Interval = get_or (eligible_from terms trace a) k d in let from : i.start ≡ a = (All-eligible_from terms trace a k d lt).1 in
       ap (λ s. cond s (g i.start) 0) (and_left _ _ (lt-leb i.start t (omega arith))))
 
   -- the flows over step t are those of the latest requests
-  pub load-latest : ((a : ℕ) → list_any (λ i. i.start == a) (eligible_intervals o c trace) ≡ false → g a ≡ 0)
-      → t < length trace → load_at (eligible_intervals o c trace) (map (λ i. g i.start) (eligible_intervals o c trace)) t ≡ latest_sum trace g (t + 1)
+  pub load-latest : ((a : ℕ) → list_any (λ i. i.start == a) (eligible_intervals terms trace) ≡ false → g a ≡ 0)
+      → t < length trace → load_at (eligible_intervals terms trace) (map (λ i. g i.start) (eligible_intervals terms trace)) t ≡ latest_sum trace g (t + 1)
   unfolding share own
   load-latest only high =
-      let of_start : ℕ → ℕ = λ a. sum_by share (eligible_from o c trace a) in
+      let of_start : ℕ → ℕ = λ a. sum_by share (eligible_from terms trace a) in
       let size : length trace ≡ (t + 1) + (length trace - (t + 1)) = omega arith in
-      load_at-map (λ i. g i.start) t (eligible_intervals o c trace)
-      ∙ sum_by-flat_map share (eligible_from o c trace) (range_with_len 0 (length trace))
+      load_at-map (λ i. g i.start) t (eligible_intervals terms trace)
+      ∙ sum_by-flat_map share (eligible_from terms trace) (range_with_len 0 (length trace))
       ∙ ap (λ n. sum_by of_start (range_with_len 0 n)) size
       ∙ sum_by-range_upto of_start (t + 1) (length trace - (t + 1)) later_share
       ∙ sym (sum_by-range_agree own of_start 0 (t + 1) (λ a low lt. each_share only high a (omega arith)))

@@ -1,17 +1,17 @@
 -- The members of the list of eligible intervals.
-use Rattle.std.proofs.Common.{◌≡◌, ◌≢◌, ℕ, suc, zero, ◌+◌, ◌<◌, ◌≤◌, ◌∙◌, sym, refl, ap, subst, Bool, true, false, not, ◌&&◌, cond, nat_lt, nat_le, List, [], ◌∷◌, ◌++◌, length, arith, ⊎_elim, All, AllPairs, Contains, filter, map, flat_map, slice_range}
+use Rattle.std.proofs.Common.{◌≡◌, ◌≢◌, ℕ, suc, zero, ◌+◌, ◌<◌, ◌≤◌, sym, refl, subst, Bool, true, false, not, ◌&&◌, cond, nat_lt, nat_le, List, [], ◌∷◌, ◌++◌, length, arith, ⊎_elim, All, AllPairs, Contains, filter, map, flat_map, slice_range}
 use Rattle.std.specs.List.{range_with_len, list_any}
-use Rattle.std.proofs.lemmas.Bool.{ltb-true, leb-true, le-leb, and_parts, not-true, both_ways, cases_Bool, cases_eq}
+use Rattle.std.proofs.lemmas.Bool.{ltb-true, leb-true, and_parts, not-true, both_ways, cases_Bool, cases_eq}
 use Rattle.std.proofs.lemmas.List.Kept.{AllPairs-cons}
 use Rattle.std.proofs.lemmas.List.Elements.{All-nil, All-head, All-tail, All-weaker, All-append, All-map, All-contains, Contains-get_or, Contains-append_left, Contains-append_right}
 use Rattle.cache_model.specs.declared.objects.Object.{Object}
-use Rattle.cache_model.specs.declared.objects.Objective.{Objective}
+use Rattle.cache_model.specs.declared.terms.Terms.{Terms}
 use Rattle.cache_model.specs.declared.intervals.Interval.{Interval}
-use Rattle.cache_model.specs.Claim.{same_object}
+use Rattle.cache_model.specs.Claim.{same_object, request_at, no_object}
 use Rattle.cache_model.specs.Intervals.{is_eligible, interval_of, eligible_from, eligible_intervals}
-use Rattle.cache_model.specs.Objects.{request_at, no_object, IsNext}
+use Rattle.cache_model.specs.Objects.{IsNext}
 use Rattle.cache_model.specs.Laws.{IsEligible, EligibleIntervals}
-use Rattle.cache_model.proofs.Eligible.{eligible_from_next, list_any-range_true}
+use Rattle.cache_model.proofs.Eligible.{eligible_from_one, list_any-range_true}
 use Rattle.cache_model.proofs.Keeps.{All-filter_range}
 
 -- what holds of each piece holds of the pieces end to end
@@ -29,10 +29,12 @@ Contains-flat_map_range f x k a (suc n) low high m =
     (cases_eq a k)
 
 -- the test and the relation
-eligible_parts : (c : ℕ) (trace : List Object) (a b : ℕ) → b < length trace → is_eligible c trace a b ≡ true → IsNext trace a b × ((request_at trace a).size ≤ c)
-eligible_parts c trace a b within e =
+eligible_parts : (terms : Terms) (trace : List Object) (a b : ℕ) → b < length trace → is_eligible terms trace a b ≡ true → IsNext trace a b × ((request_at trace a).size ≤ terms.capacity) × (terms.warmup ≤ b)
+eligible_parts terms trace a b within e =
     let p : Object → Bool = same_object (request_at trace a) in
-    let outer = and_parts (nat_lt a b && p (request_at trace b) && not (list_any p (slice_range trace (a + 1) b))) (nat_le (request_at trace a).size c) e in
+    let pair : Bool = nat_lt a b && p (request_at trace b) && not (list_any p (slice_range trace (a + 1) b)) in
+    let all = and_parts (pair && nat_le (request_at trace a).size terms.capacity) (nat_le terms.warmup b) e in
+    let outer = and_parts pair (nat_le (request_at trace a).size terms.capacity) all.0 in
     let inner = and_parts (nat_lt a b && p (request_at trace b)) (not (list_any p (slice_range trace (a + 1) b))) outer.0 in
     let first = and_parts (nat_lt a b) (p (request_at trace b)) inner.0 in (
       record {
@@ -45,33 +47,33 @@ eligible_parts c trace a b within e =
             (λ (differs : p (request_at trace k) ≡ false). differs)
             (cases_Bool (p (request_at trace k)));
       },
-      leb-true (request_at trace a).size c outer.1,
+      leb-true (request_at trace a).size terms.capacity outer.1,
+      leb-true terms.warmup b all.1,
     )
 
-pub All-eligible_from : (o : Objective) (c : ℕ) (trace : List Object) (a : ℕ) → All (λ i. IsEligible o c trace i × (i.start ≡ a)) (eligible_from o c trace a)
-All-eligible_from o c trace a =
-    let P : Interval → Type 0 = λ i. IsEligible o c trace i × (i.start ≡ a) in
-    All-map P (interval_of o trace a) (filter (is_eligible c trace a) (range_with_len 0 (length trace)))
-    (All-filter_range (λ b. P (interval_of o trace a b)) (is_eligible c trace a) 0 (length trace)
-    (λ b low high e. let parts = eligible_parts c trace a b (omega arith) e in (record { next = parts.0; fits = parts.1; numbers = refl }, refl)))
+pub All-eligible_from : (terms : Terms) (trace : List Object) (a : ℕ) → All (λ i. IsEligible terms trace i × (i.start ≡ a)) (eligible_from terms trace a)
+All-eligible_from terms trace a =
+    let P : Interval → Type 0 = λ i. IsEligible terms trace i × (i.start ≡ a) in
+    All-map P (interval_of terms.objective trace a) (filter (is_eligible terms trace a) (range_with_len 0 (length trace)))
+    (All-filter_range (λ b. P (interval_of terms.objective trace a b)) (is_eligible terms trace a) 0 (length trace)
+    (λ b low high e. let parts = eligible_parts terms trace a b (omega arith) e in (record { next = parts.0; fits = parts.1; counts = parts.2; numbers = refl }, refl)))
 
 -- each interval of the list is eligible
-pub All-eligible_intervals : (o : Objective) (c : ℕ) (trace : List Object) → All (IsEligible o c trace) (eligible_intervals o c trace)
-All-eligible_intervals o c trace =
-    All-flat_map_range (IsEligible o c trace) (eligible_from o c trace) 0 (length trace)
-    (λ a low high k d lt. (All-eligible_from o c trace a k d lt).0)
+pub All-eligible_intervals : (terms : Terms) (trace : List Object) → All (IsEligible terms trace) (eligible_intervals terms trace)
+All-eligible_intervals terms trace =
+    All-flat_map_range (IsEligible terms trace) (eligible_from terms trace) 0 (length trace)
+    (λ a low high k d lt. (All-eligible_from terms trace a k d lt).0)
 
 -- each eligible interval is in the list
-pub Contains-eligible : (o : Objective) (c : ℕ) (trace : List Object) (i : Interval) → IsEligible o c trace i → Contains (eligible_intervals o c trace) i
-Contains-eligible o c trace i e =
-    let row : eligible_from o c trace i.start ≡ interval_of o trace i.start i.end ∷ [] =
-    eligible_from_next o c trace i.start i.end e.next
-    ∙ ap (λ t. cond t (interval_of o trace i.start i.end ∷ []) []) (le-leb (request_at trace i.start).size c e.fits) in
-    let one : Contains (interval_of o trace i.start i.end ∷ []) (interval_of o trace i.start i.end) = Contains-get_or (interval_of o trace i.start i.end ∷ []) 0 (interval_of o trace i.start i.end) (omega arith) in
-    let there : Contains (eligible_from o c trace i.start) i =
-    subst (λ xs. Contains xs i) (sym row) (subst (Contains (interval_of o trace i.start i.end ∷ [])) (sym e.numbers) one) in
+pub Contains-eligible : (terms : Terms) (trace : List Object) (i : Interval) → IsEligible terms trace i → Contains (eligible_intervals terms trace) i
+Contains-eligible terms trace i e =
+    let row : eligible_from terms trace i.start ≡ interval_of terms.objective trace i.start i.end ∷ [] =
+    eligible_from_one terms trace i.start i.end e.next e.fits e.counts in
+    let one : Contains (interval_of terms.objective trace i.start i.end ∷ []) (interval_of terms.objective trace i.start i.end) = Contains-get_or (interval_of terms.objective trace i.start i.end ∷ []) 0 (interval_of terms.objective trace i.start i.end) (omega arith) in
+    let there : Contains (eligible_from terms trace i.start) i =
+    subst (λ xs. Contains xs i) (sym row) (subst (Contains (interval_of terms.objective trace i.start i.end ∷ [])) (sym e.numbers) one) in
     let next : IsNext trace i.start i.end = e.next in
-    Contains-flat_map_range (eligible_from o c trace) i i.start 0 (length trace) (omega arith) (omega (arith, next.before, next.within)) there
+    Contains-flat_map_range (eligible_from terms trace) i i.start 0 (length trace) (omega arith) (omega (arith, next.before, next.within)) there
 
 AllPairs-append : {X : Type 0} (R : X → X → Type 0) (xs ys : List X) → AllPairs R xs → AllPairs R ys → All (λ x. All (R x) ys) xs → AllPairs R (xs ++ ys)
 AllPairs-append R [] ys a b across = b
@@ -80,46 +82,46 @@ AllPairs-append R (x ∷ xs) ys a b across =
     (All-append (R x) xs ys (λ k d lt. a 0 (suc k) d (omega arith) (omega arith)) (All-head (λ z. All (R z) ys) x xs across))
     (AllPairs-append R xs ys (λ i j d lt within. a (suc i) (suc j) d (omega arith) (omega arith)) b (All-tail (λ z. All (R z) ys) x xs across))
 
-module _ (o : Objective) (c : ℕ) (trace : List Object) where
+module _ (terms : Terms) (trace : List Object) where
   In_order : Interval → Interval → Type 0
   In_order i j = i.start < j.start
 
-  row_in_order : (a b n : ℕ) → b + n ≤ length trace → AllPairs (λ i j. i.start < j.start) (map (interval_of o trace a) (filter (is_eligible c trace a) (range_with_len b n)))
+  row_in_order : (a b n : ℕ) → b + n ≤ length trace → AllPairs (λ i j. i.start < j.start) (map (interval_of terms.objective trace a) (filter (is_eligible terms trace a) (range_with_len b n)))
   row_in_order a b zero room = λ i j d lt within. absurd (omega arith)
-  row_in_order a b (suc n) room = at (is_eligible c trace a b) refl (row_in_order a (b + 1) n (omega arith))
+  row_in_order a b (suc n) room = at (is_eligible terms trace a b) refl (row_in_order a (b + 1) n (omega arith))
     where
       rest : List ℕ
-      rest = filter (is_eligible c trace a) (range_with_len (b + 1) n)
+      rest = filter (is_eligible terms trace a) (range_with_len (b + 1) n)
 
-      alone : is_eligible c trace a b ≡ true → All (λ j. a < j.start) (map (interval_of o trace a) rest)
+      alone : is_eligible terms trace a b ≡ true → All (λ j. a < j.start) (map (interval_of terms.objective trace a) rest)
       alone e =
-          All-map (λ (j : Interval). a < j.start) (interval_of o trace a) rest
-          (All-filter_range (λ k. a < a) (is_eligible c trace a) (b + 1) n
+          All-map (λ (j : Interval). a < j.start) (interval_of terms.objective trace a) rest
+          (All-filter_range (λ k. a < a) (is_eligible terms trace a) (b + 1) n
           (λ k low high e'.
-          let here : IsNext trace a b = (eligible_parts c trace a b (omega arith) e).0 in
-          let later : IsNext trace a k = (eligible_parts c trace a k (omega arith) e').0 in
+          let here : IsNext trace a b = (eligible_parts terms trace a b (omega arith) e).0 in
+          let later : IsNext trace a k = (eligible_parts terms trace a k (omega arith) e').0 in
           absurd (both_ways _ (later.others b here.before (omega arith)) here.same)))
 
-      at : (t : Bool) → is_eligible c trace a b ≡ t → AllPairs (λ i j. i.start < j.start) (map (interval_of o trace a) rest)
-          → AllPairs (λ i j. i.start < j.start) (map (interval_of o trace a) (cond t (b ∷ rest) rest))
-      at true e more = AllPairs-cons (λ i j. i.start < j.start) (interval_of o trace a b) (map (interval_of o trace a) rest) (alone e) more
+      at : (t : Bool) → is_eligible terms trace a b ≡ t → AllPairs (λ i j. i.start < j.start) (map (interval_of terms.objective trace a) rest)
+          → AllPairs (λ i j. i.start < j.start) (map (interval_of terms.objective trace a) (cond t (b ∷ rest) rest))
+      at true e more = AllPairs-cons (λ i j. i.start < j.start) (interval_of terms.objective trace a b) (map (interval_of terms.objective trace a) rest) (alone e) more
       at false e more = more
 
-  rows_in_order : (a n : ℕ) → a + n ≤ length trace → AllPairs (λ i j. i.start < j.start) (flat_map (eligible_from o c trace) (range_with_len a n))
+  rows_in_order : (a n : ℕ) → a + n ≤ length trace → AllPairs (λ i j. i.start < j.start) (flat_map (eligible_from terms trace) (range_with_len a n))
   rows_in_order a zero room = λ i j d lt within. absurd (omega arith)
   rows_in_order a (suc n) room =
-      AllPairs-append (λ i j. i.start < j.start) (eligible_from o c trace a) (flat_map (eligible_from o c trace) (range_with_len (a + 1) n))
+      AllPairs-append (λ i j. i.start < j.start) (eligible_from terms trace a) (flat_map (eligible_from terms trace) (range_with_len (a + 1) n))
       (row_in_order a 0 (length trace) (omega arith))
       (rows_in_order (a + 1) n (omega arith))
-      (All-weaker (λ i. IsEligible o c trace i × (i.start ≡ a)) (λ i. All (λ j. i.start < j.start) (flat_map (eligible_from o c trace) (range_with_len (a + 1) n)))
+      (All-weaker (λ i. IsEligible terms trace i × (i.start ≡ a)) (λ i. All (λ j. i.start < j.start) (flat_map (eligible_from terms trace) (range_with_len (a + 1) n)))
       (λ i from. let here : i.start ≡ a = from.1 in
-      All-flat_map_range (λ j. i.start < j.start) (eligible_from o c trace) (a + 1) n
-      (λ k low high. All-weaker (λ j. IsEligible o c trace j × (j.start ≡ k)) (λ j. i.start < j.start) (λ j f. let there : j.start ≡ k = f.1 in omega arith)
-      (eligible_from o c trace k) (All-eligible_from o c trace k)))
-      (eligible_from o c trace a) (All-eligible_from o c trace a))
+      All-flat_map_range (λ j. i.start < j.start) (eligible_from terms trace) (a + 1) n
+      (λ k low high. All-weaker (λ j. IsEligible terms trace j × (j.start ≡ k)) (λ j. i.start < j.start) (λ j f. let there : j.start ≡ k = f.1 in omega arith)
+      (eligible_from terms trace k) (All-eligible_from terms trace k)))
+      (eligible_from terms trace a) (All-eligible_from terms trace a))
 
-pub intervals_are_eligible : (o : Objective) (c : ℕ) (trace : List Object) → EligibleIntervals o c trace
-intervals_are_eligible o c trace = record {
-  all_and_only = λ i. (All-contains (IsEligible o c trace) (eligible_intervals o c trace) i (All-eligible_intervals o c trace), Contains-eligible o c trace i);
-  in_order = rows_in_order o c trace 0 (length trace) (omega arith);
+pub intervals_are_eligible : (terms : Terms) (trace : List Object) → EligibleIntervals terms trace
+intervals_are_eligible terms trace = record {
+  all_and_only = λ i. (All-contains (IsEligible terms trace) (eligible_intervals terms trace) i (All-eligible_intervals terms trace), Contains-eligible terms trace i);
+  in_order = rows_in_order terms trace 0 (length trace) (omega arith);
 }

@@ -6,18 +6,17 @@ use Rattle.std.proofs.lemmas.List.Folds.{Any-from_list_any}
 use Rattle.std.proofs.lemmas.List.Elements.{All-head, All-tail, All-nil, All-cons}
 use Rattle.std.proofs.lemmas.List.Sums.{sum_by-cons}
 use Rattle.cache_model.specs.declared.objects.Object.{Object}
-use Rattle.cache_model.specs.declared.objects.Objective.{Objective}
+use Rattle.cache_model.specs.declared.terms.Terms.{Terms}
 use Rattle.cache_model.specs.declared.intervals.Interval.{Interval}
-use Rattle.cache_model.specs.Claim.{same_object, total_size}
+use Rattle.cache_model.specs.Claim.{same_object, total_size, request_at, no_object, is_kept, is_held, held_before}
 use Rattle.cache_model.specs.Intervals.{interval_of, eligible_from, eligible_intervals}
-use Rattle.cache_model.specs.Objects.{request_at, no_object, IsNext}
+use Rattle.cache_model.specs.Objects.{IsNext}
 use Rattle.cache_model.specs.Schedules.{covers}
 use Rattle.cache_model.specs.Rounding.{load_beside, fits_beside, IsRounded, taken_load, IsMaximal}
-use Rattle.cache_model.specs.Keeps.{is_kept, is_held, held_before}
 use Rattle.cache_model.specs.Laws.{IsEligible}
 use Rattle.cache_model.proofs.Sums.{sum_by-map, sum_by-filter, sum_by-flat_map}
 use Rattle.cache_model.proofs.Streams.{sum_by-range_agree, sum_by-range_last}
-use Rattle.cache_model.proofs.Eligible.{eligible_from_next, list_any-range_false, list_any-range_true}
+use Rattle.cache_model.proofs.Eligible.{eligible_from_one, list_any-range_false, list_any-range_true}
 use Rattle.cache_model.proofs.Members.{All-eligible_from, All-eligible_intervals}
 
 -- what is 0 at each element sums to 0
@@ -33,7 +32,7 @@ sum_by-range_upto f m (suc k) none =
     ap (λ j. sum_by f (range_with_len 0 j)) e
     ∙ omega (arith, sum_by-range_last f (m + k), none (m + k) (omega arith), sum_by-range_upto f m k none)
 
-module _ (o : Objective) (c : ℕ) (trace : List Object) (keeps : List Bool) (t : ℕ) where
+module _ (terms : Terms) (trace : List Object) (keeps : List Bool) (t : ℕ) where
   -- what an interval adds to the load of step t
   share : Interval → ℕ
   share i = cond (covers t i && is_kept keeps i.start) i.size 0
@@ -41,22 +40,22 @@ module _ (o : Objective) (c : ℕ) (trace : List Object) (keeps : List Bool) (t 
   held_share : ℕ → ℕ
   held_share a = cond (is_held trace keeps (t + 1) a) (request_at trace a).size 0
 
-  not_kept : (a : ℕ) → is_kept keeps a ≡ false → held_share a ≡ sum_by share (eligible_from o c trace a)
+  not_kept : (a : ℕ) → is_kept keeps a ≡ false → held_share a ≡ sum_by share (eligible_from terms trace a)
   unfolding share held_share
   not_kept a e =
       ap (λ s. cond s (request_at trace a).size 0) (and_left _ _ e)
-      ∙ sym (sum_by-none share (eligible_from o c trace a)
-      (λ k d lt. let i : Interval = get_or (eligible_from o c trace a) k d in let from : i.start ≡ a = (All-eligible_from o c trace a k d lt).1 in
+      ∙ sym (sum_by-none share (eligible_from terms trace a)
+      (λ k d lt. let i : Interval = get_or (eligible_from terms trace a) k d in let from : i.start ≡ a = (All-eligible_from terms trace a k d lt).1 in
       ap (λ s. cond s i.size 0) (and_right (covers t i) _ (ap (is_kept keeps) from ∙ e))))
 
-  kept : (a b : ℕ) → a ≤ t → t < length trace → IsNext trace a b → (request_at trace a).size ≤ c → is_kept keeps a ≡ true
-      → held_share a ≡ sum_by share (eligible_from o c trace a)
+  kept : (a b : ℕ) → a ≤ t → t < length trace → IsNext trace a b → (request_at trace a).size ≤ terms.capacity → terms.warmup ≤ b → is_kept keeps a ≡ true
+      → held_share a ≡ sum_by share (eligible_from terms trace a)
   unfolding share held_share
-  kept a b low high n fits e =
+  kept a b low high n fits counts e =
       let size : ℕ = (request_at trace a).size in
-      let i : Interval = interval_of o trace a b in
-      let of_start : eligible_from o c trace a ≡ i ∷ [] = eligible_from_next o c trace a b n ∙ ap (λ s. cond s (i ∷ []) []) (le-leb size c fits) in
-      let one : sum_by share (eligible_from o c trace a) ≡ cond (covers t i && is_kept keeps a) size 0 = ap (sum_by share) of_start ∙ (omega (arith, sum_by-cons share i [])) in
+      let i : Interval = interval_of terms.objective trace a b in
+      let of_start : eligible_from terms trace a ≡ i ∷ [] = eligible_from_one terms trace a b n fits counts in
+      let one : sum_by share (eligible_from terms trace a) ≡ cond (covers t i && is_kept keeps a) size 0 = ap (sum_by share) of_start ∙ (omega (arith, sum_by-cons share i [])) in
       let p : Object → Bool = same_object (request_at trace a) in
       ⊎_elim
       (λ (before : t < b).
@@ -71,44 +70,44 @@ module _ (o : Objective) (c : ℕ) (trace : List Object) (keeps : List Bool) (t 
       ∙ sym (one ∙ ap (λ s. cond s size 0) (and_left _ _ (and_right _ _ (le-ltb t b after)))))
       (cases_lt t b)
 
-  each_share : ((a : ℕ) → list_any (λ i. i.start == a) (eligible_intervals o c trace) ≡ false → is_kept keeps a ≡ false)
-      → t < length trace → (a : ℕ) → a ≤ t → held_share a ≡ sum_by share (eligible_from o c trace a)
+  each_share : ((a : ℕ) → list_any (λ i. i.start == a) (eligible_intervals terms trace) ≡ false → is_kept keeps a ≡ false)
+      → t < length trace → (a : ℕ) → a ≤ t → held_share a ≡ sum_by share (eligible_from terms trace a)
   each_share only high a low =
       ⊎_elim
-      (λ (starts : list_any (λ i. i.start == a) (eligible_intervals o c trace) ≡ true).
+      (λ (starts : list_any (λ i. i.start == a) (eligible_intervals terms trace) ≡ true).
       ⊎_elim
-      (λ (e : is_kept keeps a ≡ true). found e (Any-from_list_any (λ i. i.start == a) (eligible_intervals o c trace) starts))
+      (λ (e : is_kept keeps a ≡ true). found e (Any-from_list_any (λ i. i.start == a) (eligible_intervals terms trace) starts))
       (λ (e : is_kept keeps a ≡ false). not_kept a e)
       (cases_Bool (is_kept keeps a)))
-      (λ (none : list_any (λ i. i.start == a) (eligible_intervals o c trace) ≡ false). not_kept a (only a none))
-      (cases_Bool (list_any (λ i. i.start == a) (eligible_intervals o c trace)))
+      (λ (none : list_any (λ i. i.start == a) (eligible_intervals terms trace) ≡ false). not_kept a (only a none))
+      (cases_Bool (list_any (λ i. i.start == a) (eligible_intervals terms trace)))
     where
-      found : is_kept keeps a ≡ true → Any (λ i. (i.start == a) ≡ true) (eligible_intervals o c trace) → held_share a ≡ sum_by share (eligible_from o c trace a)
+      found : is_kept keeps a ≡ true → Any (λ i. (i.start == a) ≡ true) (eligible_intervals terms trace) → held_share a ≡ sum_by share (eligible_from terms trace a)
       found e (k, i, lt, at, starts) =
-          let el : IsEligible o c trace i = subst (IsEligible o c trace) at (All-eligible_intervals o c trace k i lt) in
+          let el : IsEligible terms trace i = subst (IsEligible terms trace) at (All-eligible_intervals terms trace k i lt) in
           let here : i.start ≡ a = eqb-true i.start a starts in
-          kept a i.end low high (subst (λ j. IsNext trace j i.end) here el.next) (subst (λ j. (request_at trace j).size ≤ c) here el.fits) e
+          kept a i.end low high (subst (λ j. IsNext trace j i.end) here el.next) (subst (λ j. (request_at trace j).size ≤ terms.capacity) here el.fits) el.counts e
 
-  later_share : (a : ℕ) → t + 1 ≤ a → sum_by share (eligible_from o c trace a) ≡ 0
+  later_share : (a : ℕ) → t + 1 ≤ a → sum_by share (eligible_from terms trace a) ≡ 0
   unfolding share
   later_share a late =
-      sum_by-none share (eligible_from o c trace a)
-      (λ k d lt. let i : Interval = get_or (eligible_from o c trace a) k d in let from : i.start ≡ a = (All-eligible_from o c trace a k d lt).1 in
+      sum_by-none share (eligible_from terms trace a)
+      (λ k d lt. let i : Interval = get_or (eligible_from terms trace a) k d in let from : i.start ≡ a = (All-eligible_from terms trace a k d lt).1 in
       ap (λ s. cond s i.size 0) (and_left _ _ (and_left _ _ (lt-leb i.start t (omega arith)))))
 
   -- the contents after request t hold what the intervals that are taken hold over step t
-  pub held-load : ((a : ℕ) → list_any (λ i. i.start == a) (eligible_intervals o c trace) ≡ false → is_kept keeps a ≡ false)
-      → t < length trace → total_size (held_before trace keeps (t + 1)) ≡ taken_load (eligible_intervals o c trace) keeps t
+  pub held-load : ((a : ℕ) → list_any (λ i. i.start == a) (eligible_intervals terms trace) ≡ false → is_kept keeps a ≡ false)
+      → t < length trace → total_size (held_before trace keeps (t + 1)) ≡ taken_load (eligible_intervals terms trace) keeps t
   unfolding share held_share
   held-load only high =
-      let of_start : ℕ → ℕ = λ a. sum_by share (eligible_from o c trace a) in
+      let of_start : ℕ → ℕ = λ a. sum_by share (eligible_from terms trace a) in
       let size : length trace ≡ (t + 1) + (length trace - (t + 1)) = omega arith in
       sum_by-map (λ (x : Object). x.size) (request_at trace) (filter (is_held trace keeps (t + 1)) (range_with_len 0 (t + 1)))
       ∙ sum_by-filter (λ a. (request_at trace a).size) (is_held trace keeps (t + 1)) (range_with_len 0 (t + 1))
       ∙ sum_by-range_agree held_share of_start 0 (t + 1) (λ a low lt. each_share only high a (omega arith))
       ∙ sym (sum_by-range_upto of_start (t + 1) (length trace - (t + 1)) later_share)
       ∙ ap (λ n. sum_by of_start (range_with_len 0 n)) (sym size)
-      ∙ sym (sum_by-flat_map share (eligible_from o c trace) (range_with_len 0 (length trace)))
+      ∙ sym (sum_by-flat_map share (eligible_from terms trace) (range_with_len 0 (length trace)))
 
 -- ---- rounded keeps are maximal
 

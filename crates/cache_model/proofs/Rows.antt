@@ -10,16 +10,16 @@ use Rattle.cache_model.specs.declared.objects.Object.{Object}
 use Rattle.cache_model.specs.declared.objects.Objective.{Objective}
 use Rattle.cache_model.specs.declared.objects.Objective.TheVariants.{Object as Hits, Bytes}
 use Rattle.cache_model.specs.declared.intervals.Interval.{Interval}
+use Rattle.cache_model.specs.declared.terms.Terms.{Terms}
 use Rattle.cache_model.specs.declared.certificates.Header.{Header}
 use Rattle.cache_model.specs.declared.certificates.Record.{Record}
 use Rattle.cache_model.specs.declared.reports.Mode.TheVariants.{Flow, Infinite}
 use Rattle.cache_model.specs.declared.reports.Window.TheVariants.{All as Whole}
-use Rattle.cache_model.specs.Claim.{score, total_size}
+use Rattle.cache_model.specs.Claim.{score, terms_from, total_size, held_before, contents_of, is_kept}
 use Rattle.cache_model.specs.Objects.{objects_of}
 use Rattle.cache_model.specs.Intervals.{eligible_intervals, bound_of}
 use Rattle.cache_model.specs.Schedules.{load_at, flow_value, covers}
 use Rattle.cache_model.specs.Units.{cost, weight, IsUnit, IsLeastWhole, IsLeastCommonMultiple, IsReducedWeight}
-use Rattle.cache_model.specs.Keeps.{held_before, contents_of, is_kept}
 use Rattle.cache_model.specs.Rounding.{rank, by_rank, by_start, fits_beside, FitTogether, IsRounded}
 use Rattle.cache_model.specs.Certificates.{upper_of, flow_of, flow_at, IsRecordInRange, IsCertificate, IsValid}
 use Rattle.cache_model.proofs.Keeps.{contents_of_keeps}
@@ -36,14 +36,18 @@ interval a b s g = record { start = a; end = b; size = s; gain = g }
 abbrev entry : ℕ → Bool → ℕ → Record
 entry p k f = record { price = p; keep = k; flow = f }
 
+-- what is asked for without a warm-up
+abbrev asked : Objective → ℕ → Terms
+asked o c = terms_from o c 0
+
 abbrev bound : Objective → ℕ → ℕ → ℕ → List Object → List ℕ → ℕ
-bound o c u d trace prices = bound_of (eligible_intervals o c trace) u (c / u) d prices
+bound o c u d trace prices = bound_of (eligible_intervals (asked o c) trace) u (c / u) d prices
 
 abbrev value : Objective → ℕ → ℕ → ℕ → List Object → List ℕ → ℕ
-value o c u d trace flows = flow_value (eligible_intervals o c trace) u d flows
+value o c u d trace flows = flow_value (eligible_intervals (asked o c) trace) u d flows
 
 abbrev kept_score : Objective → List Object → List Bool → ℕ
-kept_score o trace keeps = score o trace (contents_of trace keeps)
+kept_score o trace keeps = score (asked o 0) trace (contents_of trace keeps)
 
 abbrev sizes_held : List Object → List Bool → List ℕ
 sizes_held trace keeps = map total_size (contents_of trace keeps)
@@ -52,7 +56,7 @@ sizes_held trace keeps = map total_size (contents_of trace keeps)
 abbrev cycle : List Object
 cycle = object 1 1 ∷ object 2 1 ∷ object 3 1 ∷ object 1 1 ∷ object 2 1 ∷ object 3 1 ∷ []
 
-cycle_intervals : eligible_intervals Hits 2 cycle ≡ interval 0 3 1 1 ∷ interval 1 4 1 1 ∷ interval 2 5 1 1 ∷ []
+cycle_intervals : eligible_intervals (asked Hits 2) cycle ≡ interval 0 3 1 1 ∷ interval 1 4 1 1 ∷ interval 2 5 1 1 ∷ []
 cycle_intervals = refl
 
 cycle_bound : bound Hits 2 1 1 cycle (0 ∷ 0 ∷ 1 ∷ 0 ∷ 0 ∷ 0 ∷ []) ≡ 2
@@ -61,7 +65,7 @@ cycle_bound = refl
 cycle_value : value Hits 2 1 1 cycle (1 ∷ 1 ∷ 0 ∷ []) ≡ 2
 cycle_value = refl
 
-cycle_load : map (load_at (eligible_intervals Hits 2 cycle) (1 ∷ 1 ∷ 0 ∷ [])) (0 ∷ 1 ∷ 2 ∷ 3 ∷ 4 ∷ 5 ∷ []) ≡ 1 ∷ 2 ∷ 2 ∷ 1 ∷ 0 ∷ 0 ∷ []
+cycle_load : map (load_at (eligible_intervals (asked Hits 2) cycle) (1 ∷ 1 ∷ 0 ∷ [])) (0 ∷ 1 ∷ 2 ∷ 3 ∷ 4 ∷ 5 ∷ []) ≡ 1 ∷ 2 ∷ 2 ∷ 1 ∷ 0 ∷ 0 ∷ []
 cycle_load = refl
 
 cycle_keeps : List Bool
@@ -74,6 +78,26 @@ cycle_score = refl
 cycle_held : sizes_held cycle cycle_keeps ≡ 0 ∷ 1 ∷ 2 ∷ 2 ∷ 1 ∷ 0 ∷ 0 ∷ []
 unfolding cycle_keeps
 cycle_held = refl
+
+-- ---- the same with a warm-up: five requests leave the interval that ends at request 5, six leave none
+cycle_warm_intervals : eligible_intervals (terms_from Hits 2 5) cycle ≡ interval 2 5 1 1 ∷ []
+cycle_warm_intervals = refl
+
+cycle_warm_bound : bound_of (eligible_intervals (terms_from Hits 2 5) cycle) 1 2 1 (0 ∷ 0 ∷ 0 ∷ 0 ∷ 0 ∷ 0 ∷ []) ≡ 1
+cycle_warm_bound = refl
+
+cycle_late_intervals : eligible_intervals (terms_from Hits 2 6) cycle ≡ []
+cycle_late_intervals = refl
+
+-- the keeps of requests 0 and 2 hit requests 3 and 5, and request 5 alone is past five requests
+cycle_warm_score : score (terms_from Hits 2 5) cycle (contents_of cycle (true ∷ false ∷ true ∷ false ∷ false ∷ false ∷ [])) ≡ 1
+cycle_warm_score = refl
+
+cycle_whole_score : score (terms_from Hits 2 3) cycle (contents_of cycle (true ∷ false ∷ true ∷ false ∷ false ∷ false ∷ [])) ≡ 2
+cycle_whole_score = refl
+
+cycle_late_score : score (terms_from Hits 2 6) cycle (contents_of cycle (true ∷ false ∷ true ∷ false ∷ false ∷ false ∷ [])) ≡ 0
+cycle_late_score = refl
 
 -- ---- the same at capacity 1 and the constant price 1 over 3
 cycle_constant : bound Hits 1 1 3 cycle (1 ∷ 1 ∷ 1 ∷ 1 ∷ 1 ∷ 0 ∷ []) ≡ 5
@@ -102,10 +126,10 @@ unequal_bound = refl
 unequal_value : value Hits 4 1 6 unequal (2 ∷ 2 ∷ []) ≡ 10
 unequal_value = refl
 
-unequal_costs : map (cost 1 6) (eligible_intervals Hits 4 unequal) ≡ 3 ∷ 2 ∷ []
+unequal_costs : map (cost 1 6) (eligible_intervals (asked Hits 4) unequal) ≡ 3 ∷ 2 ∷ []
 unequal_costs = refl
 
-unequal_ranks : map rank (eligible_intervals Hits 4 unequal) ≡ 4 ∷ 6 ∷ []
+unequal_ranks : map rank (eligible_intervals (asked Hits 4) unequal) ≡ 4 ∷ 6 ∷ []
 unequal_ranks = refl
 
 -- ---- the same at capacity 5, in bytes
@@ -151,10 +175,10 @@ nothing_bound : bound Hits 10 1 1 [] [] ≡ 0
 nothing_bound = refl
 
 -- ---- sizes that differ, and a size above the capacity
-two_sizes : eligible_intervals Hits 10 (object 1 2 ∷ object 1 3 ∷ []) ≡ []
+two_sizes : eligible_intervals (asked Hits 10) (object 1 2 ∷ object 1 3 ∷ []) ≡ []
 two_sizes = refl
 
-too_large : eligible_intervals Hits 5 (object 1 10 ∷ object 1 10 ∷ []) ≡ []
+too_large : eligible_intervals (asked Hits 5) (object 1 10 ∷ object 1 10 ∷ []) ≡ []
 too_large = refl
 
 -- ---- two requests of size 4 at capacity 10
@@ -225,7 +249,7 @@ unfolding digits
 pair_report = refl
 
 -- ---- rounding without flags, at capacity 2: the first two are taken
-only_the_first : (t : ℕ) → list_any (λ i. i.start == t) (eligible_intervals Hits 2 cycle) ≡ false → is_kept cycle_keeps t ≡ false
+only_the_first : (t : ℕ) → list_any (λ i. i.start == t) (eligible_intervals (asked Hits 2) cycle) ≡ false → is_kept cycle_keeps t ≡ false
 unfolding cycle_keeps
 only_the_first zero h = absurd (true≢false h)
 only_the_first (suc zero) h = absurd (true≢false h)
@@ -239,13 +263,13 @@ no_flag : (size : ℕ) (covered : Bool) → cond (covered && false) size 0 ≡ 0
 no_flag size true = refl
 no_flag size false = refl
 
-no_flag_fits : FitTogether (eligible_intervals Hits 2 cycle) 2 (false ∷ false ∷ false ∷ [])
+no_flag_fits : FitTogether (eligible_intervals (asked Hits 2) cycle) 2 (false ∷ false ∷ false ∷ [])
 no_flag_fits = record {
   one_flag_each = refl;
   within_capacity = λ t. omega (arith, no_flag 1 (covers t (interval 0 3 1 1)), no_flag 1 (covers t (interval 1 4 1 1)), no_flag 1 (covers t (interval 2 5 1 1)));
 }
 
-cycle_rounded : IsRounded by_rank (eligible_intervals Hits 2 cycle) 2 6 (false ∷ false ∷ false ∷ []) cycle_keeps
+cycle_rounded : IsRounded by_rank (eligible_intervals (asked Hits 2) cycle) 2 6 (false ∷ false ∷ false ∷ []) cycle_keeps
 unfolding cycle_keeps
 cycle_rounded = record { one_keep_each = refl; flagged_fit = no_flag_fits; taken = (refl, (refl, (refl, tt))); only_starts = only_the_first }
 
@@ -256,12 +280,12 @@ pair_loads (suc zero) h = lit≤ tt
 pair_loads (suc (suc zero)) h = lit≤ tt
 pair_loads (suc (suc (suc t))) h = absurd (omega arith)
 
-pair_unused : (t : ℕ) → list_any (λ i. i.start == t) (eligible_intervals Hits 10 pair) ≡ false → flow_at (pair_records 1) t ≡ 0
+pair_unused : (t : ℕ) → list_any (λ i. i.start == t) (eligible_intervals (asked Hits 10) pair) ≡ false → flow_at (pair_records 1) t ≡ 0
 pair_unused zero h = absurd (true≢false h)
 pair_unused (suc zero) h = refl
 pair_unused (suc (suc t)) h = refl
 
-pair_within : (t : ℕ) → load_at (eligible_intervals Hits 10 pair) (1 ∷ []) t ≤ 2
+pair_within : (t : ℕ) → load_at (eligible_intervals (asked Hits 10) pair) (1 ∷ []) t ≤ 2
 pair_within t = cond_both (covers t (interval 0 1 4 1)) 1 0 (λ n. 0 + n ≤ 2) (λ _. omega arith) (λ _. omega arith)
 
 small_record : (p f : ℕ) (keep : Bool) → p ≤ 1 → f ≤ 1 → IsRecordInRange (entry p keep f)
@@ -299,7 +323,7 @@ six d two three = omega arith
 abbrev HasWholeCost : ℕ → Interval → Type 0
 HasWholeCost d i = weight 1 i ∣ d * i.gain
 
-unequal_whole : IsLeastWhole (eligible_intervals Hits 4 unequal) 1 6
+unequal_whole : IsLeastWhole (eligible_intervals (asked Hits 4) unequal) 1 6
 unequal_whole = record {
   positive = lit< tt;
   whole = All-cons (HasWholeCost 6) (interval 0 2 2 1) (interval 1 3 3 1 ∷ []) (dvd_of_mod-eq-zero 2 {n = 6} refl)
@@ -314,7 +338,7 @@ unequal_whole = record {
 abbrev Divides : ℕ → Interval → Type 0
 Divides u i = u ∣ i.size
 
-twos_unit : IsUnit (eligible_intervals Hits 3 twos) 2
+twos_unit : IsUnit (eligible_intervals (asked Hits 3) twos) 2
 twos_unit = record {
   one_if_none = λ e. absurd (cc);
   divides = All-cons (Divides 2) (interval 0 2 2 1) (interval 1 3 2 1 ∷ []) (dvd_refl 2) (All-cons (Divides 2) (interval 1 3 2 1) [] (dvd_refl 2) (All-nil (Divides 2)));
@@ -370,30 +394,30 @@ none_valid = record {
 abbrev nest : List Object
 nest = object 1 3 ∷ object 2 1 ∷ object 2 1 ∷ object 1 3 ∷ []
 
-nest_ranks : map rank (eligible_intervals Hits 3 nest) ≡ 9 ∷ 1 ∷ []
+nest_ranks : map rank (eligible_intervals (asked Hits 3) nest) ≡ 9 ∷ 1 ∷ []
 nest_ranks = refl
 
-nest_by_rank : map (fits_beside by_rank (eligible_intervals Hits 3 nest) 3 (false ∷ false ∷ []) (false ∷ true ∷ false ∷ false ∷ [])) (eligible_intervals Hits 3 nest) ≡ false ∷ true ∷ []
+nest_by_rank : map (fits_beside by_rank (eligible_intervals (asked Hits 3) nest) 3 (false ∷ false ∷ []) (false ∷ true ∷ false ∷ false ∷ [])) (eligible_intervals (asked Hits 3) nest) ≡ false ∷ true ∷ []
 nest_by_rank = refl
 
-nest_by_start : map (fits_beside by_start (eligible_intervals Hits 3 nest) 3 (false ∷ false ∷ []) (true ∷ false ∷ false ∷ false ∷ [])) (eligible_intervals Hits 3 nest) ≡ true ∷ false ∷ []
+nest_by_start : map (fits_beside by_start (eligible_intervals (asked Hits 3) nest) 3 (false ∷ false ∷ []) (true ∷ false ∷ false ∷ false ∷ [])) (eligible_intervals (asked Hits 3) nest) ≡ true ∷ false ∷ []
 nest_by_start = refl
 
 -- ---- A(2) B(3) A(2) B(3) at capacity 3, in bytes: equal ranks, and a flag on the later one shuts the earlier out
-tied_ranks : map rank (eligible_intervals Bytes 3 unequal) ≡ 2 ∷ 2 ∷ []
+tied_ranks : map rank (eligible_intervals (asked Bytes 3) unequal) ≡ 2 ∷ 2 ∷ []
 tied_ranks = refl
 
-tied_first : map (fits_beside by_rank (eligible_intervals Bytes 3 unequal) 3 (false ∷ false ∷ []) (true ∷ false ∷ false ∷ false ∷ [])) (eligible_intervals Bytes 3 unequal) ≡ true ∷ false ∷ []
+tied_first : map (fits_beside by_rank (eligible_intervals (asked Bytes 3) unequal) 3 (false ∷ false ∷ []) (true ∷ false ∷ false ∷ false ∷ [])) (eligible_intervals (asked Bytes 3) unequal) ≡ true ∷ false ∷ []
 tied_first = refl
 
-tied_flag : map (fits_beside by_rank (eligible_intervals Bytes 3 unequal) 3 (false ∷ true ∷ []) (false ∷ true ∷ false ∷ false ∷ [])) (eligible_intervals Bytes 3 unequal) ≡ false ∷ false ∷ []
+tied_flag : map (fits_beside by_rank (eligible_intervals (asked Bytes 3) unequal) 3 (false ∷ true ∷ []) (false ∷ true ∷ false ∷ false ∷ [])) (eligible_intervals (asked Bytes 3) unequal) ≡ false ∷ false ∷ []
 tied_flag = refl
 
 -- ---- A(2) B(2) A(2) C(3) A(2) B(2) at capacity 5
 abbrev mix : List Object
 mix = object 1 2 ∷ object 2 2 ∷ object 1 2 ∷ object 3 3 ∷ object 1 2 ∷ object 2 2 ∷ []
 
-mix_intervals : eligible_intervals Hits 5 mix ≡ interval 0 2 2 1 ∷ interval 1 5 2 1 ∷ interval 2 4 2 1 ∷ []
+mix_intervals : eligible_intervals (asked Hits 5) mix ≡ interval 0 2 2 1 ∷ interval 1 5 2 1 ∷ interval 2 4 2 1 ∷ []
 mix_intervals = refl
 
 mix_objects : objects_of mix ≡ object 1 2 ∷ object 2 2 ∷ object 3 3 ∷ []
@@ -435,16 +459,16 @@ unfolding digits
 infinite_report = refl
 
 -- ---- the reduced weights 2 and 3 of the same, whose least common multiple 6 is that denominator
-unequal_reduced : AllZip (IsReducedWeight 1) (eligible_intervals Hits 4 unequal) (2 ∷ 3 ∷ [])
+unequal_reduced : AllZip (IsReducedWeight 1) (eligible_intervals (asked Hits 4) unequal) (2 ∷ 3 ∷ [])
 unequal_reduced = (
   (1, (dvd_of_mod-eq-zero 1 {n = 2} refl, dvd_refl 1, λ d p q. q), refl),
   ((1, (dvd_of_mod-eq-zero 1 {n = 3} refl, dvd_refl 1, λ d p q. q), refl), tt),
 )
 
-unequal_positive : All (λ i. 0 < weight 1 i) (eligible_intervals Hits 4 unequal)
+unequal_positive : All (λ i. 0 < weight 1 i) (eligible_intervals (asked Hits 4) unequal)
 unequal_positive =
     let Positive : Interval → Type 0 = λ i. 0 < weight 1 i in
     All-cons Positive (interval 0 2 2 1) (interval 1 3 3 1 ∷ []) (lit< tt) (All-cons Positive (interval 1 3 3 1) [] (lit< tt) (All-nil Positive))
 
 unequal_multiple : IsLeastCommonMultiple (2 ∷ 3 ∷ []) 6
-unequal_multiple = (least_whole_is_least_common_multiple (eligible_intervals Hits 4 unequal) 1 6 (2 ∷ 3 ∷ []) unequal_positive unequal_reduced).0 unequal_whole
+unequal_multiple = (least_whole_is_least_common_multiple (eligible_intervals (asked Hits 4) unequal) 1 6 (2 ∷ 3 ∷ []) unequal_positive unequal_reduced).0 unequal_whole

@@ -1,17 +1,17 @@
 -- What each request adds to the load and to the score of the contents of keeps.
-use Rattle.std.proofs.Common.{◌≡◌, ◌≢◌, ℕ, suc, zero, ◌+◌, ◌<◌, ◌≤◌, ◌∙◌, sym, refl, ap, subst, Bool, true, false, not, ◌||◌, cond, List, [], ◌∷◌, length, arith, inl, inr, ◌⊎◌, ⊎_elim, Any, Contains, sum_by, zip, map, filter, get_or, slice_range}
+use Rattle.std.proofs.Common.{◌≡◌, ◌≢◌, ℕ, suc, zero, ◌+◌, ◌<◌, ◌≤◌, ◌∙◌, sym, refl, ap, subst, Bool, true, false, not, ◌||◌, cond, nat_le, List, [], ◌∷◌, length, arith, inl, inr, ◌⊎◌, ⊎_elim, Any, Contains, sum_by, zip, map, filter, drop, get_or, slice_range}
 use Rattle.std.specs.List.{range_with_len, list_any}
-use Rattle.std.proofs.lemmas.Bool.{cases_Bool, cases_lt, cases_eq, both_ways, and_parts, and_from}
+use Rattle.std.proofs.lemmas.Bool.{cases_Bool, cases_lt, cases_eq, both_ways, and_parts, and_from, lt-leb}
 use Rattle.std.proofs.lemmas.List.Elements.{All-map}
 use Rattle.std.proofs.lemmas.List.Folds.{list_any_at, list_any_none, Any-from_list_any}
 use Rattle.std.proofs.lemmas.List.Sums.{sum_by-cons, get_or-le-sum_by}
 use Rattle.cache_model.specs.declared.objects.Object.{Object}
-use Rattle.cache_model.specs.declared.objects.Objective.{Objective}
-use Rattle.cache_model.specs.Claim.{same_object, gain_of, total_size, holds, score, IsAllowed}
-use Rattle.cache_model.specs.Objects.{request_at, no_object, IsFirst, IsNext}
-use Rattle.cache_model.specs.Keeps.{is_kept, is_held, is_latest, latest_sum, held_before, contents_of, load_after}
-use Rattle.cache_model.proofs.Duality.{same_object-true}
-use Rattle.cache_model.proofs.Pairs.{same_object-sym}
+use Rattle.cache_model.specs.declared.terms.Terms.{Terms}
+use Rattle.cache_model.specs.Claim.{same_object, gain_of, total_size, holds, score, IsAllowed, request_at, no_object, is_kept, is_held, is_latest, held_before, contents_of}
+use Rattle.cache_model.specs.Objects.{IsFirst, IsNext}
+use Rattle.cache_model.specs.Keeps.{latest_sum, load_after}
+use Rattle.cache_model.proofs.Duality.{same_object-true, fewer}
+use Rattle.cache_model.proofs.Pairs.{same_object-sym, leb-fewer}
 use Rattle.cache_model.proofs.Sums.{sum_by-range}
 use Rattle.cache_model.proofs.Eligible.{list_any-range_false, list_any-range_true, list_any-range_more, or_false}
 use Rattle.cache_model.proofs.Streams.{sum_by-range_agree, sum_by-range_one, sum_by-range_last}
@@ -221,39 +221,50 @@ allowed-from_loads trace capacity keeps fits = contents_of_keeps trace capacity 
         let e : t + 1 ≡ suc t = omega arith in
         subst (λ j. total_size (held_before trace keeps j) ≤ capacity) e (fits t (omega arith))
 
--- what request t earns
-abbrev pub earned_at : Objective → List Object → List Bool → ℕ → ℕ
-earned_at objective trace keeps t = cond (holds (held_before trace keeps t) (request_at trace t)) (gain_of objective (request_at trace t)) 0
+-- what request t earns: nothing in the warm-up
+abbrev pub earned_at : Terms → List Object → List Bool → ℕ → ℕ
+earned_at terms trace keeps t =
+    cond (nat_le terms.warmup t) (cond (holds (held_before trace keeps t) (request_at trace t)) (gain_of terms.objective (request_at trace t)) 0) 0
 
--- a sum over two lists, the second by the numbers of a range
-sum_by-zip_range : {X Y : Type 0} (f : X × Y → ℕ) (h : ℕ → Y) (d : X) (xs : List X) (a n : ℕ) → length xs ≤ n
-    → sum_by f (zip xs (map h (range_with_len a n))) ≡ sum_by (λ k. f (get_or xs k d, h (a + k))) (range_with_len 0 (length xs))
-sum_by-zip_range f h d [] a n low = refl
-sum_by-zip_range f h d (x ∷ xs) a zero low = absurd (omega arith)
-sum_by-zip_range f h d (x ∷ xs) a (suc n) low =
+-- a sum over two lists from the m-th pair on, the second list by the numbers of a range
+sum_by-zip_range : {X Y : Type 0} (m : ℕ) (f : X × Y → ℕ) (h : ℕ → Y) (d : X) (xs : List X) (a n : ℕ) → length xs ≤ n
+    → sum_by f (drop m (zip xs (map h (range_with_len a n)))) ≡ sum_by (λ k. cond (nat_le m k) (f (get_or xs k d, h (a + k))) 0) (range_with_len 0 (length xs))
+sum_by-zip_range zero f h d [] a n low = refl
+sum_by-zip_range (suc m) f h d [] a n low = refl
+sum_by-zip_range m f h d (x ∷ xs) a zero low = absurd (omega arith)
+sum_by-zip_range m f h d (x ∷ xs) a (suc n) low =
+    let term : ℕ → ℕ = λ k. cond (nat_le m k) (f (get_or (x ∷ xs) k d, h (a + k))) 0 in
     let first : a + 0 ≡ a = omega arith in
     let later : (k : ℕ) → (a + 1) + k ≡ a + suc k = λ k. omega arith in
     omega (
       arith,
-      sum_by-cons f (x, h a) (zip xs (map h (range_with_len (a + 1) n))),
-      sum_by-zip_range f h d xs (a + 1) n (omega arith),
-      sum_by-range (λ k. f (get_or (x ∷ xs) k d, h (a + k))) (length xs),
-      ap (λ j. f (x, h j)) first,
-      sum_by-range_agree (λ k. f (get_or xs k d, h ((a + 1) + k))) (λ k. f (get_or xs k d, h (a + suc k))) 0 (length xs) (λ k l high. ap (λ j. f (get_or xs k d, h j)) (later k)),
+      split m,
+      sum_by-zip_range (fewer m) f h d xs (a + 1) n (omega arith),
+      sum_by-range term (length xs),
+      ap (λ j. cond (nat_le m 0) (f (x, h j)) 0) first,
+      sum_by-range_agree (λ k. cond (nat_le (fewer m) k) (f (get_or xs k d, h ((a + 1) + k))) 0) (λ k. term (suc k)) 0 (length xs)
+          (λ k l high. ap (λ t. cond t (f (get_or xs k d, h ((a + 1) + k))) 0) (sym (leb-fewer m k)) ∙ ap (λ j. cond (nat_le m (suc k)) (f (get_or xs k d, h j)) 0) (later k)),
     )
+  where
+    rest : ℕ → ℕ
+    rest k = sum_by f (drop k (zip xs (map h (range_with_len (a + 1) n))))
+
+    split : (m : ℕ) → sum_by f (drop m (zip (x ∷ xs) (map h (range_with_len a (suc n))))) ≡ cond (nat_le m 0) (f (x, h a)) 0 + rest (fewer m)
+    split zero = sum_by-cons f (x, h a) (zip xs (map h (range_with_len (a + 1) n)))
+    split (suc m) = let none : cond (nat_le (suc m) 0) (f (x, h a)) 0 ≡ 0 = ap (λ t. cond t (f (x, h a)) 0) (lt-leb (suc m) 0 (omega arith)) in omega (arith, none)
 
 -- the score of the contents of keeps is what each request earns, summed
-pub score-requests : (objective : Objective) (trace : List Object) (keeps : List Bool)
-    → score objective trace (contents_of trace keeps) ≡ sum_by (earned_at objective trace keeps) (range_with_len 0 (length trace))
-score-requests objective trace keeps =
-    let f : Object × List Object → ℕ = λ (x, held). cond (holds held x) (gain_of objective x) 0 in
-    sum_by-zip_range f (held_before trace keeps) no_object trace 0 (length trace + 1) (omega arith)
-    ∙ sum_by-range_agree (λ k. f (request_at trace k, held_before trace keeps (0 + k))) (earned_at objective trace keeps) 0 (length trace)
-    (λ k low high. let e : 0 + k ≡ k = omega arith in ap (λ j. f (request_at trace k, held_before trace keeps j)) e)
+pub score-requests : (terms : Terms) (trace : List Object) (keeps : List Bool)
+    → score terms trace (contents_of trace keeps) ≡ sum_by (earned_at terms trace keeps) (range_with_len 0 (length trace))
+score-requests terms trace keeps =
+    let f : Object × List Object → ℕ = λ (x, held). cond (holds held x) (gain_of terms.objective x) 0 in
+    sum_by-zip_range terms.warmup f (held_before trace keeps) no_object trace 0 (length trace + 1) (omega arith)
+    ∙ sum_by-range_agree (λ k. cond (nat_le terms.warmup k) (f (request_at trace k, held_before trace keeps (0 + k))) 0) (earned_at terms trace keeps) 0 (length trace)
+    (λ k low high. let e : 0 + k ≡ k = omega arith in ap (λ j. cond (nat_le terms.warmup k) (f (request_at trace k, held_before trace keeps j)) 0) e)
 
 -- one more request
-pub earned-more : (objective : Objective) (trace : List Object) (keeps : List Bool) (t : ℕ)
-    → sum_by (earned_at objective trace keeps) (range_with_len 0 (t + 1)) ≡ sum_by (earned_at objective trace keeps) (range_with_len 0 t) + earned_at objective trace keeps t
-earned-more objective trace keeps t =
+pub earned-more : (terms : Terms) (trace : List Object) (keeps : List Bool) (t : ℕ)
+    → sum_by (earned_at terms trace keeps) (range_with_len 0 (t + 1)) ≡ sum_by (earned_at terms trace keeps) (range_with_len 0 t) + earned_at terms trace keeps t
+earned-more terms trace keeps t =
     let e : t + 1 ≡ suc t = omega arith in
-    ap (λ n. sum_by (earned_at objective trace keeps) (range_with_len 0 n)) e ∙ sum_by-range_last (earned_at objective trace keeps) t
+    ap (λ n. sum_by (earned_at terms trace keeps) (range_with_len 0 n)) e ∙ sum_by-range_last (earned_at terms trace keeps) t

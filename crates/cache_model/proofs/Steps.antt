@@ -1,5 +1,5 @@
 -- Allowed contents, step by step.
-use Rattle.std.proofs.Common.{◌≡◌, ◌≢◌, ℕ, suc, zero, ◌+◌, ◌*◌, ◌/◌, ◌<◌, ◌≤◌, ◌∙◌, sym, refl, ap, subst, Bool, true, false, cond, List, [], ◌∷◌, length, arith, inl, inr, ◌⊎◌, Some, All, AllPairs, Contains, sum, sum_by, zip, get_or, slice_get}
+use Rattle.std.proofs.Common.{◌≡◌, ◌≢◌, ℕ, suc, zero, ◌+◌, ◌*◌, ◌/◌, ◌<◌, ◌≤◌, ◌∙◌, sym, refl, ap, subst, Bool, true, false, cond, List, [], ◌∷◌, length, arith, inl, inr, ◌⊎◌, Some, All, AllPairs, Contains, sum, sum_by, zip, drop, get_or, slice_get}
 use Rattle.std.specs.List.{AllByRecursion}
 use Rattle.std.proofs.Math.Nat.{div-mul-le_self, div-zero}
 use Rattle.std.proofs.lemmas.Nat.{le-div}
@@ -10,6 +10,7 @@ use Rattle.std.proofs.lemmas.List.Sums.{sum_by-cons, get_or-le-sum_by}
 use Rattle.std.proofs.lemmas.Map.Made.{IsDistinct-from_AllPairs}
 use Rattle.cache_model.specs.declared.objects.Object.{Object}
 use Rattle.cache_model.specs.declared.objects.Objective.{Objective}
+use Rattle.cache_model.specs.declared.terms.Terms.{Terms}
 use Rattle.cache_model.specs.Claim.{same_object, gain_of, total_size, holds, before_request, IsAllowed, score}
 use Rattle.cache_model.specs.Intervals.{eligible_intervals, bound_of}
 use Rattle.cache_model.proofs.Duality.{same_object-true, same_object-refl, Follows, earned, earned-le, worth, extra}
@@ -64,31 +65,34 @@ Follows-from_steps o c u d (r ∷ trace) held (next ∷ nexts) same enter fits a
           (All-tail (λ xs. total_size xs ≤ c) next nexts fits) (All-tail (AllPairs (λ x y. x ≢ y)) next nexts apart),
     )
 
--- the score, over the denominator
-score-mul : (o : Objective) (d : ℕ) (trace : List Object) (contents : List (List Object)) → d * score o trace contents ≡ earned (earns_of o d) trace contents
-score-mul o d [] contents = omega arith
-score-mul o d (x ∷ trace) [] = omega arith
-score-mul o d (x ∷ trace) (held ∷ contents) =
+-- a sum, over the denominator
+earned-mul : (o : Objective) (d : ℕ) (requests : List (Object × List Object))
+    → d * sum_by (λ (x, held). cond (holds held x) (gain_of o x) 0) requests ≡ sum_by (λ (x, held). cond (holds held x) (d * gain_of o x) 0) requests
+earned-mul o d [] = omega arith
+earned-mul o d (request ∷ requests) =
     let f : Object × List Object → ℕ = λ (x, held). cond (holds held x) (gain_of o x) 0 in
     let g : Object × List Object → ℕ = λ (x, held). cond (holds held x) (d * gain_of o x) 0 in
-    omega (arith, ap (λ n. d * n) (sum_by-cons f (x, held) (zip trace contents)), sum_by-cons g (x, held) (zip trace contents), score-mul o d trace contents, at (holds held x))
+    omega (arith, ap (λ n. d * n) (sum_by-cons f request requests), sum_by-cons g request requests, earned-mul o d requests, at (holds request.1 request.0))
   where
-    at : (t : Bool) → d * cond t (gain_of o x) 0 ≡ cond t (d * gain_of o x) 0
+    at : (t : Bool) → d * cond t (gain_of o request.0) 0 ≡ cond t (d * gain_of o request.0) 0
     at true = refl
     at false = omega arith
 
-pub no_policy_scores_more_lem : (o : Objective) (c u d : ℕ) (trace : List Object) (prices : List ℕ) (contents : List (List Object))
-    → IsAllowed c trace contents → length prices ≡ length trace
-    → d * score o trace contents ≤ bound_of (eligible_intervals o c trace) u (c / u) d prices
-no_policy_scores_more_lem o c u d trace prices [] allowed same = absurd (omega arith)
-no_policy_scores_more_lem o c u d trace prices (held ∷ nexts) allowed same =
+pub no_policy_scores_more_lem : (terms : Terms) (u d : ℕ) (trace : List Object) (prices : List ℕ) (contents : List (List Object))
+    → IsAllowed terms.capacity trace contents → length prices ≡ length trace
+    → d * score terms trace contents ≤ bound_of (eligible_intervals terms trace) u (terms.capacity / u) d prices
+no_policy_scores_more_lem terms u d trace prices [] allowed same = absurd (omega arith)
+no_policy_scores_more_lem terms u d trace prices (held ∷ nexts) allowed same =
+    let o : Objective = terms.objective in
+    let c : ℕ = terms.capacity in
+    let m : ℕ = terms.warmup in
     let g : Object → ℕ = counted_of o c d in
     let w : Object → ℕ = weight_of u in
     let fits : total_size held ≤ c = All-head (λ xs. total_size xs ≤ c) held nexts allowed.within_capacity in
     let play : Follows (earns_of o d) g w (c / u) held trace nexts =
     Follows-from_steps o c u d trace held nexts (omega arith) allowed.only_requests_enter
     (All-tail (λ xs. total_size xs ≤ c) held nexts allowed.within_capacity) (All-tail (AllPairs (λ x y. x ≢ y)) held nexts allowed.without_repeats) in
-    let most : earned (earns_of o d) trace (held ∷ nexts) ≤ (c / u) * sum prices + extra g w trace prices + sum_by (worth g w trace prices) held =
-    earned-le (earns_of o d) g w (c / u) trace prices held nexts same (member_counted o c d held fits) play in
-    let nothing : sum_by (worth g w trace prices) held ≡ 0 = ap (λ xs. sum_by (worth g w trace prices) xs) allowed.empty_at_first in
-    omega (arith, score-mul o d trace (held ∷ nexts), surplus_by_pairs o c u d trace prices, surplus_by_recursion o c u d trace prices same)
+    let most : earned m (earns_of o d) trace (held ∷ nexts) ≤ (c / u) * sum prices + extra m g w trace prices + sum_by (worth m g w trace prices) held =
+    earned-le m (earns_of o d) g w (c / u) trace prices held nexts same (member_counted o c d held fits) play in
+    let nothing : sum_by (worth m g w trace prices) held ≡ 0 = ap (λ xs. sum_by (worth m g w trace prices) xs) allowed.empty_at_first in
+    omega (arith, earned-mul o d (drop m (zip trace (held ∷ nexts))), surplus_by_pairs terms u d trace prices, surplus_by_recursion m o c u d trace prices same)

@@ -12,13 +12,13 @@ use Rattle.std.proofs.lemmas.List.Elements.{All-head, All-tail, All-map, All-wea
 use Rattle.cache_model.specs.declared.objects.Object.{Object}
 use Rattle.cache_model.specs.declared.objects.Objective.{Objective}
 use Rattle.cache_model.specs.declared.intervals.Interval.{Interval}
+use Rattle.cache_model.specs.declared.terms.Terms.{Terms}
 use Rattle.cache_model.specs.declared.certificates.Header.{Header}
-use Rattle.cache_model.specs.Claim.{holds, gain_of, total_size, IsAllowed, score}
-use Rattle.cache_model.specs.Objects.{request_at, no_object, IsNext}
+use Rattle.cache_model.specs.Claim.{holds, gain_of, total_size, IsAllowed, score, terms_of, request_at, no_object, is_kept, is_latest, is_held, held_before, contents_of}
+use Rattle.cache_model.specs.Objects.{IsNext}
 use Rattle.cache_model.specs.Intervals.{surplus, eligible_intervals}
 use Rattle.cache_model.specs.Units.{weight, IsUnit}
 use Rattle.cache_model.specs.Schedules.{covers, load_at, flow_value}
-use Rattle.cache_model.specs.Keeps.{is_kept, is_latest, is_held, held_before, contents_of}
 use Rattle.cache_model.specs.Certificates.{IsHeaderInRange, IsRecordInRange, unpriced, prices_of, keeps_of, flow_at, flows_of, eligible_of, units_of, upper_of, IsValid}
 use Rattle.cache_model.specs.Laws.{IsEligible}
 use Rattle.cache_model.proofs.Sums.{sum_by-agree}
@@ -120,7 +120,7 @@ pub unpriced_valid : (trace : List Object) (h : Header) (keeps : List Bool)
     → IsHeaderInRange h → h.requests ≡ length trace → length keeps ≡ length trace → h.exact ≡ false
     → All (λ i. h.unit ∣ i.size) (eligible_of trace h)
     → IsAllowed h.capacity trace (contents_of trace keeps)
-    → h.lower ≡ score h.objective trace (contents_of trace keeps)
+    → h.lower ≡ score (terms_of h) trace (contents_of trace keeps)
     → h.flow ≡ 0
     → h.upper ≡ upper_of trace h (map unpriced keeps)
     → IsValid trace h (map unpriced keeps)
@@ -134,7 +134,7 @@ unpriced_valid trace h keeps in_range requests one_keep_each plain unit allowed 
       last_price = price_at-unpriced keeps (length trace - 1);
       unit = unit;
       keeps = subst (λ kept. IsAllowed h.capacity trace (contents_of trace kept)) same allowed;
-      lower = lower ∙ ap (λ kept. score h.objective trace (contents_of trace kept)) same;
+      lower = lower ∙ ap (λ kept. score (terms_of h) trace (contents_of trace kept)) same;
       unused_flows = λ t none. flow_at-unpriced keeps t;
       flows = record {
         within_weights = flows_within_weights h.unit keeps (eligible_of trace h);
@@ -165,20 +165,24 @@ nothing_kept_allowed trace capacity =
     (λ t within. omega (arith, ap total_size (held_before-nothing trace (length trace) t)))
 
 -- requests at contents with nothing in them earn nothing
-score-empty : (objective : Objective) (trace : List Object) (contents : List (List Object)) → All (λ held. held ≡ []) contents → score objective trace contents ≡ 0
-score-empty objective [] contents empty = refl
-score-empty objective (x ∷ trace) [] empty = refl
-score-empty objective (x ∷ trace) (held ∷ contents) empty =
+earned-empty : (objective : Objective) (m : ℕ) (trace : List Object) (contents : List (List Object)) → All (λ held. held ≡ []) contents
+    → sum_by (λ (y, kept). cond (holds kept y) (gain_of objective y) 0) (drop m (zip trace contents)) ≡ 0
+earned-empty objective zero [] contents empty = refl
+earned-empty objective (suc m) [] contents empty = refl
+earned-empty objective zero (x ∷ trace) [] empty = refl
+earned-empty objective (suc m) (x ∷ trace) [] empty = refl
+earned-empty objective zero (x ∷ trace) (held ∷ contents) empty =
     let earned : Object × List Object → ℕ = λ (y, kept). cond (holds kept y) (gain_of objective y) 0 in
     let first : earned (x, held) ≡ 0 = ap (λ kept. cond (holds kept x) (gain_of objective x) 0) (All-head (λ kept. kept ≡ []) held contents empty) in
-    omega (arith, sum_by-cons earned (x, held) (zip trace contents), first, score-empty objective trace contents (All-tail (λ kept. kept ≡ []) held contents empty))
+    omega (arith, sum_by-cons earned (x, held) (zip trace contents), first, earned-empty objective zero trace contents (All-tail (λ kept. kept ≡ []) held contents empty))
+earned-empty objective (suc m) (x ∷ trace) (held ∷ contents) empty = earned-empty objective m trace contents (All-tail (λ kept. kept ≡ []) held contents empty)
 
--- where nothing is kept, nothing is earned
-pub nothing_kept_score : (objective : Objective) (trace : List Object) → score objective trace (contents_of trace (replicate (length trace) false)) ≡ 0
-nothing_kept_score objective trace =
+-- if nothing is kept, nothing is earned
+pub nothing_kept_score : (terms : Terms) (trace : List Object) → score terms trace (contents_of trace (replicate (length trace) false)) ≡ 0
+nothing_kept_score terms trace =
     let keeps : List Bool = replicate (length trace) false in
     let numbers : List ℕ = range_with_len 0 (length trace + 1) in
-    score-empty objective trace (contents_of trace keeps)
+    earned-empty terms.objective terms.warmup trace (contents_of trace keeps)
     (All-map (λ held. held ≡ []) (held_before trace keeps) numbers (λ k d lt. held_before-nothing trace (length trace) (get_or numbers k d)))
 
 -- the unit of sizes from 1 to the capacity is from 1 to the capacity
@@ -195,14 +199,14 @@ unit_within capacity u (i ∷ rest) some sizes is_unit =
     (omega arith, omega arith)
 
 -- where each request has a size of 1 or more, the unit of the eligible intervals is from 1 to the capacity
-pub unit-le_capacity : (objective : Objective) (capacity : ℕ) (trace : List Object) (u : ℕ)
-    → IsUnit (eligible_intervals objective capacity trace) u → 1 ≤ capacity → All (λ x. 1 ≤ x.size) trace → (1 ≤ u) × (u ≤ capacity)
-unit-le_capacity objective capacity trace u is_unit some sizes =
-    unit_within capacity u (eligible_intervals objective capacity trace) some
-    (All-weaker (IsEligible objective capacity trace) (λ i. (1 ≤ i.size) × (i.size ≤ capacity)) each (eligible_intervals objective capacity trace) (All-eligible_intervals objective capacity trace))
+pub unit-le_capacity : (terms : Terms) (trace : List Object) (u : ℕ)
+    → IsUnit (eligible_intervals terms trace) u → 1 ≤ terms.capacity → All (λ x. 1 ≤ x.size) trace → (1 ≤ u) × (u ≤ terms.capacity)
+unit-le_capacity terms trace u is_unit some sizes =
+    unit_within terms.capacity u (eligible_intervals terms trace) some
+    (All-weaker (IsEligible terms trace) (λ i. (1 ≤ i.size) × (i.size ≤ terms.capacity)) each (eligible_intervals terms trace) (All-eligible_intervals terms trace))
     is_unit
   where
-    each : (i : Interval) → IsEligible objective capacity trace i → (1 ≤ i.size) × (i.size ≤ capacity)
+    each : (i : Interval) → IsEligible terms trace i → (1 ≤ i.size) × (i.size ≤ terms.capacity)
     each i e =
         let next : IsNext trace i.start i.end = e.next in
         let size : i.size ≡ (request_at trace i.start).size = ap (λ j. j.size) e.numbers in
@@ -223,12 +227,12 @@ rising-le a n (i ∷ rest) room rising within =
     omega arith
 
 -- there are at most as many eligible intervals as requests
-pub eligible-le : (objective : Objective) (capacity : ℕ) (trace : List Object) → length (eligible_intervals objective capacity trace) ≤ length trace
-eligible-le objective capacity trace =
-    let bound : 0 + length (eligible_intervals objective capacity trace) ≤ length trace =
-    rising-le 0 (length trace) (eligible_intervals objective capacity trace) (omega arith)
-    (intervals_are_eligible objective capacity trace).in_order
-    (All-weaker (IsEligible objective capacity trace) (λ i. (0 ≤ i.start) × (i.start < length trace))
+pub eligible-le : (terms : Terms) (trace : List Object) → length (eligible_intervals terms trace) ≤ length trace
+eligible-le terms trace =
+    let bound : 0 + length (eligible_intervals terms trace) ≤ length trace =
+    rising-le 0 (length trace) (eligible_intervals terms trace) (omega arith)
+    (intervals_are_eligible terms trace).in_order
+    (All-weaker (IsEligible terms trace) (λ i. (0 ≤ i.start) × (i.start < length trace))
     (λ i e. let next : IsNext trace i.start i.end = e.next in (omega arith, omega (arith, next.before, next.within)))
-    (eligible_intervals objective capacity trace) (All-eligible_intervals objective capacity trace)) in
+    (eligible_intervals terms trace) (All-eligible_intervals terms trace)) in
     omega (arith, bound)

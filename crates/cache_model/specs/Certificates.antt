@@ -6,11 +6,10 @@ use Rattle.cache_model.specs.declared.objects.Object.{Object}
 use Rattle.cache_model.specs.declared.intervals.Interval.{Interval}
 use Rattle.cache_model.specs.declared.certificates.Header.{Header}
 use Rattle.cache_model.specs.declared.certificates.Record.{Record}
-use Rattle.cache_model.specs.Claim.{IsAllowed, score}
+use Rattle.cache_model.specs.Claim.{IsAllowed, score, contents_of, terms_of}
 use Rattle.cache_model.specs.Intervals.{eligible_intervals, bound_of}
 use Rattle.cache_model.specs.Schedules.{IsFractionalSchedule, flow_value}
 use Rattle.cache_model.specs.Units.{HasWholeCosts}
-use Rattle.cache_model.specs.Keeps.{contents_of}
 
 -- each number of the header is in the range that the text has for it
 pub record IsHeaderInRange (h : Header) : Type 0 where
@@ -53,9 +52,9 @@ flow_at records t = slice_index_or (map (λ r. r.flow) records) t 0
 abbrev pub flows_of : List Interval → List Record → List ℕ
 flows_of intervals records = map (λ i. flow_at records i.start) intervals
 
--- the eligible intervals at the header's capacity and objective
+-- the eligible intervals at the header's terms
 abbrev pub eligible_of : List Object → Header → List Interval
-eligible_of trace h = eligible_intervals h.objective h.capacity trace
+eligible_of trace h = eligible_intervals (terms_of h) trace
 
 -- the capacity in units, rounded down
 abbrev pub units_of : Header → ℕ
@@ -77,21 +76,13 @@ pub record IsValid (trace : List Object) (h : Header) (records : List Record) : 
   pub last_price : slice_index_or (prices_of records) (length trace - 1) 0 ≡ 0
   pub unit : All (λ i. h.unit ∣ i.size) (eligible_of trace h)
   pub keeps : IsAllowed h.capacity trace (contents_of trace (keeps_of records))
-  pub lower : h.lower ≡ score h.objective trace (contents_of trace (keeps_of records))
+  pub lower : h.lower ≡ score (terms_of h) trace (contents_of trace (keeps_of records))
   pub unused_flows : (t : ℕ) → list_any (λ i. i.start == t) (eligible_of trace h) ≡ false → flow_at records t ≡ 0
   pub flows : IsFractionalSchedule (eligible_of trace h) h.unit (units_of h) (flows_of (eligible_of trace h) records)
   pub flow : h.flow ≡ flow_of trace h records
   pub upper : h.upper ≡ upper_of trace h records
   pub whole_costs : IsTrue h.exact → HasWholeCosts (eligible_of trace h) h.unit h.denominator
   pub exact_values : IsTrue h.exact → h.upper ≡ h.flow
-
--- no policy within the capacity scores more than the upper bound, nor than its floor
-pub record BoundsEveryPolicy (trace : List Object) (h : Header) : Type 0 where
-  pub denominator_positive : 0 < h.denominator
-  pub no_policy_scores_more : (contents : List (List Object)) → IsAllowed h.capacity trace contents
-      → h.denominator * score h.objective trace contents ≤ h.upper
-  pub no_policy_passes_the_floor : (contents : List (List Object)) → IsAllowed h.capacity trace contents
-      → score h.objective trace contents ≤ h.upper / h.denominator
 
 -- no prices over any denominator give a smaller bound than the records' prices
 abbrev pub IsLeastOverAll : List Object → Header → List Record → Type 0

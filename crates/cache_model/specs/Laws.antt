@@ -1,36 +1,37 @@
 -- The laws of the definitions, each the contract of a function.
-use Rattle.std.specs.Prelude.{if◌then◌else◌, nat_le, sum_by, map, [], ◌∷◌, ◌++◌, ◌≡◌, ◌↔◌, ℕ, ◌+◌, ◌*◌, ◌<◌, ◌≤◌, ◌==◌, Bool, false, IsTrue, List, length, Contains, All, AllPairs}
+use Rattle.std.specs.Prelude.{if◌then◌else◌, nat_le, sum_by, map, [], ◌∷◌, ◌++◌, ◌≡◌, ◌↔◌, ℕ, ◌+◌, ◌*◌, ◌<◌, ◌≤◌, ◌==◌, ◌&&◌, Bool, false, IsTrue, List, length, Contains, All, AllPairs}
 use Rattle.cache_model.specs.declared.objects.Object.{Object}
-use Rattle.cache_model.specs.declared.objects.Objective.{Objective}
+use Rattle.cache_model.specs.declared.terms.Terms.{Terms}
 use Rattle.cache_model.specs.declared.intervals.Interval.{Interval}
 use Rattle.cache_model.specs.declared.certificates.Header.{Header}
 use Rattle.cache_model.specs.declared.certificates.Record.{Record}
-use Rattle.cache_model.specs.Certificates.{IsCertificate, IsValid, BoundsEveryPolicy, IsLeastOverAll}
+use Rattle.cache_model.specs.Certificates.{IsCertificate, IsValid, IsLeastOverAll}
 use Rattle.cache_model.specs.Texts.{cert_text}
-use Rattle.cache_model.specs.Claim.{IsAllowed, total_size}
+use Rattle.cache_model.specs.Claim.{IsAllowed, total_size, BoundsEveryPolicy, request_at, held_before, contents_of, is_kept}
 use Rattle.cache_model.specs.Objects.{IsLatest, IsNew}
 use Rattle.cache_model.specs.Intervals.{interval_of, eligible_intervals, bound_of}
-use Rattle.cache_model.specs.Objects.{request_at, IsNext}
+use Rattle.cache_model.specs.Objects.{IsNext}
 use Rattle.std.specs.List.{list_any, AllZip}
-use Rattle.cache_model.specs.Keeps.{latest_sum, held_before, contents_of, is_kept}
+use Rattle.cache_model.specs.Keeps.{latest_sum}
 use Rattle.cache_model.specs.Schedules.{load_at, IsFractionalSchedule, flow_value}
 use Rattle.cache_model.specs.Units.{weight, IsUnit, IsLeastWhole, IsLeastCommonMultiple, IsReducedWeight}
 use Rattle.cache_model.specs.Rounding.{IsRounded, IsMaximal, taken_load}
 
--- two requests of one object that fits, with no request of it between them
-pub record IsEligible (objective : Objective) (capacity : ℕ) (trace : List Object) (i : Interval) : Type 0 where
+-- two requests of one object that fits, with no request of it between them, the later one past the warm-up
+pub record IsEligible (terms : Terms) (trace : List Object) (i : Interval) : Type 0 where
   pub next : IsNext trace i.start i.end
-  pub fits : (request_at trace i.start).size ≤ capacity
-  pub numbers : i ≡ interval_of objective trace i.start i.end
+  pub fits : (request_at trace i.start).size ≤ terms.capacity
+  pub counts : terms.warmup ≤ i.end
+  pub numbers : i ≡ interval_of terms.objective trace i.start i.end
 
 -- the list has all and only the eligible intervals, in order of start
-pub record EligibleIntervals (objective : Objective) (capacity : ℕ) (trace : List Object) : Type 0 where
-  pub all_and_only : (i : Interval) → Contains (eligible_intervals objective capacity trace) i ↔ IsEligible objective capacity trace i
-  pub in_order : AllPairs (λ i j. i.start < j.start) (eligible_intervals objective capacity trace)
+pub record EligibleIntervals (terms : Terms) (trace : List Object) : Type 0 where
+  pub all_and_only : (i : Interval) → Contains (eligible_intervals terms trace) i ↔ IsEligible terms trace i
+  pub in_order : AllPairs (λ i j. i.start < j.start) (eligible_intervals terms trace)
 
 -- what is said above holds of every trace
 abbrev pub IntervalsAreEligible : Type 0
-IntervalsAreEligible = (objective : Objective) (capacity : ℕ) (trace : List Object) → EligibleIntervals objective capacity trace
+IntervalsAreEligible = (terms : Terms) (trace : List Object) → EligibleIntervals terms trace
 
 -- where the contents of keeps fit, they are allowed contents
 abbrev pub KeepsAreAllowed : Type 0
@@ -49,10 +50,10 @@ FlowsAreBelowPrices =
 -- where only starts of eligible intervals are kept, the sizes held after request t are those of the kept intervals over step t
 abbrev pub ContentsWeighTheirIntervals : Type 0
 ContentsWeighTheirIntervals =
-    (objective : Objective) (capacity : ℕ) (trace : List Object) (keeps : List Bool) (t : ℕ)
-    → ((a : ℕ) → list_any (λ i. i.start == a) (eligible_intervals objective capacity trace) ≡ false → is_kept keeps a ≡ false)
+    (terms : Terms) (trace : List Object) (keeps : List Bool) (t : ℕ)
+    → ((a : ℕ) → list_any (λ i. i.start == a) (eligible_intervals terms trace) ≡ false → is_kept keeps a ≡ false)
     → t < length trace
-    → total_size (held_before trace keeps (t + 1)) ≡ taken_load (eligible_intervals objective capacity trace) keeps t
+    → total_size (held_before trace keeps (t + 1)) ≡ taken_load (eligible_intervals terms trace) keeps t
 
 -- rounded keeps are maximal, whatever the order
 abbrev pub RoundedIsMaximal : Type 0
@@ -69,13 +70,13 @@ OneReading =
     → (h ≡ k) × (records ≡ entries) × (xs ≡ ys)
 
 -- one more request: at most one more interval, from the latest request of its object
-pub record IntervalsGrow (objective : Objective) (capacity : ℕ) (trace : List Object) (x : Object) (amount : Interval → ℕ) : Type 0 where
+pub record IntervalsGrow (terms : Terms) (trace : List Object) (x : Object) (amount : Interval → ℕ) : Type 0 where
   pub new : IsNew trace x
-      → sum_by amount (eligible_intervals objective capacity (trace ++ x ∷ [])) ≡ sum_by amount (eligible_intervals objective capacity trace)
+      → sum_by amount (eligible_intervals terms (trace ++ x ∷ [])) ≡ sum_by amount (eligible_intervals terms trace)
   pub again : (a : ℕ) → IsLatest trace x a
-      → sum_by amount (eligible_intervals objective capacity (trace ++ x ∷ []))
-      ≡ sum_by amount (eligible_intervals objective capacity trace)
-      + (if nat_le x.size capacity then amount (interval_of objective (trace ++ x ∷ []) a (length trace)) else 0)
+      → sum_by amount (eligible_intervals terms (trace ++ x ∷ []))
+      ≡ sum_by amount (eligible_intervals terms trace)
+      + (if nat_le x.size terms.capacity && nat_le terms.warmup (length trace) then amount (interval_of terms.objective (trace ++ x ∷ []) a (length trace)) else 0)
 
 -- one more request: its amount stands in place of that of the latest request of its object
 pub record LatestSumGrows (trace : List Object) (x : Object) (amount : ℕ → ℕ) : Type 0 where
@@ -86,16 +87,16 @@ pub record LatestSumGrows (trace : List Object) (x : Object) (amount : ℕ → �
 -- what one more request adds to a sum over the intervals, and to one over the latest requests
 abbrev pub OneMoreRequest : Type 0
 OneMoreRequest =
-    (objective : Objective) (capacity : ℕ) (trace : List Object) (x : Object) (of_interval : Interval → ℕ) (of_request : ℕ → ℕ)
-    → IntervalsGrow objective capacity trace x of_interval × LatestSumGrows trace x of_request
+    (terms : Terms) (trace : List Object) (x : Object) (of_interval : Interval → ℕ) (of_request : ℕ → ℕ)
+    → IntervalsGrow terms trace x of_interval × LatestSumGrows trace x of_request
 
 -- the load of a step is the sum over the latest requests, where only starts of intervals have an amount
 abbrev pub LoadIsLatestSum : Type 0
 LoadIsLatestSum =
-    (objective : Objective) (capacity : ℕ) (trace : List Object) (amount : ℕ → ℕ) (t : ℕ)
-    → ((a : ℕ) → list_any (λ i. i.start == a) (eligible_intervals objective capacity trace) ≡ false → amount a ≡ 0)
+    (terms : Terms) (trace : List Object) (amount : ℕ → ℕ) (t : ℕ)
+    → ((a : ℕ) → list_any (λ i. i.start == a) (eligible_intervals terms trace) ≡ false → amount a ≡ 0)
     → t < length trace
-    → load_at (eligible_intervals objective capacity trace) (map (λ i. amount i.start) (eligible_intervals objective capacity trace)) t ≡ latest_sum trace amount (t + 1)
+    → load_at (eligible_intervals terms trace) (map (λ i. amount i.start) (eligible_intervals terms trace)) t ≡ latest_sum trace amount (t + 1)
 
 -- a valid certificate bounds every policy
 abbrev pub ValidBoundsEveryPolicy : Type 0

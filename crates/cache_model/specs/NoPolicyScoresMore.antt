@@ -1,15 +1,15 @@
 -- No play scores more than the bound of any prices.
 use Rattle.std.specs.Prelude.{◌≡◌, ℕ, ◌*◌, ◌/◌, ◌≤◌, List, length}
 use Rattle.cache_model.specs.declared.objects.Object.{Object}
-use Rattle.cache_model.specs.declared.objects.Objective.{Objective}
+use Rattle.cache_model.specs.declared.terms.Terms.{Terms}
 use Rattle.cache_model.specs.Claim.{IsAllowed, score}
 use Rattle.cache_model.specs.Intervals.{eligible_intervals, bound_of}
 
 -- over the denominator, no allowed contents score more than the priced bound
 abbrev pub NoPolicyScoresMore : Type 0
 NoPolicyScoresMore =
-    (objective : Objective) (capacity unit denominator : ℕ) (trace : List Object) (prices : List ℕ) (contents : List (List Object))
-    → IsAllowed capacity trace contents
+    (terms : Terms) (unit denominator : ℕ) (trace : List Object) (prices : List ℕ) (contents : List (List Object))
+    → IsAllowed terms.capacity trace contents
     → length prices ≡ length trace
-    → denominator * score objective trace contents
-    ≤ bound_of (eligible_intervals objective capacity trace) unit (capacity / unit) denominator prices
+    → denominator * score terms trace contents
+    ≤ bound_of (eligible_intervals terms trace) unit (terms.capacity / unit) denominator prices

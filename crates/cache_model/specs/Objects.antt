@@ -1,16 +1,8 @@
 -- The objects of a trace, and which requests are of one object.
-use Rattle.std.specs.Prelude.{◌≡◌, ℕ, ◌<◌, Bool, false, IsTrue, not, List, length, map, take, slice_index_or, filter}
+use Rattle.std.specs.Prelude.{◌≡◌, ℕ, ◌<◌, Bool, false, IsTrue, not, List, length, map, take, filter}
 use Rattle.std.specs.List.{list_any, range_with_len}
 use Rattle.cache_model.specs.declared.objects.Object.{Object}
-use Rattle.cache_model.specs.Claim.{same_object}
-
--- what stands past the end of a trace
-abbrev pub no_object : Object
-no_object = record { volume = 0; id = 0; size = 0 }
-
--- the object of request t
-abbrev pub request_at : List Object → ℕ → Object
-request_at trace t = slice_index_or trace t no_object
+use Rattle.cache_model.specs.Claim.{same_object, request_at}
 
 -- the numbers of the requests, from 0
 abbrev pub numbers_of : List Object → List ℕ

@@ -3,7 +3,7 @@ use Rattle.std.specs.Prelude.{◌≡◌, ℕ, ◌+◌, ◌-◌, ◌*◌, ◌/◌
 use Rattle.std.specs.List.{list_any, list_all, range_with_len, AllZip}
 use Rattle.cache_model.specs.declared.intervals.Interval.{Interval}
 use Rattle.cache_model.specs.Schedules.{covers}
-use Rattle.cache_model.specs.Keeps.{is_kept}
+use Rattle.cache_model.specs.Claim.{is_kept}
 
 -- the interval i stands before j in order of start
 abbrev pub by_start : Interval → Interval → Bool

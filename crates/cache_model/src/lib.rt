@@ -9,6 +9,7 @@ mod intervals;
 mod laws;
 mod objects;
 mod reports;
+mod terms;
 
 pub use certificates::{Header, Record};
 pub use intervals::Interval;
@@ -20,3 +21,4 @@ pub use laws::{
 };
 pub use objects::{Object, Objective};
 pub use reports::{BoundFacts, Mode, Window};
+pub use terms::Terms;

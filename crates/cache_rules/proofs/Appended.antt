@@ -6,9 +6,8 @@ use Rattle.std.proofs.lemmas.List.{length-map}
 use Rattle.std.proofs.lemmas.Map.Entries.{length-keys_of}
 use Rattle.indexmap.specs.IndexMap.{insert_entry}
 use Rattle.cache_model.specs.declared.objects.Object.{Object}
-use Rattle.cache_model.specs.Claim.{same_object}
+use Rattle.cache_model.specs.Claim.{same_object, no_object}
 use Rattle.cache_model.specs.Objects.{IsLatest}
-use Rattle.cache_model.specs.Objects.{no_object}
 use Rattle.cache_rules.specs.Stored.{no_request, object_at, trace_of, IsSized, IsStored}
 use Rattle.cache_rules.proofs.Insertion.{Adds, Updates, Adds-from_lookup, Updates-from_lookup}
 use Rattle.cache_rules.proofs.Numbers.{few_entries}

@@ -8,8 +8,8 @@ use Rattle.std.proofs.lemmas.List.Elements.{All-contains}
 use Rattle.std.proofs.lemmas.Map.Entries.{length-keys_of}
 use Rattle.std.proofs.lemmas.Option.{slice_get-get_or, slice_get-map, slice_get_within, get_or_from_slice_get}
 use Rattle.cache_model.specs.declared.objects.Object.{Object}
-use Rattle.cache_model.specs.Claim.{same_object}
-use Rattle.cache_model.specs.Objects.{request_at, no_object, objects_of}
+use Rattle.cache_model.specs.Claim.{same_object, request_at, no_object}
+use Rattle.cache_model.specs.Objects.{objects_of}
 use Rattle.cache_model.proofs.Duality.{same_object-refl}
 use Rattle.cache_model.proofs.Pairs.{same_object-sym}
 use Rattle.cache_model.proofs.DifferentObjects.{length-objects_of}

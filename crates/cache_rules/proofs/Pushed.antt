@@ -6,9 +6,9 @@ use Rattle.std.proofs.lemmas.List.{get_or_append_left, get_or_push, get_or-map, 
 use Rattle.std.proofs.lemmas.List.Elements.{All-push}
 use Rattle.std.proofs.lemmas.Map.Entries.{length-keys_of, length-values_of}
 use Rattle.cache_model.specs.declared.objects.Object.{Object}
-use Rattle.cache_model.specs.Claim.{same_object}
+use Rattle.cache_model.specs.Claim.{same_object, request_at, no_object}
 use Rattle.cache_model.specs.Objects.{IsLatest, IsNew}
-use Rattle.cache_model.specs.Objects.{request_at, no_object, IsLast}
+use Rattle.cache_model.specs.Objects.{IsLast}
 use Rattle.cache_model.proofs.Duality.{same_object-true}
 use Rattle.cache_model.proofs.Pairs.{same_object-sym}
 use Rattle.cache_model.proofs.DifferentObjects.{length-pushed, IsFirst-early, IsFirst-pushed, IsLast-early, IsLast-pushed, IsNext-early, IsNext-pushed, IsLatest-early, IsLatest-pushed, objects_of-pushed_new, objects_of-pushed_again}

@@ -2,9 +2,9 @@
 use Rattle.std.specs.Prelude.{◌≡◌, ℕ, ◌≤◌, ◌<◌, ◌^◌, List, length, map, slice_index, slice_index_or, All, false}
 use Rattle.std.specs.Map.{keys_of, values_of}
 use Rattle.cache_model.specs.declared.objects.Object.{Object}
-use Rattle.cache_model.specs.Claim.{same_object}
+use Rattle.cache_model.specs.Claim.{same_object, no_object}
 use Rattle.cache_model.specs.Objects.{IsLatest}
-use Rattle.cache_model.specs.Objects.{no_object, objects_of, IsFirst, IsLast, IsNext}
+use Rattle.cache_model.specs.Objects.{objects_of, IsFirst, IsLast, IsNext}
 
 -- what is stored where there is no request
 abbrev pub no_request : ℕ

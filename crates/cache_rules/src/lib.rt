@@ -10,6 +10,6 @@ mod scoring;
 mod trace;
 
 pub use builder::Builder;
-pub use cache_model::{Object, Objective};
-pub use scoring::{Overfull, gain, score};
+pub use cache_model::{Object, Objective, Terms};
+pub use scoring::{Overfull, gain, score, score_of_fitting};
 pub use trace::Trace;

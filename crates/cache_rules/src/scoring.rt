@@ -1,11 +1,10 @@
 //! The score of contents that are given by keeps.
-ghost use Rattle.std.specs.Prelude.{◌≡◌, ◌↔◌, ◌≤◌, ◌<◌, ◌+◌, ◌^◌, ℕ, Bool, true, if◌then◌else◌, length, IfOk, IfErr, OnOk, IsOk};
-ghost use Rattle.cache_model.specs.Keeps.{contents_of, held_before, load_after, IsFirstOverfull};
-ghost use Rattle.cache_model.specs.Objects.{request_at};
-ghost use Rattle.cache_model.specs.Claim.{gain_of, holds, score, IsAllowed};
+ghost use Rattle.std.specs.Prelude.{◌≡◌, ◌↔◌, ◌≤◌, ◌<◌, ◌+◌, ◌^◌, ℕ, Bool, true, nat_le, if◌then◌else◌, length, IfOk, IfErr, OnOk, IsOk};
+ghost use Rattle.cache_model.specs.Keeps.{load_after, IsFirstOverfull};
+ghost use Rattle.cache_model.specs.Claim.{gain_of, holds, score, terms_from, IsAllowed, contents_of, held_before, request_at};
 
 use crate::trace::Trace;
-use cache_model::{Object, Objective};
+use cache_model::{Object, Objective, Terms};
 
 /// The first step whose load passes the capacity, and that load, in bytes.
 #[derive(Clone, Copy, Debug, PartialEq, Eq)]
@@ -61,21 +60,37 @@ fn moved(load: u128, size: u64, leaves: bool, enters: bool) -> u128
     load
 }
 
-/// The score of the contents that the keeps stand for.
+// What request `t` earns: the gain of a hit that is past the warm-up.
+fn earned(terms: Terms, t: u32, object: &Object, hit: bool) -> u64
+    ensures { result ≡ (if nat_le terms.warmup t then (if hit then gain_of terms.objective object.now else 0) else 0) }
+{
+    if t < terms.warmup || !hit {
+        return 0;
+    }
+    gain(terms.objective, object)
+}
+
+/// The score of the contents that the keeps stand for, if each load is within the capacity.
 ///
 /// It goes over the requests once, with one running load, and takes no memory.
 pub fn score(
     trace: &Trace,
     capacity: u64,
     objective: Objective,
+    warmup: u32,
     keeps: &[bool],
 ) -> Result<u128, Overfull>
     requires one_keep_each { length keeps.now ≡ length trace.now }
-    ensures score { IfOk result (λ gains. gains ≡ score objective trace.now (contents_of trace.now keeps.now)) }
+    ensures score { IfOk result (λ gains. gains ≡ score (terms_from objective capacity warmup) trace.now (contents_of trace.now keeps.now)) }
     ensures allowed { OnOk result (IsAllowed capacity trace.now (contents_of trace.now keeps.now)) }
     ensures fits { IsOk result ↔ ((t : ℕ) → t < length trace.now → load_after trace.now keeps.now t ≤ capacity) }
     ensures overfull { IfErr result (λ over. IsFirstOverfull capacity trace.now keeps.now over.step over.load) }
 {
+    let terms = Terms {
+        objective,
+        capacity,
+        warmup,
+    };
     let mut gains = 0;
     let mut load = 0;
     for t in 0..trace.len() {
@@ -85,9 +100,23 @@ pub fn score(
         if load > capacity as u128 {
             return Err(Overfull { step: t, load });
         }
-        if hit {
-            gains += gain(objective, &object) as u128;
-        }
+        gains += earned(terms, t, &object, hit) as u128;
     }
     Ok(gains)
+}
+
+/// The score of contents that are known to fit. It goes over the requests once, sums no load and takes no memory.
+pub fn score_of_fitting(trace: &Trace, terms: Terms, keeps: &[bool]) -> u128
+    requires one_keep_each { length keeps.now ≡ length trace.now }
+    requires fits { (t : ℕ) → t < length trace.now → load_after trace.now keeps.now t ≤ terms.capacity }
+    ensures score { result ≡ score terms trace.now (contents_of trace.now keeps.now) }
+    ensures allowed { IsAllowed terms.capacity trace.now (contents_of trace.now keeps.now) }
+{
+    let mut gains = 0;
+    for t in 0..trace.len() {
+        let object = requested(trace, t);
+        let hit = is_hit(trace, keeps, t);
+        gains += earned(terms, t, &object, hit) as u128;
+    }
+    gains
 }

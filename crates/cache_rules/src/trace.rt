@@ -1,8 +1,8 @@
 //! A trace, by the numbers of its objects.
 ghost use Rattle.std.specs.Prelude.{◌≡◌, ◌≤◌, ◌<◌, ◌^◌, ◌++◌, [], ◌∷◌, length, Some, slice_get, slice_index_or, position, OnOk, OnErr, MatchOption};
 ghost use Rattle.std.specs.Vec.{vec_len, vec_capacity};
-ghost use Rattle.cache_model.specs.Objects.{no_object, request_at, objects_of, IsNext, IsLast, IsFirst};
-ghost use Rattle.cache_model.specs.Claim.{same_object};
+ghost use Rattle.cache_model.specs.Objects.{objects_of, IsNext, IsLast, IsFirst};
+ghost use Rattle.cache_model.specs.Claim.{same_object, no_object, request_at};
 ghost use Rattle.cache_rules.specs.Stored.{no_request};
 
 use bound_base::NoMemory;

@@ -15,10 +15,10 @@ use Rattle.cache_model.specs.declared.objects.Object.{Object}
 use Rattle.cache_model.specs.declared.intervals.Interval.{Interval}
 use Rattle.cache_model.specs.declared.certificates.Header.{Header}
 use Rattle.cache_model.specs.declared.certificates.Record.{Record}
-use Rattle.cache_model.specs.Claim.{same_object, gain_of, total_size}
-use Rattle.cache_model.specs.Objects.{request_at, no_object, IsFirst, IsNext}
+use Rattle.cache_model.specs.Claim.{same_object, gain_of, total_size, request_at, no_object, contents_of, held_before, is_latest, terms_of}
+use Rattle.cache_model.specs.Objects.{IsFirst, IsNext}
 use Rattle.cache_model.specs.Intervals.{interval_of}
-use Rattle.cache_model.specs.Keeps.{contents_of, held_before, is_latest, latest_sum, load_after}
+use Rattle.cache_model.specs.Keeps.{latest_sum, load_after}
 use Rattle.cache_model.specs.Laws.{IsEligible}
 use Rattle.cache_model.specs.Units.{weight}
 use Rattle.cache_model.specs.Certificates.{eligible_of, flow_at, keeps_of, prices_of, units_of, unpriced, IsValid}
@@ -76,26 +76,26 @@ module _ (h : Header) (trace : List Object) (records : List Record) (v : IsValid
         ∙ ap (λ k. get_or (prices_of records) k 0) here ∙ v.last_price))
 
     -- the interval that ends there
-    ended : ends_interval h (request_at trace t) (figures_at h trace records t) ≡ true → (a : ℕ) × IsEligible h.objective h.capacity trace (interval_of h.objective trace a t)
+    ended : ends_interval h (request_at trace t) (figures_at h trace records t) ≡ true → (a : ℕ) × IsEligible (terms_of h) trace (interval_of h.objective trace a t)
     ended ends =
         let parts : (was_requested trace t ≡ true) × (nat_le (request_at trace t).size h.capacity ≡ true) =
         and_parts (was_requested trace t) (nat_le (request_at trace t).size h.capacity) ends in
         from parts.0 (leb-true (request_at trace t).size h.capacity parts.1) (first_or_next trace t low)
       where
         from : was_requested trace t ≡ true → (request_at trace t).size ≤ h.capacity → IsFirst trace t ⊎ ((a : ℕ) × IsNext trace a t)
-            → (a : ℕ) × IsEligible h.objective h.capacity trace (interval_of h.objective trace a t)
+            → (a : ℕ) × IsEligible (terms_of h) trace (interval_of h.objective trace a t)
         from again fits (inl first) = absurd (both_ways (was_requested trace t) (not-true (was_requested trace t) (is_first-yes trace t (omega arith) first)) again)
         from again fits (inr (a, next)) =
             let same : request_at trace a ≡ request_at trace t = same_object-true (request_at trace a) (request_at trace t) next.same in
-            (a, record { next = next; fits = subst (λ (y : Object). y.size ≤ h.capacity) (sym same) fits; numbers = refl })
+            (a, record { next = next; fits = subst (λ (y : Object). y.size ≤ h.capacity) (sym same) fits; counts = omega arith; numbers = refl })
 
     -- what is said of the intervals holds of that one
-    of_ended : (P : Interval → Type 0) → All P (eligible_of trace h) → (a : ℕ) → IsEligible h.objective h.capacity trace (interval_of h.objective trace a t)
+    of_ended : (P : Interval → Type 0) → All P (eligible_of trace h) → (a : ℕ) → IsEligible (terms_of h) trace (interval_of h.objective trace a t)
         → P (record { start = a; end = t; size = (request_at trace t).size; gain = gain_of h.objective (request_at trace t) })
     of_ended P all a e =
         let same : request_at trace a ≡ request_at trace t = same_object-true (request_at trace a) (request_at trace t) e.next.same in
         subst (λ (y : Object). P (record { start = a; end = t; size = y.size; gain = gain_of h.objective (request_at trace t) })) same
-        (All-contains P (eligible_of trace h) (interval_of h.objective trace a t) all (Contains-eligible h.objective h.capacity trace (interval_of h.objective trace a t) e))
+        (All-contains P (eligible_of trace h) (interval_of h.objective trace a t) all (Contains-eligible (terms_of h) trace (interval_of h.objective trace a t) e))
 
     unit : (ends_interval h (request_at trace t) (figures_at h trace records t) && not (divides h.unit (request_at trace t).size)) ≡ false
     unit =
@@ -128,7 +128,7 @@ module _ (h : Header) (trace : List Object) (records : List Record) (v : IsValid
       where
         started : Any (λ i. (i.start == t) ≡ true) (eligible_of trace h) → flow_at records t ≤ weight_in h (request_at trace t)
         started (k, i, kl, there, starts) =
-            let e : IsEligible h.objective h.capacity trace i = subst (IsEligible h.objective h.capacity trace) there (All-eligible_intervals h.objective h.capacity trace k i kl) in
+            let e : IsEligible (terms_of h) trace i = subst (IsEligible (terms_of h) trace) there (All-eligible_intervals (terms_of h) trace k i kl) in
             let here : i.start ≡ t = eqb-true i.start t starts in
             let own : flow_at records i.start ≤ weight h.unit i =
             subst (λ j. flow_at records j.start ≤ weight h.unit j) there
@@ -149,7 +149,7 @@ module _ (h : Header) (trace : List Object) (records : List Record) (v : IsValid
     flows : nat_lt (units_of h) (latest_sum trace (flow_at records) (t + 1)) ≡ false
     flows =
         le-ltb (units_of h) (latest_sum trace (flow_at records) (t + 1))
-        (omega (arith, load-latest h.objective h.capacity trace (flow_at records) t v.unused_flows low, v.flows.within_units t))
+        (omega (arith, load-latest (terms_of h) trace (flow_at records) t v.unused_flows low, v.flows.within_units t))
 
     no_record : record_fault h trace records t ≡ None
     no_record =
@@ -162,7 +162,7 @@ module _ (h : Header) (trace : List Object) (records : List Record) (v : IsValid
     where
       started : Any (λ i. (i.start == a) ≡ true) (eligible_of trace h) → ⊥
       started (k, i, kl, there, starts) =
-          let e : IsEligible h.objective h.capacity trace i = subst (IsEligible h.objective h.capacity trace) there (All-eligible_intervals h.objective h.capacity trace k i kl) in
+          let e : IsEligible (terms_of h) trace i = subst (IsEligible (terms_of h) trace) there (All-eligible_intervals (terms_of h) trace k i kl) in
           let here : i.start ≡ a = eqb-true i.start a starts in
           let next : IsNext trace a i.end = subst (λ b. IsNext trace b i.end) here e.next in
           let before : a < i.end = next.before in

@@ -1,14 +1,13 @@
 -- What is said of the first requests and records does not change with those that follow.
-use Rattle.std.proofs.Common.{◌≡◌, ℕ, suc, zero, ◌+◌, ◌-◌, ◌<◌, ◌≤◌, ◌∙◌, refl, ap, Bool, true, false, not, ◌&&◌, ◌==◌, cond, List, ◌∷◌, ◌++◌, length, map, filter, take, drop, slice_range, get_or, sum, arith}
+use Rattle.std.proofs.Common.{◌≡◌, ℕ, suc, zero, ◌+◌, ◌-◌, ◌<◌, ◌≤◌, ◌∙◌, refl, ap, Bool, true, false, not, ◌&&◌, ◌==◌, cond, nat_le, List, ◌∷◌, ◌++◌, length, map, filter, take, drop, slice_range, get_or, sum, arith}
 use Rattle.std.specs.List.{range_with_len, list_any}
 use Rattle.std.proofs.lemmas.List.{get_or_append_left, length-drop, length-map, map-append, take-append-le, drop-append-le}
 use Rattle.cache_model.specs.declared.objects.Object.{Object}
-use Rattle.cache_model.specs.declared.objects.Objective.{Objective}
+use Rattle.cache_model.specs.declared.terms.Terms.{Terms}
 use Rattle.cache_model.specs.declared.certificates.Header.{Header}
 use Rattle.cache_model.specs.declared.certificates.Record.{Record}
-use Rattle.cache_model.specs.Claim.{same_object, gain_of, holds, total_size}
-use Rattle.cache_model.specs.Objects.{request_at, no_object}
-use Rattle.cache_model.specs.Keeps.{is_kept, is_held, is_latest, held_before, latest_sum, load_after}
+use Rattle.cache_model.specs.Claim.{same_object, gain_of, holds, total_size, request_at, no_object, is_kept, is_held, is_latest, held_before}
+use Rattle.cache_model.specs.Keeps.{latest_sum, load_after}
 use Rattle.cache_model.specs.Certificates.{flow_at, keeps_of, prices_of, unpriced}
 use Rattle.cache_model.proofs.Streams.{sum_by-range_agree}
 use Rattle.cache_model.proofs.Scores.{earned_at}
@@ -56,11 +55,12 @@ module _ (trace ys : List Object) where
       (λ k lt. request_at-prefix k (omega arith))
       (λ k lt. ap (λ b. b && is_latest (trace ++ ys) t k) (same k (omega arith)) ∙ ap (λ b. is_kept keeps k && b) (is_latest-prefix t k (omega arith) high))
 
-  pub earned_at-prefix : (o : Objective) (keeps bits : List Bool) (t : ℕ) → t < length trace → ((a : ℕ) → a < t → is_kept bits a ≡ is_kept keeps a)
-      → earned_at o (trace ++ ys) bits t ≡ earned_at o trace keeps t
-  earned_at-prefix o keeps bits t high same =
-      ap (λ x. cond (holds (held_before (trace ++ ys) bits t) x) (gain_of o x) 0) (request_at-prefix t high)
-      ∙ ap (λ held. cond (holds held (request_at trace t)) (gain_of o (request_at trace t)) 0) (held_before-prefix keeps bits t (omega arith) same)
+  pub earned_at-prefix : (terms : Terms) (keeps bits : List Bool) (t : ℕ) → t < length trace → ((a : ℕ) → a < t → is_kept bits a ≡ is_kept keeps a)
+      → earned_at terms (trace ++ ys) bits t ≡ earned_at terms trace keeps t
+  earned_at-prefix terms keeps bits t high same =
+      let earned : List Object → Object → ℕ = λ held x. cond (nat_le terms.warmup t) (cond (holds held x) (gain_of terms.objective x) 0) 0 in
+      ap (earned (held_before (trace ++ ys) bits t)) (request_at-prefix t high)
+      ∙ ap (λ held. earned held (request_at trace t)) (held_before-prefix keeps bits t (omega arith) same)
 
 module _ (records ss : List Record) where
   pub is_kept-prefix : (a : ℕ) → a < length records → is_kept (keeps_of (records ++ ss)) a ≡ is_kept (keeps_of records) a

@@ -1,9 +1,10 @@
 -- One more request and its record: what the figures and the sums become.
-use Rattle.std.proofs.Common.{◌≡◌, ℕ, suc, ◌+◌, ◌-◌, ◌*◌, ◌/◌, ◌<◌, ◌≤◌, ◌∙◌, sym, refl, ap, Bool, false, ◌==◌, cond, nat_le, List, [], ◌∷◌, ◌++◌, length, map, zip, take, drop, slice_range, get_or, sum, sum_by, arith, None, Some}
+use Rattle.std.proofs.Common.{◌≡◌, ℕ, suc, ◌+◌, ◌-◌, ◌*◌, ◌/◌, ◌<◌, ◌≤◌, ◌∙◌, sym, refl, ap, Bool, true, false, ◌&&◌, ◌==◌, cond, nat_le, List, [], ◌∷◌, ◌++◌, length, map, zip, take, drop, slice_range, get_or, sum, sum_by, arith, None, Some}
 use Rattle.std.specs.Prelude.{MatchOption}
 use Rattle.std.specs.declared.option.Option.{Option}
 use Rattle.std.specs.Option.{is_some}
 use Rattle.std.specs.List.{range_with_len, list_any}
+use Rattle.std.proofs.lemmas.Bool.{le-leb}
 use Rattle.std.proofs.lemmas.List.{get_or_push, length-append, length-drop, length-map, map-append, take-append-le, take_all}
 use Rattle.std.proofs.lemmas.List.Elements.{All-from_get_or}
 use Rattle.std.proofs.lemmas.List.Folds.{list_any_at, list_any_none}
@@ -12,10 +13,10 @@ use Rattle.cache_model.specs.declared.objects.Object.{Object}
 use Rattle.cache_model.specs.declared.intervals.Interval.{Interval}
 use Rattle.cache_model.specs.declared.certificates.Header.{Header}
 use Rattle.cache_model.specs.declared.certificates.Record.{Record}
-use Rattle.cache_model.specs.Claim.{same_object, gain_of, holds, score, total_size}
-use Rattle.cache_model.specs.Objects.{request_at, no_object, IsLatest, IsNew}
+use Rattle.cache_model.specs.Claim.{same_object, gain_of, holds, score, total_size, request_at, no_object, contents_of, is_kept, is_latest, held_before, terms_of}
+use Rattle.cache_model.specs.Objects.{IsLatest, IsNew}
 use Rattle.cache_model.specs.Intervals.{interval_of, surplus}
-use Rattle.cache_model.specs.Keeps.{contents_of, is_kept, is_latest, held_before, latest_sum, load_after}
+use Rattle.cache_model.specs.Keeps.{latest_sum, load_after}
 use Rattle.cache_model.specs.Laws.{IsEligible}
 use Rattle.cache_model.specs.Schedules.{flow_value}
 use Rattle.cache_model.specs.Units.{weight}
@@ -39,6 +40,11 @@ pub sum_by-all_agree : {X : Type 0} (f g : X → ℕ) (xs : List X) → ((k : �
 sum_by-all_agree f g [] same = refl
 sum_by-all_agree f g (x ∷ xs) same =
     omega (arith, sum_by-cons f x xs, sum_by-cons g x xs, same 0 x (omega arith), sum_by-all_agree f g xs (λ k d low. same (suc k) d (omega arith)))
+
+-- without a warm-up every request counts
+counts_all : (b : Bool) (n : ℕ) → (b && nat_le 0 n) ≡ b
+counts_all true n = le-leb 0 n (omega arith)
+counts_all false n = refl
 
 -- the value of an interval's flow
 abbrev pub value_in : Header → List Record → Interval → ℕ
@@ -185,16 +191,20 @@ module _ (h : Header) (trace : List Object) (records : List Record) (x : Object)
         ∙ ap (F (sum (take (n + 1) (prices_of records'))) (n + 1 == h.requests) (was_requested trace' n) (load_after trace' (keeps_of records') n)) flows
 
     -- the sums over the intervals that have ended
-    module _ (f g : Interval → ℕ) (same : (i : Interval) → IsEligible h.objective h.capacity trace i → f i ≡ g i) where
+    module _ (f g : Interval → ℕ) (same : (i : Interval) → IsEligible (terms_of h) trace i → f i ≡ g i) where
       eligible-agree : sum_by f (eligible_of trace h) ≡ sum_by g (eligible_of trace h)
-      eligible-agree = sum_by-all_agree f g (eligible_of trace h) (λ k d low. same _ (All-eligible_intervals h.objective h.capacity trace k d low))
+      eligible-agree = sum_by-all_agree f g (eligible_of trace h) (λ k d low. same _ (All-eligible_intervals (terms_of h) trace k d low))
 
       pub intervals-new : IsNew trace x → sum_by f (eligible_of trace' h) ≡ sum_by g (eligible_of trace h)
-      intervals-new new = eligible_push_first f h.objective h.capacity trace x new ∙ eligible-agree
+      intervals-new new = eligible_push_first f (terms_of h) trace x new ∙ eligible-agree
 
       pub intervals-again : (a : ℕ) → IsLatest trace x a
           → sum_by f (eligible_of trace' h) ≡ sum_by g (eligible_of trace h) + cond (nat_le x.size h.capacity) (f (interval_of h.objective trace' a n)) 0
-      intervals-again a l = eligible_push_again f h.objective h.capacity trace x a l ∙ ap (λ m. m + cond (nat_le x.size h.capacity) (f (interval_of h.objective trace' a n)) 0) eligible-agree
+      intervals-again a l =
+          let more : ℕ = f (interval_of h.objective trace' a n) in
+          eligible_push_again f (terms_of h) trace x a l
+          ∙ ap (λ b. sum_by f (eligible_of trace h) + cond b more 0) (counts_all (nat_le x.size h.capacity) n)
+          ∙ ap (λ m. m + cond (nat_le x.size h.capacity) more 0) eligible-agree
 
     -- the interval that ends at the request has its object's size and gain
     ended : (a : ℕ) → IsLatest trace x a → interval_of h.objective trace' a n ≡ record { start = a; end = n; size = x.size; gain = gain_of h.objective x }
@@ -212,7 +222,7 @@ module _ (h : Header) (trace : List Object) (records : List Record) (x : Object)
         ∙ take_all (n - a) (drop a (prices_of records)) (omega (arith, length-drop a (prices_of records), size)) in
         omega (arith, ap sum rest, sum_by-take-drop (λ (k : ℕ). k) (prices_of records) a)
 
-    same_surplus : (i : Interval) → IsEligible h.objective h.capacity trace i
+    same_surplus : (i : Interval) → IsEligible (terms_of h) trace i
         → surplus h.unit h.denominator (prices_of records') i ≡ surplus h.unit h.denominator (prices_of records) i
     same_surplus i e =
         let low : i.start < i.end = e.next.before in
@@ -235,7 +245,7 @@ module _ (h : Header) (trace : List Object) (records : List Record) (x : Object)
             intervals-again f (surplus h.unit h.denominator (prices_of records)) same_surplus seen.latest is.latest
             ∙ ap (λ v. sum_by (surplus h.unit h.denominator (prices_of records)) (eligible_of trace h) + cond (nat_le x.size h.capacity) v 0) own
 
-    same_value : (i : Interval) → IsEligible h.objective h.capacity trace i → value_in h records' i ≡ value_in h records i
+    same_value : (i : Interval) → IsEligible (terms_of h) trace i → value_in h records' i ≡ value_in h records i
     same_value i e =
         let low : i.start < i.end = e.next.before in
         let high : i.end < n = e.next.within in
@@ -258,35 +268,36 @@ module _ (h : Header) (trace : List Object) (records : List Record) (x : Object)
             ∙ ap (λ s. s + (added h x (sum (prices_of records)) (Some seen)).value) (sym (flow_of-sum h trace records))
 
     -- the score
-    earned-pushed : earned_at h.objective trace' (keeps_of records') n ≡ (added h x (sum (prices_of records)) before).gain
+    earned-pushed : earned_at (terms_of h) trace' (keeps_of records') n ≡ (added h x (sum (prices_of records)) before).gain
     earned-pushed = at before known
       where
         high : n < length trace'
         high = omega (arith, length-pushed trace x)
 
         here : (b : Bool) → holds (held_before trace' (keeps_of records') n) (request_at trace' n) ≡ b
-            → earned_at h.objective trace' (keeps_of records') n ≡ cond b (gain_of h.objective x) 0
+            → earned_at (terms_of h) trace' (keeps_of records') n ≡ cond b (gain_of h.objective x) 0
         here b e =
-            ap (λ k. cond k (gain_of h.objective (request_at trace' n)) 0) e ∙ ap (λ y. cond b (gain_of h.objective y) 0) (request_at-pushed trace x)
+            ap (λ t. cond t (cond (holds (held_before trace' (keeps_of records') n) (request_at trace' n)) (gain_of h.objective (request_at trace' n)) 0) 0) (le-leb 0 n (omega arith))
+            ∙ ap (λ k. cond k (gain_of h.objective (request_at trace' n)) 0) e ∙ ap (λ y. cond b (gain_of h.objective y) 0) (request_at-pushed trace x)
 
         at : (b : Option Seen) → MatchOption b (IsNew trace x) (IsSeen trace records x)
-            → earned_at h.objective trace' (keeps_of records') n ≡ (added h x (sum (prices_of records)) b).gain
+            → earned_at (terms_of h) trace' (keeps_of records') n ≡ (added h x (sum (prices_of records)) b).gain
         at None new = here false (holds-first trace' n high (keeps_of records') (IsFirst-pushed trace x new))
         at (Some seen) is =
             here seen.keep
             (holds-next trace' n high (keeps_of records') seen.latest (IsNext-pushed trace x seen.latest is.latest)
             ∙ same_keeps n (omega arith) seen.latest is.latest.within ∙ sym is.keep)
 
-    pub score-pushed : score h.objective trace' (contents_of trace' (keeps_of records'))
-        ≡ score h.objective trace (contents_of trace (keeps_of records)) + (added h x (sum (prices_of records)) before).gain
+    pub score-pushed : score (terms_of h) trace' (contents_of trace' (keeps_of records'))
+        ≡ score (terms_of h) trace (contents_of trace (keeps_of records)) + (added h x (sum (prices_of records)) before).gain
     score-pushed =
-        let earned : ℕ → ℕ = earned_at h.objective trace' (keeps_of records') in
+        let earned : ℕ → ℕ = earned_at (terms_of h) trace' (keeps_of records') in
         let size : length trace' ≡ n + 1 = omega (arith, length-pushed trace x) in
-        score-requests h.objective trace' (keeps_of records')
+        score-requests (terms_of h) trace' (keeps_of records')
         ∙ ap (λ k. sum_by earned (range_with_len 0 k)) size
-        ∙ earned-more h.objective trace' (keeps_of records') n
+        ∙ earned-more (terms_of h) trace' (keeps_of records') n
         ∙ ap (λ e. sum_by earned (range_with_len 0 n) + e) earned-pushed
         ∙ ap (λ s. s + (added h x (sum (prices_of records)) before).gain)
-        (sum_by-range_agree earned (earned_at h.objective trace (keeps_of records)) 0 n
-        (λ k low lt. earned_at-prefix trace (x ∷ []) h.objective (keeps_of records) (keeps_of records') k (omega arith) (same_keeps k (omega arith)))
-        ∙ sym (score-requests h.objective trace (keeps_of records)))
+        (sum_by-range_agree earned (earned_at (terms_of h) trace (keeps_of records)) 0 n
+        (λ k low lt. earned_at-prefix trace (x ∷ []) (terms_of h) (keeps_of records) (keeps_of records') k (omega arith) (same_keeps k (omega arith)))
+        ∙ sym (score-requests (terms_of h) trace (keeps_of records)))

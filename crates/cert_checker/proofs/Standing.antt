@@ -11,9 +11,9 @@ use Rattle.indexmap.specs.IndexMap.{insert_entry}
 use Rattle.cache_model.specs.declared.objects.Object.{Object}
 use Rattle.cache_model.specs.declared.certificates.Header.{Header}
 use Rattle.cache_model.specs.declared.certificates.Record.{Record}
-use Rattle.cache_model.specs.Claim.{same_object, total_size}
-use Rattle.cache_model.specs.Objects.{request_at, objects_of, IsNew}
-use Rattle.cache_model.specs.Keeps.{held_before, latest_sum, load_after}
+use Rattle.cache_model.specs.Claim.{same_object, total_size, request_at, held_before}
+use Rattle.cache_model.specs.Objects.{objects_of, IsNew}
+use Rattle.cache_model.specs.Keeps.{latest_sum, load_after}
 use Rattle.cache_model.specs.Certificates.{flow_at, keeps_of, prices_of, units_of, unpriced, IsRecordInRange}
 use Rattle.cache_model.proofs.Duality.{same_object-true}
 use Rattle.cache_model.proofs.Pairs.{same_object-sym}

@@ -11,9 +11,8 @@ use Rattle.std.proofs.lemmas.List.Elements.{All-cons, All-head, All-tail, All-ni
 use Rattle.cache_model.specs.declared.objects.Object.{Object}
 use Rattle.cache_model.specs.declared.certificates.Header.{Header}
 use Rattle.cache_model.specs.declared.certificates.Record.{Record}
-use Rattle.cache_model.specs.Claim.{same_object}
-use Rattle.cache_model.specs.Objects.{request_at, no_object, IsNew}
-use Rattle.cache_model.specs.Keeps.{is_latest}
+use Rattle.cache_model.specs.Claim.{same_object, request_at, no_object, is_latest}
+use Rattle.cache_model.specs.Objects.{IsNew}
 use Rattle.cache_model.specs.Certificates.{flow_at}
 use Rattle.cache_model.proofs.Duality.{same_object-true, same_object-refl}
 use Rattle.cache_model.proofs.Eligible.{list_any-range_false, list_any-range_true}

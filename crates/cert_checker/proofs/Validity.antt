@@ -12,10 +12,10 @@ use Rattle.cache_model.specs.declared.objects.Object.{Object}
 use Rattle.cache_model.specs.declared.intervals.Interval.{Interval}
 use Rattle.cache_model.specs.declared.certificates.Header.{Header}
 use Rattle.cache_model.specs.declared.certificates.Record.{Record}
-use Rattle.cache_model.specs.Claim.{same_object, gain_of}
-use Rattle.cache_model.specs.Objects.{request_at, no_object, IsNext}
+use Rattle.cache_model.specs.Claim.{same_object, gain_of, request_at, no_object, is_latest, terms_of}
+use Rattle.cache_model.specs.Objects.{IsNext}
 use Rattle.cache_model.specs.Intervals.{interval_of}
-use Rattle.cache_model.specs.Keeps.{is_latest, latest_sum, load_after}
+use Rattle.cache_model.specs.Keeps.{latest_sum, load_after}
 use Rattle.cache_model.specs.Laws.{IsEligible}
 use Rattle.cache_model.specs.Schedules.{covers, load_at}
 use Rattle.cache_model.specs.Units.{weight, HasWholeCosts}
@@ -47,7 +47,7 @@ pub record EndsWith (h : Header) (trace : List Object) (records : List Record) (
   pub gain : i.gain ≡ gain_of h.objective (request_at trace i.end)
   pub ends : ends_interval h (request_at trace i.end) (figures_at h trace records i.end) ≡ true
 
-pub EndsWith-eligible : (h : Header) (trace : List Object) (records : List Record) (i : Interval) → IsEligible h.objective h.capacity trace i → EndsWith h trace records i
+pub EndsWith-eligible : (h : Header) (trace : List Object) (records : List Record) (i : Interval) → IsEligible (terms_of h) trace i → EndsWith h trace records i
 EndsWith-eligible h trace records i e =
     let same : request_at trace i.start ≡ request_at trace i.end = same_object-true (request_at trace i.start) (request_at trace i.end) e.next.same in
     let size : i.size ≡ (request_at trace i.end).size = ap (λ (j : Interval). j.size) e.numbers ∙ ap (λ (x : Object). x.size) same in
@@ -125,8 +125,8 @@ module _ (h : Header) (trace : List Object) (records : List Record) (cert : IsCe
   intervals : List Interval
   intervals = eligible_of trace h
 
-  eligible : (k : ℕ) (d : Interval) → k < length (eligible_of trace h) → IsEligible h.objective h.capacity trace (get_or (eligible_of trace h) k d)
-  eligible k d low = All-eligible_intervals h.objective h.capacity trace k d low
+  eligible : (k : ℕ) (d : Interval) → k < length (eligible_of trace h) → IsEligible (terms_of h) trace (get_or (eligible_of trace h) k d)
+  eligible k d low = All-eligible_intervals (terms_of h) trace k d low
 
   sum_limit : units_of h * sum (prices_of records) ≤ 2 ^ 126
   sum_limit = at (length trace) refl
@@ -204,7 +204,7 @@ module _ (h : Header) (trace : List Object) (records : List Record) (cert : IsCe
           omega (arith, flow-is t within))
           (λ (fits : (request_at trace t).size ≤ h.capacity).
           let i : Interval = interval_of h.objective trace t b in
-          let there = Contains-eligible h.objective h.capacity trace (interval_of h.objective trace t b) (record { next = next; fits = fits; numbers = refl }) in
+          let there = Contains-eligible (terms_of h) trace (interval_of h.objective trace t b) (record { next = next; fits = fits; counts = omega arith; numbers = refl }) in
           absurd (both_ways _ none
           (list_any_at (λ i. i.start == t) (eligible_of trace h) there.0 (interval_of h.objective trace t b) there.1 (ap (λ (j : Interval). j.start == t) there.2 ∙ eq-eqb t t refl))))
           (cases_lt h.capacity (request_at trace t).size)
@@ -215,7 +215,7 @@ module _ (h : Header) (trace : List Object) (records : List Record) (cert : IsCe
       each : (k : ℕ) (d : Interval) → k < length (eligible_of trace h) → flow_at records (get_or (eligible_of trace h) k d).start ≤ weight h.unit (get_or (eligible_of trace h) k d)
       each k d low =
           let i : Interval = get_or (eligible_of trace h) k d in
-          let e : IsEligible h.objective h.capacity trace (get_or (eligible_of trace h) k d) = eligible k d low in
+          let e : IsEligible (terms_of h) trace (get_or (eligible_of trace h) k d) = eligible k d low in
           let before : i.start < i.end = e.next.before in
           let within : i.end < length trace = e.next.within in
           let flow : (record_at records i.start).flow ≤ weight_in h (request_at trace i.start) = ltb-false (weight_in h (request_at trace i.start)) (record_at records i.start).flow (passes i.start (omega arith)).flow in
@@ -230,7 +230,7 @@ module _ (h : Header) (trace : List Object) (records : List Record) (cert : IsCe
       (λ (within : t < length trace).
       omega (
         arith,
-        load-latest h.objective h.capacity trace (flow_at records) t unused_flows within,
+        load-latest (terms_of h) trace (flow_at records) t unused_flows within,
         ltb-false (units_of h) (latest_sum trace (flow_at records) (t + 1)) (passes t within).flows,
       ))
       (λ (past : length trace ≤ t).
@@ -240,7 +240,7 @@ module _ (h : Header) (trace : List Object) (records : List Record) (cert : IsCe
         sum_by-none (λ i. cond (covers t i) (flow_at records i.start) 0) (eligible_of trace h)
             (λ k d low.
             let i : Interval = get_or (eligible_of trace h) k d in
-            let e : IsEligible h.objective h.capacity trace (get_or (eligible_of trace h) k d) = eligible k d low in
+            let e : IsEligible (terms_of h) trace (get_or (eligible_of trace h) k d) = eligible k d low in
             let high : i.end < length trace = e.next.within in
             ap (λ b. cond b (flow_at records i.start) 0) (and_right (nat_le i.start t) (nat_lt t i.end) (le-ltb t i.end (omega arith)))),
       ))

@@ -5,7 +5,8 @@ use Rattle.cache_model.specs.declared.objects.Object.{Object}
 use Rattle.cache_model.specs.declared.certificates.Header.{Header}
 use Rattle.cache_model.specs.declared.certificates.Record.{Record}
 use Rattle.cache_model.specs.Objects.{objects_of}
-use Rattle.cache_model.specs.Certificates.{BoundsEveryPolicy, IsValid}
+use Rattle.cache_model.specs.Claim.{BoundsEveryPolicy}
+use Rattle.cache_model.specs.Certificates.{IsValid}
 use Rattle.cert_format.specs.declared.invalid.InvalidKind.{InvalidKind}
 use Rattle.cert_checker.specs.declared.checker.StepFault.{StepFault}
 use Rattle.cert_checker.specs.declared.checker.StepFault.TheVariants.{Rule, NoMemory}

@@ -6,9 +6,9 @@ use Rattle.std.specs.List.{list_any}
 use Rattle.cache_model.specs.declared.objects.Object.{Object}
 use Rattle.cache_model.specs.declared.certificates.Header.{Header}
 use Rattle.cache_model.specs.declared.certificates.Record.{Record}
-use Rattle.cache_model.specs.Claim.{same_object, gain_of, score}
-use Rattle.cache_model.specs.Objects.{request_at, numbers_of}
-use Rattle.cache_model.specs.Keeps.{contents_of, is_latest, latest_sum, load_after}
+use Rattle.cache_model.specs.Claim.{same_object, gain_of, score, request_at, contents_of, is_latest, terms_of}
+use Rattle.cache_model.specs.Objects.{numbers_of}
+use Rattle.cache_model.specs.Keeps.{latest_sum, load_after}
 use Rattle.cache_model.specs.Certificates.{flow_at, flow_of, keeps_of, prices_of, units_of, unpriced, upper_of}
 use Rattle.cert_checker.specs.declared.rules.Figures.{Figures}
 use Rattle.cert_checker.specs.declared.verdict.Counted.{Counted}
@@ -104,7 +104,7 @@ abbrev pub counted_of : Header → List Object → List Record → Counted
 counted_of h trace records = record {
   upper = upper_of trace h records;
   flow = flow_of trace h records;
-  lower = score h.objective trace (contents_of trace (keeps_of records));
+  lower = score (terms_of h) trace (contents_of trace (keeps_of records));
 }
 
 -- the first rule that the end fails

@@ -5,9 +5,9 @@ use Rattle.std.specs.Map.{keys_of, lookup}
 use Rattle.cache_model.specs.declared.objects.Object.{Object}
 use Rattle.cache_model.specs.declared.certificates.Header.{Header}
 use Rattle.cache_model.specs.declared.certificates.Record.{Record}
-use Rattle.cache_model.specs.Claim.{same_object, score, total_size}
+use Rattle.cache_model.specs.Claim.{same_object, score, total_size, contents_of, held_before, is_kept, terms_of}
 use Rattle.cache_model.specs.Objects.{objects_of, IsLatest, IsNew}
-use Rattle.cache_model.specs.Keeps.{contents_of, held_before, is_kept, latest_sum}
+use Rattle.cache_model.specs.Keeps.{latest_sum}
 use Rattle.cache_model.specs.Intervals.{surplus}
 use Rattle.cache_model.specs.Certificates.{eligible_of, flow_at, flow_of, keeps_of, prices_of, IsHeaderInRange, IsRecordInRange}
 pub use Rattle.cache_rules.specs.Stored.{IsSized}
@@ -36,7 +36,7 @@ pub record AreSums (h : Header) (trace : List Object) (records : List Record) (s
   pub flows : sums.flows ≡ latest_sum trace (flow_at records) (length trace)
   pub surpluses : sums.surpluses ≡ sum_by (surplus h.unit h.denominator (prices_of records)) (eligible_of trace h)
   pub values : sums.values ≡ flow_of trace h records
-  pub score : sums.score ≡ score h.objective trace (contents_of trace (keeps_of records))
+  pub score : sums.score ≡ score (terms_of h) trace (contents_of trace (keeps_of records))
 
 -- the header, the requests and the records so far, one for each request, are in range
 pub record IsInput (h : Header) (trace : List Object) (records : List Record) : Type 0 where

@@ -1,37 +1,40 @@
 -- The eligible interval that starts at a request, by the next request of its object.
-use Rattle.std.proofs.Common.{◌≡◌, ◌∙◌, ℕ, ◌<◌, ◌≤◌, ◌^◌, ap, sym, subst, cond, List, [], ◌∷◌, length, Some, slice_get, lit≤}
-use Rattle.std.proofs.lemmas.Bool.{le-leb}
+use Rattle.std.proofs.Common.{◌≡◌, ◌∙◌, ℕ, ◌<◌, ◌≤◌, ◌^◌, ap, sym, subst, List, [], ◌∷◌, length, Some, slice_get, lit≤}
 use Rattle.cache_model.specs.declared.objects.Object.{Object}
 use Rattle.cache_model.specs.declared.objects.Objective.{Objective}
+use Rattle.cache_model.specs.declared.terms.Terms.{Terms}
 use Rattle.cache_model.specs.declared.intervals.Interval.{Interval}
 use Rattle.cache_model.specs.declared.objects.Objective.TheVariants.{Object as Hits, Bytes}
-use Rattle.cache_model.specs.Claim.{gain_of}
-use Rattle.cache_model.specs.Objects.{request_at, objects_of, IsNext, IsLast}
-use Rattle.cache_model.specs.Intervals.{interval_of, eligible_from}
+use Rattle.cache_model.specs.Claim.{gain_of, request_at}
+use Rattle.cache_model.specs.Objects.{objects_of, IsNext, IsLast}
+use Rattle.cache_model.specs.Intervals.{eligible_from}
 use Rattle.cache_model.proofs.Duality.{same_object-true}
 use Rattle.interval_maker.specs.Timelines.{IsInterval}
-use Rattle.cache_model.proofs.Eligible.{eligible_from_next, eligible_from_last, eligible_from_too_large}
+use Rattle.cache_model.proofs.Eligible.{eligible_from_one, eligible_from_early, eligible_from_last, eligible_from_too_large}
 
 -- one number names one object
 pub object_named : (trace : List Object) (number t : ℕ) (x : Object) → slice_get (objects_of trace) number ≡ Some (request_at trace t) → slice_get (objects_of trace) number ≡ Some x → request_at trace t ≡ x
 object_named trace number t x asked found = cc
 
-pub too_large : (o : Objective) (c : ℕ) (trace : List Object) (t : ℕ) (x : Object) → request_at trace t ≡ x → c < x.size → eligible_from o c trace t ≡ []
-too_large o c trace t x is over = eligible_from_too_large o c trace t (rw is over)
+pub too_large : (terms : Terms) (trace : List Object) (t : ℕ) (x : Object) → request_at trace t ≡ x → terms.capacity < x.size → eligible_from terms trace t ≡ []
+too_large terms trace t x is over = eligible_from_too_large terms trace t (rw is over)
 
-pub no_next : (o : Objective) (c : ℕ) (trace : List Object) (t : ℕ) → IsLast trace t → eligible_from o c trace t ≡ []
-no_next o c trace t last = eligible_from_last o c trace t last
+pub no_next : (terms : Terms) (trace : List Object) (t : ℕ) → IsLast trace t → eligible_from terms trace t ≡ []
+no_next terms trace t last = eligible_from_last terms trace t last
+
+pub too_early : (terms : Terms) (trace : List Object) (t end : ℕ) → IsNext trace t end → end < terms.warmup → eligible_from terms trace t ≡ []
+too_early terms trace t end next early = eligible_from_early terms trace t end next early
 
 -- the gain at the end is that of the object at the start
-pub with_next : (o : Objective) (c : ℕ) (trace : List Object) (t end : ℕ) (x : Object) (gain : ℕ) → request_at trace t ≡ x → x.size ≤ c → IsNext trace t end → gain ≡ gain_of o x
-    → eligible_from o c trace t ≡ (record { start = t; end = end; size = x.size; gain = gain }) ∷ []
-with_next o c trace t end x gain is fits next gained =
+pub with_next : (terms : Terms) (trace : List Object) (t end : ℕ) (x : Object) (gain : ℕ)
+    → request_at trace t ≡ x → x.size ≤ terms.capacity → IsNext trace t end → terms.warmup ≤ end → gain ≡ gain_of terms.objective x
+    → eligible_from terms trace t ≡ (record { start = t; end = end; size = x.size; gain = gain }) ∷ []
+with_next terms trace t end x gain is fits next counts gained =
     let same : request_at trace t ≡ request_at trace end = same_object-true (request_at trace t) (request_at trace end) next.same in
-    let earned : gain_of o (request_at trace end) ≡ gain = ap (gain_of o) (sym same ∙ is) ∙ sym gained in
+    let earned : gain_of terms.objective (request_at trace end) ≡ gain = ap (gain_of terms.objective) (sym same ∙ is) ∙ sym gained in
     let size : (request_at trace t).size ≡ x.size = ap (λ (y : Object). y.size) is in
     let with_parts : ℕ → ℕ → List Interval = λ s g. record { start = t; end = end; size = s; gain = g } ∷ [] in
-    eligible_from_next o c trace t end next
-    ∙ ap (λ b. cond b (interval_of o trace t end ∷ []) []) (le-leb (request_at trace t).size c (rw size fits))
+    eligible_from_one terms trace t end next (rw size fits) counts
     ∙ ap (λ g. with_parts (request_at trace t).size g) earned
     ∙ ap (λ s. with_parts s gain) size
 

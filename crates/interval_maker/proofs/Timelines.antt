@@ -2,10 +2,10 @@
 use Rattle.std.proofs.Common.{◌≡◌, ℕ, ◌<◌, ◌≤◌, ◌^◌, ◌∙◌, sym, subst, true, List, length, get_or, arith, ⊎_elim, All}
 use Rattle.std.proofs.lemmas.Bool.{cases_order, both_ways}
 use Rattle.cache_model.specs.declared.objects.Object.{Object}
-use Rattle.cache_model.specs.declared.objects.Objective.{Objective}
+use Rattle.cache_model.specs.declared.terms.Terms.{Terms}
 use Rattle.cache_model.specs.declared.intervals.Interval.{Interval}
-use Rattle.cache_model.specs.Claim.{same_object}
-use Rattle.cache_model.specs.Objects.{request_at, IsNext}
+use Rattle.cache_model.specs.Claim.{same_object, request_at}
+use Rattle.cache_model.specs.Objects.{IsNext}
 use Rattle.cache_model.specs.Intervals.{eligible_intervals}
 use Rattle.cache_model.specs.Laws.{IsEligible}
 use Rattle.cache_model.proofs.Duality.{same_object-true, same_object-refl}
@@ -27,21 +27,21 @@ same_next trace a b end first second =
     ⊎_elim (λ same. same) (λ order. ⊎_elim (λ low. absurd (next_is_of_one trace a b end first second low)) (λ high. absurd (next_is_of_one trace b a end second first high)) order) (cases_order a b)
 
 -- eligible intervals that end at one request start at one
-same_end : (o : Objective) (c : ℕ) (trace : List Object) (i j : Interval) → IsEligible o c trace i → IsEligible o c trace j → i.end ≡ j.end → i.start ≡ j.start
-same_end o c trace i j first second same = same_next trace i.start j.start j.end (subst (IsNext trace i.start) same first.next) second.next
+same_end : (terms : Terms) (trace : List Object) (i j : Interval) → IsEligible terms trace i → IsEligible terms trace j → i.end ≡ j.end → i.start ≡ j.start
+same_end terms trace i j first second same = same_next trace i.start j.start j.end (subst (IsNext trace i.start) same first.next) second.next
 
-pub eligible_timeline : (o : Objective) (c : ℕ) (trace : List Object) → length trace ≤ 2 ^ 25 → All (IsInterval (length trace)) (eligible_intervals o c trace) → IsTimeline (timeline_of o c trace)
-eligible_timeline o c trace few intervals =
-    let order = (intervals_are_eligible o c trace).in_order in
-    let each = All-eligible_intervals o c trace in record {
+pub eligible_timeline : (terms : Terms) (trace : List Object) → length trace ≤ 2 ^ 25 → All (IsInterval (length trace)) (eligible_intervals terms trace) → IsTimeline (timeline_of terms trace)
+eligible_timeline terms trace few intervals =
+    let order = (intervals_are_eligible terms trace).in_order in
+    let each = All-eligible_intervals terms trace in record {
       few_steps = few;
-      few_intervals = eligible-le o c trace;
+      few_intervals = eligible-le terms trace;
       order = order;
       ends = λ m n d before within.
           λ same.
-          let rising : (get_or (eligible_intervals o c trace) m d).start < (get_or (eligible_intervals o c trace) n d).start = order m n d before within in
-          let starts : (get_or (eligible_intervals o c trace) m d).start ≡ (get_or (eligible_intervals o c trace) n d).start =
-          same_end o c trace (get_or (eligible_intervals o c trace) m d) (get_or (eligible_intervals o c trace) n d) (each m d (omega arith)) (each n d within) same in
+          let rising : (get_or (eligible_intervals terms trace) m d).start < (get_or (eligible_intervals terms trace) n d).start = order m n d before within in
+          let starts : (get_or (eligible_intervals terms trace) m d).start ≡ (get_or (eligible_intervals terms trace) n d).start =
+          same_end terms trace (get_or (eligible_intervals terms trace) m d) (get_or (eligible_intervals terms trace) n d) (each m d (omega arith)) (each n d within) same in
           omega arith;
       intervals = intervals;
     }

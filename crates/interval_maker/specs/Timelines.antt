@@ -2,7 +2,7 @@
 use Rattle.std.specs.Prelude.{◌≢◌, ℕ, ◌<◌, ◌≤◌, ◌^◌, ◌==◌, List, length, All, AllPairs, position}
 use Rattle.std.specs.declared.option.Option.{Option}
 use Rattle.cache_model.specs.declared.objects.Object.{Object}
-use Rattle.cache_model.specs.declared.objects.Objective.{Objective}
+use Rattle.cache_model.specs.declared.terms.Terms.{Terms}
 use Rattle.cache_model.specs.declared.intervals.Interval.{Interval}
 use Rattle.cache_model.specs.Intervals.{eligible_intervals}
 
@@ -16,8 +16,8 @@ abbrev pub no_interval : Interval
 no_interval = record { start = 0; end = 0; size = 0; gain = 0 }
 
 -- the eligible intervals over the steps of a trace
-abbrev pub timeline_of : Objective → ℕ → List Object → Timeline
-timeline_of objective capacity trace = record { steps = length trace; items = eligible_intervals objective capacity trace }
+abbrev pub timeline_of : Terms → List Object → Timeline
+timeline_of terms trace = record { steps = length trace; items = eligible_intervals terms trace }
 
 -- the number of the interval that starts at the request
 abbrev pub starting_at : List Interval → ℕ → Option ℕ

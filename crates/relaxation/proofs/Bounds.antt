@@ -2,7 +2,7 @@
 use Rattle.std.proofs.Common.{◌≡◌, ◌∙◌, ℕ, ◌+◌, ◌*◌, ◌/◌, ◌≤◌, ap, arith, List, length, take, sum, sum_by}
 use Rattle.std.proofs.lemmas.List.{take_all}
 use Rattle.cache_model.specs.declared.objects.Object.{Object}
-use Rattle.cache_model.specs.declared.objects.Objective.{Objective}
+use Rattle.cache_model.specs.declared.terms.Terms.{Terms}
 use Rattle.cache_model.specs.declared.intervals.Interval.{Interval}
 use Rattle.cache_model.specs.Intervals.{bound_of, eligible_intervals, surplus}
 use Rattle.cache_model.specs.Claim.{IsAllowed, score}
@@ -15,11 +15,11 @@ pub bound_all : (items : List Interval) (unit units d k total : ℕ) (prices : L
 bound_all items unit units d k total prices past value = value ∙ ap (λ xs. units * sum prices + sum_by (surplus unit d prices) xs) (take_all k items past)
 
 -- where that is the total, no policy scores more
-pub none_scores_more : (objective : Objective) (capacity unit units d : ℕ) (trace : List Object) (prices : List ℕ) (contents : List (List Object)) (line : Timeline) (total : ℕ)
-    → line ≡ timeline_of objective capacity trace → units ≡ capacity / unit → length prices ≡ line.steps → total ≡ bound_of line.items unit units d prices
-    → IsAllowed capacity trace contents → d * score objective trace contents ≤ total
-none_scores_more objective capacity unit units d trace prices contents line total is shared each value allowed =
+pub none_scores_more : (terms : Terms) (unit units d : ℕ) (trace : List Object) (prices : List ℕ) (contents : List (List Object)) (line : Timeline) (total : ℕ)
+    → line ≡ timeline_of terms trace → units ≡ terms.capacity / unit → length prices ≡ line.steps → total ≡ bound_of line.items unit units d prices
+    → IsAllowed terms.capacity trace contents → d * score terms trace contents ≤ total
+none_scores_more terms unit units d trace prices contents line total is shared each value allowed =
     let many : length prices ≡ length trace = each ∙ ap (λ (l : Timeline). l.steps) is in
-    let same : total ≡ bound_of (eligible_intervals objective capacity trace) unit (capacity / unit) d prices =
-    value ∙ ap (λ (l : Timeline). bound_of l.items unit units d prices) is ∙ ap (λ n. bound_of (eligible_intervals objective capacity trace) unit n d prices) shared in
-    omega (arith, no_policy_scores_more_lem objective capacity unit d trace prices contents allowed many)
+    let same : total ≡ bound_of (eligible_intervals terms trace) unit (terms.capacity / unit) d prices =
+    value ∙ ap (λ (l : Timeline). bound_of l.items unit units d prices) is ∙ ap (λ n. bound_of (eligible_intervals terms trace) unit n d prices) shared in
+    omega (arith, no_policy_scores_more_lem terms unit d trace prices contents allowed many)

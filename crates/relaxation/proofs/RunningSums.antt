@@ -7,6 +7,7 @@ use Rattle.std.proofs.lemmas.Slice.{between_is}
 use Rattle.std.proofs.lemmas.List.Sums.{sum_by_more, sum_by-take-le, sum_by-take-drop}
 use Rattle.std.proofs.Math.Nat.{mul-le-mul_left, mul-div-le, lt-mul-div-succ}
 use Rattle.std.proofs.Math.Seq.{get_or-append_seam}
+use Rattle.std.proofs.lemmas.Nat.{le-div}
 use Rattle.relaxation.specs.Prices.{AreSums, IsFirstPast, Priced, most_paid, rises_of}
 
 -- the sums before each of the first k steps and after the last of them, and the newest of them, which is within the limit
@@ -65,6 +66,19 @@ pub paid_past : (units all : ℕ) → 1 ≤ units → most_paid / units < all �
 paid_past units all some high =
     let above : most_paid / units + 1 ≤ all = omega arith in
     omega (arith, lt-mul-div-succ most_paid {b = units} (omega arith), mul-le-mul_left units above)
+
+-- so does the sum of the first prices, if the units pay no more than the limit for all
+pub first_within : (prices : List ℕ) (units k : ℕ) → 1 ≤ units → units * sum prices ≤ most_paid → sum (take k prices) ≤ most_paid / units
+first_within prices units k some paid =
+    le-div (sum (take k prices)) most_paid units (omega arith) (omega (arith, mul-le-mul_left units (sum_by-take-le (λ (n : ℕ). n) prices k)))
+
+-- one more price of some that are all within the limit
+pub running_within : (prices : List ℕ) (units k sum_now : ℕ) (sums more : List ℕ) → 1 ≤ units → units * sum prices ≤ most_paid → k < length prices
+    → IsRunning prices k (most_paid / units) sum_now sums → more ≡ sums ++ (sum_now + get_or prices k 0) ∷ []
+    → IsRunning prices (k + 1) (most_paid / units) (sum_now + get_or prices k 0) more
+running_within prices units k sum_now sums more some paid in_range so_far e =
+    running_more prices k (most_paid / units) sum_now (sum_now + get_or prices k 0) sums more in_range so_far refl
+    (omega (arith, first_within prices units (k + 1) some paid, sum_by_more (λ (n : ℕ). n) prices k 0 in_range, so_far.newest)) e
 
 -- the limit is passed at step k
 pub running_past : (prices : List ℕ) (units k sum_now : ℕ) (sums : List ℕ) → 1 ≤ units → k < length prices → IsRunning prices k (most_paid / units) sum_now sums

@@ -1,12 +1,12 @@
 //! Flows of intervals, whether they are a schedule, and their value.
-ghost use Rattle.std.specs.Prelude.{◌≡◌, ◌<◌, ◌≤◌, ◌*◌, ◌^◌, length, Some, None, All, IfOk, IfErr, OnOk, MatchResult};
+ghost use Rattle.std.specs.Prelude.{ℕ, ◌≡◌, ◌<◌, ◌≤◌, ◌*◌, ◌^◌, length, Some, None, All, IfOk, IfErr, OnOk, MatchResult};
 ghost use Rattle.std.specs.List.{AllZip};
 ghost use Rattle.std.specs.Option.{ForSome};
 ghost use Prim.Native.Nat.{◌∣◌};
 ghost use Rattle.cache_model.specs.Schedules.{IsFractionalSchedule, flow_value, load_at};
 ghost use Rattle.cache_model.specs.Units.{weight};
 ghost use Rattle.interval_maker.specs.Timelines.{IsInterval};
-ghost use Rattle.relaxation.specs.Faults.{HasNoFault, IsFirstFault, amount_of, fault_from};
+ghost use Rattle.relaxation.specs.Faults.{IsFirstFault, amount_of, fault_from};
 
 use cache_model::Interval;
 use interval_maker::Intervals;
@@ -64,7 +64,7 @@ fn check_step(
 fn check_flows(intervals: &Intervals, unit: u64, units: u64, flows: &[u64]) -> Result<(), FlowFault>
     requires unit { 1 ≤ unit }
     requires each { length flows.now ≡ length intervals.now.items }
-    ensures whole { OnOk result (HasNoFault intervals.now unit units flows.now) }
+    ensures schedule { OnOk result (IsFractionalSchedule intervals.now.items unit units flows.now) }
     ensures fault { IfErr result (IsFirstFault intervals.now unit units flows.now) }
 {
     let mut load = 0;
@@ -104,6 +104,18 @@ fn value_of(intervals: &[Interval], unit: u64, denominator: u64, flows: &[u64]) 
     value
 }
 
+/// The value of flows that are known to be a schedule, over the denominator. It takes one pass over the intervals.
+pub fn value_of_schedule(intervals: &Intervals, unit: u64, denominator: u64, flows: &[u64]) -> u128
+    requires unit { 1 ≤ unit }
+    requires divides { All (λ i. unit ∣ i.size) intervals.now.items }
+    requires denominator { denominator ≤ 2 ^ 48 }
+    requires schedule { (units : ℕ) × IsFractionalSchedule intervals.now.items unit units flows.now }
+    ensures value { result ≡ flow_value intervals.now.items unit denominator flows.now }
+    ensures small { result ≤ 2 ^ 121 }
+{
+    value_of(intervals.as_slice(), unit, denominator, flows)
+}
+
 /// The value of the flows, one for each interval, over the denominator. They are refused at the first step at which
 /// they are no schedule; there a flow past its weight comes before a load past the units. It takes two passes.
 pub fn flow_value(
@@ -123,5 +135,5 @@ pub fn flow_value(
     ensures fault { IfErr result (IsFirstFault intervals.now unit units flows.now) }
 {
     check_flows(intervals, unit, units, flows)?;
-    Ok(value_of(intervals.as_slice(), unit, denominator, flows))
+    Ok(value_of_schedule(intervals, unit, denominator, flows))
 }

@@ -20,7 +20,7 @@ pub use cache_model::Interval;
 pub use chain::Instance;
 pub use denominators::{Denominator, DenominatorChoice, DenominatorLimit, denominator_for};
 pub use flow_model::OuterArc;
-pub use flows::{FlowFault, flow_value};
+pub use flows::{FlowFault, flow_value, value_of_schedule};
 pub use parts::window_instance;
 pub use prices::{PriceFault, Sums, bound_of};
 pub use units::unit_of;

@@ -3,7 +3,7 @@ ghost use Rattle.std.specs.Prelude.{ℕ, ◌≡◌, ◌<◌, ◌≤◌, ◌+◌,
 ghost use Rattle.std.specs.Option.{SomeIff};
 ghost use Rattle.std.specs.Vec.{vec_len, vec_capacity};
 ghost use Rattle.cache_model.specs.declared.objects.Object.{Object};
-ghost use Rattle.cache_model.specs.declared.objects.Objective.{Objective};
+ghost use Rattle.cache_model.specs.declared.terms.Terms.{Terms};
 ghost use Rattle.cache_model.specs.Intervals.{bound_of, surplus};
 ghost use Rattle.cache_model.specs.Claim.{IsAllowed, score};
 ghost use Rattle.interval_maker.specs.Timelines.{timeline_of};
@@ -101,6 +101,22 @@ impl Sums {
         Ok(Sums { units, sums })
     }
 
+    /// The same sums, for units that are known to pay no more than the limit.
+    pub fn within_limit(alloc: Global, prices: &[u128], units: u64) -> Result<Sums, NoMemory>
+        requires few { length prices.now ≤ 2 ^ 25 }
+        requires units { 1 ≤ units }
+        requires within { units * sum prices.now ≤ most_paid }
+        ensures made { IfOk result (λ s. s ≡ record { units = units; prices = prices.now }) }
+    {
+        let mut sums = room_for(alloc, prices.len())?;
+        let mut sum = 0;
+        for price in prices {
+            sum += *price;
+            sums.push_reserved(sum);
+        }
+        Ok(Sums { units, sums })
+    }
+
     // The sum of all prices.
     fn total(&self) -> u128
         ensures sum { result ≡ sum self.now.prices }
@@ -144,11 +160,11 @@ pub fn bound_of(intervals: &Intervals, unit: u64, units: u64, denominator: u64, 
     requires each_step { length sums.now.prices ≡ intervals.now.steps }
     ensures value { result ≡ bound_of intervals.now.items unit units denominator sums.now.prices }
     ensures small { result < 2 ^ 127 }
-    ensures no_policy_scores_more { (objective : Objective) (capacity : ℕ) (trace : List Object) (contents : List (List Object))
-        → intervals.now ≡ timeline_of objective capacity trace
-        → units ≡ capacity / unit
-        → IsAllowed capacity trace contents
-        → denominator * score objective trace contents ≤ result }
+    ensures no_policy_scores_more { (terms : Terms) (trace : List Object) (contents : List (List Object))
+        → intervals.now ≡ timeline_of terms trace
+        → units ≡ terms.capacity / unit
+        → IsAllowed terms.capacity trace contents
+        → denominator * score terms trace contents ≤ result }
 {
     let mut total = units as u128 * sums.total();
     for interval in intervals.as_slice() {

@@ -2,7 +2,7 @@
 use Rattle.std.proofs.Common.{◌≡◌, ◌≢◌, ℕ, suc, ◌+◌, ◌*◌, ◌/◌, ◌<◌, ◌≤◌, ◌∙◌, sym, refl, ap, subst, Bool, true, ◌||◌, ◌==◌, cond, List, [], ◌∷◌, length, get_or, arith, ⊎_elim, All, sum_by, zip}
 use Rattle.std.specs.Prelude.{AllPairs}
 use Rattle.std.specs.List.{range_with_len, AllZip}
-use Rattle.std.proofs.lemmas.Bool.{cases_eq, or_left, eq-eqb, ne_eqb}
+use Rattle.std.proofs.lemmas.Bool.{cases_eq, le-leb, or_left, eq-eqb, ne_eqb}
 use Rattle.std.proofs.lemmas.List.Elements.{All-head, All-tail}
 use Rattle.std.proofs.lemmas.List.Sums.{sum_by-cons}
 use Rattle.std.proofs.lemmas.Nat.{div_below, div-mul-add}
@@ -10,13 +10,12 @@ use Prim.Native.Nat.{◌∣◌}
 use Rattle.std.proofs.lemmas.Nat.Gcd.{dvd_antisymm, dvd_refl}
 use Rattle.std.proofs.Math.Nat.{one-dvd, div-zero, div-one, mul-one, mul-zero, mul-add, mul-le-mul_left, le_of_mul-le-mul_left}
 use Rattle.cache_model.specs.declared.objects.Object.{Object}
-use Rattle.cache_model.specs.declared.objects.Objective.{Objective}
+use Rattle.cache_model.specs.declared.terms.Terms.{Terms}
 use Rattle.cache_model.specs.declared.intervals.Interval.{Interval}
 use Rattle.cache_model.specs.Intervals.{eligible_intervals, bound_of}
-use Rattle.cache_model.specs.Keeps.{contents_of, is_kept}
 use Rattle.cache_model.specs.Laws.{IsEligible}
-use Rattle.cache_model.specs.Objects.{request_at, IsNext}
-use Rattle.cache_model.specs.Claim.{IsAllowed, score, gain_of}
+use Rattle.cache_model.specs.Objects.{IsNext}
+use Rattle.cache_model.specs.Claim.{IsAllowed, score, gain_of, holds, held_before, contents_of, is_kept, request_at}
 use Rattle.cache_model.specs.Rounding.{IsRounded, fits_beside}
 use Rattle.cache_model.specs.Schedules.{IsFractionalSchedule, flow_value}
 use Rattle.cache_model.specs.Units.{IsUnit, HasWholeCosts, weight}
@@ -86,33 +85,34 @@ abbrev pub kept_gain : List Bool → List Interval → ℕ
 kept_gain keeps intervals = sum_by (λ i. cond (is_kept keeps i.start) i.gain 0) intervals
 
 -- the contents of keeps score at least the gains of the intervals that are kept
-pub kept_gain-le-score : (objective : Objective) (capacity : ℕ) (trace : List Object) (keeps : List Bool) → kept_gain keeps (eligible_intervals objective capacity trace) ≤ score objective trace (contents_of trace keeps)
-kept_gain-le-score objective capacity trace keeps =
+pub kept_gain-le-score : (terms : Terms) (trace : List Object) (keeps : List Bool) → kept_gain keeps (eligible_intervals terms trace) ≤ score terms trace (contents_of trace keeps)
+kept_gain-le-score terms trace keeps =
     omega (
       arith,
-      score-requests objective trace keeps,
-      sum_by-agree (λ (i : Interval). cond (is_kept keeps i.start) i.gain 0) (λ (i : Interval). earned_at objective trace keeps i.end) items earned,
-      sum_by-ends (earned_at objective trace keeps) (length trace) items apart (λ k d low. (each k d low).next.within),
+      score-requests terms trace keeps,
+      sum_by-agree (λ (i : Interval). cond (is_kept keeps i.start) i.gain 0) (λ (i : Interval). earned_at terms trace keeps i.end) items earned,
+      sum_by-ends (earned_at terms trace keeps) (length trace) items apart (λ k d low. (each k d low).next.within),
     )
   where
     items : List Interval
-    items = eligible_intervals objective capacity trace
+    items = eligible_intervals terms trace
 
-    each : All (IsEligible objective capacity trace) items
-    each = All-eligible_intervals objective capacity trace
+    each : All (IsEligible terms trace) items
+    each = All-eligible_intervals terms trace
 
-    earned : All (λ (i : Interval). cond (is_kept keeps i.start) i.gain 0 ≡ earned_at objective trace keeps i.end) items
+    earned : All (λ (i : Interval). cond (is_kept keeps i.start) i.gain 0 ≡ earned_at terms trace keeps i.end) items
     earned k d low =
         let i : Interval = get_or items k d in
-        let el : IsEligible objective capacity trace i = each k d low in
+        let el : IsEligible terms trace i = each k d low in
         ap {B = ℕ} (λ g. cond (is_kept keeps i.start) g 0) (ap (λ (j : Interval). j.gain) el.numbers)
-        ∙ ap {B = ℕ} (λ b. cond b (gain_of objective (request_at trace i.end)) 0) (sym (holds-next trace i.end el.next.within keeps i.start el.next))
+        ∙ ap {B = ℕ} (λ b. cond b (gain_of terms.objective (request_at trace i.end)) 0) (sym (holds-next trace i.end el.next.within keeps i.start el.next))
+        ∙ sym (ap {B = ℕ} (λ b. cond b (cond (holds (held_before trace keeps i.end) (request_at trace i.end)) (gain_of terms.objective (request_at trace i.end)) 0) 0) (le-leb terms.warmup i.end el.counts))
 
     apart : AllPairs (λ (i j : Interval). i.end ≢ j.end) items
     apart m n d before low same =
         let i : Interval = get_or items m d in
         let j : Interval = get_or items n d in
-        let rising : i.start < j.start = (intervals_are_eligible objective capacity trace).in_order m n d before low in
+        let rising : i.start < j.start = (intervals_are_eligible terms trace).in_order m n d before low in
         let one : i.start ≡ j.start = same_next trace i.start j.start j.end (subst (IsNext trace i.start) same (each m d (omega arith)).next) (each n d low).next in
         omega arith
 
@@ -153,39 +153,39 @@ flow_value-le unit denominator keeps (i ∷ items) (f ∷ flows) light fits full
         ))
         (cases_eq f 0)
 
-pub best_schedule : (objective : Objective) (capacity : ℕ) (trace : List Object) (size unit denominator : ℕ) (prices flows : List ℕ) (ahead : Interval → Interval → Bool) (keeps : List Bool)
-    → All (λ i. i.size ≡ size) (eligible_intervals objective capacity trace)
-    → IsUnit (eligible_intervals objective capacity trace) unit
+pub best_schedule : (terms : Terms) (trace : List Object) (size unit denominator : ℕ) (prices flows : List ℕ) (ahead : Interval → Interval → Bool) (keeps : List Bool)
+    → All (λ i. i.size ≡ size) (eligible_intervals terms trace)
+    → IsUnit (eligible_intervals terms trace) unit
     → length prices ≡ length trace
-    → IsFractionalSchedule (eligible_intervals objective capacity trace) unit (capacity / unit) flows
-    → bound_of (eligible_intervals objective capacity trace) unit (capacity / unit) denominator prices ≡ flow_value (eligible_intervals objective capacity trace) unit denominator flows
-    → IsRounded ahead (eligible_intervals objective capacity trace) capacity (length trace) (full_flags unit (eligible_intervals objective capacity trace) flows) keeps
-    → IsAllowed capacity trace (contents_of trace keeps)
-    → IsBestSchedule objective capacity trace denominator (bound_of (eligible_intervals objective capacity trace) unit (capacity / unit) denominator prices) keeps
-best_schedule objective capacity trace size unit denominator prices flows ahead keeps same is priced scheduled equal rounded allowed = record {
+    → IsFractionalSchedule (eligible_intervals terms trace) unit (terms.capacity / unit) flows
+    → bound_of (eligible_intervals terms trace) unit (terms.capacity / unit) denominator prices ≡ flow_value (eligible_intervals terms trace) unit denominator flows
+    → IsRounded ahead (eligible_intervals terms trace) terms.capacity (length trace) (full_flags unit (eligible_intervals terms trace) flows) keeps
+    → IsAllowed terms.capacity trace (contents_of trace keeps)
+    → IsBestSchedule terms trace denominator (bound_of (eligible_intervals terms trace) unit (terms.capacity / unit) denominator prices) keeps
+best_schedule terms trace size unit denominator prices flows ahead keeps same is priced scheduled equal rounded allowed = record {
   equal = met;
   best = λ some contents play. le_of_mul-le-mul_left (omega (arith, met, above contents play)) some;
 }
   where
     -- weak duality
-    above : (contents : List (List Object)) → IsAllowed capacity trace contents → denominator * score objective trace contents ≤ bound_of (eligible_intervals objective capacity trace) unit (capacity / unit) denominator prices
-    above contents play = no_policy_scores_more_lem objective capacity unit denominator trace prices contents play priced
+    above : (contents : List (List Object)) → IsAllowed terms.capacity trace contents → denominator * score terms trace contents ≤ bound_of (eligible_intervals terms trace) unit (terms.capacity / unit) denominator prices
+    above contents play = no_policy_scores_more_lem terms unit denominator trace prices contents play priced
 
     -- what is full is kept
-    full_kept : AllZip (λ (i : Interval) (flagged : Bool). flagged ≡ true → is_kept keeps i.start ≡ true) (eligible_intervals objective capacity trace) (full_flags unit (eligible_intervals objective capacity trace) flows)
+    full_kept : AllZip (λ (i : Interval) (flagged : Bool). flagged ≡ true → is_kept keeps i.start ≡ true) (eligible_intervals terms trace) (full_flags unit (eligible_intervals terms trace) flows)
     full_kept =
         AllZip-weaker
-        (λ (i : Interval) (flagged : Bool). is_kept keeps i.start ≡ (flagged || fits_beside ahead (eligible_intervals objective capacity trace) capacity (full_flags unit (eligible_intervals objective capacity trace) flows) keeps i))
+        (λ (i : Interval) (flagged : Bool). is_kept keeps i.start ≡ (flagged || fits_beside ahead (eligible_intervals terms trace) terms.capacity (full_flags unit (eligible_intervals terms trace) flows) keeps i))
         (λ (i : Interval) (flagged : Bool). flagged ≡ true → is_kept keeps i.start ≡ true)
         (λ i flagged same_as on. same_as ∙ or_left flagged _ on)
-        (eligible_intervals objective capacity trace) (full_flags unit (eligible_intervals objective capacity trace) flows) rounded.taken
+        (eligible_intervals terms trace) (full_flags unit (eligible_intervals terms trace) flows) rounded.taken
 
-    met : bound_of (eligible_intervals objective capacity trace) unit (capacity / unit) denominator prices ≡ denominator * score objective trace (contents_of trace keeps)
+    met : bound_of (eligible_intervals terms trace) unit (terms.capacity / unit) denominator prices ≡ denominator * score terms trace (contents_of trace keeps)
     met =
         omega (
           arith,
           equal,
           above (contents_of trace keeps) allowed,
-          flow_value-le unit denominator keeps (eligible_intervals objective capacity trace) flows (weight-le_one (eligible_intervals objective capacity trace) size unit same is) scheduled.within_weights full_kept,
-          mul-le-mul_left denominator (kept_gain-le-score objective capacity trace keeps),
+          flow_value-le unit denominator keeps (eligible_intervals terms trace) flows (weight-le_one (eligible_intervals terms trace) size unit same is) scheduled.within_weights full_kept,
+          mul-le-mul_left denominator (kept_gain-le-score terms trace keeps),
         )

@@ -8,7 +8,7 @@ use Rattle.std.proofs.lemmas.List.Sums.{sum_by-cons, get_or-le-sum_by}
 use Rattle.std.proofs.lemmas.List.{get_or_default, get_or_past}
 use Rattle.cache_model.specs.declared.intervals.Interval.{Interval}
 use Rattle.cache_model.specs.Schedules.{covers}
-use Rattle.cache_model.specs.Keeps.{is_kept}
+use Rattle.cache_model.specs.Claim.{is_kept}
 use Rattle.cache_model.specs.Rounding.{FitTogether, IsRounded, by_rank, by_start, rank, load_beside, fits_beside, taken_load}
 use Rattle.interval_maker.specs.Timelines.{Timeline, IsInterval, IsTimeline, no_interval}
 use Rattle.load_tree.specs.Ranges.{AddsOver}

@@ -9,7 +9,7 @@ use Rattle.std.proofs.lemmas.List.Folds.{list_any_at}
 use Rattle.std.proofs.lemmas.List.Sums.{sum_by-cons}
 use Rattle.cache_model.specs.declared.intervals.Interval.{Interval}
 use Rattle.cache_model.specs.Schedules.{covers}
-use Rattle.cache_model.specs.Keeps.{is_kept}
+use Rattle.cache_model.specs.Claim.{is_kept}
 use Rattle.cache_model.specs.Rounding.{FitTogether, taken_load}
 use Rattle.interval_maker.specs.Timelines.{Timeline, IsInterval, IsTimeline, no_interval}
 use Rattle.load_tree.specs.Ranges.{AddsOver, HasRoom}

@@ -2,11 +2,10 @@
 use Rattle.std.specs.Prelude.{◌≡◌, ℕ, ◌*◌, ◌/◌, ◌<◌, ◌≤◌, Bool, ◌==◌, List, length, map, zip, All}
 use Prim.Native.Nat.{◌∣◌}
 use Rattle.cache_model.specs.declared.objects.Object.{Object}
-use Rattle.cache_model.specs.declared.objects.Objective.{Objective}
+use Rattle.cache_model.specs.declared.terms.Terms.{Terms}
 use Rattle.cache_model.specs.declared.intervals.Interval.{Interval}
 use Rattle.cache_model.specs.Intervals.{eligible_intervals, bound_of}
-use Rattle.cache_model.specs.Keeps.{contents_of}
-use Rattle.cache_model.specs.Claim.{IsAllowed, score}
+use Rattle.cache_model.specs.Claim.{IsAllowed, score, contents_of}
 use Rattle.cache_model.specs.Rounding.{IsRounded, FitTogether}
 use Rattle.cache_model.specs.Schedules.{IsFractionalSchedule, flow_value}
 use Rattle.cache_model.specs.Units.{IsUnit, HasWholeCosts, weight}
@@ -33,19 +32,19 @@ EqualSizesAreWhole =
     → HasWholeCosts intervals unit denominator
 
 -- the keeps score the whole bound, over the denominator, and no policy scores more than they do
-pub record IsBestSchedule (objective : Objective) (capacity : ℕ) (trace : List Object) (denominator bound : ℕ) (keeps : List Bool) : Type 0 where
-  pub equal : bound ≡ denominator * score objective trace (contents_of trace keeps)
-  pub best : 0 < denominator → (contents : List (List Object)) → IsAllowed capacity trace contents → score objective trace contents ≤ score objective trace (contents_of trace keeps)
+pub record IsBestSchedule (terms : Terms) (trace : List Object) (denominator bound : ℕ) (keeps : List Bool) : Type 0 where
+  pub equal : bound ≡ denominator * score terms trace (contents_of trace keeps)
+  pub best : 0 < denominator → (contents : List (List Object)) → IsAllowed terms.capacity trace contents → score terms trace contents ≤ score terms trace (contents_of trace keeps)
 
 -- where all eligible intervals have one size and flows are worth the bound of prices, the keeps that are rounded from the full flows are a best schedule
 abbrev pub EqualSizesMeetTheBound : Type 0
 EqualSizesMeetTheBound =
-    (objective : Objective) (capacity : ℕ) (trace : List Object) (size unit denominator : ℕ) (prices flows : List ℕ) (ahead : Interval → Interval → Bool) (keeps : List Bool)
-    → All (λ i. i.size ≡ size) (eligible_intervals objective capacity trace)
-    → IsUnit (eligible_intervals objective capacity trace) unit
+    (terms : Terms) (trace : List Object) (size unit denominator : ℕ) (prices flows : List ℕ) (ahead : Interval → Interval → Bool) (keeps : List Bool)
+    → All (λ i. i.size ≡ size) (eligible_intervals terms trace)
+    → IsUnit (eligible_intervals terms trace) unit
     → length prices ≡ length trace
-    → IsFractionalSchedule (eligible_intervals objective capacity trace) unit (capacity / unit) flows
-    → bound_of (eligible_intervals objective capacity trace) unit (capacity / unit) denominator prices ≡ flow_value (eligible_intervals objective capacity trace) unit denominator flows
-    → IsRounded ahead (eligible_intervals objective capacity trace) capacity (length trace) (full_flags unit (eligible_intervals objective capacity trace) flows) keeps
-    → IsAllowed capacity trace (contents_of trace keeps)
-    → IsBestSchedule objective capacity trace denominator (bound_of (eligible_intervals objective capacity trace) unit (capacity / unit) denominator prices) keeps
+    → IsFractionalSchedule (eligible_intervals terms trace) unit (terms.capacity / unit) flows
+    → bound_of (eligible_intervals terms trace) unit (terms.capacity / unit) denominator prices ≡ flow_value (eligible_intervals terms trace) unit denominator flows
+    → IsRounded ahead (eligible_intervals terms trace) terms.capacity (length trace) (full_flags unit (eligible_intervals terms trace) flows) keeps
+    → IsAllowed terms.capacity trace (contents_of trace keeps)
+    → IsBestSchedule terms trace denominator (bound_of (eligible_intervals terms trace) unit (terms.capacity / unit) denominator prices) keeps

@@ -2,7 +2,7 @@
 use Rattle.std.specs.Prelude.{◌≡◌, ℕ, ◌+◌, ◌<◌, ◌≤◌, Bool, false, ◌==◌, List, length, slice_index}
 use Rattle.std.specs.List.{list_any}
 use Rattle.cache_model.specs.declared.intervals.Interval.{Interval}
-use Rattle.cache_model.specs.Keeps.{is_kept}
+use Rattle.cache_model.specs.Claim.{is_kept}
 use Rattle.cache_model.specs.Rounding.{taken_load}
 use Rattle.interval_maker.specs.Timelines.{Timeline}
 

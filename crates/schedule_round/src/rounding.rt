@@ -1,7 +1,7 @@
 //! Rounding: flagged intervals, and then what still fits.
 ghost use Rattle.std.specs.Prelude.{◌≡◌, ◌≤◌, ℕ, false, replicate, IfOk};
 ghost use Rattle.std.specs.List.{AllZip};
-ghost use Rattle.cache_model.specs.Keeps.{is_kept};
+ghost use Rattle.cache_model.specs.Claim.{is_kept};
 ghost use Rattle.cache_model.specs.Rounding.{FitTogether, IsMaximal, IsRounded, by_rank, taken_load};
 ghost use Rattle.schedule_round.specs.Taken.{IsTaken};
 

@@ -1,13 +1,13 @@
 use Rattle.std.proofs.Common.{◌≡◌, ◌*◌, ◌^◌, ◌≤◌, ◌<◌, ℕ, sum_by}
 use Rattle.std.specs.List.{range_with_len}
-use Rattle.cache_model.specs.Keeps.{held_before, load_after}
-use Rattle.cache_model.specs.Claim.{total_size}
+use Rattle.cache_model.specs.Keeps.{load_after}
+use Rattle.cache_model.specs.Claim.{total_size, held_before}
 use Rattle.cache_model.proofs.Scores.{earned_at}
 use Rattle.cache_rules.proofs.scoring.score.Given as goal
 
 abbrev pub invariant-loop-t : goal.invariant-loop-t
 invariant-loop-t l = record {
-  gains : l.gains ≡ sum_by (earned_at l.objective l.trace l.keeps) (range_with_len 0 l.t);
+  gains : l.gains ≡ sum_by (earned_at l.terms l.trace l.keeps) (range_with_len 0 l.t);
   few : l.gains ≤ l.t * 2 ^ 48;
   load : l.load ≡ total_size (held_before l.trace l.keeps l.t);
   room : l.load ≤ l.capacity;

@@ -1,5 +1,5 @@
 use Rattle.std.proofs.Common.{◌∙◌, sym, arith, below_more}
-use Rattle.relaxation.proofs.Loads.{counted, carried_none, carried_next, step_low}
+use Rattle.relaxation.proofs.Loads.{counted, carried_none, carried_next, step_low, schedule_of_no_fault}
 use Rattle.relaxation.proofs.flows.check_flows.Goals as goal
 
 pub loop-step-init : goal.loop-step-init
@@ -27,3 +27,8 @@ loop-step-preserved c =
       low = omega (arith, load, low);
       none_before = below_more _ _ c.loop-step.invariant.none_before passes;
     }
+
+pub returns-clause-schedule : goal.returns-clause-schedule
+returns-clause-schedule c =
+    schedule_of_no_fault c.args.intervals.now c.args.unit c.args.units c.args.flows.now c.steps-step-end.ensures.timeline c.requires.each
+    (λ t low. c.loop-step.invariant.none_before t (omega (arith, low)))

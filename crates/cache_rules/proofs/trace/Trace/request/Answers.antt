@@ -1,8 +1,8 @@
 use Rattle.std.proofs.Common.{◌≡◌, arith, position, slice_get, Some, subst}
 use Rattle.std.proofs.lemmas.Grind.{common_steps}
 use Rattle.std.specs.HashMap.{keys}
-use Rattle.cache_model.specs.Objects.{request_at, objects_of}
-use Rattle.cache_model.specs.Claim.{same_object}
+use Rattle.cache_model.specs.Objects.{objects_of}
+use Rattle.cache_model.specs.Claim.{same_object, request_at}
 use Rattle.cache_rules.specs.Stored.{trace_of}
 use Rattle.cache_rules.proofs.Numbers.{number_position, number_object}
 use Rattle.cache_rules.proofs.trace.Trace.request.Goals as goal
