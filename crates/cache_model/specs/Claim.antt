@@ -23,7 +23,7 @@ holds contents x = list_any (same_object x) contents
 abbrev pub before_request : List (List Object) → ℕ → List Object
 before_request contents t = slice_index_or contents t []
 
--- the contents before each request, and after the last, are a play of the trace within the capacity
+-- the rules allow these contents before each request and after the last: nothing comes in but what is asked for, and all fits the capacity
 pub record IsAllowed (capacity : ℕ) (trace : List Object) (contents : List (List Object)) : Type 0 where
   pub one_more_than_requests : length contents ≡ length trace + 1
   pub empty_at_first : before_request contents 0 ≡ []

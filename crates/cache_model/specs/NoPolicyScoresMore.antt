@@ -1,4 +1,4 @@
--- No play scores more than the bound of any prices.
+-- No policy scores more than the bound of any prices.
 use Rattle.std.specs.Prelude.{◌≡◌, ℕ, ◌*◌, ◌/◌, ◌≤◌, List, length}
 use Rattle.cache_model.specs.declared.objects.Object.{Object}
 use Rattle.cache_model.specs.declared.terms.Terms.{Terms}
