@@ -1,4 +1,4 @@
-//! The model of offline caching: what a trace, a play, a bound, a schedule and a certificate are, and the
+//! The model of offline caching: what a trace, contents, a bound, a schedule and a certificate are, and the
 //! laws that are proved of them.
 //!
 //! The rules are those of docs/DEFINITIONS.md. The crates above cite them in their contracts.
