@@ -1,0 +1,77 @@
+-- The run of each rule is allowed contents.
+use Rattle.std.proofs.Common.{◌≡◌, ℕ, zero, suc, ◌+◌, ◌<◌, ◌≤◌, sym, refl, ap, subst, Bool, ◌&&◌, cond, nat_le, List, [], length, arith, Some, None, lt-ltb}
+use Rattle.std.specs.declared.option.Option.{Option}
+use Rattle.cache_model.specs.declared.objects.Object.{Object}
+use Rattle.cache_model.specs.Objects.{objects_of}
+use Rattle.cache_model.specs.Claim.{request_at}
+use Rattle.policy_model.specs.declared.names.PolicyName.{PolicyName}
+use Rattle.policy_model.specs.States.{State, members_of, has_entry, used, start_of, IsFit}
+use Rattle.policy_model.specs.Steps.{entries_after}
+use Rattle.policy_model.specs.Asks.{ask_at, number_of, next_request}
+use Rattle.policy_model.specs.Runs.{Run, run_step, AreScores}
+use Rattle.policy_model.proofs.Holdings.{size-held}
+use Rattle.policy_model.proofs.MemberLemmas.{size-members, apart-members, enters-step, sizes-entries}
+use Rattle.policy_model.proofs.Replays.{AreScoresTo, IsAsked, played-none, played-more, played-all, run_to, run_to-more, run_to-all, has_entry-members}
+use Rattle.policy_model.proofs.Sound.{fit-step}
+use Rattle.policy_laws.specs.Laws.{RunsAreAllowed}
+use Rattle.policy_laws.proofs.Asked.{number_of-object}
+
+-- a run after t requests: contents so far, whose entries fit
+record Stands (capacity warmup : ℕ) (trace : List Object) (t : ℕ) (run : Run) : Type 0 where
+  pub played : AreScoresTo capacity warmup trace t (members_of run.state.entries) run.hits run.bytes
+  pub fit : IsFit capacity run.state.entries
+  pub same_capacity : run.state.capacity ≡ capacity
+
+asked_at : (trace : List Object) (t : ℕ) → t < length trace → IsAsked trace t (number_of trace (request_at trace t)) (request_at trace t).size
+asked_at trace t within =
+    let k : ℕ = number_of trace (request_at trace t) in
+    let known = number_of-object trace t within in
+    record {
+      within = within;
+      found = ap (λ b. cond b (Some k) None) (lt-ltb k (length (objects_of trace)) known.0);
+      object = known.1;
+      size_is = refl;
+    }
+
+one_more : (capacity warmup : ℕ) (trace : List Object) (t : ℕ) (run : Run) → t < length trace → Stands capacity warmup trace t run → Stands capacity warmup trace (t + 1) (run_step warmup run (ask_at trace t))
+one_more capacity warmup trace t run within stands =
+    let s : State = run.state in
+    let x : Object = request_at trace t in
+    let k : ℕ = number_of trace x in
+    let next : Option ℕ = next_request trace t in
+    let asked : IsAsked trace t k x.size = asked_at trace t within in
+    let hit : Bool = has_entry s.entries k in
+    let fit_before : IsFit s.capacity s.entries = subst (λ c. IsFit c s.entries) (sym stands.same_capacity) stands.fit in
+    let fit_after : IsFit s.capacity (entries_after s k x.size next) =
+    fit-step s k x.size next (sizes-entries k x.size s.entries (size-held trace x k asked.found asked.object (members_of s.entries) stands.played.numbered)) fit_before in
+    let fit : IsFit capacity (entries_after s k x.size next) = subst (λ c. IsFit c (entries_after s k x.size next)) stands.same_capacity fit_after in
+    let low : used (entries_after s k x.size next) ≤ capacity = fit.room in
+    record {
+      played = played-more capacity warmup trace t k x.size (members_of s.entries) (members_of (entries_after s k x.size next)) run.hits run.bytes
+          (run.hits + cond (nat_le warmup t && hit) 1 0) (run.bytes + cond (nat_le warmup t && hit) x.size 0) hit asked stands.played
+          (enters-step s k x.size next) (omega (arith, size-members (entries_after s k x.size next))) (apart-members (entries_after s k x.size next) fit.apart)
+          (has_entry-members s.entries k) refl refl;
+      fit = fit;
+      same_capacity = stands.same_capacity;
+    }
+
+stands_at : (name : PolicyName) (capacity warmup : ℕ) (trace : List Object) (t : ℕ) → t ≤ length trace → Stands capacity warmup trace t (run_to warmup (start_of name capacity) trace t)
+stands_at name capacity warmup trace zero within = record {
+  played = played-none capacity warmup trace (members_of []) refl;
+  fit = record { room = omega arith; apart = tt };
+  same_capacity = refl;
+}
+stands_at name capacity warmup trace (suc t) within =
+    let low : t < length trace = omega arith in
+    let e : run_to warmup (start_of name capacity) trace (t + 1) ≡ run_step warmup (run_to warmup (start_of name capacity) trace t) (ask_at trace t) = run_to-more warmup (start_of name capacity) trace t low in
+    let here : Stands capacity warmup trace (t + 1) (run_to warmup (start_of name capacity) trace (t + 1)) =
+    subst (Stands capacity warmup trace (t + 1)) (sym e) (one_more capacity warmup trace t (run_to warmup (start_of name capacity) trace t) low (stands_at name capacity warmup trace t (omega arith))) in
+    let one : t + 1 ≡ suc t = omega arith in
+    subst (λ n. Stands capacity warmup trace n (run_to warmup (start_of name capacity) trace n)) one here
+
+pub runs_are_allowed : RunsAreAllowed
+runs_are_allowed name capacity warmup trace =
+    let all : Stands capacity warmup trace (length trace) (run_to warmup (start_of name capacity) trace (length trace)) = stands_at name capacity warmup trace (length trace) (omega arith) in
+    let run : Run = run_to warmup (start_of name capacity) trace (length trace) in
+    subst (λ (r : Run). AreScores capacity warmup trace r.hits r.bytes) (run_to-all warmup (start_of name capacity) trace (length trace) refl)
+    (played-all capacity warmup trace (members_of run.state.entries) (length trace) run.hits run.bytes refl all.played)

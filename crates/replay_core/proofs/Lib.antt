@@ -1,0 +1,2 @@
+pub mod KnownRuns
+pub mod Kept

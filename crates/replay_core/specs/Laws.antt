@@ -1,0 +1,29 @@
+-- The laws of a policy, and what a replay answers.
+use Rattle.std.specs.Prelude.{◌≡◌, ◌≢◌, ℕ, ◌≤◌, List, AllPairs, IfSome, Some}
+use Rattle.std.specs.declared.option.Option.{Option}
+use Rattle.cache_model.specs.declared.objects.Object.{Object}
+use Rattle.policy_model.specs.States.{Member, State, members_of, members_size, start_of}
+use Rattle.policy_model.specs.Steps.{policy_step}
+use Rattle.policy_model.specs.Runs.{policy_run}
+
+-- the members fit into the capacity, and no object is there twice
+pub record IsSound (capacity : ℕ) (members : List Member) : Type 0 where
+  pub within_capacity : members_size members ≤ capacity
+  pub without_repeats : AllPairs (λ m n. m.object ≢ n.object) members
+
+-- a state that is known has these members and this capacity
+abbrev pub StateFits : Option State → List Member → ℕ → Type 0
+StateFits known_state members capacity = IfSome known_state (λ s. (members_of s.entries ≡ members) × (s.capacity ≡ capacity))
+
+-- a state that was told before is known after, one step of its rule later
+abbrev pub StepsBy : Option State → Option State → ℕ → ℕ → Option ℕ → Type 0
+StepsBy before after object size next = IfSome before (λ s. after ≡ Some (policy_step s object size next).after)
+
+-- a state that is known has had no request
+abbrev pub IsFresh : Option State → Type 0
+IsFresh known_state = IfSome known_state (λ s. s ≡ start_of s.name s.capacity)
+
+-- where a state is known, the hits and bytes are those of its rule's run
+abbrev pub IsRunOf : Option State → List Object → ℕ → ℕ → ℕ → Type 0
+IsRunOf known_state trace warmup hits bytes =
+    IfSome known_state (λ s. (hits ≡ (policy_run s.name trace s.capacity warmup).hits) × (bytes ≡ (policy_run s.name trace s.capacity warmup).bytes))

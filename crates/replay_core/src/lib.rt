@@ -1,0 +1,14 @@
+//! Policies with laws, and the replay of a trace through any of them.
+//!
+//! A policy is asked for one object after another, and says whether it held it. Whatever policy is replayed, what it
+//! held is allowed contents of the trace. The rules are those of docs/DEFINITIONS.md.
+#![tactic(auto)]
+
+mod counts;
+mod policy;
+mod replaying;
+
+pub use counts::Replay;
+pub use policy::{Outcome, Policy};
+pub use policy_model::PolicyName;
+pub use replaying::replay;

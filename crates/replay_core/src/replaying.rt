@@ -1,0 +1,48 @@
+//! The replay of a trace through a policy.
+ghost use Rattle.std.specs.Prelude.{◌≡◌, ◌≤◌, ◌&&◌, nat_le, [], length, IfOk};
+ghost use Rattle.cache_model.specs.Objects.{objects_of};
+ghost use Rattle.policy_model.specs.Runs.{AreScores};
+ghost use Rattle.replay_core.specs.Laws.{IsFresh, IsRunOf};
+ghost use Rattle.replay_core.specs.Outcomes.{is_hit};
+
+use crate::counts::Replay;
+use crate::policy::{Outcome, Policy};
+use bound_base::NoMemory;
+use cache_rules::Trace;
+use std::alloc::Global;
+
+// Whether the answer to request `t` counts.
+fn counts(t: u32, warmup: u32, outcome: Outcome) -> bool
+    ensures { result ≡ (nat_le warmup t && is_hit outcome) }
+{
+    t >= warmup && outcome == Outcome::Hit
+}
+
+/// Asks the policy for each request of the trace, and counts the hits from request `warmup` on.
+///
+/// It takes the time of one call of the policy for each request.
+pub fn replay<P: Policy>(
+    alloc: Global,
+    trace: &Trace,
+    warmup: u32,
+    policy: &mut P,
+) -> Result<Replay, NoMemory>
+    requires objects { length (objects_of trace.now) ≤ P.objects policy.old }
+    requires empty { P.contents policy.old ≡ [] }
+    requires fresh { IsFresh (P.known_state policy.old) }
+    ensures played { IfOk result (λ r. AreScores (P.room policy.old) warmup trace.now r.hits r.bytes) }
+    ensures run { IfOk result (λ r. IsRunOf (P.known_state policy.old) trace.now warmup r.hits r.bytes) }
+{
+    let mut hits = 0;
+    let mut bytes = 0;
+    for t in 0..trace.len() {
+        let object = trace.request(t);
+        let size = trace.size_of(object);
+        let outcome = policy.request(alloc, object, size, trace.next(t))?;
+        if counts(t, warmup, outcome) {
+            hits += 1;
+            bytes += size as u128;
+        }
+    }
+    Ok(Replay { hits, bytes })
+}

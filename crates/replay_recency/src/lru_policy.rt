@@ -1,0 +1,137 @@
+//! The rule that gives up the object whose latest request is longest ago.
+ghost use Rattle.std.specs.Prelude.{◌≡◌, ◌≤◌, ◌^◌, ◌+◌, ℕ, All, length, drop, Some, IfOk, OnOk, OnErr, refl};
+ghost use Rattle.std.specs.declared.option.Option.{Option};
+ghost use Rattle.policy_model.specs.declared.names.PolicyName.TheVariants.{Lru as ByRecency};
+ghost use Rattle.policy_model.specs.States.{used};
+ghost use Rattle.policy_model.specs.Steps.{make_room};
+ghost use Rattle.replay_core.specs.Keeping.{Answers, GivesUp, nothing_kept, state_of, contents_of};
+ghost use Rattle.replay_core.specs.Laws.{IsSound};
+ghost use Rattle.replay_recency.specs.LruEntries.{entries_of};
+
+use bound_base::NoMemory;
+use lru::LruCache;
+use replay_core::{Outcome, Policy};
+use std::alloc::Global;
+use std::marker::Model;
+
+/// The least recently used object is given up first.
+///
+/// A request takes constant time on average, and each entry that is given up was put in by one request. It takes memory
+/// for each entry.
+#[derive(Drop)]
+pub struct Lru {
+    capacity: u64,
+    objects: u32,
+    requests: u64,
+    used: u64,
+    entries: LruCache<u32, u64>,
+}
+
+impl Model for Lru {
+    ghost use Rattle.replay_core.specs.Keeping.{Kept};
+
+    ghost Value = { Kept };
+
+    ghost use Rattle.replay_recency.specs.LruEntries.{entries_of, IsLru};
+
+    ghost view = { λ p. record { objects = p.objects; capacity = p.capacity; now = p.requests; entries = entries_of p.entries.entries } };
+
+    ghost invariant = { λ p. IsLru p.capacity p.used p.entries.cap p.entries.entries };
+}
+
+// Gives up the entries that were used longest ago, until so many bytes fit, and says how many are still used.
+pub(crate) fn free_oldest(
+    entries: &mut LruCache<u32, u64>,
+    in_use: u64,
+    capacity: u64,
+    size: u64,
+) -> u64
+    requires in_use { in_use ≡ used (entries_of entries.old.entries) }
+    requires within { in_use ≤ capacity }
+    requires small { size ≤ capacity }
+    requires range { capacity ≤ 2 ^ 56 }
+    ensures entries { entries_of entries.new.entries ≡ make_room (length entries.old.entries) (drop 1) capacity size (entries_of entries.old.entries) }
+    ensures in_use { result ≡ used (entries_of entries.new.entries) }
+    ensures cap { entries.new.cap ≡ entries.old.cap }
+    ensures room { result + size ≤ capacity }
+{
+    let mut left = in_use;
+    while left + size > capacity {
+        let Some((_, gone)) = entries.pop_lru() else {
+            return left;
+        };
+        left -= gone;
+    }
+    left
+}
+
+impl Lru {
+    /// A policy that holds nothing, with its capacity in bytes. It takes memory for a fixed number of entries.
+    pub fn new(alloc: Global, capacity: u64, objects: u32) -> Result<Self, NoMemory>
+        requires range { (1 ≤ capacity) × (capacity ≤ 2 ^ 56) }
+        ensures nothing { IfOk result (λ policy. policy ≡ nothing_kept objects capacity) }
+    {
+        Ok(Lru {
+            capacity,
+            objects,
+            requests: 0,
+            used: 0,
+            entries: LruCache::unbounded(alloc)?,
+        })
+    }
+
+    // One request, as the rule says, whatever the next request is.
+    fn ask(&mut self, object: u32, size: u64) -> Result<Outcome, NoMemory>
+        requires kept_size { All (λ m. m.object ≡ object → m.size ≡ size) (contents_of self.old) }
+        ensures answers { IfOk result (λ outcome. (next : Option ℕ) → Answers ByRecency self.old self.new object size next outcome) }
+        ensures fits { OnOk result (IsSound self.new.capacity (contents_of self.new)) }
+        ensures gives_up { OnErr result (GivesUp self.old self.new) }
+    {
+        let requests = self.requests.saturating_add(1);
+        if self.entries.promote(&object) {
+            self.requests = requests;
+            return Ok(Outcome::Hit);
+        }
+        if size > self.capacity {
+            self.requests = requests;
+            return Ok(Outcome::Miss);
+        }
+        self.used = free_oldest(&mut self.entries, self.used, self.capacity, size);
+        // No collection has 2^63 entries, so the cache is never full.
+        let _few = self.entries.len();
+        self.entries.put(object, size)?;
+        self.used += size;
+        self.requests = requests;
+        Ok(Outcome::Miss)
+    }
+}
+
+impl Policy for Lru {
+    ghost contents = { λ p. contents_of p };
+
+    ghost objects = { λ p. p.objects };
+
+    ghost room = { λ p. p.capacity };
+
+    ghost known_state = { λ p. Some (state_of ByRecency p) };
+
+    fn capacity(&self) -> u64 {
+        self.capacity
+    }
+
+    fn holds(&self, object: u32) -> bool {
+        self.entries.contains(&object)
+    }
+
+    fn request(
+        &mut self,
+        _alloc: Global,
+        object: u32,
+        size: u64,
+        _next: Option<u32>,
+    ) -> Result<Outcome, NoMemory> {
+        self.ask(object, size)
+    }
+
+    ghost state_fits = { λ p. (refl, refl) };
+}
