@@ -50,7 +50,7 @@ abbrev pub without : Object → List Object → List Object
 without r xs = filter (λ y. not (same_object r y)) xs
 
 -- one step of the two lemmas below, at an object y of the list
-abbrev keep : Bool → Object → List Object → List Object
+abbrev pub keep : Bool → Object → List Object → List Object
 keep t y ys = cond (not t) (y ∷ ys) ys
 
 holds-keep : (r z y : Object) (ys : List Object) (t : Bool) → same_object r y ≡ t → same_object r z ≡ false → holds (y ∷ ys) z ≡ true → (holds ys z ≡ true → holds (without r ys) z ≡ true) → holds (keep t y (without r ys)) z ≡ true
@@ -104,7 +104,7 @@ sum_by-worth-le v w q (x ∷ xs) =
     omega (arith, sum_by-worth-le v w q xs, sum_by-cons v x xs, ap (λ n. n * q) (sum_by-cons w x xs), sum_by-cons (λ x. v x - w x * q) x xs)
 
 -- what a hit earns, and the worth of the other members, is within the worth of the contents
-hit-le : (earns g f : Object → ℕ) (r : Object) (held : List Object) → AllByRecursion (λ x. earns x ≤ g x) held
+pub hit-le : (earns g f : Object → ℕ) (r : Object) (held : List Object) → AllByRecursion (λ x. earns x ≤ g x) held
     → cond (holds held r) (earns r) 0 + sum_by f (without r held) ≤ sum_by (λ x. cond (same_object r x) (g x) (f x)) held
 hit-le earns g f r [] enough = omega arith
 hit-le earns g f r (y ∷ ys) enough = at (same_object r y) refl (hit-le earns g f r ys enough.1)
@@ -134,7 +134,7 @@ Follows earns g w units held (r ∷ later) [] = ⊥
 Follows earns g w units held (r ∷ later) (next ∷ nexts) = IsStep earns g w units held r next × Follows earns g w units next later nexts
 
 -- members of the next contents are r, or were held and are not r
-inside-without : (r : Object) (held xs : List Object) → AllByRecursion (λ x. holds (r ∷ held) x ≡ true) xs → AllByRecursion (λ x. holds (r ∷ without r held) x ≡ true) xs
+pub inside-without : (r : Object) (held xs : List Object) → AllByRecursion (λ x. holds (r ∷ held) x ≡ true) xs → AllByRecursion (λ x. holds (r ∷ without r held) x ≡ true) xs
 inside-without r held [] h = h
 inside-without r held (x ∷ xs) h = (at (same_object r x) refl, inside-without r held xs h.1)
   where
