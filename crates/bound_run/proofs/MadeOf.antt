@@ -33,7 +33,7 @@ use Rattle.schedule_round.specs.Laws.{IsBestSchedule, full_flags}
 use Rattle.schedule_round.proofs.EqualSizes.{best_schedule, equal_sizes_whole}
 use Rattle.bound_run.specs.declared.bounds.Asked.{Asked}
 use Rattle.window_bounds.specs.Solutions.{prices_in}
-use Rattle.bound_run.specs.Made.{HasLeastWindows, IsBelowWindows, IsMade, IsNear, IsOfMode, is_unwindowed, records_of, width_of}
+use Rattle.bound_run.specs.Made.{HasLeastWindows, IsBelowWindows, IsMade, IsNear, IsOfMode, is_unwindowed, records_of, terms_asked, width_of}
 use Rattle.bound_run.specs.Modes.{IsModeInRange}
 use Rattle.bound_run.proofs.RecordsOf.{length-records, prices_of-records, keeps_of-records, flow_at-unused, flows_of-records, records_in_range}
 use Rattle.bound_run.proofs.Relaxing.{below_windows, flows_each, width_positive}
@@ -80,7 +80,7 @@ pub record IsFound (asked : Asked) (trace : List Object) (line : Timeline) (unit
   pub rounded : IsRounded by_rank line.items asked.capacity (length trace) (full_flags unit line.items flows) keeps
   pub maximal : IsMaximal line.items asked.capacity keeps
   pub allowed : IsAllowed asked.capacity trace (contents_of trace keeps)
-  pub scored : lower ≡ score asked.objective trace (contents_of trace keeps)
+  pub scored : lower ≡ score (terms_asked asked) trace (contents_of trace keeps)
 
 -- the header of these numbers
 abbrev pub header_with : Asked → ℕ → ℕ → ℕ → Bool → ℕ → ℕ → ℕ → Header
@@ -96,7 +96,7 @@ solved Infinite line unit units d price prices flows of wide = cc
 
 module _ (asked : Asked) (trace : List Object) (unit d : ℕ) (whole_costs : Bool) (upper flow lower price : ℕ) (prices flows : List ℕ) (keeps : List Bool) where
   abbrev line : Timeline
-  line = timeline_of asked.objective asked.capacity trace
+  line = timeline_of (terms_asked asked) trace
 
   abbrev units : ℕ
   units = asked.capacity / unit
@@ -158,7 +158,7 @@ module _ (asked : Asked) (trace : List Object) (unit d : ℕ) (whole_costs : Boo
       denominator = found.range;
       upper = found.small;
       flow = found.small_value;
-      lower = omega (arith, found.scored, found.small, bounds.no_policy_scores_more (contents_of trace keeps) found.allowed, scored_once d (score asked.objective trace (contents_of trace keeps)) found.range.0);
+      lower = omega (arith, found.scored, found.small, bounds.no_policy_scores_more (contents_of trace keeps) found.allowed, scored_once d (score (terms_asked asked) trace (contents_of trace keeps)) found.range.0);
     }
 
     once : (p : ℕ) → p ≤ units * p
@@ -183,7 +183,7 @@ module _ (asked : Asked) (trace : List Object) (unit d : ℕ) (whole_costs : Boo
       last_price = subst (λ ps. get_or ps (length trace - 1) 0 ≡ 0) (sym priced) found.last;
       unit = found.unit_is.divides;
       keeps = subst (λ ks. IsAllowed asked.capacity trace (contents_of trace ks)) (sym kept) found.allowed;
-      lower = found.scored ∙ ap (λ ks. score asked.objective trace (contents_of trace ks)) (sym kept);
+      lower = found.scored ∙ ap (λ ks. score (terms_asked asked) trace (contents_of trace ks)) (sym kept);
       unused_flows = flow_at-unused prices keeps line.items flows;
       flows = subst (IsFractionalSchedule line.items unit units) (sym flowing) found.schedule;
       flow = found.value ∙ ap (flow_value line.items unit d) (sym flowing);
@@ -219,11 +219,11 @@ module _ (asked : Asked) (trace : List Object) (unit d : ℕ) (whole_costs : Boo
         (λ (empty : length line.items ≤ 0). λ k e low. absurd (omega arith))
         (cases_lt 0 (length line.items))
 
-    best : (size : ℕ) → IsTrue (is_unwindowed asked.mode (length trace)) → All (λ i. i.size ≡ size) line.items → IsBestSchedule asked.objective asked.capacity trace d upper keeps
+    best : (size : ℕ) → IsTrue (is_unwindowed asked.mode (length trace)) → All (λ i. i.size ≡ size) line.items → IsBestSchedule (terms_asked asked) trace d upper keeps
     best size wide same =
         let values = (exact_values line.items line.steps unit units d prices flows weights (whole_of_equal size same) (solved asked.mode line unit units d price prices flows found.of_mode wide)).0 in
-        subst (λ u. IsBestSchedule asked.objective asked.capacity trace d u keeps) (sym found.bound)
-        (best_schedule asked.objective asked.capacity trace size unit d prices flows by_rank keeps same found.unit_is found.each found.schedule values found.rounded found.allowed)
+        subst (λ u. IsBestSchedule (terms_asked asked) trace d u keeps) (sym found.bound)
+        (best_schedule (terms_asked asked) trace size unit d prices flows by_rank keeps same found.unit_is found.each found.schedule values found.rounded found.allowed)
 
     near : IsTrue (is_unwindowed asked.mode (length trace)) → IsNear trace h flows
     near wide =
@@ -250,16 +250,16 @@ module _ (asked : Asked) (trace : List Object) (unit d : ℕ) (whole_costs : Boo
       bounds = bounds;
       least = exact_is_least trace h rs valid;
       near = λ wide. subst (IsNear trace h) (sym flowing) (near wide);
-      equal_sizes = λ size wide same. subst (IsBestSchedule asked.objective asked.capacity trace d upper) (sym kept) (best size wide same);
+      equal_sizes = λ size wide same. subst (IsBestSchedule (terms_asked asked) trace d upper) (sym kept) (best size wide same);
     }
 
 -- what is found makes the certificate
 pub made_of : (asked : Asked) (trace : List Object) (found_line : Timeline) (requests unit units d : ℕ) (whole_costs : Bool) (upper flow lower price : ℕ) (prices flows : List ℕ) (keeps : List Bool)
-    → found_line ≡ timeline_of asked.objective asked.capacity trace → requests ≡ length trace → units ≡ asked.capacity / unit → IsFound asked trace found_line unit units d whole_costs upper flow lower price prices flows keeps
+    → found_line ≡ timeline_of (terms_asked asked) trace → requests ≡ length trace → units ≡ asked.capacity / unit → IsFound asked trace found_line unit units d whole_costs upper flow lower price prices flows keeps
     → IsMade asked trace price (header_with asked requests unit d (is_unwindowed asked.mode requests && whole_costs) upper flow lower) (records_of prices keeps found_line.items flows)
 made_of asked trace found_line requests unit units d whole_costs upper flow lower price prices flows keeps is many units_are found =
     let at_line = subst (λ l. IsFound asked trace l unit units d whole_costs upper flow lower price prices flows keeps) is found in
-    let at_units = subst (λ n. IsFound asked trace (timeline_of asked.objective asked.capacity trace) unit n d whole_costs upper flow lower price prices flows keeps) units_are at_line in
+    let at_units = subst (λ n. IsFound asked trace (timeline_of (terms_asked asked) trace) unit n d whole_costs upper flow lower price prices flows keeps) units_are at_line in
     let made = made_at asked trace unit d whole_costs upper flow lower price prices flows keeps at_units in
     subst (λ l. IsMade asked trace price (header_with asked requests unit d (is_unwindowed asked.mode requests && whole_costs) upper flow lower) (records_of prices keeps l.items flows)) (sym is)
-    (subst (λ n. IsMade asked trace price (header_with asked n unit d (is_unwindowed asked.mode n && whole_costs) upper flow lower) (records_of prices keeps (timeline_of asked.objective asked.capacity trace).items flows)) (sym many) made)
+    (subst (λ n. IsMade asked trace price (header_with asked n unit d (is_unwindowed asked.mode n && whole_costs) upper flow lower) (records_of prices keeps (timeline_of (terms_asked asked) trace).items flows)) (sym many) made)

@@ -1,9 +1,8 @@
 -- What the prices and flows of a mode are for the intervals.
-use Rattle.std.proofs.Common.{◌≡◌, ◌∙◌, ℕ, suc, ◌+◌, ◌*◌, ◌/◌, ◌%◌, ◌<◌, ◌≤◌, ◌^◌, sym, refl, ap, subst, min, arith, cond, Bool, true, false, List, [], ◌∷◌, length, map, zip, get_or, replicate, sum, sum_by, All, Some, None, ◌==◌}
+use Rattle.std.proofs.Common.{◌≡◌, ℕ, suc, ◌+◌, ◌*◌, ◌/◌, ◌%◌, ◌<◌, ◌≤◌, ◌^◌, sym, refl, subst, min, arith, cond, Bool, true, false, List, [], ◌∷◌, length, map, zip, get_or, replicate, sum, sum_by, All}
 use Prim.Native.Nat.{◌∣◌}
 use Rattle.std.specs.List.{AllZip}
 use Rattle.std.proofs.Math.Nat.{mul-le-mul_right, div-le_self}
-use Rattle.std.proofs.lemmas.Bool.{false≢true, le-ltb}
 use Rattle.std.proofs.lemmas.Grind.{div_ceil_times}
 use Rattle.std.proofs.lemmas.List.{get_or-map, get_or-replicate, length-map, length-replicate}
 use Rattle.std.proofs.lemmas.List.Elements.{All-head, All-tail}
@@ -17,14 +16,6 @@ use Rattle.cache_model.specs.Units.{weight}
 use Rattle.flow_model.specs.declared.arcs.OuterArc.{OuterArc}
 use Rattle.flow_model.specs.Instances.{Instance, IsInstance, arc_of, surplus, whole_instance}
 use Rattle.interval_maker.specs.Timelines.{Timeline, IsInterval, IsTimeline, no_interval}
-use Rattle.std.specs.declared.option.Option.{Option}
-use Rattle.std.specs.Option.{is_some}
-use Rattle.interval_maker.specs.Timelines.{starting_at}
-use Rattle.relaxation.specs.declared.flows.FlowFault.{FlowFault}
-use Rattle.relaxation.specs.declared.flows.FlowFault.TheVariants.{AboveWeight, Overfull}
-use Rattle.relaxation.specs.Faults.{IsFirstFault, fault_at, fault_from, load_fault, weight_at}
-use Rattle.relaxation.proofs.Loads.{place_within}
-use Rattle.schedule_round.proofs.Lists.{get_or-AllZip}
 use Rattle.relaxation.specs.Prices.{most_paid}
 use Rattle.relaxation.proofs.Values.{gain-le}
 use Rattle.relaxation.proofs.Whole.{timeline_weights}
@@ -134,29 +125,9 @@ pub width_positive : (window : Window) (steps : ℕ) → IsModeInRange (Flow win
 width_positive Whole steps fits = omega arith
 width_positive (Steps width) steps fits = fits.0
 
--- ---- flows that are a schedule have no fault
-
+-- flows that are within the weights one by one are as many as the intervals
 pub flows_each : (unit : ℕ) (xs : List Interval) (fs : List ℕ) → AllZip (λ i f. f ≤ weight unit i) xs fs → length fs ≡ length xs
 flows_each unit [] [] small = refl
 flows_each unit [] (f ∷ fs) small = absurd small
 flows_each unit (i ∷ xs) [] small = absurd small
 flows_each unit (i ∷ xs) (f ∷ fs) small = omega (arith, flows_each unit xs fs small.1)
-
-module _ (line : Timeline) (unit units : ℕ) (flows : List ℕ) (schedule : IsFractionalSchedule line.items unit units flows) where
-  no_load_fault : (t : ℕ) → load_fault line.items units flows t ≡ None
-  no_load_fault t =
-      ap (λ b. cond b (Some (Overfull t (load_at line.items flows t))) None) (le-ltb units (load_at line.items flows t) (schedule.within_units t))
-
-  none_from : (t : ℕ) (o : Option ℕ) → ((n : ℕ) → o ≡ Some n → n < length line.items) → fault_from line.items unit units flows t o ≡ None
-  none_from t None within = no_load_fault t
-  none_from t (Some n) within =
-      ap (λ b. cond b (Some (AboveWeight n)) (load_fault line.items units flows t))
-      (le-ltb (weight_at line.items unit n) (get_or flows n 0) (get_or-AllZip (λ i f. f ≤ weight unit i) no_interval 0 line.items flows n schedule.within_weights (within n refl)))
-      ∙ no_load_fault t
-
-  pub no_fault : (fault : FlowFault) → IsFirstFault line unit units flows fault → ⊥
-  no_fault fault first =
-      let t : ℕ = first.step in
-      let o : Option ℕ = starting_at line.items t in
-      let fine : fault_at line.items unit units flows t ≡ None = none_from t o (place_within (λ i. i.start == t) line.items o (length line.items) refl refl) in
-      false≢true (ap is_some (sym fine ∙ first.fails))

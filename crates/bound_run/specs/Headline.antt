@@ -6,7 +6,7 @@ use Rattle.cache_model.specs.declared.objects.Object.{Object}
 use Rattle.cache_model.specs.declared.certificates.Header.{Header}
 use Rattle.cache_model.specs.declared.certificates.Record.{Record}
 use Rattle.cache_model.specs.Certificates.{eligible_of, flow_of, keeps_of, upper_of}
-use Rattle.cache_model.specs.Claim.{IsAllowed, score, BoundsEveryPolicy, contents_of}
+use Rattle.cache_model.specs.Claim.{IsAllowed, score, terms_of, BoundsEveryPolicy, contents_of}
 use Rattle.cache_model.specs.Texts.{cert_text, report_text}
 use Rattle.cache_model.specs.Units.{HasWholeCosts}
 use Rattle.cert_checker.specs.declared.verdict.Verdict.{Verdict}
@@ -24,7 +24,7 @@ pub record AreTrueBounds (trace : List Object) (h : Header) (records : List Reco
   pub some_capacity : (1 ≤ h.capacity) × (h.capacity ≤ 2 ^ 56)
   pub upper : BoundsEveryPolicy trace h
   pub schedule : IsAllowed h.capacity trace (contents_of trace (keeps_of records))
-  pub lower : score h.objective trace (contents_of trace (keeps_of records)) ≡ h.lower
+  pub lower : score (terms_of h) trace (contents_of trace (keeps_of records)) ≡ h.lower
   pub equal_values : IsTrue h.exact → (upper_of trace h records ≡ h.upper) × (flow_of trace h records ≡ h.upper)
 
 -- bounds printed and certified true bounds at the capacity and for the objective that were asked for; with one window for all steps they are of the form exact where no cost is rounded, and one number where all sizes are equal

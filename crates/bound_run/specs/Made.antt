@@ -3,6 +3,7 @@ use Rattle.std.specs.Prelude.{◌≡◌, ◌↔◌, ℕ, ◌+◌, max, nat_le, �
 use Rattle.std.specs.List.{range_with_len}
 use Rattle.cache_model.specs.declared.objects.Object.{Object}
 use Rattle.cache_model.specs.declared.intervals.Interval.{Interval}
+use Rattle.cache_model.specs.declared.terms.Terms.{Terms}
 use Rattle.cache_model.specs.declared.certificates.Header.{Header}
 use Rattle.cache_model.specs.declared.certificates.Record.{Record}
 use Rattle.cache_model.specs.declared.reports.Mode.{Mode}
@@ -11,7 +12,7 @@ use Rattle.cache_model.specs.declared.reports.Window.{Window}
 use Rattle.cache_model.specs.declared.reports.Window.TheVariants.{Steps, All as Whole}
 use Rattle.cache_model.specs.declared.reports.BoundFacts.{BoundFacts}
 use Rattle.cache_model.specs.Intervals.{eligible_intervals}
-use Rattle.cache_model.specs.Claim.{is_kept, BoundsEveryPolicy}
+use Rattle.cache_model.specs.Claim.{is_kept, terms_from, terms_of, BoundsEveryPolicy}
 use Rattle.cache_model.specs.Objects.{objects_of}
 use Rattle.cache_model.specs.Units.{IsUnit, HasWholeCosts}
 use Rattle.cache_model.specs.Certificates.{eligible_of, flows_of, keeps_of, prices_of, units_of, IsValid, IsLeastOverAll}
@@ -27,6 +28,10 @@ use Rattle.constant_price.specs.Constants.{IsLeastConstant, constant_prices}
 use Rattle.schedule_round.specs.Laws.{IsBestSchedule, full_flags}
 use Rattle.window_bounds.specs.Solutions.{AreSolutions, prices_in, value_of_windows, window_count}
 use Rattle.bound_run.specs.declared.bounds.Asked.{Asked}
+
+-- the terms that are asked for: every request counts
+abbrev pub terms_asked : Asked → Terms
+terms_asked asked = terms_from asked.objective asked.capacity 0
 
 -- how many steps a window has
 abbrev pub width_of : Window → ℕ → ℕ
@@ -76,15 +81,15 @@ pub record IsMade (asked : Asked) (trace : List Object) (price : ℕ) (h : Heade
   pub unit : IsUnit (eligible_of trace h) h.unit
   pub denominator : IsChosen asked.denominator (eligible_of trace h) h.unit h.denominator
   pub form : IsTrue h.exact ↔ (IsTrue (is_unwindowed asked.mode (length trace)) × HasWholeCosts (eligible_of trace h) h.unit h.denominator)
-  pub of_mode : IsOfMode asked.mode (timeline_of h.objective h.capacity trace) h.unit (units_of h) h.denominator (prices_of records) (flows_of (eligible_of trace h) records) price
-  pub least_windows : HasLeastWindows asked.mode (timeline_of h.objective h.capacity trace) h.unit (units_of h) h.denominator (prices_of records)
-  pub below_windows : IsBelowWindows asked.mode (timeline_of h.objective h.capacity trace) h.unit (units_of h) h.denominator (prices_of records) h.upper
+  pub of_mode : IsOfMode asked.mode (timeline_of (terms_of h) trace) h.unit (units_of h) h.denominator (prices_of records) (flows_of (eligible_of trace h) records) price
+  pub least_windows : HasLeastWindows asked.mode (timeline_of (terms_of h) trace) h.unit (units_of h) h.denominator (prices_of records)
+  pub below_windows : IsBelowWindows asked.mode (timeline_of (terms_of h) trace) h.unit (units_of h) h.denominator (prices_of records) h.upper
   pub rounded : IsRounded by_rank (eligible_of trace h) h.capacity (length trace) (full_flags h.unit (eligible_of trace h) (flows_of (eligible_of trace h) records)) (keeps_of records)
   pub maximal : IsMaximal (eligible_of trace h) h.capacity (keeps_of records)
   pub bounds : BoundsEveryPolicy trace h
   pub least : IsTrue h.exact → IsLeastOverAll trace h records
   pub near : IsTrue (is_unwindowed asked.mode (length trace)) → IsNear trace h (flows_of (eligible_of trace h) records)
-  pub equal_sizes : (size : ℕ) → IsTrue (is_unwindowed asked.mode (length trace)) → All (λ i. i.size ≡ size) (eligible_of trace h) → IsBestSchedule h.objective h.capacity trace h.denominator h.upper (keeps_of records)
+  pub equal_sizes : (size : ℕ) → IsTrue (is_unwindowed asked.mode (length trace)) → All (λ i. i.size ≡ size) (eligible_of trace h) → IsBestSchedule (terms_of h) trace h.denominator h.upper (keeps_of records)
 
 -- what the report states beside the header
 abbrev pub facts_of : Asked → List Object → ℕ → ℕ → Header → BoundFacts
@@ -104,8 +109,8 @@ pub record AreTexts (asked : Asked) (trace : List Object) (dropped : ℕ) (cert 
 pub record RefusesDenominator (asked : Asked) (trace : List Object) : Type 0 where
   pub exact : asked.denominator ≡ Exact
   pub unit : ℕ
-  pub unit_is : IsUnit (eligible_intervals asked.objective asked.capacity trace) unit
-  pub past : PassesMost (eligible_intervals asked.objective asked.capacity trace) unit
+  pub unit_is : IsUnit (eligible_intervals (terms_asked asked) trace) unit
+  pub past : PassesMost (eligible_intervals (terms_asked asked) trace) unit
 
 -- the record of request t: the price of its step, its keep, and the flow of the interval that starts there
 abbrev pub record_of : List ℕ → List Bool → List Interval → List ℕ → ℕ → Record

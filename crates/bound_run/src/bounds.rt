@@ -7,7 +7,7 @@ ghost use Rattle.cache_model.specs.Certificates.{eligible_of, IsCertificate};
 ghost use Rattle.cache_model.specs.Units.{HasWholeCosts, IsUnit};
 ghost use Rattle.cache_model.specs.Claim.{IsAllowed, score, contents_of};
 ghost use Rattle.cache_model.specs.Rounding.{IsMaximal, IsRounded, by_rank};
-ghost use Rattle.cache_model.specs.Schedules.{IsFractionalSchedule, flow_value};
+ghost use Rattle.cache_model.specs.Schedules.{IsFractionalSchedule};
 ghost use Rattle.cache_model.specs.Texts.{cert_text};
 ghost use Rattle.interval_maker.specs.Timelines.{IsTimeline, starting_at, timeline_of};
 ghost use Rattle.relaxation.specs.Denominators.{IsChoice, IsChosen};
@@ -15,7 +15,7 @@ ghost use Rattle.relaxation.specs.Faults.{amount_of};
 ghost use Rattle.relaxation.specs.Prices.{most_paid};
 ghost use Rattle.schedule_round.specs.Laws.{full_flags};
 ghost use Rattle.bound_run.specs.BoundsFaults.{FailsBounds};
-ghost use Rattle.bound_run.specs.Made.{AreTexts, IsMade, is_unwindowed, record_of, records_of};
+ghost use Rattle.bound_run.specs.Made.{AreTexts, IsMade, is_unwindowed, record_of, records_of, terms_asked};
 ghost use Rattle.bound_run.specs.Records.{HasEach, records_in};
 ghost use Rattle.bound_run.specs.Modes.{IsModeInRange};
 
@@ -23,13 +23,12 @@ use crate::relaxed::{Relaxed, Scale, relax, width_of};
 use bound_base::NoMemory;
 use bound_io::{Failed, GrowSink, Sink};
 use bound_report::{LimitName, Refusal, report_text};
-use cache_model::{BoundFacts, Header, Mode, Record};
-use cache_rules::{Objective, Trace, score};
+use cache_model::{BoundFacts, Header, Mode, Record, Terms};
+use cache_rules::{Objective, Trace, score_of_fitting};
 use cert_format::{write_end, write_header, write_record};
 use interval_maker::{Intervals, make};
 use relaxation::{
-    Denominator, DenominatorChoice, PriceFault, Sums, bound_of, denominator_for, flow_value,
-    unit_of,
+    Denominator, DenominatorChoice, Sums, bound_of, denominator_for, unit_of, value_of_schedule,
 };
 use schedule_round::{Keeps, round};
 use std::alloc::Global;
@@ -100,6 +99,19 @@ impl From<BoundsFault> for Refusal {
     }
 }
 
+impl Asked {
+    // What the objective, the capacity and the warm-up are. Every request counts.
+    fn terms(&self) -> Terms
+        ensures { result ≡ terms_asked self.now }
+    {
+        Terms {
+            objective: self.objective,
+            capacity: self.capacity,
+            warmup: 0,
+        }
+    }
+}
+
 // The bound of prices.
 fn upper_of(
     alloc: Global,
@@ -116,26 +128,8 @@ fn upper_of(
     ensures bound { IfOk result (λ u. u ≡ bound_of intervals.now.items scale.unit scale.units scale.denominator prices.now) }
     ensures small { IfOk result (λ u. u < 2 ^ 127) }
 {
-    match Sums::new(alloc, prices, scale.units) {
-        Ok(sums) => Ok(bound_of(intervals, scale.unit, scale.units, scale.denominator, &sums)),
-        Err(PriceFault::NoMemory) => Err(NoMemory),
-        Err(PriceFault::SumLimit { .. }) => unreachable!(),
-    }
-}
-
-// The value of flows that are a schedule.
-fn flow_of(intervals: &Intervals, scale: Scale, flows: &[u64]) -> u128
-    requires unit { 1 ≤ scale.unit }
-    requires divides { All (λ i. scale.unit ∣ i.size) intervals.now.items }
-    requires denominator { scale.denominator ≤ 2 ^ 48 }
-    requires schedule { IsFractionalSchedule intervals.now.items scale.unit scale.units flows.now }
-    ensures value { result ≡ flow_value intervals.now.items scale.unit scale.denominator flows.now }
-    ensures small { result < 2 ^ 127 }
-{
-    match flow_value(intervals, scale.unit, scale.units, scale.denominator, flows) {
-        Ok(value) => value,
-        Err(_) => unreachable!(),
-    }
+    let sums = Sums::within_limit(alloc, prices, scale.units)?;
+    Ok(bound_of(intervals, scale.unit, scale.units, scale.denominator, &sums))
 }
 
 // The intervals whose flow is their whole weight.
@@ -167,7 +161,7 @@ fn schedule_of(
     flows: &[u64],
 ) -> Result<Schedule, NoMemory>
     requires capacity { (1 ≤ asked.now.capacity) × (asked.now.capacity ≤ 2 ^ 56) }
-    requires intervals { intervals.now ≡ timeline_of asked.now.objective asked.now.capacity trace.now }
+    requires intervals { intervals.now ≡ timeline_of (terms_asked asked.now) trace.now }
     requires fit { All (λ i. i.size ≤ asked.now.capacity) intervals.now.items }
     requires unit { 1 ≤ unit }
     requires divides { All (λ i. unit ∣ i.size) intervals.now.items }
@@ -175,17 +169,15 @@ fn schedule_of(
     ensures rounded { IfOk result (λ s. IsRounded by_rank intervals.now.items asked.now.capacity (length trace.now) (full_flags unit intervals.now.items flows.now) s.keeps) }
     ensures maximal { IfOk result (λ s. IsMaximal intervals.now.items asked.now.capacity s.keeps) }
     ensures allowed { IfOk result (λ s. IsAllowed asked.now.capacity trace.now (contents_of trace.now s.keeps)) }
-    ensures lower { IfOk result (λ s. s.lower ≡ score asked.now.objective trace.now (contents_of trace.now s.keeps)) }
+    ensures lower { IfOk result (λ s. s.lower ≡ score (terms_asked asked.now) trace.now (contents_of trace.now s.keeps)) }
 {
     let rounded = {
         let full = full_flags(alloc, intervals, unit, flows)?;
         round(alloc, intervals, asked.capacity, &full)
     };
     let keeps = rounded?;
-    match score(trace, asked.capacity, asked.objective, keeps.as_slice()) {
-        Ok(lower) => Ok(Schedule { keeps, lower }),
-        Err(_) => unreachable!(),
-    }
+    let lower = score_of_fitting(trace, asked.terms(), keeps.as_slice());
+    Ok(Schedule { keeps, lower })
 }
 
 // The denominator that is asked for.
@@ -196,7 +188,7 @@ fn denominator_of(
     unit: u64,
 ) -> Result<Denominator, BoundsFault>
     requires choice { IsChoice asked.now.denominator }
-    requires intervals { intervals.now ≡ timeline_of asked.now.objective asked.now.capacity trace.now }
+    requires intervals { intervals.now ≡ timeline_of (terms_asked asked.now) trace.now }
     requires unit { IsUnit intervals.now.items unit }
     requires positive { 1 ≤ unit }
     ensures chosen { IfOk result (λ d. IsChosen asked.now.denominator intervals.now.items unit d.value) }
@@ -237,7 +229,7 @@ fn parts_of(
     requires capacity { (1 ≤ asked.now.capacity) × (asked.now.capacity ≤ 2 ^ 56) }
     requires mode { IsModeInRange asked.now.mode }
     requires choice { IsChoice asked.now.denominator }
-    requires intervals { intervals.now ≡ timeline_of asked.now.objective asked.now.capacity trace.now }
+    requires intervals { intervals.now ≡ timeline_of (terms_asked asked.now) trace.now }
     requires timeline { IsTimeline intervals.now }
     requires fit { All (λ i. i.size ≤ asked.now.capacity) intervals.now.items }
     ensures made { IfOk result (λ p. IsMade asked.now trace.now p.1.price p.0 (records_of p.1.prices.items p.2 intervals.now.items p.1.flows.items)) }
@@ -255,7 +247,7 @@ fn parts_of(
     };
     let relaxed = relax(alloc, asked.mode, intervals, scale)?;
     let upper = upper_of(alloc, intervals, scale, &relaxed.prices)?;
-    let flow = flow_of(intervals, scale, &relaxed.flows);
+    let flow = value_of_schedule(intervals, unit, denominator.value, &relaxed.flows);
     let schedule = schedule_of(alloc, asked, trace, intervals, unit, &relaxed.flows)?;
     let requests = trace.len();
     let header = Header {
@@ -282,7 +274,7 @@ fn bounds_of(alloc: Global, asked: &Asked, trace: &Trace) -> Result<Bounds, Boun
     ensures each { IfOk result HasEach }
     ensures refused { IfErr result (FailsBounds asked.now trace.now) }
 {
-    let intervals = make(alloc, trace, asked.capacity, asked.objective)?;
+    let intervals = make(alloc, trace, asked.capacity, asked.objective, 0)?;
     let (header, relaxed, keeps) = parts_of(alloc, asked, trace, &intervals)?;
     Ok(Bounds {
         header,

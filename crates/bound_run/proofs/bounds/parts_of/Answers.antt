@@ -24,7 +24,7 @@ pub returns-clause-made : goal.returns-clause-made
 returns-clause-made c =
     rw c.is_exact.ensures
     (made_of c.args.asked.now c.args.trace.now c.args.intervals.now c.len-requests.result c.unit_of-unit.result (c.args.asked.now.capacity / c.unit_of-unit.result) c.in_ok-denominator.denominator.value c.in_ok-denominator.denominator.exact
-    c.in_ok-upper.upper c.flow_of-flow.result c.in_ok-schedule.schedule.lower c.in_ok-relaxed.relaxed.price c.in_ok-relaxed.relaxed.prices.items c.in_ok-relaxed.relaxed.flows.items c.in_ok-schedule.schedule.keeps
+    c.in_ok-upper.upper c.value_of_schedule-flow.result c.in_ok-schedule.schedule.lower c.in_ok-relaxed.relaxed.price c.in_ok-relaxed.relaxed.prices.items c.in_ok-relaxed.relaxed.flows.items c.in_ok-schedule.schedule.keeps
     c.requires.intervals c.len-requests.ensures.requests refl (record {
       capacity = c.requires.capacity;
       mode = c.requires.mode;
@@ -45,8 +45,8 @@ returns-clause-made c =
       schedule = c.in_ok-relaxed.ensures.schedule;
       bound = rw c.deref.ensures.value at c.in_ok-upper.ensures.bound;
       small = c.in_ok-upper.ensures.small;
-      value = rw c.deref-2.ensures.value at c.flow_of-flow.ensures.value;
-      small_value = c.flow_of-flow.ensures.small;
+      value = rw c.deref-2.ensures.value at c.value_of_schedule-flow.ensures.value;
+      small_value = omega (arith, c.value_of_schedule-flow.ensures.small);
       rounded = rw c.deref-3.ensures.value at c.in_ok-schedule.ensures.rounded;
       maximal = c.in_ok-schedule.ensures.maximal;
       allowed = c.in_ok-schedule.ensures.allowed;
@@ -123,17 +123,17 @@ returns-in_err-upper-clause-refused c =
     let p = err_from_is_err_and c.from_residual-in_err-upper.result c.from_residual-in_err-upper.ensures.1 in
     rw (p.1, p.2) tt
 
-pub flow_of-flow-requires-clause-unit : goal.flow_of-flow-requires-clause-unit
-flow_of-flow-requires-clause-unit c = c.unit_of-unit.ensures.positive
+pub value_of_schedule-flow-requires-clause-unit : goal.value_of_schedule-flow-requires-clause-unit
+value_of_schedule-flow-requires-clause-unit c = c.unit_of-unit.ensures.positive
 
-pub flow_of-flow-requires-clause-divides : goal.flow_of-flow-requires-clause-divides
-flow_of-flow-requires-clause-divides c = c.unit_of-unit.ensures.unit.divides
+pub value_of_schedule-flow-requires-clause-divides : goal.value_of_schedule-flow-requires-clause-divides
+value_of_schedule-flow-requires-clause-divides c = c.unit_of-unit.ensures.unit.divides
 
-pub flow_of-flow-requires-clause-denominator : goal.flow_of-flow-requires-clause-denominator
-flow_of-flow-requires-clause-denominator c = c.in_ok-denominator.ensures.range.1
+pub value_of_schedule-flow-requires-clause-denominator : goal.value_of_schedule-flow-requires-clause-denominator
+value_of_schedule-flow-requires-clause-denominator c = c.in_ok-denominator.ensures.range.1
 
-pub flow_of-flow-requires-clause-schedule : goal.flow_of-flow-requires-clause-schedule
-flow_of-flow-requires-clause-schedule c = rw c.deref-2.ensures.value c.in_ok-relaxed.ensures.schedule
+pub value_of_schedule-flow-requires-clause-schedule : goal.value_of_schedule-flow-requires-clause-schedule
+value_of_schedule-flow-requires-clause-schedule c = (c.args.asked.now.capacity / c.unit_of-unit.result, rw c.deref-2.ensures.value c.in_ok-relaxed.ensures.schedule)
 
 pub schedule_of-requires-clause-capacity : goal.schedule_of-requires-clause-capacity
 schedule_of-requires-clause-capacity c = c.requires.capacity

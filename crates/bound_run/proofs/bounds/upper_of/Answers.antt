@@ -1,4 +1,4 @@
 use Rattle.bound_run.proofs.bounds.upper_of.Goals as goal
 
-pub returns-in-Ok-clause-bound : goal.returns-in-Ok-clause-bound
-returns-in-Ok-clause-bound c = rw c.in-Ok.ensures.made at c.bound_of.ensures.value
+pub returns-clause-bound : goal.returns-clause-bound
+returns-clause-bound c = rw c.in_ok-sums.ensures.made at c.bound_of.ensures.value
