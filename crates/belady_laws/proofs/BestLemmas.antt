@@ -4,7 +4,7 @@ use Rattle.cache_model.specs.declared.objects.Object.{Object}
 use Rattle.cache_model.specs.declared.objects.Objective.TheVariants.{Object as Hits, Bytes}
 use Rattle.cache_model.specs.Claim.{score, terms_from}
 use Rattle.policy_model.specs.declared.names.PolicyName.TheVariants.{Belady}
-use Rattle.policy_model.specs.Runs.{AreScores}
+use Rattle.policy_model.specs.Runs.{AreScores, policy_run}
 use Rattle.policy_laws.specs.Laws.{HaveOneSize}
 use Rattle.policy_laws.proofs.BeladyLemmas.{belady_is_best}
 use Rattle.replay_core.specs.declared.counts.Replay.{Replay}
@@ -13,7 +13,7 @@ use Rattle.replay_core.specs.Laws.{IsRunOf}
 use Rattle.belady_laws.specs.Best.{IsBest}
 
 module _ (capacity objects : ℕ) (trace : List Object) (one_size : HaveOneSize capacity trace) where
-  best : (hits bytes : ℕ) → AreScores capacity 0 trace hits bytes → IsRunOf (Some (state_of Belady (nothing_kept objects capacity))) trace 0 hits bytes → IsBest capacity trace hits bytes
+  pub best : (hits bytes : ℕ) → AreScores capacity 0 trace hits bytes → IsRunOf (Some (state_of Belady (nothing_kept objects capacity))) trace 0 hits bytes → IsBest capacity trace hits bytes
   best hits bytes played run = record {
     contents = played.contents;
     played = record { allowed = played.allowed; hits_are = played.hits_are; bytes_are = played.bytes_are };
@@ -30,3 +30,10 @@ module _ (capacity objects : ℕ) (trace : List Object) (one_size : HaveOneSize 
       best a.hits a.bytes (subst (λ (p : Kept). AreScores p.capacity 0 trace a.hits a.bytes) is played)
       (subst (λ (p : Kept). IsRunOf (Some (state_of Belady p)) trace 0 a.hits a.bytes) is run)
   best_result (Err e) start is played run = tt
+
+-- the run that a replay answers
+pub run_result : {E : Type 0} (capacity objects : ℕ) (trace : List Object) (r : Result Replay E) (start : Kept) → start ≡ nothing_kept objects capacity
+    → IfOk r (λ a. IsRunOf (Some (state_of Belady start)) trace 0 a.hits a.bytes)
+    → IfOk r (λ a. (a.hits ≡ (policy_run Belady trace capacity 0).hits) × (a.bytes ≡ (policy_run Belady trace capacity 0).bytes))
+run_result capacity objects trace (Ok a) start is run = subst (λ (p : Kept). IsRunOf (Some (state_of Belady p)) trace 0 a.hits a.bytes) is run
+run_result capacity objects trace (Err e) start is run = tt

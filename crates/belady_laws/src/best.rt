@@ -1,11 +1,13 @@
 //! The replay that no contents passes.
-ghost use Rattle.std.specs.Prelude.{◌≤◌, ◌^◌, IfErr, IfOk, OnOk};
+ghost use Rattle.std.specs.Prelude.{◌≡◌, ◌≤◌, ◌^◌, IfErr, IfOk, OnOk};
+ghost use Rattle.policy_model.specs.Runs.{policy_run};
 ghost use Rattle.policy_laws.specs.Laws.{HaveOneSize};
 ghost use Rattle.belady_laws.specs.Best.{IsBest, IsCause};
 
 use crate::clash::{SizeClash, size_clash};
 use bound_base::NoMemory;
 use cache_rules::Trace;
+use policy_model::PolicyName;
 use replay_core::{Replay, replay};
 use replay_rank::Belady;
 use std::alloc::Global;
@@ -34,7 +36,8 @@ impl From<NoMemory> for BestFault {
 fn replay_belady(alloc: Global, trace: &Trace, capacity: u64) -> Result<Replay, NoMemory>
     requires range { (1 ≤ capacity) × (capacity ≤ 2 ^ 56) }
     requires one_size { HaveOneSize capacity trace.now }
-    ensures { IfOk result (λ r. IsBest capacity trace.now r.hits r.bytes) }
+    ensures best { IfOk result (λ r. IsBest capacity trace.now r.hits r.bytes) }
+    ensures run { IfOk result (λ r. (r.hits ≡ (policy_run PolicyName.Belady trace.now capacity 0).hits) × (r.bytes ≡ (policy_run PolicyName.Belady trace.now capacity 0).bytes)) }
 {
     let mut policy = Belady::new(alloc, capacity, trace.objects())?;
     replay(alloc, trace, 0, &mut policy)
@@ -45,6 +48,7 @@ fn replay_belady(alloc: Global, trace: &Trace, capacity: u64) -> Result<Replay, 
 pub fn best_replay(alloc: Global, trace: &Trace, capacity: u64) -> Result<Replay, BestFault>
     requires range { (1 ≤ capacity) × (capacity ≤ 2 ^ 56) }
     ensures best { IfOk result (λ r. IsBest capacity trace.now r.hits r.bytes) }
+    ensures run { IfOk result (λ r. (r.hits ≡ (policy_run PolicyName.Belady trace.now capacity 0).hits) × (r.bytes ≡ (policy_run PolicyName.Belady trace.now capacity 0).bytes)) }
     ensures one_size { OnOk result (HaveOneSize capacity trace.now) }
     ensures cause { IfErr result (IsCause capacity trace.now) }
 {

@@ -1,15 +1,18 @@
-//! Texts for people: the report of bounds, what a check says of a valid certificate, and the line that tells why a run
+//! Texts for people: the report of bounds, what a check says of a valid certificate, the text of a replay, and the line that tells why a run
 //! stopped.
 //!
 //! The rules are "Report of bounds", "Verdict" and "Refusal" in docs/DEFINITIONS.md.
 #![tactic(auto)]
 
 mod refusal;
+mod replays;
 mod report;
 mod text;
 
 pub use cache_model::{BoundFacts, Mode, Window};
 pub use cert_checker::Verdict;
 pub use cert_format::InvalidKind;
+pub use policy_model::PolicyName;
 pub use refusal::{LimitName, Refusal, RefusalText, WordKind, refusal_text};
+pub use replays::{ReplayFacts, push_warmup, replay_text};
 pub use report::{report_text, verdict_text};

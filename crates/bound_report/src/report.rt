@@ -26,7 +26,8 @@ fn word_of_form(exact: bool) -> &'static [u8]
     if exact { b"exact" } else { b"plain" }
 }
 
-fn push_trace_line(
+/// Appends the counts of a trace.
+pub(crate) fn push_trace_line(
     text: &mut Vec<u8>,
     requests: u32,
     objects: u32,

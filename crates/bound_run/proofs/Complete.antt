@@ -28,15 +28,16 @@ use Rattle.cert_checker.specs.Walks.{Event, at_line, closing, refusal_event, tex
 use Rattle.cert_checker.specs.Walks as walks
 use Rattle.cert_checker.proofs.Walked.{passing_is_valid_lem}
 use Rattle.bound_run.specs.declared.bounds.Asked.{Asked}
+use Rattle.bound_run.specs.declared.replays.Replaying.{Replaying}
 use Rattle.bound_run.specs.declared.words.Plan.{Plan}
 use Rattle.bound_run.specs.declared.words.WordFault.{WordFault}
 use Rattle.bound_run.specs.declared.status.Status.{Status}
 use Rattle.bound_run.specs.declared.status.Status.TheVariants.{Done, Invalid, Words, BadLine, Limit, TraceFault, CertFault, ReportFault, MadeFault, NoMemory}
 use Rattle.bound_run.specs.Made.{RefusesDenominator}
 use Rattle.bound_run.specs.Inputs.{HasDenominator, IsGoodTrace}
-use Rattle.bound_run.specs.Run.{AnswersOf, Answers, AreGoodInputs, BoundsEnd, CheckEnds, Completes, Devices, NoneFails, RunEnds, TaskEnds}
+use Rattle.bound_run.specs.Run.{AnswersOf, Answers, AreGoodInputs, BoundsEnd, CheckEnds, Completes, Devices, NoneFails, ReplayEnds, RunEnds, TaskEnds}
 use Rattle.bound_run.specs.Statuses.{ending_of}
-use Rattle.bound_run.specs.Tasks.{Task, bounds, check, task_of}
+use Rattle.bound_run.specs.Tasks.{Task, bounds, check, replay, task_of}
 
 -- ---- the walk over a trace that isn't refused
 
@@ -166,12 +167,35 @@ module _ (format : Format) where
     check_complete (Words fault) e = absurd e.0
     check_complete MadeFault e = absurd e.0
 
+-- ---- replays
+
+module _ (format : Format) (r : Replaying) (source report : Device) (good : IsGoodTrace format source.before)
+    (source_works : ¬ (HasFailed source)) (report_works : ¬ (HasFailed report)) where
+  loading_works : (before : Option (List ℕ)) (fault : FaultOfTrace) → IsGoodTrace format before → IfSome before (λ bytes. (reading format full_limits bytes).refused ≡ Some fault) → ⊥
+  loading_works None fault known_trace why = known_trace
+  loading_works (Some bytes) fault known_trace why = some_is_not_none fault _ why known_trace
+
+  replay_complete : (status : Status) → ReplayEnds format r source report (ending_of status) → (status ≡ Done) ⊎ (status ≡ NoMemory)
+  replay_complete Done e = inl refl
+  replay_complete NoMemory e = inr refl
+  replay_complete (BadLine line kind) e = absurd (loading_works source.before (trace.BadLine line kind) good e.0)
+  replay_complete (Limit Requests) e = absurd (loading_works source.before trace.TooManyRequests good e.0)
+  replay_complete (Limit TraceBytes) e = absurd (loading_works source.before trace.InputTooLong good e.0)
+  replay_complete (Limit Denominator) e = absurd e.0
+  replay_complete TraceFault e = absurd (source_works e.0)
+  replay_complete ReportFault (text, replayed, failed) = absurd (report_works failed.0)
+  replay_complete MadeFault e = absurd e.0
+  replay_complete (Invalid line kind) e = absurd e.0
+  replay_complete (Words fault) e = absurd e.0
+  replay_complete CertFault e = absurd e.0
+
 -- ---- a whole run
 
 -- a task whose inputs are good ends in its answer
 module _ (d : Devices) (status : Status) (works : NoneFails d) where
   task_complete : (task : Task) → TaskEnds task d (ending_of status) → AreGoodInputs task d → Answers task d status
   task_complete (bounds format asked) e inputs = bounds_complete format asked d.trace d.report d.made inputs.0 inputs.1 works.trace works.report works.made status e.0
+  task_complete (replay format r) e inputs = replay_complete format r d.trace d.report inputs works.trace works.report status e.0
   task_complete (check format) e inputs = check_complete format d.trace d.cert d.report inputs.0 inputs.1 works.trace works.cert works.report status e.0
 
 pub complete : (read : Result Plan WordFault) (d : Devices) (status : Status) → RunEnds read d status → Completes read d status

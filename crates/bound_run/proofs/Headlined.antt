@@ -14,7 +14,7 @@ use Rattle.bound_run.specs.declared.status.Status.TheVariants.{Done, Words}
 use Rattle.bound_run.specs.Headline.{AreTrueBounds, Headline, Shows}
 use Rattle.bound_run.specs.Run.{Devices, RunEnds, TaskEnds}
 use Rattle.bound_run.specs.Statuses.{done, ending_of}
-use Rattle.bound_run.specs.Tasks.{Task, bounds, check, task_of}
+use Rattle.bound_run.specs.Tasks.{Task, bounds, check, replay, task_of}
 
 -- a valid certificate has true bounds
 true_bounds : (trace : List Object) (h : Header) (records : List Record) → IsValid trace h records → BoundsEveryPolicy trace h → AreTrueBounds trace h records
@@ -61,6 +61,12 @@ shown (check format) d ((verdict, dropped, accepted, printed), trace, cert, unto
     certified = accepted.text;
     bounds = true_bounds accepted.requests verdict.header accepted.records accepted.valid accepted.bounds;
   },
+)
+shown (replay format r) d ((text, replayed, printed), source, cert, made) = (
+  replayed.requests,
+  replayed.dropped,
+  replayed.loaded,
+  record { text = text; printed = printed; replay = replayed.report },
 )
 
 pub headlined : (read : Result Plan WordFault) (d : Devices) (status : Status) → RunEnds read d status → status ≡ Done → Headline read d

@@ -8,3 +8,5 @@ pub mod MadeOf
 pub mod GivenByName
 pub mod WordRows
 pub mod Headlined
+pub mod Bounded
+pub mod Replayed

@@ -14,6 +14,7 @@ use Rattle.trace_any.specs.Readings.{full_limits}
 use Rattle.trace_any.specs.Readers.{IsNotLoaded, IsWhole, fresh, to_come, known}
 use Rattle.trace_any.proofs.Coming.{fresh_to_come}
 use Rattle.bound_run.specs.declared.bounds.Asked.{Asked}
+use Rattle.bound_run.specs.declared.replays.Replaying.{Replaying}
 use Rattle.bound_run.specs.declared.bounds.BoundsFault.{BoundsFault}
 use Rattle.bound_run.specs.declared.bounds.BoundsFault.TheVariants as bounds
 use Rattle.bound_run.specs.BoundsFaults.{FailsBounds}
@@ -24,8 +25,8 @@ use Rattle.bound_report.specs.declared.refusal.Refusal.{Refusal}
 use Rattle.bound_report.specs.declared.refusal.Refusal.TheVariants as refusal
 use Rattle.bound_report.specs.Refusals.{refusal_line}
 use Rattle.bound_run.specs.Statuses.{Ending, done, refused, unreported, ending_of, refusal_of, refusal_of_bounds, status_of}
-use Rattle.bound_run.specs.Inputs.{IsLoaded, IsReady, IsRefused}
-use Rattle.bound_run.specs.Run.{BoundsEnd, CheckEnds}
+use Rattle.bound_run.specs.Inputs.{IsLoaded, IsReady, IsRefused, IsReplayed}
+use Rattle.bound_run.specs.Run.{BoundsEnd, CheckEnds, ReplayEnds}
 use Rattle.bound_run.specs.Parts.{IsVerdictText, RefusesBounds, RefusesLoading, WritesOut, WritesReport}
 
 -- where nothing is left to stand in, the source has nothing left
@@ -111,3 +112,12 @@ module _ (format : Format) (source cert report : Device) where
   check_written text done yes_text all = (yes_text.verdict, yes_text.dropped, yes_text.accepted, rw yes_text.text_is at all)
   check_written text unreported yes_text less = (yes_text.verdict, yes_text.dropped, yes_text.accepted, rw yes_text.text_is at less)
   check_written text (refused why) yes_text written = absurd written
+
+-- ---- replays
+
+module _ (format : Format) (r : Replaying) (source report : Device) where
+  -- a replay that was reported, or failed to be
+  pub replay_written : (text : List ℕ) (ending : Ending) → IsReplayed format r source text → WritesReport report text ending → ReplayEnds format r source report ending
+  replay_written text done replayed all = (text, replayed, all)
+  replay_written text unreported replayed less = (text, replayed, less)
+  replay_written text (refused why) replayed written = absurd written

@@ -12,12 +12,14 @@ use Rattle.cache_model.specs.Units.{HasWholeCosts}
 use Rattle.cert_checker.specs.declared.verdict.Verdict.{Verdict}
 use Rattle.bound_report.specs.Verdicts.{verdict_text}
 use Rattle.bound_run.specs.declared.bounds.Asked.{Asked}
+use Rattle.bound_run.specs.declared.replays.Replaying.{Replaying}
 use Rattle.bound_run.specs.declared.words.Plan.{Plan}
 use Rattle.bound_run.specs.declared.words.WordFault.{WordFault}
 use Rattle.bound_run.specs.Inputs.{IsLoaded}
 use Rattle.bound_run.specs.Made.{facts_of, is_unwindowed}
+use Rattle.bound_run.specs.Replays.{IsReplayText}
 use Rattle.bound_run.specs.Run.{Devices}
-use Rattle.bound_run.specs.Tasks.{Task, bounds, check, task_of}
+use Rattle.bound_run.specs.Tasks.{Task, bounds, check, replay, task_of}
 
 -- the bounds of a certificate are true of the trace: no allowed contents score more than the upper one, the keeps are allowed contents that scores the lower one, and in the form exact prices and flows have the upper one as their value
 pub record AreTrueBounds (trace : List Object) (h : Header) (records : List Record) : Type 0 where
@@ -48,10 +50,17 @@ pub record ShowsCheck (trace : List Object) (dropped : ℕ) (cert report : Devic
   pub certified : IfSome cert.before (λ text. text ≡ cert_text verdict.header records)
   pub bounds : AreTrueBounds trace verdict.header records
 
+-- a replay printed the hits of its rule's run, which no valid certificate is below
+pub record ShowsReplay (r : Replaying) (trace : List Object) (dropped : ℕ) (report : Device) : Type 0 where
+  pub text : List ℕ
+  pub printed : Appends report.before report.after text
+  pub replay : IsReplayText r trace dropped text
+
 -- all that the trace source had left was read, and the numbers that a task printed are true of it
 abbrev pub Shows : Task → Devices → Type 0
 Shows (bounds format asked) d = (trace : List Object) × (dropped : ℕ) × IsLoaded format d.trace trace dropped × ShowsBounds asked trace dropped d.report d.made
 Shows (check format) d = (trace : List Object) × (dropped : ℕ) × IsLoaded format d.trace trace dropped × ShowsCheck trace dropped d.cert d.report
+Shows (replay format r) d = (trace : List Object) × (dropped : ℕ) × IsLoaded format d.trace trace dropped × ShowsReplay r trace dropped d.report
 
 -- Whatever trace is read and whatever the capacity, no allowed sequence of cache contents scores more than the printed
 -- upper bound, the certified schedule is allowed and scores exactly the lower bound, exact-form prices and flows have

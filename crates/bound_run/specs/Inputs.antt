@@ -16,7 +16,9 @@ use Rattle.trace_any.specs.Readers.{IsWhole}
 use Rattle.cert_checker.specs.declared.verdict.Verdict.{Verdict}
 use Rattle.cert_checker.specs.Walks.{Event, walk}
 use Rattle.bound_run.specs.declared.bounds.Asked.{Asked}
+use Rattle.bound_run.specs.declared.replays.Replaying.{Replaying}
 use Rattle.bound_run.specs.Made.{AreTexts, RefusesDenominator}
+use Rattle.bound_run.specs.Replays.{IsReplayText}
 
 -- all that the source had left was read, and is a trace of these requests and so many dropped lines, where the source tells what it has left
 pub record IsLoaded (format : Format) (source : Device) (requests : List Object) (dropped : ℕ) : Type 0 where
@@ -33,6 +35,13 @@ pub record IsReady (format : Format) (asked : Asked) (source : Device) (cert rep
   pub dropped : ℕ
   pub loaded : IsLoaded format source requests dropped
   pub texts : AreTexts asked requests dropped cert report
+
+-- the report of the replay of all that the source had left
+pub record IsReplayed (format : Format) (r : Replaying) (source : Device) (text : List ℕ) : Type 0 where
+  pub requests : List Object
+  pub dropped : ℕ
+  pub loaded : IsLoaded format source requests dropped
+  pub report : IsReplayText r requests dropped text
 
 -- all that the source had left was read, and the denominator that is asked for passes its limit
 pub record IsPastDenominator (format : Format) (asked : Asked) (source : Device) : Type 0 where

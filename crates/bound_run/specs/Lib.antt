@@ -9,3 +9,4 @@ pub mod Inputs
 pub mod Parts
 pub mod Run
 pub mod Headline
+pub mod Replays

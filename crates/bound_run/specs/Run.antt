@@ -10,14 +10,15 @@ use Rattle.bound_report.specs.Refusals.{refusal_line}
 use Rattle.bound_report.specs.Verdicts.{verdict_text}
 use Rattle.cert_checker.specs.declared.verdict.Verdict.{Verdict}
 use Rattle.bound_run.specs.declared.bounds.Asked.{Asked}
+use Rattle.bound_run.specs.declared.replays.Replaying.{Replaying}
 use Rattle.bound_run.specs.declared.words.Plan.{Plan}
 use Rattle.bound_run.specs.declared.words.WordFault.{WordFault}
 use Rattle.bound_run.specs.declared.status.Status.{Status}
 use Rattle.bound_run.specs.declared.status.Status.TheVariants.{Done, Invalid, Words, NoMemory}
-use Rattle.bound_run.specs.Inputs.{HasDenominator, IsAccepted, IsCertified, IsGoodTrace, IsReady}
-use Rattle.bound_run.specs.Parts.{RefusesBounds, RefusesCheck}
+use Rattle.bound_run.specs.Inputs.{HasDenominator, IsAccepted, IsCertified, IsGoodTrace, IsReady, IsReplayed}
+use Rattle.bound_run.specs.Parts.{RefusesBounds, RefusesCheck, RefusesLoading}
 use Rattle.bound_run.specs.Statuses.{Ending, done, refused, unreported, ending_of}
-use Rattle.bound_run.specs.Tasks.{Task, bounds, check, task_of}
+use Rattle.bound_run.specs.Tasks.{Task, bounds, check, replay, task_of}
 
 -- what is seen of the four devices of a run
 pub record Devices : Type 0 where
@@ -43,11 +44,18 @@ CheckEnds format source cert report done = (verdict : Verdict) × (dropped : ℕ
 CheckEnds format source cert report unreported = (verdict : Verdict) × (dropped : ℕ) × IsAccepted format source cert verdict dropped × GetsLess report (verdict_text verdict dropped)
 CheckEnds format source cert report (refused r) = RefusesCheck format source cert r × Gets report (refusal_line r)
 
+-- how a replay ends, and what the report got then
+abbrev pub ReplayEnds : Format → Replaying → Device → Device → Ending → Type 0
+ReplayEnds format r source report done = (text : List ℕ) × IsReplayed format r source text × GetsAll report text
+ReplayEnds format r source report unreported = (text : List ℕ) × IsReplayed format r source text × GetsLess report text
+ReplayEnds format r source report (refused why) = RefusesLoading format source why × Gets report (refusal_line why)
+
 -- how a task ends: what it doesn't need is left alone, and what it reads loses no more than a prefix
 abbrev pub TaskEnds : Task → Devices → Ending → Type 0
 TaskEnds (bounds format asked) d ending = BoundsEnd format asked d.trace d.report d.made ending × LosesPrefix d.trace.before d.trace.after × IsUntouched d.cert
 TaskEnds (check format) d ending =
     CheckEnds format d.trace d.cert d.report ending × LosesPrefix d.trace.before d.trace.after × LosesPrefix d.cert.before d.cert.after × IsUntouched d.made
+TaskEnds (replay format r) d ending = ReplayEnds format r d.trace d.report ending × LosesPrefix d.trace.before d.trace.after × IsUntouched d.cert × IsUntouched d.made
 
 -- how a run ends: the task of its plan does, or its words are refused and all but the report is left alone
 abbrev pub RunEnds : Result Plan WordFault → Devices → Status → Type 0
@@ -66,6 +74,7 @@ pub record NoneFails (d : Devices) : Type 0 where
 abbrev pub AreGoodInputs : Task → Devices → Type 0
 AreGoodInputs (bounds format asked) d = IsGoodTrace format d.trace.before × HasDenominator format asked d.trace.before
 AreGoodInputs (check format) d = IsGoodTrace format d.trace.before × IsSome d.cert.before
+AreGoodInputs (replay format r) d = IsGoodTrace format d.trace.before
 
 -- what a check answers of good inputs: Done of a valid certificate, and Invalid of every other
 abbrev pub AnswersOf : Format → Option (List ℕ) → Option (List ℕ) → Status → Type 0
@@ -78,6 +87,7 @@ AnswersOf format before cert status = ⊥
 abbrev pub Answers : Task → Devices → Status → Type 0
 Answers (bounds format asked) d status = (status ≡ Done) ⊎ (status ≡ NoMemory)
 Answers (check format) d status = AnswersOf format d.trace.before d.cert.before status
+Answers (replay format r) d status = (status ≡ Done) ⊎ (status ≡ NoMemory)
 
 -- good words, good inputs and no fault lead to the answer
 abbrev pub Completes : Result Plan WordFault → Devices → Status → Type 0

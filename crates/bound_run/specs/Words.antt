@@ -17,7 +17,9 @@ use Rattle.relaxation.specs.declared.denominators.DenominatorChoice.TheVariants.
 use Rattle.trace_any.specs.declared.format.Format.{Format}
 use Rattle.trace_any.specs.declared.format.Format.TheVariants.{Webcache, Arc, Msr}
 use Rattle.bound_run.specs.declared.words.Plan.{Plan}
-use Rattle.bound_run.specs.declared.words.Plan.TheVariants.{Bounds, Check}
+use Rattle.bound_run.specs.declared.words.Plan.TheVariants.{Bounds, Check, Replay}
+use Rattle.policy_model.specs.declared.names.PolicyName.{PolicyName}
+use Rattle.policy_model.specs.declared.names.PolicyName.TheVariants.{Lru, Fifo, Clock, Lfu, Belady}
 use Rattle.bound_run.specs.declared.operands.Command.{Command}
 use Rattle.bound_run.specs.declared.operands.PathPlaces.{PathPlaces}
 use Rattle.bound_run.specs.declared.operands.Command.TheVariants as command
@@ -40,7 +42,8 @@ abbrev pub command_named : List ℕ → Option Command
 command_named word =
     if bytes_eq word (codes "bounds") then Some command.Bounds
     else (if bytes_eq word (codes "check") then Some command.Check
-    else None)
+    else (if bytes_eq word (codes "replay") then Some command.Replay
+    else None))
 
 -- a command that is none is unknown
 abbrev pub known_command : Option Command → Result Command WordFault
@@ -61,6 +64,7 @@ path place (Some word) = if length word == 0 then Err (fault place BadValue) els
 abbrev pub places_of : Command → PathPlaces
 places_of command.Bounds = record { count = 2; trace = Some 1; cert = Some 2; made = Some 2 }
 places_of command.Check = record { count = 2; trace = Some 1; cert = Some 2; made = None }
+places_of command.Replay = record { count = 1; trace = Some 1; cert = None; made = None }
 
 -- so many words from word `at` on are paths
 abbrev pub paths : ℕ → ℕ → List (List ℕ) → Result (Unit {0}) WordFault
@@ -138,6 +142,25 @@ denominator_of value =
     else (if bytes_eq value (codes "exact") then Some Exact
     else option_map Given (number_to (2 ^ 48) value))
 
+-- the policy that a value names
+abbrev pub policy_of : List ℕ → Option PolicyName
+policy_of value =
+    if bytes_eq value (codes "lru") then Some Lru
+    else (if bytes_eq value (codes "fifo") then Some Fifo
+    else (if bytes_eq value (codes "clock") then Some Clock
+    else (if bytes_eq value (codes "lfu") then Some Lfu
+    else (if bytes_eq value (codes "belady") then Some Belady
+    else None))))
+
+-- a number that is at most 2^25
+abbrev pub few : Result ℕ NumFault → Option ℕ
+few (Err e) = None
+few (Ok n) = if nat_le n (2 ^ 25) then Some n else None
+
+-- a warm-up has 0 to 2^25 requests
+abbrev pub warmup_of : List ℕ → Option ℕ
+warmup_of value = few (number_of (2 ^ 64) value)
+
 -- the denominator of a mode where none is given
 abbrev pub usual_denominator : Mode → DenominatorChoice
 usual_denominator (Flow window) = Auto
@@ -157,10 +180,15 @@ names_bounds name =
     || bytes_eq name (codes "window")
     || bytes_eq name (codes "denominator")
 
+-- whether an operand of this name says which replay is asked for
+abbrev pub names_replay : List ℕ → Bool
+names_replay name = bytes_eq name (codes "capacity") || bytes_eq name (codes "policy") || bytes_eq name (codes "warmup")
+
 -- whether the command has an operand of this name
 abbrev pub has_operand : Command → List ℕ → Bool
 has_operand command.Bounds name = names_trace name || names_bounds name
 has_operand command.Check name = names_trace name
+has_operand command.Replay name = names_trace name || names_replay name
 
 -- whether the operand of this name may have this value
 abbrev pub is_value : List ℕ → List ℕ → Bool
@@ -171,7 +199,9 @@ is_value name value =
     else (if bytes_eq name (codes "objective") then is_some (objective_of value)
     else (if bytes_eq name (codes "mode") then is_some (mode_of value Whole)
     else (if bytes_eq name (codes "window") then is_some (window_of value)
-    else bytes_eq name (codes "denominator") && is_some (denominator_of value))))))
+    else (if bytes_eq name (codes "denominator") then is_some (denominator_of value)
+    else (if bytes_eq name (codes "policy") then is_some (policy_of value)
+    else bytes_eq name (codes "warmup") && is_some (warmup_of value))))))))
 
 -- the value that the operands give to a name
 abbrev pub value_given : List ℕ → List (List ℕ) → Option (List ℕ)
@@ -260,12 +290,28 @@ mode_given operands = unwrap_or (option_and_then (λ value. mode_of value (windo
 abbrev pub denominator_given : Mode → List (List ℕ) → DenominatorChoice
 denominator_given mode operands = unwrap_or (option_and_then denominator_of (value_given (codes "denominator") operands)) (usual_denominator mode)
 
--- the plan that accepted operands give, where the words end before this place
+-- the policy that the operands give
+abbrev pub policy_given : List (List ℕ) → Option PolicyName
+policy_given operands = option_and_then policy_of (value_given (codes "policy") operands)
+
+-- the warm-up that the operands give, and 0 where they give none
+abbrev pub warmup_given : List (List ℕ) → ℕ
+warmup_given operands = unwrap_or (option_and_then warmup_of (value_given (codes "warmup") operands)) 0
+
+-- the plan of bounds that accepted operands give, where the words end before this place
 abbrev pub bounds_plan : ℕ → List (List ℕ) → Result Plan WordFault
 bounds_plan end operands = do
   format ← required end (format_given operands)
   capacity ← required end (capacity_given operands)
   Ok (Bounds format capacity (objective_given operands) (mode_given operands) (denominator_given (mode_given operands) operands))
+
+-- the plan of a replay that accepted operands give, where the words end before this place
+abbrev pub replay_plan : ℕ → List (List ℕ) → Result Plan WordFault
+replay_plan end operands = do
+  format ← required end (format_given operands)
+  capacity ← required end (capacity_given operands)
+  policy ← required end (policy_given operands)
+  Ok (Replay format capacity policy (warmup_given operands))
 
 -- whether a path is that of standard input
 abbrev pub is_dash : Option (List ℕ) → Bool
@@ -288,6 +334,7 @@ check_plan places words operands = do
 abbrev pub plan_of_command : Command → List (List ℕ) → List (List ℕ) → Result Plan WordFault
 plan_of_command command.Bounds words operands = bounds_plan (length words + 1) operands
 plan_of_command command.Check words operands = check_plan (places_of command.Check) words operands
+plan_of_command command.Replay words operands = replay_plan (length words + 1) operands
 
 -- what operands ask for that are the words of a command from this place on, or the first fault in them
 abbrev pub plan_of_operands : Command → ℕ → List (List ℕ) → List (List ℕ) → Result Plan WordFault

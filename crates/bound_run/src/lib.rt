@@ -7,10 +7,12 @@ mod bounds;
 mod checking;
 mod operands;
 mod relaxed;
+mod replays;
 mod status;
 mod top;
 mod words;
 
+pub use replays::bounded_replay;
 pub use status::Status;
 pub use top::run;
 pub use words::{Paths, Plan, WordFault, paths_of, plan_of};

@@ -5,12 +5,13 @@ ghost use Rattle.std.specs.Str.{bytes_eq};
 ghost use Rattle.relaxation.specs.Denominators.{IsChoice};
 ghost use Rattle.trace_any.specs.Readings.{IsFormat};
 ghost use Rattle.bound_run.specs.Modes.{IsModeInRange};
-ghost use Rattle.bound_run.specs.Words.{operands_at, places_of, block_given, block_of, capacity_given, capacity_of, denominator_given, denominator_of, format_given, format_of, has_equals, has_operand, is_value, mode_given, mode_of, name_of, names_bounds, names_trace, number_to, objective_given, objective_of, place_given, usual_denominator, value_given, value_of, window_given, window_of};
+ghost use Rattle.bound_run.specs.Words.{operands_at, places_of, block_given, block_of, capacity_given, capacity_of, denominator_given, denominator_of, format_given, format_of, has_equals, has_operand, is_value, mode_given, mode_of, name_of, names_bounds, names_replay, names_trace, number_to, objective_given, objective_of, place_given, policy_given, policy_of, usual_denominator, value_given, value_of, warmup_given, warmup_of, window_given, window_of};
 ghost use Rattle.cache_model.specs.declared.reports.Mode.TheVariants.{Flow};
 
 use bound_base::read_u64;
 use cache_model::{Mode, Window};
 use cache_rules::Objective;
+use policy_model::PolicyName;
 use relaxation::DenominatorChoice;
 use trace_any::Format;
 
@@ -21,6 +22,8 @@ pub enum Command {
     Bounds,
     /// Whether a certificate is valid for a trace.
     Check,
+    /// The hits of a policy on a trace.
+    Replay,
 }
 
 /// Where the paths of a command stand among its words, of which the command is word 0, and how many there are.
@@ -37,13 +40,24 @@ impl Command {
     pub(crate) fn places(self) -> PathPlaces
         ensures { result ≡ places_of self }
     {
-        PathPlaces {
-            count: 2,
-            trace: Some(1),
-            cert: Some(2),
-            made: match self {
-                Command::Bounds => Some(2),
-                Command::Check => None,
+        match self {
+            Command::Bounds => PathPlaces {
+                count: 2,
+                trace: Some(1),
+                cert: Some(2),
+                made: Some(2),
+            },
+            Command::Check => PathPlaces {
+                count: 2,
+                trace: Some(1),
+                cert: Some(2),
+                made: None,
+            },
+            Command::Replay => PathPlaces {
+                count: 1,
+                trace: Some(1),
+                cert: None,
+                made: None,
             },
         }
     }
@@ -68,6 +82,9 @@ const USUAL_BLOCK: u64 = 4096;
 
 // The most steps of a window.
 const MOST_WINDOW: u64 = 1 << 25;
+
+// The most requests of a warm-up.
+const MOST_WARMUP: u64 = 1 << 25;
 
 // The largest denominator.
 const MOST_DENOMINATOR: u64 = 1 << 48;
@@ -206,6 +223,34 @@ fn denominator_of(value: &str) -> Option<DenominatorChoice>
     }
 }
 
+fn policy_of(value: &str) -> Option<PolicyName>
+    ensures { result ≡ policy_of value.now }
+{
+    if is(value, "lru") {
+        Some(PolicyName::Lru)
+    } else if is(value, "fifo") {
+        Some(PolicyName::Fifo)
+    } else if is(value, "clock") {
+        Some(PolicyName::Clock)
+    } else if is(value, "lfu") {
+        Some(PolicyName::Lfu)
+    } else if is(value, "belady") {
+        Some(PolicyName::Belady)
+    } else {
+        None
+    }
+}
+
+fn warmup_of(value: &str) -> Option<u32>
+    ensures value { result ≡ warmup_of value.now }
+    ensures range { IfSome result (λ n. n ≤ 2 ^ 25) }
+{
+    match read_u64(value.as_bytes()) {
+        Ok(number) if number <= MOST_WARMUP => Some(number as u32),
+        _ => None,
+    }
+}
+
 fn names_trace(name: &str) -> bool
     ensures { result ≡ names_trace name.now }
 {
@@ -222,6 +267,12 @@ fn names_bounds(name: &str) -> bool
         || is(name, "denominator")
 }
 
+fn names_replay(name: &str) -> bool
+    ensures { result ≡ names_replay name.now }
+{
+    is(name, "capacity") || is(name, "policy") || is(name, "warmup")
+}
+
 /// Whether a command has an operand of this name.
 pub(crate) fn has_operand(command: Command, name: &str) -> bool
     ensures { result ≡ has_operand command name.now }
@@ -229,6 +280,7 @@ pub(crate) fn has_operand(command: Command, name: &str) -> bool
     match command {
         Command::Bounds => names_trace(name) || names_bounds(name),
         Command::Check => names_trace(name),
+        Command::Replay => names_trace(name) || names_replay(name),
     }
 }
 
@@ -247,8 +299,12 @@ pub(crate) fn is_value(name: &str, value: &str) -> bool
         mode_of(value, Window::All).is_some()
     } else if is(name, "window") {
         window_of(value).is_some()
+    } else if is(name, "denominator") {
+        denominator_of(value).is_some()
+    } else if is(name, "policy") {
+        policy_of(value).is_some()
     } else {
-        is(name, "denominator") && denominator_of(value).is_some()
+        is(name, "warmup") && warmup_of(value).is_some()
     }
 }
 
@@ -346,5 +402,21 @@ pub(crate) fn denominator_given(mode: Mode, operands: &[String]) -> DenominatorC
     match value_given("denominator", operands) {
         Some(value) => denominator_of(value).unwrap_or(usual_denominator(mode)),
         None => usual_denominator(mode),
+    }
+}
+
+pub(crate) fn policy_given(operands: &[String]) -> Option<PolicyName>
+    ensures { result ≡ policy_given (map string_bytes operands.now) }
+{
+    policy_of(value_given("policy", operands)?)
+}
+
+pub(crate) fn warmup_given(operands: &[String]) -> u32
+    ensures value { result ≡ warmup_given (map string_bytes operands.now) }
+    ensures range { result ≤ 2 ^ 25 }
+{
+    match value_given("warmup", operands) {
+        Some(value) => warmup_of(value).unwrap_or(0),
+        None => 0,
     }
 }

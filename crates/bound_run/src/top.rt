@@ -6,9 +6,9 @@ ghost use Rattle.trace_any.specs.Readings.{IsFormat};
 ghost use Rattle.relaxation.specs.Denominators.{IsChoice};
 ghost use Rattle.bound_report.specs.Refusals.{refusal_line};
 ghost use Rattle.bound_run.specs.Headline.{Headline};
-ghost use Rattle.bound_run.specs.Inputs.{IsLoaded, IsReady};
+ghost use Rattle.bound_run.specs.Inputs.{IsLoaded, IsReady, IsReplayed};
 ghost use Rattle.bound_run.specs.Parts.{RefusesBounds, RefusesLoading, WritesOut, WritesReport};
-ghost use Rattle.bound_run.specs.Run.{BoundsEnd, CheckEnds, Completes, RunEnds, devices};
+ghost use Rattle.bound_run.specs.Run.{BoundsEnd, CheckEnds, Completes, ReplayEnds, RunEnds, devices};
 ghost use Rattle.bound_run.specs.Statuses.{ending_of, status_of};
 ghost use Rattle.bound_run.specs.Modes.{IsModeInRange};
 ghost use Rattle.bound_run.specs.Tasks.{IsPlanInRange};
@@ -16,6 +16,7 @@ ghost use Rattle.bound_run.specs.Words.{plan};
 
 use crate::bounds::{Asked, Texts, texts_of};
 use crate::checking::verdict_of;
+use crate::replays::{Replaying, replay_report};
 use crate::status::{Status, refusal_of};
 use crate::words::{Plan, WordFault, plan_of};
 use bound_io::{Sink, Source, write_all};
@@ -145,6 +146,47 @@ fn run_check<T: Source, Q: Source, R: Sink>(
     }
 }
 
+// The report of the replay of all that the source has left.
+fn replay_all<T: Source>(
+    alloc: Global,
+    format: Format,
+    r: Replaying,
+    trace: &mut T,
+) -> Result<Vec<u8>, Refusal>
+    requires format { IsFormat format }
+    requires capacity { (1 ≤ r.capacity) × (r.capacity ≤ 2 ^ 56) }
+    ensures replayed { IfOk result (λ text. IsReplayed format r (seen T.left T.faults trace.old trace.new) text.items) }
+    ensures refused { IfErr result (RefusesLoading format (seen T.left T.faults trace.old trace.new)) }
+    ensures source { LosesPrefix (T.left trace.old) (T.left trace.new) }
+{
+    let text = {
+        let (requests, dropped) = load_all(alloc, format, trace)?;
+        replay_report(alloc, r, &requests, dropped)
+    };
+    Ok(text?)
+}
+
+// Reads the trace, and writes the report of its replay.
+fn run_replay<T: Source, R: Sink>(
+    alloc: Global,
+    format: Format,
+    r: Replaying,
+    trace: &mut T,
+    report: &mut R,
+) -> Status
+    requires format { IsFormat format }
+    requires capacity { (1 ≤ r.capacity) × (r.capacity ≤ 2 ^ 56) }
+    ensures ends { ReplayEnds format r
+        (seen T.left T.faults trace.old trace.new)
+        (seen R.written R.faults report.old report.new) (ending_of result) }
+    ensures source { LosesPrefix (T.left trace.old) (T.left trace.new) }
+{
+    match replay_all(alloc, format, r, trace) {
+        Ok(replayed) => write_report(report, &replayed),
+        Err(refusal) => refuse(report, refusal),
+    }
+}
+
 // Does what the words ask for, or tells why they are refused.
 fn run_plan<T: Source, Q: Source, R: Sink, K: Sink>(
     alloc: Global,
@@ -180,11 +222,25 @@ fn run_plan<T: Source, Q: Source, R: Sink, K: Sink>(
             run_bounds(alloc, format, &asked, trace, report, made)
         }
         Plan::Check { format } => run_check(alloc, format, trace, cert, report),
+        Plan::Replay {
+            format,
+            capacity,
+            policy,
+            warmup,
+        } => {
+            let r = Replaying {
+                policy,
+                capacity,
+                warmup,
+            };
+            run_replay(alloc, format, r, trace, report)
+        }
     }
 }
 
 /// Does all that the program does. It reads the words, and for bounds the trace, and writes the certificate and then
-/// the report; for a check it reads the trace and the certificate side by side, and writes the report.
+/// the report; for a check it reads the trace and the certificate side by side, and for a replay the trace, and writes the
+/// report.
 /// The words are those after the program's name. All memory is taken before the first byte is written.
 pub fn run<T: Source, Q: Source, R: Sink, K: Sink>(
     alloc: Global,

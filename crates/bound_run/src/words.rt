@@ -3,15 +3,17 @@ ghost use Rattle.std.specs.Prelude.{◌≡◌, ◌≤◌, [], map, slice_get, st
 ghost use Rattle.std.specs.Option.{option_copied};
 ghost use Rattle.bound_run.specs.Tasks.{IsPlanInRange};
 ghost use Rattle.std.specs.Option.{ForSome};
-ghost use Rattle.bound_run.specs.Words.{block_fault, bounds_plan, cert_path, check_plan, command_named, command_of, earlier, inputs_fault, is_dash, made_path, operand_fault, operands_fault, operands_of, passed, path, path_at, paths, places_in, places_of, plan, plan_of_command, plan_of_operands, required, trace_path, unknown_operand, window_fault, word_or_dash};
+ghost use Rattle.bound_run.specs.Words.{block_fault, bounds_plan, cert_path, check_plan, command_named, command_of, earlier, inputs_fault, is_dash, made_path, operand_fault, operands_fault, operands_of, passed, path, path_at, paths, replay_plan, places_in, places_of, plan, plan_of_command, plan_of_operands, required, trace_path, unknown_operand, window_fault, word_or_dash};
 
 use crate::operands::{
     Command, PathPlaces, capacity_given, denominator_given, format_given, has_equals, has_operand,
-    is, is_value, mode_given, name_of, objective_given, place_given, value_given, value_of,
+    is, is_value, mode_given, name_of, objective_given, place_given, policy_given, value_given,
+    value_of, warmup_given,
 };
 use bound_report::WordKind;
 use cache_model::Mode;
 use cache_rules::Objective;
+use policy_model::PolicyName;
 use relaxation::DenominatorChoice;
 use trace_any::Format;
 
@@ -36,6 +38,13 @@ pub enum Plan {
     /// Whether a certificate is valid for a trace of this form.
     Check {
         format: Format,
+    },
+    /// The hits of a policy on a trace of this form, at a capacity in bytes, from request `warmup` on.
+    Replay {
+        format: Format,
+        capacity: u64,
+        policy: PolicyName,
+        warmup: u32,
     },
 }
 
@@ -68,6 +77,8 @@ fn command_named(word: &str) -> Option<Command>
         Some(Command::Bounds)
     } else if is(word, "check") {
         Some(Command::Check)
+    } else if is(word, "replay") {
+        Some(Command::Replay)
     } else {
         None
     }
@@ -259,6 +270,22 @@ fn check_plan(places: PathPlaces, words: &[String], operands: &[String]) -> Resu
     Ok(Plan::Check { format })
 }
 
+// The plan of a replay that accepted operands give, where the words end before a place.
+fn replay_plan(end: u64, operands: &[String]) -> Result<Plan, WordFault>
+    ensures plan { result ≡ replay_plan end (map string_bytes operands.now) }
+    ensures range { IfOk result IsPlanInRange }
+{
+    let format = required(end, format_given(operands))?;
+    let capacity = required(end, capacity_given(operands))?;
+    let policy = required(end, policy_given(operands))?;
+    Ok(Plan::Replay {
+        format,
+        capacity,
+        policy,
+        warmup: warmup_given(operands),
+    })
+}
+
 // The plan of a command, where the operands are accepted.
 fn plan_of_command(
     command: Command,
@@ -271,6 +298,7 @@ fn plan_of_command(
     match command {
         Command::Bounds => bounds_plan(words.len() as u64 + 1, operands),
         Command::Check => check_plan(command.places(), words, operands),
+        Command::Replay => replay_plan(words.len() as u64 + 1, operands),
     }
 }
 

@@ -9,3 +9,6 @@ returns-in-Bounds g c = rw (c.in-Ok.is, c.in-Bounds.is) (c.run_bounds.ensures.en
 
 pub returns-in-Check : goal.returns-in-Check
 returns-in-Check g c = rw (c.in-Ok.is, c.in-Check.is) (c.run_check.ensures.ends, c.run_check.ensures.trace_source, c.run_check.ensures.cert_source, (refl, refl))
+
+pub returns-in-Replay : goal.returns-in-Replay
+returns-in-Replay g c = rw (c.in-Ok.is, c.in-Replay.is) (c.run_replay.ensures.ends, c.run_replay.ensures.source, (refl, refl), (refl, refl))

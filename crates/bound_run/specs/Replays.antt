@@ -1,0 +1,52 @@
+-- What a replay of a trace shows.
+use Rattle.std.specs.Prelude.{◌≡◌, ℕ, ◌*◌, ◌/◌, ◌≤◌, List, length}
+use Rattle.cache_model.specs.declared.objects.Object.{Object}
+use Rattle.cache_model.specs.declared.objects.Objective.{Objective}
+use Rattle.cache_model.specs.declared.objects.Objective.TheVariants.{Object as Hits, Bytes}
+use Rattle.cache_model.specs.declared.certificates.Header.{Header}
+use Rattle.cache_model.specs.declared.certificates.Record.{Record}
+use Rattle.cache_model.specs.Certificates.{IsValid}
+use Rattle.cache_model.specs.Claim.{terms_of}
+use Rattle.cache_model.specs.Objects.{objects_of}
+use Rattle.policy_model.specs.declared.names.PolicyName.{PolicyName}
+use Rattle.policy_model.specs.declared.names.PolicyName.TheVariants.{Belady}
+use Rattle.policy_model.specs.Runs.{policy_run}
+use Rattle.policy_laws.specs.Laws.{HaveOneSize}
+use Rattle.belady_laws.specs.Best.{IsBest}
+use Rattle.replay_core.specs.declared.counts.Replay.{Replay}
+use Rattle.bound_report.specs.declared.replays.ReplayFacts.{ReplayFacts}
+use Rattle.bound_report.specs.Replays.{replay_text, with_warmup}
+use Rattle.bound_run.specs.declared.replays.Replaying.{Replaying}
+
+-- what a replay earns by an objective
+abbrev pub earned_by : Objective → ℕ → ℕ → ℕ
+earned_by Hits hits bytes = hits
+earned_by Bytes hits bytes = bytes
+
+-- what is earned is within the upper bound of the header, and within its floor
+pub record IsUnder (h : Header) (earned : ℕ) : Type 0 where
+  pub upper : h.denominator * earned ≤ h.upper
+  pub floor : earned ≤ h.upper / h.denominator
+
+-- each certificate that is valid for the trace, of this capacity and warm-up, bounds the hits, or the bytes, by its objective
+abbrev pub IsWithinBounds : ℕ → ℕ → List Object → ℕ → ℕ → Type 0
+IsWithinBounds capacity warmup trace hits bytes =
+    (h : Header) (records : List Record) → IsValid trace h records → h.capacity ≡ capacity → (terms_of h).warmup ≡ warmup → IsUnder h (earned_by h.objective hits bytes)
+
+-- the counts are those of the rule's run; no valid certificate is below them; and those of Belady's rule are the greatest scores if all that fits has one size and every request counts
+pub record IsReplay (policy : PolicyName) (capacity warmup : ℕ) (trace : List Object) (replay : Replay) : Type 0 where
+  pub hits : replay.hits ≡ (policy_run policy trace capacity warmup).hits
+  pub bytes : replay.bytes ≡ (policy_run policy trace capacity warmup).bytes
+  pub bounded : IsWithinBounds capacity warmup trace replay.hits replay.bytes
+  pub best : policy ≡ Belady → warmup ≡ 0 → HaveOneSize capacity trace → IsBest capacity trace replay.hits replay.bytes
+
+-- what the report of a replay states
+abbrev pub replay_facts : Replaying → List Object → ℕ → Replay → ReplayFacts
+replay_facts r trace dropped replay =
+    record { requests = length trace; objects = length (objects_of trace); dropped = dropped; policy = r.policy; capacity = r.capacity; replay = replay }
+
+-- the text is the report of the replay that is asked for
+pub record IsReplayText (r : Replaying) (trace : List Object) (dropped : ℕ) (text : List ℕ) : Type 0 where
+  pub replay : Replay
+  pub is_replay : IsReplay r.policy r.capacity r.warmup trace replay
+  pub text_is : text ≡ with_warmup r.warmup (replay_text (replay_facts r trace dropped replay))

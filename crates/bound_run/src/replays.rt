@@ -1,0 +1,145 @@
+//! Replays of a trace, and their reports.
+ghost use Rattle.std.specs.Prelude.{◌≡◌, ◌≤◌, ◌^◌, [], length, IfOk};
+ghost use Rattle.cache_model.specs.Objects.{objects_of};
+ghost use Rattle.policy_laws.specs.Laws.{HaveOneSize};
+ghost use Rattle.policy_model.specs.Runs.{AreScores};
+ghost use Rattle.replay_core.specs.Laws.{IsFresh, IsRunOf};
+ghost use Rattle.bound_run.specs.Replays.{IsReplay, IsReplayText, IsWithinBounds};
+
+use belady_laws::{best_replay, size_clash};
+use bound_base::NoMemory;
+use bound_report::{ReplayFacts, push_warmup, replay_text};
+use cache_rules::Trace;
+use policy_model::PolicyName;
+use replay_core::{Policy, Replay, replay};
+use replay_rank::{Belady, Lfu};
+use replay_recency::{Clock, Fifo, Lru};
+use std::alloc::Global;
+
+/// Which replay is asked for: the policy, its capacity in bytes, and the request from which its hits count.
+#[derive(Clone, Copy)]
+pub struct Replaying {
+    pub policy: PolicyName,
+    pub capacity: u64,
+    pub warmup: u32,
+}
+
+/// Replays the trace, and counts the hits from request `warmup` on. Whatever the policy, no certificate that is valid for
+/// the trace, of the same capacity and warm-up, has a smaller upper bound. It takes what a replay takes.
+pub fn bounded_replay<P: Policy>(
+    alloc: Global,
+    trace: &Trace,
+    warmup: u32,
+    policy: &mut P,
+) -> Result<Replay, NoMemory>
+    requires objects { length (objects_of trace.now) ≤ P.objects policy.old }
+    requires empty { P.contents policy.old ≡ [] }
+    requires fresh { IsFresh (P.known_state policy.old) }
+    ensures scores { IfOk result (λ r. AreScores (P.room policy.old) warmup trace.now r.hits r.bytes) }
+    ensures run { IfOk result (λ r. IsRunOf (P.known_state policy.old) trace.now warmup r.hits r.bytes) }
+    ensures bounded { IfOk result (λ r. IsWithinBounds (P.room policy.old) warmup trace.now r.hits r.bytes) }
+{
+    replay(alloc, trace, warmup, policy)
+}
+
+fn replay_lru(alloc: Global, trace: &Trace, r: Replaying) -> Result<Replay, NoMemory>
+    requires { (1 ≤ r.capacity) × (r.capacity ≤ 2 ^ 56) }
+    ensures { IfOk result (IsReplay PolicyName.Lru r.capacity r.warmup trace.now) }
+{
+    let mut policy = Lru::new(alloc, r.capacity, trace.objects())?;
+    bounded_replay(alloc, trace, r.warmup, &mut policy)
+}
+
+fn replay_fifo(alloc: Global, trace: &Trace, r: Replaying) -> Result<Replay, NoMemory>
+    requires { (1 ≤ r.capacity) × (r.capacity ≤ 2 ^ 56) }
+    ensures { IfOk result (IsReplay PolicyName.Fifo r.capacity r.warmup trace.now) }
+{
+    let mut policy = Fifo::new(alloc, r.capacity, trace.objects())?;
+    bounded_replay(alloc, trace, r.warmup, &mut policy)
+}
+
+fn replay_clock(alloc: Global, trace: &Trace, r: Replaying) -> Result<Replay, NoMemory>
+    requires { (1 ≤ r.capacity) × (r.capacity ≤ 2 ^ 56) }
+    ensures { IfOk result (IsReplay PolicyName.Clock r.capacity r.warmup trace.now) }
+{
+    let mut policy = Clock::new(alloc, r.capacity, trace.objects())?;
+    bounded_replay(alloc, trace, r.warmup, &mut policy)
+}
+
+fn replay_lfu(alloc: Global, trace: &Trace, r: Replaying) -> Result<Replay, NoMemory>
+    requires { (1 ≤ r.capacity) × (r.capacity ≤ 2 ^ 56) }
+    ensures { IfOk result (IsReplay PolicyName.Lfu r.capacity r.warmup trace.now) }
+{
+    let mut policy = Lfu::new(alloc, r.capacity, trace.objects())?;
+    bounded_replay(alloc, trace, r.warmup, &mut policy)
+}
+
+// The replay of Belady's rule where it is best.
+fn replay_best(alloc: Global, trace: &Trace, capacity: u64) -> Result<Replay, NoMemory>
+    requires range { (1 ≤ capacity) × (capacity ≤ 2 ^ 56) }
+    requires one_size { HaveOneSize capacity trace.now }
+    ensures { IfOk result (IsReplay PolicyName.Belady capacity 0 trace.now) }
+{
+    match best_replay(alloc, trace, capacity) {
+        Ok(replay) => Ok(replay),
+        Err(_) => Err(NoMemory),
+    }
+}
+
+fn replay_farthest(alloc: Global, trace: &Trace, r: Replaying) -> Result<Replay, NoMemory>
+    requires { (1 ≤ r.capacity) × (r.capacity ≤ 2 ^ 56) }
+    ensures { IfOk result (IsReplay PolicyName.Belady r.capacity r.warmup trace.now) }
+{
+    let mut policy = Belady::new(alloc, r.capacity, trace.objects())?;
+    bounded_replay(alloc, trace, r.warmup, &mut policy)
+}
+
+// Belady's rule gives up what is asked for farthest in the future. If every request counts and all that fits has one
+// size, that is best.
+fn replay_belady(alloc: Global, trace: &Trace, r: Replaying) -> Result<Replay, NoMemory>
+    requires { (1 ≤ r.capacity) × (r.capacity ≤ 2 ^ 56) }
+    ensures { IfOk result (IsReplay PolicyName.Belady r.capacity r.warmup trace.now) }
+{
+    match size_clash(trace, r.capacity) {
+        None if r.warmup == 0 => replay_best(alloc, trace, r.capacity),
+        _ => replay_farthest(alloc, trace, r),
+    }
+}
+
+// The replay of a policy.
+fn replay_by(alloc: Global, trace: &Trace, r: Replaying) -> Result<Replay, NoMemory>
+    requires { (1 ≤ r.capacity) × (r.capacity ≤ 2 ^ 56) }
+    ensures { IfOk result (IsReplay r.policy r.capacity r.warmup trace.now) }
+{
+    match r.policy {
+        PolicyName::Lru => replay_lru(alloc, trace, r),
+        PolicyName::Fifo => replay_fifo(alloc, trace, r),
+        PolicyName::Clock => replay_clock(alloc, trace, r),
+        PolicyName::Lfu => replay_lfu(alloc, trace, r),
+        PolicyName::Belady => replay_belady(alloc, trace, r),
+    }
+}
+
+/// The report of the replay of a trace, with the number of its lines that were dropped.
+pub fn replay_report(
+    alloc: Global,
+    r: Replaying,
+    trace: &Trace,
+    dropped: u64,
+) -> Result<Vec<u8>, NoMemory>
+    requires { (1 ≤ r.capacity) × (r.capacity ≤ 2 ^ 56) }
+    ensures { IfOk result (λ text. IsReplayText r trace.now dropped text.items) }
+{
+    let replay = replay_by(alloc, trace, r)?;
+    let facts = ReplayFacts {
+        requests: trace.len(),
+        objects: trace.objects(),
+        dropped,
+        policy: r.policy,
+        capacity: r.capacity,
+        replay,
+    };
+    let mut text = replay_text(alloc, &facts)?;
+    push_warmup(&mut text, r.warmup)?;
+    Ok(text)
+}
