@@ -1,6 +1,6 @@
 //! The intervals of small traces, worked out by hand.
 use crate::compared::{holds, same};
-use crate::made::intervals_of_sizes;
+use crate::made::{intervals_of_sizes, intervals_past};
 use cache_rules::Objective;
 use interval_maker::Interval;
 
@@ -83,4 +83,30 @@ fn numbers_them_by_start(rt: HostRuntime) {
         same(&rt, t, (made.starting(t), made.ending(t)), *want);
     }
     drop(made);
+}
+
+// Three objects of size 1, each asked for twice.
+const CYCLE: [[u64; 2]; 6] = [[1, 1], [2, 1], [3, 1], [1, 1], [2, 1], [3, 1]];
+
+// A warm-up, and the starts of the intervals that end past it.
+const WARM: [(u32, &[u32]); 5] = [
+    (0, &[0, 1, 2]),
+    (3, &[0, 1, 2]),
+    (4, &[1, 2]),
+    (5, &[2]),
+    (6, &[]),
+];
+
+#[test]
+fn leaves_out_those_that_end_in_the_warmup(rt: HostRuntime) {
+    for (warmup, starts) in &WARM {
+        let made = intervals_past(&rt, rt.alloc(), &CYCLE, 2, Objective::Object, *warmup);
+        same(&rt, *warmup, made.as_slice().len(), starts.len());
+        for start in *starts {
+            let at = (*warmup, *start);
+            holds(&rt, at, *start < made.steps());
+            same(&rt, at, made.starting(*start).is_some(), true);
+        }
+        drop(made);
+    }
 }

@@ -24,6 +24,19 @@ fn trace_of(rt: &impl Abort, alloc: Global, requests: &[[u64; 2]]) -> Trace {
     builder.finish()
 }
 
+/// The intervals of requests by id and size that end past a warm-up.
+pub fn intervals_past(
+    rt: &impl Abort,
+    alloc: Global,
+    requests: &[[u64; 2]],
+    capacity: u64,
+    objective: Objective,
+    warmup: u32,
+) -> Intervals {
+    let trace = trace_of(rt, alloc, requests);
+    make(alloc, &trace, capacity, objective, warmup).expect(rt, "memory")
+}
+
 /// The intervals of requests by id and size.
 pub fn intervals_of(
     rt: &impl Abort,
@@ -32,8 +45,7 @@ pub fn intervals_of(
     capacity: u64,
     objective: Objective,
 ) -> Intervals {
-    let trace = trace_of(rt, alloc, requests);
-    make(alloc, &trace, capacity, objective).expect(rt, "memory")
+    intervals_past(rt, alloc, requests, capacity, objective, 0)
 }
 
 /// The intervals of requests for objects of these sizes, of which the ids differ.

@@ -1,5 +1,5 @@
 //! The calls over small traces, with what was worked out by hand.
-ghost use Rattle.std.specs.Prelude.{◌≡◌, ◌≤◌, ◌^◌, true};
+ghost use Rattle.std.specs.Prelude.{◌≡◌, ◌≤◌, ◌^◌, length, true};
 ghost use Rattle.relaxation.specs.Denominators.{IsChoice};
 
 use crate::compared::{holds, same};
@@ -9,7 +9,7 @@ use cache_rules::Objective;
 use interval_maker::Intervals;
 use relaxation::{
     DenominatorChoice, DenominatorLimit, FlowFault, Instance, PriceFault, Sums, bound_of,
-    denominator_for, flow_value, instance, unit_of,
+    denominator_for, flow_value, instance, unit_of, value_of_schedule,
 };
 use std::alloc::Global;
 use std::process::Abort;
@@ -147,6 +147,13 @@ fn bounds_are_over_the_denominator(rt: HostRuntime) {
     holds(&rt, "four steps", intervals.steps() == 4);
     let sums = Sums::new(rt.alloc(), &[0, 2, 0, 0], 4).expect(&rt, "memory");
     same(&rt, "the bound", bound_of(&intervals, 1, 4, 6, &sums), 10);
+    let known = Sums::within_limit(rt.alloc(), &[0, 2, 0, 0], 4).expect(&rt, "memory");
+    same(
+        &rt,
+        "of known sums",
+        bound_of(&intervals, 1, 4, 6, &known),
+        10,
+    );
     drop(intervals);
 }
 
@@ -157,12 +164,21 @@ const FLOWS: [([u64; 2], Result<u128, FlowFault>); 4] = [
     ([2, 3], Err(FlowFault::Overfull { step: 1, load: 5 })),
 ];
 
+// The value of flows that are tested first. That of flows that pass is the same where they aren't tested.
+fn value_of(rt: &impl Abort, intervals: &Intervals, flows: &[u64]) -> Result<u128, FlowFault>
+    requires { length flows.now ≡ length intervals.now.items }
+{
+    let value = flow_value(intervals, 1, 4, 6, flows)?;
+    same(rt, value, value_of_schedule(intervals, 1, 6, flows), value);
+    Ok(value)
+}
+
 #[test]
 fn values_are_over_the_denominator(rt: HostRuntime) {
     let intervals = intervals_of_sizes(&rt, rt.alloc(), &BY_TURNS, LARGEST, HITS);
     holds(&rt, "two intervals", intervals.as_slice().len() == 2);
     for (flows, want) in &FLOWS {
-        let value = flow_value(&intervals, 1, 4, 6, flows);
+        let value = value_of(&rt, &intervals, flows);
         same(&rt, *flows, value, *want);
     }
     drop(intervals);
