@@ -4,12 +4,11 @@
 //! The rules are "Report of bounds", "Verdict" and "Refusal" in docs/DEFINITIONS.md.
 #![tactic(auto)]
 
+mod facts;
 mod refusal;
 mod report;
-mod text;
 
-pub use cache_model::{BoundFacts, Mode, Window};
-pub use cert_checker::Verdict;
-pub use cert_format::InvalidKind;
+pub use cert_checker::{InvalidKind, Verdict};
+pub use facts::{BoundFacts, Mode, Window};
 pub use refusal::{LimitName, Refusal, RefusalText, WordKind, refusal_text};
 pub use report::{report_text, verdict_text};

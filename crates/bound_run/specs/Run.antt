@@ -6,7 +6,7 @@ use Rattle.bound_io.specs.Reading.{LosesPrefix}
 use Rattle.bound_io.specs.Writing.{AppendsProperPrefix}
 use Rattle.bound_io.specs.Devices.{Device, HasFailed, Gets, IsUntouched}
 use Rattle.cache_model.specs.declared.objects.Objective.{Objective}
-use Rattle.cache_model.specs.declared.reports.Mode.{Mode}
+use Rattle.bound_report.specs.declared.facts.Mode.{Mode}
 use Rattle.relaxation.specs.declared.denominators.DenominatorChoice.{DenominatorChoice}
 use Rattle.trace_any.specs.declared.fault.TraceFault.TheVariants as trace
 use Rattle.trace_any.specs.declared.format.Format.{Format}

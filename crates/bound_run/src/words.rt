@@ -7,8 +7,7 @@ use crate::operands::{
     Command, OPERANDS_AT, capacity_given, denominator_given, format_given, has_equals, has_operand,
     is, is_value, mode_given, name_of, objective_given, place_given, value_given, value_of,
 };
-use bound_report::WordKind;
-use cache_model::Mode;
+use bound_report::{Mode, WordKind};
 use cache_rules::Objective;
 use relaxation::DenominatorChoice;
 use trace_any::Format;

@@ -8,7 +8,7 @@ mod certificates;
 mod intervals;
 mod laws;
 mod objects;
-mod reports;
+mod version;
 
 pub use certificates::{Header, Record};
 pub use intervals::Interval;
@@ -19,4 +19,4 @@ pub use laws::{
     valid_bounds_every_policy,
 };
 pub use objects::{Object, Objective};
-pub use reports::{BoundFacts, Mode, Window};
+pub use version::CERT_VERSION;

@@ -76,8 +76,8 @@ module _ (h : Header) (trace : List Object) (records : List Record) (v : IsValid
         ∙ ap (λ k. get_or (prices_of records) k 0) here ∙ v.last_price))
 
     -- the interval that ends there
-    ended : ends_interval h (request_at trace t) (figures_at h trace records t) ≡ true → (a : ℕ) × IsEligible h.objective h.capacity trace (interval_of h.objective trace a t)
-    ended ends =
+    checked_all : ends_interval h (request_at trace t) (figures_at h trace records t) ≡ true → (a : ℕ) × IsEligible h.objective h.capacity trace (interval_of h.objective trace a t)
+    checked_all ends =
         let parts : (was_requested trace t ≡ true) × (nat_le (request_at trace t).size h.capacity ≡ true) =
         and_parts (was_requested trace t) (nat_le (request_at trace t).size h.capacity) ends in
         from parts.0 (leb-true (request_at trace t).size h.capacity parts.1) (first_or_next trace t low)
@@ -100,7 +100,7 @@ module _ (h : Header) (trace : List Object) (records : List Record) (v : IsValid
     unit : (ends_interval h (request_at trace t) (figures_at h trace records t) && not (divides h.unit (request_at trace t).size)) ≡ false
     unit =
         and_from_second (ends_interval h (request_at trace t) (figures_at h trace records t)) (not (divides h.unit (request_at trace t).size)) (λ ends.
-        let i = ended ends in
+        let i = checked_all ends in
         ap not (divides-from h.unit (request_at trace t).size (of_ended (λ i. h.unit ∣ i.size) v.unit i.0 i.1)))
 
     whole : (ends_interval h (request_at trace t) (figures_at h trace records t) && h.exact
@@ -110,7 +110,7 @@ module _ (h : Header) (trace : List Object) (records : List Record) (v : IsValid
         (not (divides ((request_at trace t).size / h.unit) (h.denominator * gain_of h.objective (request_at trace t)))) (λ both.
         let parts : (ends_interval h (request_at trace t) (figures_at h trace records t) ≡ true) × (h.exact ≡ true) =
         and_parts (ends_interval h (request_at trace t) (figures_at h trace records t)) h.exact both in
-        let i = ended parts.0 in
+        let i = checked_all parts.0 in
         ap not (divides-from ((request_at trace t).size / h.unit) (h.denominator * gain_of h.objective (request_at trace t))
         (of_ended (λ i. weight h.unit i ∣ h.denominator * i.gain) (v.whole_costs parts.1) i.0 i.1)))
 

@@ -184,7 +184,7 @@ module _ (h : Header) (trace : List Object) (records : List Record) (x : Object)
         ∙ ap (λ l. F (sum (take (n + 1) (prices_of records'))) (n + 1 == h.requests) (was_requested trace' n) l now.flows) load
         ∙ ap (F (sum (take (n + 1) (prices_of records'))) (n + 1 == h.requests) (was_requested trace' n) (load_after trace' (keeps_of records') n)) flows
 
-    -- the sums over the intervals that have ended
+    -- the sums over the intervals that have checked_all
     module _ (f g : Interval → ℕ) (same : (i : Interval) → IsEligible h.objective h.capacity trace i → f i ≡ g i) where
       eligible-agree : sum_by f (eligible_of trace h) ≡ sum_by g (eligible_of trace h)
       eligible-agree = sum_by-all_agree f g (eligible_of trace h) (λ k d low. same _ (All-eligible_intervals h.objective h.capacity trace k d low))
@@ -197,8 +197,8 @@ module _ (h : Header) (trace : List Object) (records : List Record) (x : Object)
       intervals-again a l = eligible_push_again f h.objective h.capacity trace x a l ∙ ap (λ m. m + cond (nat_le x.size h.capacity) (f (interval_of h.objective trace' a n)) 0) eligible-agree
 
     -- the interval that ends at the request has its object's size and gain
-    ended : (a : ℕ) → IsLatest trace x a → interval_of h.objective trace' a n ≡ record { start = a; end = n; size = x.size; gain = gain_of h.objective x }
-    ended a l =
+    checked_all : (a : ℕ) → IsLatest trace x a → interval_of h.objective trace' a n ≡ record { start = a; end = n; size = x.size; gain = gain_of h.objective x }
+    checked_all a l =
         let first : request_at trace' a ≡ x = request_at-prefix trace (x ∷ []) a l.within ∙ sym (same_object-true x (request_at trace a) l.same) in
         let F : Object → Object → Interval = λ y z. record { start = a; end = n; size = y.size; gain = gain_of h.objective z } in
         ap (λ y. F y (request_at trace' n)) first ∙ ap (F x) (request_at-pushed trace x)
@@ -230,7 +230,7 @@ module _ (h : Header) (trace : List Object) (records : List Record) (x : Object)
         at (Some seen) is =
             let f : Interval → ℕ = surplus h.unit h.denominator (prices_of records') in
             let own : f (interval_of h.objective trace' seen.latest n) ≡ h.denominator * gain_of h.objective x - (x.size / h.unit) * (sum (prices_of records) - seen.price_before) =
-            ap f (ended seen.latest is.latest)
+            ap f (checked_all seen.latest is.latest)
             ∙ ap (λ p. h.denominator * gain_of h.objective x - (x.size / h.unit) * p) (covered seen.latest is.latest.within ∙ ap (λ p. sum (prices_of records) - p) (sym is.price_before)) in
             intervals-again f (surplus h.unit h.denominator (prices_of records)) same_surplus seen.latest is.latest
             ∙ ap (λ v. sum_by (surplus h.unit h.denominator (prices_of records)) (eligible_of trace h) + cond (nat_le x.size h.capacity) v 0) own
@@ -250,7 +250,7 @@ module _ (h : Header) (trace : List Object) (records : List Record) (x : Object)
         at (Some seen) is =
             let low : seen.latest < n = is.latest.within in
             let own : value_in h records' (interval_of h.objective trace' seen.latest n) ≡ (h.denominator * gain_of h.objective x / (x.size / h.unit)) * seen.flow =
-            ap (value_in h records') (ended seen.latest is.latest)
+            ap (value_in h records') (checked_all seen.latest is.latest)
             ∙ ap (λ f. (h.denominator * gain_of h.objective x / (x.size / h.unit)) * f) (flow_at-prefix records (r ∷ []) seen.latest (omega (arith, one)) ∙ sym is.flow) in
             flow_of-sum h trace' records'
             ∙ intervals-again (value_in h records') (value_in h records) same_value seen.latest is.latest

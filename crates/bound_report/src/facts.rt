@@ -1,12 +1,12 @@
 //! What a report of bounds states.
-use crate::certificates::Header;
+use cache_model::Header;
 
 /// Into which windows the steps are cut before they are solved.
 #[derive(Clone, Copy, Debug, PartialEq, Eq)]
 pub enum Window {
     /// One window of all steps.
     All,
-    /// Windows of so many steps.
+    /// Windows of this number of steps.
     Steps(u32),
 }
 

@@ -5,13 +5,14 @@ use Rattle.bound_io.specs.Devices.{device}
 use Rattle.cache_model.specs.declared.objects.Object.{Object}
 use Rattle.cache_model.specs.declared.certificates.Header.{Header}
 use Rattle.cache_model.specs.declared.certificates.Record.{Record}
+use Rattle.cache_model.specs.Texts.{header_len}
 use Rattle.trace_any.specs.Readings as traces
 use Rattle.trace_any.specs.Readers as requests
 use Rattle.trace_any.specs.Readers.{IsWhole}
 use Rattle.trace_any.proofs.Coming.{fresh_to_come}
 use Rattle.cert_format.specs.declared.fault.CertFault.{CertFault}
-use Rattle.cert_format.specs.declared.invalid.InvalidKind.{InvalidKind}
-use Rattle.cert_format.specs.declared.invalid.InvalidKind.TheVariants.{RequestCount}
+use Rattle.cert_checker.specs.declared.invalid.InvalidKind.{InvalidKind}
+use Rattle.cert_checker.specs.declared.invalid.InvalidKind.TheVariants.{RequestCount}
 use Rattle.cert_format.specs.declared.reader.Stage.TheVariants.{InRecords}
 use Rattle.cert_format.specs.Grammar.{end_slots}
 use Rattle.cert_format.specs.Lines.{known, IsPast, IsWithin}
@@ -42,47 +43,47 @@ after_end cert bytes at none over =
     let faultless : certificates.end_fault n bytes ≡ None = ap (λ r. r.fault) (sym coming ∙ over) in
     after_lines-one bytes ∙ nothing_read (n + 1) (after_line bytes) (no_either (first_fault n end_slots bytes) (trailing (n + 1) (after_line bytes)) faultless).1
 
-module _ (start : Inputs) (h : Header) (given : List Object) (records : List Record) (now : Inputs) (checker : Summary) (ended : HasCheckedAll start h given records now checker) where
+module _ (start : Inputs) (h : Header) (given : List Object) (records : List Record) (now : Inputs) (checker : Summary) (checked_all : HasCheckedAll start h given records now checker) where
   input : length records ≡ length given
-  input = ended.stands.input.one_record_each
+  input = checked_all.stands.input.one_record_each
 
   within : length given ≤ h.requests
-  within = ended.stands.input.within
+  within = checked_all.stands.input.within
 
   -- fewer requests than the header says
-  pub stop_few : (end : Inputs) → end.cert ≡ now.cert → end.certificate ≡ now.certificate → length now.cert.lines.held ≤ 65536 → now.cert.lines.line ≡ 11 + length given → length given < h.requests
-      → IsStop start end (fault.Invalid (11 + length given) (RequestCount h.requests (length given)))
+  pub stop_few : (end : Inputs) → end.cert ≡ now.cert → end.certificate ≡ now.certificate → length now.cert.lines.held ≤ 65536 → now.cert.lines.line ≡ header_len h + length given → length given < h.requests
+      → IsStop start end (fault.Invalid (header_len h + length given) (RequestCount h.requests (length given)))
   stop_few end same_cert same_left held line_is fewer = record {
-    event = if_both start.trace start.certificate _ _ _ ended.trace_read ended.records_read (λ b t p q.
+    event = if_both start.trace start.certificate _ _ _ checked_all.trace_read checked_all.records_read (λ b t p q.
         walk_at start b t _ _ refl q.reading
-        ∙ walked_too_few h given records input within ended.stands.no_fault (traces.reading start.reader.format start.reader.limits b) (lines.to_come now.cert (after_lines now.cert.lines.line t)) p.requests p.stop fewer);
-    near = near_here h records start end (11 + length given) (if_one start.certificate _ _ ended.records_read (λ t q. same_records h records now end t q same_cert same_left))
+        ∙ walked_too_few h given records input within checked_all.stands.no_fault (traces.reading start.reader.format start.reader.limits b) (lines.to_come now.cert (after_lines now.cert.lines.line t)) p.requests p.stop fewer);
+    near = near_here h records start end (header_len h + length given) (if_one start.certificate _ _ checked_all.records_read (λ t q. same_records h records now end t q same_cert same_left))
         (subst (λ (c : lines.Reader). length c.lines.held ≤ 65536) (sym same_cert) held)
-        (subst (λ (c : lines.Reader). c.lines.line ≤ 11 + length given) (sym same_cert) (omega (arith, line_is)));
+        (subst (λ (c : lines.Reader). c.lines.line ≤ header_len h + length given) (sym same_cert) (omega (arith, line_is)));
   }
 
   module _ (full : length given ≡ h.requests) (end : Inputs) (held : length end.cert.lines.held ≤ 65536) (past : IfSome (known now.cert.lines now.certificate) (IsPast now.cert.lines end.cert.lines)) where
     -- the end is not read
     pub stop_end : (f : CertFault) → lines.IsRefused now.cert (device now.certificate end.certificate now.certificate_faults end.certificate_faults) f → IfErr {T = Unit {0}} (Err f) (IsWithin end.cert.lines.line) → IsStop start end (of_text f)
-    stop_end f refused reached = text_stop start end now.cert now.certificate now.certificate_faults f refused ended.later.certificate reached
-        (λ n low. near_line h records start now end n ended.records_read past held low) (λ g e event stopped.
-        if_both start.trace start.certificate _ _ _ ended.trace_read ended.records_read (λ b t p q.
+    stop_end f refused reached = text_stop start end now.cert now.certificate now.certificate_faults f refused checked_all.later.certificate reached
+        (λ n low. near_line h records start now end n checked_all.records_read past held low) (λ g e event stopped.
+        if_both start.trace start.certificate _ _ _ checked_all.trace_read checked_all.records_read (λ b t p q.
         walk_at start b t _ _ refl q.reading
-        ∙ walked_end_text h given records input within ended.stands.no_fault (traces.reading start.reader.format start.reader.limits b) (lines.to_come now.cert (after_lines now.cert.lines.line t)) p.requests p.stop full g e
+        ∙ walked_end_text h given records input within checked_all.stands.no_fault (traces.reading start.reader.format start.reader.limits b) (lines.to_come now.cert (after_lines now.cert.lines.line t)) p.requests p.stop full g e
         (at_some (known now.cert.lines now.certificate) _ _ q.stands_in stopped) event))
 
     module _ (read : IfSome (known now.cert.lines now.certificate) (λ bytes. (lines.to_come now.cert bytes ≡ certificates.stopped None) × (known end.cert.lines end.certificate ≡ Some []) × (end.certificate ≡ Some []))) where
       -- the end is read, and a rule fails
-      pub stop_end_rule : (kind : InvalidKind) → now.cert.stage ≡ InRecords → now.cert.left ≡ 0 → now.cert.lines.line ≡ 11 + length given → end_fault h given records ≡ Some kind → IsStop start end (fault.Invalid (12 + length given) kind)
+      pub stop_end_rule : (kind : InvalidKind) → now.cert.stage ≡ InRecords → now.cert.left ≡ 0 → now.cert.lines.line ≡ header_len h + length given → end_fault h given records ≡ Some kind → IsStop start end (fault.Invalid (header_len h + 1 + length given) kind)
       stop_end_rule kind at none line_is fails = record {
-        event = if_both start.trace start.certificate _ _ _ ended.trace_read ended.records_read (λ b t p q.
+        event = if_both start.trace start.certificate _ _ _ checked_all.trace_read checked_all.records_read (λ b t p q.
             walk_at start b t _ _ refl q.reading
-            ∙ walked_end_rule h given records input within ended.stands.no_fault (traces.reading start.reader.format start.reader.limits b) (lines.to_come now.cert (after_lines now.cert.lines.line t)) p.requests p.stop full kind
+            ∙ walked_end_rule h given records input within checked_all.stands.no_fault (traces.reading start.reader.format start.reader.limits b) (lines.to_come now.cert (after_lines now.cert.lines.line t)) p.requests p.stop full kind
             (at_some (known now.cert.lines now.certificate) _ _ q.stands_in read).0 fails);
-        near = if_one start.certificate _ _ ended.records_read (λ t q.
+        near = if_one start.certificate _ _ checked_all.records_read (λ t q.
             let is = at_some (known now.cert.lines now.certificate) _ _ q.stands_in read in
-            let next : now.cert.lines.line + 1 ≡ 12 + length given = omega (arith, line_is) in
-            let over : after_lines (12 + length given) t ≡ [] = ap (λ k. after_lines k t) (sym next) ∙ (after_lines-add now.cert.lines.line 1 t ∙ after_end now.cert (after_lines now.cert.lines.line t) at none is.0) in
+            let next : now.cert.lines.line + 1 ≡ header_len h + 1 + length given = omega (arith, line_is) in
+            let over : after_lines (header_len h + 1 + length given) t ≡ [] = ap (λ k. after_lines k t) (sym next) ∙ (after_lines-add now.cert.lines.line 1 t ∙ after_end now.cert (after_lines now.cert.lines.line t) at none is.0) in
             omega (arith, (consumed_on h records now end t q past).1, ap length over, held));
       }
 
@@ -92,16 +93,16 @@ module _ (start : Inputs) (h : Header) (given : List Object) (records : List Rec
         requests = given;
         records = records;
         yes = subst (λ k. IsYes k given records verdict) (sym said.header) said;
-        trace = if_one start.trace _ _ ended.trace_read (λ b p. subst (λ (r : requests.Reader). IsWhole (traces.reading start.reader.format start.reader.limits b) given r.dropped) (sym same_reader) p);
-        certificate = if_one start.certificate _ _ ended.records_read (λ t q.
+        trace = if_one start.trace _ _ checked_all.trace_read (λ b p. subst (λ (r : requests.Reader). IsWhole (traces.reading start.reader.format start.reader.limits b) given r.dropped) (sym same_reader) p);
+        certificate = if_one start.certificate _ _ checked_all.records_read (λ t q.
             let is = at_some (known now.cert.lines now.certificate) _ _ q.stands_in read in
             q.reading ∙ (ap (after_records h records) is.0 ∙ (ap (λ rs. certificates.whole h rs) (append-nil records) ∙ ap (λ k. certificates.whole k records) (sym said.header))));
-        walked = if_both start.trace start.certificate _ _ _ ended.trace_read ended.records_read (λ b t p q.
+        walked = if_both start.trace start.certificate _ _ _ checked_all.trace_read checked_all.records_read (λ b t p q.
             walk_at start b t _ _ refl q.reading
-            ∙ walked_all h given records input within ended.stands.no_fault (traces.reading start.reader.format start.reader.limits b) (lines.to_come now.cert (after_lines now.cert.lines.line t)) p.requests p.stop full
+            ∙ walked_all h given records input within checked_all.stands.no_fault (traces.reading start.reader.format start.reader.limits b) (lines.to_come now.cert (after_lines now.cert.lines.line t)) p.requests p.stop full
             (at_some (known now.cert.lines now.certificate) _ _ q.stands_in read).0 said.no_fault);
-        trace_end = if_one start.trace _ _ ended.trace_end (λ b p. same_left ∙ p);
-        certificate_end = if_one start.certificate _ _ ended.records_read (λ t q. (at_some (known now.cert.lines now.certificate) _ _ q.stands_in read).2);
+        trace_end = if_one start.trace _ _ checked_all.trace_end (λ b p. same_left ∙ p);
+        certificate_end = if_one start.certificate _ _ checked_all.records_read (λ t q. (at_some (known now.cert.lines now.certificate) _ _ q.stands_in read).2);
       }
 
 module _ (start : Inputs) (fresh_reader : IsFresh start.reader) (fresh_cert : start.cert ≡ lines.fresh) where

@@ -16,7 +16,7 @@ pub enum InvalidKind {
     Truncated,
     /// Something follows the line `end`.
     Trailing,
-    /// The trace has not as many requests as the header says; so many were read.
+    /// The trace has not as many requests as the header says; this number was read.
     RequestCount { written: u128, read: u64 },
     /// The units times the sum of the prices so far pass 2^126.
     SumLimit,
