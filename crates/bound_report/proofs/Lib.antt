@@ -1,1 +1,1 @@
-pub mod LineByLine
+mod Rows

@@ -1,3 +1,4 @@
+pub mod Reports
 pub mod Refusals
 pub mod Verdicts
 pub mod Replays

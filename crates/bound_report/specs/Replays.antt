@@ -1,6 +1,7 @@
 -- The text of a replay.
 use Rattle.std.specs.Prelude.{ℕ, ◌==◌, if◌then◌else◌, List, [], ◌∷◌, ◌++◌, codes}
-use Rattle.cache_model.specs.Texts.{entry, line, text_of, trace_line}
+use Rattle.cache_model.specs.Texts.{entry, line, text_of}
+use Rattle.bound_report.specs.Reports.{trace_line}
 use Rattle.policy_model.specs.declared.names.PolicyName.{PolicyName}
 use Rattle.policy_model.specs.declared.names.PolicyName.TheVariants.{Lru, Fifo, Clock, Lfu, Belady}
 use Rattle.bound_report.specs.declared.replays.ReplayFacts.{ReplayFacts}

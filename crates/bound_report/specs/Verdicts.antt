@@ -1,6 +1,7 @@
--- What a check says where it says yes.
+-- What a check says if it says yes.
 use Rattle.std.specs.Prelude.{ℕ, List, ◌∷◌, ◌++◌, [], codes}
-use Rattle.cache_model.specs.Texts.{capacity_line, form_word, text_of, trace_line, unit_line, value_lines}
+use Rattle.cache_model.specs.Texts.{form_word, text_of}
+use Rattle.bound_report.specs.Reports.{capacity_line, trace_line, unit_line, value_lines}
 use Rattle.cert_checker.specs.declared.verdict.Verdict.{Verdict}
 
 -- the eight lines of a yes

@@ -4,14 +4,13 @@
 //! The rules are "Report of bounds", "Verdict" and "Refusal" in docs/DEFINITIONS.md.
 #![tactic(auto)]
 
+mod facts;
 mod refusal;
 mod replays;
 mod report;
-mod text;
 
-pub use cache_model::{BoundFacts, Mode, Window};
-pub use cert_checker::Verdict;
-pub use cert_format::InvalidKind;
+pub use cert_checker::{InvalidKind, Verdict};
+pub use facts::{BoundFacts, Mode, Window};
 pub use policy_model::PolicyName;
 pub use refusal::{LimitName, Refusal, RefusalText, WordKind, refusal_text};
 pub use replays::{ReplayFacts, push_warmup, replay_text};

@@ -1,12 +1,11 @@
 //! The line that tells why a run stopped. It takes no memory.
-ghost use Rattle.std.specs.Prelude.{◌≡◌, ◌+◌, ◌≤◌, List, ℕ, [], ◌++◌, length, take, decimal};
+ghost use Rattle.std.specs.Prelude.{◌≡◌, ◌+◌, ◌≤◌, ◌++◌, length};
 ghost use Rattle.cache_model.specs.Texts.{entry};
 ghost use Rattle.bound_report.specs.Refusals.{invalid_kind_text, limit_text, line_kind_text, refusal_line, word_kind_text};
 
 use bound_base::NoMemory;
-use cert_format::InvalidKind;
-use itoa::Buffer;
-use std::marker::Model;
+use cert_checker::InvalidKind;
+use line_text::LineText;
 use trace_lines::LineKind;
 
 /// Why a word of the command line is refused.
@@ -65,78 +64,20 @@ impl From<NoMemory> for Refusal {
     }
 }
 
+/// The most bytes that the line of a refusal has.
 const ROOM: usize = 192;
 
 /// A line in a buffer of its own, of at most 192 bytes.
-#[derive(Drop)]
-pub struct RefusalText {
-    bytes: [u8; ROOM],
-    len: usize,
-}
+pub type RefusalText = LineText<ROOM>;
 
-impl Model for RefusalText {
-    ghost Value = { List ℕ };
-
-    ghost view = { λ t. take t.len t.bytes };
-
-    ghost invariant = { λ t. t.len ≤ 192 };
-}
-
-impl RefusalText {
-    fn new() -> Self
-        ensures { result ≡ [] }
-    {
-        RefusalText {
-            bytes: [0; ROOM],
-            len: 0,
-        }
-    }
-
-    fn push(&mut self, text: &[u8])
-        requires { length self.old + length text.now ≤ 192 }
-        ensures { self.new ≡ self.old ++ text.now }
-    {
-        let end = self.len + text.len();
-        self.bytes[self.len..end].copy_from_slice(text);
-        self.len = end;
-    }
-
-    fn push_number(&mut self, n: u128)
-        requires { length self.old + 40 ≤ 192 }
-        ensures text { self.new ≡ self.old ++ decimal n }
-        ensures short { length self.new ≤ length self.old + 40 }
-    {
-        let mut buffer = Buffer::new();
-        self.push(buffer.format(n).as_bytes());
-    }
-
-    // A word and a number.
-    fn push_entry(&mut self, word: &[u8], n: u128)
-        requires { length self.old + length word.now + 41 ≤ 192 }
-        ensures text { self.new ≡ self.old ++ entry word.now n }
-        ensures short { length self.new ≤ length self.old + length word.now + 41 }
-    {
-        self.push(word);
-        self.push(b" ");
-        self.push_number(n);
-    }
-
-    // A word and two numbers.
-    fn push_pair(&mut self, word: &[u8], first: u128, second: u128)
-        requires { length self.old + length word.now + 82 ≤ 192 }
-        ensures text { self.new ≡ self.old ++ entry (entry word.now first) second }
-        ensures short { length self.new ≤ length self.old + length word.now + 82 }
-    {
-        self.push_entry(word, first);
-        self.push_entry(b"", second);
-    }
-
-    /// The bytes of the line.
-    pub fn as_bytes(&self) -> &[u8]
-        ensures { result.now ≡ self.now }
-    {
-        &self.bytes[..self.len]
-    }
+// A word and two numbers.
+fn push_pair(text: &mut RefusalText, word: &[u8], first: u128, second: u128)
+    requires { length text.old + length word.now + 80 ≤ 192 }
+    ensures text { text.new ≡ text.old ++ entry (entry word.now first) second }
+    ensures short { length text.new ≤ length text.old + length word.now + 80 }
+{
+    text.push_entry(word, first);
+    text.push_entry(b"", second);
 }
 
 fn word_text(kind: WordKind) -> &'static [u8]
@@ -196,7 +137,7 @@ fn push_invalid_kind(text: &mut RefusalText, kind: InvalidKind)
         InvalidKind::Truncated => text.push(b"truncated"),
         InvalidKind::Trailing => text.push(b"trailing"),
         InvalidKind::RequestCount { written, read } => {
-            text.push_pair(b"request count", written, read as u128)
+            push_pair(text, b"request count", written, read as u128)
         }
         InvalidKind::SumLimit => text.push(b"sum limit"),
         InvalidKind::LastPrice { price } => text.push_entry(b"last price", price),
@@ -206,25 +147,25 @@ fn push_invalid_kind(text: &mut RefusalText, kind: InvalidKind)
         }
         InvalidKind::NotDivisible { weight } => text.push_entry(b"not divisible", weight as u128),
         InvalidKind::Overfull { load, capacity } => {
-            text.push_pair(b"overfull", load, capacity as u128)
+            push_pair(text, b"overfull", load, capacity as u128)
         }
         InvalidKind::FlowAboveWeight { flow, weight } => {
-            text.push_pair(b"flow above weight", flow, weight as u128)
+            push_pair(text, b"flow above weight", flow, weight as u128)
         }
         InvalidKind::FlowOverfull { load, units } => {
-            text.push_pair(b"flow overfull", load, units as u128)
+            push_pair(text, b"flow overfull", load, units as u128)
         }
         InvalidKind::Unused { number } => text.push_entry(b"unused flow", number as u128),
         InvalidKind::UpperDiffers { written, counted } => {
-            text.push_pair(b"upper differs", written, counted)
+            push_pair(text, b"upper differs", written, counted)
         }
         InvalidKind::FlowDiffers { written, counted } => {
-            text.push_pair(b"flow differs", written, counted)
+            push_pair(text, b"flow differs", written, counted)
         }
         InvalidKind::LowerDiffers { written, counted } => {
-            text.push_pair(b"lower differs", written, counted)
+            push_pair(text, b"lower differs", written, counted)
         }
-        InvalidKind::ExactGap { upper, flow } => text.push_pair(b"exact gap", upper, flow),
+        InvalidKind::ExactGap { upper, flow } => push_pair(text, b"exact gap", upper, flow),
     }
 }
 

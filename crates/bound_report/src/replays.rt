@@ -1,11 +1,11 @@
 //! The text of a replay.
-ghost use Rattle.std.specs.Prelude.{◌≡◌, ◌++◌, IfOk, OnOk};
+ghost use Rattle.std.specs.Prelude.{◌≡◌, ◌≤◌, length, IfOk, OnOk};
 ghost use Rattle.cache_model.specs.Texts.{line};
 ghost use Rattle.bound_report.specs.Replays.{hits_line, policy_line, policy_word, replay_text, with_warmup};
 
-use crate::report::push_trace_line;
-use crate::text::{push, push_entry, push_entry_line};
+use crate::report::{Line, append, entry_line, trace_line};
 use bound_base::NoMemory;
+use line_text::LineText;
 use policy_model::PolicyName;
 use replay_core::Replay;
 use std::alloc::Global;
@@ -24,7 +24,8 @@ pub struct ReplayFacts {
 
 // The word of a policy.
 fn word_of_policy(policy: PolicyName) -> &'static [u8]
-    ensures { result.now ≡ policy_word policy }
+    ensures word { result.now ≡ policy_word policy }
+    ensures short { length result.now ≤ 6 }
 {
     match policy {
         PolicyName::Lru => b"lru",
@@ -35,19 +36,23 @@ fn word_of_policy(policy: PolicyName) -> &'static [u8]
     }
 }
 
-fn push_policy_line(text: &mut Vec<u8>, policy: PolicyName, capacity: u64) -> Result<(), NoMemory>
-    ensures { OnOk result (text.new.items ≡ text.old.items ++ line (policy_line policy capacity)) }
+fn policy_line(policy: PolicyName, capacity: u64) -> Line
+    ensures { result ≡ line (policy_line policy capacity) }
 {
-    push(text, b"policy ")?;
-    push(text, word_of_policy(policy))?;
-    push_entry_line(text, b" capacity", capacity as u128)
+    let mut text = LineText::new();
+    text.push(b"policy ");
+    text.push(word_of_policy(policy));
+    text.push_entry_line(b" capacity", capacity);
+    text
 }
 
-fn push_hits_line(text: &mut Vec<u8>, replay: Replay) -> Result<(), NoMemory>
-    ensures { OnOk result (text.new.items ≡ text.old.items ++ line (hits_line replay.hits replay.bytes)) }
+fn hits_line(replay: Replay) -> Line
+    ensures { result ≡ line (hits_line replay.hits replay.bytes) }
 {
-    push_entry(text, b"hits", replay.hits as u128)?;
-    push_entry_line(text, b" bytes", replay.bytes)
+    let mut text = LineText::new();
+    text.push_entry(b"hits", replay.hits);
+    text.push_entry_line(b" bytes", replay.bytes);
+    text
 }
 
 /// The report of a replay.
@@ -55,9 +60,12 @@ pub fn replay_text(alloc: Global, facts: &ReplayFacts) -> Result<Vec<u8>, NoMemo
     ensures { IfOk result (λ text. text.items ≡ replay_text facts.now) }
 {
     let mut text = Vec::new(alloc);
-    push_trace_line(&mut text, facts.requests, facts.objects, facts.dropped)?;
-    push_policy_line(&mut text, facts.policy, facts.capacity)?;
-    push_hits_line(&mut text, facts.replay)?;
+    append(
+        &mut text,
+        &trace_line(facts.requests, facts.objects, facts.dropped),
+    )?;
+    append(&mut text, &policy_line(facts.policy, facts.capacity))?;
+    append(&mut text, &hits_line(facts.replay))?;
     Ok(text)
 }
 
@@ -68,5 +76,5 @@ pub fn push_warmup(text: &mut Vec<u8>, warmup: u32) -> Result<(), NoMemory>
     if warmup == 0 {
         return Ok(());
     }
-    push_entry_line(text, b"warmup", warmup as u128)
+    append(text, &entry_line(b"warmup", warmup as u128))
 }

@@ -1,17 +1,26 @@
 //! The texts of a report of bounds and of a check's yes.
-ghost use Rattle.std.specs.Prelude.{◌≡◌, ◌<◌, ◌++◌, codes, OnOk, IfOk};
+ghost use Rattle.std.specs.Prelude.{◌≡◌, ◌<◌, ◌≤◌, ◌+◌, ◌++◌, codes, length, OnOk, IfOk};
+ghost use Rattle.bound_report.specs.Reports.{capacity_line, flow_line, mode_line, ratio, report_text, trace_line, unit_line, upper_line, value_lines, window_word};
 ghost use Rattle.bound_report.specs.Verdicts.{verdict_text};
-ghost use Rattle.cache_model.specs.Texts.{capacity_line, entry, form_word, line, flow_line, mode_line, objective_word, ratio, report_text, trace_line, unit_line, upper_line, value_lines, text_of, window_word};
+ghost use Rattle.cache_model.specs.Texts.{entry, form_word, line, objective_word, text_of};
 
-use crate::text::{push, push_entry, push_entry_line, push_line, push_number};
+use crate::facts::{BoundFacts, Mode, Window};
 use bound_base::NoMemory;
-use cache_model::{BoundFacts, Header, Mode, Objective, Window};
+use cache_model::{Header, Objective};
 use cert_checker::Verdict;
+use line_text::LineText;
 use std::alloc::Global;
+
+/// The most bytes that a line of a report has.
+const ROOM: usize = 192;
+
+/// A line of a report, with its end.
+pub(crate) type Line = LineText<ROOM>;
 
 // The word of an objective.
 fn word_of_objective(objective: Objective) -> &'static [u8]
-    ensures { result.now ≡ objective_word objective }
+    ensures word { result.now ≡ objective_word objective }
+    ensures short { length result.now ≤ 6 }
 {
     match objective {
         Objective::Object => b"object",
@@ -21,118 +30,147 @@ fn word_of_objective(objective: Objective) -> &'static [u8]
 
 // The word of the form.
 fn word_of_form(exact: bool) -> &'static [u8]
-    ensures { result.now ≡ form_word exact }
+    ensures word { result.now ≡ form_word exact }
+    ensures short { length result.now ≤ 5 }
 {
     if exact { b"exact" } else { b"plain" }
 }
 
-/// Appends the counts of a trace.
-pub(crate) fn push_trace_line(
-    text: &mut Vec<u8>,
-    requests: u32,
-    objects: u32,
-    dropped: u64,
-) -> Result<(), NoMemory>
-    ensures { OnOk result (text.new.items ≡ text.old.items ++ line (trace_line requests objects dropped)) }
+/// The counts of a trace.
+pub(crate) fn trace_line(requests: u32, objects: u32, dropped: u64) -> Line
+    ensures { result ≡ line (trace_line requests objects dropped) }
 {
-    push_entry(text, b"trace requests", requests as u128)?;
-    push_entry(text, b" objects", objects as u128)?;
-    push_entry_line(text, b" dropped", dropped as u128)
+    let mut text = LineText::new();
+    text.push_entry(b"trace requests", requests);
+    text.push_entry(b" objects", objects);
+    text.push_entry_line(b" dropped", dropped);
+    text
 }
 
-fn push_capacity_line(
-    text: &mut Vec<u8>,
-    capacity: u64,
-    objective: Objective,
-) -> Result<(), NoMemory>
-    ensures { OnOk result (text.new.items ≡ text.old.items ++ line (capacity_line capacity objective)) }
+fn capacity_line(capacity: u64, objective: Objective) -> Line
+    ensures { result ≡ line (capacity_line capacity objective) }
 {
-    push_entry(text, b"capacity", capacity as u128)?;
-    push(text, b" objective ")?;
-    push_line(text, word_of_objective(objective))
+    let mut text = LineText::new();
+    text.push_entry(b"capacity", capacity);
+    text.push(b" objective ");
+    text.push_line(word_of_objective(objective));
+    text
 }
 
-fn push_window(text: &mut Vec<u8>, window: Window) -> Result<(), NoMemory>
-    ensures { OnOk result (text.new.items ≡ text.old.items ++ window_word window) }
+fn push_window(text: &mut Line, window: Window)
+    requires { length text.old ≤ 100 }
+    ensures text { text.new ≡ text.old ++ window_word window }
+    ensures short { length text.new ≤ length text.old + 10 }
 {
     match window {
-        Window::All => push(text, b"all"),
-        Window::Steps(width) => push_number(text, width as u128),
+        Window::All => text.push(b"all"),
+        Window::Steps(width) => text.push_number(width),
     }
 }
 
-fn push_mode_line(text: &mut Vec<u8>, mode: Mode, price: u128, exact: bool) -> Result<(), NoMemory>
-    ensures { OnOk result (text.new.items ≡ text.old.items ++ line (mode_line mode price exact)) }
+fn push_mode_line(text: &mut Line, mode: Mode, price: u128, exact: bool)
+    requires { length text.old ≤ 50 }
+    ensures { text.new ≡ text.old ++ line (mode_line mode price exact) }
 {
     match mode {
         Mode::Flow { window } => {
-            push(text, b"mode flow window ")?;
-            push_window(text, window)?;
-            push(text, b" form ")?;
-            push_line(text, word_of_form(exact))
+            text.push(b"mode flow window ");
+            push_window(text, window);
+            text.push(b" form ");
+            text.push_line(word_of_form(exact));
         }
         Mode::Constant => {
-            push_entry(text, b"mode constant price", price)?;
-            push_line(text, b" form plain")?;
-            Ok(())
+            text.push_entry(b"mode constant price", price);
+            text.push_line(b" form plain");
         }
-        Mode::Infinite => push_line(text, b"mode infinite form plain"),
+        Mode::Infinite => text.push_line(b"mode infinite form plain"),
     }
 }
 
-fn push_unit_line(text: &mut Vec<u8>, header: &Header) -> Result<(), NoMemory>
+fn mode_line(facts: &BoundFacts) -> Line
+    ensures { result ≡ line (mode_line facts.now.mode facts.now.price facts.now.header.exact) }
+{
+    let mut text = LineText::new();
+    push_mode_line(&mut text, facts.mode, facts.price, facts.header.exact);
+    text
+}
+
+fn unit_line(header: &Header) -> Line
     requires { 0 < header.now.unit }
-    ensures { OnOk result (text.new.items ≡ text.old.items ++ line (unit_line header.now)) }
+    ensures { result ≡ line (unit_line header.now) }
 {
-    push_entry(text, b"unit", header.unit as u128)?;
-    push_entry(text, b" units", (header.capacity / header.unit) as u128)?;
-    push_entry_line(text, b" denominator", header.denominator as u128)
+    let mut text = LineText::new();
+    text.push_entry(b"unit", header.unit);
+    text.push_entry(b" units", header.capacity / header.unit);
+    text.push_entry_line(b" denominator", header.denominator);
+    text
 }
 
-// A value over the denominator.
-fn push_ratio(
-    text: &mut Vec<u8>,
-    word: &[u8],
-    value: u128,
-    denominator: u64,
-) -> Result<(), NoMemory>
-    ensures { OnOk result (text.new.items ≡ text.old.items ++ ratio word.now value denominator) }
+// A word and a value over the denominator.
+fn push_ratio(text: &mut Line, word: &[u8], value: u128, denominator: u64)
+    requires { length text.old + length word.now ≤ 100 }
+    ensures text { text.new ≡ text.old ++ ratio word.now value denominator }
+    ensures short { length text.new ≤ length text.old + length word.now + 61 }
 {
-    push_entry(text, word, value)?;
-    push(text, b"/")?;
-    push_number(text, denominator as u128)
+    text.push_entry(word, value);
+    text.push(b"/");
+    text.push_number(denominator);
 }
 
-fn push_upper_line(text: &mut Vec<u8>, header: &Header) -> Result<(), NoMemory>
+fn upper_line(header: &Header) -> Line
     requires { 0 < header.now.denominator }
-    ensures { OnOk result (text.new.items ≡ text.old.items ++ line (upper_line header.now)) }
+    ensures { result ≡ line (upper_line header.now) }
 {
-    push_ratio(text, b"upper", header.upper, header.denominator)?;
-    push_entry_line(text, b" floor", header.upper / header.denominator as u128)
+    let mut text = LineText::new();
+    push_ratio(&mut text, b"upper", header.upper, header.denominator);
+    text.push_entry_line(b" floor", header.upper / header.denominator as u128);
+    text
 }
 
-fn push_flow_line(text: &mut Vec<u8>, header: &Header) -> Result<(), NoMemory>
-    ensures { OnOk result (text.new.items ≡ text.old.items ++ line (flow_line header.now)) }
+fn flow_line(header: &Header) -> Line
+    ensures { result ≡ line (flow_line header.now) }
 {
-    push_ratio(text, b"flow", header.flow, header.denominator)?;
-    push_line(text, b"")
+    let mut text = LineText::new();
+    push_ratio(&mut text, b"flow", header.flow, header.denominator);
+    text.push_line(b"");
+    text
 }
 
-fn push_form_line(text: &mut Vec<u8>, exact: bool) -> Result<(), NoMemory>
-    ensures { OnOk result (text.new.items ≡ text.old.items ++ line (codes "form " ++ form_word exact)) }
+/// A line of a word and a number.
+pub(crate) fn entry_line(word: &[u8], number: u128) -> Line
+    requires { length word.now ≤ 100 }
+    ensures { result ≡ line (entry word.now number) }
 {
-    push(text, b"form ")?;
-    push_line(text, word_of_form(exact))
+    let mut text = LineText::new();
+    text.push_entry_line(word, number);
+    text
 }
 
-// The upper bound, the value of the flows, and the lower bound.
-fn push_value_lines(text: &mut Vec<u8>, header: &Header) -> Result<(), NoMemory>
+fn form_line(exact: bool) -> Line
+    ensures { result ≡ line (codes "form " ++ form_word exact) }
+{
+    let mut text = LineText::new();
+    text.push(b"form ");
+    text.push_line(word_of_form(exact));
+    text
+}
+
+/// Appends a line.
+pub(crate) fn append(text: &mut Vec<u8>, line: &Line) -> Result<(), NoMemory>
+    ensures { OnOk result (text.new.items ≡ text.old.items ++ line.now) }
+{
+    text.extend_from_slice(line.as_bytes())?;
+    Ok(())
+}
+
+// Appends the upper bound, the value of the flows, and the lower bound.
+fn append_value_lines(text: &mut Vec<u8>, header: &Header) -> Result<(), NoMemory>
     requires { 0 < header.now.denominator }
     ensures { OnOk result (text.new.items ≡ text.old.items ++ text_of (value_lines header.now)) }
 {
-    push_upper_line(text, header)?;
-    push_flow_line(text, header)?;
-    push_entry_line(text, b"lower", header.lower)?;
+    append(text, &upper_line(header))?;
+    append(text, &flow_line(header))?;
+    append(text, &entry_line(b"lower", header.lower))?;
     Ok(())
 }
 
@@ -144,16 +182,22 @@ pub fn report_text(alloc: Global, facts: &BoundFacts) -> Result<Vec<u8>, NoMemor
 {
     let header = &facts.header;
     let mut text = Vec::new(alloc);
-    push_trace_line(&mut text, header.requests, facts.objects, facts.dropped)?;
-    push_capacity_line(&mut text, header.capacity, header.objective)?;
-    push_mode_line(&mut text, facts.mode, facts.price, header.exact)?;
-    push_unit_line(&mut text, header)?;
-    push_entry_line(&mut text, b"intervals", facts.intervals as u128)?;
-    push_value_lines(&mut text, header)?;
+    append(
+        &mut text,
+        &trace_line(header.requests, facts.objects, facts.dropped),
+    )?;
+    append(&mut text, &capacity_line(header.capacity, header.objective))?;
+    append(&mut text, &mode_line(facts))?;
+    append(&mut text, &unit_line(header))?;
+    append(
+        &mut text,
+        &entry_line(b"intervals", facts.intervals as u128),
+    )?;
+    append_value_lines(&mut text, header)?;
     Ok(text)
 }
 
-/// What a check says of a valid certificate, where the trace has so many dropped lines.
+/// What a check says of a valid certificate, if the trace has this number of dropped lines.
 pub fn verdict_text(alloc: Global, verdict: &Verdict, dropped: u64) -> Result<Vec<u8>, NoMemory>
     requires unit { 0 < verdict.now.header.unit }
     requires denominator { 0 < verdict.now.header.denominator }
@@ -161,11 +205,14 @@ pub fn verdict_text(alloc: Global, verdict: &Verdict, dropped: u64) -> Result<Ve
 {
     let header = &verdict.header;
     let mut text = Vec::new(alloc);
-    push_trace_line(&mut text, header.requests, verdict.objects, dropped)?;
-    push_capacity_line(&mut text, header.capacity, header.objective)?;
-    push_form_line(&mut text, header.exact)?;
-    push_unit_line(&mut text, header)?;
-    push_value_lines(&mut text, header)?;
-    push_line(&mut text, b"valid")?;
+    append(
+        &mut text,
+        &trace_line(header.requests, verdict.objects, dropped),
+    )?;
+    append(&mut text, &capacity_line(header.capacity, header.objective))?;
+    append(&mut text, &form_line(header.exact))?;
+    append(&mut text, &unit_line(header))?;
+    append_value_lines(&mut text, header)?;
+    text.extend_from_slice(b"valid\n")?;
     Ok(text)
 }

@@ -9,7 +9,7 @@ use Rattle.cache_model.specs.declared.certificates.Header.{Header}
 use Rattle.cache_model.specs.declared.certificates.Record.{Record}
 use Rattle.cache_model.specs.Certificates.{IsValid}
 use Rattle.cache_model.specs.Objects.{numbers_of}
-use Rattle.cache_model.specs.Texts.{cert_text}
+use Rattle.cache_model.specs.Texts.{cert_text, header_len}
 use Rattle.trace_any.specs.declared.fault.TraceFault.{TraceFault as FaultOfTrace}
 use Rattle.trace_any.specs.declared.format.Format.{Format}
 use Rattle.trace_any.specs.declared.fault.TraceFault.TheVariants as trace
@@ -19,12 +19,12 @@ use Rattle.bound_io.specs.Devices.{Device, HasFailed}
 use Rattle.bound_report.specs.declared.refusal.LimitName.TheVariants.{Requests, TraceBytes, Denominator}
 use Rattle.cert_format.specs.declared.fault.CertFault.{CertFault as TextFault}
 use Rattle.cert_format.specs.declared.fault.CertFault.TheVariants as cert
-use Rattle.cert_format.specs.declared.invalid.InvalidKind.{InvalidKind}
-use Rattle.cert_format.specs.declared.invalid.InvalidKind.TheVariants.{RequestCount}
+use Rattle.cert_checker.specs.declared.invalid.InvalidKind.{InvalidKind}
+use Rattle.cert_checker.specs.declared.invalid.InvalidKind.TheVariants.{RequestCount}
 use Rattle.cert_format.specs.Readings.{Reading as Certificate}
 use Rattle.cert_format.specs.Readings as certificates
 use Rattle.cert_checker.specs.Rules.{found, first_some, record_fault, end_fault}
-use Rattle.cert_checker.specs.Walks.{Event, at_line, closing, refusal_event, text_event, turn, walk, walk_under}
+use Rattle.cert_checker.specs.Walks.{Event, at_line, events_at, last_events, refusal_event, text_event, walk, walk_under}
 use Rattle.cert_checker.specs.Walks as walks
 use Rattle.cert_checker.proofs.Walked.{passing_is_valid_lem}
 use Rattle.bound_run.specs.declared.bounds.Asked.{Asked}
@@ -67,27 +67,27 @@ of_first : (e : Option Event) (others : List (Option Event)) → IsOfCert e → 
 of_first None others first rest = rest
 of_first (Some e) others first rest = first
 
-of_turn : (h : Header) (c : Certificate) (trace : List Object) (t : ℕ) → IsOfCert (first_some (turn h c trace t))
-of_turn h c trace t =
-    of_first _ _ (of_line (11 + t) (found (t == h.requests) (RequestCount h.requests (t + 1))))
+of_request : (h : Header) (c : Certificate) (trace : List Object) (t : ℕ) → IsOfCert (first_some (events_at h c trace t))
+of_request h c trace t =
+    of_first _ _ (of_line (header_len h + t) (found (t == h.requests) (RequestCount h.requests (t + 1))))
     (of_first _ _ (of_choice (length c.records == t) (text_event c.fault) (of_text c.fault))
-    (of_first _ _ (of_line (12 + t) (record_fault h trace c.records t)) tt))
+    (of_first _ _ (of_line (header_len h + 1 + t) (record_fault h trace c.records t)) tt))
 
-of_closing : (h : Header) (c : Certificate) (trace : Trace) → trace.refused ≡ None → IsOfCert (first_some (closing h c trace))
-of_closing h c trace whole =
+of_last : (h : Header) (c : Certificate) (trace : Trace) → trace.refused ≡ None → IsOfCert (first_some (last_events h c trace))
+of_last h c trace whole =
     let n = length trace.requests in
     of_first _ _ (subst (λ r. IsOfCert (refusal_event r)) (sym whole) tt)
-    (of_first _ _ (of_line (11 + n) (found (nat_lt n h.requests) (RequestCount h.requests n)))
+    (of_first _ _ (of_line (header_len h + n) (found (nat_lt n h.requests) (RequestCount h.requests n)))
     (of_first _ _ (of_choice (length c.records == n) (text_event c.fault) (of_text c.fault))
-    (of_first _ _ (of_line (12 + n) (end_fault h trace.requests c.records)) tt)))
+    (of_first _ _ (of_line (header_len h + 1 + n) (end_fault h trace.requests c.records)) tt)))
 
-of_turns : (f : ℕ → Option Event) (numbers : List ℕ) (rest : List (Option Event)) → ((t : ℕ) → IsOfCert (f t)) → IsOfCert (first_some rest) → IsOfCert (first_some (map f numbers ++ rest))
-of_turns f [] rest each last = last
-of_turns f (t ∷ numbers) rest each last = of_first (f t) (map f numbers ++ rest) (each t) (of_turns f numbers rest each last)
+of_requests : (f : ℕ → Option Event) (numbers : List ℕ) (rest : List (Option Event)) → ((t : ℕ) → IsOfCert (f t)) → IsOfCert (first_some rest) → IsOfCert (first_some (map f numbers ++ rest))
+of_requests f [] rest each last = last
+of_requests f (t ∷ numbers) rest each last = of_first (f t) (map f numbers ++ rest) (each t) (of_requests f numbers rest each last)
 
 of_walk : (trace : Trace) (c : Certificate) (head : Option Header) → trace.refused ≡ None → IsOfCert (walk_under head trace c)
 of_walk trace c None whole = of_text c.fault
-of_walk trace c (Some h) whole = of_turns (λ t. first_some (turn h c trace.requests t)) (numbers_of trace.requests) (closing h c trace) (λ t. of_turn h c trace.requests t) (of_closing h c trace whole)
+of_walk trace c (Some h) whole = of_requests (λ t. first_some (events_at h c trace.requests t)) (numbers_of trace.requests) (last_events h c trace) (λ t. of_request h c trace.requests t) (of_last h c trace whole)
 
 -- the walk over a trace that isn't refused doesn't end at a refusal of it
 never_refused : (trace : Trace) (text : List ℕ) (fault : FaultOfTrace) → trace.refused ≡ None → walk trace text ≡ Some (walks.Refused fault) → ⊥

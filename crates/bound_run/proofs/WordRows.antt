@@ -1,7 +1,7 @@
 -- The words of the command line, at small rows, computed.
 use Rattle.std.proofs.Common.{◌≡◌, ℕ, List, [], ◌∷◌, codes, Ok, Err, refl}
 use Rattle.cache_model.specs.declared.objects.Objective.TheVariants.{Object as Hits, Bytes}
-use Rattle.cache_model.specs.declared.reports.Mode.TheVariants.{Constant, Infinite}
+use Rattle.bound_report.specs.declared.facts.Mode.TheVariants.{Constant, Infinite}
 use Rattle.relaxation.specs.declared.denominators.DenominatorChoice.TheVariants.{Exact, Given}
 use Rattle.trace_any.specs.declared.format.Format.TheVariants.{Webcache, Arc, Msr}
 use Rattle.bound_run.specs.declared.words.Plan.TheVariants.{Bounds, Check}

@@ -7,7 +7,8 @@ use Rattle.cache_model.specs.declared.certificates.Header.{Header}
 use Rattle.cache_model.specs.declared.certificates.Record.{Record}
 use Rattle.cache_model.specs.Certificates.{eligible_of, flow_of, keeps_of, upper_of}
 use Rattle.cache_model.specs.Claim.{IsAllowed, score, terms_of, BoundsEveryPolicy, contents_of}
-use Rattle.cache_model.specs.Texts.{cert_text, report_text}
+use Rattle.cache_model.specs.Texts.{cert_text}
+use Rattle.bound_report.specs.Reports.{report_text}
 use Rattle.cache_model.specs.Units.{HasWholeCosts}
 use Rattle.cert_checker.specs.declared.verdict.Verdict.{Verdict}
 use Rattle.bound_report.specs.Verdicts.{verdict_text}

@@ -6,18 +6,19 @@ use Rattle.cache_model.specs.declared.intervals.Interval.{Interval}
 use Rattle.cache_model.specs.declared.terms.Terms.{Terms}
 use Rattle.cache_model.specs.declared.certificates.Header.{Header}
 use Rattle.cache_model.specs.declared.certificates.Record.{Record}
-use Rattle.cache_model.specs.declared.reports.Mode.{Mode}
-use Rattle.cache_model.specs.declared.reports.Mode.TheVariants.{Flow, Constant, Infinite}
-use Rattle.cache_model.specs.declared.reports.Window.{Window}
-use Rattle.cache_model.specs.declared.reports.Window.TheVariants.{Steps, All as Whole}
-use Rattle.cache_model.specs.declared.reports.BoundFacts.{BoundFacts}
+use Rattle.bound_report.specs.declared.facts.Mode.{Mode}
+use Rattle.bound_report.specs.declared.facts.Mode.TheVariants.{Flow, Constant, Infinite}
+use Rattle.bound_report.specs.declared.facts.Window.{Window}
+use Rattle.bound_report.specs.declared.facts.Window.TheVariants.{Steps, All as Whole}
+use Rattle.bound_report.specs.declared.facts.BoundFacts.{BoundFacts}
 use Rattle.cache_model.specs.Intervals.{eligible_intervals}
 use Rattle.cache_model.specs.Claim.{is_kept, terms_from, terms_of, BoundsEveryPolicy}
 use Rattle.cache_model.specs.Objects.{objects_of}
 use Rattle.cache_model.specs.Units.{IsUnit, HasWholeCosts}
 use Rattle.cache_model.specs.Certificates.{eligible_of, flows_of, keeps_of, prices_of, units_of, IsValid, IsLeastOverAll}
 use Rattle.cache_model.specs.Rounding.{IsMaximal, IsRounded, by_rank}
-use Rattle.cache_model.specs.Texts.{cert_text, report_text}
+use Rattle.cache_model.specs.Texts.{cert_text}
+use Rattle.bound_report.specs.Reports.{report_text}
 use Rattle.flow_model.specs.Instances.{IsLeast, IsSolution, total_cost, whole_instance}
 use Rattle.flow_model.specs.Windows.{window_instance}
 use Rattle.interval_maker.specs.Timelines.{Timeline, starting_at, timeline_of}

@@ -1,8 +1,8 @@
 -- The modes that the program has.
 use Rattle.std.specs.Prelude.{◌^◌, ◌≤◌}
-use Rattle.cache_model.specs.declared.reports.Mode.{Mode}
-use Rattle.cache_model.specs.declared.reports.Mode.TheVariants.{Flow, Constant, Infinite}
-use Rattle.cache_model.specs.declared.reports.Window.TheVariants.{Steps, All as Whole}
+use Rattle.bound_report.specs.declared.facts.Mode.{Mode}
+use Rattle.bound_report.specs.declared.facts.Mode.TheVariants.{Flow, Constant, Infinite}
+use Rattle.bound_report.specs.declared.facts.Window.TheVariants.{Steps, All as Whole}
 
 -- a window has a step, and at most 2^25 steps
 abbrev pub IsModeInRange : Mode → Type 0

@@ -6,10 +6,10 @@ ghost use Rattle.relaxation.specs.Denominators.{IsChoice};
 ghost use Rattle.trace_any.specs.Readings.{IsFormat};
 ghost use Rattle.bound_run.specs.Modes.{IsModeInRange};
 ghost use Rattle.bound_run.specs.Words.{operands_at, places_of, block_given, block_of, capacity_given, capacity_of, denominator_given, denominator_of, format_given, format_of, has_equals, has_operand, is_value, mode_given, mode_of, name_of, names_bounds, names_replay, names_trace, number_to, objective_given, objective_of, place_given, policy_given, policy_of, usual_denominator, value_given, value_of, warmup_given, warmup_of, window_given, window_of};
-ghost use Rattle.cache_model.specs.declared.reports.Mode.TheVariants.{Flow};
+ghost use Rattle.bound_report.specs.declared.facts.Mode.TheVariants.{Flow};
 
 use bound_base::read_u64;
-use cache_model::{Mode, Window};
+use bound_report::{Mode, Window};
 use cache_rules::Objective;
 use policy_model::PolicyName;
 use relaxation::DenominatorChoice;

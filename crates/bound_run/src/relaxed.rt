@@ -3,13 +3,13 @@ ghost use Rattle.std.specs.Prelude.{◌≡◌, ◌≤◌, ◌*◌, ◌-◌, ◌^
 ghost use Prim.Native.Nat.{◌∣◌};
 ghost use Rattle.cache_model.specs.Schedules.{IsFractionalSchedule};
 ghost use Rattle.constant_price.specs.Constants.{constant_prices};
-ghost use Rattle.cache_model.specs.declared.reports.Mode.TheVariants.{Flow};
+ghost use Rattle.bound_report.specs.declared.facts.Mode.TheVariants.{Flow};
 ghost use Rattle.relaxation.specs.Prices.{most_paid};
 ghost use Rattle.bound_run.specs.Made.{IsOfMode, width_of};
 ghost use Rattle.bound_run.specs.Modes.{IsModeInRange};
 
 use bound_base::NoMemory;
-use cache_model::{Mode, Window};
+use bound_report::{Mode, Window};
 use constant_price::least;
 use interval_maker::Intervals;
 use relaxation::instance;

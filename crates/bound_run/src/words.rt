@@ -10,8 +10,7 @@ use crate::operands::{
     is, is_value, mode_given, name_of, objective_given, place_given, policy_given, value_given,
     value_of, warmup_given,
 };
-use bound_report::WordKind;
-use cache_model::Mode;
+use bound_report::{Mode, WordKind};
 use cache_rules::Objective;
 use policy_model::PolicyName;
 use relaxation::DenominatorChoice;

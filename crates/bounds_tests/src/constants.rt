@@ -1,7 +1,7 @@
 //! The least constant prices of small traces.
-use crate::compared::{holds, same};
 use crate::made::intervals_of;
 use cache_rules::Objective;
+use compared::{holds, same};
 use constant_price::least;
 use std::alloc::Global;
 use std::process::Abort;
@@ -136,7 +136,7 @@ const OTHERS: [Row<'static>; 6] = [
 
 fn least_of(rt: &impl Abort, alloc: Global, row: &Row<'_>) -> u128 {
     let intervals = intervals_of(rt, alloc, row.requests, row.capacity, row.objective);
-    holds(rt, row.shows, row.unit >= 1 && row.denominator <= 1 << 48);
+    holds(row.shows, row.unit >= 1 && row.denominator <= 1 << 48).expect(rt, "a row");
     let units = row.capacity / row.unit;
     let price = least(&intervals, row.unit, units, row.denominator);
     drop(intervals);
@@ -146,7 +146,7 @@ fn least_of(rt: &impl Abort, alloc: Global, row: &Row<'_>) -> u128 {
 fn check_all(rt: &impl Abort, alloc: Global, rows: &[Row<'_>]) {
     for row in rows {
         let price = least_of(rt, alloc, row);
-        same(rt, row.shows, price, row.price);
+        same(row.shows, price, row.price).expect(rt, "a row");
     }
 }
 

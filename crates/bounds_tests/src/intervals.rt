@@ -1,7 +1,7 @@
 //! The intervals of small traces, worked out by hand.
-use crate::compared::{holds, same};
 use crate::made::{intervals_of_sizes, intervals_past};
 use cache_rules::Objective;
+use compared::{holds, same};
 use interval_maker::Interval;
 
 const SIZES: [u64; 7] = [2, 3, 2, 7, 3, 2, 7];
@@ -57,8 +57,8 @@ const FITTING: [(u64, Objective, &[Interval]); 3] = [
 fn finds_all_that_fit_by_start_and_end(rt: HostRuntime) {
     for (capacity, objective, want) in &FITTING {
         let made = intervals_of_sizes(&rt, rt.alloc(), &SIZES, *capacity, *objective);
-        same(&rt, *capacity, made.as_slice(), *want);
-        same(&rt, *capacity, made.steps(), 7);
+        same(*capacity, made.as_slice(), *want).expect(&rt, "a row");
+        same(*capacity, made.steps(), 7).expect(&rt, "a row");
         drop(made);
     }
 }
@@ -79,8 +79,8 @@ fn numbers_them_by_start(rt: HostRuntime) {
     let made = intervals_of_sizes(&rt, rt.alloc(), &SIZES, 5, Objective::Bytes);
     for (t, want) in NUMBERS.iter().enumerate() {
         let t = t as u32;
-        holds(&rt, t, t < made.steps());
-        same(&rt, t, (made.starting(t), made.ending(t)), *want);
+        holds(t, t < made.steps()).expect(&rt, "a row");
+        same(t, (made.starting(t), made.ending(t)), *want).expect(&rt, "a row");
     }
     drop(made);
 }

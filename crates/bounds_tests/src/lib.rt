@@ -7,8 +7,6 @@
 #![tactic(auto)]
 
 #[cfg(test)]
-mod compared;
-#[cfg(test)]
 mod constants;
 #[cfg(test)]
 mod intervals;

@@ -1,8 +1,8 @@
 //! Intervals and arcs of few numbers.
 ghost use Rattle.std.specs.Prelude.{◌≡◌};
 
-use crate::compared::holds;
 use cache_rules::{Builder, Object, Objective, Trace};
+use compared::holds;
 use interval_maker::{Intervals, make};
 use relaxation::OuterArc;
 use std::alloc::{AllocError, Global};
@@ -13,7 +13,7 @@ fn trace_of(rt: &impl Abort, alloc: Global, requests: &[[u64; 2]]) -> Trace {
     let mut builder = Builder::new(alloc).expect(rt, "memory");
     for request in requests {
         let [id, size] = *request;
-        holds(rt, id, builder.len() < 100 && size >= 1 && size <= 1 << 48);
+        holds(id, builder.len() < 100 && size >= 1 && size <= 1 << 48).expect(rt, "a row");
         let object = Object {
             volume: 0,
             id,

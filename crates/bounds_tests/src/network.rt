@@ -1,8 +1,8 @@
 //! A small network. The numbers were worked out by hand.
 ghost use Rattle.std.specs.Prelude.{◌≡◌, [], ◌∷◌, length, IfOk};
 
-use crate::compared::same;
 use bound_base::NoMemory;
+use compared::same;
 use flow_network::{Edge, Network};
 use relaxation::{Instance, OuterArc};
 use std::alloc::Global;
@@ -49,12 +49,12 @@ fn a_unit_along_the_arc_can_be_taken_back(rt: HostRuntime) {
     let alloc = rt.alloc();
     let instance = over_both(alloc).expect(&rt, "memory");
     let mut network = Network::new(alloc, &instance).expect(&rt, "memory");
-    same(&rt, "the room at first", room(&network), [3, 3, 0, 2, 0]);
+    same("the room at first", room(&network), [3, 3, 0, 2, 0]).expect(&rt, "a row");
     network.set_potential(0, 7);
     let costs = (network.potential(0), reduced(&network));
-    same(&rt, "the reduced costs", costs, (7, [-2, 2]));
+    same("the reduced costs", costs, (7, [-2, 2])).expect(&rt, "a row");
     network.push(&[Edge::Outer(0)], 1);
-    same(&rt, "the room then", room(&network), [2, 3, 0, 1, 1]);
+    same("the room then", room(&network), [2, 3, 0, 1, 1]).expect(&rt, "a row");
     let flows = network.into_flows();
-    same(&rt, "the flows", flows.as_slice(), [1].as_slice());
+    same("the flows", flows.as_slice(), [1].as_slice()).expect(&rt, "a row");
 }

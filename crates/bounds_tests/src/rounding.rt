@@ -1,10 +1,10 @@
 //! Schedules of small traces, rounded by hand.
 ghost use Rattle.std.specs.Prelude.{◌≡◌, false, replicate, IfOk};
 
-use crate::compared::same;
 use crate::made::intervals_of;
 use bound_base::NoMemory;
 use cache_rules::Objective;
+use compared::same;
 use interval_maker::Intervals;
 use schedule_round::{Keeps, round};
 use std::alloc::Global;
@@ -75,6 +75,6 @@ fn keeps_of_row(rt: &impl Abort, alloc: Global, row: &Row<'_>) -> Keeps {
 fn takes_what_fits_in_order_of_rank(rt: HostRuntime) {
     for row in &ROWS {
         let keeps = keeps_of_row(&rt, rt.alloc(), row);
-        same(&rt, row.shows, keeps.as_slice(), row.keeps);
+        same(row.shows, keeps.as_slice(), row.keeps).expect(&rt, "a row");
     }
 }

@@ -2,9 +2,9 @@
 ghost use Rattle.std.specs.Prelude.{◌≡◌};
 ghost use Rattle.flow_model.specs.Instances.{IsInstance};
 
-use crate::compared::same;
 use crate::made::{THREE_ARCS, arc};
 use bound_base::NoMemory;
+use compared::same;
 use flow_solver::{Solution, Solver};
 use relaxation::{Instance, OuterArc};
 use std::alloc::Global;
@@ -30,17 +30,17 @@ fn earned(arcs: &[OuterArc], flows: &[u64]) -> u128 {
 fn prices_the_step_that_is_too_narrow(rt: HostRuntime) {
     let found = solved(rt.alloc(), 6, 2, &THREE_ARCS).expect(&rt, "memory");
     let want = [0, 0, 1, 0, 0, 0];
-    same(&rt, "prices", found.prices(), want.as_slice());
+    same("prices", found.prices(), want.as_slice()).expect(&rt, "a row");
     let earned = earned(&THREE_ARCS, found.flows());
-    same(&rt, "what is earned", earned, 2);
+    same("what is earned", earned, 2).expect(&rt, "a row");
 }
 
 // The greater cost goes first, and the other arc gets the rest of the room. Worked out by hand.
 #[test]
 fn splits_the_room_by_cost(rt: HostRuntime) {
     let found = solved(rt.alloc(), 4, 4, &[arc(0, 2, 2, 3), arc(1, 3, 3, 2)]).expect(&rt, "memory");
-    same(&rt, "prices", found.prices(), [0, 2, 0, 0].as_slice());
-    same(&rt, "flows", found.flows(), [2, 2].as_slice());
+    same("prices", found.prices(), [0, 2, 0, 0].as_slice()).expect(&rt, "a row");
+    same("flows", found.flows(), [2, 2].as_slice()).expect(&rt, "a row");
 }
 
 // Units that went along the first arc are taken back for the other two. Worked out by hand.
@@ -48,12 +48,12 @@ fn splits_the_room_by_cost(rt: HostRuntime) {
 fn takes_back_what_went_along_an_arc(rt: HostRuntime) {
     let arcs = [arc(1, 3, 1, 5), arc(0, 2, 1, 4), arc(2, 4, 1, 4)];
     let found = solved(rt.alloc(), 4, 1, &arcs).expect(&rt, "memory");
-    same(&rt, "flows", found.flows(), [0, 1, 1].as_slice());
+    same("flows", found.flows(), [0, 1, 1].as_slice()).expect(&rt, "a row");
 }
 
 #[test]
 fn solves_without_steps(rt: HostRuntime) {
     let found = solved(rt.alloc(), 0, 1, &[]).expect(&rt, "memory");
     let counts = [found.prices().len(), found.flows().len()];
-    same(&rt, "counts", counts, [0, 0]);
+    same("counts", counts, [0, 0]).expect(&rt, "a row");
 }

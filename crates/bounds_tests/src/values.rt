@@ -2,10 +2,10 @@
 ghost use Rattle.std.specs.Prelude.{◌≡◌, ◌≤◌, ◌^◌, length, true};
 ghost use Rattle.relaxation.specs.Denominators.{IsChoice};
 
-use crate::compared::{holds, same};
 use crate::made::{arc, intervals_of_sizes};
 use bound_base::NoMemory;
 use cache_rules::Objective;
+use compared::{holds, same};
 use interval_maker::Intervals;
 use relaxation::{
     DenominatorChoice, DenominatorLimit, FlowFault, Instance, PriceFault, Sums, bound_of,
@@ -30,7 +30,7 @@ const UNITS: [(&[u64], u64); 4] = [
 fn weighs_by_the_greatest_divisor(rt: HostRuntime) {
     for (sizes, want) in &UNITS {
         let intervals = intervals_of_sizes(&rt, rt.alloc(), sizes, LARGEST, HITS);
-        same(&rt, *sizes, unit_of(&intervals), *want);
+        same(*sizes, unit_of(&intervals), *want).expect(&rt, "a row");
         drop(intervals);
     }
 }
@@ -47,7 +47,7 @@ const SUMS: [(&[u128], u64, Option<u32>); 5] = [
 
 // The step at which the sum passes its limit. Want of memory is at the last number.
 fn limit_step(rt: &impl Abort, alloc: Global, prices: &[u128], units: u64) -> Option<u32> {
-    holds(rt, units, prices.len() <= 3 && units >= 1);
+    holds(units, prices.len() <= 3 && units >= 1).expect(rt, "a row");
     match Sums::new(alloc, prices, units) {
         Ok(_) => None,
         Err(PriceFault::SumLimit { step }) => Some(step),
@@ -59,7 +59,7 @@ fn limit_step(rt: &impl Abort, alloc: Global, prices: &[u128], units: u64) -> Op
 fn sums_no_further_than_the_limit(rt: HostRuntime) {
     for (prices, units, want) in &SUMS {
         let step = limit_step(&rt, rt.alloc(), prices, *units);
-        same(&rt, (*prices, *units), step, *want);
+        same((*prices, *units), step, *want).expect(&rt, "a row");
     }
 }
 
@@ -134,9 +134,9 @@ fn denominator_of(
 fn denominator_is_within_its_limit(rt: HostRuntime) {
     for row in &DENOMINATORS {
         let intervals = intervals_of_sizes(&rt, rt.alloc(), row.sizes, LARGEST, row.objective);
-        holds(&rt, row.sizes, is_choice(row.choice));
+        holds(row.sizes, is_choice(row.choice)).expect(&rt, "a row");
         let found = denominator_of(&intervals, row.choice);
-        same(&rt, row.sizes, found, row.want);
+        same(row.sizes, found, row.want).expect(&rt, "a row");
         drop(intervals);
     }
 }
@@ -144,16 +144,11 @@ fn denominator_is_within_its_limit(rt: HostRuntime) {
 #[test]
 fn bounds_are_over_the_denominator(rt: HostRuntime) {
     let intervals = intervals_of_sizes(&rt, rt.alloc(), &BY_TURNS, LARGEST, HITS);
-    holds(&rt, "four steps", intervals.steps() == 4);
+    holds("four steps", intervals.steps() == 4).expect(&rt, "a row");
     let sums = Sums::new(rt.alloc(), &[0, 2, 0, 0], 4).expect(&rt, "memory");
-    same(&rt, "the bound", bound_of(&intervals, 1, 4, 6, &sums), 10);
+    same("the bound", bound_of(&intervals, 1, 4, 6, &sums), 10).expect(&rt, "a row");
     let known = Sums::within_limit(rt.alloc(), &[0, 2, 0, 0], 4).expect(&rt, "memory");
-    same(
-        &rt,
-        "of known sums",
-        bound_of(&intervals, 1, 4, 6, &known),
-        10,
-    );
+    same("of known sums", bound_of(&intervals, 1, 4, 6, &known), 10).expect(&rt, "a row");
     drop(intervals);
 }
 
@@ -176,10 +171,10 @@ fn value_of(rt: &impl Abort, intervals: &Intervals, flows: &[u64]) -> Result<u12
 #[test]
 fn values_are_over_the_denominator(rt: HostRuntime) {
     let intervals = intervals_of_sizes(&rt, rt.alloc(), &BY_TURNS, LARGEST, HITS);
-    holds(&rt, "two intervals", intervals.as_slice().len() == 2);
+    holds("two intervals", intervals.as_slice().len() == 2).expect(&rt, "a row");
     for (flows, want) in &FLOWS {
         let value = value_of(&rt, &intervals, flows);
-        same(&rt, *flows, value, *want);
+        same(*flows, value, *want).expect(&rt, "a row");
     }
     drop(intervals);
 }
@@ -196,9 +191,9 @@ fn has_an_arc_for_each_interval(rt: HostRuntime) {
     let intervals = intervals_of_sizes(&rt, rt.alloc(), &BY_TURNS, LARGEST, HITS);
     for (denominator, cost) in [(6, 3), (4, 2)] {
         let whole = whole_over(rt.alloc(), &intervals, denominator).expect(&rt, "memory");
-        same(&rt, denominator, (whole.steps(), whole.units()), (4, 4));
+        same(denominator, (whole.steps(), whole.units()), (4, 4)).expect(&rt, "a row");
         let arcs = [arc(0, 2, 2, cost), arc(1, 3, 3, 2)];
-        same(&rt, denominator, whole.arcs(), arcs.as_slice());
+        same(denominator, whole.arcs(), arcs.as_slice()).expect(&rt, "a row");
     }
     drop(intervals);
 }

@@ -1,9 +1,9 @@
 //! The windows of small instances, with parts that were worked out by hand.
 ghost use Rattle.std.specs.Prelude.{◌≡◌, IfOk};
 
-use crate::compared::{holds, same};
 use crate::made::arc;
 use bound_base::NoMemory;
+use compared::{holds, same};
 use relaxation::{Instance, OuterArc, Windows, window_instance};
 use std::alloc::Global;
 
@@ -93,10 +93,10 @@ const PARTS: [(u32, u32, &[OuterArc]); 3] = [
 fn shares_the_cost_and_leaves_the_rest_to_the_last(rt: HostRuntime) {
     let whole = whole(rt.alloc()).expect(&rt, "memory");
     for (number, steps, arcs) in &PARTS {
-        holds(&rt, *number, *number < 4);
+        holds(*number, *number < 4).expect(&rt, "a row");
         let part = window_instance(rt.alloc(), &whole, 3, *number).expect(&rt, "memory");
-        same(&rt, *number, (part.steps(), part.units()), (*steps, 2));
-        same(&rt, *number, part.arcs(), *arcs);
+        same(*number, (part.steps(), part.units()), (*steps, 2)).expect(&rt, "a row");
+        same(*number, part.arcs(), *arcs).expect(&rt, "a row");
     }
 }
 
@@ -108,11 +108,11 @@ fn goes_through_the_windows_in_order(rt: HostRuntime) {
     let whole = whole(alloc).expect(&rt, "memory");
     let mut windows = Windows::new(alloc, &whole, 3).expect(&rt, "memory");
     for numbers in &NUMBERS {
-        holds(&rt, *numbers, windows.has_step());
-        same(&rt, *numbers, windows.numbers(), *numbers);
+        holds(*numbers, windows.has_step()).expect(&rt, "a row");
+        same(*numbers, windows.numbers(), *numbers).expect(&rt, "a row");
         let parts = windows.instance(alloc).expect(&rt, "memory");
-        same(&rt, *numbers, parts.arcs().len(), numbers.len());
+        same(*numbers, parts.arcs().len(), numbers.len()).expect(&rt, "a row");
         windows.advance();
     }
-    holds(&rt, "the end", !windows.has_step());
+    holds("the end", !windows.has_step()).expect(&rt, "a row");
 }

@@ -11,6 +11,7 @@ use Rattle.cache_model.specs.declared.objects.Objective.{Objective}
 use Rattle.cache_model.specs.declared.objects.Objective.TheVariants.{Object as Hits, Bytes}
 use Rattle.cache_model.specs.declared.certificates.Header.{Header}
 use Rattle.cache_model.specs.declared.certificates.Record.{Record}
+use Rattle.cache_model.specs.declared.version.TheConstants.{CERT_VERSION}
 use Rattle.cache_model.specs.Certificates.{IsHeaderInRange, IsRecordInRange, IsCertificate}
 use Rattle.cache_model.specs.Texts.{text_of, entry, objective_word, form_word, keep_digit, header_lines, record_line, cert_text}
 
@@ -132,7 +133,7 @@ keep_small false = omega arith
 
 header_lacks : (h : Header) → IsHeaderInRange h → AllByRecursion (Lacks 10) (header_lines h)
 header_lacks h r = (
-  Lacks-from_test 10 (codes "cache-bound-certificate 1") refl,
+  lacks-entry (codes "cache-bound-certificate") CERT_VERSION (Lacks-from_test 10 (codes "cache-bound-certificate") refl) (lit< tt),
   (
     lacks-objective h.objective,
     (

@@ -13,8 +13,6 @@ use Rattle.cache_model.specs.declared.intervals.Interval.{Interval}
 use Rattle.cache_model.specs.declared.terms.Terms.{Terms}
 use Rattle.cache_model.specs.declared.certificates.Header.{Header}
 use Rattle.cache_model.specs.declared.certificates.Record.{Record}
-use Rattle.cache_model.specs.declared.reports.Mode.TheVariants.{Flow, Infinite}
-use Rattle.cache_model.specs.declared.reports.Window.TheVariants.{All as Whole}
 use Rattle.cache_model.specs.Claim.{score, terms_from, total_size, held_before, contents_of, is_kept}
 use Rattle.cache_model.specs.Objects.{objects_of}
 use Rattle.cache_model.specs.Intervals.{eligible_intervals, bound_of}
@@ -24,7 +22,7 @@ use Rattle.cache_model.specs.Rounding.{rank, by_rank, by_start, fits_beside, Fit
 use Rattle.cache_model.specs.Certificates.{upper_of, flow_of, flow_at, IsRecordInRange, IsCertificate, IsValid}
 use Rattle.cache_model.proofs.Keeps.{contents_of_keeps}
 use Rattle.cache_model.proofs.Units.{least_whole_is_least_common_multiple}
-use Rattle.cache_model.specs.Texts.{cert_text, report_text, text_of}
+use Rattle.cache_model.specs.Texts.{cert_text, header_len, text_of}
 
 abbrev object : ℕ → ℕ → Object
 object id size = record { volume = 0; id = id; size = size }
@@ -216,6 +214,11 @@ pair_text : cert_text (pair_header true 1) (pair_records 1) ≡ text_of (
 unfolding digits
 pair_text = refl
 
+-- the records begin on the line after these
+pair_lines : header_len (pair_header true 1) ≡ 11
+unfolding header_len
+pair_lines = refl
+
 pair_plain_text : cert_text (pair_header false 0) (pair_records 0) ≡ text_of (
     codes "cache-bound-certificate 1"
     ∷ codes "objective object"
@@ -234,19 +237,6 @@ pair_plain_text : cert_text (pair_header false 0) (pair_records 0) ≡ text_of (
     ∷ [])
 unfolding digits
 pair_plain_text = refl
-
-pair_report : report_text (record { header = pair_header true 1; objects = 1; dropped = 0; mode = Flow Whole; price = 0; intervals = 1 }) ≡ text_of (
-    codes "trace requests 2 objects 1 dropped 0"
-    ∷ codes "capacity 10 objective object"
-    ∷ codes "mode flow window all form exact"
-    ∷ codes "unit 4 units 2 denominator 1"
-    ∷ codes "intervals 1"
-    ∷ codes "upper 1/1 floor 1"
-    ∷ codes "flow 1/1"
-    ∷ codes "lower 1"
-    ∷ [])
-unfolding digits
-pair_report = refl
 
 -- ---- rounding without flags, at capacity 2: the first two are taken
 only_the_first : (t : ℕ) → list_any (λ i. i.start == t) (eligible_intervals (asked Hits 2) cycle) ≡ false → is_kept cycle_keeps t ≡ false
@@ -443,20 +433,6 @@ sixes_bound = refl
 -- ---- one id with two sizes is two objects, and so are two volumes
 one_id : objects_of (object 1 2 ∷ object 1 3 ∷ object 1 2 ∷ record { volume = 1; id = 1; size = 2 } ∷ []) ≡ object 1 2 ∷ object 1 3 ∷ record { volume = 1; id = 1; size = 2 } ∷ []
 one_id = refl
-
--- ---- the report in the modes without a flow
-infinite_report : report_text (record { header = pair_header false 0; objects = 1; dropped = 0; mode = Infinite; price = 0; intervals = 1 }) ≡ text_of (
-    codes "trace requests 2 objects 1 dropped 0"
-    ∷ codes "capacity 10 objective object"
-    ∷ codes "mode infinite form plain"
-    ∷ codes "unit 4 units 2 denominator 1"
-    ∷ codes "intervals 1"
-    ∷ codes "upper 1/1 floor 1"
-    ∷ codes "flow 0/1"
-    ∷ codes "lower 1"
-    ∷ [])
-unfolding digits
-infinite_report = refl
 
 -- ---- the reduced weights 2 and 3 of the same, whose least common multiple 6 is that denominator
 unequal_reduced : AllZip (IsReducedWeight 1) (eligible_intervals (asked Hits 4) unequal) (2 ∷ 3 ∷ [])

@@ -1,15 +1,10 @@
--- The texts of a certificate and of a report, as bytes.
-use Rattle.std.specs.Prelude.{ℕ, ◌/◌, Bool, true, false, List, [], ◌∷◌, ◌++◌, codes, decimal, map, flat_map}
+-- The text of a certificate, as bytes.
+use Rattle.std.specs.Prelude.{ℕ, Bool, true, false, List, [], ◌∷◌, ◌++◌, codes, decimal, length, map, flat_map}
 use Rattle.cache_model.specs.declared.objects.Objective.{Objective}
 use Rattle.cache_model.specs.declared.objects.Objective.TheVariants.{Object as Hits, Bytes}
 use Rattle.cache_model.specs.declared.certificates.Header.{Header}
 use Rattle.cache_model.specs.declared.certificates.Record.{Record}
-use Rattle.cache_model.specs.declared.reports.Window.{Window}
-use Rattle.cache_model.specs.declared.reports.Window.TheVariants.{All, Steps}
-use Rattle.cache_model.specs.declared.reports.Mode.{Mode}
-use Rattle.cache_model.specs.declared.reports.Mode.TheVariants.{Flow, Constant, Infinite}
-use Rattle.cache_model.specs.declared.reports.BoundFacts.{BoundFacts}
-use Rattle.cache_model.specs.Certificates.{units_of}
+use Rattle.cache_model.specs.declared.version.TheConstants.{CERT_VERSION}
 
 -- the words of a line and its end, LF
 abbrev pub line : List ℕ → List ℕ
@@ -38,10 +33,14 @@ abbrev pub keep_digit : Bool → ℕ
 keep_digit true = 1
 keep_digit false = 0
 
+-- what the file is, and the version of its text
+abbrev pub first_line : List ℕ
+first_line = entry (codes "cache-bound-certificate") CERT_VERSION
+
 -- the lines before the records
 abbrev pub header_lines : Header → List (List ℕ)
 header_lines h =
-    codes "cache-bound-certificate 1"
+    first_line
     ∷ (codes "objective " ++ objective_word h.objective)
     ∷ entry (codes "capacity") h.capacity
     ∷ entry (codes "requests") h.requests
@@ -54,6 +53,10 @@ header_lines h =
     ∷ codes "records"
     ∷ []
 
+-- how many lines stand before the records
+unfoldable pub header_len : Header → ℕ
+header_len h = length (header_lines h)
+
 -- price, keep and flow
 abbrev pub record_line : Record → List ℕ
 record_line r = entry (entry (decimal r.price) (keep_digit r.keep)) r.flow
@@ -65,58 +68,3 @@ cert_lines h records = header_lines h ++ map record_line records ++ codes "end" 
 -- the text of a certificate
 abbrev pub cert_text : Header → List Record → List ℕ
 cert_text h records = text_of (cert_lines h records)
-
--- the word of a window
-abbrev pub window_word : Window → List ℕ
-window_word All = codes "all"
-window_word (Steps w) = decimal w
-
--- mode, window or price, and form
-abbrev pub mode_line : Mode → ℕ → Bool → List ℕ
-mode_line (Flow window) price exact = codes "mode flow window " ++ window_word window ++ codes " form " ++ form_word exact
-mode_line Constant price exact = entry (codes "mode constant price") price ++ codes " form plain"
-mode_line Infinite price exact = codes "mode infinite form plain"
-
--- the counts of a trace
-abbrev pub trace_line : ℕ → ℕ → ℕ → List ℕ
-trace_line requests objects dropped =
-    entry (entry (entry (codes "trace requests") requests ++ codes " objects") objects ++ codes " dropped") dropped
-
--- capacity and objective
-abbrev pub capacity_line : ℕ → Objective → List ℕ
-capacity_line capacity objective = entry (codes "capacity") capacity ++ codes " objective " ++ objective_word objective
-
--- unit, units and denominator
-abbrev pub unit_line : Header → List ℕ
-unit_line h = entry (entry (entry (codes "unit") h.unit ++ codes " units") (units_of h) ++ codes " denominator") h.denominator
-
--- a word and a value over the denominator
-abbrev pub ratio : List ℕ → ℕ → ℕ → List ℕ
-ratio word value denominator = entry word value ++ codes "/" ++ decimal denominator
-
--- the upper bound and its floor
-abbrev pub upper_line : Header → List ℕ
-upper_line h = entry (ratio (codes "upper") h.upper h.denominator ++ codes " floor") (h.upper / h.denominator)
-
--- the value of the flows
-abbrev pub flow_line : Header → List ℕ
-flow_line h = ratio (codes "flow") h.flow h.denominator
-
--- the three lines of the values
-abbrev pub value_lines : Header → List (List ℕ)
-value_lines h = upper_line h ∷ flow_line h ∷ entry (codes "lower") h.lower ∷ []
-
--- the eight lines of a report of bounds
-abbrev pub report_lines : BoundFacts → List (List ℕ)
-report_lines facts =
-    let h = facts.header in
-    trace_line h.requests facts.objects facts.dropped
-    ∷ capacity_line h.capacity h.objective
-    ∷ mode_line facts.mode facts.price h.exact
-    ∷ unit_line h
-    ∷ entry (codes "intervals") facts.intervals
-    ∷ value_lines h
-
--- the text of a report of bounds
-abbrev pub report_text : BoundFacts → List ℕ
-report_text facts = text_of (report_lines facts)

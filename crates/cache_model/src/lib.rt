@@ -8,8 +8,8 @@ mod certificates;
 mod intervals;
 mod laws;
 mod objects;
-mod reports;
 mod terms;
+mod version;
 
 pub use certificates::{Header, Record};
 pub use intervals::Interval;
@@ -20,5 +20,5 @@ pub use laws::{
     valid_bounds_every_policy,
 };
 pub use objects::{Object, Objective};
-pub use reports::{BoundFacts, Mode, Window};
 pub use terms::Terms;
+pub use version::CERT_VERSION;

@@ -6,16 +6,17 @@ use Rattle.std.specs.List.{range_with_len}
 use Rattle.cache_model.specs.declared.objects.Object.{Object}
 use Rattle.cache_model.specs.declared.certificates.Header.{Header}
 use Rattle.cache_model.specs.declared.certificates.Record.{Record}
+use Rattle.cache_model.specs.Texts.{header_len}
 use Rattle.trace_any.specs.declared.fault.TraceFault.{TraceFault}
 use Rattle.trace_any.specs.Readings as traces
 use Rattle.trace_any.specs.Readers as requests
 use Rattle.cert_format.specs.declared.fault.CertFault.{CertFault}
-use Rattle.cert_format.specs.declared.invalid.InvalidKind.{InvalidKind}
-use Rattle.cert_format.specs.declared.invalid.InvalidKind.TheVariants.{RequestCount}
+use Rattle.cert_checker.specs.declared.invalid.InvalidKind.{InvalidKind}
+use Rattle.cert_checker.specs.declared.invalid.InvalidKind.TheVariants.{RequestCount}
 use Rattle.cert_format.specs.Readings as certificates
 use Rattle.cert_checker.specs.Checks.{after_records}
 use Rattle.cert_checker.specs.Rules.{found, first_some, record_fault, end_fault}
-use Rattle.cert_checker.specs.Walks.{Event, Invalid, Refused, at_line, text_event, text_after, refusal_event, turn, closing, walk_under}
+use Rattle.cert_checker.specs.Walks.{Event, Invalid, Refused, at_line, text_event, text_after, refusal_event, events_at, last_events, walk_under}
 use Rattle.cert_checker.proofs.Prefixes.{record_fault-prefix}
 
 -- what gives nothing is passed
@@ -65,34 +66,34 @@ module _ (h : Header) (given : List Object) (records : List Record) (one : lengt
     text_none t low =
         ap (λ b. cond b (text_event c.fault) None) (ne_eqb (length (records ++ c.records)) t (λ e. omega (arith, e, low, one, length-append records c.records)))
 
-    passes : (t : ℕ) → t < length given → first_some (turn h (after_records h records c) (given ++ more) t) ≡ None
+    passes : (t : ℕ) → t < length given → first_some (events_at h (after_records h records c) (given ++ more) t) ≡ None
     passes t low =
         let cc = after_records h records c in
         let text = text_after cc t in
-        let rule = at_line (12 + t) (record_fault h (given ++ more) cc.records t) in
-        skip (at_line (11 + t) (found (t == h.requests) (RequestCount h.requests (t + 1)))) (text ∷ rule ∷ []) (not_found (t == h.requests) (11 + t) (RequestCount h.requests (t + 1)) (ne_eqb t h.requests (λ e. omega (arith, e, low, within))))
+        let rule = at_line (header_len h + 1 + t) (record_fault h (given ++ more) cc.records t) in
+        skip (at_line (header_len h + t) (found (t == h.requests) (RequestCount h.requests (t + 1)))) (text ∷ rule ∷ []) (not_found (t == h.requests) (header_len h + t) (RequestCount h.requests (t + 1)) (ne_eqb t h.requests (λ e. omega (arith, e, low, within))))
         ∙ skip text (rule ∷ []) (text_none t low)
-        ∙ skip rule [] (ap (at_line (12 + t)) (record_fault-prefix h given more records c.records t low (omega (arith, low, one)) ∙ no_fault t low))
+        ∙ skip rule [] (ap (at_line (header_len h + 1 + t)) (record_fault-prefix h given more records c.records t low (omega (arith, low, one)) ∙ no_fault t low))
 
-  -- a turn that gives an event is the first of the walk
-  turn_first : (x : Object) (rest : traces.Reading) (c : certificates.Reading) (e : Event) → first_some (turn h (after_records h records c) (given ++ x ∷ rest.requests) (length given)) ≡ Some e
+  -- an event at a request is the first of the walk, if none comes before
+  event_first : (x : Object) (rest : traces.Reading) (c : certificates.Reading) (e : Event) → first_some (events_at h (after_records h records c) (given ++ x ∷ rest.requests) (length given)) ≡ Some e
       → walk_of (requests.after given (requests.onto x rest)) (after_records h records c) ≡ Some e
-  turn_first x rest c e is =
+  event_first x rest c e is =
       let trace = given ++ x ∷ rest.requests in
-      let f : ℕ → Option Event = λ t. first_some (turn h (after_records h records c) trace t) in
+      let f : ℕ → Option Event = λ t. first_some (events_at h (after_records h records c) trace t) in
       let here : 0 + length given ≡ length given = omega arith in
-      stop_at f (closing h (after_records h records c) (requests.after given (requests.onto x rest))) 0 (length given) (length trace) e
+      stop_at f (last_events h (after_records h records c) (requests.after given (requests.onto x rest))) 0 (length given) (length trace) e
       (λ k low high. passes (x ∷ rest.requests) c k (omega (arith, high, here))) (ap f here ∙ is) (omega (arith, length-append given (x ∷ rest.requests)))
 
   -- one request more than the header says
   pub walked_too_many : (x : Object) (rest : traces.Reading) (c : certificates.Reading) → length given ≡ h.requests
-      → walk_of (requests.after given (requests.onto x rest)) (after_records h records c) ≡ Some (Invalid (11 + length given) (RequestCount h.requests (length given + 1)))
+      → walk_of (requests.after given (requests.onto x rest)) (after_records h records c) ≡ Some (Invalid (header_len h + length given) (RequestCount h.requests (length given + 1)))
   walked_too_many x rest c full =
       let t = length given in
       let cc = after_records h records c in
-      turn_first x rest c _
-      (stop (at_line (11 + t) (found (t == h.requests) (RequestCount h.requests (t + 1)))) (text_after cc t ∷ at_line (12 + t) (record_fault h (given ++ x ∷ rest.requests) cc.records t) ∷ []) _
-      (is_found (t == h.requests) (11 + t) (RequestCount h.requests (t + 1)) (eq-eqb t h.requests full)))
+      event_first x rest c _
+      (stop (at_line (header_len h + t) (found (t == h.requests) (RequestCount h.requests (t + 1)))) (text_after cc t ∷ at_line (header_len h + 1 + t) (record_fault h (given ++ x ∷ rest.requests) cc.records t) ∷ []) _
+      (is_found (t == h.requests) (header_len h + t) (RequestCount h.requests (t + 1)) (eq-eqb t h.requests full)))
 
   -- the line of the record is not read
   pub walked_text : (x : Object) (rest : traces.Reading) (c : certificates.Reading) (f : CertFault) (e : Event) → length given < h.requests → c ≡ certificates.stopped (Some f) → text_event (Some f) ≡ Some e
@@ -101,9 +102,9 @@ module _ (h : Header) (given : List Object) (records : List Record) (one : lengt
       let t = length given in
       let cc = after_records h records c in
       let none : length c.records ≡ 0 = ap (λ r. length r.records) is in
-      let rule = at_line (12 + t) (record_fault h (given ++ x ∷ rest.requests) cc.records t) in
-      turn_first x rest c e
-      (skip (at_line (11 + t) (found (t == h.requests) (RequestCount h.requests (t + 1)))) (text_after cc t ∷ rule ∷ []) (not_found (t == h.requests) (11 + t) (RequestCount h.requests (t + 1)) (ne_eqb t h.requests (λ same. omega (arith, same, fewer))))
+      let rule = at_line (header_len h + 1 + t) (record_fault h (given ++ x ∷ rest.requests) cc.records t) in
+      event_first x rest c e
+      (skip (at_line (header_len h + t) (found (t == h.requests) (RequestCount h.requests (t + 1)))) (text_after cc t ∷ rule ∷ []) (not_found (t == h.requests) (header_len h + t) (RequestCount h.requests (t + 1)) (ne_eqb t h.requests (λ same. omega (arith, same, fewer))))
       ∙ stop (text_after cc t) (rule ∷ []) e
       (ap (λ b. cond b (text_event c.fault) None) (eq-eqb (length (records ++ c.records)) t (omega (arith, one, none, length-append records c.records)))
       ∙ (ap (λ r. text_event r.fault) is ∙ event)))
@@ -111,29 +112,29 @@ module _ (h : Header) (given : List Object) (records : List Record) (one : lengt
   -- the record fails a rule
   pub walked_rule : (x : Object) (rest : traces.Reading) (r : Record) (others : certificates.Reading) (c : certificates.Reading) (kind : InvalidKind) → length given < h.requests → c ≡ certificates.onto r others
       → record_fault h (given ++ x ∷ []) (records ++ r ∷ []) (length given) ≡ Some kind
-      → walk_of (requests.after given (requests.onto x rest)) (after_records h records c) ≡ Some (Invalid (12 + length given) kind)
+      → walk_of (requests.after given (requests.onto x rest)) (after_records h records c) ≡ Some (Invalid (header_len h + 1 + length given) kind)
   walked_rule x rest r others c kind fewer is fails =
       let t = length given in
       let next = after_records h records (certificates.onto r others) in
       let trace = given ++ x ∷ rest.requests in
       let W : certificates.Reading → Option Event = λ d. walk_of (requests.after given (requests.onto x rest)) (after_records h records d) in
-      let rule = at_line (12 + t) (record_fault h trace next.records t) in
+      let rule = at_line (header_len h + 1 + t) (record_fault h trace next.records t) in
       let trace_is : trace ≡ (given ++ x ∷ []) ++ rest.requests = sym (append_assoc given (x ∷ []) rest.requests) in
       let records_are : next.records ≡ (records ++ r ∷ []) ++ others.records = sym (append_assoc records (r ∷ []) others.records) in
       let prefix = ap (λ xs. record_fault h xs next.records t) trace_is
       ∙ (ap (λ rs. record_fault h ((given ++ x ∷ []) ++ rest.requests) rs t) records_are
       ∙ (record_fault-prefix h (given ++ x ∷ []) rest.requests (records ++ r ∷ []) others.records t (omega (arith, length-append given (x ∷ []))) (omega (arith, one, length-append records (r ∷ []))) ∙ fails)) in
-      ap W is ∙ turn_first x rest (certificates.onto r others) _
-      (skip (at_line (11 + t) (found (t == h.requests) (RequestCount h.requests (t + 1)))) (text_after next t ∷ rule ∷ []) (not_found (t == h.requests) (11 + t) (RequestCount h.requests (t + 1)) (ne_eqb t h.requests (λ same. omega (arith, same, fewer))))
+      ap W is ∙ event_first x rest (certificates.onto r others) _
+      (skip (at_line (header_len h + t) (found (t == h.requests) (RequestCount h.requests (t + 1)))) (text_after next t ∷ rule ∷ []) (not_found (t == h.requests) (header_len h + t) (RequestCount h.requests (t + 1)) (ne_eqb t h.requests (λ same. omega (arith, same, fewer))))
       ∙ (skip (text_after next t) (rule ∷ []) (ap (λ b. cond b (text_event others.fault) None) (ne_eqb (length (records ++ r ∷ others.records)) t (λ e. omega (arith, e, one, length-append records (r ∷ others.records)))))
-      ∙ stop rule [] _ (ap (at_line (12 + t)) prefix)))
+      ∙ stop rule [] _ (ap (at_line (header_len h + 1 + t)) prefix)))
 
-  -- all turns pass
-  close_first : (trace : traces.Reading) (c : certificates.Reading) → trace.requests ≡ given → walk_of trace (after_records h records c) ≡ first_some (closing h (after_records h records c) trace)
+  -- no request gives an event
+  close_first : (trace : traces.Reading) (c : certificates.Reading) → trace.requests ≡ given → walk_of trace (after_records h records c) ≡ first_some (last_events h (after_records h records c) trace)
   close_first trace c is =
       let cc = after_records h records c in
-      let end = closing h cc trace in
-      let f : List Object → ℕ → Option Event = λ xs t. first_some (turn h cc xs t) in
+      let end = last_events h cc trace in
+      let f : List Object → ℕ → Option Event = λ xs t. first_some (events_at h cc xs t) in
       let all : given ++ [] ≡ given = append-nil given in
       let here : 0 + length given ≡ length given = omega arith in
       ap (λ xs. first_some (map (f xs) (range_with_len 0 (length xs)) ++ end)) is
@@ -146,26 +147,26 @@ module _ (h : Header) (given : List Object) (records : List Record) (one : lengt
       let k = length trace.requests in
       let cc = after_records h records c in
       close_first trace c all
-      ∙ stop (refusal_event trace.refused) (at_line (11 + k) (found (nat_lt k h.requests) (RequestCount h.requests k)) ∷ text_after cc k ∷ at_line (12 + k) (end_fault h trace.requests cc.records) ∷ []) _ (ap refusal_event is)
+      ∙ stop (refusal_event trace.refused) (at_line (header_len h + k) (found (nat_lt k h.requests) (RequestCount h.requests k)) ∷ text_after cc k ∷ at_line (header_len h + 1 + k) (end_fault h trace.requests cc.records) ∷ []) _ (ap refusal_event is)
 
   module _ (trace : traces.Reading) (c : certificates.Reading) (all : trace.requests ≡ given) (whole : trace.refused ≡ None) where
     -- the events of the end, by the requests
     abbrev ends : List Object → List (Option Event)
-    ends xs = at_line (11 + length xs) (found (nat_lt (length xs) h.requests) (RequestCount h.requests (length xs))) ∷ text_after (after_records h records c) (length xs) ∷ at_line (12 + length xs) (end_fault h xs (records ++ c.records)) ∷ []
+    ends xs = at_line (header_len h + length xs) (found (nat_lt (length xs) h.requests) (RequestCount h.requests (length xs))) ∷ text_after (after_records h records c) (length xs) ∷ at_line (header_len h + 1 + length xs) (end_fault h xs (records ++ c.records)) ∷ []
 
     close_ends : walk_of trace (after_records h records c) ≡ first_some (ends given)
     close_ends = close_first trace c all ∙ (skip (refusal_event trace.refused) (ends trace.requests) (ap refusal_event whole) ∙ ap (λ xs. first_some (ends xs)) all)
 
     -- fewer requests than the header says
-    pub walked_too_few : length given < h.requests → walk_of trace (after_records h records c) ≡ Some (Invalid (11 + length given) (RequestCount h.requests (length given)))
+    pub walked_too_few : length given < h.requests → walk_of trace (after_records h records c) ≡ Some (Invalid (header_len h + length given) (RequestCount h.requests (length given)))
     walked_too_few fewer =
         let t = length given in
-        close_ends ∙ stop (at_line (11 + t) (found (nat_lt t h.requests) (RequestCount h.requests t))) (text_after (after_records h records c) t ∷ at_line (12 + t) (end_fault h given (records ++ c.records)) ∷ []) _
-        (is_found (nat_lt t h.requests) (11 + t) (RequestCount h.requests t) (lt-ltb t h.requests fewer))
+        close_ends ∙ stop (at_line (header_len h + t) (found (nat_lt t h.requests) (RequestCount h.requests t))) (text_after (after_records h records c) t ∷ at_line (header_len h + 1 + t) (end_fault h given (records ++ c.records)) ∷ []) _
+        (is_found (nat_lt t h.requests) (header_len h + t) (RequestCount h.requests t) (lt-ltb t h.requests fewer))
 
     module _ (full : length given ≡ h.requests) where
-      enough : at_line (11 + length given) (found (nat_lt (length given) h.requests) (RequestCount h.requests (length given))) ≡ None
-      enough = not_found (nat_lt (length given) h.requests) (11 + length given) (RequestCount h.requests (length given)) (le-ltb (length given) h.requests (omega (arith, full)))
+      enough : at_line (header_len h + length given) (found (nat_lt (length given) h.requests) (RequestCount h.requests (length given))) ≡ None
+      enough = not_found (nat_lt (length given) h.requests) (header_len h + length given) (RequestCount h.requests (length given)) (le-ltb (length given) h.requests (omega (arith, full)))
 
       text_at : (fault : Option CertFault) → c ≡ certificates.stopped fault → text_after (after_records h records c) (length given) ≡ text_event fault
       text_at fault is =
@@ -176,22 +177,22 @@ module _ (h : Header) (given : List Object) (records : List Record) (one : lengt
       -- the end is not read
       pub walked_end_text : (f : CertFault) (e : Event) → c ≡ certificates.stopped (Some f) → text_event (Some f) ≡ Some e → walk_of trace (after_records h records c) ≡ Some e
       walked_end_text f e is event =
-          let rule = at_line (12 + length given) (end_fault h given (records ++ c.records)) in
+          let rule = at_line (header_len h + 1 + length given) (end_fault h given (records ++ c.records)) in
           close_ends ∙ (skip _ (text_after (after_records h records c) (length given) ∷ rule ∷ []) enough
           ∙ stop (text_after (after_records h records c) (length given)) (rule ∷ []) e (text_at (Some f) is ∙ event))
 
       -- the end is read, and its rules decide
-      pub walked_end : c ≡ certificates.stopped None → walk_of trace (after_records h records c) ≡ first_some (at_line (12 + length given) (end_fault h given records) ∷ [])
+      pub walked_end : c ≡ certificates.stopped None → walk_of trace (after_records h records c) ≡ first_some (at_line (header_len h + 1 + length given) (end_fault h given records) ∷ [])
       walked_end is =
           let t = length given in
-          let rule = at_line (12 + t) (end_fault h given (records ++ c.records)) in
+          let rule = at_line (header_len h + 1 + t) (end_fault h given (records ++ c.records)) in
           let all_records : records ++ c.records ≡ records = ap (λ r. records ++ r.records) is ∙ append-nil records in
           close_ends ∙ (skip _ (text_after (after_records h records c) t ∷ rule ∷ []) enough
           ∙ (skip (text_after (after_records h records c) t) (rule ∷ []) (text_at None is)
-          ∙ ap (λ rs. first_some (at_line (12 + t) (end_fault h given rs) ∷ [])) all_records))
+          ∙ ap (λ rs. first_some (at_line (header_len h + 1 + t) (end_fault h given rs) ∷ [])) all_records))
 
-      pub walked_end_rule : (kind : InvalidKind) → c ≡ certificates.stopped None → end_fault h given records ≡ Some kind → walk_of trace (after_records h records c) ≡ Some (Invalid (12 + length given) kind)
-      walked_end_rule kind is fails = walked_end is ∙ ap (λ f. first_some (at_line (12 + length given) f ∷ [])) fails
+      pub walked_end_rule : (kind : InvalidKind) → c ≡ certificates.stopped None → end_fault h given records ≡ Some kind → walk_of trace (after_records h records c) ≡ Some (Invalid (header_len h + 1 + length given) kind)
+      walked_end_rule kind is fails = walked_end is ∙ ap (λ f. first_some (at_line (header_len h + 1 + length given) f ∷ [])) fails
 
       pub walked_all : c ≡ certificates.stopped None → end_fault h given records ≡ None → walk_of trace (after_records h records c) ≡ None
-      walked_all is none = walked_end is ∙ ap (λ f. first_some (at_line (12 + length given) f ∷ [])) none
+      walked_all is none = walked_end is ∙ ap (λ f. first_some (at_line (header_len h + 1 + length given) f ∷ [])) none

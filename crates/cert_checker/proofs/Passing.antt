@@ -6,13 +6,13 @@ use Rattle.std.specs.Option.{option_or, option_map}
 use Rattle.std.proofs.Common.{eq-eqb}
 use Rattle.std.proofs.lemmas.Bool.{eqb-true, not-false}
 use Rattle.cert_checker.specs.declared.verdict.Counted.{Counted}
-use Rattle.cert_format.specs.declared.invalid.InvalidKind.TheVariants.{Unused}
+use Rattle.cert_checker.specs.declared.invalid.InvalidKind.TheVariants.{Unused}
 use Rattle.cache_model.specs.declared.objects.Object.{Object}
 use Rattle.cache_model.specs.declared.certificates.Header.{Header}
 use Rattle.cache_model.specs.declared.certificates.Record.{Record}
 use Rattle.cache_model.specs.Claim.{gain_of}
 use Rattle.cache_model.specs.Certificates.{units_of}
-use Rattle.cert_format.specs.declared.invalid.InvalidKind.{InvalidKind}
+use Rattle.cert_checker.specs.declared.invalid.InvalidKind.{InvalidKind}
 use Rattle.cert_checker.specs.declared.rules.Figures.{Figures}
 use Rattle.cert_checker.specs.Rules.{found, first_some, divides, ends_interval, weight_in, record_rules, end_rules, unless_fault}
 

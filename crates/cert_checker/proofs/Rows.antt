@@ -1,5 +1,5 @@
 -- The rules and the walk at small certificates, computed.
-use Rattle.std.proofs.Common.{◌≡◌, ℕ, Bool, true, false, List, [], ◌∷◌, ◌++◌, map, refl}
+use Rattle.std.proofs.Common.{◌≡◌, ℕ, ◌+◌, Bool, true, false, List, [], ◌∷◌, ◌++◌, map, refl}
 use Rattle.std.specs.Prelude.{Some, None}
 use Rattle.std.specs.declared.option.Option.{Option}
 use Rattle.std.specs.Fmt.{digits}
@@ -7,12 +7,12 @@ use Rattle.cache_model.specs.declared.objects.Object.{Object}
 use Rattle.cache_model.specs.declared.objects.Objective.TheVariants.{Object as Hits}
 use Rattle.cache_model.specs.declared.certificates.Header.{Header}
 use Rattle.cache_model.specs.declared.certificates.Record.{Record}
-use Rattle.cache_model.specs.Texts.{cert_text}
+use Rattle.cache_model.specs.Texts.{cert_text, header_len}
 use Rattle.trace_any.specs.declared.fault.TraceFault.{TraceFault}
 use Rattle.trace_any.specs.declared.fault.TraceFault.TheVariants.{InputTooLong}
 use Rattle.trace_any.specs.Readings as traces
-use Rattle.cert_format.specs.declared.invalid.InvalidKind.{InvalidKind}
-use Rattle.cert_format.specs.declared.invalid.InvalidKind.TheVariants.{Truncated, Trailing, SumLimit, LastPrice, UnitNotDivisor, NotDivisible, Overfull, FlowAboveWeight, FlowOverfull, Unused, UpperDiffers, FlowDiffers, LowerDiffers, ExactGap, RequestCount}
+use Rattle.cert_checker.specs.declared.invalid.InvalidKind.{InvalidKind}
+use Rattle.cert_checker.specs.declared.invalid.InvalidKind.TheVariants.{Truncated, Trailing, SumLimit, LastPrice, UnitNotDivisor, NotDivisible, Overfull, FlowAboveWeight, FlowOverfull, Unused, UpperDiffers, FlowDiffers, LowerDiffers, ExactGap, RequestCount}
 use Rattle.cert_format.specs.Readings as certificates
 use Rattle.cert_checker.specs.Rules.{record_fault, end_fault}
 use Rattle.cert_checker.specs.Walks.{Event, Invalid, Refused, walk, walk_under}
@@ -118,25 +118,32 @@ walked trace h records = walk_under (Some h) (known trace None) (certificates.wh
 cycle_walk : walked cycle (cycle_header 2) (cycle_records 0 (entry 1 false 0)) ≡ None
 cycle_walk = refl
 
-upper_walk : walked cycle (cycle_header 3) (cycle_records 0 (entry 1 false 0)) ≡ Some (Invalid 18 (UpperDiffers 3 2))
+upper_walk : walked cycle (cycle_header 3) (cycle_records 0 (entry 1 false 0)) ≡ Some (Invalid (header_len (cycle_header 3) + 7) (UpperDiffers 3 2))
+unfolding header_len
 upper_walk = refl
 
-keep_walk : walked cycle (cycle_header 2) (cycle_records 0 (entry 1 true 0)) ≡ Some (Invalid 14 (Overfull 3 2))
+keep_walk : walked cycle (cycle_header 2) (cycle_records 0 (entry 1 true 0)) ≡ Some (Invalid (header_len (cycle_header 2) + 3) (Overfull 3 2))
+unfolding header_len
 keep_walk = refl
 
-price_walk : walked cycle (cycle_header 2) (cycle_records 85070591730234615865843651857942052864 (entry 1 false 0)) ≡ Some (Invalid 12 SumLimit)
+price_walk : walked cycle (cycle_header 2) (cycle_records 85070591730234615865843651857942052864 (entry 1 false 0)) ≡ Some (Invalid (header_len (cycle_header 2) + 1) SumLimit)
+unfolding header_len
 price_walk = refl
 
-unused_walk : walked pair (pair_header 4 1 1 1) (pair_records 1 0 1) ≡ Some (Invalid 14 (Unused 1))
+unused_walk : walked pair (pair_header 4 1 1 1) (pair_records 1 0 1) ≡ Some (Invalid (header_len (pair_header 4 1 1 1) + 3) (Unused 1))
+unfolding header_len
 unused_walk = refl
 
-more_requests : walked (object 7 4 ∷ pair) (pair_header 4 1 1 1) (pair_records 1 0 0) ≡ Some (Invalid 13 (RequestCount 2 3))
+more_requests : walked (object 7 4 ∷ pair) (pair_header 4 1 1 1) (pair_records 1 0 0) ≡ Some (Invalid (header_len (pair_header 4 1 1 1) + 2) (RequestCount 2 3))
+unfolding header_len
 more_requests = refl
 
-fewer_requests : walked (object 7 4 ∷ []) (pair_header 4 1 1 1) (pair_records 1 0 0) ≡ Some (Invalid 12 (RequestCount 2 1))
+fewer_requests : walked (object 7 4 ∷ []) (pair_header 4 1 1 1) (pair_records 1 0 0) ≡ Some (Invalid (header_len (pair_header 4 1 1 1) + 1) (RequestCount 2 1))
+unfolding header_len
 fewer_requests = refl
 
-unit_walk : walked pair (pair_header 3 1 1 1) (pair_records 1 0 0) ≡ Some (Invalid 13 (UnitNotDivisor 3 4))
+unit_walk : walked pair (pair_header 3 1 1 1) (pair_records 1 0 0) ≡ Some (Invalid (header_len (pair_header 3 1 1 1) + 2) (UnitNotDivisor 3 4))
+unfolding header_len
 unit_walk = refl
 
 -- the trace is refused after its first request: the record of that is still read, and the next is not
@@ -145,11 +152,11 @@ refused_walk = refl
 
 -- ---- walks over the bytes of a certificate
 pair_bytes : walk (known pair None) (cert_text (pair_header 4 1 1 1) (pair_records 1 0 0)) ≡ None
-unfolding digits certificates.after_lines certificates.header_in certificates.read_records
+unfolding digits header_len certificates.after_lines certificates.header_in certificates.read_records
 pair_bytes = refl
 
-pair_bytes_more : walk (known pair None) (cert_text (pair_header 4 1 1 1) (pair_records 1 0 0) ++ 10 ∷ []) ≡ Some (Invalid 15 Trailing)
-unfolding digits certificates.after_lines certificates.header_in certificates.read_records
+pair_bytes_more : walk (known pair None) (cert_text (pair_header 4 1 1 1) (pair_records 1 0 0) ++ 10 ∷ []) ≡ Some (Invalid (header_len (pair_header 4 1 1 1) + 4) Trailing)
+unfolding digits header_len certificates.after_lines certificates.header_in certificates.read_records
 pair_bytes_more = refl
 
 no_bytes : walk (known pair None) [] ≡ Some (Invalid 1 Truncated)

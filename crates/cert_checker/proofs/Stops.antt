@@ -7,6 +7,7 @@ use Rattle.bound_io.specs.Devices.{device}
 use Rattle.cache_model.specs.declared.objects.Object.{Object}
 use Rattle.cache_model.specs.declared.certificates.Header.{Header}
 use Rattle.cache_model.specs.declared.certificates.Record.{Record}
+use Rattle.cache_model.specs.Texts.{header_len}
 use Rattle.trace_any.specs.declared.fault.TraceFault.{TraceFault}
 use Rattle.trace_any.specs.declared.fault.TraceFault.TheVariants as refusal
 use Rattle.trace_any.specs.Readings as traces
@@ -14,7 +15,7 @@ use Rattle.trace_any.specs.Readers as requests
 use Rattle.trace_any.specs.Readers.{IsWhole}
 use Rattle.cert_format.specs.declared.fault.CertFault.{CertFault}
 use Rattle.cert_format.specs.declared.fault.CertFault.TheVariants as text
-use Rattle.cert_format.specs.declared.invalid.InvalidKind.TheVariants.{RequestCount}
+use Rattle.cert_checker.specs.declared.invalid.InvalidKind.TheVariants.{RequestCount}
 use Rattle.cert_format.specs.Lines.{known, IsPast, IsWithin}
 use Rattle.cert_format.specs.Readings as certificates
 use Rattle.cert_format.specs.Readings.{after_lines, bytes_through}
@@ -56,6 +57,10 @@ pub consumed_on : (h : Header) (records : List Record) (now end : Inputs) (bytes
 consumed_on h records now end bytes has past =
     let is = at_some (known now.cert.lines now.certificate) _ _ has.stands_in past in
     (is.further, is.consumed ∙ (ap (λ n. n + bytes_through (end.cert.lines.line - now.cert.lines.line) (after_lines now.cert.lines.line bytes)) has.consumed ∙ sym (through now.cert.lines.line end.cert.lines.line bytes is.further)))
+
+-- the line that was read last is that of the last record
+pub last_line : (h : Header) (given : List Object) (records : List Record) (checker : Summary) (line : ℕ) → StandsFor h given records checker → line ≡ header_len checker.header + checker.sums.steps → line ≡ header_len h + length given
+last_line h given records checker line stands is = is ∙ (ap (λ k. header_len k + checker.sums.steps) stands.header ∙ ap (λ n. header_len h + n) stands.sums.steps)
 
 -- a buffer at most was taken past a line that was reached
 pub near_line : (h : Header) (records : List Record) (start now end : Inputs) (line : ℕ) → IfSome start.certificate (HasRecords h records now) → IfSome (known now.cert.lines now.certificate) (IsPast now.cert.lines end.cert.lines)
@@ -108,27 +113,27 @@ text_stop start end cert left faults (text.Truncated n) refused earlier reached 
 text_stop start end cert left faults (text.Trailing n) refused earlier reached near walked = record { event = walked (text.Trailing n) _ refl refused; near = near n reached }
 text_stop start end cert left faults text.ReadFault refused earlier reached near walked = record { event = new_fault_since start.certificate_faults faults end.certificate_faults earlier refused; near = tt }
 
-module _ (start : Inputs) (h : Header) (given : List Object) (records : List Record) (now : Inputs) (checker : Summary) (came : HasChecked start h given records now checker) where
+module _ (start : Inputs) (h : Header) (given : List Object) (records : List Record) (now : Inputs) (checker : Summary) (checked : HasChecked start h given records now checker) where
   input : length records ≡ length given
-  input = came.stands.input.one_record_each
+  input = checked.stands.input.one_record_each
 
   within : length given ≤ h.requests
-  within = came.stands.input.within
+  within = checked.stands.input.within
 
   -- a refusal of the trace is the event
   refused_event : (why : TraceFault) (dropped : ℕ) → IfSome (requests.known now.reader now.trace) (λ bytes. requests.IsOver (requests.to_come now.reader bytes) dropped (Some why)) → IsWalked start (Some (Refused why))
   refused_event why dropped over =
-      if_both start.trace start.certificate _ _ _ came.trace_read came.records_read (λ b t p q.
+      if_both start.trace start.certificate _ _ _ checked.trace_read checked.records_read (λ b t p q.
       let is = at_some (requests.known now.reader now.trace) _ _ p.stands_in over in
       let coming = requests.to_come now.reader p.rest in
       let none : given ++ coming.requests ≡ given = ap (λ xs. given ++ xs) is.requests ∙ append-nil given in
       walk_at start b t _ _ p.reading q.reading
-      ∙ walked_refused h given records input within came.stands.no_fault (requests.after given coming) (lines.to_come now.cert (after_lines now.cert.lines.line t)) why none is.stop)
+      ∙ walked_refused h given records input within checked.stands.no_fault (requests.after given coming) (lines.to_come now.cert (after_lines now.cert.lines.line t)) why none is.stop)
 
   -- the next request is not given
   pub stop_trace : (end : Inputs) (why : TraceFault) → requests.IsStopped now.reader end.reader (requests.known now.reader now.trace) now.trace_faults end.trace_faults why → IsStop start end (of_trace why)
   stop_trace end (refusal.BadLine line kind) stopped = record { event = refused_event (refusal.BadLine line kind) end.reader.dropped stopped; near = tt }
-  stop_trace end refusal.ReadFault stopped = record { event = new_fault_since start.trace_faults now.trace_faults end.trace_faults came.later.trace stopped; near = tt }
+  stop_trace end refusal.ReadFault stopped = record { event = new_fault_since start.trace_faults now.trace_faults end.trace_faults checked.later.trace stopped; near = tt }
   stop_trace end refusal.InputTooLong stopped = record { event = refused_event refusal.InputTooLong end.reader.dropped stopped; near = tt }
   stop_trace end refusal.TooManyRequests stopped = record { event = refused_event refusal.TooManyRequests end.reader.dropped stopped; near = tt }
   stop_trace end refusal.NoMemory stopped = record { event = tt; near = tt }
@@ -137,8 +142,8 @@ module _ (start : Inputs) (h : Header) (given : List Object) (records : List Rec
   pub end_trace : (end : Inputs) → requests.NextRequest now.reader end.reader (requests.known now.reader now.trace) (requests.known end.reader end.trace) now.trace_faults end.trace_faults (Ok None)
       → end.cert ≡ now.cert → end.certificate ≡ now.certificate → IsLater start end → HasCheckedAll start h given records end checker
   end_trace end over same_cert same_left later = record {
-    stands = came.stands;
-    trace_read = if_one start.trace _ _ came.trace_read (λ b p.
+    stands = checked.stands;
+    trace_read = if_one start.trace _ _ checked.trace_read (λ b p.
         let is = at_some (requests.known now.reader now.trace) _ _ p.stands_in over in
         let coming = requests.to_come now.reader p.rest in
         record {
@@ -146,9 +151,9 @@ module _ (start : Inputs) (h : Header) (given : List Object) (records : List Rec
           dropped_lines = ap (λ r. r.dropped) p.reading ∙ is.0.dropped_lines;
           stop = ap (λ r. r.refused) p.reading ∙ is.0.stop;
         });
-    trace_end = if_one start.trace _ _ came.trace_read (λ b p.
+    trace_end = if_one start.trace _ _ checked.trace_read (λ b p.
         let is = at_some (requests.known now.reader now.trace) _ _ p.stands_in over in nothing_left end.reader.lines.held end.trace is.1);
-    records_read = if_one start.certificate _ _ came.records_read (λ t q. same_records h records now end t q same_cert same_left);
+    records_read = if_one start.certificate _ _ checked.records_read (λ t q. same_records h records now end t q same_cert same_left);
     later = later;
   }
     where
@@ -168,31 +173,31 @@ module _ (start : Inputs) (h : Header) (given : List Object) (records : List Rec
       reading : traces.reading start.reader.format start.reader.limits b ≡ requests.after given (requests.onto x (requests.to_come reader rest))
 
     took : IfSome start.trace Took
-    took = if_one start.trace _ _ came.trace_read (λ b p.
+    took = if_one start.trace _ _ checked.trace_read (λ b p.
         let is = at_some (requests.known now.reader now.trace) _ _ p.stands_in goes in
         record { rest = requests.bytes_after now.reader reader p.rest; stands = is.rest; reading = p.reading ∙ ap (requests.after given) is.coming })
 
     -- one request more than the header says
-    pub stop_count : (end : Inputs) → end.cert ≡ now.cert → end.certificate ≡ now.certificate → length now.cert.lines.held ≤ 65536 → now.cert.lines.line ≡ 11 + length given → length given ≡ h.requests
-        → IsStop start end (fault.Invalid (11 + length given) (RequestCount h.requests (length given + 1)))
+    pub stop_count : (end : Inputs) → end.cert ≡ now.cert → end.certificate ≡ now.certificate → length now.cert.lines.held ≤ 65536 → now.cert.lines.line ≡ header_len h + length given → length given ≡ h.requests
+        → IsStop start end (fault.Invalid (header_len h + length given) (RequestCount h.requests (length given + 1)))
     stop_count end same_cert same_left held line_is full = record {
-      event = if_both start.trace start.certificate _ _ _ took came.records_read (λ b t p q.
+      event = if_both start.trace start.certificate _ _ _ took checked.records_read (λ b t p q.
           walk_at start b t _ _ p.reading q.reading
-          ∙ walked_too_many h given records input within came.stands.no_fault x (requests.to_come reader p.rest) (lines.to_come now.cert (after_lines now.cert.lines.line t)) full);
-      near = near_here h records start end (11 + length given) (if_one start.certificate _ _ came.records_read (λ t q. same_records h records now end t q same_cert same_left))
+          ∙ walked_too_many h given records input within checked.stands.no_fault x (requests.to_come reader p.rest) (lines.to_come now.cert (after_lines now.cert.lines.line t)) full);
+      near = near_here h records start end (header_len h + length given) (if_one start.certificate _ _ checked.records_read (λ t q. same_records h records now end t q same_cert same_left))
           (subst (λ (c : lines.Reader). length c.lines.held ≤ 65536) (sym same_cert) held)
-          (subst (λ (c : lines.Reader). c.lines.line ≤ 11 + length given) (sym same_cert) (omega (arith, line_is)));
+          (subst (λ (c : lines.Reader). c.lines.line ≤ header_len h + length given) (sym same_cert) (omega (arith, line_is)));
     }
 
     -- the record is not read
     pub stop_text : (end : Inputs) (f : CertFault) → length given < h.requests → lines.IsRefused now.cert (device now.certificate end.certificate now.certificate_faults end.certificate_faults) f
         → IfErr {T = Unit {0}} (Err f) (IsWithin end.cert.lines.line) → IfSome (known now.cert.lines now.certificate) (IsPast now.cert.lines end.cert.lines) → length end.cert.lines.held ≤ 65536
         → IsStop start end (of_text f)
-    stop_text end f fewer refused reached past held = text_stop start end now.cert now.certificate now.certificate_faults f refused came.later.certificate reached
-        (λ n low. near_line h records start now end n came.records_read past held low) (λ g e event stopped.
-        if_both start.trace start.certificate _ _ _ took came.records_read (λ b t p q.
+    stop_text end f fewer refused reached past held = text_stop start end now.cert now.certificate now.certificate_faults f refused checked.later.certificate reached
+        (λ n low. near_line h records start now end n checked.records_read past held low) (λ g e event stopped.
+        if_both start.trace start.certificate _ _ _ took checked.records_read (λ b t p q.
         walk_at start b t _ _ p.reading q.reading
-        ∙ walked_text h given records input within came.stands.no_fault x (requests.to_come reader p.rest) (lines.to_come now.cert (after_lines now.cert.lines.line t)) g e fewer
+        ∙ walked_text h given records input within checked.stands.no_fault x (requests.to_come reader p.rest) (lines.to_come now.cert (after_lines now.cert.lines.line t)) g e fewer
         (at_some (known now.cert.lines now.certificate) _ _ q.stands_in stopped) event))
 
     module _ (r : Record) (written : List ℕ) (end : Inputs) (line_is : end.cert.lines.line ≡ now.cert.lines.line + 1)
@@ -200,17 +205,17 @@ module _ (start : Inputs) (h : Header) (given : List Object) (records : List Rec
         (past : IfSome (known now.cert.lines now.certificate) (IsPast now.cert.lines end.cert.lines)) where
       -- the record is read
       pub records_on : IfSome start.certificate (HasRecords h (records ++ r ∷ []) end)
-      records_on = if_one start.certificate _ _ came.records_read (λ t q. one_record h records r written now end t q line_is goes_on past)
+      records_on = if_one start.certificate _ _ checked.records_read (λ t q. one_record h records r written now end t q line_is goes_on past)
 
       -- and fails a rule
-      pub stop_rule : (why : CheckFault) → length given < h.requests → now.cert.lines.line ≡ 11 + length given → length end.cert.lines.held ≤ 65536
+      pub stop_rule : (why : CheckFault) → length given < h.requests → now.cert.lines.line ≡ header_len h + length given → length end.cert.lines.held ≤ 65536
           → IsFailing end.cert.lines.line (record_fault h (given ++ x ∷ []) (records ++ r ∷ []) (length given)) why → IsStop start end why
       stop_rule (fault.Invalid line kind) fewer first held fails = record {
-        event = if_both start.trace start.certificate _ _ _ took came.records_read (λ b t p q.
-            let at : line ≡ 12 + length given = omega (arith, fails.0, line_is, first) in
+        event = if_both start.trace start.certificate _ _ _ took checked.records_read (λ b t p q.
+            let at : line ≡ header_len h + 1 + length given = omega (arith, fails.0, line_is, first) in
             let is = at_some (known now.cert.lines now.certificate) _ _ q.stands_in goes_on in
             walk_at start b t _ _ p.reading q.reading
-            ∙ (walked_rule h given records input within came.stands.no_fault x (requests.to_come reader p.rest) r _ (lines.to_come now.cert (after_lines now.cert.lines.line t)) kind fewer is.coming_is fails.1
+            ∙ (walked_rule h given records input within checked.stands.no_fault x (requests.to_come reader p.rest) r _ (lines.to_come now.cert (after_lines now.cert.lines.line t)) kind fewer is.coming_is fails.1
             ∙ ap (λ l. Some (Invalid l kind)) (sym at)));
         near = near_here h (records ++ r ∷ []) start end line records_on held (omega (arith, fails.0));
       }

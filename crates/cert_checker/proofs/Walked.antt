@@ -8,22 +8,22 @@ use Rattle.cache_model.specs.declared.objects.Object.{Object}
 use Rattle.cache_model.specs.declared.certificates.Header.{Header}
 use Rattle.cache_model.specs.declared.certificates.Record.{Record}
 use Rattle.cache_model.specs.Certificates.{IsCertificate, IsValid}
-use Rattle.cache_model.specs.Texts.{cert_text}
+use Rattle.cache_model.specs.Texts.{cert_text, header_len}
 use Rattle.bound_io.specs.Lines.{text_len, first_text, after_line}
 use Rattle.trace_any.specs.Readings as traces
 use Rattle.cert_format.specs.declared.fault.TextKind.{TextKind}
 use Rattle.cert_format.specs.declared.fault.TextKind.TheVariants.{TooLong}
 use Rattle.cert_format.specs.declared.fault.CertFault.{CertFault}
 use Rattle.cert_format.specs.declared.fault.CertFault.TheVariants.{BadText, Truncated, Trailing}
-use Rattle.cert_format.specs.declared.invalid.InvalidKind.{InvalidKind}
-use Rattle.cert_format.specs.declared.invalid.InvalidKind.TheVariants.{RequestCount}
+use Rattle.cert_checker.specs.declared.invalid.InvalidKind.{InvalidKind}
+use Rattle.cert_checker.specs.declared.invalid.InvalidKind.TheVariants.{RequestCount}
 use Rattle.cert_format.specs.Grammar.{Slot, end_slots, header_slots, line_fault, number_at, record_slots}
 use Rattle.cert_format.specs.Laws.{IsSpelled}
-use Rattle.cert_format.specs.Readings.{Reading, after_lines, first_fault, header_fault, header_in, in_line, line_text, lines_fault, onto, read_records, reading, record_in, trailing, under, unless, whole}
+use Rattle.cert_format.specs.Readings.{Reading, after_lines, first_fault, header_fault, header_in, in_line, line_text, lines_fault, onto, read_after, read_records, reading, record_in, trailing, under, unless, whole}
 use Rattle.cert_format.proofs.Wholes.{read_written, written_read}
 use Rattle.cert_checker.specs.Laws.{IsFaultless, PassingIsValid}
 use Rattle.cert_checker.specs.Rules.{end_fault, first_some, found, record_fault}
-use Rattle.cert_checker.specs.Walks.{at_line, closing, refusal_event, text_after, text_event, turn, turns, walk_under}
+use Rattle.cert_checker.specs.Walks.{at_line, last_events, refusal_event, text_after, text_event, events_at, events_by_request, walk_under}
 use Rattle.cert_checker.proofs.Faultless.{IsFaultless-valid}
 use Rattle.cert_checker.proofs.Passing.{first_some-append, first_some-head, first_some-none, first_some-tail, found-none, found-not}
 use Rattle.cert_checker.proofs.Validity.{IsValid-faultless}
@@ -34,86 +34,86 @@ none≢some e = true≢false (sym (ap is_some e))
 -- ---- the faults of a text are events
 
 -- where there is no event, there is no fault
-abbrev Tells : Option CertFault → Type 0
-Tells o = text_event o ≡ None → o ≡ None
+abbrev IsShown : Option CertFault → Type 0
+IsShown o = text_event o ≡ None → o ≡ None
 
-Tells-none : Tells None
-Tells-none e = refl
+Shown-none : IsShown None
+Shown-none e = refl
 
-Tells-bad : (n : ℕ) (kind : TextKind) → Tells (Some (BadText n kind))
-Tells-bad n kind e = absurd (none≢some (sym e))
+Shown-bad : (n : ℕ) (kind : TextKind) → IsShown (Some (BadText n kind))
+Shown-bad n kind e = absurd (none≢some (sym e))
 
-Tells-or : (o p : Option CertFault) → Tells o → Tells p → Tells (option_or o p)
-Tells-or None p first second e = second e
-Tells-or (Some f) p first second e = absurd (none≢some (sym (first e)))
+Shown-or : (o p : Option CertFault) → IsShown o → IsShown p → IsShown (option_or o p)
+Shown-or None p first second e = second e
+Shown-or (Some f) p first second e = absurd (none≢some (sym (first e)))
 
-Tells-line : (n : ℕ) (o : Option TextKind) → Tells (option_map (in_line n) o)
-Tells-line n None e = refl
-Tells-line n (Some kind) e = absurd (none≢some (sym e))
+Shown-line : (n : ℕ) (o : Option TextKind) → IsShown (option_map (in_line n) o)
+Shown-line n None e = refl
+Shown-line n (Some kind) e = absurd (none≢some (sym e))
 
-Tells-first : (n : ℕ) (slots : List Slot) (bytes : List ℕ) → Tells (first_fault n slots bytes)
-Tells-first n slots bytes = at (nat_lt 65535 (text_len bytes)) (nat_lt (text_len bytes) (length bytes))
+Shown-first : (n : ℕ) (slots : List Slot) (bytes : List ℕ) → IsShown (first_fault n slots bytes)
+Shown-first n slots bytes = at (nat_lt 65535 (text_len bytes)) (nat_lt (text_len bytes) (length bytes))
   where
-    at : (b d : Bool) → Tells (cond b (Some (BadText n TooLong)) (cond d (option_map (in_line n) (line_fault slots (first_text bytes))) (Some (Truncated n))))
+    at : (b d : Bool) → IsShown (cond b (Some (BadText n TooLong)) (cond d (option_map (in_line n) (line_fault slots (first_text bytes))) (Some (Truncated n))))
     at true d e = absurd (none≢some (sym e))
-    at false true e = Tells-line n (line_fault slots (first_text bytes)) e
+    at false true e = Shown-line n (line_fault slots (first_text bytes)) e
     at false false e = absurd (none≢some (sym e))
 
-Tells-lines : (n : ℕ) (lines : List (List Slot)) (bytes : List ℕ) → Tells (lines_fault n lines bytes)
-Tells-lines n [] bytes = Tells-none
-Tells-lines n (slots ∷ lines) bytes =
-    Tells-or (first_fault n slots bytes) (lines_fault (n + 1) lines (after_line bytes)) (Tells-first n slots bytes) (Tells-lines (n + 1) lines (after_line bytes))
+Shown-lines : (n : ℕ) (lines : List (List Slot)) (bytes : List ℕ) → IsShown (lines_fault n lines bytes)
+Shown-lines n [] bytes = Shown-none
+Shown-lines n (slots ∷ lines) bytes =
+    Shown-or (first_fault n slots bytes) (lines_fault (n + 1) lines (after_line bytes)) (Shown-first n slots bytes) (Shown-lines (n + 1) lines (after_line bytes))
 
-Tells-trailing : (n : ℕ) (bytes : List ℕ) → Tells (trailing n bytes)
-Tells-trailing n bytes = at (length bytes == 0)
+Shown-trailing : (n : ℕ) (bytes : List ℕ) → IsShown (trailing n bytes)
+Shown-trailing n bytes = at (length bytes == 0)
   where
-    at : (b : Bool) → Tells (cond b None (Some (Trailing n)))
+    at : (b : Bool) → IsShown (cond b None (Some (Trailing n)))
     at true e = refl
     at false e = absurd (none≢some (sym e))
 
 -- what is read of the records and of the end: no more records than there should be
 record IsRead (most : ℕ) (r : Reading) : Type 0 where
-  tells : Tells r.fault
+  shown : IsShown r.fault
   few : length r.records ≤ most
 
-IsRead-unless : (o : Option CertFault) (most : ℕ) (r : Reading) → Tells o → IsRead most r → IsRead most (unless o r)
+IsRead-unless : (o : Option CertFault) (most : ℕ) (r : Reading) → IsShown o → IsRead most r → IsRead most (unless o r)
 IsRead-unless None most r known is = is
-IsRead-unless (Some f) most r known is = record { tells = known; few = omega arith }
+IsRead-unless (Some f) most r known is = record { shown = known; few = omega arith }
 
 IsRead-records : (k n : ℕ) (bytes : List ℕ) → IsRead k (read_records k n bytes)
 unfolding read_records
 IsRead-records zero n bytes = record {
-  tells = Tells-or (first_fault n end_slots bytes) (trailing (n + 1) (after_line bytes)) (Tells-first n end_slots bytes) (Tells-trailing (n + 1) (after_line bytes));
+  shown = Shown-or (first_fault n end_slots bytes) (trailing (n + 1) (after_line bytes)) (Shown-first n end_slots bytes) (Shown-trailing (n + 1) (after_line bytes));
   few = omega arith;
 }
 IsRead-records (suc k) n bytes =
     let rest : IsRead k (read_records k (n + 1) (after_line bytes)) = IsRead-records k (n + 1) (after_line bytes) in
     let few : length (read_records k (n + 1) (after_line bytes)).records ≤ k = rest.few in
-    IsRead-unless (first_fault n record_slots bytes) (suc k) (onto (record_in (first_text bytes)) (read_records k (n + 1) (after_line bytes))) (Tells-first n record_slots bytes)
-    (record { tells = rest.tells; few = omega arith })
+    IsRead-unless (first_fault n record_slots bytes) (suc k) (onto (record_in (first_text bytes)) (read_records k (n + 1) (after_line bytes))) (Shown-first n record_slots bytes)
+    (record { shown = rest.shown; few = omega arith })
 
 -- a reading has a header, with no more records than it says, or a fault
 record IsReading (r : Reading) : Type 0 where
-  tells : Tells r.fault
+  shown : IsShown r.fault
   headless : r.header ≡ None → r.fault ≢ None
   few : (h : Header) → r.header ≡ Some h → length r.records ≤ h.requests
 
 reading-is : (bytes : List ℕ) → IsReading (reading bytes)
 reading-is bytes =
-    at (header_fault bytes) (Tells-lines 1 (header_slots (number_at 1 (line_text 3 bytes))) bytes) (IsRead-records (header_in bytes).requests 12 (after_lines 11 bytes))
+    at (header_fault bytes) (Shown-lines 1 (header_slots (number_at 1 (line_text 3 bytes))) bytes) (IsRead-records (header_in bytes).requests (header_len (header_in bytes) + 1) (after_lines (header_len (header_in bytes)) bytes))
   where
     rest : Reading
-    rest = read_records (header_in bytes).requests 12 (after_lines 11 bytes)
+    rest = read_after (header_in bytes) bytes
 
-    at : (o : Option CertFault) → Tells o → IsRead (header_in bytes).requests (read_records (header_in bytes).requests 12 (after_lines 11 bytes))
-        → IsReading (unless o (under (header_in bytes) (read_records (header_in bytes).requests 12 (after_lines 11 bytes))))
+    at : (o : Option CertFault) → IsShown o → IsRead (header_in bytes).requests (read_after (header_in bytes) bytes)
+        → IsReading (unless o (under (header_in bytes) (read_after (header_in bytes) bytes)))
     at None known is = record {
-      tells = is.tells;
+      shown = is.shown;
       headless = λ e. absurd (none≢some (sym e));
-      few = λ h e. let same : header_in bytes ≡ h = ap (λ o. unwrap_or o h) e in subst (λ (g : Header). length (read_records (header_in bytes).requests 12 (after_lines 11 bytes)).records ≤ g.requests) same is.few;
+      few = λ h e. let same : header_in bytes ≡ h = ap (λ o. unwrap_or o h) e in subst (λ (g : Header). length (read_after (header_in bytes) bytes).records ≤ g.requests) same is.few;
     }
     at (Some f) known is = record {
-      tells = known;
+      shown = known;
       headless = λ e none. none≢some (sym none);
       few = λ h e. absurd (none≢some e);
     }
@@ -145,85 +145,85 @@ range-first_some f a zero each = refl
 range-first_some f a (suc n) each =
     first_some-none (f a) (map f (range_with_len (a + 1) n)) (each a (omega arith) (omega arith)) (range-first_some f (a + 1) n (λ t low high. each t (omega arith) (omega arith)))
 
--- a turn without an event
-record TurnPasses (h : Header) (c : Reading) (trace : List Object) (t : ℕ) : Type 0 where
+-- a request without an event
+record RequestPasses (h : Header) (c : Reading) (trace : List Object) (t : ℕ) : Type 0 where
   more : (t == h.requests) ≡ false
   text : text_after c t ≡ None
   rules : record_fault h trace c.records t ≡ None
 
-TurnPasses-from_none : (h : Header) (c : Reading) (trace : List Object) (t : ℕ) → first_some (turn h c trace t) ≡ None → TurnPasses h c trace t
-TurnPasses-from_none h c trace t e0 =
-    let e1 : first_some (text_after c t ∷ at_line (12 + t) (record_fault h trace c.records t) ∷ []) ≡ None =
-    first_some-tail (at_line (11 + t) (found (t == h.requests) (RequestCount h.requests (t + 1)))) (text_after c t ∷ at_line (12 + t) (record_fault h trace c.records t) ∷ []) e0 in
-    let e2 : first_some (at_line (12 + t) (record_fault h trace c.records t) ∷ []) ≡ None =
-    first_some-tail (text_after c t) (at_line (12 + t) (record_fault h trace c.records t) ∷ []) e1 in
+RequestPasses-from_none : (h : Header) (c : Reading) (trace : List Object) (t : ℕ) → first_some (events_at h c trace t) ≡ None → RequestPasses h c trace t
+RequestPasses-from_none h c trace t e0 =
+    let e1 : first_some (text_after c t ∷ at_line (header_len h + 1 + t) (record_fault h trace c.records t) ∷ []) ≡ None =
+    first_some-tail (at_line (header_len h + t) (found (t == h.requests) (RequestCount h.requests (t + 1)))) (text_after c t ∷ at_line (header_len h + 1 + t) (record_fault h trace c.records t) ∷ []) e0 in
+    let e2 : first_some (at_line (header_len h + 1 + t) (record_fault h trace c.records t) ∷ []) ≡ None =
+    first_some-tail (text_after c t) (at_line (header_len h + 1 + t) (record_fault h trace c.records t) ∷ []) e1 in
     record {
-      more = found-none _ _ (at_line-none (11 + t) _ (first_some-head _ (text_after c t ∷ at_line (12 + t) (record_fault h trace c.records t) ∷ []) e0));
-      text = first_some-head (text_after c t) (at_line (12 + t) (record_fault h trace c.records t) ∷ []) e1;
-      rules = at_line-none (12 + t) (record_fault h trace c.records t) (first_some-head (at_line (12 + t) (record_fault h trace c.records t)) [] e2);
+      more = found-none _ _ (at_line-none (header_len h + t) _ (first_some-head _ (text_after c t ∷ at_line (header_len h + 1 + t) (record_fault h trace c.records t) ∷ []) e0));
+      text = first_some-head (text_after c t) (at_line (header_len h + 1 + t) (record_fault h trace c.records t) ∷ []) e1;
+      rules = at_line-none (header_len h + 1 + t) (record_fault h trace c.records t) (first_some-head (at_line (header_len h + 1 + t) (record_fault h trace c.records t)) [] e2);
     }
 
-none_from_TurnPasses : (h : Header) (c : Reading) (trace : List Object) (t : ℕ) → TurnPasses h c trace t → first_some (turn h c trace t) ≡ None
-none_from_TurnPasses h c trace t p =
-    first_some-none _ (text_after c t ∷ at_line (12 + t) (record_fault h trace c.records t) ∷ []) (none-at_line (11 + t) _ (found-not _ _ p.more))
-    (first_some-none (text_after c t) (at_line (12 + t) (record_fault h trace c.records t) ∷ []) p.text
-    (first_some-none (at_line (12 + t) (record_fault h trace c.records t)) [] (none-at_line (12 + t) _ p.rules) refl))
+none_from_RequestPasses : (h : Header) (c : Reading) (trace : List Object) (t : ℕ) → RequestPasses h c trace t → first_some (events_at h c trace t) ≡ None
+none_from_RequestPasses h c trace t p =
+    first_some-none _ (text_after c t ∷ at_line (header_len h + 1 + t) (record_fault h trace c.records t) ∷ []) (none-at_line (header_len h + t) _ (found-not _ _ p.more))
+    (first_some-none (text_after c t) (at_line (header_len h + 1 + t) (record_fault h trace c.records t) ∷ []) p.text
+    (first_some-none (at_line (header_len h + 1 + t) (record_fault h trace c.records t)) [] (none-at_line (header_len h + 1 + t) _ p.rules) refl))
 
--- a closing without an event, of a trace that is not refused
-record ClosingPasses (h : Header) (c : Reading) (trace : List Object) : Type 0 where
+-- an end without an event, of a trace that is not refused
+record EndPasses (h : Header) (c : Reading) (trace : List Object) : Type 0 where
   enough : nat_lt (length trace) h.requests ≡ false
   text : text_after c (length trace) ≡ None
   rules : end_fault h trace c.records ≡ None
 
-ClosingPasses-from_none : (h : Header) (c : Reading) (trace : traces.Reading) → first_some (closing h c trace) ≡ None → ClosingPasses h c trace.requests
-ClosingPasses-from_none h c trace e0 =
-    let e1 : first_some (at_line (11 + length trace.requests) (found (nat_lt (length trace.requests) h.requests) (RequestCount h.requests (length trace.requests)))
-    ∷ text_after c (length trace.requests) ∷ at_line (12 + length trace.requests) (end_fault h trace.requests c.records) ∷ []) ≡ None =
+EndPasses-from_none : (h : Header) (c : Reading) (trace : traces.Reading) → first_some (last_events h c trace) ≡ None → EndPasses h c trace.requests
+EndPasses-from_none h c trace e0 =
+    let e1 : first_some (at_line (header_len h + length trace.requests) (found (nat_lt (length trace.requests) h.requests) (RequestCount h.requests (length trace.requests)))
+    ∷ text_after c (length trace.requests) ∷ at_line (header_len h + 1 + length trace.requests) (end_fault h trace.requests c.records) ∷ []) ≡ None =
     first_some-tail (refusal_event trace.refused)
-    (at_line (11 + length trace.requests) (found (nat_lt (length trace.requests) h.requests) (RequestCount h.requests (length trace.requests)))
-    ∷ text_after c (length trace.requests) ∷ at_line (12 + length trace.requests) (end_fault h trace.requests c.records) ∷ []) e0 in
-    let e2 : first_some (text_after c (length trace.requests) ∷ at_line (12 + length trace.requests) (end_fault h trace.requests c.records) ∷ []) ≡ None =
-    first_some-tail (at_line (11 + length trace.requests) (found (nat_lt (length trace.requests) h.requests) (RequestCount h.requests (length trace.requests))))
-    (text_after c (length trace.requests) ∷ at_line (12 + length trace.requests) (end_fault h trace.requests c.records) ∷ []) e1 in
-    let e3 : first_some (at_line (12 + length trace.requests) (end_fault h trace.requests c.records) ∷ []) ≡ None =
-    first_some-tail (text_after c (length trace.requests)) (at_line (12 + length trace.requests) (end_fault h trace.requests c.records) ∷ []) e2 in
+    (at_line (header_len h + length trace.requests) (found (nat_lt (length trace.requests) h.requests) (RequestCount h.requests (length trace.requests)))
+    ∷ text_after c (length trace.requests) ∷ at_line (header_len h + 1 + length trace.requests) (end_fault h trace.requests c.records) ∷ []) e0 in
+    let e2 : first_some (text_after c (length trace.requests) ∷ at_line (header_len h + 1 + length trace.requests) (end_fault h trace.requests c.records) ∷ []) ≡ None =
+    first_some-tail (at_line (header_len h + length trace.requests) (found (nat_lt (length trace.requests) h.requests) (RequestCount h.requests (length trace.requests))))
+    (text_after c (length trace.requests) ∷ at_line (header_len h + 1 + length trace.requests) (end_fault h trace.requests c.records) ∷ []) e1 in
+    let e3 : first_some (at_line (header_len h + 1 + length trace.requests) (end_fault h trace.requests c.records) ∷ []) ≡ None =
+    first_some-tail (text_after c (length trace.requests)) (at_line (header_len h + 1 + length trace.requests) (end_fault h trace.requests c.records) ∷ []) e2 in
     record {
-      enough = found-none _ _ (at_line-none (11 + length trace.requests) (found (nat_lt (length trace.requests) h.requests) (RequestCount h.requests (length trace.requests)))
-          (first_some-head (at_line (11 + length trace.requests) (found (nat_lt (length trace.requests) h.requests) (RequestCount h.requests (length trace.requests))))
-          (text_after c (length trace.requests) ∷ at_line (12 + length trace.requests) (end_fault h trace.requests c.records) ∷ []) e1));
-      text = first_some-head (text_after c (length trace.requests)) (at_line (12 + length trace.requests) (end_fault h trace.requests c.records) ∷ []) e2;
-      rules = at_line-none (12 + length trace.requests) (end_fault h trace.requests c.records) (first_some-head (at_line (12 + length trace.requests) (end_fault h trace.requests c.records)) [] e3);
+      enough = found-none _ _ (at_line-none (header_len h + length trace.requests) (found (nat_lt (length trace.requests) h.requests) (RequestCount h.requests (length trace.requests)))
+          (first_some-head (at_line (header_len h + length trace.requests) (found (nat_lt (length trace.requests) h.requests) (RequestCount h.requests (length trace.requests))))
+          (text_after c (length trace.requests) ∷ at_line (header_len h + 1 + length trace.requests) (end_fault h trace.requests c.records) ∷ []) e1));
+      text = first_some-head (text_after c (length trace.requests)) (at_line (header_len h + 1 + length trace.requests) (end_fault h trace.requests c.records) ∷ []) e2;
+      rules = at_line-none (header_len h + 1 + length trace.requests) (end_fault h trace.requests c.records) (first_some-head (at_line (header_len h + 1 + length trace.requests) (end_fault h trace.requests c.records)) [] e3);
     }
 
-none_from_ClosingPasses : (h : Header) (c : Reading) (trace : traces.Reading) → trace.refused ≡ None → ClosingPasses h c trace.requests → first_some (closing h c trace) ≡ None
-none_from_ClosingPasses h c trace whole_trace p =
+none_from_EndPasses : (h : Header) (c : Reading) (trace : traces.Reading) → trace.refused ≡ None → EndPasses h c trace.requests → first_some (last_events h c trace) ≡ None
+none_from_EndPasses h c trace whole_trace p =
     first_some-none (refusal_event trace.refused) _ (ap refusal_event whole_trace)
-    (first_some-none _ _ (none-at_line (11 + length trace.requests) _ (found-not _ _ p.enough))
+    (first_some-none _ _ (none-at_line (header_len h + length trace.requests) _ (found-not _ _ p.enough))
     (first_some-none (text_after c (length trace.requests)) _ p.text
-    (first_some-none (at_line (12 + length trace.requests) (end_fault h trace.requests c.records)) [] (none-at_line (12 + length trace.requests) _ p.rules) refl)))
+    (first_some-none (at_line (header_len h + 1 + length trace.requests) (end_fault h trace.requests c.records)) [] (none-at_line (header_len h + 1 + length trace.requests) _ p.rules) refl)))
 
 -- ---- from the walk to the certificate
 module _ (trace : traces.Reading) (bytes : List ℕ) (h : Header) (headed : (reading bytes).header ≡ Some h)
-    (passes : first_some (turns h (reading bytes) trace.requests ++ closing h (reading bytes) trace) ≡ None) where
+    (passes : first_some (events_by_request h (reading bytes) trace.requests ++ last_events h (reading bytes) trace) ≡ None) where
   n : ℕ
   n = length trace.requests
 
-  parts : (first_some (turns h (reading bytes) trace.requests) ≡ None) × (first_some (closing h (reading bytes) trace) ≡ None)
-  parts = first_some-both (turns h (reading bytes) trace.requests) (closing h (reading bytes) trace) passes
+  parts : (first_some (events_by_request h (reading bytes) trace.requests) ≡ None) × (first_some (last_events h (reading bytes) trace) ≡ None)
+  parts = first_some-both (events_by_request h (reading bytes) trace.requests) (last_events h (reading bytes) trace) passes
 
-  each_turn : (t : ℕ) → t < length trace.requests → TurnPasses h (reading bytes) trace.requests t
-  each_turn t low =
-      TurnPasses-from_none h (reading bytes) trace.requests t
-      (first_some-range (λ k. first_some (turn h (reading bytes) trace.requests k)) 0 (length trace.requests) parts.0 t (omega arith) (omega arith))
+  each_request : (t : ℕ) → t < length trace.requests → RequestPasses h (reading bytes) trace.requests t
+  each_request t low =
+      RequestPasses-from_none h (reading bytes) trace.requests t
+      (first_some-range (λ k. first_some (events_at h (reading bytes) trace.requests k)) 0 (length trace.requests) parts.0 t (omega arith) (omega arith))
 
-  last : ClosingPasses h (reading bytes) trace.requests
-  last = ClosingPasses-from_none h (reading bytes) trace parts.1
+  last : EndPasses h (reading bytes) trace.requests
+  last = EndPasses-from_none h (reading bytes) trace parts.1
 
   many : h.requests ≡ length trace.requests
   many =
       let enough : h.requests ≤ length trace.requests = ltb-false (length trace.requests) h.requests last.enough in
       ⊎_elim
-      (λ (more : h.requests < length trace.requests). absurd (eqb-false h.requests h.requests (each_turn h.requests more).more refl))
+      (λ (more : h.requests < length trace.requests). absurd (eqb-false h.requests h.requests (each_request h.requests more).more refl))
       (λ (no_more : length trace.requests ≤ h.requests). omega arith)
       (cases_lt h.requests (length trace.requests))
 
@@ -234,9 +234,9 @@ module _ (trace : traces.Reading) (bytes : List ℕ) (h : Header) (headed : (rea
       let few : length (reading bytes).records ≤ h.requests = is.few h headed in
       ⊎_elim
       (λ (early : length (reading bytes).records < length trace.requests).
-      is.tells (here (length (reading bytes).records) refl (each_turn (length (reading bytes).records) early).text))
+      is.shown (here (length (reading bytes).records) refl (each_request (length (reading bytes).records) early).text))
       (λ (end : length trace.requests ≤ length (reading bytes).records).
-      is.tells (here (length trace.requests) (omega (arith, many)) last.text))
+      is.shown (here (length trace.requests) (omega (arith, many)) last.text))
       (cases_lt (length (reading bytes).records) (length trace.requests))
     where
       here : (t : ℕ) → length (reading bytes).records ≡ t → text_after (reading bytes) t ≡ None → text_event (reading bytes).fault ≡ None
@@ -255,7 +255,7 @@ module _ (trace : traces.Reading) (bytes : List ℕ) (h : Header) (headed : (rea
         spelled.1,
         is.text ∙ ap (λ g. cert_text g spelled.1) same,
         IsValid-faultless h trace.requests spelled.1 cert many
-            (λ t low. ap (λ rs. record_fault h trace.requests rs t) (sym same_records) ∙ (each_turn t low).rules)
+            (λ t low. ap (λ rs. record_fault h trace.requests rs t) (sym same_records) ∙ (each_request t low).rules)
             (ap (end_fault h trace.requests) (sym same_records) ∙ last.rules),
       )
 
@@ -263,12 +263,12 @@ module _ (trace : traces.Reading) (bytes : List ℕ) (h : Header) (headed : (rea
 walk-valid : (trace : traces.Reading) → trace.refused ≡ None → (h : Header) (records : List Record) → IsValid trace.requests h records → walk_under (Some h) trace (whole h records) ≡ None
 walk-valid trace whole_trace h records v =
     let faultless : IsFaultless h trace.requests records = IsFaultless-valid h trace.requests records v in
-    first_some-append (turns h (whole h records) trace.requests) (closing h (whole h records) trace)
-    ∙ ap (λ o. option_or o (first_some (closing h (whole h records) trace)))
-    (range-first_some (λ t. first_some (turn h (whole h records) trace.requests t)) 0 (length trace.requests) (λ t low high.
-    none_from_TurnPasses h (whole h records) trace.requests t
+    first_some-append (events_by_request h (whole h records) trace.requests) (last_events h (whole h records) trace)
+    ∙ ap (λ o. option_or o (first_some (last_events h (whole h records) trace)))
+    (range-first_some (λ t. first_some (events_at h (whole h records) trace.requests t)) 0 (length trace.requests) (λ t low high.
+    none_from_RequestPasses h (whole h records) trace.requests t
     (record { more = ne_eqb t h.requests (λ e. omega (arith, v.requests)); text = no_text t; rules = faultless.no_record t (omega arith) })))
-    ∙ none_from_ClosingPasses h (whole h records) trace whole_trace
+    ∙ none_from_EndPasses h (whole h records) trace whole_trace
     (record { enough = le-ltb (length trace.requests) h.requests (omega (arith, v.requests)); text = no_text (length trace.requests); rules = faultless.no_end })
   where
     no_text : (t : ℕ) → text_after (whole h records) t ≡ None
@@ -280,7 +280,7 @@ walk-valid trace whole_trace h records v =
 
 walk-passes : (trace : traces.Reading) (bytes : List ℕ) → (o : Option Header) → (reading bytes).header ≡ o → walk_under o trace (reading bytes) ≡ None
     → (h : Header) × (records : List Record) × (bytes ≡ cert_text h records) × IsValid trace.requests h records
-walk-passes trace bytes None none passes = absurd ((reading-is bytes).headless none ((reading-is bytes).tells passes))
+walk-passes trace bytes None none passes = absurd ((reading-is bytes).headless none ((reading-is bytes).shown passes))
 walk-passes trace bytes (Some h) headed passes = certificate_of trace bytes h headed passes
 
 -- a walk passes exactly where the certificate is valid

@@ -7,14 +7,14 @@ use Rattle.cache_model.specs.declared.certificates.Record.{Record}
 use Rattle.cache_model.specs.Objects.{objects_of}
 use Rattle.cache_model.specs.Claim.{BoundsEveryPolicy}
 use Rattle.cache_model.specs.Certificates.{IsValid}
-use Rattle.cert_format.specs.declared.invalid.InvalidKind.{InvalidKind}
+use Rattle.cert_checker.specs.declared.invalid.InvalidKind.{InvalidKind}
 use Rattle.cert_checker.specs.declared.checker.StepFault.{StepFault}
 use Rattle.cert_checker.specs.declared.checker.StepFault.TheVariants.{Rule, NoMemory}
 use Rattle.cert_checker.specs.declared.verdict.Verdict.{Verdict}
 use Rattle.cert_checker.specs.Rules.{record_fault, end_fault}
 use Rattle.cert_checker.specs.Summaries.{Summary, StandsFor}
 
--- the fault of the record after these: the first rule that fails, or want of memory where none does
+-- the fault of the record after these: the first rule that fails, or out of memory if none does
 abbrev pub IsRuleOr : Option InvalidKind → StepFault → Type 0
 IsRuleOr fault (Rule kind) = fault ≡ Some kind
 IsRuleOr fault NoMemory = fault ≡ None

@@ -5,6 +5,7 @@ use Rattle.bound_io.specs.Causes.{HasNewFault}
 use Rattle.cache_model.specs.declared.objects.Object.{Object}
 use Rattle.cache_model.specs.declared.certificates.Header.{Header}
 use Rattle.cache_model.specs.declared.certificates.Record.{Record}
+use Rattle.cache_model.specs.Texts.{header_len}
 use Rattle.trace_any.specs.declared.fault.TraceFault.{TraceFault}
 use Rattle.trace_any.specs.declared.fault.TraceFault.TheVariants as refusal
 use Rattle.trace_any.specs.Readings as traces
@@ -12,8 +13,8 @@ use Rattle.trace_any.specs.Readers.{IsWhole, after}
 use Rattle.trace_any.specs.Readers as requests
 use Rattle.cert_format.specs.declared.fault.CertFault.{CertFault}
 use Rattle.cert_format.specs.declared.fault.CertFault.TheVariants as text
-use Rattle.cert_format.specs.declared.invalid.InvalidKind.{InvalidKind}
-use Rattle.cert_format.specs.declared.invalid.InvalidKind.TheVariants.{Truncated, Trailing}
+use Rattle.cert_checker.specs.declared.invalid.InvalidKind.{InvalidKind}
+use Rattle.cert_checker.specs.declared.invalid.InvalidKind.TheVariants.{Truncated, Trailing}
 use Rattle.cert_format.specs.declared.reader.Stage.TheVariants.{InRecords}
 use Rattle.cert_format.specs.Readings.{after_lines, bytes_through, whole}
 use Rattle.cert_format.specs.Readings as certificates
@@ -27,7 +28,7 @@ use Rattle.cert_checker.specs.Rules.{record_fault}
 use Rattle.cert_checker.specs.Summaries.{Summary, StandsFor}
 use Rattle.cert_checker.specs.Walks.{Event, Invalid, Refused, text_kind, walk}
 
--- where the reader of a trace and that of a certificate stand, and their sources: what is left where it is known, and the count of faults
+-- where the reader of a trace and that of a certificate stand, and their sources: what is left, if it is known, and the count of faults
 pub record Inputs : Type 0 where
   pub reader : requests.Reader
   pub trace : Option (List ℕ)
@@ -66,7 +67,7 @@ of_text (text.Truncated line) = fault.Invalid line Truncated
 of_text (text.Trailing line) = fault.Invalid line Trailing
 of_text text.ReadFault = fault.CertReadFault
 
--- the fault of a step: the first rule that the record fails, at this line, or want of memory where it fails none
+-- the fault of a step: the first rule that the record fails, at this line, or out of memory if it fails none
 abbrev pub IsFailing : ℕ → Option InvalidKind → CheckFault → Type 0
 IsFailing line failed (fault.Invalid n kind) = (n ≡ line) × (failed ≡ Some kind)
 IsFailing line failed (fault.Trace why) = ⊥
@@ -78,15 +79,15 @@ abbrev pub IsSteppedWith : ℕ → Header → List Object → List Record → Ob
 IsSteppedWith line h trace records x r new (Ok done) = StandsFor h (trace ++ x ∷ []) (records ++ r ∷ []) new
 IsSteppedWith line h trace records x r new (Err why) = IsFailing line (record_fault h (trace ++ x ∷ []) (records ++ r ∷ []) (length trace)) why
 
--- a step of which the record stands on this line: the checker stands for one request and record more, or the rule that fails is that of the line
+-- a step with the record of this line: the checker stands for one request and record more, or the rule that fails is named with the line
 abbrev pub IsSteppedAt : ℕ → Summary → Summary → Object → Record → Result (Unit {0}) CheckFault → Type 0
 IsSteppedAt line old new x r result = (h : Header) (trace : List Object) (records : List Record) → StandsFor h trace records old → IsSteppedWith line h trace records x r new result
 
--- where both sources tell their bytes, this is the first event of the walk over them
+-- if the bytes of both sources are known, this is the first event of the walk over them
 abbrev pub IsWalked : Inputs → Option Event → Type 0
 IsWalked start event = IfSome start.trace (λ bytes. IfSome start.certificate (λ text. walk (traces.reading start.reader.format start.reader.limits bytes) text ≡ event))
 
--- why there is no yes: it is the first event of the walk, or a source failed; want of memory is free
+-- why there is no yes: the first event of the walk, or a source that failed; that memory is out says nothing
 abbrev pub IsEvent : Inputs → Inputs → CheckFault → Type 0
 IsEvent start end (fault.Invalid line kind) = IsWalked start (Some (Invalid line kind))
 IsEvent start end (fault.Trace (refusal.BadLine line kind)) = IsWalked start (Some (Refused (refusal.BadLine line kind)))
@@ -101,14 +102,14 @@ IsEvent start end fault.NoMemory = Unit {0}
 abbrev pub taken : lines.Reader → ℕ
 taken cert = cert.lines.consumed + length cert.lines.held
 
--- where the certificate fails at a line, at most a buffer of bytes past that line was taken
+-- if the certificate fails at a line, at most a buffer of bytes past that line was taken
 abbrev pub IsNear : Inputs → Inputs → CheckFault → Type 0
 IsNear start end (fault.Invalid line kind) = IfSome start.certificate (λ text. taken end.cert ≤ bytes_through line text + 65536)
 IsNear start end (fault.Trace why) = Unit {0}
 IsNear start end fault.CertReadFault = Unit {0}
 IsNear start end fault.NoMemory = Unit {0}
 
--- a yes: of some requests and records, which are all that the two sources have, where they tell it
+-- a yes: of some requests and records, which are all that the two sources have, if their bytes are known
 pub record IsPassed (start end : Inputs) (verdict : Verdict) : Type 0 where
   pub requests : List Object
   pub records : List Record
@@ -140,7 +141,7 @@ pub record IsInStep (now : Inputs) (checker : Summary) : Type 0 where
   pub trace_fault : now.reader.fault ≡ None
   pub cert_fault : now.cert.fault ≡ None
   pub stage : now.cert.stage ≡ InRecords
-  pub line : now.cert.lines.line ≡ 11 + checker.sums.steps
+  pub line : now.cert.lines.line ≡ header_len checker.header + checker.sums.steps
   pub left : now.cert.left + checker.sums.steps ≡ checker.header.requests
   pub held : length now.cert.lines.held ≤ 65536
   pub some : (trace : List Object) × (records : List Record) × StandsFor checker.header trace records checker
@@ -150,7 +151,7 @@ pub record IsLater (start now : Inputs) : Type 0 where
   pub trace : start.trace_faults ≤ now.trace_faults
   pub certificate : start.certificate_faults ≤ now.certificate_faults
 
--- so many requests and records were read and passed
+-- these requests and records were read and passed
 pub record HasChecked (start : Inputs) (h : Header) (trace : List Object) (records : List Record) (now : Inputs) (checker : Summary) : Type 0 where
   pub stands : StandsFor h trace records checker
   pub trace_read : IfSome start.trace (HasRequests trace start now)
@@ -170,13 +171,13 @@ pub record IsStop (start end : Inputs) (why : CheckFault) : Type 0 where
   pub event : IsEvent start end why
   pub near : IsNear start end why
 
--- one turn of the walk: one request and its record, or the end of the trace, or why it ends here
+-- the next check: of one request and its record, or there is none more, or why the walk ends here
 abbrev pub IsNextCheck : Inputs → Header → List Object → List Record → Inputs → Summary → Result Bool CheckFault → Type 0
 IsNextCheck start h trace records now checker (Ok true) = (x : Object) × (r : Record) × HasChecked start h (trace ++ x ∷ []) (records ++ r ∷ []) now checker
 IsNextCheck start h trace records now checker (Ok false) = HasCheckedAll start h trace records now checker
 IsNextCheck start h trace records now checker (Err why) = IsStop start now why
 
--- the end of the walk: a yes, or why it is none
+-- the last check: a yes, or why it is none
 abbrev pub IsLastCheck : Inputs → Inputs → Result Verdict CheckFault → Type 0
 IsLastCheck start end (Ok verdict) = IsPassed start end verdict
 IsLastCheck start end (Err why) = IsStop start end why

@@ -12,8 +12,8 @@ use Rattle.cache_model.specs.Keeps.{latest_sum, load_after}
 use Rattle.cache_model.specs.Certificates.{flow_at, flow_of, keeps_of, prices_of, units_of, unpriced, upper_of}
 use Rattle.cert_checker.specs.declared.rules.Figures.{Figures}
 use Rattle.cert_checker.specs.declared.verdict.Counted.{Counted}
-use Rattle.cert_format.specs.declared.invalid.InvalidKind.{InvalidKind}
-use Rattle.cert_format.specs.declared.invalid.InvalidKind.TheVariants.{SumLimit, LastPrice, UnitNotDivisor, NotDivisible, Overfull, FlowAboveWeight, FlowOverfull, Unused, UpperDiffers, FlowDiffers, LowerDiffers, ExactGap}
+use Rattle.cert_checker.specs.declared.invalid.InvalidKind.{InvalidKind}
+use Rattle.cert_checker.specs.declared.invalid.InvalidKind.TheVariants.{SumLimit, LastPrice, UnitNotDivisor, NotDivisible, Overfull, FlowAboveWeight, FlowOverfull, Unused, UpperDiffers, FlowDiffers, LowerDiffers, ExactGap}
 
 -- a kind, where the test passes
 abbrev pub found : Bool → InvalidKind → Option InvalidKind
@@ -29,7 +29,7 @@ first_some (Some a ∷ others) = Some a
 abbrev pub divides : ℕ → ℕ → Bool
 divides a b = b % a == 0
 
--- the weight of an object, which is 0 where it does not fit the capacity
+-- the weight of an object, which is 0 if it does not fit the capacity
 abbrev pub weight_in : Header → Object → ℕ
 weight_in h x = if nat_le x.size h.capacity then x.size / h.unit else 0
 

@@ -37,7 +37,7 @@ added_by h x prices seen = record {
   gain = if seen.keep then gain_of h.objective x else 0;
 }
 
--- what a request of x adds, which is nothing where it is the first of its object
+-- what a request of x adds, which is nothing if it is the first of its object
 abbrev pub added : Header → Object → ℕ → Option Seen → Added
 added h x prices None = record { surplus = 0; value = 0; gain = 0 }
 added h x prices (Some seen) = added_by h x prices seen

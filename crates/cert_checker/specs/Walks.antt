@@ -4,14 +4,15 @@ use Rattle.std.specs.declared.option.Option.{Option}
 use Rattle.cache_model.specs.declared.objects.Object.{Object}
 use Rattle.cache_model.specs.declared.certificates.Header.{Header}
 use Rattle.cache_model.specs.Objects.{numbers_of}
+use Rattle.cache_model.specs.Texts.{header_len}
 use Rattle.trace_any.specs.declared.fault.TraceFault.{TraceFault}
 use Rattle.trace_any.specs.Readings as traces
 use Rattle.cert_format.specs.declared.fault.TextKind.{TextKind}
 use Rattle.cert_format.specs.declared.fault.TextKind.TheVariants as text
 use Rattle.cert_format.specs.declared.fault.CertFault.{CertFault}
 use Rattle.cert_format.specs.declared.fault.CertFault.TheVariants as cert
-use Rattle.cert_format.specs.declared.invalid.InvalidKind.{InvalidKind}
-use Rattle.cert_format.specs.declared.invalid.InvalidKind.TheVariants.{Shape, Number, Range, TooLong, Truncated, Trailing, RequestCount}
+use Rattle.cert_checker.specs.declared.invalid.InvalidKind.{InvalidKind}
+use Rattle.cert_checker.specs.declared.invalid.InvalidKind.TheVariants.{Shape, Number, Range, TooLong, Truncated, Trailing, RequestCount}
 use Rattle.cert_format.specs.Readings as certificates
 use Rattle.cert_checker.specs.Rules.{found, first_some, record_fault, end_fault}
 
@@ -45,36 +46,36 @@ abbrev pub refusal_event : Option TraceFault → Option Event
 refusal_event None = None
 refusal_event (Some fault) = Some (Refused fault)
 
--- the fault of the certificate's text, where so many records were read before it
+-- the fault of the certificate's text, if it comes after that number of records
 abbrev pub text_after : certificates.Reading → ℕ → Option Event
 text_after c t = if length c.records == t then text_event c.fault else None
 
--- at request t: the certificate has no record for it, or its line is not read, or fails a rule
-abbrev pub turn : Header → certificates.Reading → List Object → ℕ → List (Option Event)
-turn h c trace t =
-    at_line (11 + t) (found (t == h.requests) (RequestCount h.requests (t + 1)))
+-- the events at request t: the certificate has no record for it, or its line is not read, or fails a rule
+abbrev pub events_at : Header → certificates.Reading → List Object → ℕ → List (Option Event)
+events_at h c trace t =
+    at_line (header_len h + t) (found (t == h.requests) (RequestCount h.requests (t + 1)))
     ∷ text_after c t
-    ∷ at_line (12 + t) (record_fault h trace c.records t)
+    ∷ at_line (header_len h + 1 + t) (record_fault h trace c.records t)
     ∷ []
 
--- after the last request: the trace is refused, or has too few requests, or the end is not read, or fails a rule
-abbrev pub closing : Header → certificates.Reading → traces.Reading → List (Option Event)
-closing h c trace =
+-- the events after the last request: the trace is refused, or has too few requests, or the end is not read, or fails a rule
+abbrev pub last_events : Header → certificates.Reading → traces.Reading → List (Option Event)
+last_events h c trace =
     let n = length trace.requests in
     refusal_event trace.refused
-    ∷ at_line (11 + n) (found (nat_lt n h.requests) (RequestCount h.requests n))
+    ∷ at_line (header_len h + n) (found (nat_lt n h.requests) (RequestCount h.requests n))
     ∷ text_after c n
-    ∷ at_line (12 + n) (end_fault h trace.requests c.records)
+    ∷ at_line (header_len h + 1 + n) (end_fault h trace.requests c.records)
     ∷ []
 
 -- the events after the header, by request
-abbrev pub turns : Header → certificates.Reading → List Object → List (Option Event)
-turns h c trace = map (λ t. first_some (turn h c trace t)) (numbers_of trace)
+abbrev pub events_by_request : Header → certificates.Reading → List Object → List (Option Event)
+events_by_request h c trace = map (λ t. first_some (events_at h c trace t)) (numbers_of trace)
 
 -- the first event of the two readings, where the certificate has this header or none
 abbrev pub walk_under : Option Header → traces.Reading → certificates.Reading → Option Event
 walk_under None trace c = text_event c.fault
-walk_under (Some h) trace c = first_some (turns h c trace.requests ++ closing h c trace)
+walk_under (Some h) trace c = first_some (events_by_request h c trace.requests ++ last_events h c trace)
 
 -- the first event of the walk over the reading of a trace and the bytes of a certificate, if there is one
 abbrev pub walk : traces.Reading → List ℕ → Option Event

@@ -7,6 +7,7 @@ ghost use Rattle.cache_model.specs.Certificates.{IsHeaderInRange, IsRecordInRang
 ghost use Rattle.cache_model.specs.Objects.{objects_of};
 
 use crate::end_check::check_end;
+use crate::invalid::InvalidKind;
 use crate::record_check::check_record;
 use crate::rules::units;
 use crate::stepping::{added, figures, seen_of, sums_with};
@@ -14,7 +15,7 @@ use crate::summary::{Seen, Sums};
 use crate::verdict::{Counted, Verdict};
 use bound_base::NoMemory;
 use cache_model::Object;
-use cert_format::{Header, InvalidKind, Record};
+use cert_format::{Header, Record};
 use indexmap::IndexMap;
 use std::alloc::{AllocFailed, Global};
 use std::marker::Model;

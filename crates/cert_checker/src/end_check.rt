@@ -2,8 +2,9 @@
 ghost use Rattle.std.specs.Prelude.{◌≡◌};
 ghost use Rattle.cert_checker.specs.Rules.{end_rules, first_some, unless_fault};
 
+use crate::invalid::InvalidKind;
 use crate::verdict::Counted;
-use cert_format::{Header, InvalidKind};
+use cert_format::Header;
 
 /// The first rule that the end fails, where this request is the first that has a flow it may not have.
 pub fn check_end(header: &Header, unused: Option<u32>, counted: &Counted) -> Result<(), InvalidKind>

@@ -6,6 +6,7 @@
 
 mod checker;
 mod end_check;
+mod invalid;
 mod laws;
 mod record_check;
 mod rules;
@@ -14,8 +15,9 @@ mod summary;
 mod verdict;
 mod walking;
 
-pub use cert_format::{Header, InvalidKind, Record};
+pub use cert_format::{Header, Record};
 pub use checker::{Checker, StepFault};
+pub use invalid::InvalidKind;
 pub use laws::{faultless_is_valid, passing_is_valid};
 pub use verdict::Verdict;
 pub use walking::{CheckFault, check_streams};

@@ -3,14 +3,15 @@ ghost use Rattle.std.specs.Prelude.{◌≡◌, ◌≤◌, ◌^◌, ◌++◌};
 ghost use Rattle.cache_model.specs.Certificates.{IsHeaderInRange};
 ghost use Rattle.cert_checker.specs.Rules.{first_some, interval_rules, load_rules, price_rules, record_rules, unless_fault, weight_in};
 
+use crate::invalid::InvalidKind;
 use crate::rules::{Figures, units, worth};
 use cache_model::Object;
-use cert_format::{Header, InvalidKind, Record};
+use cert_format::{Header, Record};
 
 /// The most that the units may pay for all steps.
 const MOST_PAID: u128 = 1 << 126;
 
-// The weight of an object, which is 0 where it doesn't fit the capacity.
+// The weight of an object, which is 0 if it doesn't fit the capacity.
 fn weight(header: &Header, object: &Object) -> u64
     requires { 1 ≤ header.now.unit }
     ensures { result ≡ weight_in header.now object.now }

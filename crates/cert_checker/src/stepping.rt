@@ -12,7 +12,7 @@ use cache_model::Object;
 use cache_rules::gain;
 use cert_format::{Header, Record};
 
-// The size of the object where it is kept, and else 0.
+// The size of the object if it is kept, and else 0.
 fn kept_size(object: &Object, keep: bool) -> u64
     ensures { result ≡ (if keep then object.now.size else 0) }
 {

@@ -7,31 +7,37 @@ ghost use Rattle.cache_model.specs.declared.objects.Object.{Object as Requested}
 ghost use Rattle.cache_model.specs.declared.certificates.Header.{Header as Head};
 ghost use Rattle.cache_model.specs.declared.certificates.Record.{Record as Entry};
 ghost use Rattle.cache_model.specs.Certificates.{IsRecordInRange};
-ghost use Rattle.cert_format.specs.declared.invalid.InvalidKind.TheVariants.{RequestCount};
+ghost use Rattle.cert_checker.specs.declared.invalid.InvalidKind.TheVariants.{RequestCount};
 ghost use Rattle.cert_format.specs.Readers.{fresh};
 ghost use Rattle.cert_checker.specs.declared.walking.CheckFault.TheVariants.{Invalid};
 ghost use Rattle.cert_checker.specs.Checks.{HasChecked, HasCheckedAll, Inputs, IsLastCheck, IsEvent, IsFresh, IsInStep, IsNear, IsPassed, IsSteppedAt, IsNextCheck, inputs};
 ghost use Rattle.cert_checker.specs.Walks.{text_kind};
 
 use crate::checker::{Checker, StepFault};
+use crate::invalid::InvalidKind;
 use crate::verdict::Verdict;
 use bound_base::NoMemory;
 use bound_io::Source;
 use cache_model::Object;
-use cert_format::{CertFault, CertReader, Header, InvalidKind, Record, TextKind};
+use cert_format::{CertFault, CertReader, Header, Record, TextKind};
 use std::alloc::Global;
+use thiserror::Error;
 use trace_any::{RequestReader, TraceFault};
 
-/// Why a check says no yes.
-#[derive(Clone, Copy, Debug, PartialEq, Eq)]
+/// Why a check does not say yes.
+#[derive(Clone, Copy, Debug, Error, PartialEq, Eq)]
 pub enum CheckFault {
     /// The certificate fails at this line of it, which counts from 1.
+    #[error("the certificate fails at line {line}: {kind:?}")]
     Invalid { line: u64, kind: InvalidKind },
-    /// The trace is not read, for another reason than want of memory.
+    /// The trace is not read, for another reason than memory.
+    #[error("the trace is not read: {0}")]
     Trace(TraceFault),
     /// A read of the certificate failed.
+    #[error("a read of the certificate failed")]
     CertReadFault,
     /// There was not enough memory.
+    #[error("there was not enough memory")]
     NoMemory,
 }
 
@@ -89,7 +95,7 @@ impl From<CertFault> for CheckFault {
     }
 }
 
-// A request or record too few, where so many requests were read.
+// The trace has not as many requests as the header says; this number was read.
 fn count_differs(header: &Header, line: u64, read: u64) -> CheckFault
     ensures { result ≡ Invalid line (RequestCount header.now.requests read) }
 {
@@ -103,14 +109,14 @@ fn count_differs(header: &Header, line: u64, read: u64) -> CheckFault
 }
 
 // How many records were read.
-fn records_read(cert: &CertReader) -> u64
-    requires { 11 ≤ cert.now.lines.line }
-    ensures { result + 11 ≡ cert.now.lines.line }
+fn records_read(header: &Header, cert: &CertReader) -> u64
+    requires { cert.now.left ≤ header.now.requests }
+    ensures { result + cert.now.left ≡ header.now.requests }
 {
-    cert.line() - 11
+    (header.requests - cert.left()) as u64
 }
 
-// The step of the checker, of which the record stands on this line.
+// The step of the checker with the record of this line.
 fn step(
     alloc: Global,
     checker: &mut Checker,
@@ -130,8 +136,8 @@ fn step(
     }
 }
 
-// One turn of the walk: the next request and its record are read and checked. Says whether there was one.
-fn turn<T: Source, Q: Source>(
+// Reads and checks the next request and its record. Says whether there was one.
+fn check_next<T: Source, Q: Source>(
     alloc: Global,
     reader: &mut RequestReader,
     trace: &mut T,
@@ -144,14 +150,14 @@ fn turn<T: Source, Q: Source>(
     requires in_step { IsInStep (inputs reader.old (T.left trace.old) (T.faults trace.old) cert.old (Q.left certificate.old) (Q.faults certificate.old)) checker.old }
     ensures in_step { OnOk result (IsInStep (inputs reader.new (T.left trace.new) (T.faults trace.new) cert.new (Q.left certificate.new) (Q.faults certificate.new)) checker.new × (checker.new.header ≡ checker.old.header)) }
     ensures fewer { IfOk result (λ more. more ≡ true → cert.new.left + 1 ≡ cert.old.left) }
-    ensures turned { (start : Inputs) (h : Head) (requests : List Requested) (records : List Entry) → HasChecked start h requests records (inputs reader.old (T.left trace.old) (T.faults trace.old) cert.old (Q.left certificate.old) (Q.faults certificate.old)) checker.old → IsNextCheck start h requests records (inputs reader.new (T.left trace.new) (T.faults trace.new) cert.new (Q.left certificate.new) (Q.faults certificate.new)) checker.new result }
+    ensures checked { (start : Inputs) (h : Head) (requests : List Requested) (records : List Entry) → HasChecked start h requests records (inputs reader.old (T.left trace.old) (T.faults trace.old) cert.old (Q.left certificate.old) (Q.faults certificate.old)) checker.old → IsNextCheck start h requests records (inputs reader.new (T.left trace.new) (T.faults trace.new) cert.new (Q.left certificate.new) (Q.faults certificate.new)) checker.new result }
     ensures trace { LosesPrefix (T.left trace.old) (T.left trace.new) × (T.faults trace.old ≤ T.faults trace.new) × (length reader.new.lines.held ≤ 65536) }
     ensures cert { LosesPrefix (Q.left certificate.old) (Q.left certificate.new) × (Q.faults certificate.old ≤ Q.faults certificate.new) × (length cert.new.lines.held ≤ 65536) }
 {
     let Some(object) = reader.next(alloc, trace)? else {
         return Ok(false);
     };
-    let read = records_read(cert);
+    let read = records_read(header, cert);
     if read == header.requests as u64 {
         return Err(count_differs(header, cert.line(), read + 1));
     }
@@ -160,8 +166,8 @@ fn turn<T: Source, Q: Source>(
     Ok(true)
 }
 
-// The end of the walk, after the last request of the trace.
-fn close<Q: Source>(
+// Reads and checks the end, after the last request of the trace.
+fn check_last<Q: Source>(
     cert: &mut CertReader,
     certificate: &mut Q,
     header: &Header,
@@ -169,11 +175,11 @@ fn close<Q: Source>(
 ) -> Result<Verdict, CheckFault>
     requires header { header.now ≡ checker.now.header }
     requires in_step { (reader : Reader) × (left : Option (List ℕ)) × (faults : ℕ) × IsInStep (inputs reader left faults cert.old (Q.left certificate.old) (Q.faults certificate.old)) checker.now }
-    ensures closed { (start : Inputs) (reader : Reader) (left : Option (List ℕ)) (faults : ℕ) (h : Head) (requests : List Requested) (records : List Entry) → HasCheckedAll start h requests records (inputs reader left faults cert.old (Q.left certificate.old) (Q.faults certificate.old)) checker.now → IsLastCheck start (inputs reader left faults cert.new (Q.left certificate.new) (Q.faults certificate.new)) result }
+    ensures checked { (start : Inputs) (reader : Reader) (left : Option (List ℕ)) (faults : ℕ) (h : Head) (requests : List Requested) (records : List Entry) → HasCheckedAll start h requests records (inputs reader left faults cert.old (Q.left certificate.old) (Q.faults certificate.old)) checker.now → IsLastCheck start (inputs reader left faults cert.new (Q.left certificate.new) (Q.faults certificate.new)) result }
     ensures source { LosesPrefix (Q.left certificate.old) (Q.left certificate.new) }
     ensures later { Q.faults certificate.old ≤ Q.faults certificate.new }
 {
-    let read = records_read(cert);
+    let read = records_read(header, cert);
     if read < header.requests as u64 {
         return Err(count_differs(header, cert.line(), read));
     }
@@ -197,16 +203,16 @@ fn walk<T: Source, Q: Source>(
 ) -> Result<Verdict, CheckFault>
     requires header { header.now ≡ checker.old.header }
     requires in_step { IsInStep (inputs reader.old (T.left trace.old) (T.faults trace.old) cert.old (Q.left certificate.old) (Q.faults certificate.old)) checker.old }
-    ensures closed { (start : Inputs) (h : Head) (requests : List Requested) (records : List Entry) → HasChecked start h requests records (inputs reader.old (T.left trace.old) (T.faults trace.old) cert.old (Q.left certificate.old) (Q.faults certificate.old)) checker.old → IsLastCheck start (inputs reader.new (T.left trace.new) (T.faults trace.new) cert.new (Q.left certificate.new) (Q.faults certificate.new)) result }
+    ensures checked { (start : Inputs) (h : Head) (requests : List Requested) (records : List Entry) → HasChecked start h requests records (inputs reader.old (T.left trace.old) (T.faults trace.old) cert.old (Q.left certificate.old) (Q.faults certificate.old)) checker.old → IsLastCheck start (inputs reader.new (T.left trace.new) (T.faults trace.new) cert.new (Q.left certificate.new) (Q.faults certificate.new)) result }
     ensures trace { LosesPrefix (T.left trace.old) (T.left trace.new) × (T.faults trace.old ≤ T.faults trace.new) × (length reader.new.lines.held ≤ 65536) }
     ensures cert { LosesPrefix (Q.left certificate.old) (Q.left certificate.new) × (Q.faults certificate.old ≤ Q.faults certificate.new) }
 {
-    while turn(alloc, reader, trace, cert, certificate, header, checker)? {}
-    close(cert, certificate, header, checker)
+    while check_next(alloc, reader, trace, cert, certificate, header, checker)? {}
+    check_last(cert, certificate, header, checker)
 }
 
-/// Whether the certificate of one source is valid for the trace of the other, and else the first that fails, as both
-/// are read side by side, from their start to their end. No call of either reader was made before.
+/// Whether the certificate of one source is valid for the trace of the other, and else the first thing that fails, as
+/// both are read side by side, from their start to their end. No call of either reader was made before.
 ///
 /// It takes memory for the different objects and the hosts of the volumes, and none for the text of either.
 pub fn check_streams<T: Source, Q: Source>(

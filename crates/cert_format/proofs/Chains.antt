@@ -43,12 +43,12 @@ keeps_prefix : (a : Option (List ℕ)) → LosesPrefix a a
 keeps_prefix None = ([], tt)
 keeps_prefix (Some xs) = ([], refl)
 
--- so many lines were read, and this holds of the bytes
-pub record Came (count : ℕ) (P : List ℕ → Type 0) (old now : Position) (source : Device) : Type 0 where
+-- this number of lines was read, and this holds of the bytes
+pub record HasRead (count : ℕ) (P : List ℕ → Type 0) (old now : Position) (source : Device) : Type 0 where
   pub limit : now.limit ≡ old.limit
   pub given : now.line ≡ old.line + count
   pub no_fault : now.fault ≡ None
-  pub tells : IfSome (known old source.before) (λ bytes. P bytes × (known now source.after ≡ Some (after_lines count bytes)))
+  pub stands : IfSome (known old source.before) (λ bytes. P bytes × (known now source.after ≡ Some (after_lines count bytes)))
   pub past : IfSome (known old source.before) (IsPast old now)
   pub loses : LosesPrefix source.before source.after
   pub later : source.faults_before ≤ source.faults_after
@@ -56,12 +56,12 @@ pub record Came (count : ℕ) (P : List ℕ → Type 0) (old now : Position) (so
 abbrev pub Nothing : List ℕ → Type 0
 Nothing bytes = Unit {0}
 
-pub start : (at : Position) (left : Option (List ℕ)) (faults : ℕ) → at.fault ≡ None → Came 0 Nothing at at (device left left faults faults)
+pub start : (at : Position) (left : Option (List ℕ)) (faults : ℕ) → at.fault ≡ None → HasRead 0 Nothing at at (device left left faults faults)
 start at left faults none = record {
   limit = refl;
   given = omega arith;
   no_fault = none;
-  tells = if_known (known at left) _ (λ bytes e. (tt, e ∙ ap (λ b. Some b) (sym (after_lines-zero bytes))));
+  stands = if_known (known at left) _ (λ bytes e. (tt, e ∙ ap (λ b. Some b) (sym (after_lines-zero bytes))));
   past = if_known (known at left) _ (λ bytes e. record { further = omega arith; consumed = omega (arith, ap (λ n. length (after_lines n bytes)) (sub_same at.line), ap length (after_lines-zero bytes)) });
   loses = keeps_prefix left;
   later = omega arith;
@@ -87,37 +87,37 @@ module _ {A : Type 0} (count : ℕ) (P : List ℕ → Type 0) (fault_of : ℕ �
   abbrev Then : A → List ℕ → Type 0
   Then v bytes = P bytes × (fault_of (old.line + count + 1) (after_lines count bytes) ≡ None) × (v ≡ value (after_lines count bytes))
 
-  pub then_more : (v : A) (r : Result A CertFault) → r ≡ Ok v → Came count P old now (device a b x y) → Reads (fault_of (now.line + 1)) more value now new (device b d y z) r → Came (count + more) (Then v) old new (device a d x z)
-  then_more v r is came reads =
+  pub then_more : (v : A) (r : Result A CertFault) → r ≡ Ok v → HasRead count P old now (device a b x y) → Reads (fault_of (now.line + 1)) more value now new (device b d y z) r → HasRead (count + more) (Then v) old new (device a d x z)
+  then_more v r is done reads =
       let given = at_ok (λ _. (new.line ≡ now.line + more) × (new.fault ≡ None)) reads.given in
       let passes = at_ok (λ _. IfSome (known now b) (λ bytes. Passes (fault_of (now.line + 1)) more bytes (known new d))) reads.passes in
       let value_is = at_ok (λ w. IfSome (known now b) (λ bytes. w ≡ value bytes)) reads.value_is in
       record {
-        limit = reads.limit ∙ came.limit;
-        given = omega (arith, given.0, came.given);
+        limit = reads.limit ∙ done.limit;
+        given = omega (arith, given.0, done.given);
         no_fault = given.1;
-        tells = if_known (known old a) _ (λ bytes e.
-            let so_far = at_some (known old a) bytes _ e came.tells in
+        stands = if_known (known old a) _ (λ bytes e.
+            let so_far = at_some (known old a) bytes _ e done.stands in
             let pass = at_some (known now b) (after_lines count bytes) _ so_far.1 passes in (
-              (so_far.0, ap (λ n. fault_of n (after_lines count bytes)) (omega (arith, came.given)) ∙ pass.none, at_some (known now b) (after_lines count bytes) _ so_far.1 value_is),
+              (so_far.0, ap (λ n. fault_of n (after_lines count bytes)) (omega (arith, done.given)) ∙ pass.none, at_some (known now b) (after_lines count bytes) _ so_far.1 value_is),
               pass.rest ∙ ap (λ r. Some r) (sym (after_lines-add count more bytes)),
             ));
         past = if_known (known old a) _ (λ bytes e.
-            let so_far = at_some (known old a) bytes _ e came.tells in
-            past_both old now new bytes count came.given (at_some (known old a) bytes _ e came.past) (at_some (known now b) (after_lines count bytes) _ so_far.1 reads.past));
-        loses = loses_both a b d came.loses reads.loses;
-        later = omega (arith, came.later, reads.later);
+            let so_far = at_some (known old a) bytes _ e done.stands in
+            past_both old now new bytes count done.given (at_some (known old a) bytes _ e done.past) (at_some (known now b) (after_lines count bytes) _ so_far.1 reads.past));
+        loses = loses_both a b d done.loses reads.loses;
+        later = omega (arith, done.later, reads.later);
       }
     where
       at_ok : (Q : A → Type 0) → IfOk r Q → Q v
       at_ok Q h = subst (λ s. IfOk s Q) is h
 
   -- the first of them that isn't read ends the reading
-  pub then_stop : {B : Type 0} (whole : List ℕ → Option CertFault) (total : ℕ) (value_of : List ℕ → B) (fault : CertFault) (r : Result A CertFault) → r ≡ Err fault → Came count P old now (device a b x y) → Reads (fault_of (now.line + 1)) more value now new (device b d y z) r
+  pub then_stop : {B : Type 0} (whole : List ℕ → Option CertFault) (total : ℕ) (value_of : List ℕ → B) (fault : CertFault) (r : Result A CertFault) → r ≡ Err fault → HasRead count P old now (device a b x y) → Reads (fault_of (now.line + 1)) more value now new (device b d y z) r
       → ((bytes : List ℕ) → P bytes → (g : CertFault) → fault_of (old.line + count + 1) (after_lines count bytes) ≡ Some g → whole bytes ≡ Some g)
       → Reads whole total value_of old new (device a d x z) (Err fault)
-  then_stop whole total value_of fault r is came reads first = record {
-    limit = reads.limit ∙ came.limit;
+  then_stop whole total value_of fault r is done reads first = record {
+    limit = reads.limit ∙ done.limit;
     held = reads.held;
     given = tt;
     passes = tt;
@@ -125,48 +125,48 @@ module _ {A : Type 0} (count : ℕ) (P : List ℕ → Type 0) (fault_of : ℕ �
     stopped = stopped fault (subst (λ s. IfErr s (IsStopped (fault_of (now.line + 1)) (known now b) (device b d y z))) is reads.stopped);
     within = subst (λ s. IfErr s (IsWithin new.line)) is reads.within;
     past = if_known (known old a) _ (λ bytes e.
-        let so_far = at_some (known old a) bytes _ e came.tells in
-        past_both old now new bytes count came.given (at_some (known old a) bytes _ e came.past) (at_some (known now b) (after_lines count bytes) _ so_far.1 reads.past));
-    loses = loses_both a b d came.loses reads.loses;
-    later = omega (arith, came.later, reads.later);
+        let so_far = at_some (known old a) bytes _ e done.stands in
+        past_both old now new bytes count done.given (at_some (known old a) bytes _ e done.past) (at_some (known now b) (after_lines count bytes) _ so_far.1 reads.past));
+    loses = loses_both a b d done.loses reads.loses;
+    later = omega (arith, done.later, reads.later);
   }
     where
       has : (g : CertFault) → IfSome (known now b) (λ bytes. fault_of (now.line + 1) bytes ≡ Some g) → IfSome (known old a) (λ bytes. whole bytes ≡ Some g)
       has g h = if_known (known old a) _ (λ bytes e.
-          let so_far = at_some (known old a) bytes _ e came.tells in
-          let same : now.line + 1 ≡ old.line + count + 1 = omega (arith, came.given) in
+          let so_far = at_some (known old a) bytes _ e done.stands in
+          let same : now.line + 1 ≡ old.line + count + 1 = omega (arith, done.given) in
           first bytes so_far.0 g (ap (λ n. fault_of n (after_lines count bytes)) (sym same) ∙ at_some (known now b) (after_lines count bytes) _ so_far.1 h))
 
       stopped : (f : CertFault) → IsStopped (fault_of (now.line + 1)) (known now b) (device b d y z) f → IsStopped whole (known old a) (device a d x z) f
-      stopped ReadFault why = new_fault_later x y z came.later why
+      stopped ReadFault why = new_fault_later x y z done.later why
       stopped (BadText n kind) why = has (BadText n kind) why
       stopped (Truncated n) why = has (Truncated n) why
       stopped (Trailing n) why = has (Trailing n) why
 
 -- all of them are read
-pub all_done : {B : Type 0} (count : ℕ) (P : List ℕ → Type 0) (old now : Position) (a b : Option (List ℕ)) (x y : ℕ) (whole : List ℕ → Option CertFault) (value_of : List ℕ → B) (v : B) → Came count P old now (device a b x y) → length now.held ≤ 65536
+pub all_done : {B : Type 0} (count : ℕ) (P : List ℕ → Type 0) (old now : Position) (a b : Option (List ℕ)) (x y : ℕ) (whole : List ℕ → Option CertFault) (value_of : List ℕ → B) (v : B) → HasRead count P old now (device a b x y) → length now.held ≤ 65536
     → ((bytes : List ℕ) → P bytes → whole bytes ≡ None) → ((bytes : List ℕ) → P bytes → v ≡ value_of bytes) → Reads whole count value_of old now (device a b x y) (Ok v)
-all_done count P old now a b x y whole value_of v came held none is = record {
-  limit = came.limit;
+all_done count P old now a b x y whole value_of v done held none is = record {
+  limit = done.limit;
   held = held;
-  given = (came.given, came.no_fault);
-  passes = if_known (known old a) _ (λ bytes e. let so_far = at_some (known old a) bytes _ e came.tells in record { none = none bytes so_far.0; rest = so_far.1 });
-  value_is = if_known (known old a) _ (λ bytes e. is bytes (at_some (known old a) bytes _ e came.tells).0);
+  given = (done.given, done.no_fault);
+  passes = if_known (known old a) _ (λ bytes e. let so_far = at_some (known old a) bytes _ e done.stands in record { none = none bytes so_far.0; rest = so_far.1 });
+  value_is = if_known (known old a) _ (λ bytes e. is bytes (at_some (known old a) bytes _ e done.stands).0);
   stopped = tt;
   within = tt;
-  past = came.past;
-  loses = came.loses;
-  later = came.later;
+  past = done.past;
+  loses = done.loses;
+  later = done.later;
 }
 
 -- the last of several readings
 pub then_last : (count : ℕ) (P : List ℕ → Type 0) (fault_of : ℕ → List ℕ → Option CertFault) (old now new : Position) (a b d : Option (List ℕ)) (x y z : ℕ) (whole : List ℕ → Option CertFault) (r : Result (Unit {0}) CertFault)
-    → Came count P old now (device a b x y) → Reads (fault_of (now.line + 1)) 0 (λ bytes. tt) now new (device b d y z) r
+    → HasRead count P old now (device a b x y) → Reads (fault_of (now.line + 1)) 0 (λ bytes. tt) now new (device b d y z) r
     → ((bytes : List ℕ) → P bytes → whole bytes ≡ fault_of (old.line + count + 1) (after_lines count bytes)) → Reads whole count (λ bytes. tt) old new (device a d x z) r
-then_last count P fault_of old now new a b d x y z whole (Err fault) came reads same =
-    then_stop count P fault_of 0 (λ bytes. tt) old now new a b d x y z whole count (λ bytes. tt) fault (Err fault) refl came reads (λ bytes p g is. same bytes p ∙ is)
-then_last count P fault_of old now new a b d x y z whole (Ok tt) came reads same =
-    let all = then_more count P fault_of 0 (λ bytes. tt) old now new a b d x y z tt (Ok tt) refl came reads in
+then_last count P fault_of old now new a b d x y z whole (Err fault) done reads same =
+    then_stop count P fault_of 0 (λ bytes. tt) old now new a b d x y z whole count (λ bytes. tt) fault (Err fault) refl done reads (λ bytes p g is. same bytes p ∙ is)
+then_last count P fault_of old now new a b d x y z whole (Ok tt) done reads same =
+    let all = then_more count P fault_of 0 (λ bytes. tt) old now new a b d x y z tt (Ok tt) refl done reads in
     let none : count + 0 ≡ count = omega arith in
     subst (λ n. Reads whole n (λ bytes. tt) old new (device a d x z) (Ok tt)) none
     (all_done (count + 0) _ old new a d x z whole (λ bytes. tt) tt all reads.held (λ bytes p. same bytes p.0 ∙ p.1) (λ bytes p. refl))
@@ -212,7 +212,7 @@ lines_none n lines bytes none =
     let zero' : n + 1 ≡ n + 0 + 1 = omega arith in
     ap (λ m. lines_fault m lines bytes) zero' ∙ (ap (lines_fault (n + 0 + 1) lines) (sym (after_lines-zero bytes)) ∙ none_after n 0 lines bytes none)
 
--- the fault of the end, where its line has none
+-- the fault of the end, if its line has none
 pub end_after : (n : ℕ) (bytes : List ℕ) → first_fault (n + 0 + 1) end_slots (after_lines 0 bytes) ≡ None → end_fault (n + 1) bytes ≡ trailing (n + 1 + 1) (after_lines 1 bytes)
 end_after n bytes none =
     let zero' : n + 0 + 1 ≡ n + 1 = omega arith in

@@ -5,13 +5,13 @@ use Rattle.bound_io.specs.Lines.{first_text, after_line, stands_in}
 use Rattle.bound_io.specs.Positions.{Position}
 use Rattle.cache_model.specs.declared.certificates.Header.{Header}
 use Rattle.cache_model.specs.declared.certificates.Record.{Record}
-use Rattle.cache_model.specs.Texts.{header_lines, line, record_line, text_of}
+use Rattle.cache_model.specs.Texts.{header_len, header_lines, line, record_line, text_of}
 use Rattle.cert_format.specs.declared.fault.CertFault.{CertFault}
 use Rattle.cert_format.specs.declared.fault.CertFault.TheVariants.{BadText, Truncated, Trailing, ReadFault}
 use Rattle.cert_format.specs.declared.reader.Stage.{Stage}
 use Rattle.cert_format.specs.declared.reader.Stage.TheVariants.{AtHeader, InRecords, AtEnd}
 use Rattle.cert_format.specs.Grammar.{record_slots, end_slots}
-use Rattle.cert_format.specs.Readings.{reading, read_records, stopped, unless, onto, under, trailing, end_fault, first_fault, header_fault, header_in, record_in, after_lines}
+use Rattle.cert_format.specs.Readings.{reading, read_after, read_records, stopped, unless, onto, under, trailing, end_fault, first_fault, header_fault, header_in, record_in, after_lines}
 use Rattle.cert_format.specs.Lines.{known, IsStopped, Reads}
 use Rattle.cert_format.specs.Finish.{finish_fault, lines_left}
 use Rattle.cert_format.specs.Readers.{Reader, fresh, to_come, IsRefused, HeaderRead, RecordRead, EndRead}
@@ -40,28 +40,28 @@ coming_end : (old : Reader) (bytes : List ℕ) → old.stage ≡ AtEnd → to_co
 coming_end old bytes is = rw is refl
 
 -- the header
-pub header_goes : (old new : Reader) (source : Device) (h : Header) → old.stage ≡ AtHeader → old.lines.line ≡ 0 → new.stage ≡ InRecords → new.left ≡ h.requests → Reads header_fault 11 header_in old.lines new.lines source (Ok h) → HeaderRead old new source (Ok h)
+pub header_goes : (old new : Reader) (source : Device) (h : Header) → old.stage ≡ AtHeader → old.lines.line ≡ 0 → new.stage ≡ InRecords → new.left ≡ h.requests → Reads header_fault (header_len h) header_in old.lines new.lines source (Ok h) → HeaderRead old new source (Ok h)
 header_goes old new source h at first now left reads =
-    let eleven : new.lines.line ≡ 11 = omega (arith, reads.given.0, first) in (
+    let given : new.lines.line ≡ header_len h = omega (arith, reads.given.0, first) in (
       now,
       left,
-      eleven,
+      given,
       if_known (known old.lines source.before) _ (λ bytes e.
           let pass = at_some (known old.lines source.before) bytes _ e reads.passes in
           let is = at_some (known old.lines source.before) bytes _ e reads.value_is in
           let spelled = header_spelled bytes pass.none in
-          let rest = after_lines 11 bytes in
-          let new_coming : to_come new rest ≡ read_records h.requests 12 rest = coming_records new rest now ∙ (ap (λ k. read_records k (new.lines.line + 1) rest) left ∙ ap (λ n. read_records h.requests (n + 1) rest) eleven) in
+          let rest = after_lines (header_len h) bytes in
+          let new_coming : to_come new rest ≡ read_after h bytes = coming_records new rest now ∙ (ap (λ k. read_records k (new.lines.line + 1) rest) left ∙ ap (λ n. read_records h.requests (n + 1) rest) given) in
           record {
-            text_is = spelled.1 ∙ ap (λ (k : Header). text_of (header_lines k) ++ rest) (sym is);
+            text_is = spelled.1 ∙ ap (λ (k : Header). text_of (header_lines k) ++ after_lines (header_len k) bytes) (sym is);
             rest = pass.rest;
-            coming_is = coming_header old bytes at ∙ (ap (λ o. unless o (under (header_in bytes) (read_records (header_in bytes).requests 12 rest))) pass.none
-                ∙ (ap (λ (k : Header). under k (read_records k.requests 12 rest)) (sym is) ∙ ap (under h) (sym new_coming)));
+            coming_is = coming_header old bytes at ∙ (ap (λ o. unless o (under (header_in bytes) (read_after (header_in bytes) bytes))) pass.none
+                ∙ (ap (λ (k : Header). under k (read_after k bytes)) (sym is) ∙ ap (under h) (sym new_coming)));
           }),
     )
 
-pub header_stops : (old new : Reader) (source : Device) (fault : CertFault) → old.stage ≡ AtHeader → Reads header_fault 11 header_in old.lines new.lines source (Err fault) → IsRefused old source fault
-header_stops old new source fault at reads = refused_by old source header_fault fault reads.stopped (λ bytes f is. coming_header old bytes at ∙ ap (λ o. unless o (under (header_in bytes) (read_records (header_in bytes).requests 12 (after_lines 11 bytes)))) is)
+pub header_stops : (old new : Reader) (source : Device) (fault : CertFault) → old.stage ≡ AtHeader → Reads header_fault 0 header_in old.lines new.lines source (Err fault) → IsRefused old source fault
+header_stops old new source fault at reads = refused_by old source header_fault fault reads.stopped (λ bytes f is. coming_header old bytes at ∙ ap (λ o. unless o (under (header_in bytes) (read_after (header_in bytes) bytes))) is)
 
 -- a record of those that are left
 one_record : (k n : ℕ) (bytes : List ℕ) → read_records (suc k) n bytes ≡ unless (first_fault n record_slots bytes) (onto (record_in (first_text bytes)) (read_records k (n + 1) (after_line bytes)))

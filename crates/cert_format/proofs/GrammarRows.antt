@@ -1,9 +1,11 @@
 -- Lines and certificates worked out by hand.
-use Rattle.std.proofs.Common.{◌≡◌, ℕ, ◌^◌, Bool, ◌++◌, ◌∷◌, [], List, codes, refl, Some, None, take, true, false}
+use Rattle.std.proofs.Common.{◌≡◌, ℕ, ◌+◌, ◌^◌, Bool, ◌++◌, ◌∷◌, [], List, codes, refl, Some, None, take, true, false}
+use Rattle.std.specs.Fmt.{digits}
 use Rattle.std.specs.Prelude.{replicate}
 use Rattle.cache_model.specs.declared.objects.Objective.TheVariants.{Object as Hits}
 use Rattle.cache_model.specs.declared.certificates.Header.{Header}
 use Rattle.cache_model.specs.declared.certificates.Record.{Record}
+use Rattle.cache_model.specs.Texts.{first_line, header_len}
 use Rattle.cert_format.specs.declared.fault.TextKind.TheVariants.{Shape, Number, Range, TooLong}
 use Rattle.cert_format.specs.declared.fault.CertFault.TheVariants.{BadText, Truncated, Trailing}
 use Rattle.cert_format.specs.Grammar.{line_fault, number_line, choice_line, fixed_line, record_slots}
@@ -33,8 +35,13 @@ signed_number : line_fault (number_line (codes "upper") 0 5) (codes "upper +1") 
 signed_number = refl
 
 -- another version of the text
-other_version : line_fault (fixed_line (codes "cache-bound-certificate 1")) (codes "cache-bound-certificate 3") ≡ Some Shape
+other_version : line_fault (fixed_line first_line) (codes "cache-bound-certificate 2") ≡ Some Shape
+unfolding digits
 other_version = refl
+
+no_version : line_fault (fixed_line first_line) (codes "cache-bound-certificate") ≡ Some Shape
+unfolding digits
+no_version = refl
 
 long_line : line_fault (fixed_line (codes "records")) (codes "records 1") ≡ Some Shape
 long_line = refl
@@ -73,46 +80,46 @@ abbrev both : List Record
 both = entry true 1 ∷ entry false 0 ∷ []
 
 whole_text : reading (head_text ++ codes "0 1 1\n0 0 0\nend\n") ≡ whole head both
-unfolding header_in after_lines read_records
+unfolding digits header_in header_len after_lines read_records
 whole_text = refl
 
 -- cut before the line `end`, within it, and before its LF
-no_end : (reading (head_text ++ codes "0 1 1\n0 0 0\n")).fault ≡ Some (Truncated 14)
-unfolding header_in after_lines read_records
+no_end : (reading (head_text ++ codes "0 1 1\n0 0 0\n")).fault ≡ Some (Truncated (header_len head + 3))
+unfolding digits header_in header_len after_lines read_records
 no_end = refl
 
-cut_end : (reading (head_text ++ codes "0 1 1\n0 0 0\nend")).fault ≡ Some (Truncated 14)
-unfolding header_in after_lines read_records
+cut_end : (reading (head_text ++ codes "0 1 1\n0 0 0\nend")).fault ≡ Some (Truncated (header_len head + 3))
+unfolding digits header_in header_len after_lines read_records
 cut_end = refl
 
 -- the records before the fault are read
-second_record : reading (head_text ++ codes "0 1 1\n0 2 0\nend\n") ≡ record { header = Some head; records = entry true 1 ∷ []; fault = Some (BadText 13 Shape) }
-unfolding header_in after_lines read_records
+second_record : reading (head_text ++ codes "0 1 1\n0 2 0\nend\n") ≡ record { header = Some head; records = entry true 1 ∷ []; fault = Some (BadText (header_len head + 2) Shape) }
+unfolding digits header_in header_len after_lines read_records
 second_record = refl
 
 -- one record too many stands where the end should be
-third_record : (reading (head_text ++ codes "0 1 1\n0 0 0\n0 0 0\nend\n")).fault ≡ Some (BadText 14 Shape)
-unfolding header_in after_lines read_records
+third_record : (reading (head_text ++ codes "0 1 1\n0 0 0\n0 0 0\nend\n")).fault ≡ Some (BadText (header_len head + 3) Shape)
+unfolding digits header_in header_len after_lines read_records
 third_record = refl
 
 -- what follows the end
-trailing_byte : reading (head_text ++ codes "0 1 1\n0 0 0\nend\n\n") ≡ record { header = Some head; records = both; fault = Some (Trailing 15) }
-unfolding header_in after_lines read_records
+trailing_byte : reading (head_text ++ codes "0 1 1\n0 0 0\nend\n\n") ≡ record { header = Some head; records = both; fault = Some (Trailing (header_len head + 4)) }
+unfolding digits header_in header_len after_lines read_records
 trailing_byte = refl
 
 no_bytes : reading [] ≡ stopped (Some (Truncated 1))
-unfolding header_in after_lines read_records
+unfolding digits header_in header_len after_lines read_records
 no_bytes = refl
 
 cut_head : reading (take 70 head_text) ≡ stopped (Some (Truncated 5))
-unfolding header_in after_lines read_records
+unfolding digits header_in header_len after_lines read_records
 cut_head = refl
 
 -- a text of 65,536 bytes, and one of one byte fewer
 long_text : reading (replicate 65536 120) ≡ stopped (Some (BadText 1 TooLong))
-unfolding header_in after_lines read_records
+unfolding digits header_in header_len after_lines read_records
 long_text = refl
 
 short_text : reading (replicate 65535 120) ≡ stopped (Some (Truncated 1))
-unfolding header_in after_lines read_records
+unfolding digits header_in header_len after_lines read_records
 short_text = refl

@@ -10,6 +10,7 @@ use Rattle.std.specs.Prelude.{if◌then◌else◌}
 use Rattle.std.specs.Str.{bytes_eq}
 use Rattle.cert_format.specs.Parts.{counts_in, values_in}
 use Rattle.cache_model.specs.declared.certificates.Header.{Header}
+use Rattle.cache_model.specs.Texts.{first_line}
 use Rattle.cert_format.specs.declared.fault.CertFault.{CertFault}
 use Rattle.cert_format.specs.Grammar.{Slot, fixed_line, choice_line, count_slots, value_slots, number_at, word_at}
 use Rattle.cert_format.specs.Readings.{first_fault, lines_fault, after_lines, header_fault, header_in, line_text, objective_in}
@@ -57,7 +58,7 @@ last_line n slots bytes = by (first_fault n slots bytes)
     by (Some fault) = refl
 
 abbrev pub version : List Slot
-version = fixed_line (codes "cache-bound-certificate 1")
+version = fixed_line first_line
 
 abbrev pub objective : List Slot
 objective = choice_line (codes "objective") (codes "object") (codes "bytes")
@@ -76,12 +77,12 @@ abbrev pub values_fault : ℕ → List ℕ → Option CertFault
 values_fault n bytes = lines_fault n value_slots bytes
 
 tail_parts : (bytes : List ℕ) → lines_fault 7 (form ∷ (value_slots ++ last ∷ [])) (after_lines 6 bytes)
-    ≡ option_or (first_fault 7 form (after_lines 6 bytes)) (option_or (values_fault 8 (after_lines 7 bytes)) (first_fault 11 last (after_lines 10 bytes)))
+    ≡ option_or (first_fault 7 form (after_lines 6 bytes)) (option_or (values_fault 8 (after_lines 7 bytes)) (first_fault (10 + 1) last (after_lines 10 bytes)))
 tail_parts bytes =
     ap (λ b. option_or (first_fault 7 form (after_lines 6 bytes)) (lines_fault 8 (value_slots ++ last ∷ []) b)) (sym (after_lines-suc 6 bytes))
     ∙ ap (option_or (first_fault 7 form (after_lines 6 bytes)))
     (lines_fault-append 8 value_slots (last ∷ []) (after_lines 7 bytes)
-    ∙ (ap (λ b. option_or (values_fault 8 (after_lines 7 bytes)) (lines_fault 11 (last ∷ []) b)) (sym (after_lines-add 7 3 bytes)) ∙ ap (option_or (values_fault 8 (after_lines 7 bytes))) (last_line 11 last (after_lines 10 bytes))))
+    ∙ (ap (λ b. option_or (values_fault 8 (after_lines 7 bytes)) (lines_fault (10 + 1) (last ∷ []) b)) (sym (after_lines-add 7 3 bytes)) ∙ ap (option_or (values_fault 8 (after_lines 7 bytes))) (last_line (10 + 1) last (after_lines 10 bytes))))
 
 -- the fault of a header is the first one of its parts
 pub header_parts : (n : ℕ) (bytes : List ℕ) → n ≡ 0 → header_fault bytes

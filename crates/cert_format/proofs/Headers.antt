@@ -1,12 +1,13 @@
 -- The lines before the records: what is written is read, and what is read is what is written.
-use Rattle.std.proofs.Common.{◌≡◌, ℕ, zero, suc, ◌+◌, ◌-◌, ◌^◌, ◌<◌, ◌∙◌, sym, refl, ap, List, [], ◌∷◌, ◌++◌, append_assoc, length, get_or, arith, codes, Some, None, Option}
+use Rattle.std.proofs.Common.{◌≡◌, ℕ, zero, suc, ◌+◌, ◌-◌, ◌^◌, ◌<◌, ◌∙◌, sym, refl, ap, List, [], ◌∷◌, ◌++◌, append_assoc, length, get_or, arith, lit<, codes, Some, None, Option}
 use Rattle.std.specs.Option.{option_or, is_some}
 use Rattle.std.specs.Str.{bytes_eq}
 use Rattle.std.proofs.lemmas.Bool.{true≢false}
 use Rattle.bound_io.specs.Lines.{first_text, after_line}
 use Rattle.cache_model.specs.declared.certificates.Header.{Header}
+use Rattle.cache_model.specs.declared.version.TheConstants.{CERT_VERSION}
 use Rattle.cache_model.specs.Certificates.{IsHeaderInRange}
-use Rattle.cache_model.specs.Texts.{line, text_of, entry, objective_word, form_word, header_lines}
+use Rattle.cache_model.specs.Texts.{line, text_of, entry, first_line, objective_word, form_word, header_len, header_lines}
 use Rattle.cache_model.proofs.Apart.{header_from}
 use Rattle.cert_format.specs.Grammar.{Slot, line_fault, header_slots, number_at, word_at}
 use Rattle.cert_format.specs.Readings.{first_fault, lines_fault, after_lines, line_text, header_fault, header_in, objective_in}
@@ -47,20 +48,20 @@ At k bytes t = after_lines k bytes ≡ line t ++ after_lines (suc k) bytes
 at_line : (slots : List Slot) (k : ℕ) (bytes t : List ℕ) → HasLine slots (after_lines k bytes) → first_text (after_lines k bytes) ≡ t → At k bytes t
 at_line slots k bytes t has is = has.is ∙ (ap (λ x. line x ++ after_line (after_lines k bytes)) is ∙ ap (λ r. line t ++ r) (sym (after_lines-suc k bytes)))
 
-eleven : (a b c d e f g h i j k b0 b1 b2 b3 b4 b5 b6 b7 b8 b9 b10 b11 : List ℕ)
+each_line : (a b c d e f g h i j k b0 b1 b2 b3 b4 b5 b6 b7 b8 b9 b10 b11 : List ℕ)
     → b0 ≡ line a ++ b1 → b1 ≡ line b ++ b2 → b2 ≡ line c ++ b3 → b3 ≡ line d ++ b4 → b4 ≡ line e ++ b5 → b5 ≡ line f ++ b6
     → b6 ≡ line g ++ b7 → b7 ≡ line h ++ b8 → b8 ≡ line i ++ b9 → b9 ≡ line j ++ b10 → b10 ≡ line k ++ b11
     → b0 ≡ text_of (a ∷ b ∷ c ∷ d ∷ e ∷ f ∷ g ∷ h ∷ i ∷ j ∷ k ∷ []) ++ b11
-eleven a b c d e f g h i j k b0 b1 b2 b3 b4 b5 b6 b7 b8 b9 b10 b11 e0 e1 e2 e3 e4 e5 e6 e7 e8 e9 e10 =
+each_line a b c d e f g h i j k b0 b1 b2 b3 b4 b5 b6 b7 b8 b9 b10 b11 e0 e1 e2 e3 e4 e5 e6 e7 e8 e9 e10 =
     rw (e0, e1, e2, e3, e4, e5, e6, e7, e8, e9, e10) (simp append_assoc)
 
 -- the header of some bytes is in range, and its lines are their prefix
-pub header_spelled : (bytes : List ℕ) → header_fault bytes ≡ None → IsHeaderInRange (header_in bytes) × (bytes ≡ text_of (header_lines (header_in bytes)) ++ after_lines 11 bytes)
-unfolding header_in
+pub header_spelled : (bytes : List ℕ) → header_fault bytes ≡ None → IsHeaderInRange (header_in bytes) × (bytes ≡ text_of (header_lines (header_in bytes)) ++ after_lines (header_len (header_in bytes)) bytes)
+unfolding header_in header_len
 header_spelled bytes none =
     let capacity = number_at 1 (line_text 3 bytes) in
     let stand = lines_stand 1 0 (header_slots capacity) bytes (ap (lines_fault 1 (header_slots capacity)) (after_lines-zero bytes) ∙ none) in
-    let at0 = fixed_only (codes "cache-bound-certificate 1") (line_text 1 bytes) stand.0.fits in
+    let at0 = fixed_only first_line (line_text 1 bytes) stand.0.fits in
     let s1 = stand.1 in
     let at1 = objective_spelled (line_text 2 bytes) s1.0.fits in
     let s2 = s1.1 in
@@ -80,7 +81,7 @@ header_spelled bytes none =
     let s9 = s8.1 in
     let at9 = number_spelled (codes "lower") 0 (2 ^ 127 - 1) (line_text 10 bytes) s9.0.fits (omega arith) in
     let s10 = s9.1 in
-    let at10 = fixed_only (codes "records") (line_text 11 bytes) s10.0.fits in (
+    let at10 = fixed_only (codes "records") _ s10.0.fits in (
       record {
         capacity = (at2.0, at2.1);
         requests = at3.1;
@@ -91,11 +92,11 @@ header_spelled bytes none =
         lower = omega (arith, at9.1);
       },
       sym (after_lines-zero bytes)
-          ∙ eleven (codes "cache-bound-certificate 1") (codes "objective " ++ objective_word (objective_in (line_text 2 bytes))) (entry (codes "capacity") (number_at 1 (line_text 3 bytes)))
+          ∙ each_line first_line (codes "objective " ++ objective_word (objective_in (line_text 2 bytes))) (entry (codes "capacity") (number_at 1 (line_text 3 bytes)))
           (entry (codes "requests") (number_at 1 (line_text 4 bytes))) (entry (codes "unit") (number_at 1 (line_text 5 bytes))) (entry (codes "denominator") (number_at 1 (line_text 6 bytes)))
           (codes "form " ++ form_word (bytes_eq (word_at 1 (line_text 7 bytes)) (codes "exact"))) (entry (codes "upper") (number_at 1 (line_text 8 bytes))) (entry (codes "flow") (number_at 1 (line_text 9 bytes)))
           (entry (codes "lower") (number_at 1 (line_text 10 bytes))) (codes "records")
-          (after_lines 0 bytes) (after_lines 1 bytes) (after_lines 2 bytes) (after_lines 3 bytes) (after_lines 4 bytes) (after_lines 5 bytes) (after_lines 6 bytes) (after_lines 7 bytes) (after_lines 8 bytes) (after_lines 9 bytes) (after_lines 10 bytes) (after_lines 11 bytes)
+          (after_lines 0 bytes) (after_lines 1 bytes) (after_lines 2 bytes) (after_lines 3 bytes) (after_lines 4 bytes) (after_lines 5 bytes) (after_lines 6 bytes) (after_lines 7 bytes) (after_lines 8 bytes) (after_lines 9 bytes) (after_lines 10 bytes) _
           (at_line _ 0 bytes _ stand.0 at0) (at_line _ 1 bytes _ s1.0 at1) (at_line _ 2 bytes _ s2.0 at2.2) (at_line _ 3 bytes _ s3.0 at3.2) (at_line _ 4 bytes _ s4.0 at4.2) (at_line _ 5 bytes _ s5.0 at5.2)
           (at_line _ 6 bytes _ s6.0 at6) (at_line _ 7 bytes _ s7.0 at7.2) (at_line _ 8 bytes _ s8.0 at8.2) (at_line _ 9 bytes _ s9.0 at9.2) (at_line _ 10 bytes _ s10.0 at10),
     )
@@ -145,8 +146,8 @@ header_fits h range =
     let requests : h.requests < 2 ^ 127 = omega (arith, range.requests) in
     let unit : h.unit < 2 ^ 127 = omega (arith, range.unit, range.capacity) in
     let denominator : h.denominator < 2 ^ 127 = omega (arith, range.denominator) in (
-      (refl, omega arith),
-      fixed_fits (codes "cache-bound-certificate 1"),
+      entry_line (codes "cache-bound-certificate") CERT_VERSION refl (omega arith) (lit< tt),
+      fixed_fits first_line,
       (
         objective_line h.objective,
         (objective_fits h.objective).0,
@@ -186,10 +187,15 @@ header_fits h range =
       ),
     )
 
+-- a header has few lines
+pub few_lines : (h : Header) → header_len h < 64
+unfolding header_len
+few_lines h = lit< tt
+
 -- a header in range that is written is read
 pub header_read : (h : Header) (rest : List ℕ) → IsHeaderInRange h
-    → (header_fault (text_of (header_lines h) ++ rest) ≡ None) × (header_in (text_of (header_lines h) ++ rest) ≡ h) × (after_lines 11 (text_of (header_lines h) ++ rest) ≡ rest)
-unfolding header_in header_from
+    → (header_fault (text_of (header_lines h) ++ rest) ≡ None) × (header_in (text_of (header_lines h) ++ rest) ≡ h) × (after_lines (header_len h) (text_of (header_lines h) ++ rest) ≡ rest)
+unfolding header_in header_from header_len
 header_read h rest range =
     let fit = header_fits h range in
     let bytes = text_of (header_lines h) ++ rest in

@@ -14,7 +14,7 @@ use Rattle.cert_format.specs.declared.fault.TextKind.TheVariants.{Number, Range}
 use Rattle.cert_format.specs.Kinds.{kind_of}
 use Rattle.cert_format.specs.Grammar.{Within, is_canonical, number_in, number_fault}
 
--- what the answer of a reader of numbers tells of a word
+-- what the answer of a reader of numbers says of a word
 abbrev pub Says : ℕ → List ℕ → Result ℕ NumFault → Type 0
 Says limit word (Ok value) = (list_all is_ascii_digit word ≡ true) × (0 < length word) × (value ≡ number_in word)
 Says limit word (Err Empty) = word ≡ []

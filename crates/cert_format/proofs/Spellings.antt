@@ -150,7 +150,7 @@ IsLine text = (list_any (λ b. b == 10) text ≡ false) × (length text ≤ 63)
 both_lack : (a b : List ℕ) → list_any (λ x. x == 10) a ≡ false → list_any (λ x. x == 10) b ≡ false → list_any (λ x. x == 10) (a ++ b) ≡ false
 both_lack a b la lb = list_any-append (λ x. x == 10) a b ∙ or_from _ _ la lb
 
-pub entry_line : (name : List ℕ) (n : ℕ) → list_any (λ b. b == 10) name ≡ false → length name ≤ 20 → n < 2 ^ 127 → IsLine (entry name n)
+pub entry_line : (name : List ℕ) (n : ℕ) → list_any (λ b. b == 10) name ≡ false → length name ≤ 23 → n < 2 ^ 127 → IsLine (entry name n)
 entry_line name n lacks short small =
     let digits = digits-decimal n (omega arith) in (
       both_lack (name ++ codes " ") (decimal n) (both_lack name (codes " ") lacks refl) (lacks-digits 10 (decimal n) (omega arith) digits),

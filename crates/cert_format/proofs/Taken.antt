@@ -25,7 +25,7 @@ use Rattle.cert_format.specs.Lines.{known, text_given, nothing_given, of_line, I
 use Rattle.cert_format.proofs.Prefixes.{whole_line, cut_line, long_line}
 use Rattle.cert_format.proofs.Headers.{after_lines-suc, after_lines-zero}
 
--- what a call for the next line tells
+-- what a call for the next line says
 pub record Gave (old new : Position) (source : Device) (r : Result WholeLine LineFault) : Type 0 where
   pub line : IfOk r (λ w. IfSome (stands_in old.held source.before) (IsLine w))
   pub refused : IfErr r (IsRefused old (stands_in old.held source.before) source.faults_before source.faults_after)

@@ -9,11 +9,11 @@ use Rattle.bound_io.specs.Lines.{first_text, after_line}
 use Rattle.cache_model.specs.declared.certificates.Header.{Header}
 use Rattle.cache_model.specs.declared.certificates.Record.{Record}
 use Rattle.cache_model.specs.Certificates.{IsCertificate, IsHeaderInRange, IsRecordInRange}
-use Rattle.cache_model.specs.Texts.{line, text_of, header_lines, record_line, cert_text, cert_lines}
+use Rattle.cache_model.specs.Texts.{line, text_of, header_len, header_lines, record_line, cert_text, cert_lines}
 use Rattle.cert_format.specs.declared.fault.CertFault.{CertFault}
 use Rattle.cert_format.specs.declared.fault.CertFault.TheVariants.{Trailing}
 use Rattle.cert_format.specs.Grammar.{record_slots, end_slots}
-use Rattle.cert_format.specs.Readings.{Reading, reading, whole, stopped, unless, onto, under, trailing, read_records, first_fault, after_lines, header_fault, header_in, record_in}
+use Rattle.cert_format.specs.Readings.{read_after, Reading, reading, whole, stopped, unless, onto, under, trailing, read_records, first_fault, after_lines, header_fault, header_in, record_in}
 use Rattle.cert_format.specs.Laws.{IsSpelled}
 use Rattle.cert_format.proofs.Shapes.{fixed_fits, fixed_only}
 use Rattle.cert_format.proofs.Spellings.{record_fits, record_spelled, record_is_line}
@@ -60,10 +60,10 @@ written_read h records c =
     let bytes = text_of (header_lines h) ++ records_text records in
     let head = header_read h (records_text records) c.header in
     ap reading (cert_text-split h records)
-    ∙ (ap (λ o. unless o (under (header_in bytes) (read_records (header_in bytes).requests 12 (after_lines 11 bytes)))) head.0
-    ∙ (ap (λ (k : Header). under k (read_records k.requests 12 (after_lines 11 bytes))) head.1
-    ∙ (ap (λ b. under h (read_records h.requests 12 b)) head.2
-    ∙ (ap (λ k. under h (read_records k 12 (records_text records))) (sym c.count) ∙ ap (under h) (records_read records 12 c.each)))))
+    ∙ (ap (λ o. unless o (under (header_in bytes) (read_after (header_in bytes) bytes))) head.0
+    ∙ (ap (λ (k : Header). under k (read_after k bytes)) head.1
+    ∙ (ap (λ b. under h (read_records h.requests (header_len h + 1) b)) head.2
+    ∙ (ap (λ k. under h (read_records k (header_len h + 1) (records_text records))) (sym c.count) ∙ ap (under h) (records_read records (header_len h + 1) c.each)))))
 
 no_stop : (o : Option CertFault) (r : Reading) → (unless o r).fault ≡ None → (o ≡ None) × (r.fault ≡ None)
 no_stop None r none = (refl, none)
@@ -121,13 +121,13 @@ records_spelled (suc k) n bytes none =
 pub read_written : (bytes : List ℕ) → (reading bytes).fault ≡ None → (h : Header) × (records : List Record) × IsSpelled bytes h records
 read_written bytes none =
     let h = header_in bytes in
-    let parts = no_stop (header_fault bytes) (under h (read_records h.requests 12 (after_lines 11 bytes))) none in
+    let parts = no_stop (header_fault bytes) (under h (read_after h bytes)) none in
     let head = header_spelled bytes parts.0 in
-    let body = records_spelled h.requests 12 (after_lines 11 bytes) parts.1 in (
+    let body = records_spelled h.requests (header_len h + 1) (after_lines (header_len h) bytes) parts.1 in (
       h,
       body.0,
       record {
-        read = ap (λ o. unless o (under h (read_records h.requests 12 (after_lines 11 bytes)))) parts.0 ∙ ap (under h) body.1.read;
+        read = ap (λ o. unless o (under h (read_after h bytes))) parts.0 ∙ ap (under h) body.1.read;
         certificate = record { header = head.0; count = body.1.count; each = body.1.each };
         text = head.1 ∙ (ap (λ b. text_of (header_lines h) ++ b) body.1.text ∙ sym (cert_text-split h body.0));
       },
@@ -148,7 +148,7 @@ pub read_in_range : (bytes : List ℕ) → IfSome (reading bytes).header IsHeade
 read_in_range bytes = by (header_fault bytes) refl
   where
     by : (o : Option CertFault) → header_fault bytes ≡ o
-        → IfSome (unless o (under (header_in bytes) (read_records (header_in bytes).requests 12 (after_lines 11 bytes)))).header IsHeaderInRange
-        × All IsRecordInRange (unless o (under (header_in bytes) (read_records (header_in bytes).requests 12 (after_lines 11 bytes)))).records
-    by None none = ((header_spelled bytes none).0, records_in_range (header_in bytes).requests 12 (after_lines 11 bytes))
+        → IfSome (unless o (under (header_in bytes) (read_after (header_in bytes) bytes))).header IsHeaderInRange
+        × All IsRecordInRange (unless o (under (header_in bytes) (read_after (header_in bytes) bytes))).records
+    by None none = ((header_spelled bytes none).0, records_in_range (header_in bytes).requests (header_len (header_in bytes) + 1) (after_lines (header_len (header_in bytes)) bytes))
     by (Some fault) is = (tt, All-nil IsRecordInRange)

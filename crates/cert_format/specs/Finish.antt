@@ -6,7 +6,7 @@ use Rattle.cert_format.specs.declared.reader.Stage.{Stage}
 use Rattle.cert_format.specs.declared.reader.Stage.TheVariants.{AtHeader, InRecords, AtEnd}
 use Rattle.cert_format.specs.Readings.{end_fault, trailing}
 
--- the fault of the end, where its line was read or is still to be read
+-- the fault of the end, whose line was read or is still to be read
 abbrev pub finish_fault : Stage → ℕ → List ℕ → Option CertFault
 finish_fault AtHeader n bytes = end_fault n bytes
 finish_fault InRecords n bytes = end_fault n bytes

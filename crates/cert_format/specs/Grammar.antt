@@ -6,6 +6,7 @@ use Rattle.std.specs.List.{list_any, list_all, slice_split}
 use Rattle.std.specs.Char.{is_ascii_digit}
 use Rattle.std.specs.Str.{bytes_eq}
 use Rattle.bound_base.specs.Digits.{value_after}
+use Rattle.cache_model.specs.Texts.{first_line}
 use Rattle.cert_format.specs.declared.fault.TextKind.{TextKind}
 use Rattle.cert_format.specs.declared.fault.TextKind.TheVariants.{Shape, Number, Range}
 
@@ -50,7 +51,7 @@ value_slots =
 -- the lines before the records, where the third states this capacity
 abbrev pub header_slots : ℕ → List (List Slot)
 header_slots capacity =
-    fixed_line (codes "cache-bound-certificate 1")
+    fixed_line first_line
     ∷ choice_line (codes "objective") (codes "object") (codes "bytes")
     ∷ (count_slots capacity
     ++ choice_line (codes "form") (codes "exact") (codes "plain")

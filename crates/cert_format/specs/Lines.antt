@@ -15,11 +15,11 @@ use Rattle.cert_format.specs.declared.fault.CertFault.{CertFault}
 use Rattle.cert_format.specs.declared.fault.CertFault.TheVariants.{BadText, Truncated, Trailing, ReadFault}
 use Rattle.cert_format.specs.Readings.{after_lines, bytes_through}
 
--- the bytes that a reader stands in, where the source tells those that it has left, and known those of the lines so far, which have at most 64 bytes each
+-- the bytes that a reader stands in, if those that the source has left are known, and those of the lines so far, which have at most 64 bytes each
 abbrev pub known : Position → Option (List ℕ) → Option (List ℕ)
 known at left = if nat_le at.consumed (64 * at.line) then stands_in at.held left else None
 
--- the text of a whole line, or why there is none, where it would be line n
+-- the text of a whole line, or why there is none; it would be line n
 abbrev pub text_given : ℕ → Result WholeLine LineFault → Result (List ℕ) CertFault
 text_given n (Ok (Whole text)) = Ok text.now
 text_given n (Ok (Unended text)) = Err (Truncated n)
@@ -28,7 +28,7 @@ text_given n (Err line.ReadFault) = Err ReadFault
 text_given n (Err (line.LineTooLong m)) = Err (BadText n TooLong)
 text_given n (Err line.InputTooLong) = Err (BadText n TooLong)
 
--- that no line is left, or what is, where it would be line n
+-- that no line is left, or what is; it would be line n
 abbrev pub nothing_given : ℕ → Result WholeLine LineFault → Result (Unit {0}) CertFault
 nothing_given n (Ok (Whole text)) = Err (Trailing n)
 nothing_given n (Ok (Unended text)) = Err (Trailing n)
@@ -37,7 +37,7 @@ nothing_given n (Err line.ReadFault) = Err ReadFault
 nothing_given n (Err (line.LineTooLong m)) = Err (Trailing n)
 nothing_given n (Err line.InputTooLong) = Err (Trailing n)
 
--- what a text gives, where it is that of line n
+-- what the text of line n gives
 abbrev pub of_line : {A : Type 0} → ℕ → Result A TextKind → Result A CertFault
 of_line n (Ok value) = Ok value
 of_line n (Err kind) = Err (BadText n kind)
@@ -47,7 +47,7 @@ pub record IsPast (old new : Position) (bytes : List ℕ) : Type 0 where
   pub further : old.line ≤ new.line
   pub consumed : new.consumed ≡ old.consumed + bytes_through (new.line - old.line) bytes
 
--- the bytes begin with so many lines without a fault, and what stands after them is still there
+-- the bytes begin with this number of lines without a fault, and what stands after them is still there
 pub record Passes (fault_of : List ℕ → Option CertFault) (count : ℕ) (bytes : List ℕ) (after : Option (List ℕ)) : Type 0 where
   pub none : fault_of bytes ≡ None
   pub rest : after ≡ Some (after_lines count bytes)
@@ -66,7 +66,7 @@ IsWithin given (BadText n kind) = given ≤ n
 IsWithin given (Truncated n) = given ≤ n
 IsWithin given (Trailing n) = given ≤ n
 
--- so many lines are read from a source as a value of the bytes, or are not, for a fault that the bytes have
+-- this number of lines is read from a source as a value of the bytes, or is not, for a fault that the bytes have
 pub record Reads {A : Type 0} (fault_of : List ℕ → Option CertFault) (count : ℕ) (value : List ℕ → A) (old new : Position) (source : Device) (result : Result A CertFault) : Type 0 where
   pub limit : new.limit ≡ old.limit
   pub held : length new.held ≤ 65536

@@ -5,7 +5,7 @@ use Rattle.bound_io.specs.Devices.{Device, HasFailed}
 use Rattle.bound_io.specs.Positions.{Position}
 use Rattle.cache_model.specs.declared.certificates.Header.{Header}
 use Rattle.cache_model.specs.declared.certificates.Record.{Record}
-use Rattle.cache_model.specs.Texts.{header_lines, line, record_line, text_of}
+use Rattle.cache_model.specs.Texts.{header_len, header_lines, line, record_line, text_of}
 use Rattle.cert_format.specs.declared.fault.CertFault.{CertFault}
 use Rattle.cert_format.specs.declared.fault.CertFault.TheVariants.{BadText, Truncated, Trailing, ReadFault}
 use Rattle.cert_format.specs.declared.reader.Stage.{Stage}
@@ -24,7 +24,7 @@ pub record Reader : Type 0 where
 abbrev pub fresh : Reader
 fresh = record { lines = record { limit = 2 ^ 36; consumed = 0; line = 0; held = []; fault = None }; stage = AtHeader; left = 0; fault = None }
 
--- what is to come after so many lines, by what is read next and how many records are left
+-- what is to come after this number of lines, by what is read next and how many records are left
 abbrev pub coming : Stage → ℕ → ℕ → List ℕ → Reading
 coming AtHeader left line bytes = reading bytes
 coming InRecords left line bytes = read_records left (line + 1) bytes
@@ -52,9 +52,14 @@ IsRefused old source (BadText n kind) = IfSome (known old.lines source.before) (
 IsRefused old source (Truncated n) = IfSome (known old.lines source.before) (λ bytes. to_come old bytes ≡ stopped (Some (Truncated n)))
 IsRefused old source (Trailing n) = IfSome (known old.lines source.before) (λ bytes. to_come old bytes ≡ stopped (Some (Trailing n)))
 
+-- how many lines a header that was read has
+abbrev pub lines_read : Result Header CertFault → ℕ
+lines_read (Ok h) = header_len h
+lines_read (Err fault) = 0
+
 -- how the header is read
 abbrev pub HeaderRead : Reader → Reader → Device → Result Header CertFault → Type 0
-HeaderRead old new source (Ok h) = (new.stage ≡ InRecords) × (new.left ≡ h.requests) × (new.lines.line ≡ 11) × IfSome (known old.lines source.before) (GoesOn (under h) 11 (text_of (header_lines h)) old new source.after)
+HeaderRead old new source (Ok h) = (new.stage ≡ InRecords) × (new.left ≡ h.requests) × (new.lines.line ≡ header_len h) × IfSome (known old.lines source.before) (GoesOn (under h) (header_len h) (text_of (header_lines h)) old new source.after)
 HeaderRead old new source (Err fault) = IsRefused old source fault
 
 -- how a record is read

@@ -8,6 +8,7 @@ use Rattle.cache_model.specs.declared.objects.Objective.{Objective}
 use Rattle.cache_model.specs.declared.objects.Objective.TheVariants.{Object as Hits, Bytes}
 use Rattle.cache_model.specs.declared.certificates.Header.{Header}
 use Rattle.cache_model.specs.declared.certificates.Record.{Record}
+use Rattle.cache_model.specs.Texts.{header_len}
 use Rattle.cert_format.specs.Grammar.{Slot, header_slots, record_slots, end_slots, line_fault, word_at, number_at}
 use Rattle.cert_format.specs.declared.fault.TextKind.{TextKind}
 use Rattle.cert_format.specs.declared.fault.TextKind.TheVariants.{TooLong}
@@ -24,17 +25,17 @@ first_fault n slots bytes =
     if nat_lt 65535 (text_len bytes) then Some (BadText n TooLong)
     else (if nat_lt (text_len bytes) (length bytes) then option_map (in_line n) (line_fault slots (first_text bytes)) else Some (Truncated n))
 
--- the first fault of some lines that these bytes are to begin with, of which the first is line n
+-- the first fault of some lines that these bytes must begin with, from line n on
 abbrev pub lines_fault : ℕ → List (List Slot) → List ℕ → Option CertFault
 lines_fault n [] bytes = None
 lines_fault n (slots ∷ lines) bytes = option_or (first_fault n slots bytes) (lines_fault (n + 1) lines (after_line bytes))
 
--- what stands after so many lines
+-- what stands after this number of lines
 unfoldable pub after_lines : ℕ → List ℕ → List ℕ
 after_lines zero bytes = bytes
 after_lines (suc k) bytes = after_lines k (after_line bytes)
 
--- how many bytes so many lines have
+-- how many bytes this number of lines has
 abbrev pub bytes_through : ℕ → List ℕ → ℕ
 bytes_through k bytes = length bytes - length (after_lines k bytes)
 
@@ -68,7 +69,7 @@ header_in bytes = record {
 abbrev pub record_in : List ℕ → Record
 record_in text = record { price = number_at 0 text; keep = bytes_eq (word_at 1 text) (codes "1"); flow = number_at 2 text }
 
--- the header, where it can be read, the records before the first fault, and that fault, if there is one
+-- the header, if it can be read, the records before the first fault, and that fault, if there is one
 pub record Reading : Type 0 where
   pub header : Option Header
   pub records : List Record
@@ -99,14 +100,18 @@ trailing n bytes = if length bytes == 0 then None else Some (Trailing n)
 abbrev pub end_fault : ℕ → List ℕ → Option CertFault
 end_fault n bytes = option_or (first_fault n end_slots bytes) (trailing (n + 1) (after_line bytes))
 
--- so many records, of which the first is line n, and the end
+-- this number of records, from line n on, and the end
 unfoldable pub read_records : ℕ → ℕ → List ℕ → Reading
 read_records zero n bytes = stopped (end_fault n bytes)
 read_records (suc k) n bytes = unless (first_fault n record_slots bytes) (onto (record_in (first_text bytes)) (read_records k (n + 1) (after_line bytes)))
 
+-- what stands after the lines of a header: its records, and the end
+abbrev pub read_after : Header → List ℕ → Reading
+read_after h bytes = read_records h.requests (header_len h + 1) (after_lines (header_len h) bytes)
+
 -- the reading of all the bytes of a certificate
 abbrev pub reading : List ℕ → Reading
-reading bytes = unless (header_fault bytes) (under (header_in bytes) (read_records (header_in bytes).requests 12 (after_lines 11 bytes)))
+reading bytes = unless (header_fault bytes) (under (header_in bytes) (read_after (header_in bytes) bytes))
 
 -- the reading of a whole certificate
 abbrev pub whole : Header → List Record → Reading

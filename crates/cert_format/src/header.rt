@@ -3,13 +3,16 @@ ghost use Rattle.std.specs.Prelude.{◌≡◌, ◌+◌, ◌<◌, ◌≤◌, ◌^
 ghost use Rattle.bound_io.specs.Lines.{first_text};
 ghost use Rattle.bound_io.specs.Devices.{device};
 ghost use Rattle.cache_model.specs.Certificates.{IsHeaderInRange};
-ghost use Rattle.cert_format.specs.Grammar.{count_slots, number_at, value_slots};
+ghost use Rattle.cache_model.specs.Texts.{first_line};
+ghost use Rattle.cert_format.specs.Grammar.{count_slots, fixed_line, number_at, value_slots};
 ghost use Rattle.cert_format.specs.Lines.{Reads};
 ghost use Rattle.cert_format.specs.Parts.{IsCountsInRange, IsValuesInRange, counts_in, values_in};
-ghost use Rattle.cert_format.specs.Readings.{header_fault, header_in, lines_fault};
+ghost use Rattle.cert_format.specs.Readers.{lines_read};
+ghost use Rattle.cert_format.specs.Readings.{first_fault, header_fault, header_in, lines_fault};
 
 use crate::fault::CertFault;
 use crate::lines::{read_choice, read_fixed, read_number};
+use crate::text::first_line;
 use bound_io::{LineReader, Source};
 use cache_model::{Header, Objective};
 
@@ -28,6 +31,16 @@ struct Values {
     upper: u128,
     flow: u128,
     lower: u128,
+}
+
+// Reads what the file is, and the version of its text.
+fn read_first<S: Source>(lines: &mut LineReader, source: &mut S) -> Result<(), CertFault>
+    requires limit { lines.old.limit ≡ 2 ^ 36 }
+    requires few { lines.old.line < 2 ^ 26 }
+    requires no_fault { lines.old.fault ≡ None }
+    ensures { Reads (first_fault (lines.old.line + 1) (fixed_line first_line)) 1 (λ _. tt) lines.old lines.new (device (S.left source.old) (S.left source.new) (S.faults source.old) (S.faults source.new)) result }
+{
+    read_fixed(lines, source, first_line().as_bytes())
 }
 
 fn read_counts<S: Source>(lines: &mut LineReader, source: &mut S) -> Result<Counts, CertFault>
@@ -80,9 +93,9 @@ pub fn read_header<S: Source>(lines: &mut LineReader, source: &mut S) -> Result<
     requires first { lines.old.line ≡ 0 }
     requires no_fault { lines.old.fault ≡ None }
     ensures range { IfOk result IsHeaderInRange }
-    ensures read { Reads header_fault 11 header_in lines.old lines.new (device (S.left source.old) (S.left source.new) (S.faults source.old) (S.faults source.new)) result }
+    ensures read { Reads header_fault (lines_read result) header_in lines.old lines.new (device (S.left source.old) (S.left source.new) (S.faults source.old) (S.faults source.new)) result }
 {
-    read_fixed(lines, source, b"cache-bound-certificate 1")?;
+    read_first(lines, source)?;
     let of_objects = read_choice(lines, source, b"objective", b"object", b"bytes")?;
     let counts = read_counts(lines, source)?;
     let exact = read_choice(lines, source, b"form", b"exact", b"plain")?;

@@ -6,7 +6,6 @@
 
 mod fault;
 mod header;
-mod invalid;
 mod laws;
 mod line;
 mod lines;
@@ -17,7 +16,6 @@ mod writing;
 
 pub use cache_model::{Header, Objective, Record};
 pub use fault::{CertFault, TextKind};
-pub use invalid::InvalidKind;
 pub use laws::{read_is_in_range, read_is_written, written_is_read};
 pub use reader::CertReader;
 pub use writing::{write_end, write_header, write_record};

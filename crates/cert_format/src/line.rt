@@ -99,7 +99,7 @@ fn keep_of(word: &[u8]) -> Option<bool>
     }
 }
 
-// The words of a line, where it has those of a record.
+// The words of a line, if it has those of a record.
 fn record_words(text: &[u8]) -> Option<RecordWords<'_>>
     ensures words { IfSome result (λ w. words text.now ≡ w.price.now ∷ ((48 + keep_digit w.keep) ∷ []) ∷ w.flow.now ∷ []) }
     ensures some { IfSome result (λ w. (0 < length w.price.now) × (0 < length w.flow.now)) }

@@ -26,10 +26,10 @@ pub enum Stage {
     AtEnd,
 }
 
-// Reads the end, where it wasn't read yet, and looks whether nothing follows it.
+// Reads the end, if it wasn't read yet, and looks whether nothing follows it.
 fn finish<Q: Source>(lines: &mut LineReader, source: &mut Q, stage: Stage) -> Result<(), CertFault>
     requires limit { lines.old.limit ≡ 2 ^ 36 }
-    requires few { lines.old.line + 1 < 2 ^ 26 }
+    requires few { lines.old.line + lines_left stage < 2 ^ 26 }
     requires no_fault { lines.old.fault ≡ None }
     ensures { Reads (finish_fault stage (lines.old.line + 1)) (lines_left stage) (λ _. tt) lines.old lines.new (device (Q.left source.old) (Q.left source.new) (Q.faults source.old) (Q.faults source.new)) result }
 {
@@ -53,7 +53,7 @@ pub struct CertReader {
 }
 
 impl Model for CertReader {
-    ghost use Rattle.std.specs.Prelude.{◌≡◌, ◌+◌, ◌≤◌, ◌^◌, None, length};
+    ghost use Rattle.std.specs.Prelude.{◌≡◌, ◌+◌, ◌<◌, ◌≤◌, ◌^◌, None, length};
     ghost use Rattle.cert_format.specs.declared.reader.Stage.TheVariants.{AtHeader};
     ghost use Rattle.cert_format.specs.Finish.{lines_left};
     ghost use Rattle.cert_format.specs.Readers.{Reader};
@@ -64,7 +64,7 @@ impl Model for CertReader {
 
     ghost invariant = { λ r.
         (r.lines.limit ≡ 2 ^ 36) × (length r.lines.held ≤ 65536) × (r.fault ≡ None → r.lines.fault ≡ None)
-        × (r.fault ≡ None → r.lines.line + r.left + lines_left r.stage ≤ 2 ^ 25 + 12) × (r.fault ≡ None → r.stage ≡ AtHeader → r.lines.line ≡ 0) };
+        × (r.fault ≡ None → r.lines.line + r.left + lines_left r.stage < 2 ^ 26) × (r.fault ≡ None → r.stage ≡ AtHeader → r.lines.line ≡ 0) };
 }
 
 impl CertReader {
@@ -103,6 +103,13 @@ impl CertReader {
         ensures { result ≡ self.now.lines.line }
     {
         self.lines.line()
+    }
+
+    /// How many records are still to be read, once the header was.
+    pub fn left(&self) -> u32
+        ensures { result ≡ self.now.left }
+    {
+        self.left
     }
 
     /// The header. This is the first call.

@@ -6,7 +6,7 @@ ghost use Rattle.bound_io.specs.Writing.{AppendsProperPrefix};
 ghost use Rattle.cache_model.specs.Certificates.{IsHeaderInRange, IsRecordInRange};
 ghost use Rattle.cache_model.specs.Texts.{header_lines, line, record_line, text_of};
 
-use crate::text::Text;
+use crate::text::{header_text, record_text};
 use bound_io::{Failed, Sink, write_all};
 use cache_model::{Header, Record};
 
@@ -17,7 +17,7 @@ pub fn write_header<K: Sink>(sink: &mut K, header: &Header) -> Result<(), Failed
     ensures prefix { OnErr result (AppendsProperPrefix (K.written sink.old) (K.written sink.new) (text_of (header_lines header.now))) }
     ensures cause { HasCause (K.faults sink.old) (K.faults sink.new) result }
 {
-    write_all(sink, Text::of_header(header).as_bytes())
+    write_all(sink, header_text(header).as_bytes())
 }
 
 /// Writes the line of a record.
@@ -27,7 +27,7 @@ pub fn write_record<K: Sink>(sink: &mut K, entry: &Record) -> Result<(), Failed>
     ensures prefix { OnErr result (AppendsProperPrefix (K.written sink.old) (K.written sink.new) (line (record_line entry.now))) }
     ensures cause { HasCause (K.faults sink.old) (K.faults sink.new) result }
 {
-    write_all(sink, Text::of_record(entry).as_bytes())
+    write_all(sink, record_text(entry).as_bytes())
 }
 
 /// Writes the line after the records.

@@ -3,8 +3,8 @@ ghost use Rattle.std.specs.Prelude.{◌≡◌, ◌<◌, ◌≤◌, ◌+◌, ◌^
 
 use crate::compared::{holds, same};
 use cache_model::{Object, Objective};
-use cert_checker::{Checker, StepFault, Verdict};
-use cert_format::{Header, InvalidKind, Record};
+use cert_checker::{Checker, InvalidKind, StepFault, Verdict};
+use cert_format::{Header, Record};
 use std::alloc::Global;
 use std::process::Abort;
 

@@ -1,8 +1,7 @@
 //! The words of the command line, in rows.
 use super::*;
-use bound_report::WordKind;
+use bound_report::{Mode, WordKind};
 use bound_run::{Paths, Plan, WordFault, paths_of, plan_of};
-use cache_model::Mode;
 use cache_rules::Objective;
 use plans::TAKEN;
 use refusals::REFUSED;

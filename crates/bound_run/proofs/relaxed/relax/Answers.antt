@@ -1,7 +1,7 @@
 use Rattle.std.proofs.Common.{◌≡◌, ℕ, ◌*◌, ◌-◌, ◌≤◌, sym, subst, arith, List, replicate, length, sum, get_or, Result, Ok, Err, IfOk, All}
 use Rattle.cache_model.specs.Schedules.{IsFractionalSchedule}
 use Rattle.interval_maker.specs.Timelines.{Timeline}
-use Rattle.cache_model.specs.declared.reports.Mode.TheVariants.{Constant, Infinite}
+use Rattle.bound_report.specs.declared.facts.Mode.TheVariants.{Constant, Infinite}
 use Rattle.constant_price.specs.Constants.{IsLeastConstant, constant_prices}
 use Rattle.constant_price.proofs.Bounds.{sum-constant_prices}
 use Rattle.constant_price.proofs.Prices.{length-constant_prices, constant_prices-last}

@@ -2,12 +2,13 @@ use Rattle.std.proofs.Common.{◌≡◌, sym, ap, refl, subst, arith, [], length
 use Rattle.std.proofs.lemmas.Bool.{false≢true}
 use Rattle.std.proofs.lemmas.Result.{err_from_is_err_and}
 use Rattle.cache_model.specs.declared.certificates.Header.{Header}
+use Rattle.cache_model.specs.Texts.{header_len}
 use Rattle.cert_format.proofs.Chains.{loses_both}
 use Rattle.cert_checker.specs.declared.verdict.Verdict.{Verdict}
 use Rattle.cert_checker.specs.declared.walking.CheckFault.{CheckFault}
 use Rattle.cert_checker.specs.Checks.{Inputs, inputs, IsLastCheck, IsEvent, IsNear, IsPassed}
 use Rattle.cert_checker.specs.Summaries.{StandsFor}
-use Rattle.cert_checker.proofs.Closings.{stop_header, opens}
+use Rattle.cert_checker.proofs.Ends.{stop_header, opens}
 use Rattle.cert_checker.proofs.Losses.{keeps}
 use Rattle.cert_checker.proofs.walking.check_streams.Goals as goal
 
@@ -75,7 +76,7 @@ walk-requires-clause-in_step g c =
       trace_fault = ap (λ r. r.fault) c.requires.fresh_reader;
       cert_fault = e.fault none;
       stage = read.0;
-      line = omega (arith, read.2, st.sums.steps);
+      line = omega (arith, read.2, st.sums.steps, ap header_len st.header);
       left = omega (arith, read.1, st.sums.steps, ap (λ (k : Header). k.requests) st.header);
       held = e.ahead;
       some = ([], [], subst (λ k. StandsFor k [] [] c.in_ok-checker.checker) (sym st.header) st);
@@ -88,8 +89,8 @@ returns-clause-yes g c =
     let end : Inputs = inputs c.walk.new.reader (g.T.Source.left c.walk.new.trace) (g.T.Source.faults c.walk.new.trace) c.walk.new.cert (g.Q.Source.left c.walk.new.certificate) (g.Q.Source.faults c.walk.new.certificate) in
     let none : c.args.cert.now.fault ≡ None = ap (λ r. r.fault) c.requires.fresh_cert in
     let e = c.in_ok-header.ensures in
-    let came = opens start c.requires.fresh_reader c.requires.fresh_cert middle e.past c.in_ok-header.header c.in_ok-checker.checker (e.read none) refl refl c.in_ok-checker.ensures.nothing (record { trace = omega arith; certificate = e.later }) in
-    yes_closed start end c.walk.result (c.walk.ensures.closed start c.in_ok-header.header [] [] came)
+    let checked = opens start c.requires.fresh_reader c.requires.fresh_cert middle e.past c.in_ok-header.header c.in_ok-checker.checker (e.read none) refl refl c.in_ok-checker.ensures.nothing (record { trace = omega arith; certificate = e.later }) in
+    yes_closed start end c.walk.result (c.walk.ensures.checked start c.in_ok-header.header [] [] checked)
 
 pub returns-clause-event : goal.returns-clause-event
 returns-clause-event g c =
@@ -98,8 +99,8 @@ returns-clause-event g c =
     let end : Inputs = inputs c.walk.new.reader (g.T.Source.left c.walk.new.trace) (g.T.Source.faults c.walk.new.trace) c.walk.new.cert (g.Q.Source.left c.walk.new.certificate) (g.Q.Source.faults c.walk.new.certificate) in
     let none : c.args.cert.now.fault ≡ None = ap (λ r. r.fault) c.requires.fresh_cert in
     let e = c.in_ok-header.ensures in
-    let came = opens start c.requires.fresh_reader c.requires.fresh_cert middle e.past c.in_ok-header.header c.in_ok-checker.checker (e.read none) refl refl c.in_ok-checker.ensures.nothing (record { trace = omega arith; certificate = e.later }) in
-    event_closed start end c.walk.result (c.walk.ensures.closed start c.in_ok-header.header [] [] came)
+    let checked = opens start c.requires.fresh_reader c.requires.fresh_cert middle e.past c.in_ok-header.header c.in_ok-checker.checker (e.read none) refl refl c.in_ok-checker.ensures.nothing (record { trace = omega arith; certificate = e.later }) in
+    event_closed start end c.walk.result (c.walk.ensures.checked start c.in_ok-header.header [] [] checked)
 
 pub returns-clause-near : goal.returns-clause-near
 returns-clause-near g c =
@@ -108,8 +109,8 @@ returns-clause-near g c =
     let end : Inputs = inputs c.walk.new.reader (g.T.Source.left c.walk.new.trace) (g.T.Source.faults c.walk.new.trace) c.walk.new.cert (g.Q.Source.left c.walk.new.certificate) (g.Q.Source.faults c.walk.new.certificate) in
     let none : c.args.cert.now.fault ≡ None = ap (λ r. r.fault) c.requires.fresh_cert in
     let e = c.in_ok-header.ensures in
-    let came = opens start c.requires.fresh_reader c.requires.fresh_cert middle e.past c.in_ok-header.header c.in_ok-checker.checker (e.read none) refl refl c.in_ok-checker.ensures.nothing (record { trace = omega arith; certificate = e.later }) in
-    near_closed start end c.walk.result (c.walk.ensures.closed start c.in_ok-header.header [] [] came)
+    let checked = opens start c.requires.fresh_reader c.requires.fresh_cert middle e.past c.in_ok-header.header c.in_ok-checker.checker (e.read none) refl refl c.in_ok-checker.ensures.nothing (record { trace = omega arith; certificate = e.later }) in
+    near_closed start end c.walk.result (c.walk.ensures.checked start c.in_ok-header.header [] [] checked)
 
 pub returns-clause-trace_source : goal.returns-clause-trace_source
 returns-clause-trace_source g c = c.walk.ensures.trace.0

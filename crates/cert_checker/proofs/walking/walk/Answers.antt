@@ -9,7 +9,7 @@ pub loop-init : goal.loop-init
 loop-init g c = record {
   in_step = c.requires.in_step;
   header = c.requires.header;
-  came = λ start h requests records came. (requests, records, came);
+  checked = λ start h requests records checked. (requests, records, checked);
   trace_source = keeps (g.T.Source.left c.args.trace.now);
   trace_later = omega arith;
   cert_source = keeps (g.Q.Source.left c.args.certificate.now);
@@ -18,57 +18,57 @@ loop-init g c = record {
 
 pub loop-preserved : goal.loop-preserved
 loop-preserved g c =
-    let now : Inputs = inputs c.turn.new.reader (g.T.Source.left c.turn.new.trace) (g.T.Source.faults c.turn.new.trace) c.turn.new.cert (g.Q.Source.left c.turn.new.certificate) (g.Q.Source.faults c.turn.new.certificate) in
+    let now : Inputs = inputs c.check_next.new.reader (g.T.Source.left c.check_next.new.trace) (g.T.Source.faults c.check_next.new.trace) c.check_next.new.cert (g.Q.Source.left c.check_next.new.certificate) (g.Q.Source.faults c.check_next.new.certificate) in
     let i = c.loop.invariant in
-    let e = c.in_ok-turn.ensures in
+    let e = c.in_ok-check_next.ensures in
     record {
       in_step = e.in_step.0;
       header = i.header ∙ sym e.in_step.1;
-      came = λ start h requests records came.
-          let given = i.came start h requests records came in
-          let more = subst (λ m. IsNextCheck start h given.0 given.1 now c.turn.new.checker (Ok m)) c.if-branch.true (e.turned start h given.0 given.1 given.2) in
+      checked = λ start h requests records checked.
+          let given = i.checked start h requests records checked in
+          let more = subst (λ m. IsNextCheck start h given.0 given.1 now c.check_next.new.checker (Ok m)) c.if-branch.true (e.checked start h given.0 given.1 given.2) in
           (given.0 ++ more.0 ∷ [], given.1 ++ more.1 ∷ [], more.2);
-      trace_source = loses_both (g.T.Source.left c.args.trace.now) (g.T.Source.left c.loop.trace) (g.T.Source.left c.turn.new.trace) i.trace_source e.trace.0;
+      trace_source = loses_both (g.T.Source.left c.args.trace.now) (g.T.Source.left c.loop.trace) (g.T.Source.left c.check_next.new.trace) i.trace_source e.trace.0;
       trace_later = omega (arith, i.trace_later, e.trace.1);
-      cert_source = loses_both (g.Q.Source.left c.args.certificate.now) (g.Q.Source.left c.loop.certificate) (g.Q.Source.left c.turn.new.certificate) i.cert_source e.cert.0;
+      cert_source = loses_both (g.Q.Source.left c.args.certificate.now) (g.Q.Source.left c.loop.certificate) (g.Q.Source.left c.check_next.new.certificate) i.cert_source e.cert.0;
       cert_later = omega (arith, i.cert_later, e.cert.1);
     }
 
-pub returns-in_err-turn-clause-closed : goal.returns-in_err-turn-clause-closed
-returns-in_err-turn-clause-closed g c =
+pub returns-in_err-check_next-clause-checked : goal.returns-in_err-check_next-clause-checked
+returns-in_err-check_next-clause-checked g c =
     let p = err_from_is_err_and c.from_residual.result c.from_residual.ensures.1 in
-    rw (p.1, p.2) (λ start h requests records came.
-    let given = c.loop.invariant.came start h requests records came in
-    c.in_err-turn.ensures.turned start h given.0 given.1 given.2)
+    rw (p.1, p.2) (λ start h requests records checked.
+    let given = c.loop.invariant.checked start h requests records checked in
+    c.in_err-check_next.ensures.checked start h given.0 given.1 given.2)
 
-pub returns-in_err-turn-clause-trace : goal.returns-in_err-turn-clause-trace
-returns-in_err-turn-clause-trace g c =
+pub returns-in_err-check_next-clause-trace : goal.returns-in_err-check_next-clause-trace
+returns-in_err-check_next-clause-trace g c =
     let i = c.loop.invariant in
-    let e = c.turn.ensures.trace in
-    (loses_both (g.T.Source.left c.args.trace.now) (g.T.Source.left c.loop.trace) (g.T.Source.left c.turn.new.trace) i.trace_source e.0, omega (arith, i.trace_later, e.1), e.2)
+    let e = c.check_next.ensures.trace in
+    (loses_both (g.T.Source.left c.args.trace.now) (g.T.Source.left c.loop.trace) (g.T.Source.left c.check_next.new.trace) i.trace_source e.0, omega (arith, i.trace_later, e.1), e.2)
 
-pub returns-in_err-turn-clause-cert : goal.returns-in_err-turn-clause-cert
-returns-in_err-turn-clause-cert g c =
+pub returns-in_err-check_next-clause-cert : goal.returns-in_err-check_next-clause-cert
+returns-in_err-check_next-clause-cert g c =
     let i = c.loop.invariant in
-    let e = c.turn.ensures.cert in
-    (loses_both (g.Q.Source.left c.args.certificate.now) (g.Q.Source.left c.loop.certificate) (g.Q.Source.left c.turn.new.certificate) i.cert_source e.0, omega (arith, i.cert_later, e.1))
+    let e = c.check_next.ensures.cert in
+    (loses_both (g.Q.Source.left c.args.certificate.now) (g.Q.Source.left c.loop.certificate) (g.Q.Source.left c.check_next.new.certificate) i.cert_source e.0, omega (arith, i.cert_later, e.1))
 
-pub returns-clause-closed : goal.returns-clause-closed
-returns-clause-closed g c = λ start h requests records came.
-    let now : Inputs = inputs c.turn.new.reader (g.T.Source.left c.turn.new.trace) (g.T.Source.faults c.turn.new.trace) c.turn.new.cert (g.Q.Source.left c.turn.new.certificate) (g.Q.Source.faults c.turn.new.certificate) in
-    let given = c.loop.invariant.came start h requests records came in
-    let ended = subst (λ m. IsNextCheck start h given.0 given.1 now c.turn.new.checker (Ok m)) c.if-branch.false (c.in_ok-turn.ensures.turned start h given.0 given.1 given.2) in
-    c.close.ensures.closed start c.turn.new.reader (g.T.Source.left c.turn.new.trace) (g.T.Source.faults c.turn.new.trace) h given.0 given.1 ended
+pub returns-clause-checked : goal.returns-clause-checked
+returns-clause-checked g c = λ start h requests records checked.
+    let now : Inputs = inputs c.check_next.new.reader (g.T.Source.left c.check_next.new.trace) (g.T.Source.faults c.check_next.new.trace) c.check_next.new.cert (g.Q.Source.left c.check_next.new.certificate) (g.Q.Source.faults c.check_next.new.certificate) in
+    let given = c.loop.invariant.checked start h requests records checked in
+    let checked_all = subst (λ m. IsNextCheck start h given.0 given.1 now c.check_next.new.checker (Ok m)) c.if-branch.false (c.in_ok-check_next.ensures.checked start h given.0 given.1 given.2) in
+    c.check_last.ensures.checked start c.check_next.new.reader (g.T.Source.left c.check_next.new.trace) (g.T.Source.faults c.check_next.new.trace) h given.0 given.1 checked_all
 
 pub returns-clause-trace : goal.returns-clause-trace
 returns-clause-trace g c =
     let i = c.loop.invariant in
-    let e = c.turn.ensures.trace in
-    (loses_both (g.T.Source.left c.args.trace.now) (g.T.Source.left c.loop.trace) (g.T.Source.left c.turn.new.trace) i.trace_source e.0, omega (arith, i.trace_later, e.1), e.2)
+    let e = c.check_next.ensures.trace in
+    (loses_both (g.T.Source.left c.args.trace.now) (g.T.Source.left c.loop.trace) (g.T.Source.left c.check_next.new.trace) i.trace_source e.0, omega (arith, i.trace_later, e.1), e.2)
 
 pub returns-clause-cert : goal.returns-clause-cert
 returns-clause-cert g c =
     let i = c.loop.invariant in
-    let e = c.turn.ensures.cert in
-    let before = loses_both (g.Q.Source.left c.args.certificate.now) (g.Q.Source.left c.loop.certificate) (g.Q.Source.left c.turn.new.certificate) i.cert_source e.0 in
-    (loses_both (g.Q.Source.left c.args.certificate.now) (g.Q.Source.left c.turn.new.certificate) (g.Q.Source.left c.close.new.certificate) before c.close.ensures.source, omega (arith, i.cert_later, e.1, c.close.ensures.later))
+    let e = c.check_next.ensures.cert in
+    let before = loses_both (g.Q.Source.left c.args.certificate.now) (g.Q.Source.left c.loop.certificate) (g.Q.Source.left c.check_next.new.certificate) i.cert_source e.0 in
+    (loses_both (g.Q.Source.left c.args.certificate.now) (g.Q.Source.left c.check_next.new.certificate) (g.Q.Source.left c.check_last.new.certificate) before c.check_last.ensures.source, omega (arith, i.cert_later, e.1, c.check_last.ensures.later))

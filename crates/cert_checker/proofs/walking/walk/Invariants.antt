@@ -11,7 +11,7 @@ abbrev pub invariant-loop : goal.invariant-loop
 invariant-loop g l = record {
   in_step : IsInStep (inputs l.reader (g.T.Source.left l.trace) (g.T.Source.faults l.trace) l.cert (g.Q.Source.left l.certificate) (g.Q.Source.faults l.certificate)) l.checker;
   header : l.header ≡ l.checker.header;
-  came : (start : Inputs) (h : Header) (requests : List Object) (records : List Record)
+  checked : (start : Inputs) (h : Header) (requests : List Object) (records : List Record)
       → HasChecked start h requests records (inputs l.fn.reader (g.T.Source.left l.fn.trace) (g.T.Source.faults l.fn.trace) l.fn.cert (g.Q.Source.left l.fn.certificate) (g.Q.Source.faults l.fn.certificate)) l.fn.checker
       → (given : List Object) × (passed : List Record) × HasChecked start h given passed (inputs l.reader (g.T.Source.left l.trace) (g.T.Source.faults l.trace) l.cert (g.Q.Source.left l.certificate) (g.Q.Source.faults l.certificate)) l.checker;
   trace_source : LosesPrefix (g.T.Source.left l.fn.trace) (g.T.Source.left l.trace);
@@ -20,6 +20,6 @@ invariant-loop g l = record {
   cert_later : g.Q.Source.faults l.fn.certificate ≤ g.Q.Source.faults l.certificate;
 }
 
--- each turn but the last reads a record
+-- each check but the last reads a record
 abbrev pub decreases-loop : goal.decreases-loop
 decreases-loop g l = l.cert.left

@@ -1,9 +1,10 @@
-use Rattle.std.proofs.Common.{◌∙◌, refl, ap, subst, Ok}
+use Rattle.std.proofs.Common.{◌∙◌, sym, refl, ap, subst, arith, Ok}
 use Rattle.bound_io.specs.Devices.{device}
 use Rattle.cert_format.specs.Readers.{HeaderRead}
 use Rattle.cert_format.specs.declared.reader.Stage.TheVariants.{InRecords}
 use Rattle.cert_format.specs.contracts.reader.CertReader.{the_view}
 use Rattle.cert_format.proofs.Taken.{same_past}
+use Rattle.cert_format.proofs.Headers.{few_lines}
 use Rattle.cert_format.proofs.Going.{header_goes}
 use Rattle.cert_format.proofs.reader.CertReader.header.Goals as goal
 
@@ -18,3 +19,17 @@ returns-in-Ok-clause-read g c = λ none.
     let new = the_view (record { lines = c.read_header-found.new.lines; stage = InRecords; left = c.in-Ok.header.requests; fault = c.self.inside.fault }) in
     subst (λ r. HeaderRead r new (device (g.Q.Source.left c.args.source.now) (g.Q.Source.left c.read_header-found.new.source) (g.Q.Source.faults c.args.source.now) (g.Q.Source.faults c.read_header-found.new.source)) (Ok c.in-Ok.header)) is
     (header_goes old new _ c.in-Ok.header at (c.self.invariant.4 c.in_default.is at) refl refl (rw c.in-Ok.is at c.read_header-found.ensures.read))
+
+pub invariant_of-self : goal.invariant_of-self
+invariant_of-self g c =
+    let h = c.in-Ok.header in
+    let read = rw c.in-Ok.is at c.read_header-found.ensures.read in
+    let range = rw c.in-Ok.is at c.read_header-found.ensures.range in
+    let at = ap (λ r. r.stage) c.self.view_is ∙ c.requires (ap (λ r. r.fault) (sym c.self.view_is) ∙ c.in_default.is) in
+    let first = c.self.invariant.4 c.in_default.is at in (
+      read.limit ∙ c.self.invariant.0,
+      read.held,
+      λ none. read.given.1,
+      λ none. omega (arith, read.given.0, first, range.requests, few_lines h),
+      λ none wrong. cc,
+    )

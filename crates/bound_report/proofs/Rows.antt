@@ -1,0 +1,39 @@
+-- Reports worked out by hand.
+use Rattle.std.proofs.Common.{◌≡◌, ℕ, Bool, true, false, [], ◌∷◌, codes, refl}
+use Rattle.std.specs.Fmt.{digits}
+use Rattle.cache_model.specs.declared.objects.Objective.TheVariants.{Object as Hits}
+use Rattle.cache_model.specs.declared.certificates.Header.{Header}
+use Rattle.cache_model.specs.Texts.{text_of}
+use Rattle.bound_report.specs.declared.facts.Mode.TheVariants.{Flow, Infinite}
+use Rattle.bound_report.specs.declared.facts.Window.TheVariants.{All as Whole}
+use Rattle.bound_report.specs.Reports.{report_text}
+
+-- two requests of size 4 at capacity 10
+abbrev pair_header : Bool → ℕ → Header
+pair_header exact flow = record { objective = Hits; capacity = 10; requests = 2; unit = 4; denominator = 1; exact = exact; upper = 1; flow = flow; lower = 1 }
+
+pair_report : report_text (record { header = pair_header true 1; objects = 1; dropped = 0; mode = Flow Whole; price = 0; intervals = 1 }) ≡ text_of (
+    codes "trace requests 2 objects 1 dropped 0"
+    ∷ codes "capacity 10 objective object"
+    ∷ codes "mode flow window all form exact"
+    ∷ codes "unit 4 units 2 denominator 1"
+    ∷ codes "intervals 1"
+    ∷ codes "upper 1/1 floor 1"
+    ∷ codes "flow 1/1"
+    ∷ codes "lower 1"
+    ∷ [])
+unfolding digits
+pair_report = refl
+
+infinite_report : report_text (record { header = pair_header false 0; objects = 1; dropped = 0; mode = Infinite; price = 0; intervals = 1 }) ≡ text_of (
+    codes "trace requests 2 objects 1 dropped 0"
+    ∷ codes "capacity 10 objective object"
+    ∷ codes "mode infinite form plain"
+    ∷ codes "unit 4 units 2 denominator 1"
+    ∷ codes "intervals 1"
+    ∷ codes "upper 1/1 floor 1"
+    ∷ codes "flow 0/1"
+    ∷ codes "lower 1"
+    ∷ [])
+unfolding digits
+infinite_report = refl

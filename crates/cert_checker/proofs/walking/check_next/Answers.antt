@@ -1,0 +1,197 @@
+use Rattle.std.proofs.Common.{◌≡◌, ◌+◌, ◌<◌, ◌∙◌, sym, ap, refl, subst, arith, [], ◌∷◌, ◌++◌, length}
+use Rattle.std.proofs.lemmas.Bool.{false≢true}
+use Rattle.std.proofs.lemmas.Result.{err_from_is_err_and}
+use Rattle.std.proofs.lemmas.List.{length-append}
+use Rattle.cache_model.specs.declared.certificates.Header.{Header}
+use Rattle.cache_model.specs.Texts.{header_len, line, record_line}
+use Rattle.cert_checker.specs.declared.invalid.InvalidKind.TheVariants.{RequestCount}
+use Rattle.cert_checker.specs.declared.walking.CheckFault.TheVariants.{Invalid}
+use Rattle.cert_checker.specs.Checks.{Inputs, inputs, IsFailing}
+use Rattle.cert_checker.specs.Rules.{record_fault}
+use Rattle.cert_checker.specs.Summaries.{StandsFor}
+use Rattle.cert_checker.proofs.Losses.{keeps}
+use Rattle.cert_checker.proofs.Stops.{last_line, stop_trace, end_trace, stop_count, stop_text, stop_rule, goes_further}
+use Rattle.cert_checker.proofs.walking.check_next.Goals as goal
+
+pub returns-in_err-object-clause-checked : goal.returns-in_err-object-clause-checked
+returns-in_err-object-clause-checked g c =
+    let now : Inputs = inputs c.args.reader.now (g.T.Source.left c.args.trace.now) (g.T.Source.faults c.args.trace.now) c.args.cert.now (g.Q.Source.left c.args.certificate.now) (g.Q.Source.faults c.args.certificate.now) in
+    let end : Inputs = inputs c.next.new.self (g.T.Source.left c.next.new.source) (g.T.Source.faults c.next.new.source) c.args.cert.now (g.Q.Source.left c.args.certificate.now) (g.Q.Source.faults c.args.certificate.now) in
+    let p = err_from_is_err_and c.from_residual.result c.from_residual.ensures.1 in
+    rw (p.1, p.2) (λ start h given records checked. stop_trace start h given records now c.args.checker.now checked end c.in_err-object.field-0.0 (c.in_err-object.ensures.next c.requires.in_step.trace_fault))
+
+pub returns-in_default-clause-checked : goal.returns-in_default-clause-checked
+returns-in_default-clause-checked g c = λ start h given records checked.
+    let now : Inputs = inputs c.args.reader.now (g.T.Source.left c.args.trace.now) (g.T.Source.faults c.args.trace.now) c.args.cert.now (g.Q.Source.left c.args.certificate.now) (g.Q.Source.faults c.args.certificate.now) in
+    let end : Inputs = inputs c.next.new.self (g.T.Source.left c.next.new.source) (g.T.Source.faults c.next.new.source) c.args.cert.now (g.Q.Source.left c.args.certificate.now) (g.Q.Source.faults c.args.certificate.now) in
+    end_trace start h given records now c.args.checker.now checked end (rw c.in_default.is at c.in_ok-object.ensures.next c.requires.in_step.trace_fault) refl refl
+    (record { trace = omega (arith, checked.later.trace, c.in_ok-object.ensures.later); certificate = checked.later.certificate })
+
+pub returns-then-read-header-clause-checked : goal.returns-then-read-header-clause-checked
+returns-then-read-header-clause-checked g c = λ start h given records checked.
+    let now : Inputs = inputs c.args.reader.now (g.T.Source.left c.args.trace.now) (g.T.Source.faults c.args.trace.now) c.args.cert.now (g.Q.Source.left c.args.certificate.now) (g.Q.Source.faults c.args.certificate.now) in
+    let end : Inputs = inputs c.next.new.self (g.T.Source.left c.next.new.source) (g.T.Source.faults c.next.new.source) c.args.cert.now (g.Q.Source.left c.args.certificate.now) (g.Q.Source.faults c.args.certificate.now) in
+    let next = rw c.in-Some.is at c.in_ok-object.ensures.next c.requires.in_step.trace_fault in
+    let many = checked.stands.sums.steps in
+    let at : c.args.cert.now.lines.line ≡ header_len h + length given = last_line h given records c.args.checker.now c.args.cert.now.lines.line checked.stands c.requires.in_step.line in
+    let written : c.args.header.now.requests ≡ h.requests = ap (λ (k : Header). k.requests) (c.requires.header ∙ checked.stands.header) in
+    let line_is : c.line.result ≡ header_len h + length given = omega (arith, c.line.ensures, at) in
+    let read : c.records_read-read.result + 1 ≡ length given + 1 = omega (arith, c.records_read-read.ensures, c.requires.in_step.left, many, ap (λ (k : Header). k.requests) c.requires.header) in
+    let full : length given ≡ h.requests = omega (arith, read, written, c.if-read-header.true) in
+    let is : c.count_differs.result ≡ Invalid (header_len h + length given) (RequestCount h.requests (length given + 1)) =
+    c.count_differs.ensures ∙ (ap (λ l. Invalid l (RequestCount c.args.header.now.requests (c.records_read-read.result + 1))) line_is
+    ∙ (ap (λ w. Invalid (header_len h + length given) (RequestCount w (c.records_read-read.result + 1))) written ∙ ap (λ r. Invalid (header_len h + length given) (RequestCount h.requests r)) read)) in
+    rw is (stop_count start h given records now c.args.checker.now checked c.in-Some.object c.next.new.self (g.T.Source.left c.next.new.source) next.1 end refl refl c.requires.in_step.held at full)
+
+pub returns-in_err-entry-clause-checked : goal.returns-in_err-entry-clause-checked
+returns-in_err-entry-clause-checked g c =
+    let now : Inputs = inputs c.args.reader.now (g.T.Source.left c.args.trace.now) (g.T.Source.faults c.args.trace.now) c.args.cert.now (g.Q.Source.left c.args.certificate.now) (g.Q.Source.faults c.args.certificate.now) in
+    let end : Inputs = inputs c.next.new.self (g.T.Source.left c.next.new.source) (g.T.Source.faults c.next.new.source) c.next_record.new.self (g.Q.Source.left c.next_record.new.source) (g.Q.Source.faults c.next_record.new.source) in
+    let p = err_from_is_err_and c.from_residual-in_err-entry.result c.from_residual-in_err-entry.ensures.1 in
+    rw (p.1, p.2) (λ start h given records checked.
+    let next = rw c.in-Some.is at c.in_ok-object.ensures.next c.requires.in_step.trace_fault in
+    let written : c.args.header.now.requests ≡ h.requests = ap (λ (k : Header). k.requests) (c.requires.header ∙ checked.stands.header) in
+    let fewer : length given < h.requests = omega (arith, c.records_read-read.ensures, c.requires.in_step.left, checked.stands.sums.steps, ap (λ (k : Header). k.requests) c.requires.header, written, checked.stands.input.within, c.if-read-header.false) in
+    let e = c.in_err-entry.ensures in
+    stop_text start h given records now c.args.checker.now checked c.in-Some.object c.next.new.self (g.T.Source.left c.next.new.source) next.1 end c.in_err-entry.field-0.0 fewer (e.read c.requires.in_step.cert_fault) (e.within c.requires.in_step.cert_fault) e.past e.ahead)
+
+pub returns-in_err-step-clause-checked : goal.returns-in_err-step-clause-checked
+returns-in_err-step-clause-checked g c =
+    let now : Inputs = inputs c.args.reader.now (g.T.Source.left c.args.trace.now) (g.T.Source.faults c.args.trace.now) c.args.cert.now (g.Q.Source.left c.args.certificate.now) (g.Q.Source.faults c.args.certificate.now) in
+    let end : Inputs = inputs c.next.new.self (g.T.Source.left c.next.new.source) (g.T.Source.faults c.next.new.source) c.next_record.new.self (g.Q.Source.left c.next_record.new.source) (g.Q.Source.faults c.next_record.new.source) in
+    let p = err_from_is_err_and c.from_residual-in_err-step.result c.from_residual-in_err-step.ensures.1 in
+    rw (p.1, p.2) (λ start h given records checked.
+    let next = rw c.in-Some.is at c.in_ok-object.ensures.next c.requires.in_step.trace_fault in
+    let written : c.args.header.now.requests ≡ h.requests = ap (λ (k : Header). k.requests) (c.requires.header ∙ checked.stands.header) in
+    let fewer : length given < h.requests = omega (arith, c.records_read-read.ensures, c.requires.in_step.left, checked.stands.sums.steps, ap (λ (k : Header). k.requests) c.requires.header, written, checked.stands.input.within, c.if-read-header.false) in
+    let e = c.in_ok-entry.ensures in
+    let read = e.read c.requires.in_step.cert_fault in
+    stop_rule start h given records now c.args.checker.now checked c.in-Some.object c.next.new.self (g.T.Source.left c.next.new.source) next.1 c.in_ok-entry.entry (line (record_line c.in_ok-entry.entry)) end read.2 read.3 e.past c.in_err-step.field-0.0 fewer
+    (last_line h given records c.args.checker.now c.args.cert.now.lines.line checked.stands c.requires.in_step.line) e.ahead
+    (subst (λ l. IsFailing l (record_fault h (given ++ c.in-Some.object ∷ []) (records ++ c.in_ok-entry.entry ∷ []) (length given)) c.in_err-step.field-0.0) c.line-2.ensures (c.in_err-step.ensures.stepped h given records checked.stands)))
+
+pub returns-clause-checked : goal.returns-clause-checked
+returns-clause-checked g c = λ start h given records checked.
+    let now : Inputs = inputs c.args.reader.now (g.T.Source.left c.args.trace.now) (g.T.Source.faults c.args.trace.now) c.args.cert.now (g.Q.Source.left c.args.certificate.now) (g.Q.Source.faults c.args.certificate.now) in
+    let end : Inputs = inputs c.next.new.self (g.T.Source.left c.next.new.source) (g.T.Source.faults c.next.new.source) c.next_record.new.self (g.Q.Source.left c.next_record.new.source) (g.Q.Source.faults c.next_record.new.source) in
+    let next = rw c.in-Some.is at c.in_ok-object.ensures.next c.requires.in_step.trace_fault in
+    let e = c.in_ok-entry.ensures in
+    let read = e.read c.requires.in_step.cert_fault in (
+      c.in-Some.object,
+      c.in_ok-entry.entry,
+      goes_further start h given records now c.args.checker.now checked c.in-Some.object c.next.new.self (g.T.Source.left c.next.new.source) next.1 c.in_ok-entry.entry (line (record_line c.in_ok-entry.entry)) end read.2 read.3 e.past c.step.new.checker refl refl
+          (c.in_ok-step.ensures.stepped h given records checked.stands)
+          (record { trace = omega (arith, checked.later.trace, c.in_ok-object.ensures.later); certificate = omega (arith, checked.later.certificate, e.later) }),
+    )
+
+pub returns-clause-in_step : goal.returns-clause-in_step
+returns-clause-in_step g c =
+    let s = c.requires.in_step in
+    let e = c.in_ok-entry.ensures in
+    let read = e.read s.cert_fault in
+    let x = c.in-Some.object in
+    let r = c.in_ok-entry.entry in
+    let more = c.in_ok-step.ensures.stepped c.args.checker.now.header s.some.0 s.some.1 s.some.2 in
+    let steps = more.sums.steps ∙ length-append s.some.0 (x ∷ []) in
+    let old = s.some.2.sums.steps in (
+      record {
+        trace_fault = c.in_ok-object.ensures.fault s.trace_fault;
+        cert_fault = e.fault s.cert_fault;
+        stage = read.0;
+        line = omega (arith, read.2, s.line, steps, old, ap header_len more.header);
+        left = omega (arith, read.1, s.left, steps, old, ap (λ (k : Header). k.requests) more.header);
+        held = e.ahead;
+        some = (s.some.0 ++ x ∷ [], s.some.1 ++ r ∷ [], subst (λ k. StandsFor k (s.some.0 ++ x ∷ []) (s.some.1 ++ r ∷ []) c.step.new.checker) (sym more.header) more);
+      },
+      more.header,
+    )
+
+pub returns-in_err-object-clause-in_step : goal.returns-in_err-object-clause-in_step
+returns-in_err-object-clause-in_step g c = rw (err_from_is_err_and c.from_residual.result c.from_residual.ensures.1).1 tt
+
+pub returns-in_err-object-clause-fewer : goal.returns-in_err-object-clause-fewer
+returns-in_err-object-clause-fewer g c = rw (err_from_is_err_and c.from_residual.result c.from_residual.ensures.1).1 tt
+
+pub returns-in_err-entry-clause-in_step : goal.returns-in_err-entry-clause-in_step
+returns-in_err-entry-clause-in_step g c = rw (err_from_is_err_and c.from_residual-in_err-entry.result c.from_residual-in_err-entry.ensures.1).1 tt
+
+pub returns-in_err-entry-clause-fewer : goal.returns-in_err-entry-clause-fewer
+returns-in_err-entry-clause-fewer g c = rw (err_from_is_err_and c.from_residual-in_err-entry.result c.from_residual-in_err-entry.ensures.1).1 tt
+
+pub returns-in_err-step-clause-in_step : goal.returns-in_err-step-clause-in_step
+returns-in_err-step-clause-in_step g c = rw (err_from_is_err_and c.from_residual-in_err-step.result c.from_residual-in_err-step.ensures.1).1 tt
+
+pub returns-in_err-step-clause-fewer : goal.returns-in_err-step-clause-fewer
+returns-in_err-step-clause-fewer g c = rw (err_from_is_err_and c.from_residual-in_err-step.result c.from_residual-in_err-step.ensures.1).1 tt
+
+pub records_read-read-requires : goal.records_read-read-requires
+records_read-read-requires g c = omega (arith, c.requires.in_step.left, ap (λ (k : Header). k.requests) c.requires.header)
+
+pub next_record-requires : goal.next_record-requires
+next_record-requires g c = λ none. (c.requires.in_step.stage, omega (arith, c.requires.in_step.left, c.records_read-read.ensures, c.if-read-header.false, ap (λ (k : Header). k.requests) c.requires.header))
+
+pub step-requires-clause-fewer : goal.step-requires-clause-fewer
+step-requires-clause-fewer g c = omega (arith, c.requires.in_step.left, c.records_read-read.ensures, c.if-read-header.false, ap (λ (k : Header). k.requests) c.requires.header)
+
+pub step-requires-clause-size : goal.step-requires-clause-size
+step-requires-clause-size g c = rw c.in-Some.is at c.in_ok-object.ensures.size
+
+pub step-requires-clause-range : goal.step-requires-clause-range
+step-requires-clause-range g c = c.in_ok-entry.ensures.range
+
+pub returns-in_err-object-clause-trace : goal.returns-in_err-object-clause-trace
+returns-in_err-object-clause-trace g c = (c.in_err-object.ensures.source, c.in_err-object.ensures.later, c.in_err-object.ensures.ahead)
+
+pub returns-in_err-object-clause-cert : goal.returns-in_err-object-clause-cert
+returns-in_err-object-clause-cert g c = (keeps (g.Q.Source.left c.args.certificate.now), omega arith, c.requires.in_step.held)
+
+pub returns-in_default-clause-trace : goal.returns-in_default-clause-trace
+returns-in_default-clause-trace g c = (c.in_ok-object.ensures.source, c.in_ok-object.ensures.later, c.in_ok-object.ensures.ahead)
+
+pub returns-in_default-clause-cert : goal.returns-in_default-clause-cert
+returns-in_default-clause-cert g c = (keeps (g.Q.Source.left c.args.certificate.now), omega arith, c.requires.in_step.held)
+
+pub returns-then-read-header-clause-trace : goal.returns-then-read-header-clause-trace
+returns-then-read-header-clause-trace g c = (c.in_ok-object.ensures.source, c.in_ok-object.ensures.later, c.in_ok-object.ensures.ahead)
+
+pub returns-then-read-header-clause-cert : goal.returns-then-read-header-clause-cert
+returns-then-read-header-clause-cert g c = (keeps (g.Q.Source.left c.args.certificate.now), omega arith, c.requires.in_step.held)
+
+pub returns-in_err-entry-clause-trace : goal.returns-in_err-entry-clause-trace
+returns-in_err-entry-clause-trace g c = (c.in_ok-object.ensures.source, c.in_ok-object.ensures.later, c.in_ok-object.ensures.ahead)
+
+pub returns-in_err-entry-clause-cert : goal.returns-in_err-entry-clause-cert
+returns-in_err-entry-clause-cert g c = (c.in_err-entry.ensures.source, c.in_err-entry.ensures.later, c.in_err-entry.ensures.ahead)
+
+pub returns-in_err-step-clause-trace : goal.returns-in_err-step-clause-trace
+returns-in_err-step-clause-trace g c = (c.in_ok-object.ensures.source, c.in_ok-object.ensures.later, c.in_ok-object.ensures.ahead)
+
+pub returns-in_err-step-clause-cert : goal.returns-in_err-step-clause-cert
+returns-in_err-step-clause-cert g c = (c.in_ok-entry.ensures.source, c.in_ok-entry.ensures.later, c.in_ok-entry.ensures.ahead)
+
+pub returns-clause-trace : goal.returns-clause-trace
+returns-clause-trace g c = (c.in_ok-object.ensures.source, c.in_ok-object.ensures.later, c.in_ok-object.ensures.ahead)
+
+pub returns-clause-cert : goal.returns-clause-cert
+returns-clause-cert g c = (c.in_ok-entry.ensures.source, c.in_ok-entry.ensures.later, c.in_ok-entry.ensures.ahead)
+
+pub returns-in_default-clause-in_step : goal.returns-in_default-clause-in_step
+returns-in_default-clause-in_step g c =
+    let s = c.requires.in_step in (
+      record {
+        trace_fault = c.in_ok-object.ensures.fault s.trace_fault;
+        cert_fault = s.cert_fault;
+        stage = s.stage;
+        line = s.line;
+        left = s.left;
+        held = s.held;
+        some = s.some;
+      },
+      refl,
+    )
+
+pub returns-in_default-clause-fewer : goal.returns-in_default-clause-fewer
+returns-in_default-clause-fewer g c = λ more. absurd (false≢true more)
+
+pub returns-clause-fewer : goal.returns-clause-fewer
+returns-clause-fewer g c = λ _. omega (arith, (c.in_ok-entry.ensures.read c.requires.in_step.cert_fault).1)
