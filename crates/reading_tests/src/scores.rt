@@ -1,6 +1,8 @@
 //! Scores of the keeps of a few requests, counted by hand.
+ghost use Rattle.std.specs.Prelude.{◌≡◌, length};
+
 use crate::compared::{holds, same};
-use cache_rules::{Builder, Object, Objective, Overfull, Trace, score};
+use cache_rules::{Builder, Object, Objective, Overfull, Terms, Trace, score, score_of_fitting};
 use std::alloc::Global;
 use std::process::Abort;
 
@@ -41,29 +43,34 @@ const F: Object = Object {
     size: 9,
 };
 
-// What it shows, the requests, what is kept of them, the capacity, the objective, and the answer.
+// What it shows, the requests, what is kept of them, the capacity, the objective, the warm-up, and the answer.
 type Row<'a> = (
     &'a str,
     &'a [Object],
     &'a [bool],
     u64,
     Objective,
+    u32,
     Result<u128, Overfull>,
 );
 
 const FIRST_TWO: [bool; 6] = [true, true, false, false, false, false];
 
+// Their hits are requests 3 and 5.
+const FIRST_AND_THIRD: [bool; 6] = [true, false, true, false, false, false];
+
 const HITS: Objective = Objective::Object;
 
 const BYTES: Objective = Objective::Bytes;
 
-const ROWS: [Row<'static>; 7] = [
+const ROWS: [Row<'static>; 11] = [
     (
         "two objects fit",
         &[A, B, C, A, B, C],
         &FIRST_TWO,
         2,
         HITS,
+        0,
         Ok(2),
     ),
     (
@@ -72,6 +79,7 @@ const ROWS: [Row<'static>; 7] = [
         &FIRST_TWO,
         1,
         HITS,
+        0,
         Err(Overfull { step: 1, load: 2 }),
     ),
     (
@@ -80,6 +88,7 @@ const ROWS: [Row<'static>; 7] = [
         &[true, true, true, false, false, false],
         2,
         HITS,
+        0,
         Err(Overfull { step: 2, load: 3 }),
     ),
     (
@@ -88,6 +97,7 @@ const ROWS: [Row<'static>; 7] = [
         &[true, true, false, false],
         5,
         BYTES,
+        0,
         Ok(5),
     ),
     (
@@ -96,16 +106,54 @@ const ROWS: [Row<'static>; 7] = [
         &[true],
         5,
         BYTES,
+        0,
         Err(Overfull { step: 0, load: 9 }),
     ),
-    ("no request", &[], &[], 5, HITS, Ok(0)),
+    ("no request", &[], &[], 5, HITS, 0, Ok(0)),
     (
         "kept again",
         &[A, A, A],
         &[true, true, false],
         1,
         HITS,
+        0,
         Ok(2),
+    ),
+    (
+        "one of two hits is past the warm-up",
+        &[A, B, C, A, B, C],
+        &FIRST_AND_THIRD,
+        2,
+        HITS,
+        5,
+        Ok(1),
+    ),
+    (
+        "both hits are past the warm-up",
+        &[A, B, C, A, B, C],
+        &FIRST_AND_THIRD,
+        2,
+        HITS,
+        3,
+        Ok(2),
+    ),
+    (
+        "all is warm-up",
+        &[A, B, C, A, B, C],
+        &FIRST_AND_THIRD,
+        2,
+        HITS,
+        6,
+        Ok(0),
+    ),
+    (
+        "a load in the warm-up passes the capacity",
+        &[A, B, C, A, B, C],
+        &FIRST_TWO,
+        1,
+        HITS,
+        5,
+        Err(Overfull { step: 1, load: 2 }),
     ),
 ];
 
@@ -119,14 +167,28 @@ fn trace_of(rt: &impl Abort, alloc: Global, requests: &[Object]) -> Trace {
     builder.finish()
 }
 
+// The score of keeps that are tested first. That of keeps that fit is the same where they aren't tested.
+fn score_of(rt: &impl Abort, trace: &Trace, terms: Terms, keeps: &[bool]) -> Result<u128, Overfull>
+    requires { length keeps.now ≡ length trace.now }
+{
+    let gains = score(trace, terms.capacity, terms.objective, terms.warmup, keeps)?;
+    same(rt, gains, score_of_fitting(trace, terms, keeps), gains);
+    Ok(gains)
+}
+
 // The answers are counted by hand.
 #[test]
 fn scores_keeps_that_fit_and_names_the_first_load_that_does_not(rt: HostRuntime) {
     for row in &ROWS {
-        let (name, requests, keeps, capacity, objective, answer) = *row;
+        let (name, requests, keeps, capacity, objective, warmup, answer) = *row;
         let trace = trace_of(&rt, rt.alloc(), requests);
         holds(&rt, name, keeps.len() == trace.len() as usize);
-        let scored = score(&trace, capacity, objective, keeps);
+        let terms = Terms {
+            objective,
+            capacity,
+            warmup,
+        };
+        let scored = score_of(&rt, &trace, terms, keeps);
         drop(trace);
         same(&rt, name, scored, answer);
     }
