@@ -24,12 +24,12 @@ edge_of-back arcs i =
     ap (λ b. cond b (Outer (arcs + i)) (OuterBack ((arcs + i) - arcs))) (le-ltb (arcs + i) arcs (omega arith)) ∙ ap OuterBack same
 
 -- no edge is listed
-pub none_listed : (instance : Instance) (lists : Lists) → length lists.first ≡ instance.steps + 1 → length lists.next ≡ 2 * length instance.arcs → ((node : ℕ) → get_or lists.first node 0 ≡ 0)
+pub none_listed : (instance : Instance) (lists : Lists) → length lists.first ≡ instance.steps + 1 → ((node : ℕ) → get_or lists.first node 0 ≡ 0)
     → AreListed instance lists 0
-none_listed instance lists each_node each_edge zeros =
+none_listed instance lists each_node zeros =
     record {
       each_node = each_node;
-      each_edge = each_edge;
+      each_edge = omega arith;
       first_low = λ v. omega (arith, zeros v);
       first_here = λ v within some. absurd (omega (arith, zeros v, some));
       none_before = λ v k within low high. absurd (omega arith);
@@ -42,12 +42,12 @@ none_listed instance lists each_node each_edge zeros =
 abbrev pub one_more : Lists → ℕ → ℕ → Lists
 one_more lists count node = record { first = set lists.first node (count + 1); next = set lists.next count (get_or lists.first node 0) }
 
-pub one_more_listed : (instance : Instance) (lists : Lists) (count node : ℕ) → AreListed instance lists count → count < 2 * length instance.arcs → node ≤ instance.steps → tail_of instance.arcs count ≡ node
+pub one_more_listed : (instance : Instance) (lists : Lists) (count node : ℕ) → AreListed instance lists count → count < length lists.next → node ≤ instance.steps → tail_of instance.arcs count ≡ node
     → AreListed instance (one_more lists count node) (count + 1)
 one_more_listed instance lists count node listed room within own =
     record {
       each_node = length-set lists.first node (count + 1) ∙ listed.each_node;
-      each_edge = length-set lists.next count (get_or lists.first node 0) ∙ listed.each_edge;
+      each_edge = omega (arith, length-set lists.next count (get_or lists.first node 0));
       first_low = λ v.
           ⊎_elim (λ (e : v ≡ node). omega (arith, (first_at v).0 e)) (λ (n : v ≡ node → ⊥). omega (arith, (first_at v).1 n, listed.first_low v)) (cases_eq v node);
       first_here = λ v h some.
@@ -76,7 +76,7 @@ one_more_listed instance lists count node listed room within own =
     first_at v = set_at lists.first node v (count + 1) (omega (arith, listed.each_node))
 
     next_at : (k : ℕ) → (k ≡ count → get_or (one_more lists count node).next k 0 ≡ get_or lists.first node 0) × (k ≢ count → get_or (one_more lists count node).next k 0 ≡ get_or lists.next k 0)
-    next_at k = set_at lists.next count k (get_or lists.first node 0) (omega (arith, listed.each_edge))
+    next_at k = set_at lists.next count k (get_or lists.first node 0) room
 
 -- what is numbered is an edge
 pub is_edge_of : (instance : Instance) (k : ℕ) → k < 2 * length instance.arcs → IsEdge instance (edge_of (length instance.arcs) k)

@@ -23,7 +23,7 @@ pub record Lists : Type 0 where
 -- the list of each node has those of the first so many edges that lead out of it, the greater numbers first
 pub record AreListed (instance : Instance) (lists : Lists) (count : ℕ) : Type 0 where
   pub each_node : length lists.first ≡ instance.steps + 1
-  pub each_edge : length lists.next ≡ 2 * length instance.arcs
+  pub each_edge : count ≤ length lists.next
   pub first_low : (node : ℕ) → slice_index lists.first node ≤ count
   pub first_here : (node : ℕ) → node ≤ instance.steps → 0 < slice_index lists.first node → tail_of instance.arcs (slice_index lists.first node - 1) ≡ node
   pub none_before : (node : ℕ) (k : ℕ) → node ≤ instance.steps → slice_index lists.first node ≤ k → k < count → tail_of instance.arcs k ≢ node

@@ -49,15 +49,30 @@ fn tail_at(arcs: &[OuterArc], number: u32) -> u32
 }
 
 impl OuterEdges {
-    /// The lists of the instance. They take 4 bytes for each step and 8 for each arc.
+    /// The lists of all outer edges. They take 4 bytes for each step and 8 for each arc.
     pub fn new(alloc: Global, instance: &Instance) -> Result<OuterEdges, NoMemory>
         ensures { IfOk result (λ lists. AreListed instance.now lists (2 * length instance.now.arcs)) }
     {
+        OuterEdges::of_first(alloc, instance, 2 * instance.arcs().len() as u32)
+    }
+
+    /// The lists of the arcs alone, each at its start. They take 4 bytes for each step and for each arc.
+    pub fn of_arcs(alloc: Global, instance: &Instance) -> Result<OuterEdges, NoMemory>
+        ensures { IfOk result (λ lists. AreListed instance.now lists (length instance.now.arcs)) }
+    {
+        OuterEdges::of_first(alloc, instance, instance.arcs().len() as u32)
+    }
+
+    // The lists of the edges of the numbers below the count.
+    fn of_first(alloc: Global, instance: &Instance, count: u32) -> Result<OuterEdges, NoMemory>
+        requires { count ≤ 2 * length instance.now.arcs }
+        ensures { IfOk result (λ lists. AreListed instance.now lists count) }
+    {
         let arcs = instance.arcs();
         let first = vec![in alloc; 0; instance.steps() as usize + 1]?;
-        let next = vec![in alloc; 0; 2 * arcs.len()]?;
+        let next = vec![in alloc; 0; count as usize]?;
         let mut edges = OuterEdges { first, next };
-        for number in 0..2 * arcs.len() as u32 {
+        for number in 0..count {
             edges.add(number, tail_at(arcs, number));
         }
         Ok(edges)

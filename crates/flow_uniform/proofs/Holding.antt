@@ -105,7 +105,7 @@ pub record EntersFrom (arcs : List OuterArc) (t left : ℕ) (old new : List ℕ)
 pub tail_of-arc : (arcs : List OuterArc) (i : ℕ) → i < length arcs → tail_of arcs i ≡ (arc_at arcs i).start
 tail_of-arc arcs i within = ap (tail arcs) (edge_of-arc (length arcs) i within)
 
-pub enters_none : (instance : Instance) (lists : Lists) (t : ℕ) (flows : List ℕ) → AreListed instance lists (2 * length instance.arcs) → t ≤ instance.steps → EntersFrom instance.arcs t (get_or lists.first t 0) flows flows
+pub enters_none : (instance : Instance) (lists : Lists) (t : ℕ) (flows : List ℕ) → AreListed instance lists (length instance.arcs) → t ≤ instance.steps → EntersFrom instance.arcs t (get_or lists.first t 0) flows flows
 enters_none instance lists t flows listed low =
     let none : (i : ℕ) → i < length instance.arcs → get_or lists.first t 0 ≤ i → (arc_at instance.arcs i).start ≡ t → ⊥ = λ i h late e.
     listed.none_before t i low late (omega arith) (tail_of-arc instance.arcs i h ∙ e) in
@@ -117,7 +117,7 @@ enters_none instance lists t flows listed low =
     }
 
 -- the next arc of the list has entered
-pub enters_more : (instance : Instance) (lists : Lists) (t number : ℕ) (old flows new : List ℕ) → AreListed instance lists (2 * length instance.arcs) → number < length instance.arcs → tail_of instance.arcs number ≡ t
+pub enters_more : (instance : Instance) (lists : Lists) (t number : ℕ) (old flows new : List ℕ) → AreListed instance lists (length instance.arcs) → number < length instance.arcs → tail_of instance.arcs number ≡ t
     → EntersFrom instance.arcs t (number + 1) old flows → EntersOne instance.arcs number flows new → EntersFrom instance.arcs t (get_or lists.next number 0) old new
 enters_more instance lists t number old flows new listed within here before enters =
     let arcs : List OuterArc = instance.arcs in
@@ -140,20 +140,6 @@ enters_more instance lists t number old flows new listed within here before ente
           (cases_eq i number);
       others = λ i h n. enters.others i (λ own. n (ap (λ k. (arc_at arcs k).start) own ∙ sym (tail_of-arc arcs number within) ∙ here)) ∙ before.others i h n;
       waiting = λ i h low. enters.others i (λ own. omega (arith, listed.next_low number (omega arith))) ∙ before.waiting i h (omega (arith, listed.next_low number (omega arith)));
-    }
-
--- the next edge of the list is no arc
-pub enters_past : (instance : Instance) (lists : Lists) (t number : ℕ) (old flows : List ℕ) → AreListed instance lists (2 * length instance.arcs) → length instance.arcs ≤ number → number < 2 * length instance.arcs → tail_of instance.arcs number ≡ t
-    → EntersFrom instance.arcs t (number + 1) old flows → EntersFrom instance.arcs t (get_or lists.next number 0) old flows
-enters_past instance lists t number old flows listed past within here before =
-    let arcs : List OuterArc = instance.arcs in
-    let none : (i : ℕ) → i < length arcs → get_or lists.next number 0 ≤ i → (arc_at arcs i).start ≡ t → ⊥ = λ i h low e.
-    listed.none_between number i within low (omega arith) (tail_of-arc arcs i h ∙ e ∙ sym here) in
-    record {
-      whole = λ i h low e some. absurd (none i h low e);
-      nothing = λ i h low e z. absurd (none i h low e);
-      others = before.others;
-      waiting = λ i h low. before.waiting i h (omega arith);
     }
 
 pub enters_all : (arcs : List OuterArc) (t : ℕ) (old new : List ℕ) → length new ≡ length arcs → EntersFrom arcs t 0 old new → Enter arcs t old new

@@ -24,7 +24,7 @@ unranked n i =
     (cases_lt i n)
 
 pub at_start : (instance : Instance) (cost steps many : ℕ) (lists : Lists) (flows leaving : List ℕ) (ranks : Ranks) (cuts prices : List ℕ) → 0 < cost → IsUniform cost instance.arcs → IsInstance instance
-    → AreListed instance lists (2 * length instance.arcs) → steps ≡ instance.steps → many ≡ length instance.arcs → flows ≡ replicate many 0 → leaving ≡ replicate (steps + 1) 0
+    → AreListed instance lists (length instance.arcs) → steps ≡ instance.steps → many ≡ length instance.arcs → flows ≡ replicate many 0 → leaving ≡ replicate (steps + 1) 0
     → cuts ≡ replicate steps 0 → prices ≡ replicate steps 0 → ranks ≡ replicate {A = Option ℕ} many None
     → IsAtStart instance cost lists (record { flows = flows; leaving = leaving; ranks = ranks }) cuts prices
 at_start instance cost steps many lists flows leaving ranks cuts prices dear uniform fits listed steps_is many_is flows_is leaving_is cuts_is prices_is ranks_is =

@@ -10,7 +10,7 @@ pub record IsAtStart (instance : Instance) (cost : ℕ) (lists : Lists) (holding
   pub dear : 0 < cost
   pub uniform : IsUniform cost instance.arcs
   pub fits : IsInstance instance
-  pub edges : AreListed instance lists (2 * length instance.arcs)
+  pub edges : AreListed instance lists (length instance.arcs)
   pub held : IsHeld instance holding (length instance.arcs)
   pub unused : (i : ℕ) → slice_index holding.flows i ≡ 0
   pub each_step : length cuts ≡ instance.steps

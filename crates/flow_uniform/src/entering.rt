@@ -1,6 +1,6 @@
 //! Arcs that enter at the step at which they start.
 ghost use Rattle.std.specs.Prelude.{◌≡◌, ◌≢◌, ℕ, ◌+◌, ◌*◌, ◌<◌, ◌≤◌, ◌^◌, length, slice_index, slice_set};
-ghost use Rattle.flow_model.specs.Instances.{arc_at, load_at};
+ghost use Rattle.flow_model.specs.Instances.{IsInstance, arc_at, load_at};
 ghost use Rattle.flow_parts.specs.OuterEdges.{AreListed};
 ghost use Rattle.flow_uniform.specs.Holdings.{IsHeld, EntersOne, Enter};
 
@@ -54,21 +54,19 @@ pub fn enter(
     leaving: &mut [u128],
 ) -> u128
     requires held { IsHeld instance.now (record { flows = flows.old; leaving = leaving.old; ranks = heap.old }) (length instance.now.arcs) }
-    requires edges { AreListed instance.now edges.now (2 * length instance.now.arcs) }
+    requires fits { IsInstance instance.now }
+    requires edges { AreListed instance.now edges.now (length instance.now.arcs) }
     requires step { step < instance.now.steps }
     requires fresh { (i : ℕ) → i < length instance.now.arcs → (arc_at instance.now.arcs i).start ≡ step → slice_index flows.old i ≡ 0 }
     ensures held { IsHeld instance.now (record { flows = flows.new; leaving = leaving.new; ranks = heap.new }) (length instance.now.arcs) }
     ensures enter { Enter instance.now.arcs step flows.old flows.new }
     ensures load { load_at instance.now.arcs flows.old step + result ≡ load_at instance.now.arcs flows.new step }
 {
-    let count = instance.arcs().len() as u32;
     let mut more = 0;
     let mut left = edges.first(step);
     while left > 0 {
         let number = left - 1;
-        if number < count {
-            more += enter_one(instance, number, heap, flows, leaving) as u128;
-        }
+        more += enter_one(instance, number, heap, flows, leaving) as u128;
         left = edges.after(number);
     }
     more

@@ -37,7 +37,7 @@ impl<'a> Model for Solver<'a> {
 
 impl<'a> Solver<'a> {
     /// A solver of the instance, whose arcs cost nothing or the one cost. It takes all memory that is needed: 40 bytes for
-    /// each step, and 40 for each arc.
+    /// each step, and 36 for each arc.
     pub fn new(alloc: Global, instance: &'a Instance, cost: u128) -> Result<Solver<'a>, NoMemory>
         requires dear { 0 < cost }
         requires uniform { IsUniform cost instance.now.arcs }
@@ -45,7 +45,7 @@ impl<'a> Solver<'a> {
     {
         let arcs = instance.arcs();
         let steps = instance.steps() as usize;
-        let edges = OuterEdges::new(alloc, instance)?;
+        let edges = OuterEdges::of_arcs(alloc, instance)?;
         let flows = vec![in alloc; 0; arcs.len()]?;
         let leaving = vec![in alloc; 0; steps + 1]?;
         let cuts = vec![in alloc; 0; steps]?;

@@ -21,7 +21,7 @@ pub fn play(
 )
     requires fits { IsInstance instance.now }
     requires held { IsHeld instance.now (record { flows = flows.old; leaving = leaving.old; ranks = heap.old }) (length instance.now.arcs) }
-    requires edges { AreListed instance.now edges.now (2 * length instance.now.arcs) }
+    requires edges { AreListed instance.now edges.now (length instance.now.arcs) }
     requires unused { (i : ℕ) → slice_index flows.old i ≡ 0 }
     requires each_step { length cuts.old ≡ instance.now.steps }
     requires uncut { (t : ℕ) → slice_index cuts.old t ≡ 0 }

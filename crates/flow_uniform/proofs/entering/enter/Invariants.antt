@@ -9,7 +9,7 @@ abbrev pub invariant-loop-left : goal.invariant-loop-left
 invariant-loop-left l =
     record {
       held : IsHeld l.instance (record { flows = l.flows; leaving = l.leaving; ranks = l.heap }) (length l.instance.arcs);
-      within : l.left ≤ 2 * length l.instance.arcs;
+      within : l.left ≤ length l.instance.arcs;
       here : 0 < l.left → tail_of l.instance.arcs (l.left - 1) ≡ l.step;
       enter : EntersFrom l.instance.arcs l.step l.left l.initial.flows l.flows;
       load : load_at l.instance.arcs l.initial.flows l.step + l.more ≡ load_at l.instance.arcs l.flows l.step;
