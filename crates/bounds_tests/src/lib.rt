@@ -11,6 +11,8 @@ mod compared;
 #[cfg(test)]
 mod constants;
 #[cfg(test)]
+mod heap;
+#[cfg(test)]
 mod intervals;
 #[cfg(test)]
 mod loads;
@@ -22,6 +24,8 @@ mod network;
 mod rounding;
 #[cfg(test)]
 mod solver;
+#[cfg(test)]
+mod uniform;
 #[cfg(test)]
 mod values;
 #[cfg(test)]

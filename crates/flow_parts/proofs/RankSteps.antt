@@ -1,10 +1,10 @@
 -- Maps from keys to ranks: what a queue says of one, and how it changes.
-use Rattle.std.proofs.Common.{◌≡◌, ◌≢◌, ℕ, zero, suc, ◌+◌, ◌*◌, ◌^◌, ◌<◌, ◌≤◌, ◌∙◌, ◌⊎◌, inl, inr, sym, refl, ap, cond, nat_lt, min, List, [], ◌∷◌, length, map, zip, arith, ⊎_elim, get_or, set, replicate, length-set}
+use Rattle.std.proofs.Common.{◌≡◌, ◌≢◌, ℕ, zero, suc, ◌^◌, ◌<◌, ◌≤◌, ◌∙◌, inl, inr, sym, refl, ap, cond, nat_lt, min, List, [], ◌∷◌, length, map, zip, arith, ⊎_elim, get_or, set, replicate, length-set}
 use Rattle.std.specs.Prelude.{None, Some}
 use Rattle.std.specs.declared.option.Option.{Option}
-use Rattle.std.proofs.lemmas.Bool.{cases_lt, cases_eq, lt-ltb, le-ltb}
+use Rattle.std.proofs.lemmas.Bool.{cases_lt, lt-ltb, le-ltb}
 use Rattle.flow_model.proofs.Lists.{set_at}
-use Rattle.flow_parts.specs.Queues.{Waiting, Waits, IsPlaced, IsQueue, Joins, Leaves}
+use Rattle.flow_parts.specs.Queues.{Waiting, Waits, IsQueue, Joins, Leaves}
 use Rattle.flow_parts.specs.Ranks.{Ranks, rank_at, lesser, IsEmpty, ChangesRank, IsFirst, ranks_of}
 use Rattle.flow_parts.proofs.QueueSteps.{waits_within}
 

@@ -1,5 +1,5 @@
 -- Finite maps from keys to ranks.
-use Rattle.std.specs.Prelude.{◌≡◌, ◌≢◌, ℕ, ◌<◌, ◌≤◌, ◌⊎◌, List, None, Some, if◌then◌else◌, length, map, min, nat_lt, slice_index_or, zip}
+use Rattle.std.specs.Prelude.{◌≡◌, ◌≢◌, ℕ, ◌<◌, ◌⊎◌, List, None, Some, if◌then◌else◌, length, map, min, nat_lt, slice_index_or, zip}
 use Rattle.std.specs.declared.option.Option.{Option}
 use Rattle.flow_parts.specs.Queues.{Waiting}
 

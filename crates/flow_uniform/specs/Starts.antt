@@ -1,5 +1,5 @@
 -- What a solver begins with.
-use Rattle.std.specs.Prelude.{◌≡◌, ℕ, ◌*◌, ◌<◌, List, length, replicate, slice_index}
+use Rattle.std.specs.Prelude.{◌≡◌, ℕ, ◌<◌, List, length, replicate, slice_index}
 use Rattle.flow_model.specs.Instances.{Instance, IsInstance}
 use Rattle.flow_parts.specs.OuterEdges.{Lists, AreListed}
 use Rattle.flow_uniform.specs.Uniform.{IsUniform}

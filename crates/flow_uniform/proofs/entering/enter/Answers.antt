@@ -1,4 +1,4 @@
-use Rattle.std.proofs.Common.{◌≡◌, ℕ, ◌+◌, ◌-◌, ◌*◌, ◌<◌, ◌≤◌, ◌^◌, ◌∙◌, sym, ap, subst, arith, get_or, set, List, length, get_or-set_same}
+use Rattle.std.proofs.Common.{◌≡◌, ℕ, ◌+◌, ◌-◌, ◌<◌, ◌≤◌, ◌^◌, ◌∙◌, sym, ap, subst, arith, get_or, set, List, length, get_or-set_same}
 use Rattle.flow_model.specs.Instances.{no_arc, arc_at, covers, load_at}
 use Rattle.flow_parts.specs.OuterEdges.{tail_of}
 use Rattle.flow_uniform.specs.Cuts.{Spans}

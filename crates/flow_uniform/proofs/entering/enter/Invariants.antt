@@ -1,4 +1,4 @@
-use Rattle.std.proofs.Common.{◌≡◌, ◌+◌, ◌-◌, ◌*◌, ◌<◌, ◌≤◌, length}
+use Rattle.std.proofs.Common.{◌≡◌, ◌+◌, ◌-◌, ◌<◌, ◌≤◌, length}
 use Rattle.flow_model.specs.Instances.{load_at}
 use Rattle.flow_parts.specs.OuterEdges.{tail_of}
 use Rattle.flow_uniform.specs.Holdings.{IsHeld}

@@ -1,7 +1,6 @@
-use Rattle.std.proofs.Common.{◌≡◌, ◌∙◌, ℕ, List, ap, length, arith}
+use Rattle.std.proofs.Common.{◌≡◌, ◌∙◌, ℕ, List, ap, length}
 use Rattle.std.proofs.lemmas.List.{length-replicate}
 use Rattle.flow_parts.specs.Queues.{Waiting}
-use Rattle.flow_parts.specs.Ranks.{ranks_of}
 use Rattle.flow_parts.proofs.RankSteps.{fresh_ranks}
 use Rattle.flow_parts.proofs.heap.Heap.new.Goals as goal
 

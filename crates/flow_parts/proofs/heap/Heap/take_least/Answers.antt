@@ -1,4 +1,4 @@
-use Rattle.std.proofs.Common.{◌≡◌, ℕ, ◌<◌, sym, refl, subst, arith, get_or, length}
+use Rattle.std.proofs.Common.{◌≡◌, ◌<◌, sym, refl, subst, arith, get_or, length}
 use Rattle.std.specs.Prelude.{None}
 use Rattle.std.proofs.lemmas.Grind.{get_or_default_zero}
 use Rattle.flow_parts.specs.Queues.{IsQueue, Leaves}
