@@ -90,7 +90,8 @@ fn by_windows(
         solve_windows(alloc, &whole, width_of(window, intervals.steps()))
     };
     let solution = solved?;
-    let (prices, flows) = solution.into_parts();
+    let (found, _) = solution.into_parts();
+    let (prices, flows) = found.into_parts();
     Ok(Relaxed {
         prices,
         flows,

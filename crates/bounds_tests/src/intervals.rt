@@ -101,11 +101,11 @@ const WARM: [(u32, &[u32]); 5] = [
 fn leaves_out_those_that_end_in_the_warmup(rt: HostRuntime) {
     for (warmup, starts) in &WARM {
         let made = intervals_past(&rt, rt.alloc(), &CYCLE, 2, Objective::Object, *warmup);
-        same(&rt, *warmup, made.as_slice().len(), starts.len());
+        same(*warmup, made.as_slice().len(), starts.len()).expect(&rt, "a row");
         for start in *starts {
             let at = (*warmup, *start);
-            holds(&rt, at, *start < made.steps());
-            same(&rt, at, made.starting(*start).is_some(), true);
+            holds(at, *start < made.steps()).expect(&rt, "a row");
+            same(at, made.starting(*start).is_some(), true).expect(&rt, "a row");
         }
         drop(made);
     }

@@ -9,6 +9,8 @@
 #[cfg(test)]
 mod constants;
 #[cfg(test)]
+mod heap;
+#[cfg(test)]
 mod intervals;
 #[cfg(test)]
 mod loads;
@@ -20,6 +22,8 @@ mod network;
 mod rounding;
 #[cfg(test)]
 mod solver;
+#[cfg(test)]
+mod uniform;
 #[cfg(test)]
 mod values;
 #[cfg(test)]

@@ -4,7 +4,8 @@ ghost use Rattle.std.specs.Prelude.{◌≡◌, IfOk};
 use crate::made::arc;
 use bound_base::NoMemory;
 use compared::{holds, same};
-use relaxation::{Instance, OuterArc, Windows, window_instance};
+use flow_windows::Windows;
+use relaxation::{Instance, OuterArc, window_instance};
 use std::alloc::Global;
 
 // Eleven steps. An arc over ten of them, two arcs of three steps, and one that begins late but comes first.

@@ -1,10 +1,10 @@
 -- What flows pay for their room, arc by arc and step by step, and weak duality.
-use Rattle.std.proofs.Common.{◌≡◌, ℕ, suc, zero, ◌+◌, ◌-◌, ◌*◌, ◌<◌, ◌≤◌, ◌∙◌, sym, refl, ap, Bool, true, false, ◌&&◌, cond, nat_lt, nat_le, leb, List, [], ◌∷◌, length, arith, ⊎_elim, sum, sum_by, zip, take, drop, get_or, slice_range}
+use Rattle.std.proofs.Common.{◌≡◌, ℕ, ◌+◌, ◌-◌, ◌*◌, ◌<◌, ◌≤◌, ◌∙◌, sym, refl, ap, Bool, cond, List, [], ◌∷◌, length, arith, ⊎_elim, sum, sum_by, zip, get_or}
 use Rattle.std.specs.List.{range_with_len, AllZip}
-use Rattle.std.proofs.Math.Nat.{mul-le-mul_left, mul-le-mul_right}
-use Rattle.std.proofs.lemmas.Bool.{cases_lt, lt-ltb, le-ltb, le-leb, lt-leb, and_left, and_right}
+use Rattle.std.proofs.Math.Nat.{mul-le-mul_left}
+use Rattle.std.proofs.lemmas.Bool.{cases_lt}
 use Rattle.std.proofs.lemmas.List.Sums.{sum_by-cons}
-use Rattle.cache_model.proofs.Sums.{sum_by-range, sum_by-nothing, sum_by-agree}
+use Rattle.cache_model.proofs.Sums.{sum_by-nothing, sum_by-agree}
 use Rattle.cache_model.proofs.Ranges.{within, priced, range_sum, sum_by-add, sum_by-times, cond-mul, loads_paid}
 use Rattle.flow_model.specs.declared.arcs.OuterArc.{OuterArc}
 use Rattle.flow_model.specs.Instances.{Instance, price_over, surplus, value_at, covers, load_at, IsSchedule, total_cost}

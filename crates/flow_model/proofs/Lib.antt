@@ -1,5 +1,6 @@
 mod Rows
 pub mod Sums
+pub mod Lists
 pub mod Exchange
 pub mod Equal
 pub mod Pushes

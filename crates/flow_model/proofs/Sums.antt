@@ -1,5 +1,5 @@
 -- The sum over a range of a list.
-use Rattle.std.proofs.Common.{◌≡◌, ℕ, suc, zero, ◌+◌, ◌-◌, ◌*◌, ◌≤◌, ◌∙◌, refl, ap, List, [], ◌∷◌, take, drop, arith, sum, sum_by, slice_range}
+use Rattle.std.proofs.Common.{◌≡◌, ℕ, suc, zero, ◌+◌, ◌-◌, ◌≤◌, ◌∙◌, refl, ap, List, [], ◌∷◌, take, drop, arith, sum, slice_range}
 use Rattle.std.proofs.lemmas.List.Sums.{sum_by-cons}
 
 -- the sum of a range, with what stands before it, is what stands before its end

@@ -3,3 +3,4 @@ pub mod Windows
 pub mod Networks
 pub mod Pushes
 pub mod Laws
+pub mod Solutions

@@ -7,12 +7,16 @@
 #![tactic(auto)]
 
 mod arcs;
+mod chain;
 mod edges;
 mod laws;
+mod solution;
 
 pub use arcs::OuterArc;
+pub use chain::Instance;
 pub use edges::Edge;
 pub use laws::{
     equal_values, exact_is_least, rounded_is_near, schedules_are_below_prices, solutions_are_best,
     windows_are_above,
 };
+pub use solution::Solution;

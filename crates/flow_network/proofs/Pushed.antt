@@ -1,20 +1,14 @@
 -- The state after a push.
-use Rattle.std.proofs.Common.{◌≡◌, ℕ, ◌+◌, ◌≤◌, ◌∙◌, ◌++◌, List, [], length, take, drop, ap, sym, subst, arith}
-use Rattle.std.proofs.lemmas.List.{append-nil, take_all, drop_all}
+use Rattle.std.proofs.Common.{◌≡◌, ℕ, ◌+◌, ◌≤◌, ◌++◌, List, length, take, drop, sym, subst, arith}
 use Rattle.flow_model.specs.declared.edges.Edge.{Edge}
 use Rattle.flow_model.specs.declared.edges.Edge.TheVariants.{Inner, InnerBack, Outer, OuterBack}
 use Rattle.flow_model.specs.Instances.{no_arc}
 use Rattle.flow_model.specs.Networks.{Flows, IsEdge, residual}
 use Rattle.flow_model.specs.Pushes.{CanPush, push_path}
 use Rattle.flow_model.proofs.Equal.{zip_at}
+use Rattle.flow_model.proofs.Lists.{written}
 use Rattle.flow_model.proofs.Pushes.{HasLengths, push_path-balanced}
 use Rattle.flow_network.specs.States.{State, IsState, HasRoomFor}
-
--- a slice that is written whole
-pub written : (xs new : List ℕ) (n : ℕ) → length new ≡ length xs → n ≡ length xs → take n (new ++ drop (length new) xs) ≡ new
-written xs new n same len =
-    let rest : drop (length new) xs ≡ [] = drop_all (length new) xs (omega arith) in
-    ap (λ ys. take n (new ++ ys)) rest ∙ ap (take n) (append-nil new) ∙ take_all n new (omega arith)
 
 pub state_lengths : (s : State) → IsState s → HasLengths s.instance s.flows
 state_lengths s is = record { inner = is.balanced.each_step; outer = (zip_at s.instance.arcs s.flows.outer is.balanced.within_weights).0 }

@@ -2,8 +2,7 @@
 ghost use Rattle.std.specs.Prelude.{◌≡◌, ◌≤◌, ◌^◌};
 ghost use Rattle.flow_model.specs.Networks.{IsEdge, tail, head, gain, loss};
 
-use flow_model::Edge;
-use relaxation::Instance;
+use flow_model::{Edge, Instance};
 
 /// The nodes that an edge leads from and to, and what a unit along it earns and gives up.
 #[derive(Clone, Copy, Debug, PartialEq, Eq)]

@@ -7,8 +7,7 @@ ghost use Rattle.flow_network.specs.States.{IsState, no_flows};
 use crate::hops::{Hop, hop_of};
 use crate::pushing::push_along;
 use bound_base::NoMemory;
-use flow_model::Edge;
-use relaxation::Instance;
+use flow_model::{Edge, Instance};
 use std::alloc::Global;
 use std::marker::Model;
 

@@ -8,16 +8,10 @@ use Rattle.flow_model.specs.Instances.{Instance, IsInstance, no_arc}
 use Rattle.flow_model.specs.Networks.{tail, head, gain, residual, IsEdge}
 use Rattle.flow_model.specs.Pushes.{edge_at}
 use Rattle.flow_network.specs.States.{State}
-use Rattle.flow_solver.proofs.Lists.{set_at}
-use Rattle.flow_solver.specs.Queues.{Waiting, IsQueue, IsQueueBut, Leaves}
+use Rattle.flow_model.proofs.Lists.{set_at}
+use Rattle.flow_parts.proofs.EdgeLists.{ends_within}
+use Rattle.flow_parts.specs.Queues.{Waiting, IsQueue, IsQueueBut, Leaves}
 use Rattle.flow_solver.specs.Searches.{Found, Rests, IsReady, IsParent, IsTree, IsSearch, IsSettled, AreSettled, Enters, Nears, at_tail, far, limit_of}
-
--- an edge leads from a node to another
-pub ends_within : (instance : Instance) (e : Edge) → IsInstance instance → IsEdge instance e → (tail instance.arcs e ≤ instance.steps) × (head instance.arcs e ≤ instance.steps)
-ends_within instance (Inner t) fits is_edge = (omega arith, omega arith)
-ends_within instance (InnerBack t) fits is_edge = (omega arith, omega arith)
-ends_within instance (Outer i) fits is_edge = let a = fits.arcs_fit i no_arc is_edge in (omega (arith, a.order, a.within), a.within)
-ends_within instance (OuterBack i) fits is_edge = let a = fits.arcs_fit i no_arc is_edge in (a.within, omega (arith, a.order, a.within))
 
 -- no potential is above the first
 pub below_first : (state : State) (node : ℕ) → IsReady state → node ≤ state.instance.steps → get_or state.potentials node 0 ≤ get_or state.potentials 0 0
@@ -44,35 +38,6 @@ first_tree state distances parents each_distance each_parent start others =
     small : (node : ℕ) → node ≤ state.instance.steps → get_or distances node 0 ≤ far state
     small zero h = omega (arith, start)
     small (suc k) h = omega (arith, others (suc k) (omega arith) h)
-
--- the queue where the distance of a node fell
-pub queue_lowered : (waiting : Waiting) (distances : List ℕ) (node near : ℕ) → IsQueue waiting distances → node < length distances → near < get_or distances node 0
-    → IsQueueBut waiting (set distances node near) node
-queue_lowered waiting distances node near queue inside less =
-    record {
-      placed = queue.placed;
-      each_distance = length-set distances node near ∙ queue.each_distance;
-      others = λ p positive low other.
-          let u : ℕ = (p - 1) / 2 in
-          omega (arith, queue.heap p positive low, (set_at distances node (get_or waiting.nodes p 0) near inside).1 other, no_more (get_or waiting.nodes u 0));
-      over = λ p positive low high under.
-          let u : ℕ = (p - 1) / 2 in
-          let g : ℕ = (u - 1) / 2 in
-          let apart : (q : ℕ) → q < waiting.count → q ≢ u → get_or waiting.nodes q 0 ≢ node = λ q h other same.
-          other (omega (arith, queue.placed.placed q h, queue.placed.placed u (omega arith), ap (λ v. get_or waiting.places v 0) (same ∙ sym under))) in
-          omega (
-            arith,
-            queue.heap p positive low,
-            queue.heap u high (omega arith),
-            (set_at distances node (get_or waiting.nodes p 0) near inside).1 (apart p low (omega arith)),
-            (set_at distances node (get_or waiting.nodes g 0) near inside).1 (apart g (omega arith) (omega arith)),
-          );
-    }
-  where
-    no_more : (v : ℕ) → get_or (set distances node near) v 0 ≤ get_or distances v 0
-    no_more v =
-        ⊎_elim (λ (e : v ≡ node). omega (arith, (set_at distances node v near inside).0 e, less, ap (λ k. get_or distances k 0) e))
-        (λ (n : v ≡ node → ⊥). omega (arith, (set_at distances node v near inside).1 n)) (cases_eq v node)
 
 -- the head of an edge with room was found nearer along it
 pub tree_more : (state : State) (distances : List ℕ) (parents : List Edge) (e : Edge) (near : ℕ) → IsReady state → IsTree state distances parents → IsEdge state.instance e → 0 < residual state.instance state.flows e

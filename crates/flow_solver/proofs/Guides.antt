@@ -6,7 +6,7 @@ use Rattle.flow_model.specs.Networks.{tail, head, gain, loss, residual, IsEdge}
 use Rattle.flow_model.specs.Pushes.{edge_at}
 use Rattle.flow_network.specs.States.{State, IsState}
 use Rattle.flow_solver.specs.Searches.{Found, IsReady, IsSearch, IsSettled, IsHop, LeadsBack, limit_of, lowered, far, at_tail, at_head}
-use Rattle.flow_solver.proofs.Distances.{ends_within}
+use Rattle.flow_parts.proofs.EdgeLists.{ends_within}
 
 -- the distance as far as it matters
 abbrev pub within_limit : State → Found → ℕ → ℕ

@@ -1,11 +1,7 @@
-pub mod Lists
 pub mod Distances
 pub mod Guides
 pub mod Paths
 pub mod Routes
 pub mod LastRound
-pub mod Heaps
-pub mod QueueSteps
 pub mod Stacks
-pub mod EdgeLists
 pub mod OnwardPaths

@@ -6,7 +6,7 @@ use Rattle.flow_model.specs.Networks.{tail, residual, IsTight}
 use Rattle.flow_model.specs.Pushes.{Leads, CanPush, edge_at}
 use Rattle.flow_network.specs.States.{State, IsState}
 use Rattle.flow_solver.specs.Searches.{Found, LeadsBack, limit_of}
-use Rattle.flow_solver.proofs.Distances.{ends_within}
+use Rattle.flow_parts.proofs.EdgeLists.{ends_within}
 use Rattle.flow_solver.proofs.Paths.{IsLater, IsInside, later_is_simple, path_is_short}
 
 -- tight edges lead from a node within the limit to the last one, each with room for the amount

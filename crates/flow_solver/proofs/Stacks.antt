@@ -2,8 +2,8 @@
 use Rattle.std.proofs.Common.{inl, inr, ◌≡◌, ◌≢◌, ℕ, ◌+◌, ◌<◌, ◌≤◌, ◌∙◌, sym, refl, List, length, arith, ⊎_elim, get_or, set, length-set}
 use Rattle.std.proofs.lemmas.Bool.{cases_eq, cases_lt}
 use Rattle.flow_model.specs.declared.edges.Edge.{Edge}
-use Rattle.flow_solver.proofs.Lists.{set_at}
-use Rattle.flow_solver.specs.Queues.{Waiting, Joins, Withdraws}
+use Rattle.flow_model.proofs.Lists.{set_at}
+use Rattle.flow_parts.specs.Queues.{Waiting, Joins, Withdraws}
 use Rattle.flow_solver.specs.Searches.{Enters, Rests}
 
 -- the node waits in the queue, and the stack is as it was

@@ -4,7 +4,7 @@ use Rattle.flow_model.specs.declared.edges.Edge.{Edge}
 use Rattle.flow_model.specs.Networks.{tail, head, gain, loss, residual, IsEdge, IsPotential, IsTight}
 use Rattle.flow_model.specs.Pushes.{edge_at}
 use Rattle.flow_network.specs.States.{State, IsState}
-use Rattle.flow_solver.specs.Queues.{Waiting, IsQueue}
+use Rattle.flow_parts.specs.Queues.{Waiting, IsQueue}
 
 -- how far each node is by a walk that was found, the last edge of that walk, and the nodes that wait for their edges to be
 -- looked at: some in a queue, and the first so many of a list, which come next

@@ -7,13 +7,11 @@
 #![tactic(auto)]
 
 mod onward;
-mod outer_edges;
-mod queue;
 mod rounds;
 mod route;
 mod search;
-mod solution;
 mod solver;
 
-pub use solution::Solution;
+pub use flow_model::Solution;
+pub use flow_parts::Heap;
 pub use solver::Solver;

@@ -6,13 +6,13 @@ ghost use Rattle.std.specs.Prelude.{◌≡◌, ℕ, ◌+◌, ◌*◌, ◌<◌, �
 ghost use Rattle.flow_model.specs.Networks.{IsEdge, IsTight, residual};
 ghost use Rattle.flow_network.specs.States.{IsState};
 ghost use Rattle.flow_solver.specs.Onward.{IsOnward, LeadsOn};
-ghost use Rattle.flow_solver.specs.OuterEdges.{AreListed};
+ghost use Rattle.flow_parts.specs.OuterEdges.{AreListed};
 ghost use Rattle.flow_solver.specs.Rounds.{Keeps};
 ghost use Rattle.flow_solver.specs.Searches.{IsReady};
 
-use crate::outer_edges::{OuterEdges, outer_edge};
 use bound_base::NoMemory;
 use flow_network::{Edge, Network};
+use flow_parts::{OuterEdges, outer_edge};
 use std::alloc::Global;
 use std::marker::Model;
 

@@ -1,15 +1,15 @@
 //! Rounds: each pushes units along a path on which nothing is lost.
 ghost use Rattle.std.specs.Prelude.{◌≡◌, ℕ, ◌+◌, ◌*◌, ◌≤◌, ◌<◌, min, length, slice_index};
 ghost use Rattle.flow_network.specs.States.{IsState};
-ghost use Rattle.flow_solver.specs.OuterEdges.{AreListed};
+ghost use Rattle.flow_parts.specs.OuterEdges.{AreListed};
 ghost use Rattle.flow_solver.specs.Rounds.{Advances};
 ghost use Rattle.flow_solver.specs.Searches.{HasRoom, IsReady, limit_of, lowered};
 
 use crate::onward::{DeadEnds, push_onward};
-use crate::outer_edges::OuterEdges;
 use crate::route::trace;
 use crate::search::Search;
 use flow_network::{Edge, Network};
+use flow_parts::OuterEdges;
 
 // Lowers each potential by what the node is nearer than the last.
 fn lower(network: &mut Network, search: &Search)

@@ -4,14 +4,13 @@ ghost use Rattle.flow_model.specs.declared.edges.Edge.{Edge as FlowEdge};
 ghost use Rattle.flow_model.specs.declared.edges.Edge.TheVariants.{Inner, InnerBack};
 ghost use Rattle.flow_model.specs.Networks.{IsEdge, tail};
 ghost use Rattle.flow_model.specs.Pushes.{edge_at};
-ghost use Rattle.flow_solver.specs.OuterEdges.{AreListed, edge_of, tail_of};
-ghost use Rattle.flow_solver.specs.Queues.{IsQueue, IsQueueBut, Leaves, Waits};
+ghost use Rattle.flow_parts.specs.OuterEdges.{AreListed, edge_of, tail_of};
+ghost use Rattle.flow_parts.specs.Queues.{IsQueue, IsQueueBut, Leaves, Waits};
 ghost use Rattle.flow_solver.specs.Searches.{AreSettled, Enters, HasRoom, far, IsReady, IsSearch, IsSettled, Nears, Rests};
 
-use crate::outer_edges::{OuterEdges, outer_edge};
-use crate::queue::Queue;
 use bound_base::NoMemory;
 use flow_network::{Edge, Network};
+use flow_parts::{OuterEdges, Queue, outer_edge};
 use std::alloc::Global;
 use std::marker::Model;
 

@@ -6,13 +6,12 @@ ghost use Rattle.flow_network.specs.States.{IsState, no_flows};
 ghost use Rattle.flow_solver.specs.Searches.{IsReady};
 
 use crate::onward::DeadEnds;
-use crate::outer_edges::OuterEdges;
 use crate::rounds::augment;
 use crate::search::Search;
-use crate::solution::Solution;
 use bound_base::NoMemory;
+use flow_model::{Instance, Solution};
 use flow_network::{Edge, Network};
-use relaxation::Instance;
+use flow_parts::OuterEdges;
 use std::alloc::Global;
 use std::marker::Model;
 
@@ -32,7 +31,7 @@ pub struct Solver<'a> {
 impl<'a> Model for Solver<'a> {
     ghost use Rattle.std.specs.Prelude.{length};
     ghost use Rattle.flow_model.specs.Instances.{Instance as Chain};
-    ghost use Rattle.flow_solver.specs.Answers.{IsAtStart};
+    ghost use Rattle.flow_solver.specs.Starts.{IsAtStart};
 
     ghost Value = { Chain };
 

@@ -5,11 +5,3 @@ pub mod Bounds
 pub mod Loads
 pub mod Values
 pub mod WholeArcs
-pub mod PartCosts
-pub mod PartArcs
-pub mod Gathering
-pub mod Listing
-pub mod Merging
-pub mod Starting
-pub mod Numbering
-pub mod Passing

@@ -1,7 +1,7 @@
 -- The instance of a timeline: its numbers are in their ranges.
-use Rattle.std.proofs.Common.{◌≡◌, ◌∙◌, ℕ, ◌*◌, ◌/◌, ◌≤◌, ◌^◌, ap, arith, List, length, map, take, get_or, All}
+use Rattle.std.proofs.Common.{◌≡◌, ◌∙◌, ℕ, ◌+◌, ◌*◌, ◌/◌, ◌<◌, ◌≤◌, ◌^◌, sym, ap, arith, List, [], ◌∷◌, ◌++◌, length, map, take, get_or, All}
 use Prim.Native.Nat.{◌∣◌}
-use Rattle.std.proofs.lemmas.List.{take_all, length-map}
+use Rattle.std.proofs.lemmas.List.{take_all, length-map, map_more}
 use Rattle.std.proofs.lemmas.List.Elements.{All-map}
 use Rattle.std.proofs.Math.Nat.{div-le_self}
 use Rattle.cache_model.specs.declared.intervals.Interval.{Interval}
@@ -45,3 +45,7 @@ pub whole_all : (line : Timeline) (unit units denominator k : ℕ) (arcs : List 
 whole_all line unit units denominator k arcs past made =
     let all : arcs ≡ map (arc_of unit denominator) line.items = made ∙ ap (λ (xs : List Interval). map (arc_of unit denominator) xs) (take_all k line.items past) in
     ap (λ (xs : List OuterArc). let i : Instance = record { steps = line.steps; units = units; arcs = xs } in i) all
+
+-- one more element is mapped
+pub map_take-more : {X Y : Type 0} (f : X → Y) (xs : List X) (i : ℕ) (d : X) (ys zs : List Y) (y : Y) → i < length xs → y ≡ f (get_or xs i d) → ys ≡ map f (take i xs) → zs ≡ ys ++ y ∷ [] → zs ≡ map f (take (i + 1) xs)
+map_take-more f xs i d ys zs y within is made more = more ∙ ap (λ v. ys ++ v ∷ []) is ∙ ap (λ l. l ++ f (get_or xs i d) ∷ []) made ∙ sym (map_more f xs i d within)

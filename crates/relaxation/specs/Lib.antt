@@ -3,4 +3,3 @@ pub mod Prices
 pub mod PriceFaults
 pub mod Faults
 pub mod Divisors
-pub mod Cuts

@@ -4,10 +4,9 @@ ghost use Prim.Native.Nat.{◌∣◌};
 ghost use Rattle.cache_model.specs.Units.{weight};
 ghost use Rattle.flow_model.specs.Instances.{arc_of, whole_instance};
 
-use crate::chain::Instance;
 use bound_base::{NoMemory, ceil_div};
 use cache_model::Interval;
-use flow_model::OuterArc;
+use flow_model::{Instance, OuterArc};
 use interval_maker::Intervals;
 use std::alloc::Global;
 

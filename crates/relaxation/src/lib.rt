@@ -1,27 +1,21 @@
 //! The flow relaxation over the steps of a trace: units, denominators, prices and what they bound, flows and their value,
-//! and instances of the flow, whole and by windows.
+//! and instances of the flow.
 //!
 //! The rules are those of "Intervals, units and prices" and "The flow on a chain" in docs/DEFINITIONS.md, after Berger,
 //! Beckmann and Harchol-Balter 2018. What is said of prices here holds of every policy that the rules allow.
 #![tactic(auto)]
 
 mod arcs;
-mod chain;
 mod denominators;
 mod flows;
-mod parts;
 mod prices;
-mod starts;
 mod units;
-mod windows;
 
 pub use arcs::instance;
 pub use cache_model::Interval;
-pub use chain::Instance;
 pub use denominators::{Denominator, DenominatorChoice, DenominatorLimit, denominator_for};
-pub use flow_model::OuterArc;
+pub use flow_model::{Instance, OuterArc};
+pub use flow_windows::window_instance;
 pub use flows::{FlowFault, flow_value, value_of_schedule};
-pub use parts::window_instance;
 pub use prices::{PriceFault, Sums, bound_of};
 pub use units::unit_of;
-pub use windows::Windows;

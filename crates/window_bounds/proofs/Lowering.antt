@@ -9,10 +9,10 @@ use Rattle.cache_model.proofs.Sums.{sum_by-map}
 use Rattle.flow_model.specs.declared.arcs.OuterArc.{OuterArc}
 use Rattle.flow_model.specs.Instances.{Instance, arc_at, no_arc}
 use Rattle.flow_model.specs.Windows.{meets}
-use Rattle.relaxation.specs.Cuts.{numbers_where}
-use Rattle.relaxation.proofs.Gathering.{passing, head_or, head_low, head_within, none_before, taken, passing_more, passing_none}
-use Rattle.relaxation.proofs.Merging.{meet_test}
-use Rattle.relaxation.proofs.Numbering.{IsNumber, are_numbers}
+use Rattle.flow_windows.specs.Cuts.{numbers_where}
+use Rattle.flow_windows.proofs.Gathering.{passing, head_or, head_low, head_within, none_before, taken, passing_more, passing_none}
+use Rattle.flow_windows.proofs.Merging.{meet_test}
+use Rattle.flow_windows.proofs.Numbering.{IsNumber, are_numbers}
 use Rattle.window_bounds.specs.Solutions.{flow_in, lowered}
 
 -- as many arcs before arc i meet the window as there are numbers of such arcs below i

@@ -7,8 +7,8 @@ use Rattle.flow_model.specs.declared.arcs.OuterArc.{OuterArc}
 use Rattle.flow_model.specs.Instances.{Instance, IsSchedule, arc_at, no_arc}
 use Rattle.flow_model.specs.Windows.{meets, part_of, window_instance}
 use Rattle.flow_model.proofs.Equal.{zip_at}
-use Rattle.relaxation.specs.Cuts.{numbers_where}
-use Rattle.relaxation.proofs.Numbering.{arcs_of_numbers}
+use Rattle.flow_windows.specs.Cuts.{numbers_where}
+use Rattle.flow_windows.proofs.Numbering.{arcs_of_numbers}
 use Rattle.window_bounds.specs.Solutions.{flow_in}
 
 -- what passes stands behind those before it that pass

@@ -5,7 +5,7 @@ use Rattle.std.specs.List.{range_with_len}
 use Rattle.flow_model.specs.declared.arcs.OuterArc.{OuterArc}
 use Rattle.flow_model.specs.Instances.{Instance, IsSolution, arc_at, value_at}
 use Rattle.flow_model.specs.Windows.{meets, window_instance}
-use Rattle.relaxation.specs.Cuts.{Cut}
+use Rattle.flow_windows.specs.Cuts.{Cut}
 
 -- a price for each step, and for each arc a flow and whether that is its weight
 pub record Answer : Type 0 where

@@ -1,13 +1,13 @@
 //! What is found by windows.
 ghost use Rattle.std.specs.Prelude.{◌≡◌};
 
+use flow_model::Solution;
 use std::marker::Model;
 
 /// A price of each step, a flow of each arc, and which flows are the weights of their arcs.
 #[derive(Debug, Drop)]
 pub struct WindowSolution {
-    pub(crate) prices: Vec<u128>,
-    pub(crate) flows: Vec<u64>,
+    pub(crate) solution: Solution,
     pub(crate) full: Vec<bool>,
 }
 
@@ -16,7 +16,7 @@ impl Model for WindowSolution {
 
     ghost Value = { Answer };
 
-    ghost view = { λ s. record { prices = s.prices.items; flows = s.flows.items; full = s.full.items } };
+    ghost view = { λ s. record { prices = s.solution.prices; flows = s.solution.flows; full = s.full.items } };
 }
 
 impl WindowSolution {
@@ -24,14 +24,14 @@ impl WindowSolution {
     pub fn prices(&self) -> &[u128]
         ensures { result.now ≡ self.now.prices }
     {
-        &self.prices
+        self.solution.prices()
     }
 
     /// The flow of each arc in units, in the order of the arcs.
     pub fn flows(&self) -> &[u64]
         ensures { result.now ≡ self.now.flows }
     {
-        &self.flows
+        self.solution.flows()
     }
 
     /// For each arc whether its flow is its weight.
@@ -41,11 +41,12 @@ impl WindowSolution {
         &self.full
     }
 
-    /// The prices of the steps and the flows of the arcs.
-    pub fn into_parts(self) -> (Vec<u128>, Vec<u64>)
-        ensures prices { result.0.items ≡ self.prices }
-        ensures flows { result.1.items ≡ self.flows }
+    /// The prices with the flows, and for each arc whether its flow is its weight.
+    pub fn into_parts(self) -> (Solution, Vec<bool>)
+        ensures prices { result.0.prices ≡ self.prices }
+        ensures flows { result.0.flows ≡ self.flows }
+        ensures full { result.1.items ≡ self.full }
     {
-        (self.prices, self.flows)
+        (self.solution, self.full)
     }
 }

@@ -1,13 +1,15 @@
 //! The windows of an instance, solved one after another.
 ghost use Rattle.std.specs.Prelude.{◌≡◌, ◌*◌, ◌-◌, ◌<◌, ◌≤◌, All, IfOk, length, map, slice_index_or, sum, sum_by};
 ghost use Rattle.flow_model.specs.Instances.{IsSchedule, IsSolution, value_at};
-ghost use Rattle.relaxation.specs.Cuts.{numbers_of};
+ghost use Rattle.flow_windows.specs.Cuts.{numbers_of};
 ghost use Rattle.window_bounds.specs.Solutions.{AreLowered, AreSolutions, IsNextSolution, full_of, value_of_windows};
 
 use crate::solution::WindowSolution;
 use bound_base::NoMemory;
+use flow_model::{Instance, OuterArc, Solution};
 use flow_solver::Solver;
-use relaxation::{Instance, OuterArc, Windows};
+use flow_uniform::{Solver as UniformSolver, common_cost};
+use flow_windows::Windows;
 use std::alloc::Global;
 
 // The greatest flows that the arcs can have.
@@ -41,11 +43,14 @@ fn lower(windows: &Windows, part_flows: &[u64], flows: &mut [u64])
     }
 }
 
-// Prices of the steps and flows of the arcs, from the whole as it stands.
-fn solve_whole(alloc: Global, whole: &Instance) -> Result<(Vec<u128>, Vec<u64>), NoMemory>
-    ensures { IfOk result (λ (prices, flows). IsSolution whole.now prices.items flows.items) }
+// Prices and flows of one value: by the solver of one cost where all arcs that cost something cost the same.
+fn solve(alloc: Global, instance: &Instance) -> Result<Solution, NoMemory>
+    ensures { IfOk result (λ s. IsSolution instance.now s.prices s.flows) }
 {
-    Ok(Solver::new(alloc, whole)?.solve().into_parts())
+    match common_cost(instance) {
+        Some(cost) => Ok(UniformSolver::new(alloc, instance, cost)?.solve()),
+        None => Ok(Solver::new(alloc, instance)?.solve()),
+    }
 }
 
 // Solves the current window. Its prices come after those before, and the flows fall to those of its parts.
@@ -60,20 +65,16 @@ fn solve_window(
     ensures { IfOk result (λ done. IsNextSolution windows.now prices.old.items flows.old prices.new.items flows.new) }
 {
     let window = windows.instance(alloc)?;
-    let solution = Solver::new(alloc, &window)?.solve();
+    let solution = solve(alloc, &window)?;
     prices.extend_from_slice(solution.prices())?;
     lower(windows, solution.flows(), flows);
     Ok(())
 }
 
 // Prices of the steps and flows of the arcs, from one window after another.
-fn solve_each(
-    alloc: Global,
-    whole: &Instance,
-    width: u32,
-) -> Result<(Vec<u128>, Vec<u64>), NoMemory>
+fn solve_each(alloc: Global, whole: &Instance, width: u32) -> Result<Solution, NoMemory>
     requires { 1 ≤ width }
-    ensures { IfOk result (λ (prices, flows). AreSolutions whole.now width prices.items flows.items) }
+    ensures { IfOk result (λ s. AreSolutions whole.now width s.prices s.flows) }
 {
     let mut prices = Vec::with_capacity(alloc, whole.steps() as usize)?;
     let mut flows = weights_of(alloc, whole.arcs())?;
@@ -82,7 +83,7 @@ fn solve_each(
         solve_window(alloc, &windows, &mut prices, &mut flows)?;
         windows.advance();
     }
-    Ok((prices, flows))
+    Ok(Solution::new(prices, flows))
 }
 
 /// The prices and flows of the instance by windows of that width. The price of a step is that of its window, and the
@@ -103,16 +104,11 @@ pub fn solve_windows(
     ensures last { IfOk result (λ s. All (λ arc. arc.end < whole.now.steps) whole.now.arcs → slice_index_or s.prices (whole.now.steps - 1) 0 ≡ 0) }
     ensures one_window { IfOk result (λ s. whole.now.steps ≤ width → IsSolution whole.now s.prices s.flows) }
 {
-    let arcs = whole.arcs();
-    let (prices, flows) = if whole.steps() <= width {
-        solve_whole(alloc, whole)?
+    let solution = if whole.steps() <= width {
+        solve(alloc, whole)?
     } else {
         solve_each(alloc, whole, width)?
     };
-    let full = full_of(alloc, arcs, &flows)?;
-    Ok(WindowSolution {
-        prices,
-        flows,
-        full,
-    })
+    let full = full_of(alloc, whole.arcs(), solution.flows())?;
+    Ok(WindowSolution { solution, full })
 }

@@ -1,8 +1,8 @@
 use Rattle.std.proofs.Common.{ℕ, ◌-◌, ◌*◌, ◌<◌, ◌∙◌, sym, ap, length, arith}
 use Rattle.flow_model.specs.Instances.{Instance, no_arc}
 use Rattle.flow_model.specs.Networks.{tail}
-use Rattle.flow_solver.specs.OuterEdges.{tail_of}
-use Rattle.flow_solver.proofs.EdgeLists.{edge_of-arc}
+use Rattle.flow_parts.specs.OuterEdges.{tail_of}
+use Rattle.flow_parts.proofs.EdgeLists.{edge_of-arc}
 use Rattle.flow_solver.proofs.onward.arc_on.Goals as goal
 
 pub first-left-requires : goal.first-left-requires

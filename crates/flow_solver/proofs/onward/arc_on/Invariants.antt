@@ -1,5 +1,5 @@
 use Rattle.std.proofs.Common.{◌≡◌, ◌-◌, ◌*◌, ◌<◌, ◌≤◌, length}
-use Rattle.flow_solver.specs.OuterEdges.{tail_of}
+use Rattle.flow_parts.specs.OuterEdges.{tail_of}
 use Rattle.flow_solver.proofs.onward.arc_on.Given as goal
 
 abbrev pub invariant-loop-left : goal.invariant-loop-left

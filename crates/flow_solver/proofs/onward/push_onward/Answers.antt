@@ -3,7 +3,7 @@ use Rattle.flow_model.specs.declared.edges.Edge.{Edge}
 use Rattle.flow_model.specs.Instances.{Instance}
 use Rattle.flow_model.specs.Pushes.{push_path}
 use Rattle.flow_network.specs.States.{State, IsState}
-use Rattle.flow_solver.specs.OuterEdges.{AreListed}
+use Rattle.flow_parts.specs.OuterEdges.{AreListed}
 use Rattle.flow_solver.specs.Searches.{IsReady}
 use Rattle.flow_solver.proofs.LastRound.{ready_after_push}
 use Rattle.flow_solver.proofs.OnwardPaths.{onward_can_push}

@@ -4,7 +4,7 @@ use Rattle.flow_model.specs.declared.edges.Edge.{Edge}
 use Rattle.flow_model.specs.Instances.{Instance}
 use Rattle.flow_model.specs.Pushes.{CanPush, push_path}
 use Rattle.flow_network.specs.States.{State, IsState}
-use Rattle.flow_solver.specs.OuterEdges.{AreListed}
+use Rattle.flow_parts.specs.OuterEdges.{AreListed}
 use Rattle.flow_solver.specs.Searches.{IsReady, LeadsBack}
 use Rattle.flow_solver.proofs.Guides.{enough_at, ready_lowered, leads_back}
 use Rattle.flow_solver.proofs.LastRound.{ready_after_push}

@@ -2,8 +2,7 @@ use Rattle.std.proofs.Common.{sym, subst, arith}
 use Rattle.std.proofs.lemmas.Result.{err_from_is_err_and}
 use Rattle.flow_model.specs.Instances.{Instance, IsInstance, arc_of}
 use Rattle.relaxation.proofs.Whole.{timeline_weights}
-use Rattle.relaxation.proofs.WholeArcs.{whole_is_instance, whole_all}
-use Rattle.relaxation.proofs.Passing.{map_take-more}
+use Rattle.relaxation.proofs.WholeArcs.{map_take-more, whole_is_instance, whole_all}
 use Rattle.relaxation.proofs.arcs.instance.Goals as goal
 
 pub arc_of-requires-clause-weight : goal.arc_of-requires-clause-weight

@@ -1,7 +1,7 @@
 use Rattle.std.proofs.Common.{◌≡◌, ◌∙◌, ◌+◌, ◌*◌, ◌<◌, ◌≤◌, ap, sym, arith, ◌++◌, length, ⊎_elim}
 use Rattle.std.proofs.lemmas.Bool.{cases_lt, false≢true}
-use Rattle.flow_network.proofs.Pushed.{written}
-use Rattle.relaxation.specs.Cuts.{Cut}
+use Rattle.flow_model.proofs.Lists.{written}
+use Rattle.flow_windows.specs.Cuts.{Cut}
 use Rattle.window_bounds.proofs.Rounds.{AreSolved, solved_none, solved_more}
 use Rattle.window_bounds.proofs.Results.{solutions_of}
 use Rattle.window_bounds.proofs.solving.solve_each.Goals as goal
@@ -45,4 +45,4 @@ returns c =
     (λ (all : c.args.whole.now.steps ≤ c.args.width * c.loop-alloc.windows.number). all)
     (cases_lt (c.args.width * c.loop-alloc.windows.number) c.args.whole.now.steps) in
     let some : 0 < c.args.width = omega (arith, c.requires) in
-    solutions_of c.args.whole.now c.args.width c.loop-alloc.prices.items c.loop-alloc.flows.items c.arcs.ensures.in_range some c.loop-alloc.windows.number past before.solved
+    rw c.new-2.ensures (solutions_of c.args.whole.now c.args.width c.loop-alloc.prices.items c.loop-alloc.flows.items c.arcs.ensures.in_range some c.loop-alloc.windows.number past before.solved)

@@ -1,6 +1,6 @@
 use Rattle.std.proofs.Common.{◌≡◌, ◌≢◌, ℕ, ◌∙◌, ◌++◌, List, length, take, drop, set, ap, subst, arith, length-set, get_or-set_same, get_or-set_other, ◌+◌}
-use Rattle.flow_network.proofs.Pushed.{written}
-use Rattle.flow_solver.specs.Queues.{IsQueue}
+use Rattle.flow_model.proofs.Lists.{written}
+use Rattle.flow_parts.specs.Queues.{IsQueue}
 use Rattle.flow_solver.specs.Searches.{Found}
 use Rattle.flow_solver.proofs.Distances.{first_tree}
 use Rattle.flow_solver.proofs.search.Search.begin.Goals as goal

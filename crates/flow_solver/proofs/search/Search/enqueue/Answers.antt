@@ -1,5 +1,5 @@
 use Rattle.std.proofs.Common.{◌<◌, ◌≤◌, ◌+◌, ℕ, List, ap, sym, subst, arith, length, set}
-use Rattle.flow_solver.specs.Queues.{IsQueue, IsQueueBut}
+use Rattle.flow_parts.specs.Queues.{IsQueue, IsQueueBut}
 use Rattle.flow_solver.specs.Searches.{Found, Enters}
 use Rattle.flow_solver.proofs.Stacks.{queue_enters, stack_enters}
 use Rattle.flow_solver.proofs.search.Search.enqueue.Goals as goal

@@ -1,9 +1,10 @@
 use Rattle.std.proofs.Common.{◌≡◌, ℕ, ◌+◌, ◌-◌, ◌<◌, ◌∙◌, ap, subst, arith, get_or, set, sym, length, length-set}
 use Rattle.flow_model.specs.Instances.{Instance}
 use Rattle.flow_model.specs.Networks.{head, gain, residual}
-use Rattle.flow_solver.specs.Queues.{IsQueueBut}
+use Rattle.flow_parts.specs.Queues.{IsQueueBut}
+use Rattle.flow_parts.proofs.QueueSteps.{queue_lowered}
 use Rattle.flow_solver.specs.Searches.{Found, Enters, at_tail}
-use Rattle.flow_solver.proofs.Distances.{Nears-refl, nears_more, queue_lowered}
+use Rattle.flow_solver.proofs.Distances.{Nears-refl, nears_more}
 use Rattle.flow_solver.proofs.search.Search.relax.Goals as goal
 use Rattle.flow_solver.proofs.search.Search.relax.Goals.{then-near-limit-via-then-near-limit, then-near-limit-via-else-near-limit+then-near-distance, then-along-limit-via-then-along-limit, then-along-limit-via-else-along-limit+then-along-distance}
 
@@ -41,7 +42,7 @@ enqueue-requires-clause-queue c =
     let old : Found = c.args.self.now in
     let h = c.hop-hop.result in
     let along : ℕ = c.distance-near.result + (h.loss + c.potential.result) - (h.gain + c.potential-2.result) in
-    let low = queue_lowered old.waiting old.distances h.head along c.requires.search.queue (omega (arith, c.requires.search.tree.each_distance, c.hop-hop.ensures.ends)) (omega arith) in
+    let low = queue_lowered old.waiting old.distances h.head along c.requires.search.queue (omega (arith, c.requires.search.tree.each_distance, c.hop-hop.ensures.ends)) (λ waits. omega arith) in
     subst (λ (f : Found). IsQueueBut f.waiting f.distances h.head) (sym c.lower.ensures) low
 
 pub residual-requires : goal.residual-requires

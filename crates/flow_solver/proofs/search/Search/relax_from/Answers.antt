@@ -6,7 +6,7 @@ use Rattle.flow_model.specs.declared.edges.Edge.TheVariants.{InnerBack}
 use Rattle.flow_model.specs.declared.edges.Edge.TheVariants.{Inner}
 use Rattle.flow_solver.specs.Searches.{IsSettled, Rests}
 use Rattle.flow_solver.proofs.Distances.{Nears-refl, Nears-trans}
-use Rattle.flow_solver.proofs.EdgeLists.{each_edge_from}
+use Rattle.flow_parts.proofs.EdgeLists.{each_edge_from}
 use Rattle.flow_solver.proofs.search.Search.relax_from.Goals as goal
 
 pub returns-clause-settled : goal.returns-clause-settled

@@ -3,10 +3,10 @@ use Rattle.std.proofs.lemmas.Bool.{cases_eq, cases_lt}
 use Rattle.flow_model.specs.declared.edges.Edge.{Edge}
 use Rattle.flow_model.specs.Instances.{Instance}
 use Rattle.flow_model.specs.Networks.{IsEdge}
-use Rattle.flow_solver.specs.OuterEdges.{edge_of, tail_of}
+use Rattle.flow_parts.specs.OuterEdges.{edge_of, tail_of}
 use Rattle.flow_solver.specs.Searches.{IsSettled, Rests}
 use Rattle.flow_solver.proofs.Distances.{Nears-trans}
-use Rattle.flow_solver.proofs.EdgeLists.{is_edge_of}
+use Rattle.flow_parts.proofs.EdgeLists.{is_edge_of}
 use Rattle.flow_solver.proofs.search.Search.relax_outer.Goals as goal
 
 pub relax-requires-clause-edge : goal.relax-requires-clause-edge

@@ -1,5 +1,5 @@
 use Rattle.std.proofs.Common.{◌≡◌, ℕ, ◌-◌, ◌*◌, ◌≤◌, ◌<◌, length}
-use Rattle.flow_solver.specs.OuterEdges.{edge_of, tail_of}
+use Rattle.flow_parts.specs.OuterEdges.{edge_of, tail_of}
 use Rattle.flow_solver.specs.Searches.{IsSettled, Nears, Rests}
 use Rattle.flow_solver.proofs.search.Search.relax_outer.Given as goal
 

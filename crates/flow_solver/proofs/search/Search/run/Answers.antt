@@ -3,8 +3,9 @@ use Rattle.std.proofs.lemmas.Bool.{cases_lt}
 use Rattle.flow_model.specs.Instances.{Instance}
 use Rattle.flow_model.specs.Networks.{tail}
 use Rattle.flow_solver.specs.Searches.{Found}
-use Rattle.flow_solver.proofs.Distances.{all_settled, ends_within, next_settled, rests_after_take, search_taken}
-use Rattle.flow_solver.proofs.QueueSteps.{waits_within}
+use Rattle.flow_parts.proofs.EdgeLists.{ends_within}
+use Rattle.flow_solver.proofs.Distances.{all_settled, next_settled, rests_after_take, search_taken}
+use Rattle.flow_parts.proofs.QueueSteps.{waits_within}
 use Rattle.flow_solver.proofs.search.Search.run.Goals as goal
 
 pub loop-node-init : goal.loop-node-init

@@ -2,7 +2,7 @@ use Rattle.std.proofs.Common.{◌≡◌, ◌*◌, ◌∙◌, ℕ, sym, ap, subst
 use Rattle.std.proofs.lemmas.Result.{err_from_is_err_and}
 use Rattle.flow_model.specs.Instances.{Instance}
 use Rattle.flow_network.specs.States.{State, no_flows}
-use Rattle.flow_solver.specs.OuterEdges.{AreListed}
+use Rattle.flow_parts.specs.OuterEdges.{AreListed}
 use Rattle.flow_solver.specs.Searches.{HasRoom}
 use Rattle.flow_solver.proofs.solver.Solver.new.Goals as goal
 

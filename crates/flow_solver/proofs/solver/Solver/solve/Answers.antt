@@ -1,8 +1,8 @@
 use Rattle.std.proofs.Common.{◌≡◌, ◌+◌, ◌-◌, ◌*◌, ◌++◌, drop, length, ap, refl, sym, subst, arith, ◌∙◌}
 use Rattle.std.proofs.lemmas.List.{length-append, length-take-le}
 use Rattle.flow_model.specs.Instances.{Instance, IsSolution}
-use Rattle.flow_network.proofs.Pushed.{written}
-use Rattle.flow_solver.specs.OuterEdges.{AreListed}
+use Rattle.flow_model.proofs.Lists.{written}
+use Rattle.flow_parts.specs.OuterEdges.{AreListed}
 use Rattle.flow_solver.specs.Searches.{HasRoom}
 use Rattle.flow_solver.proofs.LastRound.{solved}
 use Rattle.flow_solver.proofs.solver.Solver.solve.Goals as goal

@@ -1,5 +1,5 @@
 use Rattle.std.proofs.Common.{◌≡◌, ◌+◌, ◌-◌, ◌*◌, length}
-use Rattle.flow_solver.specs.OuterEdges.{AreListed}
+use Rattle.flow_parts.specs.OuterEdges.{AreListed}
 use Rattle.flow_solver.specs.Searches.{HasRoom, IsReady}
 use Rattle.flow_solver.proofs.solver.Solver.solve.Given as goal
 

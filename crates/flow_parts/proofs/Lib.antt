@@ -1,0 +1,4 @@
+pub mod Heaps
+pub mod QueueSteps
+pub mod EdgeLists
+pub mod RankSteps

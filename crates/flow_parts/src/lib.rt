@@ -1,0 +1,13 @@
+//! What the solvers of the flow on a chain share: a heap of ranked keys, a queue of nodes by their distances, and the lists of
+//! arcs by their ends.
+//!
+//! Each takes its memory at once, so that a solver takes none while it solves.
+#![tactic(auto)]
+
+mod heap;
+mod outer_edges;
+mod queue;
+
+pub use heap::Heap;
+pub use outer_edges::{OuterEdges, outer_edge};
+pub use queue::Queue;

@@ -1,5 +1,0 @@
-use Rattle.flow_solver.specs.OuterEdges.{AreListed}
-use Rattle.flow_solver.proofs.outer_edges.OuterEdges.new.Given as goal
-
-abbrev pub invariant-loop-number : goal.invariant-loop-number
-invariant-loop-number l = AreListed l.instance l.edges l.number
