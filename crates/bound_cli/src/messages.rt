@@ -16,10 +16,11 @@ pub const STANDARD_INPUT: &str = "standard input";
 pub const STANDARD_OUTPUT: &str = "standard output";
 
 /// The commands with their operands, a line each.
-pub const USAGE: [&str; 4] = [
+pub const USAGE: [&str; 5] = [
     "usage: bound_cli bounds TRACE CERT format=FORM capacity=BYTES [block=BYTES]",
     "           [objective=OBJECTIVE] [mode=MODE] [window=STEPS] [denominator=NUMBER]",
     "       bound_cli check TRACE CERT format=FORM [block=BYTES]",
+    "       bound_cli replay TRACE format=FORM capacity=BYTES policy=POLICY [block=BYTES] [warmup=REQUESTS]",
     "       bound_cli help",
 ];
 
@@ -29,14 +30,16 @@ pub const PURPOSE: &str =
 replacement policy can exceed, a schedule that comes close to it, and a certificate of both.
 ";
 
-/// What stands for what, and two examples.
+/// What stands for what, and three examples.
 pub const EXAMPLES: &str = "
-FORM is webcache, arc or msr, OBJECTIVE is object or bytes, MODE is flow, constant or infinite.
+FORM is webcache, arc or msr, OBJECTIVE is object or bytes, MODE is flow, constant or infinite,
+POLICY is lru, fifo, clock, lfu or belady.
 A path - is the standard input or output. The report goes to the standard output.
 
 examples:
   bound_cli bounds examples/build-files.webcache build.cert format=webcache capacity=8388608
   bound_cli check examples/build-files.webcache build.cert format=webcache
+  bound_cli replay examples/build-files.webcache format=webcache capacity=8388608 policy=lru
 
 docs/GUIDE.md goes from a trace to a decision; man -l docs/bound_cli.1 has every operand.";
 
@@ -66,6 +69,8 @@ fn values_of(name: &str) -> Option<&'static str> {
         "mode" => Some("flow, constant or infinite"),
         "window" => Some("all, or digits alone, from 1 to 33554432"),
         "denominator" => Some("auto, exact, or digits alone, from 1 to 281474976710656"),
+        "policy" => Some("lru, fifo, clock, lfu or belady"),
+        "warmup" => Some("digits alone, from 0 to 33554432"),
         _ => None,
     }
 }
@@ -74,6 +79,7 @@ fn values_of(name: &str) -> Option<&'static str> {
 fn operands_of(command: &str) -> &'static str {
     match command {
         "check" => "format and block",
+        "replay" => "format, capacity, policy, block and warmup",
         _ => "format, capacity, block, objective, mode, window and denominator",
     }
 }
@@ -116,29 +122,44 @@ fn is_given(words: &[String], name: &str) -> bool {
     words.iter().any(|word| name_of(word.as_str()) == name)
 }
 
-// What is missing at a place: a path, or a required operand after the last word.
-fn missing(alloc: Global, words: &[String], place: u64) -> Result<String, AllocError> {
-    match place {
-        1 => String::from_str(alloc, "a command is missing"),
-        2 => String::from_str(alloc, "the path of the trace is missing"),
-        3 => String::from_str(alloc, "the path of the certificate is missing"),
-        _ => {
-            let name = if is_given(words, "format") {
-                "capacity"
-            } else {
-                "format"
-            };
-            let values = values_of(name).unwrap_or("");
-            format!(in alloc; "{name} is missing: {values}")
-        }
+// The first required operand that is not given.
+fn first_missing(words: &[String]) -> &'static str {
+    if !is_given(words, "format") {
+        "format"
+    } else if !is_given(words, "capacity") {
+        "capacity"
+    } else {
+        "policy"
     }
+}
+
+// Which path stands at a place.
+fn path_at(words: &[String], place: u64) -> Option<&'static str> {
+    match (word_at(words, 1), place) {
+        (_, 2) => Some("trace"),
+        ("bounds" | "check", 3) => Some("certificate"),
+        _ => None,
+    }
+}
+
+// What is missing at a place: the command, a path, or a required operand after the last word.
+fn missing(alloc: Global, words: &[String], place: u64) -> Result<String, AllocError> {
+    if place == 1 {
+        return String::from_str(alloc, "a command is missing");
+    }
+    if let Some(path) = path_at(words, place) {
+        return format!(in alloc; "the path of the {path} is missing");
+    }
+    let name = first_missing(words);
+    let values = values_of(name).unwrap_or("");
+    format!(in alloc; "{name} is missing: {values}")
 }
 
 // Why a word stands for nothing.
 fn unknown(alloc: Global, words: &[String], place: u64) -> Result<String, AllocError> {
     let word = word_at(words, place);
     if place == 1 {
-        return format!(in alloc; "{word}: no command; the commands are bounds and check");
+        return format!(in alloc; "{word}: no command; the commands are bounds, check and replay");
     }
     if word.as_bytes().starts_with(b"--") {
         return format!(in alloc; "{word}: operands have no dashes, as format=webcache");
@@ -163,7 +184,7 @@ fn bad_value(alloc: Global, words: &[String], place: u64) -> Result<String, Allo
         return String::from_str(alloc, "a path is empty");
     }
     match values_of(name_of(word)) {
-        Some(values) if place > 3 => format!(in alloc; "{word}: {values}"),
+        Some(values) if path_at(words, place).is_none() => format!(in alloc; "{word}: {values}"),
         _ => String::from_str(
             alloc,
             "trace and certificate can't both be the standard input",

@@ -1,0 +1,8 @@
+//! Tests of replays over small traces: of policy_model, replay_core, replay_recency, replay_rank and belady_laws. They stand
+//! apart, since a crate with tests is proved twice.
+#![tactic(auto)]
+
+#[cfg(test)]
+mod idle;
+#[cfg(test)]
+mod rows;
