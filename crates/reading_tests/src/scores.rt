@@ -1,6 +1,6 @@
-//! Scores of the keeps of a few requests, counted by hand.
-use crate::compared::{holds, same};
+//! `cache_rules`: scores of the keeps of a few requests, counted by hand.
 use cache_rules::{Builder, Object, Objective, Overfull, Trace, score};
+use compared::{holds, same};
 use std::alloc::Global;
 use std::process::Abort;
 
@@ -112,8 +112,8 @@ const ROWS: [Row<'static>; 7] = [
 fn trace_of(rt: &impl Abort, alloc: Global, requests: &[Object]) -> Trace {
     let mut builder = Builder::new(alloc).expect(rt, "memory");
     for request in requests {
-        holds(rt, *request, builder.len() < 10);
-        holds(rt, *request, request.size >= 1 && request.size <= 9);
+        holds(*request, builder.len() < 10).expect(rt, "a row");
+        holds(*request, request.size >= 1 && request.size <= 9).expect(rt, "a row");
         builder.push(*request).expect(rt, "memory");
     }
     builder.finish()
@@ -125,9 +125,9 @@ fn scores_keeps_that_fit_and_names_the_first_load_that_does_not(rt: HostRuntime)
     for row in &ROWS {
         let (name, requests, keeps, capacity, objective, answer) = *row;
         let trace = trace_of(&rt, rt.alloc(), requests);
-        holds(&rt, name, keeps.len() == trace.len() as usize);
+        holds(name, keeps.len() == trace.len() as usize).expect(&rt, "a row");
         let scored = score(&trace, capacity, objective, keeps);
         drop(trace);
-        same(&rt, name, scored, answer);
+        same(name, scored, answer).expect(&rt, "a row");
     }
 }
