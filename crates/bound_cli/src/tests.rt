@@ -14,6 +14,7 @@ mod command_line;
 mod faults;
 mod flow;
 mod modes;
+mod replays;
 mod traces;
 mod words;
 

@@ -1,5 +1,5 @@
-//! Lines of ARC traces, read by hand.
-use crate::compared::same;
+//! `trace_arc`: lines of ARC traces, read by hand.
+use compared::same;
 use trace_arc::parse;
 use trace_lines::{LineKind, Span};
 
@@ -31,7 +31,7 @@ fn gives_a_first_block_and_a_count(rt: HostRuntime) {
             count: *count,
             size: 512,
         };
-        same(&rt, *line, parse(line), Ok(span));
+        same(*line, parse(line), Ok(span)).expect(&rt, "a row");
     }
 }
 
@@ -74,6 +74,6 @@ const WITHOUT_BLOCKS: [(&[u8], Answer); 23] = [
 #[test]
 fn asks_for_nothing_or_names_the_first_check_that_fails(rt: HostRuntime) {
     for (line, want) in &WITHOUT_BLOCKS {
-        same(&rt, *line, parse(line), *want);
+        same(*line, parse(line), *want).expect(&rt, "a row");
     }
 }

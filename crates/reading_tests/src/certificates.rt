@@ -1,11 +1,11 @@
-//! Certificates over sources and sinks in memory. The expected texts, numbers and faults were made by hand.
+//! `cert_format`: certificates over sources and sinks in memory. The expected texts, numbers and faults were made by hand.
 ghost use Rattle.std.specs.Prelude.{◌≡◌, ◌≤◌};
 ghost use Rattle.cert_format.specs.declared.reader.Stage.TheVariants.{AtHeader};
 
-use crate::compared::{holds, same};
 use bound_io::{Failed, MemSink, MemSource, Source};
 use cache_model::{Header, Objective, Record};
 use cert_format::{CertFault, CertReader, TextKind, write_end, write_header, write_record};
+use compared::{holds, same};
 use std::alloc::Global;
 use std::fmt::Debug;
 use std::process::Abort;
@@ -71,7 +71,7 @@ type Read = Result<(Header, Record, Record), CertFault>;
 const WHOLE: Read = Ok((HEADER, FIRST, LAST));
 
 fn same_read<P: Copy + Debug>(rt: &impl Abort, at: P, read: Read, want: Read) {
-    same(rt, at, read, want);
+    same(at, read, want).expect(rt, "a row");
 }
 
 // What is read from a source, from the header to the end.
@@ -185,7 +185,7 @@ const AT_THE_END: [(usize, &[u8]); 7] = [
 fn a_number_at_the_end_of_its_range_is_read(rt: HostRuntime) {
     for (line, text) in &AT_THE_END {
         let read = read_with(&rt, rt.alloc(), *line, text, 50);
-        holds(&rt, *text, read.is_ok());
+        holds(*text, read.is_ok()).expect(&rt, "a row");
     }
 }
 
@@ -299,9 +299,9 @@ fn a_failed_read_is_answered_again_and_nothing_more_is_read(rt: HostRuntime) {
     drop(reader);
     let left = source.read(&mut [0; 100]);
     drop(source);
-    same(&rt, "a failed read", found, Some([CertFault::ReadFault; 4]));
-    same(&rt, "the counts", counts, [7, 98, 100]);
-    same(&rt, "what is left", left, Ok(45));
+    same("a failed read", found, Some([CertFault::ReadFault; 4])).expect(&rt, "a row");
+    same("the counts", counts, [7, 98, 100]).expect(&rt, "a row");
+    same("what is left", left, Ok(45)).expect(&rt, "a row");
 }
 
 const LONG_HEADER: Header = Header {
@@ -320,7 +320,7 @@ fn write_long(sink: &mut MemSink) -> Result<(), Failed> {
 
 fn long_text(rt: &impl Abort, alloc: Global) -> Vec<u8> {
     let mut sink = MemSink::new(alloc, 200000, Vec::new(alloc), 1000).expect(rt, "memory");
-    same(rt, "a long text", write_long(&mut sink), Ok(()));
+    same("a long text", write_long(&mut sink), Ok(())).expect(rt, "a row");
     sink.into_bytes()
 }
 
@@ -348,9 +348,9 @@ fn at_most_a_buffer_is_taken_ahead(rt: HostRuntime) {
     let counts = [reader.line(), reader.consumed(), reader.taken()];
     drop(reader);
     drop(source);
-    same(&rt, "the prefix", prefix, Ok((LONG_HEADER, FIRST)));
+    same("the prefix", prefix, Ok((LONG_HEADER, FIRST))).expect(&rt, "a row");
     // The lines of the header have 133 bytes, that of the record 6.
-    same(&rt, "the counts", counts, [12, 139, 65536]);
+    same("the counts", counts, [12, 139, 65536]).expect(&rt, "a row");
 }
 
 const HEADERS: [(Header, bool); 4] = [
@@ -380,9 +380,9 @@ const DEAR: Record = Record {
 #[test]
 fn numbers_are_in_range_or_not(rt: HostRuntime) {
     for (row, (header, want)) in HEADERS.iter().enumerate() {
-        same(&rt, row, header.in_range(), *want);
+        same(row, header.in_range(), *want).expect(&rt, "a row");
     }
-    holds(&rt, "records", FIRST.in_range() && !DEAR.in_range());
+    holds("records", FIRST.in_range() && !DEAR.in_range()).expect(&rt, "a row");
 }
 
 fn write(sink: &mut MemSink) -> Result<(), Failed> {
@@ -405,8 +405,8 @@ fn check_written(
 {
     let fails = vec![in alloc; failing].expect(rt, "memory");
     let mut sink = MemSink::new(alloc, 1000, fails, step).expect(rt, "memory");
-    same(rt, (failing, step), write(&mut sink), want);
-    same(rt, (failing, step), sink.written(), text);
+    same((failing, step), write(&mut sink), want).expect(rt, "a row");
+    same((failing, step), sink.written(), text).expect(rt, "a row");
     drop(sink);
 }
 

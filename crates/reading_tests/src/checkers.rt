@@ -1,10 +1,10 @@
-//! Small certificates through a checker. The numbers were worked out by hand.
+//! `cert_checker`: small certificates through a checker. The numbers were worked out by hand.
 ghost use Rattle.std.specs.Prelude.{◌≡◌, ◌<◌, ◌≤◌, ◌+◌, ◌^◌, true, OnErr, OnOk};
 
-use crate::compared::{holds, same};
 use cache_model::{Object, Objective};
 use cert_checker::{Checker, InvalidKind, StepFault, Verdict};
 use cert_format::{Header, Record};
+use compared::{holds, same};
 use std::alloc::Global;
 use std::process::Abort;
 
@@ -319,7 +319,7 @@ fn step_of(
     ensures counts { OnOk result ((checker.new.header ≡ checker.old.header) × (checker.new.sums.steps ≡ checker.old.sums.steps + 1)) }
     ensures kept { OnErr result (checker.new ≡ checker.old) }
 {
-    holds(rt, checker.entries(), is_sized(&object) && entry.in_range());
+    holds(checker.entries(), is_sized(&object) && entry.in_range()).expect(rt, "a row");
     checker.step(alloc, object, entry)
 }
 
@@ -331,13 +331,9 @@ fn answer_of(
     requests: &[Object],
     records: &[Record],
 ) -> Answer {
-    holds(rt, "the header", header.in_range());
-    holds(
-        rt,
-        "the requests",
-        requests.len() == header.requests as usize,
-    );
-    holds(rt, "the records", records.len() == requests.len());
+    holds("the header", header.in_range()).expect(rt, "a row");
+    holds("the requests", requests.len() == header.requests as usize).expect(rt, "a row");
+    holds("the records", records.len() == requests.len()).expect(rt, "a row");
     let mut checker = Checker::new(alloc, header).expect(rt, "memory");
     for t in 0..requests.len() {
         if let Err(fault) = step_of(rt, alloc, &mut checker, requests[t], records[t]) {
@@ -357,7 +353,7 @@ fn answer_of(
 fn check_all(rt: &impl Abort, alloc: Global, rows: &[Row<'_>]) {
     for row in rows {
         let answer = answer_of(rt, alloc, row.header, row.requests, row.records);
-        holds(rt, row.name, answer == row.answer);
+        holds(row.name, answer == row.answer).expect(rt, "a row");
     }
 }
 
@@ -375,14 +371,14 @@ const ABOVE: Record = Record { flow: 2, ..KEPT };
 
 #[test]
 fn stays_as_it_was_after_a_fault(rt: HostRuntime) {
-    holds(&rt, "the header", PAIR_HEADER.in_range());
+    holds("the header", PAIR_HEADER.in_range()).expect(&rt, "a row");
     let mut checker = Checker::new(rt.alloc(), PAIR_HEADER).expect(&rt, "memory");
     let refused = step_of(&rt, rt.alloc(), &mut checker, FOUR, ABOVE);
     let fault = InvalidKind::FlowAboveWeight { flow: 2, weight: 1 };
-    same(&rt, "a step", refused, Err(StepFault::Rule(fault)));
-    same(&rt, "entries", checker.entries(), 0);
+    same("a step", refused, Err(StepFault::Rule(fault))).expect(&rt, "a row");
+    same("entries", checker.entries(), 0).expect(&rt, "a row");
     let taken = step_of(&rt, rt.alloc(), &mut checker, FOUR, KEPT);
-    same(&rt, "a further step", taken, Ok(()));
-    same(&rt, "entries", checker.entries(), 1);
+    same("a further step", taken, Ok(())).expect(&rt, "a row");
+    same("entries", checker.entries(), 1).expect(&rt, "a row");
     drop(checker);
 }

@@ -1,9 +1,9 @@
-//! Small traces and certificates of them, checked side by side.
-use crate::compared::holds;
+//! `cert_checker`: small traces and certificates of them, checked side by side.
 use bound_io::MemSource;
 use cache_model::Objective;
 use cert_checker::{CheckFault, Header, InvalidKind, Verdict, check_streams};
 use cert_format::CertReader;
+use compared::holds;
 use std::alloc::Global;
 use std::process::Abort;
 use trace_any::{Format, Limits, RequestReader, TraceFault};
@@ -155,6 +155,6 @@ fn answer(rt: &impl Abort, alloc: Global, row: &Row) -> Result<Verdict, CheckFau
 #[test]
 fn says_yes_or_names_the_first_event_of_the_walk(rt: HostRuntime) {
     for (place, row) in ROWS.iter().enumerate() {
-        holds(&rt, place, answer(&rt, rt.alloc(), row) == row.4);
+        holds(place, answer(&rt, rt.alloc(), row) == row.4).expect(&rt, "a row");
     }
 }

@@ -1,5 +1,7 @@
 //! Tests of numbers and of the crates that read and write: lines, traces, certificates and texts.
 //!
+//! The first line of each file names the crate that it tests.
+//!
 //! They stand apart from those crates, since a crate with tests is proved twice.
 //!
 //! What a large value does at its end is proved once, in `drop` at its type: left to the end of a scope, it would be
@@ -14,8 +16,6 @@ mod certificates;
 mod checkers;
 #[cfg(test)]
 mod checks;
-#[cfg(test)]
-mod compared;
 #[cfg(test)]
 mod lines;
 #[cfg(test)]

@@ -1,8 +1,8 @@
-//! Lines of bytes in memory, counted by hand.
+//! `bound_io`: lines of bytes in memory, counted by hand.
 ghost use Rattle.std.specs.Prelude.{◌≡◌, ◌≤◌, ◌^◌, None, Err};
 
-use crate::compared::{holds, same};
 use bound_io::{CalmSource, LineFault, LineReader, MemSource, Source, WholeLine};
+use compared::{holds, same};
 use std::alloc::Global;
 use std::process::Abort;
 
@@ -27,11 +27,11 @@ fn check_answers(
     end: Result<WholeLine<'_>, LineFault>,
 ) {
     for line in lines {
-        holds(rt, step, gives(reader, source, Ok(*line)));
+        holds(step, gives(reader, source, Ok(*line))).expect(rt, "a row");
     }
     let ends = gives(reader, source, end) && gives(reader, source, end);
-    holds(rt, step, ends);
-    same(rt, step, reader.line(), lines.len() as u64);
+    holds(step, ends).expect(rt, "a row");
+    same(step, reader.line(), lines.len() as u64).expect(rt, "a row");
 }
 
 // The lines that a reader with this limit gives of the bytes, and how it ends, whatever the step.
@@ -132,13 +132,13 @@ fn gives_line(
 
 // A line, and then the fault twice.
 fn check_failed(rt: &impl Abort, reader: &mut LineReader, source: &mut MemSource) {
-    holds(rt, 1, gives_line(reader, source, Ok(Some(b"ab"))));
+    holds(1, gives_line(reader, source, Ok(Some(b"ab")))).expect(rt, "a row");
     let failed = Err(LineFault::ReadFault);
-    holds(rt, 2, gives_line(reader, source, failed));
-    holds(rt, 3, gives_line(reader, source, failed));
+    holds(2, gives_line(reader, source, failed)).expect(rt, "a row");
+    holds(3, gives_line(reader, source, failed)).expect(rt, "a row");
     let counts = [reader.taken(), reader.consumed(), reader.line()];
-    same(rt, "the counts", counts, [3, 3, 1]);
-    same(rt, "the next read", source.read(&mut [0; 10]), Ok(1));
+    same("the counts", counts, [3, 3, 1]).expect(rt, "a row");
+    same("the next read", source.read(&mut [0; 10]), Ok(1)).expect(rt, "a row");
 }
 
 #[test]
@@ -166,8 +166,8 @@ fn reads_at_most_a_buffer_ahead(rt: HostRuntime) {
     let mut source = CalmSource::new(bytes);
     let mut reader = LineReader::new(rt.alloc(), 1 << 36).expect(&rt, "memory");
     let read = read_calmly(&mut reader, &mut source);
-    same(&rt, "a line", read, Ok(true));
+    same("a line", read, Ok(true)).expect(&rt, "a row");
     let counts = [reader.taken(), reader.consumed()];
     drop(reader);
-    same(&rt, "taken", counts, [65536, 1]);
+    same("taken", counts, [65536, 1]).expect(&rt, "a row");
 }

@@ -1,5 +1,5 @@
-//! Lines of MSR traces, read by hand.
-use crate::compared::{holds, same};
+//! `trace_msr`: lines of MSR traces, read by hand.
+use compared::{holds, same};
 use trace_lines::{LineKind, Span};
 use trace_msr::{MsrLine, parse};
 
@@ -124,8 +124,8 @@ fn line_of(row: &Row) -> MsrLine<'static> {
 fn gives_a_host_a_disk_and_each_block_that_is_touched(rt: HostRuntime) {
     for row in &ROWS {
         let (block, line) = (row.0, row.1);
-        holds(&rt, line, block >= 1 && block <= 1 << 48);
-        same(&rt, (line, block), parse(line, block), Ok(line_of(row)));
+        holds(line, block >= 1 && block <= 1 << 48).expect(&rt, "a row");
+        same((line, block), parse(line, block), Ok(line_of(row))).expect(&rt, "a row");
     }
 }
 
@@ -190,6 +190,6 @@ const REFUSED: [(&[u8], LineKind); 35] = [
 #[test]
 fn names_the_first_check_that_fails(rt: HostRuntime) {
     for (line, kind) in &REFUSED {
-        same(&rt, *line, parse(line, 4096), Err(*kind));
+        same(*line, parse(line, 4096), Err(*kind)).expect(&rt, "a row");
     }
 }

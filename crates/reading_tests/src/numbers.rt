@@ -1,6 +1,6 @@
-//! Numbers in decimal digits, divisors and ratios. The answers were worked out by hand.
-use crate::compared::{holds, same};
+//! `bound_base`: numbers in decimal digits, divisors and ratios. The answers were worked out by hand.
 use bound_base::{NumFault, Ratio, ceil_div, floor_div, gcd, lcm_to, read_u64, read_u128};
+use compared::{holds, same};
 
 const NUMBERS: [(&[u8], Result<u64, NumFault>); 13] = [
     (b"0", Ok(0)),
@@ -24,7 +24,7 @@ const NUMBERS: [(&[u8], Result<u64, NumFault>); 13] = [
 #[test]
 fn reads_numbers_and_names_the_first_fault(rt: HostRuntime) {
     for (bytes, want) in &NUMBERS {
-        same(&rt, *bytes, read_u64(bytes), *want);
+        same(*bytes, read_u64(bytes), *want).expect(&rt, "a row");
     }
 }
 
@@ -43,7 +43,7 @@ const WIDER_NUMBERS: [(&[u8], Result<u128, NumFault>); 6] = [
 #[test]
 fn reads_wider_numbers_in_the_same_way(rt: HostRuntime) {
     for (bytes, want) in &WIDER_NUMBERS {
-        same(&rt, *bytes, read_u128(bytes), *want);
+        same(*bytes, read_u128(bytes), *want).expect(&rt, "a row");
     }
 }
 
@@ -63,7 +63,7 @@ const DIVISORS: [(u64, u64, u64); 9] = [
 #[test]
 fn divides_both_and_is_greatest(rt: HostRuntime) {
     for (a, b, want) in &DIVISORS {
-        same(&rt, (*a, *b), gcd(*a, *b), *want);
+        same((*a, *b), gcd(*a, *b), *want).expect(&rt, "a row");
     }
 }
 
@@ -83,8 +83,8 @@ const MULTIPLES: [(u64, u64, u64, Option<u64>); 10] = [
 #[test]
 fn multiple_is_least_and_within_the_limit(rt: HostRuntime) {
     for (a, b, limit, want) in &MULTIPLES {
-        holds(&rt, (*a, *b), *a >= 1 && *b >= 1);
-        same(&rt, (*a, *b, *limit), lcm_to(*a, *b, *limit), *want);
+        holds((*a, *b), *a >= 1 && *b >= 1).expect(&rt, "a row");
+        same((*a, *b, *limit), lcm_to(*a, *b, *limit), *want).expect(&rt, "a row");
     }
 }
 
@@ -101,10 +101,10 @@ const QUOTIENTS: [(u128, u128, u128, u128); 6] = [
 fn rounds_down_and_up(rt: HostRuntime) {
     for (num, den, down, up) in &QUOTIENTS {
         let (num, den) = (*num, *den);
-        holds(&rt, den, den >= 1);
+        holds(den, den >= 1).expect(&rt, "a row");
         let floors = [floor_div(num, den), Ratio { num, den }.floor()];
         let rounded = (floors, ceil_div(num, den));
-        same(&rt, (num, den), rounded, ([*down; 2], *up));
+        same((num, den), rounded, ([*down; 2], *up)).expect(&rt, "a row");
     }
 }
 
@@ -123,8 +123,8 @@ const RATIOS: [((u128, u128), (u128, u128), Option<bool>); 7] = [
 fn compares_by_cross_products(rt: HostRuntime) {
     for (this, that, want) in &RATIOS {
         let ((a, b), (c, d)) = (*this, *that);
-        holds(&rt, (b, d), b >= 1 && d >= 1);
+        holds((b, d), b >= 1 && d >= 1).expect(&rt, "a row");
         let answer = Ratio { num: a, den: b }.at_most(Ratio { num: c, den: d });
-        same(&rt, (*this, *that), answer, *want);
+        same((*this, *that), answer, *want).expect(&rt, "a row");
     }
 }

@@ -1,10 +1,10 @@
-//! Requests over sources in memory. The expected requests and refusals were made by hand.
+//! `trace_any`: requests over sources in memory. The expected requests and refusals were made by hand.
 ghost use Rattle.std.specs.Prelude.{◌≡◌, ◌≤◌, ◌^◌, None, Err, true};
 ghost use Rattle.trace_any.specs.Readings.{IsFormat};
 
-use crate::compared::{holds, same};
 use bound_io::{CalmSource, MemSource};
 use cache_rules::Object;
+use compared::{holds, same};
 use std::alloc::Global;
 use std::process::Abort;
 use trace_any::{Format, Limits, RequestReader, TraceFault, load};
@@ -282,20 +282,20 @@ fn check_answers(
 ) {
     for given in row.given {
         let [volume, id, size] = *given;
-        holds(rt, step, volume < 10);
+        holds(step, volume < 10).expect(rt, "a row");
         let volume = volume as u32;
         let object = Object { volume, id, size };
-        holds(rt, step, gives(alloc, reader, source, Ok(Some(object))));
+        holds(step, gives(alloc, reader, source, Ok(Some(object)))).expect(rt, "a row");
     }
     let ends = gives(alloc, reader, source, row.end);
     let ends_again = gives(alloc, reader, source, row.end);
-    holds(rt, step, ends && ends_again);
-    same(rt, step, reader.dropped(), row.dropped);
+    holds(step, ends && ends_again).expect(rt, "a row");
+    same(step, reader.dropped(), row.dropped).expect(rt, "a row");
 }
 
 // The answers, however the bytes are cut.
 fn check(rt: &impl Abort, alloc: Global, row: &Row<'_>) {
-    holds(rt, row.trace, is_readable(row));
+    holds(row.trace, is_readable(row)).expect(rt, "a row");
     let limits = Limits {
         requests: row.requests,
         bytes: row.bytes,
@@ -377,18 +377,18 @@ struct Part<'a> {
 }
 
 fn check_part(rt: &impl Abort, alloc: Global, part: &Part<'_>) {
-    holds(rt, part.step, part.step >= 1);
+    holds(part.step, part.step >= 1).expect(rt, "a row");
     let mut source = source_of(rt, alloc, part.trace, part.failing, part.step);
     let reader = RequestReader::new(alloc, Format::Webcache, Limits::full());
     let mut reader = reader.expect(rt, "memory");
     for want in part.first {
         let given = gives(alloc, &mut reader, &mut source, *want);
-        holds(rt, "a request", given);
+        holds("a request", given).expect(rt, "a row");
     }
     let loaded = sizes_loaded(alloc, &mut reader, &mut source);
     drop(reader);
     drop(source);
-    same(rt, "what is loaded", loaded, part.loaded);
+    same("what is loaded", loaded, part.loaded).expect(rt, "a row");
 }
 
 const SEVEN: Object = Object {
@@ -451,5 +451,5 @@ fn a_calm_source_gives_no_fault(rt: HostRuntime) {
     let mut reader = reader.expect(&rt, "memory");
     let answer = next_calmly(rt.alloc(), &mut reader, &mut source);
     drop(reader);
-    same(&rt, "a line", answer, Err(FEW));
+    same("a line", answer, Err(FEW)).expect(&rt, "a row");
 }

@@ -1,8 +1,8 @@
-//! Scores of the keeps of a few requests, counted by hand.
+//! `cache_rules`: scores of the keeps of a few requests, counted by hand.
 ghost use Rattle.std.specs.Prelude.{◌≡◌, length};
 
-use crate::compared::{holds, same};
 use cache_rules::{Builder, Object, Objective, Overfull, Terms, Trace, score, score_of_fitting};
+use compared::{holds, same};
 use std::alloc::Global;
 use std::process::Abort;
 
@@ -160,8 +160,8 @@ const ROWS: [Row<'static>; 11] = [
 fn trace_of(rt: &impl Abort, alloc: Global, requests: &[Object]) -> Trace {
     let mut builder = Builder::new(alloc).expect(rt, "memory");
     for request in requests {
-        holds(rt, *request, builder.len() < 10);
-        holds(rt, *request, request.size >= 1 && request.size <= 9);
+        holds(*request, builder.len() < 10).expect(rt, "a row");
+        holds(*request, request.size >= 1 && request.size <= 9).expect(rt, "a row");
         builder.push(*request).expect(rt, "memory");
     }
     builder.finish()
@@ -172,7 +172,7 @@ fn score_of(rt: &impl Abort, trace: &Trace, terms: Terms, keeps: &[bool]) -> Res
     requires { length keeps.now ≡ length trace.now }
 {
     let gains = score(trace, terms.capacity, terms.objective, terms.warmup, keeps)?;
-    same(rt, gains, score_of_fitting(trace, terms, keeps), gains);
+    same(gains, score_of_fitting(trace, terms, keeps), gains).expect(rt, "a row");
     Ok(gains)
 }
 
@@ -182,7 +182,7 @@ fn scores_keeps_that_fit_and_names_the_first_load_that_does_not(rt: HostRuntime)
     for row in &ROWS {
         let (name, requests, keeps, capacity, objective, warmup, answer) = *row;
         let trace = trace_of(&rt, rt.alloc(), requests);
-        holds(&rt, name, keeps.len() == trace.len() as usize);
+        holds(name, keeps.len() == trace.len() as usize).expect(&rt, "a row");
         let terms = Terms {
             objective,
             capacity,
@@ -190,6 +190,6 @@ fn scores_keeps_that_fit_and_names_the_first_load_that_does_not(rt: HostRuntime)
         };
         let scored = score_of(&rt, &trace, terms, keeps);
         drop(trace);
-        same(&rt, name, scored, answer);
+        same(name, scored, answer).expect(&rt, "a row");
     }
 }

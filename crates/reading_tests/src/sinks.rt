@@ -1,8 +1,8 @@
-//! Sinks in memory and over files.
+//! `bound_io`: sinks in memory and over files.
 ghost use Rattle.std.specs.Prelude.{◌≤◌};
 
-use crate::compared::same;
 use bound_io::{Failed, FileSink, GrowSink, MemSink, Sink, write_all};
+use compared::same;
 use std::alloc::Global;
 use std::process::Abort;
 
@@ -11,7 +11,7 @@ type Row = (&'static [u8], Result<usize, Failed>);
 
 fn write_each<K: Sink>(rt: &impl Abort, sink: &mut K, rows: &[Row]) {
     for (piece, want) in rows {
-        same(rt, *piece, sink.write(piece), *want);
+        same(*piece, sink.write(piece), *want).expect(rt, "a row");
     }
 }
 
@@ -40,8 +40,8 @@ fn a_failed_write_takes_nothing_and_a_full_sink_fails(rt: HostRuntime) {
     let mut sink = sink_of(&rt, rt.alloc(), 7, 2, 3);
     write_each(&rt, &mut sink, &INTO_SEVEN_BYTES);
     let want = b"abcdefg".as_slice();
-    same(&rt, "written", sink.written(), want);
-    same(&rt, "the bytes", sink.into_bytes().as_slice(), want);
+    same("written", sink.written(), want).expect(&rt, "a row");
+    same("the bytes", sink.into_bytes().as_slice(), want).expect(&rt, "a row");
 }
 
 const WHOLE: [Row; 3] = [(b"two ", Ok(4)), (b"", Ok(0)), (b"pieces", Ok(6))];
@@ -51,7 +51,7 @@ fn keeps_each_piece_whole(rt: HostRuntime) {
     let mut sink = GrowSink::new(rt.alloc());
     write_each(&rt, &mut sink, &WHOLE);
     let bytes = sink.into_bytes();
-    same(&rt, "the bytes", bytes.as_slice(), b"two pieces".as_slice());
+    same("the bytes", bytes.as_slice(), b"two pieces".as_slice()).expect(&rt, "a row");
 }
 
 #[test]
@@ -92,7 +92,7 @@ fn write_both(rt: &impl Abort, alloc: Global, row: &BothRow) -> ([bool; 2], Vec<
 fn writes_all_or_stops_at_the_first_fault_and_goes_on_after_it(rt: HostRuntime) {
     for (place, row) in BOTH.iter().enumerate() {
         let (whole, bytes) = write_both(&rt, rt.alloc(), row);
-        same(&rt, place, whole, row.4);
-        same(&rt, place, bytes.as_slice(), row.5);
+        same(place, whole, row.4).expect(&rt, "a row");
+        same(place, bytes.as_slice(), row.5).expect(&rt, "a row");
     }
 }

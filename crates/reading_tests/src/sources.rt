@@ -1,8 +1,8 @@
-//! Sources in memory and over files.
-use crate::compared::{holds, same};
+//! `bound_io`: sources in memory and over files.
 use bound_io::{
     CalmSource, Failed, FileSink, FileSource, LineReader, MemSource, Sink, Source, write_all,
 };
+use compared::{holds, same};
 use std::alloc::Global;
 use std::fs;
 use std::process::Abort;
@@ -13,11 +13,11 @@ type Row = (&'static [u8], Result<usize, Failed>);
 
 // Reads into a buffer of so many bytes.
 fn read_each<S: Source>(rt: &impl Abort, source: &mut S, room: usize, rows: &[Row]) {
-    holds(rt, room, room <= 5);
+    holds(room, room <= 5).expect(rt, "a row");
     for (prefix, want) in rows {
         let mut buf = [0; 5];
-        same(rt, *prefix, source.read(&mut buf[..room]), *want);
-        holds(rt, *prefix, buf.starts_with(prefix));
+        same(*prefix, source.read(&mut buf[..room]), *want).expect(rt, "a row");
+        holds(*prefix, buf.starts_with(prefix)).expect(rt, "a row");
     }
 }
 
@@ -93,7 +93,7 @@ fn check_lines<R: Files + Input + Abort>(
     let mut source = FileSource::new(rt, alloc, path).expect(rt, "memory");
     let mut lines = LineReader::new(alloc, 100).expect(rt, "memory");
     for (place, want) in wants.iter().enumerate() {
-        holds(rt, place, gives(&mut lines, &mut source, *want));
+        holds(place, gives(&mut lines, &mut source, *want)).expect(rt, "a row");
     }
     drop(lines);
 }
@@ -105,19 +105,19 @@ const LINES: [Option<&[u8]>; 3] = [Some(b"one line"), Some(b"and one"), None];
 #[test]
 fn reads_what_was_written(rt: HostRuntime) {
     let older = fs::write(&rt, PATH, b"an older and longer text".as_slice());
-    holds(&rt, "an older file", older.is_ok());
+    holds("an older file", older.is_ok()).expect(&rt, "a row");
     let written = write_file(&rt, rt.alloc(), PATH, &[b"one line\n", b"and one"]);
-    same(&rt, "the file", written, Ok(()));
+    same("the file", written, Ok(())).expect(&rt, "a row");
     check_lines(&rt, rt.alloc(), PATH, &LINES);
-    holds(&rt, "its removal", fs::remove_file(&rt, PATH).is_ok());
+    holds("its removal", fs::remove_file(&rt, PATH).is_ok()).expect(&rt, "a row");
 }
 
 #[test]
 fn a_missing_file_and_a_folder_are_faults(rt: HostRuntime) {
     for path in ["no_such_folder/no_such_file", "."] {
         let read = read_file(&rt, rt.alloc(), path);
-        same(&rt, path, read, Err(Failed));
+        same(path, read, Err(Failed)).expect(&rt, "a row");
         let written = write_file(&rt, rt.alloc(), path, &[b"x"]);
-        same(&rt, path, written, Err(Failed));
+        same(path, written, Err(Failed)).expect(&rt, "a row");
     }
 }

@@ -1,10 +1,10 @@
-//! Texts against lines that were written by hand.
-use crate::compared::same;
+//! `bound_report`: texts against lines that were written by hand.
 use bound_report::{
     BoundFacts, InvalidKind, LimitName, Mode, Refusal, Verdict, Window, WordKind, refusal_text,
     report_text, verdict_text,
 };
 use cache_model::{Header, Objective};
+use compared::same;
 use trace_lines::LineKind;
 
 const HEADER: Header = Header {
@@ -63,7 +63,7 @@ fn reports_each_mode(rt: HostRuntime) {
             intervals: 1,
         };
         let text = report_text(rt.alloc(), &facts).expect(&rt, "memory");
-        same(&rt, row, text.as_slice(), *want);
+        same(row, text.as_slice(), *want).expect(&rt, "a row");
     }
 }
 
@@ -76,7 +76,7 @@ fn says_yes_in_eight_lines(rt: HostRuntime) {
     let text = verdict_text(rt.alloc(), &verdict, 6).expect(&rt, "memory");
     let want = b"trace requests 4 objects 2 dropped 6\ncapacity 7 objective bytes\nform exact\n\
 unit 2 units 3 denominator 3\nupper 14/3 floor 4\nflow 13/3\nlower 4\nvalid\n";
-    same(&rt, "a verdict", text.as_slice(), want.as_slice());
+    same("a verdict", text.as_slice(), want.as_slice()).expect(&rt, "a row");
 }
 
 const INVALID: [(InvalidKind, &[u8]); 6] = [
@@ -113,7 +113,7 @@ fn names_what_makes_a_certificate_invalid(rt: HostRuntime) {
             line: 7,
             kind: *kind,
         });
-        same(&rt, row, text.as_bytes(), *want);
+        same(row, text.as_bytes(), *want).expect(&rt, "a row");
     }
 }
 
@@ -153,6 +153,6 @@ const OTHERS: [(Refusal, &[u8]); 8] = [
 fn refuses_in_one_line(rt: HostRuntime) {
     for (row, (refusal, want)) in OTHERS.iter().enumerate() {
         let text = refusal_text(refusal);
-        same(&rt, row, text.as_bytes(), *want);
+        same(row, text.as_bytes(), *want).expect(&rt, "a row");
     }
 }

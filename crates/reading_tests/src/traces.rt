@@ -1,6 +1,6 @@
-//! A trace of a few requests, counted by hand.
-use crate::compared::{holds, same};
+//! `cache_rules`: a trace of a few requests, counted by hand.
 use cache_rules::{Builder, Object, Trace};
+use compared::{holds, same};
 use std::alloc::Global;
 use std::process::Abort;
 
@@ -32,10 +32,10 @@ const D: Object = Object {
 // Adds a request, where memory is wanted at the second try.
 fn add(rt: &impl Abort, builder: &mut Builder, object: Object) {
     let before = builder.len();
-    holds(rt, before, before < 10);
-    holds(rt, before, object.size == 10 || object.size == 11);
+    holds(before, before < 10).expect(rt, "a row");
+    holds(before, object.size == 10 || object.size == 11).expect(rt, "a row");
     if builder.push(object).is_err() {
-        same(rt, "after a failed push", builder.len(), before);
+        same("after a failed push", builder.len(), before).expect(rt, "a row");
         builder.push(object).expect(rt, "memory");
     }
 }
@@ -43,11 +43,11 @@ fn add(rt: &impl Abort, builder: &mut Builder, object: Object) {
 // The trace of the requests.
 fn trace_of(rt: &impl Abort, alloc: Global, objects: &[Object]) -> Trace {
     let mut builder = Builder::new(alloc).expect(rt, "memory");
-    same(rt, "at first", builder.len(), 0);
+    same("at first", builder.len(), 0).expect(rt, "a row");
     for object in objects {
         add(rt, &mut builder, *object);
     }
-    same(rt, "at last", builder.len() as usize, objects.len());
+    same("at last", builder.len() as usize, objects.len()).expect(rt, "a row");
     builder.finish()
 }
 
@@ -70,12 +70,12 @@ const REQUESTS: [(u32, Option<u32>, Option<u32>); 7] = [
 #[test]
 fn names_each_object_and_its_nearest_requests(rt: HostRuntime) {
     let trace = trace_of(&rt, rt.alloc(), &TRACE);
-    same(&rt, "counts", (trace.len(), trace.objects()), (7, 4));
+    same("counts", (trace.len(), trace.objects()), (7, 4)).expect(&rt, "a row");
     for (t, want) in REQUESTS.iter().enumerate() {
         let t = t as u32;
-        holds(&rt, t, t < trace.len());
+        holds(t, t < trace.len()).expect(&rt, "a row");
         let found = (trace.request(t), trace.prev(t), trace.next(t));
-        same(&rt, t, found, *want);
+        same(t, found, *want).expect(&rt, "a row");
     }
     drop(trace);
 }
@@ -85,9 +85,9 @@ fn gives_each_object_and_its_size(rt: HostRuntime) {
     let trace = trace_of(&rt, rt.alloc(), &TRACE);
     for (number, object) in OBJECTS.iter().enumerate() {
         let number = number as u32;
-        holds(&rt, number, number < trace.objects());
+        holds(number, number < trace.objects()).expect(&rt, "a row");
         let found = (trace.object(number), trace.size_of(number));
-        same(&rt, number, found, (*object, object.size));
+        same(number, found, (*object, object.size)).expect(&rt, "a row");
     }
     drop(trace);
 }

@@ -1,5 +1,5 @@
-//! Lines of webcache traces, read by hand.
-use crate::compared::same;
+//! `trace_webcache`: lines of webcache traces, read by hand.
+use compared::same;
 use trace_lines::{LineKind, Span};
 use trace_webcache::parse;
 
@@ -58,6 +58,6 @@ const ROWS: [(&[u8], Answer); 27] = [
 #[test]
 fn gives_an_id_and_a_size_or_the_first_fault(rt: HostRuntime) {
     for (line, want) in &ROWS {
-        same(&rt, *line, parse(line), *want);
+        same(*line, parse(line), *want).expect(&rt, "a row");
     }
 }

@@ -1,5 +1,5 @@
-//! Words and fields of lines, taken apart by hand.
-use crate::compared::{holds, same};
+//! `trace_lines`: words and fields of lines, taken apart by hand.
+use compared::{holds, same};
 use trace_lines::{field, first_field, first_word, is_blank, trim_cr, word};
 
 // The field with that number where the mark is a comma, else the word.
@@ -38,7 +38,7 @@ const FOUND: [(u8, &[u8], usize, &[u8]); 18] = [
 fn finds_fields_and_words_by_number(rt: HostRuntime) {
     for (mark, line, number, found) in &FOUND {
         let part = part(*mark, line, *number);
-        same(&rt, *line, part, Some(*found));
+        same(*line, part, Some(*found)).expect(&rt, "a row");
     }
 }
 
@@ -55,8 +55,8 @@ const MISSING: [(u8, &[u8], usize); 7] = [
 #[test]
 fn finds_no_field_or_word_past_the_last(rt: HostRuntime) {
     for (mark, line, number) in &MISSING {
-        holds(&rt, *line, *number >= 1);
-        holds(&rt, *line, part(*mark, line, *number).is_none());
+        holds(*line, *number >= 1).expect(&rt, "a row");
+        holds(*line, part(*mark, line, *number).is_none()).expect(&rt, "a row");
     }
 }
 
@@ -71,7 +71,7 @@ const FIRST_FIELDS: [(&[u8], &[u8], &[u8]); 5] = [
 #[test]
 fn takes_the_first_field_off(rt: HostRuntime) {
     for (line, first, rest) in &FIRST_FIELDS {
-        same(&rt, *line, first_field(line), (*first, Some(*rest)));
+        same(*line, first_field(line), (*first, Some(*rest))).expect(&rt, "a row");
     }
 }
 
@@ -80,7 +80,7 @@ const ONE_FIELD: [&[u8]; 2] = [b"12", b""];
 #[test]
 fn leaves_nothing_after_the_last_field(rt: HostRuntime) {
     for line in &ONE_FIELD {
-        same(&rt, *line, first_field(line), (*line, None));
+        same(*line, first_field(line), (*line, None)).expect(&rt, "a row");
     }
 }
 
@@ -95,7 +95,7 @@ const FIRST_WORDS: [(&[u8], &[u8], &[u8]); 5] = [
 #[test]
 fn takes_the_first_word_off(rt: HostRuntime) {
     for (line, first, rest) in &FIRST_WORDS {
-        same(&rt, *line, first_word(line), Some((*first, *rest)));
+        same(*line, first_word(line), Some((*first, *rest))).expect(&rt, "a row");
     }
 }
 
@@ -114,7 +114,7 @@ const BLANKS: [(&[u8], bool); 8] = [
 fn knows_a_blank_line_which_has_no_first_word(rt: HostRuntime) {
     for (line, blank) in &BLANKS {
         let found = (is_blank(line), first_word(line).is_none());
-        same(&rt, *line, found, (*blank, *blank));
+        same(*line, found, (*blank, *blank)).expect(&rt, "a row");
     }
 }
 
@@ -131,6 +131,6 @@ const TRIMMED: [(&[u8], &[u8]); 7] = [
 #[test]
 fn drops_one_last_cr(rt: HostRuntime) {
     for (line, text) in &TRIMMED {
-        same(&rt, *line, trim_cr(line), *text);
+        same(*line, trim_cr(line), *text).expect(&rt, "a row");
     }
 }
