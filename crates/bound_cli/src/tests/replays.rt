@@ -1,6 +1,6 @@
 //! Replays: their reports, and how they end. The hits were counted by hand.
 use super::{CYCLE_TRACE, Device, GOOD, Row, check_all, check_reads, check_report_writes};
-use bound_report::{LimitName, WordKind};
+use bound_report::WordKind;
 use bound_run::{Status, WordFault};
 use trace_lines::LineKind;
 
@@ -78,7 +78,7 @@ fn replays_report_their_hits(rt: HostRuntime) {
     check_all(&rt, rt.alloc(), &REPLAYS);
 }
 
-const REFUSED: [Row<'static>; 3] = [
+const REFUSED: [Row<'static>; 2] = [
     Row {
         shows: "a replay has one path",
         words: "replay",
@@ -97,14 +97,6 @@ const REFUSED: [Row<'static>; 3] = [
             kind: LineKind::BadNumber { word: 2 },
         },
         report: b"bad line 2: number in word 2\n",
-        ..LRU
-    },
-    Row {
-        shows: "too many requests",
-        words: "replay t format=arc capacity=512 policy=fifo",
-        trace: b"0 33554433\n",
-        status: Status::Limit(LimitName::Requests),
-        report: b"limit: requests 33554432\n",
         ..LRU
     },
 ];

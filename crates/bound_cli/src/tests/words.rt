@@ -1,6 +1,6 @@
 //! The words of the command line, in rows.
 use super::*;
-use bound_report::{Mode, WordKind};
+use bound_report::{Mode, PolicyName, WordKind};
 use bound_run::{Paths, Plan, WordFault, paths_of, plan_of};
 use cache_rules::Objective;
 use plans::TAKEN;
@@ -104,6 +104,59 @@ fn a_check_takes_the_form_of_the_trace(rt: HostRuntime) {
     }
 }
 
+// Words of a replay, and its policy, capacity and warm-up.
+const REPLAYS: [(&str, PolicyName, u64, u32); 6] = [
+    (
+        "replay t format=arc capacity=1 policy=lru",
+        PolicyName::Lru,
+        1,
+        0,
+    ),
+    (
+        "replay - policy=fifo format=arc capacity=2",
+        PolicyName::Fifo,
+        2,
+        0,
+    ),
+    (
+        "replay t warmup=0 format=arc capacity=1 policy=clock",
+        PolicyName::Clock,
+        1,
+        0,
+    ),
+    (
+        "replay t format=arc warmup=33554432 capacity=1 policy=lfu",
+        PolicyName::Lfu,
+        1,
+        1 << 25,
+    ),
+    (
+        "replay t format=arc capacity=72057594037927936 policy=belady",
+        PolicyName::Belady,
+        1 << 56,
+        0,
+    ),
+    (
+        "replay capacity=1 format=arc capacity=3 policy=lru warmup=01",
+        PolicyName::Lru,
+        3,
+        1,
+    ),
+];
+
+#[test]
+fn a_replay_takes_a_policy_and_a_warmup(rt: HostRuntime) {
+    for (text, policy, capacity, warmup) in &REPLAYS {
+        let plan = Plan::Replay {
+            format: Format::Arc,
+            capacity: *capacity,
+            policy: *policy,
+            warmup: *warmup,
+        };
+        check_plan(&rt, rt.alloc(), text, Ok(plan));
+    }
+}
+
 const NO_PATHS: Paths<'static> = Paths {
     trace: "-",
     cert: "-",
@@ -111,12 +164,13 @@ const NO_PATHS: Paths<'static> = Paths {
 };
 
 // Words, and the paths of the trace, the certificate and what is made.
-const PATHS: [(&str, [&str; 3]); 7] = [
+const PATHS: [(&str, [&str; 3]); 8] = [
     ("bounds t c", ["t", "c", "c"]),
     ("check t c", ["t", "c", "-"]),
     ("check t", ["t", "-", "-"]),
     ("bounds", ["-"; 3]),
-    ("replay t c", ["-"; 3]),
+    ("replay t c", ["t", "-", "-"]),
+    ("demo t c", ["-"; 3]),
     ("", ["-"; 3]),
     (" t c", ["-"; 3]),
 ];

@@ -10,12 +10,12 @@ pub(super) const TWICE: WordKind = WordKind::Twice;
 pub(super) const BAD_VALUE: WordKind = WordKind::BadValue;
 
 // The place and the kind of the first fault, and words that have it, a command on each line.
-pub(super) const REFUSED: [(u64, WordKind, &str); 20] = [
+pub(super) const REFUSED: [(u64, WordKind, &str); 21] = [
     (1, MISSING, ""),
     (
         1,
         UNKNOWN,
-        "replay\n\
+        "demo\n\
 Bounds t c\n\
 format=webcache capacity=2 mode=infinite\n t c",
     ),
@@ -23,20 +23,37 @@ format=webcache capacity=2 mode=infinite\n t c",
         2,
         MISSING,
         "check\n\
+replay\n\
 bounds",
     ),
     (
         2,
         BAD_VALUE,
         "bounds \n\
+replay \n\
 bounds  \n\
 bounds  c more",
     ),
-    (3, MISSING, "bounds t"),
+    (
+        3,
+        MISSING,
+        "replay t\n\
+bounds t",
+    ),
+    (
+        3,
+        UNKNOWN,
+        "replay t objective=bytes\n\
+replay t window=3\n\
+replay t c",
+    ),
     (
         3,
         BAD_VALUE,
         "check t \n\
+replay t policy=mru\n\
+replay t warmup=33554433\n\
+replay t capacity=0\n\
 check - - format=webcache\n\
 bounds t \n\
 bounds t  more",
@@ -45,13 +62,16 @@ bounds t  more",
         4,
         MISSING,
         "check t c\n\
+replay t format=arc\n\
+replay t policy=lru\n\
 check - -\n\
 bounds t c",
     ),
     (
         4,
         UNKNOWN,
-        "bounds t c block=512 format=arc capacity=1 mode=infinite\n\
+        "replay t format=arc mode=flow\n\
+bounds t c block=512 format=arc capacity=1 mode=infinite\n\
 bounds t c block=512 format=webcache\n\
 bounds t c block\n\
 check t c mode=infinite\n\
