@@ -5,8 +5,8 @@ ghost use Rattle.std.specs.Prelude.{◌≤◌};
 
 use bound_io::{CalmSource, MemSink, MemSource};
 use bound_run::{Status, run};
+use compared::{holds, same};
 use std::alloc::Global;
-use std::fmt::Debug;
 use std::process::Abort;
 
 mod checks;
@@ -110,22 +110,6 @@ denominator 1\nform plain\nupper 0\nflow 0\nlower 0\nrecords\nend\n",
     },
 ];
 
-// Compares what was found with what is wanted. A comparison in a test's own body would be proved there anew, with the
-// text that it prints.
-fn same<P: Copy + Debug, T: Copy + Debug + PartialEq>(
-    rt: &impl Abort,
-    shows: P,
-    found: T,
-    want: T,
-) {
-    assert_eq!(rt; found, want, "{shows:?}");
-}
-
-// Expects what is to hold.
-fn holds(rt: &impl Abort, shows: &str, is_so: bool) {
-    assert!(rt; is_so, "{shows}");
-}
-
 // The words of a text, with one space between them, of which one may be empty. An empty text has none.
 fn words_of(rt: &impl Abort, alloc: Global, text: &str) -> Vec<String> {
     let mut words = Vec::new(alloc);
@@ -218,9 +202,9 @@ fn check_at(rt: &impl Abort, alloc: Global, row: &Row<'_>, step: usize)
     requires { 1 ≤ step }
 {
     let ended = row.run_at(rt, alloc, step);
-    same(rt, row.shows, ended.status, row.status);
-    same(rt, row.shows, ended.report.as_slice(), row.report);
-    same(rt, row.shows, ended.made.as_slice(), row.made);
+    same(row.shows, ended.status, row.status).expect(rt, "a row");
+    same(row.shows, ended.report.as_slice(), row.report).expect(rt, "a row");
+    same(row.shows, ended.made.as_slice(), row.made).expect(rt, "a row");
     drop(ended);
 }
 
@@ -252,7 +236,7 @@ fn check_report_writes(rt: &impl Abort, alloc: Global, row: &Row<'_>) {
 // What comes of a run that is to end well.
 fn done(rt: &impl Abort, alloc: Global, row: &Row<'_>) -> Ended {
     let ended = row.run_at(rt, alloc, 4096);
-    same(rt, row.shows, ended.status, Status::Done);
+    same(row.shows, ended.status, Status::Done).expect(rt, "a row");
     ended
 }
 
@@ -265,8 +249,8 @@ fn expect_yes<'x>(rt: &impl Abort, alloc: Global, words: &'x str, trace: &'x [u8
         ..GOOD
     };
     let ended = done(rt, alloc, &row);
-    holds(rt, words, ended.report.ends_with(b"\nvalid\n"));
-    holds(rt, words, ended.made.is_empty());
+    holds(words, ended.report.ends_with(b"\nvalid\n")).expect(rt, "a row");
+    holds(words, ended.made.is_empty()).expect(rt, "a row");
     drop(ended);
 }
 

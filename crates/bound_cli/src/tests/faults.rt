@@ -116,8 +116,8 @@ fn a_calm_source_gives_no_fault(rt: HostRuntime) {
     let mut report = MemSink::new(alloc, 4096, Vec::new(alloc), 7).expect(&rt, "memory");
     let mut made = MemSink::new(alloc, 4096, Vec::new(alloc), 1).expect(&rt, "memory");
     let status = run_over_calm(alloc, &words, &mut trace, &mut cert, &mut report, &mut made);
-    same(&rt, "the status", status, Status::Done);
-    same(&rt, "the certificate", made.written(), PAIR_CERT);
+    same("the status", status, Status::Done).expect(&rt, "a row");
+    same("the certificate", made.written(), PAIR_CERT).expect(&rt, "a row");
     drop(made);
     drop(report);
 }

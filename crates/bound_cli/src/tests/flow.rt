@@ -126,11 +126,11 @@ const ROWS: [FlowRow<'static>; 15] = [
 ];
 
 fn check_report(rt: &impl Abort, row: &FlowRow<'_>, report: &[u8]) {
-    holds(rt, row.shows, report.starts_with(row.begins));
-    holds(rt, row.shows, report.ends_with(row.ends));
+    holds(row.shows, report.starts_with(row.begins)).expect(rt, "a row");
+    holds(row.shows, report.ends_with(row.ends)).expect(rt, "a row");
     let is_free = row.ends.starts_with(b"lower");
     let shown = row.begins.len() as u64 + row.ends.len() as u64;
-    holds(rt, row.shows, is_free || report.len() as u64 == shown);
+    holds(row.shows, is_free || report.len() as u64 == shown).expect(rt, "a row");
 }
 
 // Runs the row, and checks the certificate that it makes.

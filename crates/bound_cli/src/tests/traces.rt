@@ -193,7 +193,7 @@ fn check_long(rt: &impl Abort, alloc: Global, bytes: usize, step: usize, status:
         ..GOOD
     };
     let ended = row.run_at(rt, alloc, step);
-    same(rt, (bytes, step), ended.status, status);
+    same((bytes, step), ended.status, status).expect(rt, "a row");
     drop(ended);
 }
 

@@ -13,7 +13,7 @@ mod refusals;
 
 fn check_plan(rt: &impl Abort, alloc: Global, text: &str, wanted: Result<Plan, WordFault>) {
     let words = words_of(rt, alloc, text);
-    same(rt, text, plan_of(&words), wanted);
+    same(text, plan_of(&words), wanted).expect(rt, "a row");
 }
 
 #[test]
@@ -178,7 +178,7 @@ const PATHS: [(&str, [&str; 3]); 8] = [
 fn check_paths(rt: &impl Abort, alloc: Global, text: &str, paths: [&str; 3]) {
     let words = words_of(rt, alloc, text);
     let [trace, cert, made] = paths;
-    holds(rt, text, paths_of(&words) == Paths { trace, cert, made });
+    holds(text, paths_of(&words) == Paths { trace, cert, made }).expect(rt, "a row");
 }
 
 #[test]
@@ -197,6 +197,6 @@ fn one_empty_word_is_no_command(rt: HostRuntime) {
         place: 1,
         kind: WordKind::Unknown,
     };
-    same(&rt, "its plan", plan_of(&words), Err(fault));
-    holds(&rt, "its paths", paths_of(&words) == NO_PATHS);
+    same("its plan", plan_of(&words), Err(fault)).expect(&rt, "a row");
+    holds("its paths", paths_of(&words) == NO_PATHS).expect(&rt, "a row");
 }
