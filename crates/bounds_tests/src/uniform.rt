@@ -119,7 +119,7 @@ fn instance_of(
     let mut arcs = Vec::new(alloc);
     for row in rows {
         let [start, end, weight, cost] = *row;
-        holds(rt, *row, start < 100 && end < 100);
+        holds(*row, start < 100 && end < 100).expect(rt, "a row");
         let arc = OuterArc {
             start: start as u32,
             end: end as u32,
@@ -129,11 +129,10 @@ fn instance_of(
         arcs.push(arc).expect(rt, "memory");
     }
     holds(
-        rt,
         steps,
         steps < 100 && arcs.len() < 100 && all_fit(steps, &arcs),
-    );
-    holds(rt, units, units > 0 && units < 100);
+    ).expect(rt, "a row");
+    holds(units, units > 0 && units < 100).expect(rt, "a row");
     Instance::from_arcs(alloc, steps, units, &arcs).expect(rt, "memory")
 }
 
@@ -189,8 +188,8 @@ fn solve_both(rt: &impl Abort, alloc: Global, name: &str, instance: &Instance) -
         let solver = Solver::new(alloc, instance).expect(rt, "memory");
         values(instance, &solver.solve())
     };
-    same(rt, name, alone, by_paths);
-    same(rt, name, alone[0], alone[1]);
+    same(name, alone, by_paths).expect(rt, "a row");
+    same(name, alone[0], alone[1]).expect(rt, "a row");
     Some(alone[0])
 }
 

@@ -164,7 +164,7 @@ fn value_of(rt: &impl Abort, intervals: &Intervals, flows: &[u64]) -> Result<u12
     requires { length flows.now ≡ length intervals.now.items }
 {
     let value = flow_value(intervals, 1, 4, 6, flows)?;
-    same(rt, value, value_of_schedule(intervals, 1, 6, flows), value);
+    same(value, value_of_schedule(intervals, 1, 6, flows), value).expect(rt, "a row");
     Ok(value)
 }
 
