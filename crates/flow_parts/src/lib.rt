@@ -1,7 +1,8 @@
-//! What the solvers of the flow on a chain share: a heap of ranked keys, a queue of nodes by their distances, and the lists of
-//! arcs by their ends.
+//! What the solvers of the flow on a chain share: a heap of ranked keys, a queue of nodes by their distances, and the
+//! lists of arcs by their ends.
 //!
-//! Each takes its memory at once, so that a solver takes none while it solves.
+//! The rule of the heap is "Map of ranks" in docs/DEFINITIONS.md. Each takes its memory at once, so that a solver takes
+//! none while it solves.
 #![tactic(auto)]
 
 mod heap;

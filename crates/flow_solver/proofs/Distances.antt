@@ -1,16 +1,15 @@
 -- Searches: how one begins, and what it keeps where a node is found nearer.
-use Rattle.std.proofs.Common.{◌≡◌, ◌≢◌, ℕ, suc, zero, ◌+◌, ◌-◌, ◌/◌, ◌<◌, ◌≤◌, ◌∙◌, sym, refl, ap, subst, cond, ◌==◌, List, length, arith, ⊎_elim, get_or, set, sum, length-set, get_or-set_same, get_or-set_other}
+use Rattle.std.proofs.Common.{◌≡◌, ◌≢◌, ℕ, suc, zero, ◌+◌, ◌<◌, ◌≤◌, ◌∙◌, sym, refl, ap, subst, cond, ◌==◌, List, length, arith, ⊎_elim, get_or, set, sum, length-set, get_or-set_same, get_or-set_other}
 use Rattle.std.proofs.lemmas.Bool.{cases_eq, cases_lt, eq-eqb, ne_eqb}
 use Rattle.std.proofs.lemmas.List.Sums.{sum_by-set}
 use Rattle.flow_model.specs.declared.edges.Edge.{Edge}
-use Rattle.flow_model.specs.declared.edges.Edge.TheVariants.{Inner, InnerBack, Outer, OuterBack}
-use Rattle.flow_model.specs.Instances.{Instance, IsInstance, no_arc}
+use Rattle.flow_model.specs.declared.edges.Edge.TheVariants.{Inner}
 use Rattle.flow_model.specs.Networks.{tail, head, gain, residual, IsEdge}
 use Rattle.flow_model.specs.Pushes.{edge_at}
 use Rattle.flow_network.specs.States.{State}
 use Rattle.flow_model.proofs.Lists.{set_at}
 use Rattle.flow_parts.proofs.EdgeLists.{ends_within}
-use Rattle.flow_parts.specs.Queues.{Waiting, IsQueue, IsQueueBut, Leaves}
+use Rattle.flow_parts.specs.Queues.{IsQueue, Leaves}
 use Rattle.flow_solver.specs.Searches.{Found, Rests, IsReady, IsParent, IsTree, IsSearch, IsSettled, AreSettled, Enters, Nears, at_tail, far, limit_of}
 
 -- no potential is above the first
