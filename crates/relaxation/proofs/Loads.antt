@@ -16,7 +16,7 @@ use Rattle.cache_model.specs.Schedules.{IsFractionalSchedule}
 use Rattle.cache_model.specs.Units.{weight}
 use Rattle.interval_maker.specs.Timelines.{Timeline, IsInterval, IsTimeline, starting_at, ending_at, no_interval}
 use Rattle.relaxation.specs.declared.flows.FlowFault.TheVariants.{AboveWeight, Overfull}
-use Rattle.relaxation.specs.Faults.{HasNoFault, amount_of, fault_from, load_fault, weight_at}
+use Rattle.relaxation.specs.Faults.{amount_of, fault_at, fault_from, load_fault, weight_at}
 
 -- the flows of the intervals whose key is t, summed
 abbrev pub flow_with : (Interval → ℕ) → List Interval → List ℕ → ℕ → ℕ
@@ -214,7 +214,11 @@ nothing_past (i ∷ intervals) (f ∷ flows) t past =
       nothing_past intervals flows t (All-tail (λ j. j.end < t) i intervals past),
     )
 
--- where nothing fails at any step, the flows are a schedule
+-- nothing fails at any step
+abbrev HasNoFault : Timeline → ℕ → ℕ → List ℕ → Type 0
+HasNoFault line unit units flows = (t : ℕ) → t < line.steps → fault_at line.items unit units flows t ≡ None
+
+-- if nothing fails at any step, the flows are a schedule
 pub schedule_of_no_fault : (line : Timeline) (unit units : ℕ) (flows : List ℕ) → IsTimeline line → length flows ≡ length line.items → HasNoFault line unit units flows
     → IsFractionalSchedule line.items unit units flows
 schedule_of_no_fault line unit units flows is_line each none = record {

@@ -32,10 +32,6 @@ fault_from intervals unit units flows t (Some n) =
 abbrev pub fault_at : List Interval → ℕ → ℕ → List ℕ → ℕ → Option FlowFault
 fault_at intervals unit units flows t = fault_from intervals unit units flows t (starting_at intervals t)
 
--- nothing fails at any step
-abbrev pub HasNoFault : Timeline → ℕ → ℕ → List ℕ → Type 0
-HasNoFault line unit units flows = (t : ℕ) → t < line.steps → fault_at line.items unit units flows t ≡ None
-
 -- this fails at some step, and nothing at a step before it
 pub record IsFirstFault (line : Timeline) (unit units : ℕ) (flows : List ℕ) (fault : FlowFault) : Type 0 where
   pub step : ℕ
