@@ -1,7 +1,7 @@
 //! Reading the lines before the records.
 ghost use Rattle.std.specs.Prelude.{◌≡◌, ◌+◌, ◌<◌, ◌≤◌, ◌^◌, None, IfOk, if◌then◌else◌};
 ghost use Rattle.bound_io.specs.Lines.{first_text};
-ghost use Rattle.bound_io.specs.Devices.{device};
+ghost use Rattle.bound_io.specs.Devices.{seen};
 ghost use Rattle.cache_model.specs.Certificates.{IsHeaderInRange};
 ghost use Rattle.cache_model.specs.Texts.{first_line};
 ghost use Rattle.cert_format.specs.Grammar.{count_slots, fixed_line, number_at, value_slots};
@@ -38,7 +38,7 @@ fn read_first<S: Source>(lines: &mut LineReader, source: &mut S) -> Result<(), C
     requires limit { lines.old.limit ≡ 2 ^ 36 }
     requires few { lines.old.line < 2 ^ 26 }
     requires no_fault { lines.old.fault ≡ None }
-    ensures { Reads (first_fault (lines.old.line + 1) (fixed_line first_line)) 1 (λ _. tt) lines.old lines.new (device (S.left source.old) (S.left source.new) (S.faults source.old) (S.faults source.new)) result }
+    ensures { Reads (first_fault (lines.old.line + 1) (fixed_line first_line)) 1 (λ _. tt) lines.old lines.new (seen S.left S.faults source.old source.new) result }
 {
     read_fixed(lines, source, first_line().as_bytes())
 }
@@ -48,7 +48,7 @@ fn read_counts<S: Source>(lines: &mut LineReader, source: &mut S) -> Result<Coun
     requires few { lines.old.line + 4 < 2 ^ 26 }
     requires no_fault { lines.old.fault ≡ None }
     ensures range { IfOk result IsCountsInRange }
-    ensures read { Reads (λ bytes. lines_fault (lines.old.line + 1) (count_slots (number_at 1 (first_text bytes))) bytes) 4 counts_in lines.old lines.new (device (S.left source.old) (S.left source.new) (S.faults source.old) (S.faults source.new)) result }
+    ensures read { Reads (λ bytes. lines_fault (lines.old.line + 1) (count_slots (number_at 1 (first_text bytes))) bytes) 4 counts_in lines.old lines.new (seen S.left S.faults source.old source.new) result }
 {
     let capacity = read_number(lines, source, b"capacity", 1, 1 << 56)?;
     let requests = read_number(lines, source, b"requests", 0, 1 << 25)?;
@@ -67,7 +67,7 @@ fn read_values<S: Source>(lines: &mut LineReader, source: &mut S) -> Result<Valu
     requires few { lines.old.line + 3 < 2 ^ 26 }
     requires no_fault { lines.old.fault ≡ None }
     ensures range { IfOk result IsValuesInRange }
-    ensures read { Reads (lines_fault (lines.old.line + 1) value_slots) 3 values_in lines.old lines.new (device (S.left source.old) (S.left source.new) (S.faults source.old) (S.faults source.new)) result }
+    ensures read { Reads (lines_fault (lines.old.line + 1) value_slots) 3 values_in lines.old lines.new (seen S.left S.faults source.old source.new) result }
 {
     let most = (1 << 127) - 1;
     Ok(Values {
@@ -93,7 +93,7 @@ pub fn read_header<S: Source>(lines: &mut LineReader, source: &mut S) -> Result<
     requires first { lines.old.line ≡ 0 }
     requires no_fault { lines.old.fault ≡ None }
     ensures range { IfOk result IsHeaderInRange }
-    ensures read { Reads header_fault (lines_read result) header_in lines.old lines.new (device (S.left source.old) (S.left source.new) (S.faults source.old) (S.faults source.new)) result }
+    ensures read { Reads header_fault (lines_read result) header_in lines.old lines.new (seen S.left S.faults source.old source.new) result }
 {
     read_first(lines, source)?;
     let of_objects = read_choice(lines, source, b"objective", b"object", b"bytes")?;

@@ -2,7 +2,7 @@
 ghost use Rattle.std.specs.Prelude.{◌≡◌, ◌+◌, ◌<◌, ◌≤◌, ◌^◌, ◌∷◌, [], codes, length, None, Ok, Err, IfOk, MatchResult};
 ghost use Rattle.std.specs.Str.{bytes_eq};
 ghost use Rattle.bound_io.specs.Lines.{first_text};
-ghost use Rattle.bound_io.specs.Devices.{device};
+ghost use Rattle.bound_io.specs.Devices.{seen};
 ghost use Rattle.cache_model.specs.Certificates.{IsRecordInRange};
 ghost use Rattle.cert_format.specs.Grammar.{choice_line, fixed_line, number_at, number_line, record_slots, word_at};
 ghost use Rattle.cert_format.specs.Lines.{Reads, nothing_given, of_line, text_given};
@@ -62,7 +62,7 @@ pub fn read_fixed<S: Source>(
     requires few { lines.old.line < 2 ^ 26 }
     requires no_fault { lines.old.fault ≡ None }
     requires short { length words.now ≤ 63 }
-    ensures { Reads (first_fault (lines.old.line + 1) (fixed_line words.now)) 1 (λ _. tt) lines.old lines.new (device (S.left source.old) (S.left source.new) (S.faults source.old) (S.faults source.new)) result }
+    ensures { Reads (first_fault (lines.old.line + 1) (fixed_line words.now)) 1 (λ _. tt) lines.old lines.new (seen S.left S.faults source.old source.new) result }
 {
     let line = lines.line() + 1;
     let text = whole_text(line, lines.next_whole_line(source))?;
@@ -83,7 +83,7 @@ pub fn read_number<S: Source>(
     requires short { length name.now ≤ 20 }
     requires high { high < 2 ^ 127 }
     ensures range { IfOk result (λ n. (low ≤ n) × (n ≤ high)) }
-    ensures read { Reads (first_fault (lines.old.line + 1) (number_line name.now low high)) 1 (λ bytes. number_at 1 (first_text bytes)) lines.old lines.new (device (S.left source.old) (S.left source.new) (S.faults source.old) (S.faults source.new)) result }
+    ensures read { Reads (first_fault (lines.old.line + 1) (number_line name.now low high)) 1 (λ bytes. number_at 1 (first_text bytes)) lines.old lines.new (seen S.left S.faults source.old source.new) result }
 {
     let line = lines.line() + 1;
     let text = whole_text(line, lines.next_whole_line(source))?;
@@ -104,7 +104,7 @@ pub fn read_choice<S: Source>(
     requires name { length name.now ≤ 20 }
     requires first { (0 < length first.now) × (length first.now ≤ 20) }
     requires second { (0 < length second.now) × (length second.now ≤ 20) }
-    ensures { Reads (first_fault (lines.old.line + 1) (choice_line name.now first.now second.now)) 1 (λ bytes. bytes_eq (word_at 1 (first_text bytes)) first.now) lines.old lines.new (device (S.left source.old) (S.left source.new) (S.faults source.old) (S.faults source.new)) result }
+    ensures { Reads (first_fault (lines.old.line + 1) (choice_line name.now first.now second.now)) 1 (λ bytes. bytes_eq (word_at 1 (first_text bytes)) first.now) lines.old lines.new (seen S.left S.faults source.old source.new) result }
 {
     let line = lines.line() + 1;
     let text = whole_text(line, lines.next_whole_line(source))?;
@@ -117,7 +117,7 @@ pub fn read_record<S: Source>(lines: &mut LineReader, source: &mut S) -> Result<
     requires few { lines.old.line < 2 ^ 26 }
     requires no_fault { lines.old.fault ≡ None }
     ensures range { IfOk result IsRecordInRange }
-    ensures read { Reads (first_fault (lines.old.line + 1) record_slots) 1 (λ bytes. record_in (first_text bytes)) lines.old lines.new (device (S.left source.old) (S.left source.new) (S.faults source.old) (S.faults source.new)) result }
+    ensures read { Reads (first_fault (lines.old.line + 1) record_slots) 1 (λ bytes. record_in (first_text bytes)) lines.old lines.new (seen S.left S.faults source.old source.new) result }
 {
     let line = lines.line() + 1;
     let text = whole_text(line, lines.next_whole_line(source))?;
@@ -129,7 +129,7 @@ pub fn read_nothing<S: Source>(lines: &mut LineReader, source: &mut S) -> Result
     requires limit { lines.old.limit ≡ 2 ^ 36 }
     requires few { lines.old.line < 2 ^ 26 }
     requires no_fault { lines.old.fault ≡ None }
-    ensures { Reads (trailing (lines.old.line + 1)) 0 (λ _. tt) lines.old lines.new (device (S.left source.old) (S.left source.new) (S.faults source.old) (S.faults source.new)) result }
+    ensures { Reads (trailing (lines.old.line + 1)) 0 (λ _. tt) lines.old lines.new (seen S.left S.faults source.old source.new) result }
 {
     let line = lines.line() + 1;
     nothing(line, lines.next_whole_line(source))
@@ -140,7 +140,7 @@ pub fn read_end<S: Source>(lines: &mut LineReader, source: &mut S) -> Result<(),
     requires limit { lines.old.limit ≡ 2 ^ 36 }
     requires few { lines.old.line + 1 < 2 ^ 26 }
     requires no_fault { lines.old.fault ≡ None }
-    ensures { Reads (end_fault (lines.old.line + 1)) 1 (λ _. tt) lines.old lines.new (device (S.left source.old) (S.left source.new) (S.faults source.old) (S.faults source.new)) result }
+    ensures { Reads (end_fault (lines.old.line + 1)) 1 (λ _. tt) lines.old lines.new (seen S.left S.faults source.old source.new) result }
 {
     read_fixed(lines, source, b"end")?;
     read_nothing(lines, source)

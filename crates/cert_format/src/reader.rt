@@ -1,6 +1,6 @@
 //! A reader of certificates.
 ghost use Rattle.std.specs.Prelude.{◌≡◌, ◌≢◌, ◌+◌, ◌^◌, ◌<◌, ◌≤◌, IfOk, IfErr, IfSome, OnOk, length, None, Err};
-ghost use Rattle.bound_io.specs.Devices.{IsUntouched, device};
+ghost use Rattle.bound_io.specs.Devices.{IsUntouched, seen};
 ghost use Rattle.bound_io.specs.Reading.{LosesPrefix};
 ghost use Rattle.cache_model.specs.Certificates.{IsHeaderInRange, IsRecordInRange};
 ghost use Rattle.cert_format.specs.Lines.{IsPast, IsWithin, Reads, known};
@@ -31,7 +31,7 @@ fn finish<Q: Source>(lines: &mut LineReader, source: &mut Q, stage: Stage) -> Re
     requires limit { lines.old.limit ≡ 2 ^ 36 }
     requires few { lines.old.line + lines_left stage < 2 ^ 26 }
     requires no_fault { lines.old.fault ≡ None }
-    ensures { Reads (finish_fault stage (lines.old.line + 1)) (lines_left stage) (λ _. tt) lines.old lines.new (device (Q.left source.old) (Q.left source.new) (Q.faults source.old) (Q.faults source.new)) result }
+    ensures { Reads (finish_fault stage (lines.old.line + 1)) (lines_left stage) (λ _. tt) lines.old lines.new (seen Q.left Q.faults source.old source.new) result }
 {
     match stage {
         Stage::AtEnd => read_nothing(lines, source),
@@ -115,10 +115,10 @@ impl CertReader {
     /// The header. This is the first call.
     pub fn header<Q: Source>(&mut self, source: &mut Q) -> Result<Header, CertFault>
         requires { self.old.fault ≡ None → self.old.stage ≡ AtHeader }
-        ensures read { self.old.fault ≡ None → HeaderRead self.old self.new (device (Q.left source.old) (Q.left source.new) (Q.faults source.old) (Q.faults source.new)) result }
+        ensures read { self.old.fault ≡ None → HeaderRead self.old self.new (seen Q.left Q.faults source.old source.new) result }
         ensures range { IfOk result IsHeaderInRange }
         ensures fault { self.old.fault ≡ None → self.new.fault ≡ err_of result }
-        ensures again { IfSome self.old.fault (λ fault. (result ≡ Err fault) × (self.new ≡ self.old) × IsUntouched (device (Q.left source.old) (Q.left source.new) (Q.faults source.old) (Q.faults source.new))) }
+        ensures again { IfSome self.old.fault (λ fault. (result ≡ Err fault) × (self.new ≡ self.old) × IsUntouched (seen Q.left Q.faults source.old source.new)) }
         ensures within { self.old.fault ≡ None → IfErr result (IsWithin self.new.lines.line) }
         ensures past { IfSome (known self.old.lines (Q.left source.old)) (IsPast self.old.lines self.new.lines) }
         ensures ahead { length self.new.lines.held ≤ 65536 }
@@ -142,10 +142,10 @@ impl CertReader {
     /// The next record. Fewer records were read than the header says.
     pub fn next_record<Q: Source>(&mut self, source: &mut Q) -> Result<Record, CertFault>
         requires { self.old.fault ≡ None → (self.old.stage ≡ InRecords) × (0 < self.old.left) }
-        ensures read { self.old.fault ≡ None → RecordRead self.old self.new (device (Q.left source.old) (Q.left source.new) (Q.faults source.old) (Q.faults source.new)) result }
+        ensures read { self.old.fault ≡ None → RecordRead self.old self.new (seen Q.left Q.faults source.old source.new) result }
         ensures range { IfOk result IsRecordInRange }
         ensures fault { self.old.fault ≡ None → self.new.fault ≡ err_of result }
-        ensures again { IfSome self.old.fault (λ fault. (result ≡ Err fault) × (self.new ≡ self.old) × IsUntouched (device (Q.left source.old) (Q.left source.new) (Q.faults source.old) (Q.faults source.new))) }
+        ensures again { IfSome self.old.fault (λ fault. (result ≡ Err fault) × (self.new ≡ self.old) × IsUntouched (seen Q.left Q.faults source.old source.new)) }
         ensures within { self.old.fault ≡ None → IfErr result (IsWithin self.new.lines.line) }
         ensures past { IfSome (known self.old.lines (Q.left source.old)) (IsPast self.old.lines self.new.lines) }
         ensures ahead { length self.new.lines.held ≤ 65536 }
@@ -167,9 +167,9 @@ impl CertReader {
     pub fn finish_text<Q: Source>(&mut self, source: &mut Q) -> Result<(), CertFault>
         requires { self.old.fault ≡ None → (self.old.stage ≢ AtHeader) × (self.old.left ≡ 0) }
         ensures lines { self.old.fault ≡ None → OnOk result (self.new.lines.line ≡ self.old.lines.line + lines_left self.old.stage) }
-        ensures read { self.old.fault ≡ None → EndRead self.old self.new (device (Q.left source.old) (Q.left source.new) (Q.faults source.old) (Q.faults source.new)) result }
+        ensures read { self.old.fault ≡ None → EndRead self.old self.new (seen Q.left Q.faults source.old source.new) result }
         ensures fault { self.old.fault ≡ None → self.new.fault ≡ err_of result }
-        ensures again { IfSome self.old.fault (λ fault. (result ≡ Err fault) × (self.new ≡ self.old) × IsUntouched (device (Q.left source.old) (Q.left source.new) (Q.faults source.old) (Q.faults source.new))) }
+        ensures again { IfSome self.old.fault (λ fault. (result ≡ Err fault) × (self.new ≡ self.old) × IsUntouched (seen Q.left Q.faults source.old source.new)) }
         ensures within { self.old.fault ≡ None → IfErr result (IsWithin self.new.lines.line) }
         ensures past { IfSome (known self.old.lines (Q.left source.old)) (IsPast self.old.lines self.new.lines) }
         ensures ahead { length self.new.lines.held ≤ 65536 }
