@@ -131,7 +131,8 @@ fn instance_of(
     holds(
         steps,
         steps < 100 && arcs.len() < 100 && all_fit(steps, &arcs),
-    ).expect(rt, "a row");
+    )
+    .expect(rt, "a row");
     holds(units, units > 0 && units < 100).expect(rt, "a row");
     Instance::from_arcs(alloc, steps, units, &arcs).expect(rt, "memory")
 }
