@@ -1,5 +1,5 @@
 //! The intervals of small traces, worked out by hand.
-use crate::made::{intervals_of_sizes, intervals_past};
+use crate::made::{CYCLE, intervals_of_sizes, intervals_past};
 use cache_rules::Objective;
 use compared::{holds, same};
 use interval_maker::Interval;
@@ -84,9 +84,6 @@ fn numbers_them_by_start(rt: HostRuntime) {
     }
     drop(made);
 }
-
-// Three objects of size 1, each asked for twice.
-const CYCLE: [[u64; 2]; 6] = [[1, 1], [2, 1], [3, 1], [1, 1], [2, 1], [3, 1]];
 
 // A warm-up, and the starts of the intervals that end past it.
 const WARM: [(u32, &[u32]); 5] = [

@@ -8,6 +8,9 @@ use relaxation::OuterArc;
 use std::alloc::{AllocError, Global};
 use std::process::Abort;
 
+/// Three objects of size 1, each asked for twice.
+pub const CYCLE: [[u64; 2]; 6] = [[1, 1], [2, 1], [3, 1], [1, 1], [2, 1], [3, 1]];
+
 // The trace of requests by id and size.
 fn trace_of(rt: &impl Abort, alloc: Global, requests: &[[u64; 2]]) -> Trace {
     let mut builder = Builder::new(alloc).expect(rt, "memory");

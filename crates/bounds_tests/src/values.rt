@@ -2,7 +2,7 @@
 ghost use Rattle.std.specs.Prelude.{◌≡◌, ◌≤◌, ◌^◌, length, true};
 ghost use Rattle.relaxation.specs.Denominators.{IsChoice};
 
-use crate::made::{arc, intervals_of_sizes};
+use crate::made::{CYCLE, arc, intervals_of_sizes, intervals_past};
 use bound_base::NoMemory;
 use cache_rules::Objective;
 use compared::{holds, same};
@@ -149,6 +149,15 @@ fn bounds_are_over_the_denominator(rt: HostRuntime) {
     same("the bound", bound_of(&intervals, 1, 4, 6, &sums), 10).expect(&rt, "a row");
     let known = Sums::within_limit(rt.alloc(), &[0, 2, 0, 0], 4).expect(&rt, "memory");
     same("of known sums", bound_of(&intervals, 1, 4, 6, &known), 10).expect(&rt, "a row");
+    drop(intervals);
+}
+
+#[test]
+fn bounds_past_a_warmup_count_one_interval(rt: HostRuntime) {
+    let intervals = intervals_past(&rt, rt.alloc(), &CYCLE, 2, HITS, 5);
+    holds("six steps", intervals.steps() == 6).expect(&rt, "a row");
+    let sums = Sums::new(rt.alloc(), &[0, 0, 0, 0, 0, 0], 2).expect(&rt, "memory");
+    same("the bound", bound_of(&intervals, 1, 2, 1, &sums), 1).expect(&rt, "a row");
     drop(intervals);
 }
 
