@@ -1,8 +1,9 @@
 -- What the prices and flows of a mode are for the intervals.
-use Rattle.std.proofs.Common.{◌≡◌, ℕ, suc, ◌+◌, ◌*◌, ◌/◌, ◌%◌, ◌<◌, ◌≤◌, ◌^◌, sym, refl, subst, min, arith, cond, Bool, true, false, List, [], ◌∷◌, length, map, zip, get_or, replicate, sum, sum_by, All}
+use Rattle.std.proofs.Common.{◌≡◌, ◌∙◌, ℕ, suc, ◌+◌, ◌*◌, ◌/◌, ◌%◌, ◌<◌, ◌≤◌, ◌^◌, ◌==◌, ap, sym, refl, subst, min, arith, cond, Bool, true, false, List, [], ◌∷◌, length, map, zip, get_or, replicate, sum, sum_by, All}
 use Prim.Native.Nat.{◌∣◌}
 use Rattle.std.specs.List.{AllZip}
 use Rattle.std.proofs.Math.Nat.{mul-le-mul_right, div-le_self}
+use Rattle.std.proofs.lemmas.Bool.{ne_eqb}
 use Rattle.std.proofs.lemmas.Grind.{div_ceil_times}
 use Rattle.std.proofs.lemmas.List.{get_or-map, get_or-replicate, length-map, length-replicate}
 use Rattle.std.proofs.lemmas.List.Elements.{All-head, All-tail}
@@ -20,7 +21,8 @@ use Rattle.relaxation.specs.Prices.{most_paid}
 use Rattle.relaxation.proofs.Values.{gain-le}
 use Rattle.relaxation.proofs.Whole.{timeline_weights}
 use Rattle.relaxation.proofs.WholeArcs.{whole_is_instance}
-use Rattle.window_bounds.specs.Solutions.{AreSolutions, value_of_windows}
+use Rattle.schedule_round.specs.Laws.{full_flags}
+use Rattle.window_bounds.specs.Solutions.{AreSolutions, full_of, value_of_windows}
 use Rattle.window_bounds.proofs.Results.{above_of}
 use Rattle.bound_report.specs.declared.facts.Window.TheVariants.{Steps, All as Whole}
 use Rattle.bound_run.specs.Made.{width_of}
@@ -116,6 +118,24 @@ no_flows unit units intervals = record { within_weights = weights intervals; wit
     loads : (t : ℕ) (xs : List Interval) → load_at xs (replicate (length xs) 0) t ≡ 0
     loads t [] = refl
     loads t (i ∷ xs) = omega (arith, sum_by-cons (λ (p : Interval × ℕ). cond (covers t p.0) p.1 0) (i, 0) (zip xs (replicate (length xs) 0)), nothing (covers t i) 0 refl, loads t xs)
+
+-- the arcs with full flows are those of the flagged intervals
+pub full_of-arcs : (unit denominator : ℕ) (intervals : List Interval) (flows : List ℕ) → full_of (map (arc_of unit denominator) intervals) flows ≡ full_flags unit intervals flows
+full_of-arcs unit denominator [] flows = refl
+full_of-arcs unit denominator (i ∷ intervals) [] = refl
+full_of-arcs unit denominator (i ∷ intervals) (f ∷ flows) = ap (λ flags. (f == weight unit i) ∷ flags) (full_of-arcs unit denominator intervals flows)
+
+-- where no interval has flow none is flagged
+pub full_flags-no_flows : (line : Timeline) (unit : ℕ) → IsTimeline line → 1 ≤ unit → All (λ i. unit ∣ i.size) line.items
+    → full_flags unit line.items (replicate (length line.items) 0) ≡ replicate (length line.items) false
+full_flags-no_flows line unit is_line positive divides = none line.items (timeline_weights line unit is_line positive divides)
+  where
+    none : (xs : List Interval) → All (λ i. 1 ≤ weight unit i) xs → full_flags unit xs (replicate (length xs) 0) ≡ replicate (length xs) false
+    none [] some = refl
+    none (i ∷ xs) some =
+        let some_weight : 1 ≤ weight unit i = All-head (λ j. 1 ≤ weight unit j) i xs some in
+        ap (λ (flag : Bool). flag ∷ full_flags unit xs (replicate (length xs) 0)) (ne_eqb 0 (weight unit i) (λ zero. omega (arith, zero, some_weight)))
+        ∙ ap (λ flags. false ∷ flags) (none xs (All-tail (λ j. 1 ≤ weight unit j) i xs some))
 
 pub all_zero : (n : ℕ) → All (λ (f : ℕ). f ≡ 0) (replicate n 0)
 all_zero n = λ k d low. get_or-replicate n k 0 d (let zero_first : ℕ = 0 in omega (arith, length-replicate n zero_first))

@@ -6,10 +6,10 @@ use Rattle.bound_run.specs.Made.{records_of}
 
 -- a record for each request, of its parts
 abbrev pub records_in : Bounds → List Record
-records_in b = records_of b.relaxed.prices.items b.keeps b.intervals.items b.relaxed.flows.items
+records_in b = records_of b.relaxed.solution.prices b.keeps b.intervals.items b.relaxed.solution.flows
 
 -- a price and a keep for each step, and a flow for each interval
 pub record HasEach (b : Bounds) : Type 0 where
-  pub prices : length b.relaxed.prices.items ≡ b.intervals.steps
+  pub prices : length b.relaxed.solution.prices ≡ b.intervals.steps
   pub keeps : length b.keeps ≡ b.intervals.steps
-  pub flows : length b.relaxed.flows.items ≡ length b.intervals.items
+  pub flows : length b.relaxed.solution.flows ≡ length b.intervals.items

@@ -1,19 +1,16 @@
 //! The bounds of a trace, and their texts.
-ghost use Rattle.std.specs.Prelude.{◌≡◌, ◌≤◌, ◌<◌, ◌*◌, ◌/◌, ◌^◌, length, slice_index_or, sum, All, IfOk, IfErr, IsTrue, OnOk, ◌↔◌, ◌&&◌};
-ghost use Prim.Native.Nat.{◌∣◌};
+ghost use Rattle.std.specs.Prelude.{◌≡◌, ◌≤◌, ◌<◌, ◌*◌, ◌^◌, length, slice_index_or, sum, All, IfOk, IfErr, IsTrue, OnOk, ◌↔◌, ◌&&◌};
 ghost use Rattle.std.specs.Io.KnownBytes.{Appends};
 ghost use Rattle.cache_model.specs.Intervals.{bound_of};
 ghost use Rattle.cache_model.specs.Certificates.{eligible_of, IsCertificate};
 ghost use Rattle.cache_model.specs.Units.{HasWholeCosts, IsUnit};
 ghost use Rattle.cache_model.specs.Claim.{IsAllowed, score, contents_of};
-ghost use Rattle.cache_model.specs.Rounding.{IsMaximal, IsRounded, by_rank};
-ghost use Rattle.cache_model.specs.Schedules.{IsFractionalSchedule};
+ghost use Rattle.cache_model.specs.Rounding.{FitTogether, IsMaximal, IsRounded, by_rank};
 ghost use Rattle.cache_model.specs.Texts.{cert_text};
 ghost use Rattle.interval_maker.specs.Timelines.{IsTimeline, starting_at, timeline_of};
 ghost use Rattle.relaxation.specs.Denominators.{IsChoice, IsChosen};
 ghost use Rattle.relaxation.specs.Faults.{amount_of};
 ghost use Rattle.relaxation.specs.Prices.{most_paid};
-ghost use Rattle.schedule_round.specs.Laws.{full_flags};
 ghost use Rattle.bound_run.specs.BoundsFaults.{FailsBounds};
 ghost use Rattle.bound_run.specs.Made.{AreTexts, IsMade, is_unwindowed, record_of, records_of, terms_asked};
 ghost use Rattle.bound_run.specs.Records.{HasEach, records_in};
@@ -132,50 +129,24 @@ fn upper_of(
     Ok(bound_of(intervals, scale.unit, scale.units, scale.denominator, &sums))
 }
 
-// The intervals whose flow is their whole weight.
-fn full_flags(
-    alloc: Global,
-    intervals: &Intervals,
-    unit: u64,
-    flows: &[u64],
-) -> Result<Vec<bool>, NoMemory>
-    requires unit { 1 ≤ unit }
-    requires each { length flows.now ≡ length intervals.now.items }
-    ensures { IfOk result (λ full. full.items ≡ full_flags unit intervals.now.items flows.now) }
-{
-    let items = intervals.as_slice();
-    let mut full = Vec::with_capacity(alloc, items.len())?;
-    for (number, interval) in items.iter().enumerate() {
-        full.push_reserved(flows[number] == interval.size / unit);
-    }
-    Ok(full)
-}
-
-// The schedule that is rounded from the intervals whose flow is their whole weight.
+// The schedule that is rounded from the flagged intervals.
 fn schedule_of(
     alloc: Global,
     asked: &Asked,
     trace: &Trace,
     intervals: &Intervals,
-    unit: u64,
-    flows: &[u64],
+    full: &[bool],
 ) -> Result<Schedule, NoMemory>
     requires capacity { (1 ≤ asked.now.capacity) × (asked.now.capacity ≤ 2 ^ 56) }
     requires intervals { intervals.now ≡ timeline_of (terms_asked asked.now) trace.now }
     requires fit { All (λ i. i.size ≤ asked.now.capacity) intervals.now.items }
-    requires unit { 1 ≤ unit }
-    requires divides { All (λ i. unit ∣ i.size) intervals.now.items }
-    requires schedule { IsFractionalSchedule intervals.now.items unit (asked.now.capacity / unit) flows.now }
-    ensures rounded { IfOk result (λ s. IsRounded by_rank intervals.now.items asked.now.capacity (length trace.now) (full_flags unit intervals.now.items flows.now) s.keeps) }
+    requires flags { FitTogether intervals.now.items asked.now.capacity full.now }
+    ensures rounded { IfOk result (λ s. IsRounded by_rank intervals.now.items asked.now.capacity (length trace.now) full.now s.keeps) }
     ensures maximal { IfOk result (λ s. IsMaximal intervals.now.items asked.now.capacity s.keeps) }
     ensures allowed { IfOk result (λ s. IsAllowed asked.now.capacity trace.now (contents_of trace.now s.keeps)) }
     ensures lower { IfOk result (λ s. s.lower ≡ score (terms_asked asked.now) trace.now (contents_of trace.now s.keeps)) }
 {
-    let rounded = {
-        let full = full_flags(alloc, intervals, unit, flows)?;
-        round(alloc, intervals, asked.capacity, &full)
-    };
-    let keeps = rounded?;
+    let keeps = round(alloc, intervals, asked.capacity, full)?;
     let lower = score_of_fitting(trace, asked.terms(), keeps.as_slice());
     Ok(Schedule { keeps, lower })
 }
@@ -232,7 +203,7 @@ fn parts_of(
     requires intervals { intervals.now ≡ timeline_of (terms_asked asked.now) trace.now }
     requires timeline { IsTimeline intervals.now }
     requires fit { All (λ i. i.size ≤ asked.now.capacity) intervals.now.items }
-    ensures made { IfOk result (λ p. IsMade asked.now trace.now p.1.price p.0 (records_of p.1.prices.items p.2 intervals.now.items p.1.flows.items)) }
+    ensures made { IfOk result (λ p. IsMade asked.now trace.now p.1.price p.0 (records_of p.1.solution.prices p.2 intervals.now.items p.1.solution.flows)) }
     ensures intervals { IfOk result (λ p. intervals.now.items ≡ eligible_of trace.now p.0) }
     ensures each { IfOk result (λ p. HasEach (record { header = p.0; relaxed = p.1; keeps = p.2; intervals = intervals.now })) }
     ensures refused { IfErr result (FailsBounds asked.now trace.now) }
@@ -246,9 +217,9 @@ fn parts_of(
         denominator: denominator.value,
     };
     let relaxed = relax(alloc, asked.mode, intervals, scale)?;
-    let upper = upper_of(alloc, intervals, scale, &relaxed.prices)?;
-    let flow = value_of_schedule(intervals, unit, denominator.value, &relaxed.flows);
-    let schedule = schedule_of(alloc, asked, trace, intervals, unit, &relaxed.flows)?;
+    let upper = upper_of(alloc, intervals, scale, relaxed.solution.prices())?;
+    let flow = value_of_schedule(intervals, unit, denominator.value, relaxed.solution.flows());
+    let schedule = schedule_of(alloc, asked, trace, intervals, &relaxed.full)?;
     let requests = trace.len();
     let header = Header {
         objective: asked.objective,
@@ -288,10 +259,10 @@ fn bounds_of(alloc: Global, asked: &Asked, trace: &Trace) -> Result<Bounds, Boun
 fn flow_from(bounds: &Bounds, t: u32) -> u64
     requires within { t < bounds.now.intervals.steps }
     requires each { HasEach bounds.now }
-    ensures { result ≡ amount_of bounds.now.relaxed.flows.items (starting_at bounds.now.intervals.items t) }
+    ensures { result ≡ amount_of bounds.now.relaxed.solution.flows (starting_at bounds.now.intervals.items t) }
 {
     match bounds.intervals.starting(t) {
-        Some(number) => bounds.relaxed.flows[number as usize],
+        Some(number) => bounds.relaxed.solution.flows()[number as usize],
         None => 0,
     }
 }
@@ -300,10 +271,10 @@ fn flow_from(bounds: &Bounds, t: u32) -> u64
 fn record_at(bounds: &Bounds, t: u32) -> Record
     requires within { t < bounds.now.intervals.steps }
     requires each { HasEach bounds.now }
-    ensures { result ≡ record_of bounds.now.relaxed.prices.items bounds.now.keeps bounds.now.intervals.items bounds.now.relaxed.flows.items t }
+    ensures { result ≡ record_of bounds.now.relaxed.solution.prices bounds.now.keeps bounds.now.intervals.items bounds.now.relaxed.solution.flows t }
 {
     Record {
-        price: bounds.relaxed.prices[t as usize],
+        price: bounds.relaxed.solution.prices()[t as usize],
         keep: bounds.keeps.as_slice()[t as usize],
         flow: flow_from(bounds, t),
     }

@@ -1,16 +1,19 @@
 //! Prices of the steps and flows of the intervals, by the mode that is asked for.
-ghost use Rattle.std.specs.Prelude.{◌≡◌, ◌≤◌, ◌*◌, ◌-◌, ◌^◌, All, IfOk, length, replicate, slice_index_or, sum};
+ghost use Rattle.std.specs.Prelude.{◌≡◌, ◌≤◌, ◌*◌, ◌-◌, ◌^◌, All, IfOk, false, length, replicate, slice_index_or, sum};
 ghost use Prim.Native.Nat.{◌∣◌};
 ghost use Rattle.cache_model.specs.Schedules.{IsFractionalSchedule};
 ghost use Rattle.constant_price.specs.Constants.{constant_prices};
 ghost use Rattle.bound_report.specs.declared.facts.Mode.TheVariants.{Flow};
+ghost use Rattle.interval_maker.specs.Timelines.{IsTimeline};
 ghost use Rattle.relaxation.specs.Prices.{most_paid};
+ghost use Rattle.schedule_round.specs.Laws.{full_flags};
 ghost use Rattle.bound_run.specs.Made.{IsOfMode, width_of};
 ghost use Rattle.bound_run.specs.Modes.{IsModeInRange};
 
 use bound_base::NoMemory;
 use bound_report::{Mode, Window};
 use constant_price::least;
+use flow_model::Solution;
 use interval_maker::Intervals;
 use relaxation::instance;
 use std::alloc::Global;
@@ -24,11 +27,12 @@ pub struct Scale {
     pub denominator: u64,
 }
 
-/// A price of each step, a flow of each interval, and the price of all steps but the last where they have one.
+/// A price of each step and a flow of each interval, for each interval whether its flow is its whole weight, and the
+/// price of all steps but the last if they have one.
 #[derive(Drop)]
 pub struct Relaxed {
-    pub prices: Vec<u128>,
-    pub flows: Vec<u64>,
+    pub solution: Solution,
+    pub full: Vec<bool>,
     pub price: u128,
 }
 
@@ -44,15 +48,21 @@ fn constant_prices(alloc: Global, price: u128, steps: u32) -> Result<Vec<u128>, 
     Ok(prices)
 }
 
-// One price and no flow.
+// One price and no flow, and so no full flow.
 fn at_one_price(alloc: Global, intervals: &Intervals, price: u128) -> Result<Relaxed, NoMemory>
-    ensures prices { IfOk result (λ r. r.prices.items ≡ constant_prices price intervals.now.steps) }
-    ensures flows { IfOk result (λ r. r.flows.items ≡ replicate (length intervals.now.items) 0) }
+    ensures timeline { IsTimeline intervals.now }
+    ensures prices { IfOk result (λ r. r.solution.prices ≡ constant_prices price intervals.now.steps) }
+    ensures flows { IfOk result (λ r. r.solution.flows ≡ replicate (length intervals.now.items) 0) }
+    ensures full { IfOk result (λ r. r.full.items ≡ replicate (length intervals.now.items) false) }
     ensures price { IfOk result (λ r. r.price ≡ price) }
 {
+    let count = intervals.as_slice().len();
+    let prices = constant_prices(alloc, price, intervals.steps())?;
+    let flows = vec![in alloc; 0; count]?;
+    let full = vec![in alloc; false; count]?;
     Ok(Relaxed {
-        prices: constant_prices(alloc, price, intervals.steps())?,
-        flows: vec![in alloc; 0; intervals.as_slice().len()]?,
+        solution: Solution::new(prices, flows),
+        full,
         price,
     })
 }
@@ -67,7 +77,7 @@ pub fn width_of(window: Window, steps: u32) -> u32
     }
 }
 
-// The prices and flows of windows, each of which is solved by itself.
+// The prices and flows of windows, each of which is solved by itself, and which flows are full.
 fn by_windows(
     alloc: Global,
     window: Window,
@@ -79,27 +89,27 @@ fn by_windows(
     requires divides { All (λ i. scale.unit ∣ i.size) intervals.now.items }
     requires units { (1 ≤ scale.units) × (scale.units ≤ 2 ^ 56) }
     requires denominator { (1 ≤ scale.denominator) × (scale.denominator ≤ 2 ^ 48) }
-    ensures of_mode { IfOk result (λ r. IsOfMode (Flow window) intervals.now scale.unit scale.units scale.denominator r.prices.items r.flows.items r.price) }
-    ensures each { IfOk result (λ r. length r.prices.items ≡ intervals.now.steps) }
-    ensures paid { IfOk result (λ r. scale.units * sum r.prices.items ≤ most_paid) }
-    ensures last { IfOk result (λ r. slice_index_or r.prices.items (intervals.now.steps - 1) 0 ≡ 0) }
-    ensures schedule { IfOk result (λ r. IsFractionalSchedule intervals.now.items scale.unit scale.units r.flows.items) }
+    ensures of_mode { IfOk result (λ r. IsOfMode (Flow window) intervals.now scale.unit scale.units scale.denominator r.solution.prices r.solution.flows r.price) }
+    ensures each { IfOk result (λ r. length r.solution.prices ≡ intervals.now.steps) }
+    ensures paid { IfOk result (λ r. scale.units * sum r.solution.prices ≤ most_paid) }
+    ensures last { IfOk result (λ r. slice_index_or r.solution.prices (intervals.now.steps - 1) 0 ≡ 0) }
+    ensures schedule { IfOk result (λ r. IsFractionalSchedule intervals.now.items scale.unit scale.units r.solution.flows) }
+    ensures full { IfOk result (λ r. r.full.items ≡ full_flags scale.unit intervals.now.items r.solution.flows) }
 {
     let solved = {
         let whole = instance(alloc, intervals, scale.unit, scale.units, scale.denominator)?;
         solve_windows(alloc, &whole, width_of(window, intervals.steps()))
     };
-    let solution = solved?;
-    let (found, _) = solution.into_parts();
-    let (prices, flows) = found.into_parts();
+    let found = solved?;
+    let (solution, full) = found.into_parts();
     Ok(Relaxed {
-        prices,
-        flows,
+        solution,
+        full,
         price: 0,
     })
 }
 
-/// The prices and flows of a mode.
+/// The prices and flows of a mode, and which flows are full.
 pub fn relax(
     alloc: Global,
     mode: Mode,
@@ -111,11 +121,12 @@ pub fn relax(
     requires divides { All (λ i. scale.unit ∣ i.size) intervals.now.items }
     requires units { (1 ≤ scale.units) × (scale.units ≤ 2 ^ 56) }
     requires denominator { (1 ≤ scale.denominator) × (scale.denominator ≤ 2 ^ 48) }
-    ensures of_mode { IfOk result (λ r. IsOfMode mode intervals.now scale.unit scale.units scale.denominator r.prices.items r.flows.items r.price) }
-    ensures each { IfOk result (λ r. length r.prices.items ≡ intervals.now.steps) }
-    ensures paid { IfOk result (λ r. scale.units * sum r.prices.items ≤ most_paid) }
-    ensures last { IfOk result (λ r. slice_index_or r.prices.items (intervals.now.steps - 1) 0 ≡ 0) }
-    ensures schedule { IfOk result (λ r. IsFractionalSchedule intervals.now.items scale.unit scale.units r.flows.items) }
+    ensures of_mode { IfOk result (λ r. IsOfMode mode intervals.now scale.unit scale.units scale.denominator r.solution.prices r.solution.flows r.price) }
+    ensures each { IfOk result (λ r. length r.solution.prices ≡ intervals.now.steps) }
+    ensures paid { IfOk result (λ r. scale.units * sum r.solution.prices ≤ most_paid) }
+    ensures last { IfOk result (λ r. slice_index_or r.solution.prices (intervals.now.steps - 1) 0 ≡ 0) }
+    ensures schedule { IfOk result (λ r. IsFractionalSchedule intervals.now.items scale.unit scale.units r.solution.flows) }
+    ensures full { IfOk result (λ r. r.full.items ≡ full_flags scale.unit intervals.now.items r.solution.flows) }
 {
     let Scale {
         unit,

@@ -1,6 +1,7 @@
 use Rattle.std.proofs.Common.{◌∙◌, ◌/◌, refl, arith, sym, ap, length}
 use Rattle.std.proofs.Math.Nat.{div-le_self}
 use Rattle.std.proofs.lemmas.Result.{err_from_is_err_and}
+use Rattle.schedule_round.proofs.Flags.{full_flags_fit}
 use Rattle.bound_run.proofs.MadeOf.{made_of, some_units, unit-le_capacity}
 use Rattle.bound_run.proofs.Relaxing.{flows_each}
 use Rattle.bound_run.proofs.bounds.parts_of.Goals as goal
@@ -17,14 +18,16 @@ upper_of-requires-clause-units c =
     some_units c.args.asked.now.capacity c.unit_of-unit.result c.unit_of-unit.ensures.positive
     (unit-le_capacity c.args.intervals.now c.args.asked.now.capacity c.unit_of-unit.result c.requires.capacity.0 c.requires.timeline c.requires.fit c.unit_of-unit.ensures.unit)
 
-pub schedule_of-requires-clause-schedule : goal.schedule_of-requires-clause-schedule
-schedule_of-requires-clause-schedule c = rw c.deref-3.ensures.value c.in_ok-relaxed.ensures.schedule
+pub schedule_of-requires-clause-flags : goal.schedule_of-requires-clause-flags
+schedule_of-requires-clause-flags c =
+    rw (c.deref.ensures.value, c.in_ok-relaxed.ensures.full)
+    (full_flags_fit c.args.intervals.now.items c.args.asked.now.capacity c.unit_of-unit.result c.in_ok-relaxed.relaxed.solution.flows c.unit_of-unit.ensures.unit.divides c.in_ok-relaxed.ensures.schedule)
 
 pub returns-clause-made : goal.returns-clause-made
 returns-clause-made c =
     rw c.is_exact.ensures
     (made_of c.args.asked.now c.args.trace.now c.args.intervals.now c.len-requests.result c.unit_of-unit.result (c.args.asked.now.capacity / c.unit_of-unit.result) c.in_ok-denominator.denominator.value c.in_ok-denominator.denominator.exact
-    c.in_ok-upper.upper c.value_of_schedule-flow.result c.in_ok-schedule.schedule.lower c.in_ok-relaxed.relaxed.price c.in_ok-relaxed.relaxed.prices.items c.in_ok-relaxed.relaxed.flows.items c.in_ok-schedule.schedule.keeps
+    c.in_ok-upper.upper c.value_of_schedule-flow.result c.in_ok-schedule.schedule.lower c.in_ok-relaxed.relaxed.price c.in_ok-relaxed.relaxed.solution.prices c.in_ok-relaxed.relaxed.solution.flows c.in_ok-schedule.schedule.keeps
     c.requires.intervals c.len-requests.ensures.requests refl (record {
       capacity = c.requires.capacity;
       mode = c.requires.mode;
@@ -43,11 +46,11 @@ returns-clause-made c =
       paid = c.in_ok-relaxed.ensures.paid;
       last = c.in_ok-relaxed.ensures.last;
       schedule = c.in_ok-relaxed.ensures.schedule;
-      bound = rw c.deref.ensures.value at c.in_ok-upper.ensures.bound;
+      bound = rw c.prices.ensures at c.in_ok-upper.ensures.bound;
       small = c.in_ok-upper.ensures.small;
-      value = rw c.deref-2.ensures.value at c.value_of_schedule-flow.ensures.value;
+      value = rw c.flows.ensures at c.value_of_schedule-flow.ensures.value;
       small_value = omega (arith, c.value_of_schedule-flow.ensures.small);
-      rounded = rw c.deref-3.ensures.value at c.in_ok-schedule.ensures.rounded;
+      rounded = rw (c.deref.ensures.value, c.in_ok-relaxed.ensures.full) at c.in_ok-schedule.ensures.rounded;
       maximal = c.in_ok-schedule.ensures.maximal;
       allowed = c.in_ok-schedule.ensures.allowed;
       scored = c.in_ok-schedule.ensures.lower;
@@ -57,7 +60,7 @@ pub returns-clause-each : goal.returns-clause-each
 returns-clause-each c = record {
   prices = c.in_ok-relaxed.ensures.each;
   keeps = c.in_ok-schedule.ensures.rounded.one_keep_each ∙ sym (ap (λ l. l.steps) c.requires.intervals);
-  flows = flows_each c.unit_of-unit.result c.args.intervals.now.items c.in_ok-relaxed.relaxed.flows.items c.in_ok-relaxed.ensures.schedule.within_weights;
+  flows = flows_each c.unit_of-unit.result c.args.intervals.now.items c.in_ok-relaxed.relaxed.solution.flows c.in_ok-relaxed.ensures.schedule.within_weights;
 }
 
 pub denominator_of-requires-clause-choice : goal.denominator_of-requires-clause-choice
@@ -110,13 +113,13 @@ pub upper_of-requires-clause-denominator : goal.upper_of-requires-clause-denomin
 upper_of-requires-clause-denominator c = c.in_ok-denominator.ensures.range.1
 
 pub upper_of-requires-clause-few : goal.upper_of-requires-clause-few
-upper_of-requires-clause-few c = omega (arith, c.requires.timeline.few_steps, c.in_ok-relaxed.ensures.each, ap length c.deref.ensures.value)
+upper_of-requires-clause-few c = omega (arith, c.requires.timeline.few_steps, c.in_ok-relaxed.ensures.each, ap length c.prices.ensures)
 
 pub upper_of-requires-clause-each : goal.upper_of-requires-clause-each
-upper_of-requires-clause-each c = rw c.deref.ensures.value c.in_ok-relaxed.ensures.each
+upper_of-requires-clause-each c = rw c.prices.ensures c.in_ok-relaxed.ensures.each
 
 pub upper_of-requires-clause-paid : goal.upper_of-requires-clause-paid
-upper_of-requires-clause-paid c = rw c.deref.ensures.value c.in_ok-relaxed.ensures.paid
+upper_of-requires-clause-paid c = rw c.prices.ensures c.in_ok-relaxed.ensures.paid
 
 pub returns-in_err-upper-clause-refused : goal.returns-in_err-upper-clause-refused
 returns-in_err-upper-clause-refused c =
@@ -133,7 +136,7 @@ pub value_of_schedule-flow-requires-clause-denominator : goal.value_of_schedule-
 value_of_schedule-flow-requires-clause-denominator c = c.in_ok-denominator.ensures.range.1
 
 pub value_of_schedule-flow-requires-clause-schedule : goal.value_of_schedule-flow-requires-clause-schedule
-value_of_schedule-flow-requires-clause-schedule c = (c.args.asked.now.capacity / c.unit_of-unit.result, rw c.deref-2.ensures.value c.in_ok-relaxed.ensures.schedule)
+value_of_schedule-flow-requires-clause-schedule c = (c.args.asked.now.capacity / c.unit_of-unit.result, rw c.flows.ensures c.in_ok-relaxed.ensures.schedule)
 
 pub schedule_of-requires-clause-capacity : goal.schedule_of-requires-clause-capacity
 schedule_of-requires-clause-capacity c = c.requires.capacity
@@ -143,12 +146,6 @@ schedule_of-requires-clause-intervals c = c.requires.intervals
 
 pub schedule_of-requires-clause-fit : goal.schedule_of-requires-clause-fit
 schedule_of-requires-clause-fit c = c.requires.fit
-
-pub schedule_of-requires-clause-unit : goal.schedule_of-requires-clause-unit
-schedule_of-requires-clause-unit c = c.unit_of-unit.ensures.positive
-
-pub schedule_of-requires-clause-divides : goal.schedule_of-requires-clause-divides
-schedule_of-requires-clause-divides c = c.unit_of-unit.ensures.unit.divides
 
 pub returns-in_err-schedule-clause-refused : goal.returns-in_err-schedule-clause-refused
 returns-in_err-schedule-clause-refused c =

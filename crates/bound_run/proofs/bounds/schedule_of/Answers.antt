@@ -6,9 +6,7 @@ use Rattle.cache_model.specs.Intervals.{eligible_intervals}
 use Rattle.cache_model.specs.Keeps.{load_after}
 use Rattle.cache_model.specs.Rounding.{IsRounded, by_rank, taken_load}
 use Rattle.cache_model.proofs.Rounding.{held-load}
-use Rattle.schedule_round.proofs.Flags.{full_flags_fit}
 use Rattle.bound_run.specs.Made.{terms_asked}
-use Rattle.bound_run.proofs.Relaxing.{flows_each}
 use Rattle.bound_run.proofs.bounds.schedule_of.Goals as goal
 
 -- contents that weigh what their intervals do are within the capacity after each request
@@ -18,26 +16,16 @@ loads_fit : (terms : Terms) (trace : List Object) (full keeps : List Bool)
     → (t : ℕ) → t < length trace → load_after trace keeps t ≤ terms.capacity
 loads_fit terms trace full keeps taken fits t within = omega (arith, held-load terms trace keeps t taken.only_starts within, fits t)
 
-pub full_flags-requires-clause-each : goal.full_flags-requires-clause-each
-full_flags-requires-clause-each c = flows_each c.args.unit c.args.intervals.now.items c.args.flows.now c.requires.schedule.within_weights
-
-pub round-rounded-requires : goal.round-rounded-requires
-round-rounded-requires c =
-    record {
-      flags = rw (c.deref.ensures.value, c.in_ok-full.ensures)
-          (full_flags_fit c.args.intervals.now.items c.args.asked.now.capacity c.args.unit c.args.flows.now c.requires.divides c.requires.schedule);
-    }
-
 pub score_of_fitting-lower-requires : goal.score_of_fitting-lower-requires
 score_of_fitting-lower-requires c = record {
   one_keep_each = rw c.as_slice.ensures (c.in_ok-keeps.ensures.rounded.one_keep_each ∙ ap (λ l. l.steps) c.requires.intervals);
   fits = rw (c.terms.ensures, c.as_slice.ensures)
-      (loads_fit (terms_asked c.args.asked.now) c.args.trace.now c.deref.result.now c.in_ok-keeps.keeps
+      (loads_fit (terms_asked c.args.asked.now) c.args.trace.now c.args.full.now c.in_ok-keeps.keeps
       (rw c.requires.intervals at c.in_ok-keeps.ensures.rounded) (λ t. rw c.requires.intervals at (c.in_ok-keeps.ensures.fits t)));
 }
 
 pub returns-clause-rounded : goal.returns-clause-rounded
-returns-clause-rounded c = rw (c.deref.ensures.value, c.in_ok-full.ensures, ap (λ l. l.steps) c.requires.intervals) at c.in_ok-keeps.ensures.rounded
+returns-clause-rounded c = rw (ap (λ l. l.steps) c.requires.intervals) at c.in_ok-keeps.ensures.rounded
 
 pub returns-clause-allowed : goal.returns-clause-allowed
 returns-clause-allowed c = rw (c.terms.ensures, c.as_slice.ensures) at c.score_of_fitting-lower.ensures.allowed

@@ -1,18 +1,20 @@
-use Rattle.std.proofs.Common.{◌≡◌, ℕ, ◌*◌, ◌-◌, ◌≤◌, sym, subst, arith, List, replicate, length, sum, get_or, Result, Ok, Err, IfOk, All}
+use Prim.Native.Nat.{◌∣◌}
+use Rattle.std.proofs.Common.{◌≡◌, ℕ, ◌*◌, ◌-◌, ◌≤◌, sym, subst, arith, false, List, replicate, length, sum, get_or, Result, Ok, Err, IfOk, All}
 use Rattle.cache_model.specs.Schedules.{IsFractionalSchedule}
-use Rattle.interval_maker.specs.Timelines.{Timeline}
+use Rattle.interval_maker.specs.Timelines.{IsTimeline, Timeline}
 use Rattle.bound_report.specs.declared.facts.Mode.TheVariants.{Constant, Infinite}
 use Rattle.constant_price.specs.Constants.{IsLeastConstant, constant_prices}
 use Rattle.constant_price.proofs.Bounds.{sum-constant_prices}
 use Rattle.constant_price.proofs.Prices.{length-constant_prices, constant_prices-last}
 use Rattle.relaxation.specs.Prices.{most_paid}
+use Rattle.schedule_round.specs.Laws.{full_flags}
 use Rattle.bound_run.specs.declared.relaxed.Relaxed.{Relaxed}
 use Rattle.bound_run.specs.Made.{IsOfMode}
-use Rattle.bound_run.proofs.Relaxing.{all_zero, no_flows}
+use Rattle.bound_run.proofs.Relaxing.{all_zero, full_flags-no_flows, no_flows}
 use Rattle.bound_run.proofs.relaxed.relax.Goals as goal
 
 -- where there is no flow the flows are a schedule
-scheduled : {E : Type 0} (line : Timeline) (unit units : ℕ) (r : Result Relaxed E) → IfOk r (λ x. x.flows.items ≡ replicate (length line.items) 0) → IfOk r (λ x. IsFractionalSchedule line.items unit units x.flows.items)
+scheduled : {E : Type 0} (line : Timeline) (unit units : ℕ) (r : Result Relaxed E) → IfOk r (λ x. x.solution.flows ≡ replicate (length line.items) 0) → IfOk r (λ x. IsFractionalSchedule line.items unit units x.solution.flows)
 scheduled line unit units (Ok x) none = subst (IsFractionalSchedule line.items unit units) (sym none) (no_flows unit units line.items)
 scheduled line unit units (Err e) none = tt
 
@@ -22,16 +24,30 @@ returns-in-Constant-clause-schedule c = scheduled c.args.intervals.now c.args.sc
 pub returns-in-Infinite-clause-schedule : goal.returns-in-Infinite-clause-schedule
 returns-in-Infinite-clause-schedule c = scheduled c.args.intervals.now c.args.scale.unit c.args.scale.units c.at_one_price-in-Infinite.result c.at_one_price-in-Infinite.ensures.flows
 
+-- where there is no flow none is full
+unflagged : {E : Type 0} (line : Timeline) (unit : ℕ) (r : Result Relaxed E) → IsTimeline line → 1 ≤ unit → All (λ i. unit ∣ i.size) line.items → IfOk r (λ x. x.solution.flows ≡ replicate (length line.items) 0)
+    → IfOk r (λ x. x.full.items ≡ replicate (length line.items) false) → IfOk r (λ x. x.full.items ≡ full_flags unit line.items x.solution.flows)
+unflagged line unit (Ok x) is_line positive divides none unset = rw (none, unset) (sym (full_flags-no_flows line unit is_line positive divides))
+unflagged line unit (Err e) is_line positive divides none unset = tt
+
+pub returns-in-Constant-clause-full : goal.returns-in-Constant-clause-full
+returns-in-Constant-clause-full c =
+    unflagged c.args.intervals.now c.args.scale.unit c.at_one_price.result c.at_one_price.ensures.timeline c.requires.unit c.requires.divides c.at_one_price.ensures.flows c.at_one_price.ensures.full
+
+pub returns-in-Infinite-clause-full : goal.returns-in-Infinite-clause-full
+returns-in-Infinite-clause-full c =
+    unflagged c.args.intervals.now c.args.scale.unit c.at_one_price-in-Infinite.result c.at_one_price-in-Infinite.ensures.timeline c.requires.unit c.requires.divides c.at_one_price-in-Infinite.ensures.flows c.at_one_price-in-Infinite.ensures.full
+
 -- the least constant, and no flow
-of_constant : {E : Type 0} (line : Timeline) (unit units denominator price : ℕ) (r : Result Relaxed E) → IsLeastConstant line unit units denominator price → IfOk r (λ x. x.prices.items ≡ constant_prices price line.steps)
-    → IfOk r (λ x. x.flows.items ≡ replicate (length line.items) 0) → IfOk r (λ x. x.price ≡ price) → IfOk r (λ x. IsOfMode Constant line unit units denominator x.prices.items x.flows.items x.price)
+of_constant : {E : Type 0} (line : Timeline) (unit units denominator price : ℕ) (r : Result Relaxed E) → IsLeastConstant line unit units denominator price → IfOk r (λ x. x.solution.prices ≡ constant_prices price line.steps)
+    → IfOk r (λ x. x.solution.flows ≡ replicate (length line.items) 0) → IfOk r (λ x. x.price ≡ price) → IfOk r (λ x. IsOfMode Constant line unit units denominator x.solution.prices x.solution.flows x.price)
 of_constant line unit units denominator price (Ok x) least priced none is =
     (rw is least, rw is priced, subst (λ fs. All (λ f. f ≡ 0) fs) (sym none) (all_zero (length line.items)))
 of_constant line unit units denominator price (Err e) least priced none is = tt
 
 -- neither price nor flow
-of_infinite : {E : Type 0} (line : Timeline) (unit units denominator : ℕ) (r : Result Relaxed E) → IfOk r (λ x. x.prices.items ≡ constant_prices 0 line.steps)
-    → IfOk r (λ x. x.flows.items ≡ replicate (length line.items) 0) → IfOk r (λ x. x.price ≡ 0) → IfOk r (λ x. IsOfMode Infinite line unit units denominator x.prices.items x.flows.items x.price)
+of_infinite : {E : Type 0} (line : Timeline) (unit units denominator : ℕ) (r : Result Relaxed E) → IfOk r (λ x. x.solution.prices ≡ constant_prices 0 line.steps)
+    → IfOk r (λ x. x.solution.flows ≡ replicate (length line.items) 0) → IfOk r (λ x. x.price ≡ 0) → IfOk r (λ x. IsOfMode Infinite line unit units denominator x.solution.prices x.solution.flows x.price)
 of_infinite line unit units denominator (Ok x) priced none is = (is, priced, subst (λ fs. All (λ f. f ≡ 0) fs) (sym none) (all_zero (length line.items)))
 of_infinite line unit units denominator (Err e) priced none is = tt
 
@@ -46,7 +62,7 @@ returns-in-Infinite-clause-of_mode c =
     (of_infinite c.args.intervals.now c.args.scale.unit c.args.scale.units c.args.scale.denominator c.at_one_price-in-Infinite.result c.at_one_price-in-Infinite.ensures.prices c.at_one_price-in-Infinite.ensures.flows c.at_one_price-in-Infinite.ensures.price)
 
 -- what holds of prices holds of those that are equal to them
-priced : {E : Type 0} (P : List ℕ → Type 0) (ps : List ℕ) (r : Result Relaxed E) → P ps → IfOk r (λ x. x.prices.items ≡ ps) → IfOk r (λ x. P x.prices.items)
+priced : {E : Type 0} (P : List ℕ → Type 0) (ps : List ℕ) (r : Result Relaxed E) → P ps → IfOk r (λ x. x.solution.prices ≡ ps) → IfOk r (λ x. P x.solution.prices)
 priced P ps (Ok x) holds is = subst P (sym is) holds
 priced P ps (Err e) holds is = tt
 
