@@ -1,4 +1,4 @@
--- The contents of keeps follow the rules of a cache, wherever they fit.
+-- The contents of keeps follow the rules of play, wherever they fit.
 use Rattle.std.proofs.Common.{◌≡◌, ◌≢◌, ℕ, suc, zero, ◌+◌, ◌<◌, ◌≤◌, ◌∙◌, sym, refl, ap, subst, Bool, true, false, not, cond, List, [], ◌∷◌, length, arith, inl, inr, ◌⊎◌, ⊎_elim, Some, All, AllPairs, Contains, filter, map, slice_get, slice_range}
 use Rattle.std.specs.List.{range_with_len, list_any, IsDistinct, AllByRecursion}
 use Rattle.std.proofs.lemmas.Bool.{cases_Bool, cases_eq, both_ways, and_parts, and_from, not-true}
