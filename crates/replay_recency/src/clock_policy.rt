@@ -1,8 +1,7 @@
 //! The rule of the clock: an object that was asked for since the hand last passed it is passed over once.
-ghost use Rattle.std.specs.Prelude.{◌≡◌, ◌≤◌, ◌<◌, ◌^◌, ◌+◌, ◌*◌, ◌++◌, ◌∷◌, [], ℕ, All, length, false, true, Some, is_some, IfOk, IsOk, OnOk, OnErr, refl};
+ghost use Rattle.std.specs.Prelude.{◌≡◌, ◌≤◌, ◌<◌, ◌^◌, ◌+◌, ◌*◌, ◌++◌, ◌∷◌, [], ℕ, All, length, nat_eq, false, true, Some, is_some, IfOk, IsOk, OnOk, OnErr, refl};
 ghost use Rattle.std.specs.declared.option.Option.{Option};
-ghost use Rattle.std.specs.Ordering.{nat_cmp};
-ghost use Rattle.std.specs.BTreeMap.{get, Updates};
+ghost use Rattle.std.specs.HashMap.{get, Updates};
 ghost use Rattle.policy_model.specs.declared.names.PolicyName.TheVariants.{Clock as ByClock};
 ghost use Rattle.policy_model.specs.States.{used};
 ghost use Rattle.policy_model.specs.Steps.{make_room, turn_hand};
@@ -14,13 +13,13 @@ ghost use Rattle.replay_recency.specs.ClockEntries.{marked_entries, mark_of, has
 use bound_base::NoMemory;
 use replay_core::{Outcome, Policy};
 use std::alloc::Global;
-use std::collections::{BTreeMap, VecDeque};
+use std::collections::{HashMap, VecDeque};
 use std::marker::Model;
 
 /// The objects stand in a circle, and the hand gives up the first that was not asked for since it last passed.
 ///
-/// A request takes time logarithmic in the number of entries, for itself and for each turn of the hand. A turn gives up
-/// an entry or clears the mark of a hit. It takes memory for each entry.
+/// A request takes constant time on average, for itself and for each turn of the hand. A turn gives up an entry or
+/// clears the mark of a hit. It takes memory for each entry.
 #[derive(Drop)]
 pub struct Clock {
     capacity: u64,
@@ -28,7 +27,7 @@ pub struct Clock {
     requests: u64,
     used: u64,
     queue: VecDeque<(u32, u64)>,
-    marks: BTreeMap<u32, bool>,
+    marks: HashMap<u32, bool>,
 }
 
 impl Model for Clock {
@@ -43,23 +42,35 @@ impl Model for Clock {
     ghost invariant = { λ p. IsClock p.capacity p.used p.queue.items p.marks };
 }
 
-// Whether the object is marked.
-fn is_marked(marks: &BTreeMap<u32, bool>, object: u32) -> bool
-    ensures { result ≡ mark_of marks.now object }
+// Marks an object, and says whether it is held. It looks the object up once.
+fn mark_if_held(marks: &mut HashMap<u32, bool>, object: u32) -> bool
+    ensures held { result ≡ is_some (get nat_eq marks.old object) }
+    ensures marked { result ≡ true → Updates nat_eq marks.old marks.new object (Some true) }
+    ensures same { result ≡ false → marks.new ≡ marks.old }
 {
-    marks.get(&object).copied().unwrap_or(false)
+    let Some(mark) = marks.get_mut(&object) else {
+        return false;
+    };
+    *mark = true;
+    true
 }
 
-// Sets or clears the mark of an object that is held. It takes no memory, since the map has the object.
-fn mark(marks: &mut BTreeMap<u32, bool>, object: u32, value: bool)
-    requires known { is_some (get nat_cmp marks.old object) ≡ true }
-    ensures { Updates nat_cmp marks.old marks.new object (Some value) }
+// Clears the mark of an object that is held, and says whether it was marked.
+fn clear_mark(marks: &mut HashMap<u32, bool>, object: u32) -> bool
+    requires known { is_some (get nat_eq marks.old object) ≡ true }
+    ensures was { result ≡ mark_of marks.old object }
+    ensures cleared { Updates nat_eq marks.old marks.new object (Some false) }
 {
-    let _known = marks.insert(object, value);
+    let Some(mark) = marks.get_mut(&object) else {
+        return false;
+    };
+    let was = *mark;
+    *mark = false;
+    was
 }
 
 // Turns the hand once, and says how many bytes were given up.
-fn turn(queue: &mut VecDeque<(u32, u64)>, marks: &mut BTreeMap<u32, bool>) -> u64
+fn turn(queue: &mut VecDeque<(u32, u64)>, marks: &mut HashMap<u32, bool>) -> u64
     requires some { 0 < length queue.old.items }
     requires marked { AreMarked queue.old.items marks.old }
     ensures entries { marked_entries marks.new queue.new.items ≡ turn_hand (marked_entries marks.old queue.old.items) }
@@ -69,8 +80,7 @@ fn turn(queue: &mut VecDeque<(u32, u64)>, marks: &mut BTreeMap<u32, bool>) -> u6
     let Some(&(object, size)) = queue.front() else {
         return 0;
     };
-    if is_marked(marks, object) {
-        mark(marks, object, false);
+    if clear_mark(marks, object) {
         queue.rotate_left(1);
         return 0;
     }
@@ -82,7 +92,7 @@ fn turn(queue: &mut VecDeque<(u32, u64)>, marks: &mut BTreeMap<u32, bool>) -> u6
 // Turns the hand until so many bytes fit, and says how many are still used.
 fn free_by_hand(
     queue: &mut VecDeque<(u32, u64)>,
-    marks: &mut BTreeMap<u32, bool>,
+    marks: &mut HashMap<u32, bool>,
     in_use: u64,
     capacity: u64,
     size: u64,
@@ -107,7 +117,7 @@ fn free_by_hand(
 // Puts an object that is not held at the back, without a mark.
 fn put_last(
     queue: &mut VecDeque<(u32, u64)>,
-    marks: &mut BTreeMap<u32, bool>,
+    marks: &mut HashMap<u32, bool>,
     object: u32,
     size: u64,
 ) -> Result<(), NoMemory>
@@ -136,7 +146,7 @@ impl Clock {
             requests: 0,
             used: 0,
             queue: VecDeque::new(alloc),
-            marks: BTreeMap::new(alloc),
+            marks: HashMap::new(alloc),
         })
     }
 
@@ -148,8 +158,7 @@ impl Clock {
         ensures gives_up { OnErr result (GivesUp self.old self.new) }
     {
         let requests = self.requests.saturating_add(1);
-        if self.marks.contains_key(&object) {
-            mark(&mut self.marks, object, true);
+        if mark_if_held(&mut self.marks, object) {
             self.requests = requests;
             return Ok(Outcome::Hit);
         }
