@@ -104,12 +104,46 @@ const LINES: [Option<&[u8]>; 3] = [Some(b"one line"), Some(b"and one"), None];
 
 #[test]
 fn reads_what_was_written(rt: HostRuntime) {
-    let older = fs::write(&rt, PATH, b"an older and longer text".as_slice());
-    holds("an older file", older.is_ok()).expect(&rt, "a row");
+    let empty = fs::write(&rt, PATH, b"".as_slice());
+    holds("an empty file", empty.is_ok()).expect(&rt, "a row");
     let written = write_file(&rt, rt.alloc(), PATH, &[b"one line\n", b"and one"]);
     same("the file", written, Ok(())).expect(&rt, "a row");
     check_lines(&rt, rt.alloc(), PATH, &LINES);
     holds("its removal", fs::remove_file(&rt, PATH).is_ok()).expect(&rt, "a row");
+}
+
+const NOTES: &str = "bound_io_leaves_what_is_no_certificate";
+
+#[test]
+fn leaves_a_file_that_is_no_certificate(rt: HostRuntime) {
+    let notes = fs::write(&rt, NOTES, b"notes".as_slice());
+    holds("a file of notes", notes.is_ok()).expect(&rt, "a row");
+    let written = write_file(&rt, rt.alloc(), NOTES, &[b"one line\n"]);
+    same("the file", written, Err(Failed)).expect(&rt, "a row");
+    check_lines(&rt, rt.alloc(), NOTES, &[Some(b"notes"), None]);
+    holds("its removal", fs::remove_file(&rt, NOTES).is_ok()).expect(&rt, "a row");
+}
+
+const OLD: &str = "bound_io_replaces_a_certificate";
+
+// Writes the certificate anew, up to its end or not.
+fn write_anew<R: Files + Print + Abort>(rt: &R, alloc: Global, is_whole: bool) {
+    let mut sink = FileSink::new(rt, alloc, OLD).expect(rt, "memory");
+    let written = write_pieces(&mut sink, &[b"cache-bound-certificate 1\n", b"new\n"]);
+    same("the file", written, Ok(())).expect(rt, "a row");
+    holds("its end", sink.finish(is_whole).is_ok()).expect(rt, "a row");
+}
+
+#[test]
+fn replaces_a_certificate_by_a_whole_one(rt: HostRuntime) {
+    let old = fs::write(&rt, OLD, b"cache-bound-certificate 1\nold\n".as_slice());
+    holds("an old certificate", old.is_ok()).expect(&rt, "a row");
+    let first: &[u8] = b"cache-bound-certificate 1";
+    write_anew(&rt, rt.alloc(), false);
+    check_lines(&rt, rt.alloc(), OLD, &[Some(first), Some(b"old"), None]);
+    write_anew(&rt, rt.alloc(), true);
+    check_lines(&rt, rt.alloc(), OLD, &[Some(first), Some(b"new"), None]);
+    holds("its removal", fs::remove_file(&rt, OLD).is_ok()).expect(&rt, "a row");
 }
 
 #[test]
