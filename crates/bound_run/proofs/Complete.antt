@@ -27,8 +27,7 @@ use Rattle.cert_checker.specs.Rules.{found, first_some, record_fault, end_fault}
 use Rattle.cert_checker.specs.Walks.{Event, at_line, events_at, last_events, refusal_event, text_event, walk, walk_under}
 use Rattle.cert_checker.specs.Walks as walks
 use Rattle.cert_checker.proofs.Walked.{passing_is_valid_lem}
-use Rattle.bound_run.specs.declared.bounds.Asked.{Asked}
-use Rattle.bound_run.specs.declared.replays.Replaying.{Replaying}
+use Rattle.bound_run.specs.Asked.{Asked, Replaying}
 use Rattle.bound_run.specs.declared.words.Plan.{Plan}
 use Rattle.bound_run.specs.declared.words.WordFault.{WordFault}
 use Rattle.bound_run.specs.declared.status.Status.{Status}

@@ -31,7 +31,7 @@ use Rattle.relaxation.specs.Prices.{most_paid}
 use Rattle.relaxation.proofs.Whole.{timeline_weights}
 use Rattle.schedule_round.specs.Laws.{IsBestSchedule, full_flags}
 use Rattle.schedule_round.proofs.EqualSizes.{best_schedule, equal_sizes_whole}
-use Rattle.bound_run.specs.declared.bounds.Asked.{Asked}
+use Rattle.bound_run.specs.Asked.{Asked}
 use Rattle.window_bounds.specs.Solutions.{prices_in}
 use Rattle.bound_run.specs.Made.{HasLeastWindows, IsBelowWindows, IsMade, IsNear, IsOfMode, is_unwindowed, records_of, terms_asked, width_of}
 use Rattle.bound_run.specs.Modes.{IsModeInRange}

@@ -13,8 +13,7 @@ use Rattle.trace_any.specs.declared.format.Format.{Format}
 use Rattle.trace_any.specs.Readings.{full_limits}
 use Rattle.trace_any.specs.Readers.{IsNotLoaded, IsWhole, fresh, to_come, known}
 use Rattle.trace_any.proofs.Coming.{fresh_to_come}
-use Rattle.bound_run.specs.declared.bounds.Asked.{Asked}
-use Rattle.bound_run.specs.declared.replays.Replaying.{Replaying}
+use Rattle.bound_run.specs.Asked.{Asked, Replaying}
 use Rattle.bound_run.specs.declared.bounds.BoundsFault.{BoundsFault}
 use Rattle.bound_run.specs.declared.bounds.BoundsFault.TheVariants as bounds
 use Rattle.bound_run.specs.BoundsFaults.{FailsBounds}

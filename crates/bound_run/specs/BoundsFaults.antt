@@ -1,7 +1,7 @@
 -- Why a trace has no bounds as asked for.
 use Rattle.std.specs.Prelude.{List}
 use Rattle.cache_model.specs.declared.objects.Object.{Object}
-use Rattle.bound_run.specs.declared.bounds.Asked.{Asked}
+use Rattle.bound_run.specs.Asked.{Asked}
 use Rattle.bound_run.specs.declared.bounds.BoundsFault.{BoundsFault}
 use Rattle.bound_run.specs.declared.bounds.BoundsFault.TheVariants.{Denominator, NoMemory}
 use Rattle.bound_run.specs.Made.{RefusesDenominator}

@@ -12,8 +12,7 @@ use Rattle.bound_report.specs.Reports.{report_text}
 use Rattle.cache_model.specs.Units.{HasWholeCosts}
 use Rattle.cert_checker.specs.declared.verdict.Verdict.{Verdict}
 use Rattle.bound_report.specs.Verdicts.{verdict_text}
-use Rattle.bound_run.specs.declared.bounds.Asked.{Asked}
-use Rattle.bound_run.specs.declared.replays.Replaying.{Replaying}
+use Rattle.bound_run.specs.Asked.{Asked, Replaying}
 use Rattle.bound_run.specs.declared.words.Plan.{Plan}
 use Rattle.bound_run.specs.declared.words.WordFault.{WordFault}
 use Rattle.bound_run.specs.Inputs.{IsLoaded}

@@ -15,8 +15,7 @@ use Rattle.trace_any.specs.Readings.{reading, full_limits}
 use Rattle.trace_any.specs.Readers.{IsWhole}
 use Rattle.cert_checker.specs.declared.verdict.Verdict.{Verdict}
 use Rattle.cert_checker.specs.Walks.{Event, walk}
-use Rattle.bound_run.specs.declared.bounds.Asked.{Asked}
-use Rattle.bound_run.specs.declared.replays.Replaying.{Replaying}
+use Rattle.bound_run.specs.Asked.{Asked, Replaying}
 use Rattle.bound_run.specs.Made.{AreTexts, RefusesDenominator}
 use Rattle.bound_run.specs.Replays.{IsReplayText}
 

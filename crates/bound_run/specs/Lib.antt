@@ -1,4 +1,5 @@
 pub mod Modes
+pub mod Asked
 pub mod Tasks
 pub mod Words
 pub mod Statuses

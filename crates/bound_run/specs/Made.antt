@@ -28,7 +28,7 @@ use Rattle.relaxation.specs.Faults.{amount_of}
 use Rattle.constant_price.specs.Constants.{IsLeastConstant, constant_prices}
 use Rattle.schedule_round.specs.Laws.{IsBestSchedule, full_flags}
 use Rattle.window_bounds.specs.Solutions.{AreSolutions, prices_in, value_of_windows, window_count}
-use Rattle.bound_run.specs.declared.bounds.Asked.{Asked}
+use Rattle.bound_run.specs.Asked.{Asked}
 
 -- the terms that are asked for: every request counts
 abbrev pub terms_asked : Asked → Terms

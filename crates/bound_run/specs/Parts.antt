@@ -11,7 +11,7 @@ use Rattle.bound_report.specs.Refusals.{refusal_line}
 use Rattle.bound_report.specs.Verdicts.{verdict_text}
 use Rattle.cert_checker.specs.Walks as walk
 use Rattle.cert_checker.specs.declared.verdict.Verdict.{Verdict}
-use Rattle.bound_run.specs.declared.bounds.Asked.{Asked}
+use Rattle.bound_run.specs.Asked.{Asked}
 use Rattle.bound_run.specs.Inputs.{IsAccepted, IsFirstEvent, IsPastDenominator, IsRefused}
 use Rattle.bound_run.specs.Statuses.{Ending, done, refused, unreported}
 

@@ -16,7 +16,7 @@ use Rattle.belady_laws.specs.Best.{IsBest}
 use Rattle.replay_core.specs.declared.counts.Replay.{Replay}
 use Rattle.bound_report.specs.declared.replays.ReplayFacts.{ReplayFacts}
 use Rattle.bound_report.specs.Replays.{replay_text, with_warmup}
-use Rattle.bound_run.specs.declared.replays.Replaying.{Replaying}
+use Rattle.bound_run.specs.Asked.{Replaying}
 
 -- what a replay earns by an objective
 abbrev pub earned_by : Objective → ℕ → ℕ → ℕ

@@ -9,8 +9,7 @@ use Rattle.bound_report.specs.declared.refusal.Refusal.TheVariants as refusal
 use Rattle.bound_report.specs.Refusals.{refusal_line}
 use Rattle.bound_report.specs.Verdicts.{verdict_text}
 use Rattle.cert_checker.specs.declared.verdict.Verdict.{Verdict}
-use Rattle.bound_run.specs.declared.bounds.Asked.{Asked}
-use Rattle.bound_run.specs.declared.replays.Replaying.{Replaying}
+use Rattle.bound_run.specs.Asked.{Asked, Replaying}
 use Rattle.bound_run.specs.declared.words.Plan.{Plan}
 use Rattle.bound_run.specs.declared.words.WordFault.{WordFault}
 use Rattle.bound_run.specs.declared.status.Status.{Status}

@@ -3,8 +3,7 @@ use Rattle.std.specs.Prelude.{◌^◌, ◌≤◌}
 use Rattle.trace_any.specs.declared.format.Format.{Format}
 use Rattle.trace_any.specs.Readings.{IsFormat}
 use Rattle.relaxation.specs.Denominators.{IsChoice}
-use Rattle.bound_run.specs.declared.bounds.Asked.{Asked}
-use Rattle.bound_run.specs.declared.replays.Replaying.{Replaying}
+use Rattle.bound_run.specs.Asked.{Asked, Replaying}
 use Rattle.bound_run.specs.declared.words.Plan.{Plan}
 use Rattle.bound_run.specs.declared.words.Plan.TheVariants.{Bounds, Check, Replay}
 use Rattle.bound_run.specs.Modes.{IsModeInRange}

@@ -8,36 +8,26 @@ ghost use Rattle.cache_model.specs.Claim.{IsAllowed, score, contents_of};
 ghost use Rattle.cache_model.specs.Rounding.{FitTogether, IsMaximal, IsRounded, by_rank};
 ghost use Rattle.cache_model.specs.Texts.{cert_text};
 ghost use Rattle.interval_maker.specs.Timelines.{IsTimeline, starting_at, timeline_of};
-ghost use Rattle.relaxation.specs.Denominators.{IsChoice, IsChosen};
+ghost use Rattle.relaxation.specs.Denominators.{IsChosen};
 ghost use Rattle.relaxation.specs.Faults.{amount_of};
 ghost use Rattle.relaxation.specs.Prices.{most_paid};
+ghost use Rattle.bound_run.specs.Asked.{asked_by};
 ghost use Rattle.bound_run.specs.BoundsFaults.{FailsBounds};
 ghost use Rattle.bound_run.specs.Made.{AreTexts, IsMade, is_unwindowed, record_of, records_of, terms_asked};
 ghost use Rattle.bound_run.specs.Records.{HasEach, records_in};
-ghost use Rattle.bound_run.specs.Modes.{IsModeInRange};
 
-use crate::relaxed::{Relaxed, Scale, relax, width_of};
+use crate::relaxed::{Relaxed, relax, width_of};
+use crate::tasks::BoundsTask;
 use bound_base::NoMemory;
 use bound_io::{Failed, GrowSink, Sink};
 use bound_report::{BoundFacts, LimitName, Mode, Refusal, report_text};
 use cache_model::{Header, Record, Terms};
-use cache_rules::{Objective, Trace, score_of_fitting};
+use cache_rules::{Trace, score_of_fitting};
 use cert_format::{write_end, write_header, write_record};
 use interval_maker::{Intervals, make};
-use relaxation::{
-    Denominator, DenominatorChoice, Sums, bound_of, denominator_for, unit_of, value_of_schedule,
-};
+use relaxation::{Denominator, Scale, Sums, bound_of, denominator_for, unit_of, value_of_schedule};
 use schedule_round::{Keeps, round};
 use std::alloc::Global;
-
-/// Which bounds are asked for. The capacity is in bytes.
-#[derive(Clone, Copy)]
-pub struct Asked {
-    pub capacity: u64,
-    pub objective: Objective,
-    pub mode: Mode,
-    pub denominator: DenominatorChoice,
-}
 
 /// Why there are no bounds.
 #[derive(Clone, Copy)]
@@ -96,10 +86,10 @@ impl From<BoundsFault> for Refusal {
     }
 }
 
-impl Asked {
+impl BoundsTask {
     // What the objective, the capacity and the warm-up are. Every request counts.
     fn terms(&self) -> Terms
-        ensures { result ≡ terms_asked self.now }
+        ensures { result ≡ terms_asked (asked_by self.now) }
     {
         Terms {
             objective: self.objective,
@@ -116,9 +106,6 @@ fn upper_of(
     scale: Scale,
     prices: &[u128],
 ) -> Result<u128, NoMemory>
-    requires unit { 1 ≤ scale.unit }
-    requires units { 1 ≤ scale.units }
-    requires denominator { scale.denominator ≤ 2 ^ 48 }
     requires few { length prices.now ≤ 2 ^ 25 }
     requires each { length prices.now ≡ intervals.now.steps }
     requires paid { scale.units * sum prices.now ≤ most_paid }
@@ -132,19 +119,18 @@ fn upper_of(
 // The schedule that is rounded from the flagged intervals.
 fn schedule_of(
     alloc: Global,
-    asked: &Asked,
+    asked: &BoundsTask,
     trace: &Trace,
     intervals: &Intervals,
     full: &[bool],
 ) -> Result<Schedule, NoMemory>
-    requires capacity { (1 ≤ asked.now.capacity) × (asked.now.capacity ≤ 2 ^ 56) }
-    requires intervals { intervals.now ≡ timeline_of (terms_asked asked.now) trace.now }
+    requires intervals { intervals.now ≡ timeline_of (terms_asked (asked_by asked.now)) trace.now }
     requires fit { All (λ i. i.size ≤ asked.now.capacity) intervals.now.items }
     requires flags { FitTogether intervals.now.items asked.now.capacity full.now }
     ensures rounded { IfOk result (λ s. IsRounded by_rank intervals.now.items asked.now.capacity (length trace.now) full.now s.keeps) }
     ensures maximal { IfOk result (λ s. IsMaximal intervals.now.items asked.now.capacity s.keeps) }
     ensures allowed { IfOk result (λ s. IsAllowed asked.now.capacity trace.now (contents_of trace.now s.keeps)) }
-    ensures lower { IfOk result (λ s. s.lower ≡ score (terms_asked asked.now) trace.now (contents_of trace.now s.keeps)) }
+    ensures lower { IfOk result (λ s. s.lower ≡ score (terms_asked (asked_by asked.now)) trace.now (contents_of trace.now s.keeps)) }
 {
     let keeps = round(alloc, intervals, asked.capacity, full)?;
     let lower = score_of_fitting(trace, asked.terms(), keeps.as_slice());
@@ -153,19 +139,18 @@ fn schedule_of(
 
 // The denominator that is asked for.
 fn denominator_of(
-    asked: &Asked,
+    asked: &BoundsTask,
     trace: &Trace,
     intervals: &Intervals,
     unit: u64,
 ) -> Result<Denominator, BoundsFault>
-    requires choice { IsChoice asked.now.denominator }
-    requires intervals { intervals.now ≡ timeline_of (terms_asked asked.now) trace.now }
+    requires intervals { intervals.now ≡ timeline_of (terms_asked (asked_by asked.now)) trace.now }
     requires unit { IsUnit intervals.now.items unit }
     requires positive { 1 ≤ unit }
     ensures chosen { IfOk result (λ d. IsChosen asked.now.denominator intervals.now.items unit d.value) }
     ensures range { IfOk result (λ d. (1 ≤ d.value) × (d.value ≤ 2 ^ 48)) }
     ensures exact { IfOk result (λ d. IsTrue d.exact ↔ HasWholeCosts intervals.now.items unit d.value) }
-    ensures refused { IfErr result (FailsBounds asked.now trace.now) }
+    ensures refused { IfErr result (FailsBounds (asked_by asked.now) trace.now) }
 {
     match denominator_for(intervals, unit, asked.denominator) {
         Ok(denominator) => Ok(denominator),
@@ -193,20 +178,17 @@ fn is_exact(mode: Mode, steps: u32, whole_costs: bool) -> bool
 // The header, the prices and flows, and what the schedule keeps, where the intervals are those of the trace.
 fn parts_of(
     alloc: Global,
-    asked: &Asked,
+    asked: &BoundsTask,
     trace: &Trace,
     intervals: &Intervals,
 ) -> Result<(Header, Relaxed, Keeps), BoundsFault>
-    requires capacity { (1 ≤ asked.now.capacity) × (asked.now.capacity ≤ 2 ^ 56) }
-    requires mode { IsModeInRange asked.now.mode }
-    requires choice { IsChoice asked.now.denominator }
-    requires intervals { intervals.now ≡ timeline_of (terms_asked asked.now) trace.now }
+    requires intervals { intervals.now ≡ timeline_of (terms_asked (asked_by asked.now)) trace.now }
     requires timeline { IsTimeline intervals.now }
     requires fit { All (λ i. i.size ≤ asked.now.capacity) intervals.now.items }
-    ensures made { IfOk result (λ p. IsMade asked.now trace.now p.1.price p.0 (records_of p.1.solution.prices p.2 intervals.now.items p.1.solution.flows)) }
+    ensures made { IfOk result (λ p. IsMade (asked_by asked.now) trace.now p.1.price p.0 (records_of p.1.solution.prices p.2 intervals.now.items p.1.solution.flows)) }
     ensures intervals { IfOk result (λ p. intervals.now.items ≡ eligible_of trace.now p.0) }
     ensures each { IfOk result (λ p. HasEach (record { header = p.0; relaxed = p.1; keeps = p.2; intervals = intervals.now })) }
-    ensures refused { IfErr result (FailsBounds asked.now trace.now) }
+    ensures refused { IfErr result (FailsBounds (asked_by asked.now) trace.now) }
 {
     let unit = unit_of(intervals);
     let units = asked.capacity / unit;
@@ -216,7 +198,7 @@ fn parts_of(
         units,
         denominator: denominator.value,
     };
-    let relaxed = relax(alloc, asked.mode, intervals, scale)?;
+    let relaxed = relax(alloc, asked, intervals, scale)?;
     let upper = upper_of(alloc, intervals, scale, relaxed.solution.prices())?;
     let flow = value_of_schedule(intervals, unit, denominator.value, relaxed.solution.flows());
     let schedule = schedule_of(alloc, asked, trace, intervals, &relaxed.full)?;
@@ -236,14 +218,11 @@ fn parts_of(
 }
 
 // The certificate of a trace, in parts.
-fn bounds_of(alloc: Global, asked: &Asked, trace: &Trace) -> Result<Bounds, BoundsFault>
-    requires capacity { (1 ≤ asked.now.capacity) × (asked.now.capacity ≤ 2 ^ 56) }
-    requires mode { IsModeInRange asked.now.mode }
-    requires choice { IsChoice asked.now.denominator }
-    ensures made { IfOk result (λ b. IsMade asked.now trace.now b.relaxed.price b.header (records_in b)) }
+fn bounds_of(alloc: Global, asked: &BoundsTask, trace: &Trace) -> Result<Bounds, BoundsFault>
+    ensures made { IfOk result (λ b. IsMade (asked_by asked.now) trace.now b.relaxed.price b.header (records_in b)) }
     ensures intervals { IfOk result (λ b. b.intervals.items ≡ eligible_of trace.now b.header) }
     ensures each { IfOk result HasEach }
-    ensures refused { IfErr result (FailsBounds asked.now trace.now) }
+    ensures refused { IfErr result (FailsBounds (asked_by asked.now) trace.now) }
 {
     let intervals = make(alloc, trace, asked.capacity, asked.objective, 0)?;
     let (header, relaxed, keeps) = parts_of(alloc, asked, trace, &intervals)?;
@@ -310,15 +289,15 @@ fn cert_of(alloc: Global, bounds: &Bounds) -> Result<Vec<u8>, NoMemory>
 // The texts of a certificate that is made of the trace.
 fn texts_with(
     alloc: Global,
-    asked: &Asked,
+    asked: &BoundsTask,
     trace: &Trace,
     dropped: u64,
     bounds: &Bounds,
 ) -> Result<Texts, NoMemory>
-    requires made { IsMade asked.now trace.now bounds.now.relaxed.price bounds.now.header (records_in bounds.now) }
+    requires made { IsMade (asked_by asked.now) trace.now bounds.now.relaxed.price bounds.now.header (records_in bounds.now) }
     requires intervals { bounds.now.intervals.items ≡ eligible_of trace.now bounds.now.header }
     requires each { HasEach bounds.now }
-    ensures { IfOk result (λ texts. AreTexts asked.now trace.now dropped texts.cert.items texts.report.items) }
+    ensures { IfOk result (λ texts. AreTexts (asked_by asked.now) trace.now dropped texts.cert.items texts.report.items) }
 {
     let facts = BoundFacts {
         header: bounds.header,
@@ -337,15 +316,12 @@ fn texts_with(
 /// The certificate and the report of a trace as asked for, with the number of lines of the trace that were dropped.
 pub fn texts_of(
     alloc: Global,
-    asked: &Asked,
+    asked: &BoundsTask,
     trace: &Trace,
     dropped: u64,
 ) -> Result<Texts, BoundsFault>
-    requires capacity { (1 ≤ asked.now.capacity) × (asked.now.capacity ≤ 2 ^ 56) }
-    requires mode { IsModeInRange asked.now.mode }
-    requires choice { IsChoice asked.now.denominator }
-    ensures texts { IfOk result (λ texts. AreTexts asked.now trace.now dropped texts.cert.items texts.report.items) }
-    ensures refused { IfErr result (FailsBounds asked.now trace.now) }
+    ensures texts { IfOk result (λ texts. AreTexts (asked_by asked.now) trace.now dropped texts.cert.items texts.report.items) }
+    ensures refused { IfErr result (FailsBounds (asked_by asked.now) trace.now) }
 {
     let texts = {
         let bounds = bounds_of(alloc, asked, trace)?;

@@ -9,6 +9,7 @@ mod operands;
 mod relaxed;
 mod replays;
 mod status;
+mod tasks;
 mod top;
 mod words;
 

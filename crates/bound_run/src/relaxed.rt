@@ -10,22 +10,15 @@ ghost use Rattle.schedule_round.specs.Laws.{full_flags};
 ghost use Rattle.bound_run.specs.Made.{IsOfMode, width_of};
 ghost use Rattle.bound_run.specs.Modes.{IsModeInRange};
 
+use crate::tasks::BoundsTask;
 use bound_base::NoMemory;
 use bound_report::{Mode, Window};
 use constant_price::least;
 use flow_model::Solution;
 use interval_maker::Intervals;
-use relaxation::instance;
+use relaxation::{Scale, instance};
 use std::alloc::Global;
 use window_bounds::solve_windows;
-
-/// The bytes of a unit, how many units the cache holds, and the denominator.
-#[derive(Clone, Copy)]
-pub struct Scale {
-    pub unit: u64,
-    pub units: u64,
-    pub denominator: u64,
-}
 
 /// A price of each step and a flow of each interval, for each interval whether its flow is its whole weight, and the
 /// price of all steps but the last if they have one.
@@ -85,10 +78,7 @@ fn by_windows(
     scale: Scale,
 ) -> Result<Relaxed, NoMemory>
     requires mode { IsModeInRange (Flow window) }
-    requires unit { 1 ≤ scale.unit }
     requires divides { All (λ i. scale.unit ∣ i.size) intervals.now.items }
-    requires units { (1 ≤ scale.units) × (scale.units ≤ 2 ^ 56) }
-    requires denominator { (1 ≤ scale.denominator) × (scale.denominator ≤ 2 ^ 48) }
     ensures of_mode { IfOk result (λ r. IsOfMode (Flow window) intervals.now scale.unit scale.units scale.denominator r.solution.prices r.solution.flows r.price) }
     ensures each { IfOk result (λ r. length r.solution.prices ≡ intervals.now.steps) }
     ensures paid { IfOk result (λ r. scale.units * sum r.solution.prices ≤ most_paid) }
@@ -112,16 +102,12 @@ fn by_windows(
 /// The prices and flows of a mode, and which flows are full.
 pub fn relax(
     alloc: Global,
-    mode: Mode,
+    asked: &BoundsTask,
     intervals: &Intervals,
     scale: Scale,
 ) -> Result<Relaxed, NoMemory>
-    requires mode { IsModeInRange mode }
-    requires unit { 1 ≤ scale.unit }
     requires divides { All (λ i. scale.unit ∣ i.size) intervals.now.items }
-    requires units { (1 ≤ scale.units) × (scale.units ≤ 2 ^ 56) }
-    requires denominator { (1 ≤ scale.denominator) × (scale.denominator ≤ 2 ^ 48) }
-    ensures of_mode { IfOk result (λ r. IsOfMode mode intervals.now scale.unit scale.units scale.denominator r.solution.prices r.solution.flows r.price) }
+    ensures of_mode { IfOk result (λ r. IsOfMode asked.now.mode intervals.now scale.unit scale.units scale.denominator r.solution.prices r.solution.flows r.price) }
     ensures each { IfOk result (λ r. length r.solution.prices ≡ intervals.now.steps) }
     ensures paid { IfOk result (λ r. scale.units * sum r.solution.prices ≤ most_paid) }
     ensures last { IfOk result (λ r. slice_index_or r.solution.prices (intervals.now.steps - 1) 0 ≡ 0) }
@@ -133,7 +119,7 @@ pub fn relax(
         units,
         denominator,
     } = scale;
-    match mode {
+    match asked.mode {
         Mode::Flow { window } => by_windows(alloc, window, intervals, scale),
         Mode::Constant => {
             at_one_price(alloc, intervals, least(intervals, unit, units, denominator))

@@ -4,8 +4,10 @@ ghost use Rattle.cache_model.specs.Objects.{objects_of};
 ghost use Rattle.policy_laws.specs.Laws.{HaveOneSize};
 ghost use Rattle.policy_model.specs.Runs.{AreScores};
 ghost use Rattle.replay_core.specs.Laws.{IsFresh, IsRunOf};
+ghost use Rattle.bound_run.specs.Asked.{replaying_by};
 ghost use Rattle.bound_run.specs.Replays.{IsReplay, IsReplayText, IsWithinBounds};
 
+use crate::tasks::ReplayTask;
 use belady_laws::{best_replay, size_clash};
 use bound_base::NoMemory;
 use bound_report::{ReplayFacts, push_warmup, replay_text};
@@ -15,14 +17,6 @@ use replay_core::{Policy, Replay, replay};
 use replay_rank::{Belady, Lfu};
 use replay_recency::{Clock, Fifo, Lru};
 use std::alloc::Global;
-
-/// Which replay is asked for: the policy, its capacity in bytes, and the request from which its hits count.
-#[derive(Clone, Copy)]
-pub struct Replaying {
-    pub policy: PolicyName,
-    pub capacity: u64,
-    pub warmup: u32,
-}
 
 /// Replays the trace, and counts the hits from request `warmup` on. Whatever the policy, no certificate that is valid for
 /// the trace, of the same capacity and warm-up, has a smaller upper bound. It takes what a replay takes.
@@ -42,32 +36,28 @@ pub fn bounded_replay<P: Policy>(
     replay(alloc, trace, warmup, policy)
 }
 
-fn replay_lru(alloc: Global, trace: &Trace, r: Replaying) -> Result<Replay, NoMemory>
-    requires { (1 ≤ r.capacity) × (r.capacity ≤ 2 ^ 56) }
+fn replay_lru(alloc: Global, trace: &Trace, r: ReplayTask) -> Result<Replay, NoMemory>
     ensures { IfOk result (IsReplay PolicyName.Lru r.capacity r.warmup trace.now) }
 {
     let mut policy = Lru::new(alloc, r.capacity, trace.objects())?;
     bounded_replay(alloc, trace, r.warmup, &mut policy)
 }
 
-fn replay_fifo(alloc: Global, trace: &Trace, r: Replaying) -> Result<Replay, NoMemory>
-    requires { (1 ≤ r.capacity) × (r.capacity ≤ 2 ^ 56) }
+fn replay_fifo(alloc: Global, trace: &Trace, r: ReplayTask) -> Result<Replay, NoMemory>
     ensures { IfOk result (IsReplay PolicyName.Fifo r.capacity r.warmup trace.now) }
 {
     let mut policy = Fifo::new(alloc, r.capacity, trace.objects())?;
     bounded_replay(alloc, trace, r.warmup, &mut policy)
 }
 
-fn replay_clock(alloc: Global, trace: &Trace, r: Replaying) -> Result<Replay, NoMemory>
-    requires { (1 ≤ r.capacity) × (r.capacity ≤ 2 ^ 56) }
+fn replay_clock(alloc: Global, trace: &Trace, r: ReplayTask) -> Result<Replay, NoMemory>
     ensures { IfOk result (IsReplay PolicyName.Clock r.capacity r.warmup trace.now) }
 {
     let mut policy = Clock::new(alloc, r.capacity, trace.objects())?;
     bounded_replay(alloc, trace, r.warmup, &mut policy)
 }
 
-fn replay_lfu(alloc: Global, trace: &Trace, r: Replaying) -> Result<Replay, NoMemory>
-    requires { (1 ≤ r.capacity) × (r.capacity ≤ 2 ^ 56) }
+fn replay_lfu(alloc: Global, trace: &Trace, r: ReplayTask) -> Result<Replay, NoMemory>
     ensures { IfOk result (IsReplay PolicyName.Lfu r.capacity r.warmup trace.now) }
 {
     let mut policy = Lfu::new(alloc, r.capacity, trace.objects())?;
@@ -86,8 +76,7 @@ fn replay_best(alloc: Global, trace: &Trace, capacity: u64) -> Result<Replay, No
     }
 }
 
-fn replay_farthest(alloc: Global, trace: &Trace, r: Replaying) -> Result<Replay, NoMemory>
-    requires { (1 ≤ r.capacity) × (r.capacity ≤ 2 ^ 56) }
+fn replay_farthest(alloc: Global, trace: &Trace, r: ReplayTask) -> Result<Replay, NoMemory>
     ensures { IfOk result (IsReplay PolicyName.Belady r.capacity r.warmup trace.now) }
 {
     let mut policy = Belady::new(alloc, r.capacity, trace.objects())?;
@@ -96,8 +85,7 @@ fn replay_farthest(alloc: Global, trace: &Trace, r: Replaying) -> Result<Replay,
 
 // Belady's rule gives up what is asked for farthest in the future. If every request counts and all that fits has one
 // size, that is best.
-fn replay_belady(alloc: Global, trace: &Trace, r: Replaying) -> Result<Replay, NoMemory>
-    requires { (1 ≤ r.capacity) × (r.capacity ≤ 2 ^ 56) }
+fn replay_belady(alloc: Global, trace: &Trace, r: ReplayTask) -> Result<Replay, NoMemory>
     ensures { IfOk result (IsReplay PolicyName.Belady r.capacity r.warmup trace.now) }
 {
     match size_clash(trace, r.capacity) {
@@ -107,8 +95,7 @@ fn replay_belady(alloc: Global, trace: &Trace, r: Replaying) -> Result<Replay, N
 }
 
 // The replay of a policy.
-fn replay_by(alloc: Global, trace: &Trace, r: Replaying) -> Result<Replay, NoMemory>
-    requires { (1 ≤ r.capacity) × (r.capacity ≤ 2 ^ 56) }
+fn replay_by(alloc: Global, trace: &Trace, r: ReplayTask) -> Result<Replay, NoMemory>
     ensures { IfOk result (IsReplay r.policy r.capacity r.warmup trace.now) }
 {
     match r.policy {
@@ -123,12 +110,11 @@ fn replay_by(alloc: Global, trace: &Trace, r: Replaying) -> Result<Replay, NoMem
 /// The report of the replay of a trace, with the number of its lines that were dropped.
 pub fn replay_report(
     alloc: Global,
-    r: Replaying,
+    r: ReplayTask,
     trace: &Trace,
     dropped: u64,
 ) -> Result<Vec<u8>, NoMemory>
-    requires { (1 ≤ r.capacity) × (r.capacity ≤ 2 ^ 56) }
-    ensures { IfOk result (λ text. IsReplayText r trace.now dropped text.items) }
+    ensures { IfOk result (λ text. IsReplayText (replaying_by r) trace.now dropped text.items) }
 {
     let replay = replay_by(alloc, trace, r)?;
     let facts = ReplayFacts {

@@ -1,23 +1,23 @@
 //! All that the program does, over any sources and sinks.
-ghost use Rattle.std.specs.Prelude.{◌≡◌, ◌≤◌, ◌^◌, map, string_bytes, Result, IfOk, IfErr};
+ghost use Rattle.std.specs.Prelude.{◌≡◌, map, string_bytes, Result, IfOk, IfErr};
 ghost use Rattle.bound_io.specs.Devices.{Gets, seen};
 ghost use Rattle.bound_io.specs.Reading.{LosesPrefix};
 ghost use Rattle.trace_any.specs.Readings.{IsFormat};
-ghost use Rattle.relaxation.specs.Denominators.{IsChoice};
 ghost use Rattle.bound_report.specs.Refusals.{refusal_line};
+ghost use Rattle.bound_run.specs.Asked.{asked_by, replaying_by};
 ghost use Rattle.bound_run.specs.Headline.{Headline};
 ghost use Rattle.bound_run.specs.Inputs.{IsLoaded, IsReady, IsReplayed};
 ghost use Rattle.bound_run.specs.Parts.{RefusesBounds, RefusesLoading, WritesOut, WritesReport};
 ghost use Rattle.bound_run.specs.Run.{BoundsEnd, CheckEnds, Completes, ReplayEnds, RunEnds, devices};
 ghost use Rattle.bound_run.specs.Statuses.{ending_of, status_of};
-ghost use Rattle.bound_run.specs.Modes.{IsModeInRange};
 ghost use Rattle.bound_run.specs.Tasks.{IsPlanInRange};
 ghost use Rattle.bound_run.specs.Words.{plan};
 
-use crate::bounds::{Asked, Texts, texts_of};
+use crate::bounds::{Texts, texts_of};
 use crate::checking::verdict_of;
-use crate::replays::{Replaying, replay_report};
+use crate::replays::replay_report;
 use crate::status::{Status, refusal_of};
+use crate::tasks::{BoundsTask, ReplayTask};
 use crate::words::{Plan, WordFault, plan_of};
 use bound_io::{Sink, Source, write_all};
 use bound_report::{Refusal, refusal_text};
@@ -50,15 +50,12 @@ fn load_all<T: Source>(
 fn prepare<T: Source>(
     alloc: Global,
     format: Format,
-    asked: &Asked,
+    asked: &BoundsTask,
     trace: &mut T,
 ) -> Result<Texts, Refusal>
     requires format { IsFormat format }
-    requires capacity { (1 ≤ asked.now.capacity) × (asked.now.capacity ≤ 2 ^ 56) }
-    requires mode { IsModeInRange asked.now.mode }
-    requires choice { IsChoice asked.now.denominator }
-    ensures ready { IfOk result (λ texts. IsReady format asked.now (seen T.left T.faults trace.old trace.new) texts.cert.items texts.report.items) }
-    ensures refused { IfErr result (RefusesBounds format asked.now (seen T.left T.faults trace.old trace.new)) }
+    ensures ready { IfOk result (λ texts. IsReady format (asked_by asked.now) (seen T.left T.faults trace.old trace.new) texts.cert.items texts.report.items) }
+    ensures refused { IfErr result (RefusesBounds format (asked_by asked.now) (seen T.left T.faults trace.old trace.new)) }
     ensures source { LosesPrefix (T.left trace.old) (T.left trace.new) }
 {
     let texts = {
@@ -103,16 +100,13 @@ fn write_out<R: Sink, K: Sink>(report: &mut R, made: &mut K, texts: &Texts) -> S
 fn run_bounds<T: Source, R: Sink, K: Sink>(
     alloc: Global,
     format: Format,
-    asked: &Asked,
+    asked: &BoundsTask,
     trace: &mut T,
     report: &mut R,
     made: &mut K,
 ) -> Status
     requires format { IsFormat format }
-    requires capacity { (1 ≤ asked.now.capacity) × (asked.now.capacity ≤ 2 ^ 56) }
-    requires mode { IsModeInRange asked.now.mode }
-    requires choice { IsChoice asked.now.denominator }
-    ensures ends { BoundsEnd format asked.now
+    ensures ends { BoundsEnd format (asked_by asked.now)
         (seen T.left T.faults trace.old trace.new)
         (seen R.written R.faults report.old report.new)
         (seen K.written K.faults made.old made.new) (ending_of result) }
@@ -150,12 +144,11 @@ fn run_check<T: Source, Q: Source, R: Sink>(
 fn replay_all<T: Source>(
     alloc: Global,
     format: Format,
-    r: Replaying,
+    r: ReplayTask,
     trace: &mut T,
 ) -> Result<Vec<u8>, Refusal>
     requires format { IsFormat format }
-    requires capacity { (1 ≤ r.capacity) × (r.capacity ≤ 2 ^ 56) }
-    ensures replayed { IfOk result (λ text. IsReplayed format r (seen T.left T.faults trace.old trace.new) text.items) }
+    ensures replayed { IfOk result (λ text. IsReplayed format (replaying_by r) (seen T.left T.faults trace.old trace.new) text.items) }
     ensures refused { IfErr result (RefusesLoading format (seen T.left T.faults trace.old trace.new)) }
     ensures source { LosesPrefix (T.left trace.old) (T.left trace.new) }
 {
@@ -170,13 +163,12 @@ fn replay_all<T: Source>(
 fn run_replay<T: Source, R: Sink>(
     alloc: Global,
     format: Format,
-    r: Replaying,
+    r: ReplayTask,
     trace: &mut T,
     report: &mut R,
 ) -> Status
     requires format { IsFormat format }
-    requires capacity { (1 ≤ r.capacity) × (r.capacity ≤ 2 ^ 56) }
-    ensures ends { ReplayEnds format r
+    ensures ends { ReplayEnds format (replaying_by r)
         (seen T.left T.faults trace.old trace.new)
         (seen R.written R.faults report.old report.new) (ending_of result) }
     ensures source { LosesPrefix (T.left trace.old) (T.left trace.new) }
@@ -213,7 +205,7 @@ fn run_plan<T: Source, Q: Source, R: Sink, K: Sink>(
             mode,
             denominator,
         } => {
-            let asked = Asked {
+            let asked = BoundsTask {
                 capacity,
                 objective,
                 mode,
@@ -228,7 +220,7 @@ fn run_plan<T: Source, Q: Source, R: Sink, K: Sink>(
             policy,
             warmup,
         } => {
-            let r = Replaying {
+            let r = ReplayTask {
                 policy,
                 capacity,
                 warmup,

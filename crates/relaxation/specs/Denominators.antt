@@ -1,5 +1,6 @@
 -- Which denominator is chosen, and when none may be.
 use Rattle.std.specs.Prelude.{◌≡◌, ℕ, ◌*◌, ◌%◌, ◌^◌, ◌<◌, ◌≤◌, ◌==◌, Bool, min, List, length, take}
+use Rattle.std.specs.Coded.{×_prop, Unit-prop, le_prop}
 use Rattle.cache_model.specs.declared.intervals.Interval.{Interval}
 use Rattle.cache_model.specs.Units.{IsLeastWhole, weight}
 use Rattle.relaxation.specs.declared.denominators.DenominatorChoice.{DenominatorChoice}
@@ -14,6 +15,12 @@ abbrev pub IsChoice : DenominatorChoice → Type 0
 IsChoice Auto = Unit {0}
 IsChoice Exact = Unit {0}
 IsChoice (Given n) = (1 ≤ n) × (n ≤ most)
+
+-- a choice is in its range in one way
+pub IsChoice-prop : (choice : DenominatorChoice) → IsProp (IsChoice choice)
+IsChoice-prop Auto = Unit-prop
+IsChoice-prop Exact = Unit-prop
+IsChoice-prop (Given n) = ×_prop le_prop le_prop
 
 -- whether the cost of an interval is not rounded
 abbrev pub has_whole_cost : ℕ → ℕ → Interval → Bool

@@ -9,6 +9,7 @@ mod arcs;
 mod denominators;
 mod flows;
 mod prices;
+mod scale;
 mod units;
 
 pub use arcs::instance;
@@ -18,4 +19,5 @@ pub use flow_model::{Instance, OuterArc};
 pub use flow_windows::window_instance;
 pub use flows::{FlowFault, flow_value, value_of_schedule};
 pub use prices::{PriceFault, Sums, bound_of};
+pub use scale::Scale;
 pub use units::unit_of;

@@ -4,19 +4,19 @@ use Rattle.std.proofs.lemmas.Result.{err_from_is_err_and}
 use Rattle.schedule_round.proofs.Flags.{full_flags_fit}
 use Rattle.bound_run.proofs.MadeOf.{made_of, some_units, unit-le_capacity}
 use Rattle.bound_run.proofs.Relaxing.{flows_each}
+use Rattle.bound_run.specs.Asked.{asked_by}
 use Rattle.bound_run.proofs.bounds.parts_of.Goals as goal
 
-pub relax-requires-clause-units : goal.relax-requires-clause-units
-relax-requires-clause-units c = (
-  some_units c.args.asked.now.capacity c.unit_of-unit.result c.unit_of-unit.ensures.positive
-      (unit-le_capacity c.args.intervals.now c.args.asked.now.capacity c.unit_of-unit.result c.requires.capacity.0 c.requires.timeline c.requires.fit c.unit_of-unit.ensures.unit),
-  omega (arith, div-le_self c.args.asked.now.capacity c.unit_of-unit.result, c.requires.capacity.1),
-)
-
-pub upper_of-requires-clause-units : goal.upper_of-requires-clause-units
-upper_of-requires-clause-units c =
+pub invariant_of-scale : goal.invariant_of-scale
+invariant_of-scale c = record {
+  some_unit = c.unit_of-unit.ensures.positive;
+  units_in_range = (
     some_units c.args.asked.now.capacity c.unit_of-unit.result c.unit_of-unit.ensures.positive
-    (unit-le_capacity c.args.intervals.now c.args.asked.now.capacity c.unit_of-unit.result c.requires.capacity.0 c.requires.timeline c.requires.fit c.unit_of-unit.ensures.unit)
+        (unit-le_capacity c.args.intervals.now c.args.asked.now.capacity c.unit_of-unit.result c.args.asked.now.capacity_in_range.0 c.requires.timeline c.requires.fit c.unit_of-unit.ensures.unit),
+    omega (arith, div-le_self c.args.asked.now.capacity c.unit_of-unit.result, c.args.asked.now.capacity_in_range.1),
+  );
+  denominator_in_range = c.in_ok-denominator.ensures.range;
+}
 
 pub schedule_of-requires-clause-flags : goal.schedule_of-requires-clause-flags
 schedule_of-requires-clause-flags c =
@@ -26,11 +26,11 @@ schedule_of-requires-clause-flags c =
 pub returns-clause-made : goal.returns-clause-made
 returns-clause-made c =
     rw c.is_exact.ensures
-    (made_of c.args.asked.now c.args.trace.now c.args.intervals.now c.len-requests.result c.unit_of-unit.result (c.args.asked.now.capacity / c.unit_of-unit.result) c.in_ok-denominator.denominator.value c.in_ok-denominator.denominator.exact
+    (made_of (asked_by c.args.asked.now) c.args.trace.now c.args.intervals.now c.len-requests.result c.unit_of-unit.result (c.args.asked.now.capacity / c.unit_of-unit.result) c.in_ok-denominator.denominator.value c.in_ok-denominator.denominator.exact
     c.in_ok-upper.upper c.value_of_schedule-flow.result c.in_ok-schedule.schedule.lower c.in_ok-relaxed.relaxed.price c.in_ok-relaxed.relaxed.solution.prices c.in_ok-relaxed.relaxed.solution.flows c.in_ok-schedule.schedule.keeps
     c.requires.intervals c.len-requests.ensures.requests refl (record {
-      capacity = c.requires.capacity;
-      mode = c.requires.mode;
+      capacity = c.args.asked.now.capacity_in_range;
+      mode = c.args.asked.now.mode_in_range;
       few = omega (arith, c.len-requests.ensures.requests, c.len-requests.ensures.most);
       is_line = c.requires.timeline;
       fit = c.requires.fit;
@@ -63,9 +63,6 @@ returns-clause-each c = record {
   flows = flows_each c.unit_of-unit.result c.args.intervals.now.items c.in_ok-relaxed.relaxed.solution.flows c.in_ok-relaxed.ensures.schedule.within_weights;
 }
 
-pub denominator_of-requires-clause-choice : goal.denominator_of-requires-clause-choice
-denominator_of-requires-clause-choice c = c.requires.choice
-
 pub denominator_of-requires-clause-intervals : goal.denominator_of-requires-clause-intervals
 denominator_of-requires-clause-intervals c = c.requires.intervals
 
@@ -86,17 +83,8 @@ returns-in_err-denominator-clause-refused c =
     let p = err_from_is_err_and c.from_residual.result c.from_residual.ensures.1 in
     rw (p.1, p.2) c.in_err-denominator.ensures.refused
 
-pub relax-requires-clause-mode : goal.relax-requires-clause-mode
-relax-requires-clause-mode c = c.requires.mode
-
-pub relax-requires-clause-unit : goal.relax-requires-clause-unit
-relax-requires-clause-unit c = c.unit_of-unit.ensures.positive
-
-pub relax-requires-clause-divides : goal.relax-requires-clause-divides
-relax-requires-clause-divides c = c.unit_of-unit.ensures.unit.divides
-
-pub relax-requires-clause-denominator : goal.relax-requires-clause-denominator
-relax-requires-clause-denominator c = c.in_ok-denominator.ensures.range
+pub relax-requires : goal.relax-requires
+relax-requires c = record { divides = c.unit_of-unit.ensures.unit.divides }
 
 pub returns-in_err-relaxed-clause-made : goal.returns-in_err-relaxed-clause-made
 returns-in_err-relaxed-clause-made c = rw (err_from_is_err_and c.from_residual-in_err-relaxed.result c.from_residual-in_err-relaxed.ensures.1).1 tt
@@ -105,12 +93,6 @@ pub returns-in_err-relaxed-clause-refused : goal.returns-in_err-relaxed-clause-r
 returns-in_err-relaxed-clause-refused c =
     let p = err_from_is_err_and c.from_residual-in_err-relaxed.result c.from_residual-in_err-relaxed.ensures.1 in
     rw (p.1, p.2) tt
-
-pub upper_of-requires-clause-unit : goal.upper_of-requires-clause-unit
-upper_of-requires-clause-unit c = c.unit_of-unit.ensures.positive
-
-pub upper_of-requires-clause-denominator : goal.upper_of-requires-clause-denominator
-upper_of-requires-clause-denominator c = c.in_ok-denominator.ensures.range.1
 
 pub upper_of-requires-clause-few : goal.upper_of-requires-clause-few
 upper_of-requires-clause-few c = omega (arith, c.requires.timeline.few_steps, c.in_ok-relaxed.ensures.each, ap length c.prices.ensures)
@@ -137,9 +119,6 @@ value_of_schedule-flow-requires-clause-denominator c = c.in_ok-denominator.ensur
 
 pub value_of_schedule-flow-requires-clause-schedule : goal.value_of_schedule-flow-requires-clause-schedule
 value_of_schedule-flow-requires-clause-schedule c = (c.args.asked.now.capacity / c.unit_of-unit.result, rw c.flows.ensures c.in_ok-relaxed.ensures.schedule)
-
-pub schedule_of-requires-clause-capacity : goal.schedule_of-requires-clause-capacity
-schedule_of-requires-clause-capacity c = c.requires.capacity
 
 pub schedule_of-requires-clause-intervals : goal.schedule_of-requires-clause-intervals
 schedule_of-requires-clause-intervals c = c.requires.intervals

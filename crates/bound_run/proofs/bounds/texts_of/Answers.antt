@@ -1,15 +1,6 @@
 use Rattle.std.proofs.lemmas.Result.{err_from_is_err_and}
 use Rattle.bound_run.proofs.bounds.texts_of.Goals as goal
 
-pub bounds_of-requires-clause-capacity : goal.bounds_of-requires-clause-capacity
-bounds_of-requires-clause-capacity c = c.requires.capacity
-
-pub bounds_of-requires-clause-mode : goal.bounds_of-requires-clause-mode
-bounds_of-requires-clause-mode c = c.requires.mode
-
-pub bounds_of-requires-clause-choice : goal.bounds_of-requires-clause-choice
-bounds_of-requires-clause-choice c = c.requires.choice
-
 pub returns-in_err-bounds-clause-texts : goal.returns-in_err-bounds-clause-texts
 returns-in_err-bounds-clause-texts c = rw (err_from_is_err_and c.from_residual.result c.from_residual.ensures.1).1 tt
 

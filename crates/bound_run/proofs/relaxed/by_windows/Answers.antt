@@ -6,7 +6,7 @@ use Rattle.bound_run.proofs.relaxed.by_windows.Goals as goal
 pub returns-clause-paid : goal.returns-clause-paid
 returns-clause-paid c =
     rw c.into_parts-solution.ensures.prices
-    (paid_little c.args.intervals.now c.args.scale.unit c.args.scale.units c.args.scale.denominator c.in_ok-found.found.prices c.steps.ensures.timeline c.requires.unit c.requires.divides c.requires.denominator.1
+    (paid_little c.args.intervals.now c.args.scale.unit c.args.scale.units c.args.scale.denominator c.in_ok-found.found.prices c.steps.ensures.timeline c.args.scale.some_unit c.requires.divides c.args.scale.denominator_in_range.1
     (rw c.in_ok-whole.ensures at c.in_ok-found.ensures.paid))
 
 pub returns-clause-last : goal.returns-clause-last

@@ -32,11 +32,11 @@ unflagged line unit (Err e) is_line positive divides none unset = tt
 
 pub returns-in-Constant-clause-full : goal.returns-in-Constant-clause-full
 returns-in-Constant-clause-full c =
-    unflagged c.args.intervals.now c.args.scale.unit c.at_one_price.result c.at_one_price.ensures.timeline c.requires.unit c.requires.divides c.at_one_price.ensures.flows c.at_one_price.ensures.full
+    unflagged c.args.intervals.now c.args.scale.unit c.at_one_price.result c.at_one_price.ensures.timeline c.args.scale.some_unit c.requires.divides c.at_one_price.ensures.flows c.at_one_price.ensures.full
 
 pub returns-in-Infinite-clause-full : goal.returns-in-Infinite-clause-full
 returns-in-Infinite-clause-full c =
-    unflagged c.args.intervals.now c.args.scale.unit c.at_one_price-in-Infinite.result c.at_one_price-in-Infinite.ensures.timeline c.requires.unit c.requires.divides c.at_one_price-in-Infinite.ensures.flows c.at_one_price-in-Infinite.ensures.full
+    unflagged c.args.intervals.now c.args.scale.unit c.at_one_price-in-Infinite.result c.at_one_price-in-Infinite.ensures.timeline c.args.scale.some_unit c.requires.divides c.at_one_price-in-Infinite.ensures.flows c.at_one_price-in-Infinite.ensures.full
 
 -- the least constant, and no flow
 of_constant : {E : Type 0} (line : Timeline) (unit units denominator price : ℕ) (r : Result Relaxed E) → IsLeastConstant line unit units denominator price → IfOk r (λ x. x.solution.prices ≡ constant_prices price line.steps)

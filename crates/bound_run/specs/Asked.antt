@@ -1,0 +1,29 @@
+-- What bounds and replays are asked for.
+use Rattle.std.specs.Prelude.{ℕ}
+use Rattle.cache_model.specs.declared.objects.Objective.{Objective}
+use Rattle.policy_model.specs.declared.names.PolicyName.{PolicyName}
+use Rattle.relaxation.specs.declared.denominators.DenominatorChoice.{DenominatorChoice}
+use Rattle.bound_report.specs.declared.facts.Mode.{Mode}
+use Rattle.bound_run.specs.declared.tasks.BoundsTask.{BoundsTask}
+use Rattle.bound_run.specs.declared.tasks.ReplayTask.{ReplayTask}
+
+-- the capacity in bytes, what a hit earns, the mode, and which denominator is wanted
+pub record Asked : Type 0 where
+  pub capacity : ℕ
+  pub objective : Objective
+  pub mode : Mode
+  pub denominator : DenominatorChoice
+
+-- the policy, its capacity in bytes, and the request from which its hits count
+pub record Replaying : Type 0 where
+  pub policy : PolicyName
+  pub capacity : ℕ
+  pub warmup : ℕ
+
+-- what a task asks for, apart from the ranges that it keeps
+abbrev pub asked_by : BoundsTask → Asked
+asked_by task = record { capacity = task.capacity; objective = task.objective; mode = task.mode; denominator = task.denominator }
+
+-- the replay that a task asks for
+abbrev pub replaying_by : ReplayTask → Replaying
+replaying_by task = record { policy = task.policy; capacity = task.capacity; warmup = task.warmup }
