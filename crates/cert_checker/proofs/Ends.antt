@@ -1,5 +1,5 @@
 -- The start of a walk, and its end.
-use Rattle.std.proofs.Common.{◌≡◌, ℕ, ◌+◌, ◌-◌, ◌<◌, ◌≤◌, ◌∙◌, sym, refl, ap, subst, List, [], length, arith, Some, None, IfSome, IfErr, Ok, Err}
+use Rattle.std.proofs.Common.{◌≡◌, ℕ, ◌+◌, ◌-◌, ◌<◌, ◌≤◌, ◌∙◌, sym, refl, ap, subst, List, [], length, drop, arith, Option, Some, None, IfSome, IfErr, Ok, Err}
 use Rattle.std.proofs.lemmas.List.{append-nil}
 use Rattle.bound_io.specs.Devices.{device}
 use Rattle.cache_model.specs.declared.objects.Object.{Object}
@@ -8,7 +8,9 @@ use Rattle.cache_model.specs.declared.certificates.Record.{Record}
 use Rattle.cache_model.specs.Texts.{header_len}
 use Rattle.trace_any.specs.Readings as traces
 use Rattle.trace_any.specs.Readers as requests
-use Rattle.trace_any.specs.Readers.{IsWhole}
+use Rattle.trace_any.specs.Readers.{IsWhole, bytes_after}
+use Rattle.trace_any.specs.FirstLines.{HasGiven, HasLostFor}
+use Rattle.trace_any.proofs.Through.{given_none}
 use Rattle.trace_any.proofs.Coming.{fresh_to_come}
 use Rattle.cert_format.specs.declared.fault.CertFault.{CertFault}
 use Rattle.cert_checker.specs.declared.invalid.InvalidKind.{InvalidKind}
@@ -28,11 +30,12 @@ use Rattle.cert_format.proofs.Wholes.{nothing_read}
 use Rattle.cert_checker.specs.declared.verdict.Verdict.{Verdict}
 use Rattle.cert_checker.specs.declared.walking.CheckFault.TheVariants as fault
 use Rattle.cert_checker.specs.Answers.{IsYes}
-use Rattle.cert_checker.specs.Checks.{Inputs, HasChecked, HasCheckedAll, IsFresh, IsLater, IsPassed, IsStop, after_records, of_text}
+use Rattle.cert_checker.specs.Checks.{Inputs, HasChecked, HasCheckedAll, HasLostAsked, IsFresh, IsLater, IsPassed, IsStop, after_records, of_text}
 use Rattle.cert_checker.specs.Rules.{end_fault}
 use Rattle.cert_checker.specs.Summaries.{StandsFor, Summary}
-use Rattle.cert_checker.proofs.Events.{walked_too_few, walked_end_text, walked_end_rule, walked_all}
-use Rattle.cert_checker.proofs.Stops.{if_both, if_one, near_line, near_here, consumed_on, same_records, text_stop, through, walk_at}
+use Rattle.cert_checker.specs.Walks.{asked}
+use Rattle.cert_checker.proofs.Events.{asked_all, walked_too_few, walked_end_text, walked_end_rule, walked_all}
+use Rattle.cert_checker.proofs.Stops.{asked_at, if_both, if_one, near_line, near_here, consumed_on, same_records, text_stop, through, walk_at}
 
 -- nothing stands after the end
 after_end : (cert : lines.Reader) (bytes : List ℕ) → cert.stage ≡ InRecords → cert.left ≡ 0 → lines.to_come cert bytes ≡ certificates.stopped None → after_lines 1 bytes ≡ []
@@ -43,6 +46,11 @@ after_end cert bytes at none over =
     let faultless : certificates.end_fault n bytes ≡ None = ap (λ r. r.fault) (sym coming ∙ over) in
     after_lines-one bytes ∙ nothing_read (n + 1) (after_line bytes) (no_either (first_fault n end_slots bytes) (trailing (n + 1) (after_line bytes)) faultless).1
 
+-- two facts of the bytes that are known
+both_known : (o : Option (List ℕ)) (P Q : List ℕ → Type 0) → IfSome o P → IfSome o Q → IfSome o (λ bytes. P bytes × Q bytes)
+both_known None P Q p q = tt
+both_known (Some bytes) P Q p q = (p, q)
+
 module _ (start : Inputs) (h : Header) (given : List Object) (records : List Record) (now : Inputs) (checker : Summary) (ended : HasCheckedAll start h given records now checker) where
   input : length records ≡ length given
   input = ended.stands.input.one_record_each
@@ -50,19 +58,33 @@ module _ (start : Inputs) (h : Header) (given : List Object) (records : List Rec
   within : length given ≤ h.requests
   within = ended.stands.input.within
 
+  -- the trace has lost all, as its end was asked for
+  lost_all : (end : Inputs) → end.trace ≡ now.trace → HasLostAsked start end
+  lost_all end same =
+      if_both start.trace start.certificate _ _ _ (both_known start.trace _ _ ended.trace_read ended.trace_end) ended.records_read (λ b t p q.
+      let many : asked (traces.reading start.reader.format start.reader.limits b) t ≡ length given + 1 =
+      asked_at start b t _ _ refl q.reading ∙ asked_all h given records input within ended.stands.no_fault (traces.reading start.reader.format start.reader.limits b) (lines.to_come now.cert (after_lines now.cert.lines.line t)) p.0.requests in
+      let size = ap length p.0.requests in
+      if_known end.trace _ (λ l e.
+      let gone : Some l ≡ Some [] = sym e ∙ (same ∙ p.1) in
+      record { near = λ some. absurd (omega (arith, some, many, size)); all = λ fewer. cc }))
+
   -- fewer requests than the header says
-  pub stop_few : (end : Inputs) → end.cert ≡ now.cert → end.certificate ≡ now.certificate → length now.cert.lines.held ≤ 65536 → now.cert.lines.line ≡ header_len h + length given → length given < h.requests
+  pub stop_few : (end : Inputs) → end.trace ≡ now.trace → end.cert ≡ now.cert → end.certificate ≡ now.certificate → length now.cert.lines.held ≤ 65536 → now.cert.lines.line ≡ header_len h + length given → length given < h.requests
       → IsStop start end (fault.Invalid (header_len h + length given) (RequestCount h.requests (length given)))
-  stop_few end same_cert same_left held line_is fewer = record {
+  stop_few end same_trace same_cert same_left held line_is fewer = record {
     event = if_both start.trace start.certificate _ _ _ ended.trace_read ended.records_read (λ b t p q.
         walk_at start b t _ _ refl q.reading
         ∙ walked_too_few h given records input within ended.stands.no_fault (traces.reading start.reader.format start.reader.limits b) (lines.to_come now.cert (after_lines now.cert.lines.line t)) p.requests p.stop fewer);
-    near = near_here h records start end (header_len h + length given) (if_one start.certificate _ _ ended.records_read (λ t q. same_records h records now end t q same_cert same_left))
-        (subst (λ (c : lines.Reader). length c.lines.held ≤ 65536) (sym same_cert) held)
-        (subst (λ (c : lines.Reader). c.lines.line ≤ header_len h + length given) (sym same_cert) (omega (arith, line_is)));
+    near = (
+        near_here h records start end (header_len h + length given) (if_one start.certificate _ _ ended.records_read (λ t q. same_records h records now end t q same_cert same_left))
+            (subst (λ (c : lines.Reader). length c.lines.held ≤ 65536) (sym same_cert) held)
+            (subst (λ (c : lines.Reader). c.lines.line ≤ header_len h + length given) (sym same_cert) (omega (arith, line_is))),
+        lost_all end same_trace,
+      );
   }
 
-  module _ (full : length given ≡ h.requests) (end : Inputs) (held : length end.cert.lines.held ≤ 65536) (past : IfSome (known now.cert.lines now.certificate) (IsPast now.cert.lines end.cert.lines)) where
+  module _ (full : length given ≡ h.requests) (end : Inputs) (same_trace : end.trace ≡ now.trace) (held : length end.cert.lines.held ≤ 65536) (past : IfSome (known now.cert.lines now.certificate) (IsPast now.cert.lines end.cert.lines)) where
     -- the end is not read
     pub stop_end : (f : CertFault) → lines.IsRefused now.cert (device now.certificate end.certificate now.certificate_faults end.certificate_faults) f → IfErr {T = Unit {0}} (Err f) (IsWithin end.cert.lines.line) → IsStop start end (of_text f)
     stop_end f refused reached = text_stop start end now.cert now.certificate now.certificate_faults f refused ended.later.certificate reached
@@ -71,6 +93,7 @@ module _ (start : Inputs) (h : Header) (given : List Object) (records : List Rec
         walk_at start b t _ _ refl q.reading
         ∙ walked_end_text h given records input within ended.stands.no_fault (traces.reading start.reader.format start.reader.limits b) (lines.to_come now.cert (after_lines now.cert.lines.line t)) p.requests p.stop full g e
         (at_some (known now.cert.lines now.certificate) _ _ q.stands_in stopped) event))
+        (λ g e event stopped. lost_all end same_trace)
 
     module _ (read : IfSome (known now.cert.lines now.certificate) (λ bytes. (lines.to_come now.cert bytes ≡ certificates.stopped None) × (known end.cert.lines end.certificate ≡ Some []) × (end.certificate ≡ Some []))) where
       -- the end is read, and a rule fails
@@ -80,11 +103,14 @@ module _ (start : Inputs) (h : Header) (given : List Object) (records : List Rec
             walk_at start b t _ _ refl q.reading
             ∙ walked_end_rule h given records input within ended.stands.no_fault (traces.reading start.reader.format start.reader.limits b) (lines.to_come now.cert (after_lines now.cert.lines.line t)) p.requests p.stop full kind
             (at_some (known now.cert.lines now.certificate) _ _ q.stands_in read).0 fails);
-        near = if_one start.certificate _ _ ended.records_read (λ t q.
+        near = (
+            if_one start.certificate _ _ ended.records_read (λ t q.
             let is = at_some (known now.cert.lines now.certificate) _ _ q.stands_in read in
             let next : now.cert.lines.line + 1 ≡ header_len h + 1 + length given = omega (arith, line_is) in
             let over : after_lines (header_len h + 1 + length given) t ≡ [] = ap (λ k. after_lines k t) (sym next) ∙ (after_lines-add now.cert.lines.line 1 t ∙ after_end now.cert (after_lines now.cert.lines.line t) at none is.0) in
-            omega (arith, (consumed_on h records now end t q past).1, ap length over, held));
+            omega (arith, (consumed_on h records now end t q past).1, ap length over, held)),
+            lost_all end same_trace,
+          );
       }
 
       -- the end is read, and no rule fails
@@ -122,13 +148,19 @@ module _ (start : Inputs) (fresh_reader : IsFresh start.reader) (fresh_cert : st
 
   module _ (end : Inputs) (past : IfSome (known start.cert.lines start.certificate) (IsPast start.cert.lines end.cert.lines)) where
     -- the header is not read
-    pub stop_header : (f : CertFault) → lines.IsRefused start.cert (device start.certificate end.certificate start.certificate_faults end.certificate_faults) f → IfErr {T = Unit {0}} (Err f) (IsWithin end.cert.lines.line)
+    pub stop_header : (f : CertFault) → end.trace ≡ start.trace → lines.IsRefused start.cert (device start.certificate end.certificate start.certificate_faults end.certificate_faults) f → IfErr {T = Unit {0}} (Err f) (IsWithin end.cert.lines.line)
         → length end.cert.lines.held ≤ 65536 → IsStop start end (of_text f)
-    stop_header f refused reached held = text_stop start end start.cert start.certificate start.certificate_faults f refused (omega arith) reached
+    stop_header f same_trace refused reached held = text_stop start end start.cert start.certificate start.certificate_faults f refused (omega arith) reached
         (λ n low. if_known start.certificate _ (λ t e. omega (arith, consumed_first end t e past, through end.cert.lines.line n t low, held)))
         (λ g event is stopped. if_known start.trace _ (λ b eb. if_known start.certificate _ (λ t e.
         walk_at start b t (traces.reading start.reader.format start.reader.limits b) (certificates.stopped (Some g)) refl
         (reading_is t ∙ at_some (known start.cert.lines start.certificate) t _ (known_start t e) stopped) ∙ is)))
+        (λ g event is stopped. if_known start.trace _ (λ b eb. if_known start.certificate _ (λ t e. if_known end.trace _ (λ l el.
+        let none : asked (traces.reading start.reader.format start.reader.limits b) t ≡ 0 =
+        asked_at start b t (traces.reading start.reader.format start.reader.limits b) (certificates.stopped (Some g)) refl (reading_is t ∙ at_some (known start.cert.lines start.certificate) t _ (known_start t e) stopped) in
+        let still : Some l ≡ Some b = sym el ∙ (same_trace ∙ eb) in
+        let same : l ≡ b = cc in
+        subst (λ n. HasLostFor start.reader.format start.reader.limits n b l) (sym none) (record { near = λ _ lines some. omega (arith, ap length same); all = λ fewer. absurd (omega (arith, fewer)) })))))
 
     -- the header is read
     pub opens : (h : Header) (checker : Summary) → lines.HeaderRead start.cert end.cert (device start.certificate end.certificate start.certificate_faults end.certificate_faults) (Ok h)
@@ -139,6 +171,11 @@ module _ (start : Inputs) (fresh_reader : IsFresh start.reader) (fresh_cert : st
         rest = b;
         stands_in = ap (λ (r : requests.Reader). requests.known r end.trace) same_reader ∙ (ap (requests.known start.reader) same_left
             ∙ (ap (λ (r : requests.Reader). requests.known r start.trace) fresh_reader ∙ ap (requests.known (requests.fresh start.reader.format start.reader.limits)) e));
+        begins = fresh_reader;
+        gone = subst (λ (r : requests.Reader). HasGiven [] start.reader r b) (sym same_reader) (given_none start.reader b);
+        rest_is =
+            let none : start.reader.lines.consumed - start.reader.lines.consumed ≡ 0 = omega arith in
+            ap (λ n. drop n b) (sym none) ∙ ap (λ (r : requests.Reader). bytes_after start.reader r b) (sym same_reader);
         reading = sym (fresh_to_come start.reader.format start.reader.limits b) ∙ (ap (λ (r : requests.Reader). requests.to_come r b) (sym fresh_reader) ∙ ap (λ (r : requests.Reader). requests.to_come r b) (sym same_reader));
       });
       records_read = if_known start.certificate _ (λ t e.

@@ -1,8 +1,9 @@
 -- The first event of a walk that has come so far.
-use Rattle.std.proofs.Common.{◌≡◌, ℕ, zero, suc, ◌+◌, ◌<◌, ◌≤◌, ◌∙◌, sym, refl, ap, Bool, true, false, cond, ◌==◌, nat_lt, List, [], ◌∷◌, ◌++◌, append_assoc, length, map, arith, Option, Some, None, eq-eqb}
+use Rattle.std.proofs.Common.{◌≡◌, ℕ, zero, suc, ◌+◌, ◌<◌, ◌≤◌, ◌∙◌, sym, refl, ap, Bool, true, false, not, cond, ◌==◌, nat_lt, List, [], ◌∷◌, ◌++◌, append_assoc, length, map, arith, Option, Some, None, eq-eqb}
 use Rattle.std.proofs.lemmas.List.{length-append, append-nil}
 use Rattle.std.proofs.lemmas.Bool.{ne_eqb, lt-ltb, le-ltb}
-use Rattle.std.specs.List.{range_with_len}
+use Rattle.std.specs.List.{position_or_len, range_with_len}
+use Rattle.std.specs.Option.{is_some}
 use Rattle.cache_model.specs.declared.objects.Object.{Object}
 use Rattle.cache_model.specs.declared.certificates.Header.{Header}
 use Rattle.cache_model.specs.declared.certificates.Record.{Record}
@@ -16,7 +17,7 @@ use Rattle.cert_checker.specs.declared.invalid.InvalidKind.TheVariants.{RequestC
 use Rattle.cert_format.specs.Readings as certificates
 use Rattle.cert_checker.specs.Checks.{after_records}
 use Rattle.cert_checker.specs.Rules.{found, first_some, record_fault, end_fault}
-use Rattle.cert_checker.specs.Walks.{Event, Invalid, Refused, at_line, text_event, text_after, refusal_event, events_at, last_events, walk_under}
+use Rattle.cert_checker.specs.Walks.{Event, Invalid, Refused, asked_under, at_line, text_event, text_after, refusal_event, events_at, last_events, walk_under}
 use Rattle.cert_checker.proofs.Prefixes.{record_fault-prefix}
 
 -- what gives nothing is passed
@@ -46,6 +47,23 @@ stop_at f rest a (suc n) (suc m) e none is within =
     skip (f a) (map f (range_with_len (a + 1) m) ++ rest) (none a (omega arith) (omega arith))
     ∙ stop_at f rest (a + 1) n m e (λ k low high. none k (omega (arith, low)) (omega (arith, high))) (ap f same ∙ is) (omega (arith, within))
 
+-- how many give nothing before the first that does, or in all
+count_to : {A : Type 0} (f : ℕ → Option A) (a n m : ℕ) (e : A) → ((k : ℕ) → a ≤ k → k < a + n → f k ≡ None) → f (a + n) ≡ Some e → n < m → position_or_len is_some (map f (range_with_len a m)) ≡ n
+count_to f a n zero e none is within = absurd (omega (arith, within))
+count_to f a zero (suc m) e none is within =
+    let here : a + 0 ≡ a = omega arith in
+    ap (λ b. cond (not b) (1 + position_or_len is_some (map f (range_with_len (a + 1) m))) 0) (ap is_some (ap f (sym here) ∙ is))
+count_to f a (suc n) (suc m) e none is within =
+    let same : a + 1 + n ≡ a + suc n = omega arith in
+    let more = count_to f (a + 1) n m e (λ k low high. none k (omega (arith, low)) (omega (arith, high))) (ap f same ∙ is) (omega (arith, within)) in
+    ap (λ b. cond (not b) (1 + position_or_len is_some (map f (range_with_len (a + 1) m))) 0) (ap is_some (none a (omega arith) (omega arith))) ∙ omega (arith, more)
+
+count_all : {A : Type 0} (f : ℕ → Option A) (a n : ℕ) → ((k : ℕ) → a ≤ k → k < a + n → f k ≡ None) → position_or_len is_some (map f (range_with_len a n)) ≡ n
+count_all f a zero none = refl
+count_all f a (suc n) none =
+    let more = count_all f (a + 1) n (λ k low high. none k (omega (arith, low)) (omega (arith, high))) in
+    ap (λ b. cond (not b) (1 + position_or_len is_some (map f (range_with_len (a + 1) n))) 0) (ap is_some (none a (omega arith) (omega arith))) ∙ omega (arith, more)
+
 -- a kind is not found, or is
 not_found : (test : Bool) (line : ℕ) (kind : InvalidKind) → test ≡ false → at_line line (found test kind) ≡ None
 not_found test line kind is = ap (λ b. at_line line (cond b (Some kind) None)) is
@@ -56,6 +74,14 @@ is_found test line kind is = ap (λ b. at_line line (cond b (Some kind) None)) i
 -- a walk after the header
 abbrev pub walk_of : traces.Reading → certificates.Reading → Option Event
 walk_of trace c = walk_under c.header trace c
+
+-- how many requests it asks for
+abbrev pub asked_of : traces.Reading → certificates.Reading → ℕ
+asked_of trace c = asked_under c.header trace c
+
+-- the walk ends at this event, and has asked for one request more than these
+abbrev pub EndsAt : List Object → traces.Reading → certificates.Reading → Event → Type 0
+EndsAt given trace c e = (walk_of trace c ≡ Some e) × (asked_of trace c ≡ length given + 1)
 
 -- the walk has passed these requests and records
 module _ (h : Header) (given : List Object) (records : List Record) (one : length records ≡ length given) (within : length given ≤ h.requests)
@@ -77,17 +103,20 @@ module _ (h : Header) (given : List Object) (records : List Record) (one : lengt
 
   -- an event at a request is the first of the walk, if none comes before
   event_first : (x : Object) (rest : traces.Reading) (c : certificates.Reading) (e : Event) → first_some (events_at h (after_records h records c) (given ++ x ∷ rest.requests) (length given)) ≡ Some e
-      → walk_of (requests.after given (requests.onto x rest)) (after_records h records c) ≡ Some e
+      → EndsAt given (requests.after given (requests.onto x rest)) (after_records h records c) e
   event_first x rest c e is =
       let trace = given ++ x ∷ rest.requests in
       let f : ℕ → Option Event = λ t. first_some (events_at h (after_records h records c) trace t) in
       let here : 0 + length given ≡ length given = omega arith in
-      stop_at f (last_events h (after_records h records c) (requests.after given (requests.onto x rest))) 0 (length given) (length trace) e
-      (λ k low high. passes (x ∷ rest.requests) c k (omega (arith, high, here))) (ap f here ∙ is) (omega (arith, length-append given (x ∷ rest.requests)))
+      let none : (k : ℕ) → 0 ≤ k → k < 0 + length given → f k ≡ None = λ k low high. passes (x ∷ rest.requests) c k (omega (arith, high, here)) in
+      let within : length given < length trace = omega (arith, length-append given (x ∷ rest.requests)) in (
+        stop_at f (last_events h (after_records h records c) (requests.after given (requests.onto x rest))) 0 (length given) (length trace) e none (ap f here ∙ is) within,
+        ap (λ n. n + 1) (count_to f 0 (length given) (length trace) e none (ap f here ∙ is) within),
+      )
 
   -- one request more than the header says
   pub walked_too_many : (x : Object) (rest : traces.Reading) (c : certificates.Reading) → length given ≡ h.requests
-      → walk_of (requests.after given (requests.onto x rest)) (after_records h records c) ≡ Some (Invalid (header_len h + length given) (RequestCount h.requests (length given + 1)))
+      → EndsAt given (requests.after given (requests.onto x rest)) (after_records h records c) (Invalid (header_len h + length given) (RequestCount h.requests (length given + 1)))
   walked_too_many x rest c full =
       let t = length given in
       let cc = after_records h records c in
@@ -97,7 +126,7 @@ module _ (h : Header) (given : List Object) (records : List Record) (one : lengt
 
   -- the line of the record is not read
   pub walked_text : (x : Object) (rest : traces.Reading) (c : certificates.Reading) (f : CertFault) (e : Event) → length given < h.requests → c ≡ certificates.stopped (Some f) → text_event (Some f) ≡ Some e
-      → walk_of (requests.after given (requests.onto x rest)) (after_records h records c) ≡ Some e
+      → EndsAt given (requests.after given (requests.onto x rest)) (after_records h records c) e
   walked_text x rest c f e fewer is event =
       let t = length given in
       let cc = after_records h records c in
@@ -112,7 +141,7 @@ module _ (h : Header) (given : List Object) (records : List Record) (one : lengt
   -- the record fails a rule
   pub walked_rule : (x : Object) (rest : traces.Reading) (r : Record) (others : certificates.Reading) (c : certificates.Reading) (kind : InvalidKind) → length given < h.requests → c ≡ certificates.onto r others
       → record_fault h (given ++ x ∷ []) (records ++ r ∷ []) (length given) ≡ Some kind
-      → walk_of (requests.after given (requests.onto x rest)) (after_records h records c) ≡ Some (Invalid (header_len h + 1 + length given) kind)
+      → EndsAt given (requests.after given (requests.onto x rest)) (after_records h records c) (Invalid (header_len h + 1 + length given) kind)
   walked_rule x rest r others c kind fewer is fails =
       let t = length given in
       let next = after_records h records (certificates.onto r others) in
@@ -124,10 +153,11 @@ module _ (h : Header) (given : List Object) (records : List Record) (one : lengt
       let prefix = ap (λ xs. record_fault h xs next.records t) trace_is
       ∙ (ap (λ rs. record_fault h ((given ++ x ∷ []) ++ rest.requests) rs t) records_are
       ∙ (record_fault-prefix h (given ++ x ∷ []) rest.requests (records ++ r ∷ []) others.records t (omega (arith, length-append given (x ∷ []))) (omega (arith, one, length-append records (r ∷ []))) ∙ fails)) in
-      ap W is ∙ event_first x rest (certificates.onto r others) _
+      let first = event_first x rest (certificates.onto r others) (Invalid (header_len h + 1 + t) kind)
       (skip (at_line (header_len h + t) (found (t == h.requests) (RequestCount h.requests (t + 1)))) (text_after next t ∷ rule ∷ []) (not_found (t == h.requests) (header_len h + t) (RequestCount h.requests (t + 1)) (ne_eqb t h.requests (λ same. omega (arith, same, fewer))))
       ∙ (skip (text_after next t) (rule ∷ []) (ap (λ b. cond b (text_event others.fault) None) (ne_eqb (length (records ++ r ∷ others.records)) t (λ e. omega (arith, e, one, length-append records (r ∷ others.records)))))
-      ∙ stop rule [] _ (ap (at_line (header_len h + 1 + t)) prefix)))
+      ∙ stop rule [] _ (ap (at_line (header_len h + 1 + t)) prefix))) in
+      (ap W is ∙ first.0, ap (λ d. asked_of (requests.after given (requests.onto x rest)) (after_records h records d)) is ∙ first.1)
 
   -- no request gives an event
   close_first : (trace : traces.Reading) (c : certificates.Reading) → trace.requests ≡ given → walk_of trace (after_records h records c) ≡ first_some (last_events h (after_records h records c) trace)
@@ -139,6 +169,16 @@ module _ (h : Header) (given : List Object) (records : List Record) (one : lengt
       let here : 0 + length given ≡ length given = omega arith in
       ap (λ xs. first_some (map (f xs) (range_with_len 0 (length xs)) ++ end)) is
       ∙ past_none (f given) end 0 (length given) (λ k low high. ap (λ xs. f xs k) (sym all) ∙ passes [] c k (omega (arith, high, here)))
+
+  -- all requests are asked for, and whether there is one more
+  pub asked_all : (trace : traces.Reading) (c : certificates.Reading) → trace.requests ≡ given → asked_of trace (after_records h records c) ≡ length given + 1
+  asked_all trace c is =
+      let cc = after_records h records c in
+      let f : List Object → ℕ → Option Event = λ xs t. first_some (events_at h cc xs t) in
+      let all : given ++ [] ≡ given = append-nil given in
+      let here : 0 + length given ≡ length given = omega arith in
+      ap (λ xs. position_or_len is_some (map (f xs) (range_with_len 0 (length xs))) + 1) is
+      ∙ ap (λ n. n + 1) (count_all (f given) 0 (length given) (λ k low high. ap (λ xs. f xs k) (sym all) ∙ passes [] c k (omega (arith, high, here))))
 
   -- the trace is refused
   pub walked_refused : (trace : traces.Reading) (c : certificates.Reading) (why : TraceFault) → trace.requests ≡ given → trace.refused ≡ Some why

@@ -1,5 +1,5 @@
 -- Why a walk ends where it does, and how it goes on.
-use Rattle.std.proofs.Common.{◌≡◌, ℕ, ◌+◌, ◌-◌, ◌<◌, ◌≤◌, ◌∙◌, sym, refl, ap, subst, List, [], ◌∷◌, ◌++◌, append_assoc, length, arith, Option, Some, None, IfSome, IfErr, Ok, Err, inl, inr}
+use Rattle.std.proofs.Common.{◌≡◌, ℕ, ◌+◌, ◌-◌, ◌<◌, ◌≤◌, ◌∙◌, sym, refl, ap, subst, List, [], ◌∷◌, ◌++◌, append_assoc, length, length-append, arith, Option, Some, None, IfSome, IfErr, Ok, Err, inl, inr}
 use Rattle.std.proofs.lemmas.List.{append-nil}
 use Rattle.bound_io.specs.Causes.{HasNewFault}
 use Rattle.bound_io.specs.Lines.{stands_in}
@@ -12,7 +12,10 @@ use Rattle.trace_any.specs.declared.fault.TraceFault.{TraceFault}
 use Rattle.trace_any.specs.declared.fault.TraceFault.TheVariants as refusal
 use Rattle.trace_any.specs.Readings as traces
 use Rattle.trace_any.specs.Readers as requests
-use Rattle.trace_any.specs.Readers.{IsWhole}
+use Rattle.trace_any.specs.Readers.{IsWhole, bytes_after}
+use Rattle.trace_any.specs.FirstLines.{GoesNoFurther, HasGiven, HasLostFor}
+use Rattle.trace_any.proofs.Coming.{past_both}
+use Rattle.trace_any.proofs.Through.{given_next, lost_for}
 use Rattle.cert_format.specs.declared.fault.CertFault.{CertFault}
 use Rattle.cert_format.specs.declared.fault.CertFault.TheVariants as text
 use Rattle.cert_checker.specs.declared.invalid.InvalidKind.TheVariants.{RequestCount}
@@ -21,14 +24,14 @@ use Rattle.cert_format.specs.Readings as certificates
 use Rattle.cert_format.specs.Readings.{after_lines, bytes_through}
 use Rattle.cert_format.specs.Readers as lines
 use Rattle.cert_format.proofs.Chains.{after_lines-add, bytes_through-add}
-use Rattle.cert_format.proofs.Taken.{at_some}
+use Rattle.cert_format.proofs.Taken.{at_some, if_known}
 use Rattle.cert_checker.specs.declared.walking.CheckFault.{CheckFault}
 use Rattle.cert_checker.specs.declared.walking.CheckFault.TheVariants as fault
-use Rattle.cert_checker.specs.Checks.{Inputs, HasChecked, HasCheckedAll, HasRecords, IsFailing, IsLater, IsStop, IsWalked, after_records, of_text, of_trace, taken}
+use Rattle.cert_checker.specs.Checks.{Inputs, HasChecked, HasCheckedAll, HasLostAsked, HasRecords, HasRequests, IsFailing, IsFresh, IsLater, IsStop, IsWalked, after_records, of_text, of_trace, taken}
 use Rattle.cert_checker.specs.Rules.{record_fault}
 use Rattle.cert_checker.specs.Summaries.{StandsFor, Summary}
-use Rattle.cert_checker.specs.Walks.{Event, Invalid, Refused, text_event, walk}
-use Rattle.cert_checker.proofs.Events.{walk_of, walked_too_many, walked_text, walked_rule, walked_refused}
+use Rattle.cert_checker.specs.Walks.{Event, Invalid, Refused, asked, text_event, walk}
+use Rattle.cert_checker.proofs.Events.{EndsAt, asked_of, walk_of, walked_too_many, walked_text, walked_rule, walked_refused}
 
 -- a fact of both, where both are known
 pub if_both : (a b : Option (List ℕ)) (P Q : List ℕ → Type 0) (S : List ℕ → List ℕ → Type 0) → IfSome a P → IfSome b Q → ((x y : List ℕ) → P x → Q y → S x y) → IfSome a (λ x. IfSome b (S x))
@@ -80,6 +83,11 @@ pub walk_at : (start : Inputs) (b t : List ℕ) (trace : traces.Reading) (c : ce
     → walk (traces.reading start.reader.format start.reader.limits b) t ≡ walk_of trace c
 walk_at start b t trace c trace_is c_is = ap (λ r. walk_of r (certificates.reading t)) trace_is ∙ ap (walk_of trace) c_is
 
+-- how many requests it asks for
+pub asked_at : (start : Inputs) (b t : List ℕ) (trace : traces.Reading) (c : certificates.Reading) → traces.reading start.reader.format start.reader.limits b ≡ trace → certificates.reading t ≡ c
+    → asked (traces.reading start.reader.format start.reader.limits b) t ≡ asked_of trace c
+asked_at start b t trace c trace_is c_is = ap (λ r. asked_of r (certificates.reading t)) trace_is ∙ ap (asked_of trace) c_is
+
 -- the same records, where the certificate is read no further
 pub same_records : (h : Header) (records : List Record) (now end : Inputs) (t : List ℕ) → HasRecords h records now t → end.cert ≡ now.cert → end.certificate ≡ now.certificate → HasRecords h records end t
 same_records h records now end t q same_cert same_left = record {
@@ -107,11 +115,12 @@ one_record h records r text now end t has line_is goes past =
 pub text_stop : (start end : Inputs) (cert : lines.Reader) (left : Option (List ℕ)) (faults : ℕ) (f : CertFault) → lines.IsRefused cert (device left end.certificate faults end.certificate_faults) f → start.certificate_faults ≤ faults
     → IfErr {T = Unit {0}} (Err f) (IsWithin end.cert.lines.line) → ((n : ℕ) → end.cert.lines.line ≤ n → IfSome start.certificate (λ text. taken end.cert ≤ bytes_through n text + 65536))
     → ((g : CertFault) (e : Event) → text_event (Some g) ≡ Some e → IfSome (known cert.lines left) (λ bytes. lines.to_come cert bytes ≡ certificates.stopped (Some g)) → IsWalked start (Some e))
+    → ((g : CertFault) (e : Event) → text_event (Some g) ≡ Some e → IfSome (known cert.lines left) (λ bytes. lines.to_come cert bytes ≡ certificates.stopped (Some g)) → HasLostAsked start end)
     → IsStop start end (of_text f)
-text_stop start end cert left faults (text.BadText n kind) refused earlier reached near walked = record { event = walked (text.BadText n kind) _ refl refused; near = near n reached }
-text_stop start end cert left faults (text.Truncated n) refused earlier reached near walked = record { event = walked (text.Truncated n) _ refl refused; near = near n reached }
-text_stop start end cert left faults (text.Trailing n) refused earlier reached near walked = record { event = walked (text.Trailing n) _ refl refused; near = near n reached }
-text_stop start end cert left faults text.ReadFault refused earlier reached near walked = record { event = new_fault_since start.certificate_faults faults end.certificate_faults earlier refused; near = tt }
+text_stop start end cert left faults (text.BadText n kind) refused earlier reached near walked lost = record { event = walked (text.BadText n kind) _ refl refused; near = (near n reached, lost (text.BadText n kind) _ refl refused) }
+text_stop start end cert left faults (text.Truncated n) refused earlier reached near walked lost = record { event = walked (text.Truncated n) _ refl refused; near = (near n reached, lost (text.Truncated n) _ refl refused) }
+text_stop start end cert left faults (text.Trailing n) refused earlier reached near walked lost = record { event = walked (text.Trailing n) _ refl refused; near = (near n reached, lost (text.Trailing n) _ refl refused) }
+text_stop start end cert left faults text.ReadFault refused earlier reached near walked lost = record { event = new_fault_since start.certificate_faults faults end.certificate_faults earlier refused; near = tt }
 
 module _ (start : Inputs) (h : Header) (given : List Object) (records : List Record) (now : Inputs) (checker : Summary) (checked : HasChecked start h given records now checker) where
   input : length records ≡ length given
@@ -165,40 +174,80 @@ module _ (start : Inputs) (h : Header) (given : List Object) (records : List Rec
       nothing_left held None is = let wrong : None ≡ Some [] = is in cc
       nothing_left held (Some rest) is = let both : held ++ rest ≡ [] = cc in ap (λ r. Some r) (end_of held rest both)
 
-  module _ (x : Object) (reader : requests.Reader) (left : Option (List ℕ)) (goes : IfSome (requests.known now.reader now.trace) (λ bytes. requests.GoesOn (requests.onto x) now.reader reader bytes (requests.known reader left))) where
+  module _ (x : Object) (reader : requests.Reader) (left : Option (List ℕ)) (goes : IfSome (requests.known now.reader now.trace) (λ bytes. requests.GoesOn (requests.onto x) now.reader reader bytes (requests.known reader left)))
+      (no_further : IfSome (requests.known now.reader now.trace) (GoesNoFurther (requests.onto x) now.reader reader)) (buffered : length reader.lines.held ≤ 65536) where
     -- the requests after this one
     record Took (b : List ℕ) : Type 0 where
       rest : List ℕ
       stands : requests.known reader left ≡ Some rest
       reading : traces.reading start.reader.format start.reader.limits b ≡ requests.after given (requests.onto x (requests.to_come reader rest))
+      begins : IsFresh start.reader
+      gone : HasGiven (given ++ x ∷ []) start.reader reader b
+      rest_is : rest ≡ bytes_after start.reader reader b
 
     took : IfSome start.trace Took
     took = if_one start.trace _ _ checked.trace_read (λ b p.
         let is = at_some (requests.known now.reader now.trace) _ _ p.stands_in goes in
-        record { rest = requests.bytes_after now.reader reader p.rest; stands = is.rest; reading = p.reading ∙ ap (requests.after given) is.coming })
+        let further = at_some (requests.known now.reader now.trace) _ _ p.stands_in no_further in
+        record {
+          rest = bytes_after now.reader reader p.rest;
+          stands = is.rest;
+          reading = p.reading ∙ ap (requests.after given) is.coming;
+          begins = p.begins;
+          gone = given_next start.reader now.reader reader given x b p.gone (subst (GoesNoFurther (requests.onto x) now.reader reader) p.rest_is further);
+          rest_is = ap (bytes_after now.reader reader) p.rest_is
+              ∙ past_both (now.reader.lines.consumed - start.reader.lines.consumed) (reader.lines.consumed - now.reader.lines.consumed) (reader.lines.consumed - start.reader.lines.consumed) b
+              (omega (arith, p.gone.through.consumed, is.further));
+        })
+
+    -- the trace has lost what these requests need
+    lost_one : (b l : List ℕ) (p : Took b) → left ≡ Some l → HasLostFor start.reader.format start.reader.limits (length given + 1) b l
+    lost_one b l p is =
+        let stood : Some (reader.lines.held ++ l) ≡ Some p.rest = ap (requests.known reader) (sym is) ∙ p.stands in
+        let here : reader.lines.held ++ l ≡ p.rest = cc in
+        let coming = requests.to_come reader p.rest in
+        let many : length (given ++ x ∷ []) ≡ length given + 1 = length-append given (x ∷ []) in
+        let all = length-append given (x ∷ coming.requests) in
+        subst (λ n. HasLostFor start.reader.format start.reader.limits n b l) many
+        (lost_for start.reader reader start.reader.format start.reader.limits (given ++ x ∷ []) b l p.begins p.gone (here ∙ p.rest_is) buffered (omega (arith, many, all, ap (λ r. length r.requests) p.reading)))
+
+    lost_here : (end : Inputs) → end.trace ≡ left → ((b t : List ℕ) → Took b → HasRecords h records now t → asked (traces.reading start.reader.format start.reader.limits b) t ≡ length given + 1) → HasLostAsked start end
+    lost_here end same count =
+        if_both start.trace start.certificate _ _ _ took checked.records_read (λ b t p q.
+        if_known end.trace _ (λ l e. subst (λ n. HasLostFor start.reader.format start.reader.limits n b l) (sym (count b t p q)) (lost_one b l p (sym same ∙ e))))
 
     -- one request more than the header says
-    pub stop_count : (end : Inputs) → end.cert ≡ now.cert → end.certificate ≡ now.certificate → length now.cert.lines.held ≤ 65536 → now.cert.lines.line ≡ header_len h + length given → length given ≡ h.requests
+    pub stop_count : (end : Inputs) → end.trace ≡ left → end.cert ≡ now.cert → end.certificate ≡ now.certificate → length now.cert.lines.held ≤ 65536 → now.cert.lines.line ≡ header_len h + length given → length given ≡ h.requests
         → IsStop start end (fault.Invalid (header_len h + length given) (RequestCount h.requests (length given + 1)))
-    stop_count end same_cert same_left held line_is full = record {
+    stop_count end same_trace same_cert same_left held line_is full = record {
       event = if_both start.trace start.certificate _ _ _ took checked.records_read (λ b t p q.
-          walk_at start b t _ _ p.reading q.reading
-          ∙ walked_too_many h given records input within checked.stands.no_fault x (requests.to_come reader p.rest) (lines.to_come now.cert (after_lines now.cert.lines.line t)) full);
-      near = near_here h records start end (header_len h + length given) (if_one start.certificate _ _ checked.records_read (λ t q. same_records h records now end t q same_cert same_left))
+          walk_at start b t _ _ p.reading q.reading ∙ (ends b t p).0);
+      near = (
+          near_here h records start end (header_len h + length given) (if_one start.certificate _ _ checked.records_read (λ t q. same_records h records now end t q same_cert same_left))
           (subst (λ (c : lines.Reader). length c.lines.held ≤ 65536) (sym same_cert) held)
-          (subst (λ (c : lines.Reader). c.lines.line ≤ header_len h + length given) (sym same_cert) (omega (arith, line_is)));
+          (subst (λ (c : lines.Reader). c.lines.line ≤ header_len h + length given) (sym same_cert) (omega (arith, line_is))),
+          lost_here end same_trace (λ b t p q. asked_at start b t _ _ p.reading q.reading ∙ (ends b t p).1),
+        );
     }
+      where
+        ends : (b t : List ℕ) (p : Took b) → EndsAt given (requests.after given (requests.onto x (requests.to_come reader p.rest))) (after_records h records (lines.to_come now.cert (after_lines now.cert.lines.line t)))
+            (Invalid (header_len h + length given) (RequestCount h.requests (length given + 1)))
+        ends b t p = walked_too_many h given records input within checked.stands.no_fault x (requests.to_come reader p.rest) (lines.to_come now.cert (after_lines now.cert.lines.line t)) full
 
     -- the record is not read
-    pub stop_text : (end : Inputs) (f : CertFault) → length given < h.requests → lines.IsRefused now.cert (device now.certificate end.certificate now.certificate_faults end.certificate_faults) f
+    pub stop_text : (end : Inputs) (f : CertFault) → end.trace ≡ left → length given < h.requests → lines.IsRefused now.cert (device now.certificate end.certificate now.certificate_faults end.certificate_faults) f
         → IfErr {T = Unit {0}} (Err f) (IsWithin end.cert.lines.line) → IfSome (known now.cert.lines now.certificate) (IsPast now.cert.lines end.cert.lines) → length end.cert.lines.held ≤ 65536
         → IsStop start end (of_text f)
-    stop_text end f fewer refused reached past held = text_stop start end now.cert now.certificate now.certificate_faults f refused checked.later.certificate reached
+    stop_text end f same_trace fewer refused reached past held = text_stop start end now.cert now.certificate now.certificate_faults f refused checked.later.certificate reached
         (λ n low. near_line h records start now end n checked.records_read past held low) (λ g e event stopped.
         if_both start.trace start.certificate _ _ _ took checked.records_read (λ b t p q.
-        walk_at start b t _ _ p.reading q.reading
-        ∙ walked_text h given records input within checked.stands.no_fault x (requests.to_come reader p.rest) (lines.to_come now.cert (after_lines now.cert.lines.line t)) g e fewer
-        (at_some (known now.cert.lines now.certificate) _ _ q.stands_in stopped) event))
+        walk_at start b t _ _ p.reading q.reading ∙ (ends b t p q g e event stopped).0))
+        (λ g e event stopped. lost_here end same_trace (λ b t p q. asked_at start b t _ _ p.reading q.reading ∙ (ends b t p q g e event stopped).1))
+      where
+        ends : (b t : List ℕ) (p : Took b) → HasRecords h records now t → (g : CertFault) (e : Event) → text_event (Some g) ≡ Some e → IfSome (known now.cert.lines now.certificate) (λ bytes. lines.to_come now.cert bytes ≡ certificates.stopped (Some g))
+            → EndsAt given (requests.after given (requests.onto x (requests.to_come reader p.rest))) (after_records h records (lines.to_come now.cert (after_lines now.cert.lines.line t))) e
+        ends b t p q g e event stopped =
+            walked_text h given records input within checked.stands.no_fault x (requests.to_come reader p.rest) (lines.to_come now.cert (after_lines now.cert.lines.line t)) g e fewer (at_some (known now.cert.lines now.certificate) _ _ q.stands_in stopped) event
 
     module _ (r : Record) (written : List ℕ) (end : Inputs) (line_is : end.cert.lines.line ≡ now.cert.lines.line + 1)
         (goes_on : IfSome (known now.cert.lines now.certificate) (lines.GoesOn (certificates.onto r) 1 written now.cert end.cert end.certificate))
@@ -208,20 +257,28 @@ module _ (start : Inputs) (h : Header) (given : List Object) (records : List Rec
       records_on = if_one start.certificate _ _ checked.records_read (λ t q. one_record h records r written now end t q line_is goes_on past)
 
       -- and fails a rule
-      pub stop_rule : (why : CheckFault) → length given < h.requests → now.cert.lines.line ≡ header_len h + length given → length end.cert.lines.held ≤ 65536
+      pub stop_rule : (why : CheckFault) → end.trace ≡ left → length given < h.requests → now.cert.lines.line ≡ header_len h + length given → length end.cert.lines.held ≤ 65536
           → IsFailing end.cert.lines.line (record_fault h (given ++ x ∷ []) (records ++ r ∷ []) (length given)) why → IsStop start end why
-      stop_rule (fault.Invalid line kind) fewer first held fails = record {
+      stop_rule (fault.Invalid line kind) same_trace fewer first held fails = record {
         event = if_both start.trace start.certificate _ _ _ took checked.records_read (λ b t p q.
-            let at : line ≡ header_len h + 1 + length given = omega (arith, fails.0, line_is, first) in
-            let is = at_some (known now.cert.lines now.certificate) _ _ q.stands_in goes_on in
-            walk_at start b t _ _ p.reading q.reading
-            ∙ (walked_rule h given records input within checked.stands.no_fault x (requests.to_come reader p.rest) r _ (lines.to_come now.cert (after_lines now.cert.lines.line t)) kind fewer is.coming_is fails.1
-            ∙ ap (λ l. Some (Invalid l kind)) (sym at)));
-        near = near_here h (records ++ r ∷ []) start end line records_on held (omega (arith, fails.0));
+            walk_at start b t _ _ p.reading q.reading ∙ ((ends b t p q).0 ∙ ap (λ l. Some (Invalid l kind)) (sym at)));
+        near = (
+            near_here h (records ++ r ∷ []) start end line records_on held (omega (arith, fails.0)),
+            lost_here end same_trace (λ b t p q. asked_at start b t _ _ p.reading q.reading ∙ (ends b t p q).1),
+          );
       }
-      stop_rule (fault.Trace why) fewer first held fails = absurd fails
-      stop_rule fault.CertReadFault fewer first held fails = absurd fails
-      stop_rule fault.NoMemory fewer first held fails = record { event = tt; near = tt }
+        where
+          at : line ≡ header_len h + 1 + length given
+          at = omega (arith, fails.0, line_is, first)
+
+          ends : (b t : List ℕ) (p : Took b) → HasRecords h records now t
+              → EndsAt given (requests.after given (requests.onto x (requests.to_come reader p.rest))) (after_records h records (lines.to_come now.cert (after_lines now.cert.lines.line t))) (Invalid (header_len h + 1 + length given) kind)
+          ends b t p q =
+              let is = at_some (known now.cert.lines now.certificate) _ _ q.stands_in goes_on in
+              walked_rule h given records input within checked.stands.no_fault x (requests.to_come reader p.rest) r _ (lines.to_come now.cert (after_lines now.cert.lines.line t)) kind fewer is.coming_is fails.1
+      stop_rule (fault.Trace why) same_trace fewer first held fails = absurd fails
+      stop_rule fault.CertReadFault same_trace fewer first held fails = absurd fails
+      stop_rule fault.NoMemory same_trace fewer first held fails = record { event = tt; near = tt }
 
       -- or passes
       pub goes_further : (next : Summary) → end.reader ≡ reader → end.trace ≡ left → StandsFor h (given ++ x ∷ []) (records ++ r ∷ []) next → IsLater start end → HasChecked start h (given ++ x ∷ []) (records ++ r ∷ []) end next
@@ -234,6 +291,9 @@ module _ (start : Inputs) (h : Header) (given : List Object) (records : List Rec
               stands_in = ap (λ (s : requests.Reader). requests.known s end.trace) same_reader ∙ (ap (requests.known reader) same_left ∙ p.stands);
               reading = p.reading ∙ (ap (λ xs. record coming { requests = xs }) (sym (append_assoc given (x ∷ []) coming.requests))
                   ∙ ap (λ (s : requests.Reader). requests.after (given ++ x ∷ []) (requests.to_come s p.rest)) (sym same_reader));
+              begins = p.begins;
+              gone = subst (λ (s : requests.Reader). HasGiven (given ++ x ∷ []) start.reader s b) (sym same_reader) p.gone;
+              rest_is = p.rest_is ∙ ap (λ (s : requests.Reader). bytes_after start.reader s b) (sym same_reader);
             });
         records_read = records_on;
         later = later;

@@ -9,7 +9,8 @@ use Rattle.cache_model.specs.Texts.{header_len}
 use Rattle.trace_any.specs.declared.fault.TraceFault.{TraceFault}
 use Rattle.trace_any.specs.declared.fault.TraceFault.TheVariants as refusal
 use Rattle.trace_any.specs.Readings as traces
-use Rattle.trace_any.specs.Readers.{IsWhole, after}
+use Rattle.trace_any.specs.FirstLines.{HasGiven, HasLostFor}
+use Rattle.trace_any.specs.Readers.{IsWhole, after, bytes_after}
 use Rattle.trace_any.specs.Readers as requests
 use Rattle.cert_format.specs.declared.fault.CertFault.{CertFault}
 use Rattle.cert_format.specs.declared.fault.CertFault.TheVariants as text
@@ -26,7 +27,7 @@ use Rattle.cert_checker.specs.declared.walking.CheckFault.TheVariants as fault
 use Rattle.cert_checker.specs.Answers.{IsYes}
 use Rattle.cert_checker.specs.Rules.{record_fault}
 use Rattle.cert_checker.specs.Summaries.{Summary, StandsFor}
-use Rattle.cert_checker.specs.Walks.{Event, Invalid, Refused, text_kind, walk}
+use Rattle.cert_checker.specs.Walks.{Event, Invalid, Refused, asked, text_kind, walk}
 
 -- where the reader of a trace and that of a certificate stand, and their sources: what is left, if it is known, and the count of faults
 pub record Inputs : Type 0 where
@@ -98,13 +99,18 @@ IsEvent start end (fault.Trace refusal.NoMemory) = ⊥
 IsEvent start end fault.CertReadFault = HasNewFault start.certificate_faults end.certificate_faults
 IsEvent start end fault.NoMemory = Unit {0}
 
--- how many bytes a reader of a certificate has taken from the source
-abbrev pub taken : lines.Reader → ℕ
-taken cert = cert.lines.consumed + length cert.lines.held
+-- if all bytes are known, the trace has lost no more than what the requests that the walk asks for need
+abbrev pub HasLostAsked : Inputs → Inputs → Type 0
+HasLostAsked start end = IfSome start.trace (λ bytes. IfSome start.certificate (λ text. IfSome end.trace (HasLostFor start.reader.format start.reader.limits (asked (traces.reading start.reader.format start.reader.limits bytes) text) bytes)))
 
--- if the certificate fails at a line, at most a buffer of bytes past that line was taken
+-- the sources have lost little beyond this line: the certificate a buffer of bytes, and the trace what the walk asks for
+pub record IsNearLine (line : ℕ) (start end : Inputs) : Type 0 where
+  pub certificate : IfSome start.certificate (λ text. IfSome end.certificate (λ left. length text ≤ length left + bytes_through line text + 65536))
+  pub trace : HasLostAsked start end
+
+-- if the certificate fails at a line, the sources have lost little beyond it
 abbrev pub IsNear : Inputs → Inputs → CheckFault → Type 0
-IsNear start end (fault.Invalid line kind) = IfSome start.certificate (λ text. taken end.cert ≤ bytes_through line text + 65536)
+IsNear start end (fault.Invalid line kind) = IsNearLine line start end
 IsNear start end (fault.Trace why) = Unit {0}
 IsNear start end fault.CertReadFault = Unit {0}
 IsNear start end fault.NoMemory = Unit {0}
@@ -125,6 +131,9 @@ pub record HasRequests (given : List Object) (start now : Inputs) (bytes : List 
   pub rest : List ℕ
   pub stands_in : requests.known now.reader now.trace ≡ Some rest
   pub reading : traces.reading start.reader.format start.reader.limits bytes ≡ after given (requests.to_come now.reader rest)
+  pub begins : IsFresh start.reader
+  pub gone : HasGiven given start.reader now.reader bytes
+  pub rest_is : rest ≡ bytes_after start.reader now.reader bytes
 
 -- a reading after a header and these records
 abbrev pub after_records : Header → List Record → certificates.Reading → certificates.Reading
@@ -166,10 +175,25 @@ pub record HasCheckedAll (start : Inputs) (h : Header) (trace : List Object) (re
   pub records_read : IfSome start.certificate (HasRecords h records now)
   pub later : IsLater start now
 
+-- how many bytes a reader of a certificate has taken from the source
+abbrev pub taken : lines.Reader → ℕ
+taken cert = cert.lines.consumed + length cert.lines.held
+
+-- at most a buffer of bytes past this line was taken
+abbrev pub IsTakenTo : ℕ → Inputs → Inputs → Type 0
+IsTakenTo line start end = IfSome start.certificate (λ text. taken end.cert ≤ bytes_through line text + 65536)
+
+-- what was taken of the certificate, and lost of the trace, where the certificate fails at a line
+abbrev pub IsSparing : Inputs → Inputs → CheckFault → Type 0
+IsSparing start end (fault.Invalid line kind) = IsTakenTo line start end × HasLostAsked start end
+IsSparing start end (fault.Trace why) = Unit {0}
+IsSparing start end fault.CertReadFault = Unit {0}
+IsSparing start end fault.NoMemory = Unit {0}
+
 -- why the walk ends at a place
 pub record IsStop (start end : Inputs) (why : CheckFault) : Type 0 where
   pub event : IsEvent start end why
-  pub near : IsNear start end why
+  pub near : IsSparing start end why
 
 -- the next check: of one request and its record, or there is none more, or why the walk ends here
 abbrev pub IsNextCheck : Inputs → Header → List Object → List Record → Inputs → Summary → Result Bool CheckFault → Type 0

@@ -1,6 +1,8 @@
 -- The walk of a check: what comes first, as the requests and the lines of the certificate are read side by side.
 use Rattle.std.specs.Prelude.{ℕ, ◌+◌, List, [], ◌∷◌, ◌++◌, length, map, ◌==◌, nat_lt, if◌then◌else◌, None, Some}
 use Rattle.std.specs.declared.option.Option.{Option}
+use Rattle.std.specs.Option.{is_some}
+use Rattle.std.specs.List.{position_or_len}
 use Rattle.cache_model.specs.declared.objects.Object.{Object}
 use Rattle.cache_model.specs.declared.certificates.Header.{Header}
 use Rattle.cache_model.specs.Objects.{numbers_of}
@@ -80,3 +82,12 @@ walk_under (Some h) trace c = first_some (events_by_request h c trace.requests +
 -- the first event of the walk over the reading of a trace and the bytes of a certificate, if there is one
 abbrev pub walk : traces.Reading → List ℕ → Option Event
 walk trace bytes = let c = certificates.reading bytes in walk_under c.header trace c
+
+-- how many requests the walk asks for: none before the header is read, and then one more than the requests that give no event
+abbrev pub asked_under : Option Header → traces.Reading → certificates.Reading → ℕ
+asked_under None trace c = 0
+asked_under (Some h) trace c = position_or_len is_some (events_by_request h c trace.requests) + 1
+
+-- how many requests the walk over the reading of a trace and the bytes of a certificate asks for
+abbrev pub asked : traces.Reading → List ℕ → ℕ
+asked trace bytes = let c = certificates.reading bytes in asked_under c.header trace c

@@ -10,9 +10,9 @@ use Rattle.cert_format.specs.declared.fault.CertFault.{CertFault}
 use Rattle.cert_format.specs.declared.fault.CertFault.TheVariants.{BadText, Truncated, Trailing, ReadFault}
 use Rattle.cert_format.specs.Grammar.{Slot, end_slots}
 use Rattle.cert_format.specs.Readings.{first_fault, lines_fault, after_lines, bytes_through, end_fault, trailing}
-use Rattle.cert_format.specs.Lines.{known, IsPast, Passes, IsStopped, IsWithin, Reads}
+use Rattle.cert_format.specs.Lines.{known, IsPast, IsTaken, Passes, IsStopped, IsWithin, Reads}
 use Rattle.cert_format.proofs.Headers.{after_lines-suc, after_lines-zero}
-use Rattle.cert_format.proofs.Taken.{at_some, if_known, after_lines-one}
+use Rattle.cert_format.proofs.Taken.{at_some, if_known, after_lines-one, same_taken}
 
 -- some lines after others
 pub after_lines-add : (j k : ℕ) (bytes : List ℕ) → after_lines (j + k) bytes ≡ after_lines k (after_lines j bytes)
@@ -39,6 +39,13 @@ loses_both (Some xs) (Some ys) (Some zs) one other =
     let second : ys ≡ other.0 ++ zs = other.1 in
     (one.0 ++ other.0, first ∙ (ap (λ r. one.0 ++ r) second ∙ sym (append_assoc one.0 other.0 zs)))
 
+-- what was taken at two times
+taken_both : (first second third : Position) (a b d : Option (List ℕ)) → LosesPrefix a b → IsTaken first second a b → IsTaken second third b d → IsTaken first third a d
+taken_both first second third None b d loses one other = tt
+taken_both first second third (Some xs) None d loses one other = absurd loses.1
+taken_both first second third (Some xs) (Some ys) None loses one other = tt
+taken_both first second third (Some xs) (Some ys) (Some zs) loses one other = omega (arith, one, other)
+
 keeps_prefix : (a : Option (List ℕ)) → LosesPrefix a a
 keeps_prefix None = ([], tt)
 keeps_prefix (Some xs) = ([], refl)
@@ -50,6 +57,7 @@ pub record HasRead (count : ℕ) (P : List ℕ → Type 0) (old now : Position) 
   pub no_fault : now.fault ≡ None
   pub stands : IfSome (known old source.before) (λ bytes. P bytes × (known now source.after ≡ Some (after_lines count bytes)))
   pub past : IfSome (known old source.before) (IsPast old now)
+  pub taken : IsTaken old now source.before source.after
   pub loses : LosesPrefix source.before source.after
   pub later : source.faults_before ≤ source.faults_after
 
@@ -63,6 +71,7 @@ start at left faults none = record {
   no_fault = none;
   stands = if_known (known at left) _ (λ bytes e. (tt, e ∙ ap (λ b. Some b) (sym (after_lines-zero bytes))));
   past = if_known (known at left) _ (λ bytes e. record { further = omega arith; consumed = omega (arith, ap (λ n. length (after_lines n bytes)) (sub_same at.line), ap length (after_lines-zero bytes)) });
+  taken = same_taken at left;
   loses = keeps_prefix left;
   later = omega arith;
 }
@@ -105,6 +114,7 @@ module _ {A : Type 0} (count : ℕ) (P : List ℕ → Type 0) (fault_of : ℕ �
         past = if_known (known old a) _ (λ bytes e.
             let so_far = at_some (known old a) bytes _ e done.stands in
             past_both old now new bytes count done.given (at_some (known old a) bytes _ e done.past) (at_some (known now b) (after_lines count bytes) _ so_far.1 reads.past));
+        taken = taken_both old now new a b d done.loses done.taken reads.taken;
         loses = loses_both a b d done.loses reads.loses;
         later = omega (arith, done.later, reads.later);
       }
@@ -127,6 +137,7 @@ module _ {A : Type 0} (count : ℕ) (P : List ℕ → Type 0) (fault_of : ℕ �
     past = if_known (known old a) _ (λ bytes e.
         let so_far = at_some (known old a) bytes _ e done.stands in
         past_both old now new bytes count done.given (at_some (known old a) bytes _ e done.past) (at_some (known now b) (after_lines count bytes) _ so_far.1 reads.past));
+    taken = taken_both old now new a b d done.loses done.taken reads.taken;
     loses = loses_both a b d done.loses reads.loses;
     later = omega (arith, done.later, reads.later);
   }
@@ -155,6 +166,7 @@ all_done count P old now a b x y whole value_of v done held none is = record {
   stopped = tt;
   within = tt;
   past = done.past;
+  taken = done.taken;
   loses = done.loses;
   later = done.later;
 }

@@ -1,5 +1,5 @@
 -- One line more is read.
-use Rattle.std.proofs.Common.{◌≡◌, ℕ, ◌+◌, ◌-◌, ◌*◌, ◌^◌, ◌≤◌, ◌<◌, ◌∙◌, sym, refl, ap, subst, true, false, not, cond, List, [], length, arith, Some, None, Option, Ok, Err, Result, IfSome, IfOk, IfErr, inl, inr, ◌⊎◌, length-take, length-drop}
+use Rattle.std.proofs.Common.{◌≡◌, ℕ, ◌+◌, ◌-◌, ◌*◌, ◌^◌, ◌≤◌, ◌<◌, ◌∙◌, sym, refl, ap, subst, true, false, not, cond, List, [], ◌++◌, length, length-append, arith, Some, None, Option, Ok, Err, Result, IfSome, IfOk, IfErr, inl, inr, ◌⊎◌, length-take, length-drop}
 use Rattle.std.specs.Prelude.{nat_le}
 use Rattle.std.specs.Option.{option_map}
 use Rattle.std.specs.Result.{is_ok}
@@ -21,7 +21,7 @@ use Rattle.cert_format.specs.declared.fault.CertFault.{CertFault}
 use Rattle.cert_format.specs.declared.fault.CertFault.TheVariants.{BadText, Truncated, Trailing, ReadFault}
 use Rattle.cert_format.specs.Grammar.{Slot, line_fault, value_unless}
 use Rattle.cert_format.specs.Readings.{first_fault, after_lines, bytes_through, in_line, trailing}
-use Rattle.cert_format.specs.Lines.{known, text_given, nothing_given, of_line, IsPast, IsStopped, IsWithin, Reads}
+use Rattle.cert_format.specs.Lines.{known, text_given, nothing_given, of_line, IsPast, IsStopped, IsTaken, IsWithin, Reads}
 use Rattle.cert_format.proofs.Prefixes.{whole_line, cut_line, long_line}
 use Rattle.cert_format.proofs.Headers.{after_lines-suc, after_lines-zero}
 
@@ -83,14 +83,35 @@ one_past old new bytes line consumed =
     let one : bytes_through (new.line - old.line) bytes ≡ length (first_line bytes) = ap (λ n. bytes_through n bytes) (omega (arith, line)) ∙ bytes_through-one bytes in
     record { further = omega (arith, line); consumed = omega (arith, consumed, one) }
 
+-- the bytes of a line that was given are taken
+pub line_taken : (old new : Position) (before after : Option (List ℕ)) → GivesLine old new (stands_in old.held before) (stands_in new.held after) → IsTaken old new before after
+line_taken old new None after gives = tt
+line_taken old new (Some was) None gives = tt
+line_taken old new (Some was) (Some is) gives =
+    let bytes = old.held ++ was in
+    let rest : new.held ++ is ≡ after_line bytes = let given : Some (new.held ++ is) ≡ Some (after_line bytes) = gives.rest in cc in
+    omega (arith, gives.consumed, length-append old.held was, length-append new.held is, ap length rest, length-drop (text_len bytes + 1) bytes, length-take (text_len bytes + 1) bytes)
+
+-- and where none was given, those that are held
+pub held_taken : (old new : Position) (before after : Option (List ℕ)) → new.consumed ≡ old.consumed → Keeps (stands_in old.held before) (stands_in new.held after) → IsTaken old new before after
+held_taken old new None after same keeps = tt
+held_taken old new (Some was) None same keeps = tt
+held_taken old new (Some was) (Some is) same keeps =
+    let kept : new.held ++ is ≡ old.held ++ was = keeps in
+    omega (arith, same, length-append old.held was, length-append new.held is, ap length kept)
+
+pub same_taken : (at : Position) (left : Option (List ℕ)) → IsTaken at at left left
+same_taken at None = tt
+same_taken at (Some bytes) = refl
+
 -- no line is read: the input ends, the line is too long, or a read failed
 module _ {A : Type 0} (slots : List Slot) (value : List ℕ → A) (old new : Position) (source : Device) (limit : old.limit ≡ 2 ^ 36) (few : old.line < 2 ^ 26) (loses : LosesPrefix source.before source.after) (later : source.faults_before ≤ source.faults_after) where
   abbrev Stopped : CertFault → Type 0
   Stopped fault = Reads (first_fault (old.line + 1) slots) 1 value old new source (Err fault)
 
   -- from its parts
-  stops : (fault : CertFault) → (new.limit ≡ old.limit) → (length new.held ≤ 65536) → IsStopped (first_fault (old.line + 1) slots) (known old source.before) source fault → IsWithin new.line fault → IfSome (known old source.before) (IsPast old new) → Stopped fault
-  stops fault same held stopped within past = record { limit = same; held = held; given = tt; passes = tt; value_is = tt; stopped = stopped; within = within; past = past; loses = loses; later = later }
+  stops : (fault : CertFault) → (new.limit ≡ old.limit) → (length new.held ≤ 65536) → IsStopped (first_fault (old.line + 1) slots) (known old source.before) source fault → IsWithin new.line fault → IfSome (known old source.before) (IsPast old new) → IsTaken old new source.before source.after → Stopped fault
+  stops fault same held stopped within past taken = record { limit = same; held = held; given = tt; passes = tt; value_is = tt; stopped = stopped; within = within; past = past; taken = taken; loses = loses; later = later }
 
   -- the bytes that the reader of lines stands in are known too
   in_known : (P : List ℕ → Type 0) → IfSome (stands_in old.held source.before) P → (bytes : List ℕ) → known old source.before ≡ Some bytes → P bytes
@@ -100,16 +121,18 @@ module _ {A : Type 0} (slots : List Slot) (value : List ℕ → A) (old new : Po
       → IfSome (stands_in old.held source.before) (λ bytes. (text ≡ bytes) × (text_len bytes ≡ length bytes) × (0 < length bytes)) → Stopped (Truncated (old.line + 1))
   stop_unended text short gives held is = stops (Truncated (old.line + 1)) gives.limit held
       (if_known (known old source.before) _ (λ bytes e. let whole = in_known _ is bytes e in (cut_line (old.line + 1) slots bytes (omega (arith, whole.1)) (omega (arith, whole.1, ap length whole.0, short)))))
-      (omega (arith, gives.line)) (if_known (known old source.before) _ (λ bytes e. one_past old new bytes gives.line (in_known _ gives.consumed bytes e)))
+      (omega (arith, gives.line)) (if_known (known old source.before) _ (λ bytes e. one_past old new bytes gives.line (in_known _ gives.consumed bytes e))) (line_taken old new source.before source.after gives)
 
   stop_end : GivesNone old new (stands_in old.held source.before) (stands_in new.held source.after) → length new.held ≤ 65536 → IfSome (stands_in old.held source.before) (λ bytes. bytes ≡ []) → Stopped (Truncated (old.line + 1))
   stop_end gives held is = stops (Truncated (old.line + 1)) (ap (λ p. p.limit) gives.still) held
       (if_known (known old source.before) _ (λ bytes e. let none = in_known _ is bytes e in rw none refl))
       (omega (arith, ap (λ p. p.line) gives.still)) (if_known (known old source.before) _ (λ bytes e. kept_past old new bytes (ap (λ p. p.line) gives.still) (ap (λ p. p.consumed) gives.still)))
+      (held_taken old new source.before source.after (ap (λ p. p.consumed) gives.still) gives.rest)
 
   stop_fault : (given : LineFault) (fault : CertFault) → Stops old new (stands_in old.held source.before) (stands_in new.held source.after) given → length new.held ≤ 65536 → IsStopped (first_fault (old.line + 1) slots) (known old source.before) source fault → IsWithin old.line fault → Stopped fault
   stop_fault given fault stop held why within = stops fault (ap (λ p. p.limit) stop.still) held why (rw (ap (λ p. p.line) stop.still) within)
       (if_known (known old source.before) _ (λ bytes e. kept_past old new bytes (ap (λ p. p.line) stop.still) (ap (λ p. p.consumed) stop.still)))
+      (held_taken old new source.before source.after (ap (λ p. p.consumed) stop.still) stop.rest)
 
   -- a certificate doesn't pass the limit
   not_past : IfSome (stands_in old.held source.before) (λ bytes. (text_len bytes ≤ 65535) × (old.limit < old.consumed + length (first_line bytes))) → IsStopped (first_fault (old.line + 1) slots) (known old source.before) source (BadText (old.line + 1) TooLong)
@@ -167,6 +190,7 @@ module _ {A : Type 0} (slots : List Slot) (value : List ℕ → A) (old new : Po
     stopped = tt;
     within = tt;
     past = if_known (known old source.before) _ (λ bytes e. one_past old new bytes gives.line (at_some (stands_in old.held source.before) bytes _ (known_some old source.before bytes e).1 gives.consumed));
+    taken = line_taken old new source.before source.after gives;
     loses = loses;
     later = later;
   }
@@ -182,6 +206,7 @@ module _ {A : Type 0} (slots : List Slot) (value : List ℕ → A) (old new : Po
         whole_line (old.line + 1) slots bytes first.1 (omega (arith, size, long)) ∙ ap (option_map (in_line (old.line + 1))) (ap (line_fault slots) (sym first.0) ∙ fault));
     within = omega (arith, gives.line);
     past = if_known (known old source.before) _ (λ bytes e. one_past old new bytes gives.line (at_some (stands_in old.held source.before) bytes _ (known_some old source.before bytes e).1 gives.consumed));
+    taken = line_taken old new source.before source.after gives;
     loses = loses;
     later = later;
   }
@@ -217,8 +242,8 @@ module _ (old new : Position) (source : Device) (limit : old.limit ≡ 2 ^ 36) (
   abbrev Looked : Result (Unit {0}) CertFault → Type 0
   Looked result = Reads (trailing (old.line + 1)) 0 (λ bytes. tt) old new source result
 
-  refuses : (fault : CertFault) → (new.limit ≡ old.limit) → (length new.held ≤ 65536) → IsStopped (trailing (old.line + 1)) (known old source.before) source fault → IsWithin new.line fault → IfSome (known old source.before) (IsPast old new) → Looked (Err fault)
-  refuses fault same held stopped within past = record { limit = same; held = held; given = tt; passes = tt; value_is = tt; stopped = stopped; within = within; past = past; loses = loses; later = later }
+  refuses : (fault : CertFault) → (new.limit ≡ old.limit) → (length new.held ≤ 65536) → IsStopped (trailing (old.line + 1)) (known old source.before) source fault → IsWithin new.line fault → IfSome (known old source.before) (IsPast old new) → IsTaken old new source.before source.after → Looked (Err fault)
+  refuses fault same held stopped within past taken = record { limit = same; held = held; given = tt; passes = tt; value_is = tt; stopped = stopped; within = within; past = past; taken = taken; loses = loses; later = later }
 
   known_in : (P : List ℕ → Type 0) → IfSome (stands_in old.held source.before) P → (bytes : List ℕ) → known old source.before ≡ Some bytes → P bytes
   known_in P all bytes is = at_some (stands_in old.held source.before) bytes P (known_some old source.before bytes is).1 all
@@ -226,12 +251,13 @@ module _ (old new : Position) (source : Device) (limit : old.limit ≡ 2 ^ 36) (
   -- a line, whatever it is
   refuse_line : GivesLine old new (stands_in old.held source.before) (stands_in new.held source.after) → length new.held ≤ 65536 → IfSome (stands_in old.held source.before) (λ bytes. 0 < length bytes) → Looked (Err (Trailing (old.line + 1)))
   refuse_line gives held some = refuses (Trailing (old.line + 1)) gives.limit held (if_known (known old source.before) _ (λ bytes e. some_trailing (old.line + 1) bytes (known_in _ some bytes e))) (omega (arith, gives.line))
-      (if_known (known old source.before) _ (λ bytes e. one_past old new bytes gives.line (known_in _ gives.consumed bytes e)))
+      (if_known (known old source.before) _ (λ bytes e. one_past old new bytes gives.line (known_in _ gives.consumed bytes e))) (line_taken old new source.before source.after gives)
 
   -- no line, for a fault of the reader of lines
   refuse_fault : (given : LineFault) (fault : CertFault) → Stops old new (stands_in old.held source.before) (stands_in new.held source.after) given → length new.held ≤ 65536 → IsStopped (trailing (old.line + 1)) (known old source.before) source fault → IsWithin old.line fault → Looked (Err fault)
   refuse_fault given fault stop held why within = refuses fault (ap (λ p. p.limit) stop.still) held why (rw (ap (λ p. p.line) stop.still) within)
       (if_known (known old source.before) _ (λ bytes e. kept_past old new bytes (ap (λ p. p.line) stop.still) (ap (λ p. p.consumed) stop.still)))
+      (held_taken old new source.before source.after (ap (λ p. p.consumed) stop.still) stop.rest)
 
   keeps_known : GivesNone old new (stands_in old.held source.before) (stands_in new.held source.after) → (bytes : List ℕ) → known old source.before ≡ Some bytes → known new source.after ≡ Some bytes
   keeps_known gives bytes e =
@@ -255,6 +281,7 @@ module _ (old new : Position) (source : Device) (limit : old.limit ≡ 2 ^ 36) (
     stopped = tt;
     within = tt;
     past = if_known (known old source.before) _ (λ bytes e. kept_past old new bytes (ap (λ p. p.line) gives.still) (ap (λ p. p.consumed) gives.still));
+    taken = held_taken old new source.before source.after (ap (λ p. p.consumed) gives.still) gives.rest;
     loses = loses;
     later = later;
   }

@@ -47,6 +47,10 @@ pub record IsPast (old new : Position) (bytes : List ℕ) : Type 0 where
   pub further : old.line ≤ new.line
   pub consumed : new.consumed ≡ old.consumed + bytes_through (new.line - old.line) bytes
 
+-- each byte that the source has lost is one that the reader has taken: those that were taken and those that are left are as many as before
+abbrev pub IsTaken : Position → Position → Option (List ℕ) → Option (List ℕ) → Type 0
+IsTaken old new before after = IfSome before (λ was. IfSome after (λ is. old.consumed + length old.held + length was ≡ new.consumed + length new.held + length is))
+
 -- the bytes begin with this number of lines without a fault, and what stands after them is still there
 pub record Passes (fault_of : List ℕ → Option CertFault) (count : ℕ) (bytes : List ℕ) (after : Option (List ℕ)) : Type 0 where
   pub none : fault_of bytes ≡ None
@@ -76,5 +80,6 @@ pub record Reads {A : Type 0} (fault_of : List ℕ → Option CertFault) (count 
   pub stopped : IfErr result (IsStopped fault_of (known old source.before) source)
   pub within : IfErr result (IsWithin new.line)
   pub past : IfSome (known old source.before) (IsPast old new)
+  pub taken : IsTaken old new source.before source.after
   pub loses : LosesPrefix source.before source.after
   pub later : source.faults_before ≤ source.faults_after

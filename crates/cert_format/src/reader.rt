@@ -3,7 +3,7 @@ ghost use Rattle.std.specs.Prelude.{◌≡◌, ◌≢◌, ◌+◌, ◌^◌, ◌<
 ghost use Rattle.bound_io.specs.Devices.{IsUntouched, seen};
 ghost use Rattle.bound_io.specs.Reading.{LosesPrefix};
 ghost use Rattle.cache_model.specs.Certificates.{IsHeaderInRange, IsRecordInRange};
-ghost use Rattle.cert_format.specs.Lines.{IsPast, IsWithin, Reads, known};
+ghost use Rattle.cert_format.specs.Lines.{IsPast, IsTaken, IsWithin, Reads, known};
 ghost use Rattle.cert_format.specs.Finish.{finish_fault, lines_left};
 
 use crate::fault::CertFault;
@@ -121,6 +121,7 @@ impl CertReader {
         ensures again { IfSome self.old.fault (λ fault. (result ≡ Err fault) × (self.new ≡ self.old) × IsUntouched (seen Q.left Q.faults source.old source.new)) }
         ensures within { self.old.fault ≡ None → IfErr result (IsWithin self.new.lines.line) }
         ensures past { IfSome (known self.old.lines (Q.left source.old)) (IsPast self.old.lines self.new.lines) }
+        ensures taken { IsTaken self.old.lines self.new.lines (Q.left source.old) (Q.left source.new) }
         ensures ahead { length self.new.lines.held ≤ 65536 }
         ensures source { LosesPrefix (Q.left source.old) (Q.left source.new) }
         ensures later { Q.faults source.old ≤ Q.faults source.new }
@@ -148,6 +149,7 @@ impl CertReader {
         ensures again { IfSome self.old.fault (λ fault. (result ≡ Err fault) × (self.new ≡ self.old) × IsUntouched (seen Q.left Q.faults source.old source.new)) }
         ensures within { self.old.fault ≡ None → IfErr result (IsWithin self.new.lines.line) }
         ensures past { IfSome (known self.old.lines (Q.left source.old)) (IsPast self.old.lines self.new.lines) }
+        ensures taken { IsTaken self.old.lines self.new.lines (Q.left source.old) (Q.left source.new) }
         ensures ahead { length self.new.lines.held ≤ 65536 }
         ensures source { LosesPrefix (Q.left source.old) (Q.left source.new) }
         ensures later { Q.faults source.old ≤ Q.faults source.new }
@@ -172,6 +174,7 @@ impl CertReader {
         ensures again { IfSome self.old.fault (λ fault. (result ≡ Err fault) × (self.new ≡ self.old) × IsUntouched (seen Q.left Q.faults source.old source.new)) }
         ensures within { self.old.fault ≡ None → IfErr result (IsWithin self.new.lines.line) }
         ensures past { IfSome (known self.old.lines (Q.left source.old)) (IsPast self.old.lines self.new.lines) }
+        ensures taken { IsTaken self.old.lines self.new.lines (Q.left source.old) (Q.left source.new) }
         ensures ahead { length self.new.lines.held ≤ 65536 }
         ensures source { LosesPrefix (Q.left source.old) (Q.left source.new) }
         ensures later { Q.faults source.old ≤ Q.faults source.new }

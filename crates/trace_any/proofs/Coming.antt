@@ -1,5 +1,5 @@
 -- What is to come of a reader, after one line more and after one request more.
-use Rattle.std.proofs.Common.{◌≡◌, ℕ, zero, suc, ◌+◌, ◌-◌, ◌≤◌, ◌<◌, ◌∙◌, sym, refl, ap, List, [], ◌∷◌, ◌++◌, append_assoc, append-nil, length, take, drop, subst, inl, inr, ◌⊎◌, arith, not, length-take, Option, Some, None, Result, Ok, Err, IfSome, Bool}
+use Rattle.std.proofs.Common.{◌≡◌, ℕ, zero, suc, ◌+◌, ◌-◌, ◌≤◌, ◌<◌, ◌∙◌, sym, refl, ap, List, [], ◌∷◌, ◌++◌, append_assoc, append-nil, length, take, drop, subst, inl, inr, ◌⊎◌, arith, not, length-take, fold, Option, Some, None, Result, Ok, Err, IfSome, Bool}
 use Rattle.std.specs.Result.{IsErr, IsErrAnd, is_ok}
 use Rattle.std.proofs.lemmas.List.{drop_all, drop-drop}
 use Rattle.std.proofs.lemmas.Bool.{cases_lt, le-ltb, lt-ltb, false≢true, true≢false}
@@ -23,7 +23,8 @@ use Rattle.trace_any.specs.declared.format.Format.{Format}
 use Rattle.trace_any.specs.declared.format.Limits.{Limits}
 use Rattle.bound_io.specs.Reading.{LosesPrefix}
 use Rattle.trace_any.specs.Readers.{Reader, Ahead, fresh, room_left, so_far, to_come, onto, after, with_ahead_by, ahead_by, with_named_by, number_by, bytes_after, GoesOn, GivesNone, IsOver, IsStopped, IsWhole, LineTaken}
-use Rattle.trace_any.proofs.ReadingSteps.{plain, read_on-first, read_on-stopped, read_on-onto, requested-next, requested-none, requested-full}
+use Rattle.trace_any.specs.FirstLines.{coming_in}
+use Rattle.trace_any.proofs.ReadingSteps.{plain, read_on-first, read_on-stopped, fold-onto, requested-next, requested-none, requested-full}
 
 -- no block is left of the last line
 to_come_lines : (r : Reader) (bytes : List ℕ) → r.ahead.count ≡ 0 → to_come r bytes ≡ read_on r.format (room_left r) (so_far r) bytes
@@ -55,7 +56,7 @@ pub record TakesUp (r new : Reader) (said : Result (Option LineContents) LineKin
   pub coming : to_come r bytes ≡ read_on r.format (room_left r) (with_line (r.limits.requests - r.given) (so_far new) said) (bytes_after r new bytes)
 
 -- as many bytes as there are of so many from the prefix
-drop_taken : (n : ℕ) (bytes : List ℕ) → drop (length (take n bytes)) bytes ≡ drop n bytes
+pub drop_taken : (n : ℕ) (bytes : List ℕ) → drop (length (take n bytes)) bytes ≡ drop n bytes
 drop_taken n bytes = by (cases_lt n (length bytes))
   where
     by : n < length bytes ⊎ length bytes ≤ n → drop (length (take n bytes)) bytes ≡ drop n bytes
@@ -180,9 +181,9 @@ same_blocks volumes most dropped lines bytes volume first next zero size same = 
 same_blocks volumes most dropped lines bytes volume first next (suc count) size same = ap (λ n. requested most (plain volumes dropped lines bytes) volume n (suc count) size) (sym (same (omega arith)))
 
 -- the first of the blocks is given
-pub gives_block : (r : Reader) (next : ℕ) (bytes : List ℕ) → r.given < r.limits.requests → 0 < r.ahead.count → (1 < r.ahead.count → next ≡ r.ahead.first + 1)
-    → to_come r bytes ≡ onto (record { volume = r.ahead.volume; id = r.ahead.first; size = r.ahead.size }) (to_come (with_given r next) bytes)
-gives_block r next bytes room some follows =
+pub gives_block : (r : Reader) (next : ℕ) (lines : List (List ℕ × ℕ)) → r.given < r.limits.requests → 0 < r.ahead.count → (1 < r.ahead.count → next ≡ r.ahead.first + 1)
+    → coming_in r lines ≡ onto (record { volume = r.ahead.volume; id = r.ahead.first; size = r.ahead.size }) (coming_in (with_given r next) lines)
+gives_block r next lines room some follows =
     let a = r.ahead in
     let most = r.limits.requests - (r.given + 1) in
     let count = a.count - 1 in
@@ -195,9 +196,9 @@ gives_block r next bytes room some follows =
     ∙ (ap (λ n. requested (most + 1) (plain v d l c) a.volume a.first n a.size) blocks
     ∙ (requested-next v most d l c a.volume a.first count a.size
     ∙ ap (onto x) (same_blocks v most d l c a.volume (a.first + 1) next count a.size (λ h. follows (omega (arith, h, blocks)))))) in
-    ap (λ s. read_on r.format (room_left r) s bytes) start
-    ∙ (ap (λ n. read_on r.format (record { requests = n; bytes = r.limits.bytes }) (onto x (requested most (plain v d l c) a.volume next count a.size)) bytes) places
-    ∙ read_on-onto r.format most r.limits.bytes x (requested most (plain v d l c) a.volume next count a.size) bytes)
+    ap (λ s. fold (read_line r.format (room_left r)) s lines) start
+    ∙ (ap (λ n. fold (read_line r.format (record { requests = n; bytes = r.limits.bytes })) (onto x (requested most (plain v d l c) a.volume next count a.size)) lines) places
+    ∙ fold-onto r.format most r.limits.bytes x (requested most (plain v d l c) a.volume next count a.size) lines)
 
 -- no request more is allowed
 pub no_room : (r : Reader) (bytes : List ℕ) → r.given ≡ r.limits.requests → 0 < r.ahead.count → IsOver (to_come r bytes) r.dropped (Some TooManyRequests)
@@ -239,7 +240,7 @@ pub taken_err : (r new : Reader) (before after : Option (List ℕ)) (faults_befo
 taken_err r new before after faults_before faults_after fault (Ok b) err is why = absurd (false≢true err)
 taken_err r new before after faults_before faults_after fault (Err e) err is why = rw is why
 
-past_both : (m n k : ℕ) (bytes : List ℕ) → k ≡ m + n → drop n (drop m bytes) ≡ drop k bytes
+pub past_both : (m n k : ℕ) (bytes : List ℕ) → k ≡ m + n → drop n (drop m bytes) ≡ drop k bytes
 past_both m n k bytes all = rw (all, drop-drop) refl
 
 -- one line taken up after others

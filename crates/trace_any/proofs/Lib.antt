@@ -2,4 +2,5 @@ pub mod ReadingRows
 pub mod FirstLines
 pub mod ReadingSteps
 pub mod Coming
+pub mod Through
 pub mod VolumeSteps

@@ -80,7 +80,7 @@ read_line-onto format most bytes x r (text, size) =
     ∙ (ap (λ t. cond (is_some r.refused) (onto x r) t) (onto_either long x (stopped now (BadLine now.lines TooLong)) within)
     ∙ onto_either (is_some r.refused) x r short))
 
-fold-onto : (format : Format) (most bytes : ℕ) (x : Object) (r : Reading) (lines : List (List ℕ × ℕ)) → fold (read_line format (room (most + 1) bytes)) (onto x r) lines ≡ onto x (fold (read_line format (room most bytes)) r lines)
+pub fold-onto : (format : Format) (most bytes : ℕ) (x : Object) (r : Reading) (lines : List (List ℕ × ℕ)) → fold (read_line format (room (most + 1) bytes)) (onto x r) lines ≡ onto x (fold (read_line format (room most bytes)) r lines)
 fold-onto format most bytes x r [] = refl
 fold-onto format most bytes x r (line ∷ lines) =
     ap (λ s. fold (read_line format (room (most + 1) bytes)) s lines) (read_line-onto format most bytes x r line) ∙ fold-onto format most bytes x (read_line format (room most bytes) r line) lines

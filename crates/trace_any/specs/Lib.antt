@@ -2,3 +2,4 @@ pub mod Volumes
 pub mod Readings
 pub mod LineContent
 pub mod Readers
+pub mod FirstLines

@@ -83,6 +83,7 @@ fn range_of(volume: u32, span: Span) -> Option<Range>
 }
 
 impl Progress {
+    ghost use Rattle.trace_any.specs.FirstLines.{GoesNoFurther, coming_in};
     ghost use Rattle.trace_any.specs.Readers.{GoesOn, IsOver, IsStopped, LineTaken, NextRequest, fresh, onto, to_come, known};
 
     /// Nothing is read yet. The buffer is taken here.
@@ -124,6 +125,7 @@ impl Progress {
         ensures within { (self.new.lines.consumed ≤ self.new.limits.bytes) × (length self.new.lines.held ≤ 65536) }
         ensures few { (self.new.given ≤ self.new.limits.requests) × (self.new.limits.requests ≤ 2 ^ 25) }
         ensures taken { LineTaken self.old self.new (known self.old (S.left source.old)) (known self.new (S.left source.new)) (S.faults source.old) (S.faults source.new) result }
+        ensures lines { IfOk result (λ more. more ≡ true → IfSome (known self.old (S.left source.old)) (GoesNoFurther (λ s. s) self.old self.new)) }
         ensures source { LosesPrefix (S.left source.old) (S.left source.new) }
         ensures later { S.faults source.old ≤ S.faults source.new }
         ensures none_failed { OnOk result (S.faults source.new ≡ S.faults source.old) }
@@ -159,6 +161,7 @@ impl Progress {
         ensures few { (self.new.given ≤ self.new.limits.requests) × (self.new.limits.requests ≤ 2 ^ 25) }
         ensures size { IfOk result (λ x. (1 ≤ x.size) × (x.size ≤ 2 ^ 48)) }
         ensures given { IfOk result (λ x. (self.new.given ≡ self.old.given + 1) × ((bytes : List ℕ) → to_come self.old bytes ≡ onto x (to_come self.new bytes))) }
+        ensures given_in { IfOk result (λ x. (lines : List (List ℕ × ℕ)) → coming_in self.old lines ≡ onto x (coming_in self.new lines)) }
         ensures full { IfErr result (λ fault. (fault ≡ TraceFault.TooManyRequests) × ((bytes : List ℕ) → IsOver (to_come self.old bytes) self.new.dropped (Some fault))) }
     {
         if self.given == self.limits.requests {
@@ -188,6 +191,7 @@ impl Progress {
         ensures few { (self.new.given ≤ self.new.limits.requests) × (self.new.limits.requests ≤ 2 ^ 25) }
         ensures ahead { length self.new.lines.held ≤ 65536 }
         ensures next { NextRequest self.old self.new (known self.old (S.left source.old)) (known self.new (S.left source.new)) (S.faults source.old) (S.faults source.new) result }
+        ensures lines { IfOk result (λ found. IfSome found (λ x. IfSome (known self.old (S.left source.old)) (GoesNoFurther (onto x) self.old self.new))) }
         ensures source { LosesPrefix (S.left source.old) (S.left source.new) }
         ensures later { S.faults source.old ≤ S.faults source.new }
         ensures none_failed { OnOk result (S.faults source.new ≡ S.faults source.old) }

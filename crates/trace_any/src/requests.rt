@@ -37,7 +37,8 @@ impl Model for RequestReader {
 }
 
 impl RequestReader {
-    ghost use Rattle.trace_any.specs.Readers.{NextRequest, err_of, fresh, known};
+    ghost use Rattle.trace_any.specs.FirstLines.{GoesNoFurther};
+    ghost use Rattle.trace_any.specs.Readers.{NextRequest, err_of, fresh, known, onto};
 
     /// A reader of a trace of this form, within these limits. It takes its buffer here, and later memory for each
     /// volume alone.
@@ -67,6 +68,7 @@ impl RequestReader {
         source: &mut S,
     ) -> Result<Option<Object>, TraceFault>
         ensures next { self.old.fault ≡ None → NextRequest self.old self.new (known self.old (S.left source.old)) (known self.new (S.left source.new)) (S.faults source.old) (S.faults source.new) result }
+        ensures lines { self.old.fault ≡ None → IfOk result (λ found. IfSome found (λ x. IfSome (known self.old (S.left source.old)) (GoesNoFurther (onto x) self.old self.new))) }
         ensures fault { self.old.fault ≡ None → self.new.fault ≡ err_of result }
         ensures again { IfSome self.old.fault (λ fault. (result ≡ Err fault) × (self.new ≡ self.old) × (S.left source.new ≡ S.left source.old) × (S.faults source.new ≡ S.faults source.old)) }
         ensures size { IfOk result (λ found. IfSome found (λ x. (1 ≤ x.size) × (x.size ≤ 2 ^ 48))) }

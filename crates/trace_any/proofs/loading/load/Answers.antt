@@ -11,7 +11,7 @@ loop-requests-init g c =
       fault = refl;
       given = rw empty (omega arith);
       goes_on = λ _. goes_nowhere c.args.reader.now c.in_ok-requests.requests _ empty;
-      unread = of_any_fault c.args.reader.now.fault (refl, refl);
+      unread = of_any_fault c.args.reader.now.fault (refl, refl, refl);
       source = loses_nothing (g.S.Source.left c.args.source.now);
       none_failed = refl;
     }

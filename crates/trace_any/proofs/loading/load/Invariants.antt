@@ -9,7 +9,7 @@ invariant-loop-requests g l = record {
   fault : l.reader.fault ≡ l.initial.reader.fault;
   given : l.reader.given ≡ l.initial.reader.given + length l.requests;
   goes_on : l.initial.reader.fault ≡ None → IfSome (known l.initial.reader (g.S.Source.left l.initial.source)) (λ bytes. GoesOn (after l.requests) l.initial.reader l.reader bytes (known l.reader (g.S.Source.left l.source)));
-  unread : IfSome l.initial.reader.fault (λ _. (g.S.Source.left l.source ≡ g.S.Source.left l.initial.source) × (g.S.Source.faults l.source ≡ g.S.Source.faults l.initial.source));
+  unread : IfSome l.initial.reader.fault (λ _. (l.reader ≡ l.initial.reader) × (g.S.Source.left l.source ≡ g.S.Source.left l.initial.source) × (g.S.Source.faults l.source ≡ g.S.Source.faults l.initial.source));
   source : LosesPrefix (g.S.Source.left l.initial.source) (g.S.Source.left l.source);
   none_failed : g.S.Source.faults l.source ≡ g.S.Source.faults l.initial.source;
 }

@@ -3,10 +3,13 @@ use Rattle.bound_io.specs.Devices.{device}
 use Rattle.cert_format.specs.Readers.{HeaderRead}
 use Rattle.cert_format.specs.declared.reader.Stage.TheVariants.{InRecords}
 use Rattle.cert_format.specs.contracts.reader.CertReader.{the_view}
-use Rattle.cert_format.proofs.Taken.{same_past}
+use Rattle.cert_format.proofs.Taken.{same_past, same_taken}
 use Rattle.cert_format.proofs.Headers.{few_lines}
 use Rattle.cert_format.proofs.Going.{header_goes}
 use Rattle.cert_format.proofs.reader.CertReader.header.Goals as goal
+
+pub returns-in-Some-clause-taken : goal.returns-in-Some-clause-taken
+returns-in-Some-clause-taken g c = same_taken c.args.self.now.lines (g.Q.Source.left c.args.source.now)
 
 pub returns-in-Some-clause-past : goal.returns-in-Some-clause-past
 returns-in-Some-clause-past g c = same_past c.args.self.now.lines (g.Q.Source.left c.args.source.now)

@@ -2,9 +2,12 @@ use Rattle.std.proofs.Common.{◌-◌, ◌∙◌, ap, subst, arith, Some, Ok}
 use Rattle.bound_io.specs.Devices.{device}
 use Rattle.cert_format.specs.Readers.{RecordRead, IsRefused}
 use Rattle.cert_format.specs.contracts.reader.CertReader.{the_view}
-use Rattle.cert_format.proofs.Taken.{same_past}
+use Rattle.cert_format.proofs.Taken.{same_past, same_taken}
 use Rattle.cert_format.proofs.Going.{record_goes, record_stops}
 use Rattle.cert_format.proofs.reader.CertReader.next_record.Goals as goal
+
+pub returns-in-Some-clause-taken : goal.returns-in-Some-clause-taken
+returns-in-Some-clause-taken g c = same_taken c.args.self.now.lines (g.Q.Source.left c.args.source.now)
 
 pub returns-in-Some-clause-past : goal.returns-in-Some-clause-past
 returns-in-Some-clause-past g c = same_past c.args.self.now.lines (g.Q.Source.left c.args.source.now)

@@ -1,6 +1,7 @@
-use Rattle.std.proofs.Common.{◌∙◌, arith, ap}
+use Rattle.std.proofs.Common.{◌∙◌, refl, [], arith, ap}
 use Rattle.bound_io.proofs.KnownLemmas.{loses_then}
-use Rattle.trace_any.proofs.Coming.{goes_then}
+use Rattle.trace_any.proofs.Coming.{goes_nowhere, goes_then, loses_nothing}
+use Rattle.trace_any.proofs.Through.{no_further_given, no_further_then, no_further_yet, rests_on}
 use Rattle.trace_any.proofs.progress.Progress.find.Goals as goal
 
 pub returns-in_err-take_line-clause-source : goal.returns-in_err-take_line-clause-source
@@ -26,6 +27,22 @@ loop-self-preserved g c =
       given = t.still.2 ∙ i.given;
       no_fault = taken.no_fault;
       goes_on = goes_then (c.args.self.now) (c.loop-self.self) (c.take_line.new.self) _ _ _ i.goes_on (new.1);
+      lines = no_further_then (c.args.self.now) (c.loop-self.self) (c.take_line.new.self) _ _ (rests_on (c.args.self.now) (c.loop-self.self) _ _ i.goes_on) i.lines (taken.lines (c.if-not-branch.false));
       source = loses_then _ _ _ (t.source.0) i.source (t.source.1);
       none_failed = taken.none_failed ∙ i.none_failed;
     }
+
+pub loop-self-init : goal.loop-self-init
+loop-self-init g c = record {
+  format = refl;
+  limits = refl;
+  given = refl;
+  no_fault = c.requires.no_fault;
+  goes_on = goes_nowhere c.args.self.now [] _ refl;
+  lines = no_further_yet c.args.self.now _;
+  source = loses_nothing (g.S.Source.left c.args.source.now);
+  none_failed = refl;
+}
+
+pub returns-clause-lines : goal.returns-clause-lines
+returns-clause-lines g c = no_further_given c.args.self.now c.loop-self.self c.give.new.self c.in_ok-give.field-0 _ c.give.ensures.still.2 c.in_ok-give.ensures.given_in c.loop-self.invariant.lines

@@ -1,5 +1,6 @@
 use Rattle.std.proofs.Common.{◌≡◌, ◌-◌, None, IfSome}
 use Rattle.bound_io.specs.Reading.{LosesPrefix}
+use Rattle.trace_any.specs.FirstLines.{GoesNoFurther}
 use Rattle.trace_any.specs.Readers.{GoesOn, known}
 use Rattle.trace_any.proofs.progress.Progress.find.Given as goal
 
@@ -10,6 +11,7 @@ invariant-loop-self g l = record {
   given : l.self.given ≡ l.initial.self.given;
   no_fault : l.self.lines.fault ≡ None;
   goes_on : IfSome (known l.initial.self (g.S.Source.left l.initial.source)) (λ bytes. GoesOn (λ r. r) l.initial.self l.self bytes (known l.self (g.S.Source.left l.source)));
+  lines : IfSome (known l.initial.self (g.S.Source.left l.initial.source)) (GoesNoFurther (λ s. s) l.initial.self l.self);
   source : LosesPrefix (g.S.Source.left l.initial.source) (g.S.Source.left l.source);
   none_failed : g.S.Source.faults l.source ≡ g.S.Source.faults l.initial.source;
 }

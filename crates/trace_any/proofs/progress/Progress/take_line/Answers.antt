@@ -7,6 +7,8 @@ use Rattle.trace_any.specs.Readings.{fault_of}
 use Rattle.trace_any.specs.declared.fault.TraceFault.TheVariants.{BadLine}
 use Rattle.trace_any.specs.contracts.progress.Progress.{the_view}
 use Rattle.trace_any.proofs.Coming.{lines_refused, goes_onward, taken_err, takes_up, refused_line, goes_blank, goes_asked, is_asked, with_lines}
+use Rattle.trace_any.specs.FirstLines.{GoesNoFurther}
+use Rattle.trace_any.proofs.Through.{reads_line, through_asked, through_blank}
 use Rattle.trace_any.proofs.progress.Progress.take_line.Goals as goal
 
 -- the blocks of the code, as those of the reader
@@ -87,6 +89,53 @@ returns-in_default-content-clause-taken g c =
     let goes = goes_blank s l _ _ _ (said ∙ ap (λ w. answer_of (Ok w)) blank) none takes in
     subst (λ r. (r.lines.consumed < l.consumed) × IfSome (known r (g.S.Source.left c.args.source.now)) (λ bytes. GoesOn (λ x. x) r (with_lines s l) bytes (known (with_lines s l) (g.S.Source.left c.next_line.new.source)))) is
     (gives.some, goes)
+
+pub returns-in-Some-range_of-clause-lines : goal.returns-in-Some-range_of-clause-lines
+returns-in-Some-range_of-clause-lines g c =
+    let is = c.self.view_is in
+    let s = the_view c.self.inside in
+    let l = c.next_line.follows.lender-at-none in
+    let f = c.in_ok-text.ensures in
+    let none : c.self.inside.ahead.count ≡ 0 = ap (λ r. r.ahead.count) is ∙ c.requires.nothing_ahead in
+    let gives = rw (c.in_ok-text.was, c.in-Some.is) at (c.next_line.follows.holds-at-none.0) in
+    let reads = reads_line s l _ _ c.in-Some.text.now none (c.self.invariant.3) gives (rw (c.in-Some.is) at f.text) (rw (c.in-Some.is) at f.short) in
+    let content = c.in-Some-content.content in
+    let said = sym (c.content_of.ensures.content_named) ∙ (ap answer_of c.in-Ok.is ∙ ap (λ w. answer_of (Ok w)) c.in-Some-content.is) in
+    let goes = through_asked s l (content_by content) _ _ said none reads in
+    let moved = with_lines s l in
+    let new = is_asked moved (volume_of content.volume) content.span _ _ _ (c.in_ok-volume.ensures.number) (c.in_ok-volume.ensures.volumes) (sym (c.range_of.ensures.ahead) ∙ ap (option_map range_ahead) c.in-Some-range_of.is) in
+    λ _. subst (λ r. IfSome (known r (g.S.Source.left c.args.source.now)) (GoesNoFurther (λ x. x) r (with_ahead_by (record moved { volumes = c.number_of.new.volumes }) (Some (range_ahead c.in-Some-range_of.range))))) is
+    (subst (λ n. IfSome (known s (g.S.Source.left c.args.source.now)) (GoesNoFurther (λ x. x) s n)) new goes)
+
+pub returns-in-None-clause-lines : goal.returns-in-None-clause-lines
+returns-in-None-clause-lines g c =
+    let is = c.self.view_is in
+    let s = the_view c.self.inside in
+    let l = c.next_line.follows.lender-at-none in
+    let f = c.in_ok-text.ensures in
+    let none : c.self.inside.ahead.count ≡ 0 = ap (λ r. r.ahead.count) is ∙ c.requires.nothing_ahead in
+    let gives = rw (c.in_ok-text.was, c.in-Some.is) at (c.next_line.follows.holds-at-none.0) in
+    let reads = reads_line s l _ _ c.in-Some.text.now none (c.self.invariant.3) gives (rw (c.in-Some.is) at f.text) (rw (c.in-Some.is) at f.short) in
+    let content = c.in-Some-content.content in
+    let said = sym (c.content_of.ensures.content_named) ∙ (ap answer_of c.in-Ok.is ∙ ap (λ w. answer_of (Ok w)) c.in-Some-content.is) in
+    let goes = through_asked s l (content_by content) _ _ said none reads in
+    let moved = with_lines s l in
+    let new = is_asked moved (volume_of content.volume) content.span _ _ _ (c.in_ok-volume.ensures.number) (c.in_ok-volume.ensures.volumes) (sym (c.range_of.ensures.ahead) ∙ ap (option_map range_ahead) c.in-None.is) in
+    λ _. subst (λ r. IfSome (known r (g.S.Source.left c.args.source.now)) (GoesNoFurther (λ x. x) r (with_ahead_by (record moved { volumes = c.number_of.new.volumes }) None))) is
+    (subst (λ n. IfSome (known s (g.S.Source.left c.args.source.now)) (GoesNoFurther (λ x. x) s n)) new goes)
+
+pub returns-in_default-content-clause-lines : goal.returns-in_default-content-clause-lines
+returns-in_default-content-clause-lines g c =
+    let is = c.self.view_is in
+    let s = the_view c.self.inside in
+    let l = c.next_line.follows.lender-at-none in
+    let f = c.in_ok-text.ensures in
+    let none : c.self.inside.ahead.count ≡ 0 = ap (λ r. r.ahead.count) is ∙ c.requires.nothing_ahead in
+    let gives = rw (c.in_ok-text.was, c.in-Some.is) at (c.next_line.follows.holds-at-none.0) in
+    let reads = reads_line s l _ _ c.in-Some.text.now none (c.self.invariant.3) gives (rw (c.in-Some.is) at f.text) (rw (c.in-Some.is) at f.short) in
+    let said = sym (c.content_of.ensures.content_named) ∙ ap answer_of c.in-Ok.is in
+    let blank : c.in-Ok.content ≡ None = c.in_default-content.is in
+    λ _. subst (λ r. IfSome (known r (g.S.Source.left c.args.source.now)) (GoesNoFurther (λ x. x) r (with_lines s l))) is (through_blank s l _ _ (said ∙ ap (λ w. answer_of (Ok w)) blank) none reads)
 
 pub invariant_of-self : goal.invariant_of-self
 invariant_of-self g c =
