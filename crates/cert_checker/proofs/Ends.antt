@@ -77,11 +77,11 @@ module _ (start : Inputs) (h : Header) (given : List Object) (records : List Rec
         walk_at start b t _ _ refl q.reading
         ∙ walked_too_few h given records input within ended.stands.no_fault (traces.reading start.reader.format start.reader.limits b) (lines.to_come now.cert (after_lines now.cert.lines.line t)) p.requests p.stop fewer);
     near = (
-        near_here h records start end (header_len h + length given) (if_one start.certificate _ _ ended.records_read (λ t q. same_records h records now end t q same_cert same_left))
-            (subst (λ (c : lines.Reader). length c.lines.held ≤ 65536) (sym same_cert) held)
-            (subst (λ (c : lines.Reader). c.lines.line ≤ header_len h + length given) (sym same_cert) (omega (arith, line_is))),
-        lost_all end same_trace,
-      );
+      near_here h records start end (header_len h + length given) (if_one start.certificate _ _ ended.records_read (λ t q. same_records h records now end t q same_cert same_left))
+          (subst (λ (c : lines.Reader). length c.lines.held ≤ 65536) (sym same_cert) held)
+          (subst (λ (c : lines.Reader). c.lines.line ≤ header_len h + length given) (sym same_cert) (omega (arith, line_is))),
+      lost_all end same_trace,
+    );
   }
 
   module _ (full : length given ≡ h.requests) (end : Inputs) (same_trace : end.trace ≡ now.trace) (held : length end.cert.lines.held ≤ 65536) (past : IfSome (known now.cert.lines now.certificate) (IsPast now.cert.lines end.cert.lines)) where
@@ -104,13 +104,13 @@ module _ (start : Inputs) (h : Header) (given : List Object) (records : List Rec
             ∙ walked_end_rule h given records input within ended.stands.no_fault (traces.reading start.reader.format start.reader.limits b) (lines.to_come now.cert (after_lines now.cert.lines.line t)) p.requests p.stop full kind
             (at_some (known now.cert.lines now.certificate) _ _ q.stands_in read).0 fails);
         near = (
-            if_one start.certificate _ _ ended.records_read (λ t q.
-            let is = at_some (known now.cert.lines now.certificate) _ _ q.stands_in read in
-            let next : now.cert.lines.line + 1 ≡ header_len h + 1 + length given = omega (arith, line_is) in
-            let over : after_lines (header_len h + 1 + length given) t ≡ [] = ap (λ k. after_lines k t) (sym next) ∙ (after_lines-add now.cert.lines.line 1 t ∙ after_end now.cert (after_lines now.cert.lines.line t) at none is.0) in
-            omega (arith, (consumed_on h records now end t q past).1, ap length over, held)),
-            lost_all end same_trace,
-          );
+          if_one start.certificate _ _ ended.records_read (λ t q.
+              let is = at_some (known now.cert.lines now.certificate) _ _ q.stands_in read in
+              let next : now.cert.lines.line + 1 ≡ header_len h + 1 + length given = omega (arith, line_is) in
+              let over : after_lines (header_len h + 1 + length given) t ≡ [] = ap (λ k. after_lines k t) (sym next) ∙ (after_lines-add now.cert.lines.line 1 t ∙ after_end now.cert (after_lines now.cert.lines.line t) at none is.0) in
+              omega (arith, (consumed_on h records now end t q past).1, ap length over, held)),
+          lost_all end same_trace,
+        );
       }
 
       -- the end is read, and no rule fails

@@ -27,7 +27,7 @@ use Rattle.cert_format.proofs.Chains.{after_lines-add, bytes_through-add}
 use Rattle.cert_format.proofs.Taken.{at_some, if_known}
 use Rattle.cert_checker.specs.declared.walking.CheckFault.{CheckFault}
 use Rattle.cert_checker.specs.declared.walking.CheckFault.TheVariants as fault
-use Rattle.cert_checker.specs.Checks.{Inputs, HasChecked, HasCheckedAll, HasLostAsked, HasRecords, HasRequests, IsFailing, IsFresh, IsLater, IsStop, IsWalked, after_records, of_text, of_trace, taken}
+use Rattle.cert_checker.specs.Checks.{Inputs, HasChecked, HasCheckedAll, HasLostAsked, HasRecords, IsFailing, IsFresh, IsLater, IsStop, IsWalked, after_records, of_text, of_trace, taken}
 use Rattle.cert_checker.specs.Rules.{record_fault}
 use Rattle.cert_checker.specs.Summaries.{StandsFor, Summary}
 use Rattle.cert_checker.specs.Walks.{Event, Invalid, Refused, asked, text_event, walk}
@@ -223,11 +223,11 @@ module _ (start : Inputs) (h : Header) (given : List Object) (records : List Rec
       event = if_both start.trace start.certificate _ _ _ took checked.records_read (λ b t p q.
           walk_at start b t _ _ p.reading q.reading ∙ (ends b t p).0);
       near = (
-          near_here h records start end (header_len h + length given) (if_one start.certificate _ _ checked.records_read (λ t q. same_records h records now end t q same_cert same_left))
-          (subst (λ (c : lines.Reader). length c.lines.held ≤ 65536) (sym same_cert) held)
-          (subst (λ (c : lines.Reader). c.lines.line ≤ header_len h + length given) (sym same_cert) (omega (arith, line_is))),
-          lost_here end same_trace (λ b t p q. asked_at start b t _ _ p.reading q.reading ∙ (ends b t p).1),
-        );
+        near_here h records start end (header_len h + length given) (if_one start.certificate _ _ checked.records_read (λ t q. same_records h records now end t q same_cert same_left))
+            (subst (λ (c : lines.Reader). length c.lines.held ≤ 65536) (sym same_cert) held)
+            (subst (λ (c : lines.Reader). c.lines.line ≤ header_len h + length given) (sym same_cert) (omega (arith, line_is))),
+        lost_here end same_trace (λ b t p q. asked_at start b t _ _ p.reading q.reading ∙ (ends b t p).1),
+      );
     }
       where
         ends : (b t : List ℕ) (p : Took b) → EndsAt given (requests.after given (requests.onto x (requests.to_come reader p.rest))) (after_records h records (lines.to_come now.cert (after_lines now.cert.lines.line t)))
@@ -263,9 +263,9 @@ module _ (start : Inputs) (h : Header) (given : List Object) (records : List Rec
         event = if_both start.trace start.certificate _ _ _ took checked.records_read (λ b t p q.
             walk_at start b t _ _ p.reading q.reading ∙ ((ends b t p q).0 ∙ ap (λ l. Some (Invalid l kind)) (sym at)));
         near = (
-            near_here h (records ++ r ∷ []) start end line records_on held (omega (arith, fails.0)),
-            lost_here end same_trace (λ b t p q. asked_at start b t _ _ p.reading q.reading ∙ (ends b t p q).1),
-          );
+          near_here h (records ++ r ∷ []) start end line records_on held (omega (arith, fails.0)),
+          lost_here end same_trace (λ b t p q. asked_at start b t _ _ p.reading q.reading ∙ (ends b t p q).1),
+        );
       }
         where
           at : line ≡ header_len h + 1 + length given

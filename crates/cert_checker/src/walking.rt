@@ -8,6 +8,7 @@ ghost use Rattle.cache_model.specs.declared.certificates.Header.{Header as Head}
 ghost use Rattle.cache_model.specs.declared.certificates.Record.{Record as Entry};
 ghost use Rattle.cache_model.specs.Certificates.{IsRecordInRange};
 ghost use Rattle.cert_checker.specs.declared.invalid.InvalidKind.TheVariants.{RequestCount};
+ghost use Rattle.cert_format.specs.Lines.{IsTaken};
 ghost use Rattle.cert_format.specs.Readers.{fresh};
 ghost use Rattle.cert_checker.specs.declared.walking.CheckFault.TheVariants.{Invalid};
 ghost use Rattle.cert_checker.specs.Checks.{HasChecked, HasCheckedAll, Inputs, IsLastCheck, IsEvent, IsFresh, IsInStep, IsNear, IsPassed, IsSteppedAt, IsNextCheck, inputs};
@@ -152,6 +153,7 @@ fn check_next<T: Source, Q: Source>(
     ensures fewer { IfOk result (λ more. more ≡ true → cert.new.left + 1 ≡ cert.old.left) }
     ensures checked { (start : Inputs) (h : Head) (requests : List Requested) (records : List Entry) → HasChecked start h requests records (inputs reader.old (T.left trace.old) (T.faults trace.old) cert.old (Q.left certificate.old) (Q.faults certificate.old)) checker.old → IsNextCheck start h requests records (inputs reader.new (T.left trace.new) (T.faults trace.new) cert.new (Q.left certificate.new) (Q.faults certificate.new)) checker.new result }
     ensures trace { LosesPrefix (T.left trace.old) (T.left trace.new) × (T.faults trace.old ≤ T.faults trace.new) × (length reader.new.lines.held ≤ 65536) }
+    ensures taken { IsTaken cert.old.lines cert.new.lines (Q.left certificate.old) (Q.left certificate.new) }
     ensures cert { LosesPrefix (Q.left certificate.old) (Q.left certificate.new) × (Q.faults certificate.old ≤ Q.faults certificate.new) × (length cert.new.lines.held ≤ 65536) }
 {
     let Some(object) = reader.next(alloc, trace)? else {
@@ -176,6 +178,7 @@ fn check_last<Q: Source>(
     requires header { header.now ≡ checker.now.header }
     requires in_step { (reader : Reader) × (left : Option (List ℕ)) × (faults : ℕ) × IsInStep (inputs reader left faults cert.old (Q.left certificate.old) (Q.faults certificate.old)) checker.now }
     ensures checked { (start : Inputs) (reader : Reader) (left : Option (List ℕ)) (faults : ℕ) (h : Head) (requests : List Requested) (records : List Entry) → HasCheckedAll start h requests records (inputs reader left faults cert.old (Q.left certificate.old) (Q.faults certificate.old)) checker.now → IsLastCheck start (inputs reader left faults cert.new (Q.left certificate.new) (Q.faults certificate.new)) result }
+    ensures taken { IsTaken cert.old.lines cert.new.lines (Q.left certificate.old) (Q.left certificate.new) }
     ensures source { LosesPrefix (Q.left certificate.old) (Q.left certificate.new) }
     ensures later { Q.faults certificate.old ≤ Q.faults certificate.new }
 {
@@ -205,6 +208,7 @@ fn walk<T: Source, Q: Source>(
     requires in_step { IsInStep (inputs reader.old (T.left trace.old) (T.faults trace.old) cert.old (Q.left certificate.old) (Q.faults certificate.old)) checker.old }
     ensures checked { (start : Inputs) (h : Head) (requests : List Requested) (records : List Entry) → HasChecked start h requests records (inputs reader.old (T.left trace.old) (T.faults trace.old) cert.old (Q.left certificate.old) (Q.faults certificate.old)) checker.old → IsLastCheck start (inputs reader.new (T.left trace.new) (T.faults trace.new) cert.new (Q.left certificate.new) (Q.faults certificate.new)) result }
     ensures trace { LosesPrefix (T.left trace.old) (T.left trace.new) × (T.faults trace.old ≤ T.faults trace.new) × (length reader.new.lines.held ≤ 65536) }
+    ensures taken { IsTaken cert.old.lines cert.new.lines (Q.left certificate.old) (Q.left certificate.new) }
     ensures cert { LosesPrefix (Q.left certificate.old) (Q.left certificate.new) × (Q.faults certificate.old ≤ Q.faults certificate.new) }
 {
     while check_next(alloc, reader, trace, cert, certificate, header, checker)? {}

@@ -40,7 +40,7 @@ loses_both (Some xs) (Some ys) (Some zs) one other =
     (one.0 ++ other.0, first ∙ (ap (λ r. one.0 ++ r) second ∙ sym (append_assoc one.0 other.0 zs)))
 
 -- what was taken at two times
-taken_both : (first second third : Position) (a b d : Option (List ℕ)) → LosesPrefix a b → IsTaken first second a b → IsTaken second third b d → IsTaken first third a d
+pub taken_both : (first second third : Position) (a b d : Option (List ℕ)) → LosesPrefix a b → IsTaken first second a b → IsTaken second third b d → IsTaken first third a d
 taken_both first second third None b d loses one other = tt
 taken_both first second third (Some xs) None d loses one other = absurd loses.1
 taken_both first second third (Some xs) (Some ys) None loses one other = tt

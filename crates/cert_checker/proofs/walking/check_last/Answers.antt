@@ -3,6 +3,7 @@ use Rattle.std.proofs.lemmas.Result.{err_from_is_err_and}
 use Rattle.cache_model.specs.declared.certificates.Header.{Header}
 use Rattle.cache_model.specs.Texts.{header_len}
 use Rattle.cert_format.proofs.Headers.{few_lines}
+use Rattle.cert_format.proofs.Taken.{same_taken}
 use Rattle.cert_checker.specs.declared.invalid.InvalidKind.TheVariants.{RequestCount}
 use Rattle.cert_checker.specs.declared.walking.CheckFault.TheVariants.{Invalid}
 use Rattle.cert_checker.specs.Checks.{Inputs, inputs, IsStop}
@@ -22,7 +23,7 @@ returns-then-read-header-clause-checked g c = λ start reader left faults h give
     let is : c.count_differs.result ≡ Invalid (header_len h + length given) (RequestCount h.requests (length given)) =
     c.count_differs.ensures ∙ (ap (λ l. Invalid l (RequestCount c.args.header.now.requests c.records_read-read.result)) line_is
     ∙ (ap (λ w. Invalid (header_len h + length given) (RequestCount w c.records_read-read.result)) written ∙ ap (λ r. Invalid (header_len h + length given) (RequestCount h.requests r)) read)) in
-    rw is (stop_few start h given records _ _ checked_all _ refl refl s.held at fewer)
+    rw is (stop_few start h given records _ _ checked_all _ refl refl refl s.held at fewer)
 
 pub returns-in_err-finish_text-clause-checked : goal.returns-in_err-finish_text-clause-checked
 returns-in_err-finish_text-clause-checked g c =
@@ -32,7 +33,7 @@ returns-in_err-finish_text-clause-checked g c =
     let written : c.args.header.now.requests ≡ h.requests = ap (λ (k : Header). k.requests) (c.requires.header ∙ checked_all.stands.header) in
     let full : length given ≡ h.requests = omega (arith, c.records_read-read.ensures, s.left, checked_all.stands.sums.steps, ap (λ (k : Header). k.requests) c.requires.header, written, checked_all.stands.input.within, c.if-read-header.false) in
     let e = c.in_err-finish_text.ensures in
-    stop_end start h given records _ _ checked_all full _ e.ahead e.past c.in_err-finish_text.field-0.0 (e.read s.cert_fault) (e.within s.cert_fault))
+    stop_end start h given records _ _ checked_all full _ refl e.ahead e.past c.in_err-finish_text.field-0.0 (e.read s.cert_fault) (e.within s.cert_fault))
 
 pub returns-in-Ok-clause-checked : goal.returns-in-Ok-clause-checked
 returns-in-Ok-clause-checked g c = λ start reader left faults h given records checked_all.
@@ -40,7 +41,7 @@ returns-in-Ok-clause-checked g c = λ start reader left faults h given records c
     let written : c.args.header.now.requests ≡ h.requests = ap (λ (k : Header). k.requests) (c.requires.header ∙ checked_all.stands.header) in
     let full : length given ≡ h.requests = omega (arith, c.records_read-read.ensures, s.left, checked_all.stands.sums.steps, ap (λ (k : Header). k.requests) c.requires.header, written, checked_all.stands.input.within, c.if-read-header.false) in
     let e = c.in_ok-finish_text.ensures in
-    passes start h given records _ _ checked_all full _ e.ahead e.past (e.read s.cert_fault).2 refl refl c.in-Ok.verdict (c.in-Ok.ensures h given records checked_all.stands)
+    passes start h given records _ _ checked_all full _ refl e.ahead e.past (e.read s.cert_fault).2 refl refl c.in-Ok.verdict (c.in-Ok.ensures h given records checked_all.stands)
 
 pub returns-in-Err-clause-checked : goal.returns-in-Err-clause-checked
 returns-in-Err-clause-checked g c = λ start reader left faults h given records checked_all.
@@ -54,7 +55,19 @@ returns-in-Err-clause-checked g c = λ start reader left faults h given records 
     let none : c.args.cert.now.left ≡ 0 = omega (arith, s.left, many, full, ap (λ (k : Header). k.requests) checked_all.stands.header) in
     let end : Inputs = inputs reader left faults c.finish_text.new.self (g.Q.Source.left c.finish_text.new.source) (g.Q.Source.faults c.finish_text.new.source) in
     subst (λ l. IsStop start end (Invalid l c.in-Err.kind)) line_is
-    (stop_end_rule start h given records _ _ checked_all full end e.ahead e.past (e.read s.cert_fault).2 c.in-Err.kind s.stage none at (c.in-Err.ensures h given records checked_all.stands))
+    (stop_end_rule start h given records _ _ checked_all full end refl e.ahead e.past (e.read s.cert_fault).2 c.in-Err.kind s.stage none at (c.in-Err.ensures h given records checked_all.stands))
+
+pub returns-then-read-header-clause-taken : goal.returns-then-read-header-clause-taken
+returns-then-read-header-clause-taken g c = same_taken c.args.cert.now.lines (g.Q.Source.left c.args.certificate.now)
+
+pub returns-in_err-finish_text-clause-taken : goal.returns-in_err-finish_text-clause-taken
+returns-in_err-finish_text-clause-taken g c = c.in_err-finish_text.ensures.taken
+
+pub returns-in-Ok-clause-taken : goal.returns-in-Ok-clause-taken
+returns-in-Ok-clause-taken g c = c.in_ok-finish_text.ensures.taken
+
+pub returns-in-Err-clause-taken : goal.returns-in-Err-clause-taken
+returns-in-Err-clause-taken g c = c.in_ok-finish_text.ensures.taken
 
 pub returns-in_err-finish_text-clause-source : goal.returns-in_err-finish_text-clause-source
 returns-in_err-finish_text-clause-source g c = c.in_err-finish_text.ensures.source

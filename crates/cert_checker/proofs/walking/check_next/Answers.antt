@@ -9,6 +9,7 @@ use Rattle.cert_checker.specs.declared.walking.CheckFault.TheVariants.{Invalid}
 use Rattle.cert_checker.specs.Checks.{Inputs, inputs, IsFailing}
 use Rattle.cert_checker.specs.Rules.{record_fault}
 use Rattle.cert_checker.specs.Summaries.{StandsFor}
+use Rattle.cert_format.proofs.Taken.{same_taken}
 use Rattle.cert_checker.proofs.Losses.{keeps}
 use Rattle.cert_checker.proofs.Stops.{last_line, stop_trace, end_trace, stop_count, stop_text, stop_rule, goes_further}
 use Rattle.cert_checker.proofs.walking.check_next.Goals as goal
@@ -32,6 +33,7 @@ returns-then-read-header-clause-checked g c = λ start h given records checked.
     let now : Inputs = inputs c.args.reader.now (g.T.Source.left c.args.trace.now) (g.T.Source.faults c.args.trace.now) c.args.cert.now (g.Q.Source.left c.args.certificate.now) (g.Q.Source.faults c.args.certificate.now) in
     let end : Inputs = inputs c.next.new.self (g.T.Source.left c.next.new.source) (g.T.Source.faults c.next.new.source) c.args.cert.now (g.Q.Source.left c.args.certificate.now) (g.Q.Source.faults c.args.certificate.now) in
     let next = rw c.in-Some.is at c.in_ok-object.ensures.next c.requires.in_step.trace_fault in
+    let near = rw c.in-Some.is at c.in_ok-object.ensures.lines c.requires.in_step.trace_fault in
     let many = checked.stands.sums.steps in
     let at : c.args.cert.now.lines.line ≡ header_len h + length given = last_line h given records c.args.checker.now c.args.cert.now.lines.line checked.stands c.requires.in_step.line in
     let written : c.args.header.now.requests ≡ h.requests = ap (λ (k : Header). k.requests) (c.requires.header ∙ checked.stands.header) in
@@ -41,7 +43,7 @@ returns-then-read-header-clause-checked g c = λ start h given records checked.
     let is : c.count_differs.result ≡ Invalid (header_len h + length given) (RequestCount h.requests (length given + 1)) =
     c.count_differs.ensures ∙ (ap (λ l. Invalid l (RequestCount c.args.header.now.requests (c.records_read-read.result + 1))) line_is
     ∙ (ap (λ w. Invalid (header_len h + length given) (RequestCount w (c.records_read-read.result + 1))) written ∙ ap (λ r. Invalid (header_len h + length given) (RequestCount h.requests r)) read)) in
-    rw is (stop_count start h given records now c.args.checker.now checked c.in-Some.object c.next.new.self (g.T.Source.left c.next.new.source) next.1 end refl refl c.requires.in_step.held at full)
+    rw is (stop_count start h given records now c.args.checker.now checked c.in-Some.object c.next.new.self (g.T.Source.left c.next.new.source) next.1 near c.in_ok-object.ensures.ahead end refl refl refl c.requires.in_step.held at full)
 
 pub returns-in_err-entry-clause-checked : goal.returns-in_err-entry-clause-checked
 returns-in_err-entry-clause-checked g c =
@@ -50,10 +52,11 @@ returns-in_err-entry-clause-checked g c =
     let p = err_from_is_err_and c.from_residual-in_err-entry.result c.from_residual-in_err-entry.ensures.1 in
     rw (p.1, p.2) (λ start h given records checked.
     let next = rw c.in-Some.is at c.in_ok-object.ensures.next c.requires.in_step.trace_fault in
+    let near = rw c.in-Some.is at c.in_ok-object.ensures.lines c.requires.in_step.trace_fault in
     let written : c.args.header.now.requests ≡ h.requests = ap (λ (k : Header). k.requests) (c.requires.header ∙ checked.stands.header) in
     let fewer : length given < h.requests = omega (arith, c.records_read-read.ensures, c.requires.in_step.left, checked.stands.sums.steps, ap (λ (k : Header). k.requests) c.requires.header, written, checked.stands.input.within, c.if-read-header.false) in
     let e = c.in_err-entry.ensures in
-    stop_text start h given records now c.args.checker.now checked c.in-Some.object c.next.new.self (g.T.Source.left c.next.new.source) next.1 end c.in_err-entry.field-0.0 fewer (e.read c.requires.in_step.cert_fault) (e.within c.requires.in_step.cert_fault) e.past e.ahead)
+    stop_text start h given records now c.args.checker.now checked c.in-Some.object c.next.new.self (g.T.Source.left c.next.new.source) next.1 near c.in_ok-object.ensures.ahead end c.in_err-entry.field-0.0 refl fewer (e.read c.requires.in_step.cert_fault) (e.within c.requires.in_step.cert_fault) e.past e.ahead)
 
 pub returns-in_err-step-clause-checked : goal.returns-in_err-step-clause-checked
 returns-in_err-step-clause-checked g c =
@@ -62,11 +65,12 @@ returns-in_err-step-clause-checked g c =
     let p = err_from_is_err_and c.from_residual-in_err-step.result c.from_residual-in_err-step.ensures.1 in
     rw (p.1, p.2) (λ start h given records checked.
     let next = rw c.in-Some.is at c.in_ok-object.ensures.next c.requires.in_step.trace_fault in
+    let near = rw c.in-Some.is at c.in_ok-object.ensures.lines c.requires.in_step.trace_fault in
     let written : c.args.header.now.requests ≡ h.requests = ap (λ (k : Header). k.requests) (c.requires.header ∙ checked.stands.header) in
     let fewer : length given < h.requests = omega (arith, c.records_read-read.ensures, c.requires.in_step.left, checked.stands.sums.steps, ap (λ (k : Header). k.requests) c.requires.header, written, checked.stands.input.within, c.if-read-header.false) in
     let e = c.in_ok-entry.ensures in
     let read = e.read c.requires.in_step.cert_fault in
-    stop_rule start h given records now c.args.checker.now checked c.in-Some.object c.next.new.self (g.T.Source.left c.next.new.source) next.1 c.in_ok-entry.entry (line (record_line c.in_ok-entry.entry)) end read.2 read.3 e.past c.in_err-step.field-0.0 fewer
+    stop_rule start h given records now c.args.checker.now checked c.in-Some.object c.next.new.self (g.T.Source.left c.next.new.source) next.1 near c.in_ok-object.ensures.ahead c.in_ok-entry.entry (line (record_line c.in_ok-entry.entry)) end read.2 read.3 e.past c.in_err-step.field-0.0 refl fewer
     (last_line h given records c.args.checker.now c.args.cert.now.lines.line checked.stands c.requires.in_step.line) e.ahead
     (subst (λ l. IsFailing l (record_fault h (given ++ c.in-Some.object ∷ []) (records ++ c.in_ok-entry.entry ∷ []) (length given)) c.in_err-step.field-0.0) c.line-2.ensures (c.in_err-step.ensures.stepped h given records checked.stands)))
 
@@ -75,11 +79,12 @@ returns-clause-checked g c = λ start h given records checked.
     let now : Inputs = inputs c.args.reader.now (g.T.Source.left c.args.trace.now) (g.T.Source.faults c.args.trace.now) c.args.cert.now (g.Q.Source.left c.args.certificate.now) (g.Q.Source.faults c.args.certificate.now) in
     let end : Inputs = inputs c.next.new.self (g.T.Source.left c.next.new.source) (g.T.Source.faults c.next.new.source) c.next_record.new.self (g.Q.Source.left c.next_record.new.source) (g.Q.Source.faults c.next_record.new.source) in
     let next = rw c.in-Some.is at c.in_ok-object.ensures.next c.requires.in_step.trace_fault in
+    let near = rw c.in-Some.is at c.in_ok-object.ensures.lines c.requires.in_step.trace_fault in
     let e = c.in_ok-entry.ensures in
     let read = e.read c.requires.in_step.cert_fault in (
       c.in-Some.object,
       c.in_ok-entry.entry,
-      goes_further start h given records now c.args.checker.now checked c.in-Some.object c.next.new.self (g.T.Source.left c.next.new.source) next.1 c.in_ok-entry.entry (line (record_line c.in_ok-entry.entry)) end read.2 read.3 e.past c.step.new.checker refl refl
+      goes_further start h given records now c.args.checker.now checked c.in-Some.object c.next.new.self (g.T.Source.left c.next.new.source) next.1 near c.in_ok-object.ensures.ahead c.in_ok-entry.entry (line (record_line c.in_ok-entry.entry)) end read.2 read.3 e.past c.step.new.checker refl refl
           (c.in_ok-step.ensures.stepped h given records checked.stands)
           (record { trace = omega (arith, checked.later.trace, c.in_ok-object.ensures.later); certificate = omega (arith, checked.later.certificate, e.later) }),
     )
@@ -138,6 +143,24 @@ step-requires-clause-size g c = rw c.in-Some.is at c.in_ok-object.ensures.size
 
 pub step-requires-clause-range : goal.step-requires-clause-range
 step-requires-clause-range g c = c.in_ok-entry.ensures.range
+
+pub returns-in_err-object-clause-taken : goal.returns-in_err-object-clause-taken
+returns-in_err-object-clause-taken g c = same_taken c.args.cert.now.lines (g.Q.Source.left c.args.certificate.now)
+
+pub returns-in_default-clause-taken : goal.returns-in_default-clause-taken
+returns-in_default-clause-taken g c = same_taken c.args.cert.now.lines (g.Q.Source.left c.args.certificate.now)
+
+pub returns-then-read-header-clause-taken : goal.returns-then-read-header-clause-taken
+returns-then-read-header-clause-taken g c = same_taken c.args.cert.now.lines (g.Q.Source.left c.args.certificate.now)
+
+pub returns-in_err-entry-clause-taken : goal.returns-in_err-entry-clause-taken
+returns-in_err-entry-clause-taken g c = c.in_err-entry.ensures.taken
+
+pub returns-in_err-step-clause-taken : goal.returns-in_err-step-clause-taken
+returns-in_err-step-clause-taken g c = c.in_ok-entry.ensures.taken
+
+pub returns-clause-taken : goal.returns-clause-taken
+returns-clause-taken g c = c.in_ok-entry.ensures.taken
 
 pub returns-in_err-object-clause-trace : goal.returns-in_err-object-clause-trace
 returns-in_err-object-clause-trace g c = (c.in_err-object.ensures.source, c.in_err-object.ensures.later, c.in_err-object.ensures.ahead)

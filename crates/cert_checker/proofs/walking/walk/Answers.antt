@@ -1,6 +1,7 @@
 use Rattle.std.proofs.Common.{◌∙◌, sym, subst, arith, [], ◌∷◌, ◌++◌, Ok}
 use Rattle.std.proofs.lemmas.Result.{err_from_is_err_and}
-use Rattle.cert_format.proofs.Chains.{loses_both}
+use Rattle.cert_format.proofs.Chains.{loses_both, taken_both}
+use Rattle.cert_format.proofs.Taken.{same_taken}
 use Rattle.cert_checker.specs.Checks.{Inputs, inputs, IsNextCheck}
 use Rattle.cert_checker.proofs.Losses.{keeps}
 use Rattle.cert_checker.proofs.walking.walk.Goals as goal
@@ -12,6 +13,7 @@ loop-init g c = record {
   checked = λ start h requests records checked. (requests, records, checked);
   trace_source = keeps (g.T.Source.left c.args.trace.now);
   trace_later = omega arith;
+  taken = same_taken c.args.cert.now.lines (g.Q.Source.left c.args.certificate.now);
   cert_source = keeps (g.Q.Source.left c.args.certificate.now);
   cert_later = omega arith;
 }
@@ -30,6 +32,7 @@ loop-preserved g c =
           (given.0 ++ more.0 ∷ [], given.1 ++ more.1 ∷ [], more.2);
       trace_source = loses_both (g.T.Source.left c.args.trace.now) (g.T.Source.left c.loop.trace) (g.T.Source.left c.check_next.new.trace) i.trace_source e.trace.0;
       trace_later = omega (arith, i.trace_later, e.trace.1);
+      taken = taken_both c.args.cert.now.lines c.loop.cert.lines c.check_next.new.cert.lines (g.Q.Source.left c.args.certificate.now) (g.Q.Source.left c.loop.certificate) (g.Q.Source.left c.check_next.new.certificate) i.cert_source i.taken e.taken;
       cert_source = loses_both (g.Q.Source.left c.args.certificate.now) (g.Q.Source.left c.loop.certificate) (g.Q.Source.left c.check_next.new.certificate) i.cert_source e.cert.0;
       cert_later = omega (arith, i.cert_later, e.cert.1);
     }
@@ -72,3 +75,16 @@ returns-clause-cert g c =
     let e = c.check_next.ensures.cert in
     let before = loses_both (g.Q.Source.left c.args.certificate.now) (g.Q.Source.left c.loop.certificate) (g.Q.Source.left c.check_next.new.certificate) i.cert_source e.0 in
     (loses_both (g.Q.Source.left c.args.certificate.now) (g.Q.Source.left c.check_next.new.certificate) (g.Q.Source.left c.check_last.new.certificate) before c.check_last.ensures.source, omega (arith, i.cert_later, e.1, c.check_last.ensures.later))
+
+pub returns-in_err-check_next-clause-taken : goal.returns-in_err-check_next-clause-taken
+returns-in_err-check_next-clause-taken g c =
+    let i = c.loop.invariant in
+    taken_both c.args.cert.now.lines c.loop.cert.lines c.check_next.new.cert.lines (g.Q.Source.left c.args.certificate.now) (g.Q.Source.left c.loop.certificate) (g.Q.Source.left c.check_next.new.certificate) i.cert_source i.taken c.check_next.ensures.taken
+
+pub returns-clause-taken : goal.returns-clause-taken
+returns-clause-taken g c =
+    let i = c.loop.invariant in
+    let e = c.check_next.ensures in
+    let before = loses_both (g.Q.Source.left c.args.certificate.now) (g.Q.Source.left c.loop.certificate) (g.Q.Source.left c.check_next.new.certificate) i.cert_source e.cert.0 in
+    taken_both c.args.cert.now.lines c.check_next.new.cert.lines c.check_last.new.cert.lines (g.Q.Source.left c.args.certificate.now) (g.Q.Source.left c.check_next.new.certificate) (g.Q.Source.left c.check_last.new.certificate) before
+    (taken_both c.args.cert.now.lines c.loop.cert.lines c.check_next.new.cert.lines (g.Q.Source.left c.args.certificate.now) (g.Q.Source.left c.loop.certificate) (g.Q.Source.left c.check_next.new.certificate) i.cert_source i.taken e.taken) c.check_last.ensures.taken
