@@ -30,7 +30,7 @@ use Rattle.cert_format.proofs.Wholes.{nothing_read}
 use Rattle.cert_checker.specs.declared.verdict.Verdict.{Verdict}
 use Rattle.cert_checker.specs.declared.walking.CheckFault.TheVariants as fault
 use Rattle.cert_checker.specs.Answers.{IsYes}
-use Rattle.cert_checker.specs.Checks.{Inputs, HasChecked, HasCheckedAll, HasLostAsked, IsFresh, IsLater, IsPassed, IsStop, after_records, of_text}
+use Rattle.cert_checker.specs.Checks.{Inputs, HasChecked, HasCheckedAll, HasAsked, IsFresh, IsLater, IsPassed, IsStop, after_records, of_text}
 use Rattle.cert_checker.specs.Rules.{end_fault}
 use Rattle.cert_checker.specs.Summaries.{StandsFor, Summary}
 use Rattle.cert_checker.specs.Walks.{asked}
@@ -59,7 +59,7 @@ module _ (start : Inputs) (h : Header) (given : List Object) (records : List Rec
   within = ended.stands.input.within
 
   -- the trace has lost all, as its end was asked for
-  lost_all : (end : Inputs) → end.trace ≡ now.trace → HasLostAsked start end
+  lost_all : (end : Inputs) → end.trace ≡ now.trace → HasAsked start end
   lost_all end same =
       if_both start.trace start.certificate _ _ _ (both_known start.trace _ _ ended.trace_read ended.trace_end) ended.records_read (λ b t p q.
       let many : asked (traces.reading start.reader.format start.reader.limits b) t ≡ length given + 1 =

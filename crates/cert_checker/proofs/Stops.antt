@@ -27,7 +27,7 @@ use Rattle.cert_format.proofs.Chains.{after_lines-add, bytes_through-add}
 use Rattle.cert_format.proofs.Taken.{at_some, if_known}
 use Rattle.cert_checker.specs.declared.walking.CheckFault.{CheckFault}
 use Rattle.cert_checker.specs.declared.walking.CheckFault.TheVariants as fault
-use Rattle.cert_checker.specs.Checks.{Inputs, HasChecked, HasCheckedAll, HasLostAsked, HasRecords, IsFailing, IsFresh, IsLater, IsStop, IsWalked, after_records, of_text, of_trace, taken}
+use Rattle.cert_checker.specs.Checks.{Inputs, HasChecked, HasCheckedAll, HasAsked, HasRecords, IsFailing, IsFresh, IsLater, IsStop, IsWalked, after_records, of_text, of_trace, taken}
 use Rattle.cert_checker.specs.Rules.{record_fault}
 use Rattle.cert_checker.specs.Summaries.{StandsFor, Summary}
 use Rattle.cert_checker.specs.Walks.{Event, Invalid, Refused, asked, text_event, walk}
@@ -115,7 +115,7 @@ one_record h records r text now end t has line_is goes past =
 pub text_stop : (start end : Inputs) (cert : lines.Reader) (left : Option (List ℕ)) (faults : ℕ) (f : CertFault) → lines.IsRefused cert (device left end.certificate faults end.certificate_faults) f → start.certificate_faults ≤ faults
     → IfErr {T = Unit {0}} (Err f) (IsWithin end.cert.lines.line) → ((n : ℕ) → end.cert.lines.line ≤ n → IfSome start.certificate (λ text. taken end.cert ≤ bytes_through n text + 65536))
     → ((g : CertFault) (e : Event) → text_event (Some g) ≡ Some e → IfSome (known cert.lines left) (λ bytes. lines.to_come cert bytes ≡ certificates.stopped (Some g)) → IsWalked start (Some e))
-    → ((g : CertFault) (e : Event) → text_event (Some g) ≡ Some e → IfSome (known cert.lines left) (λ bytes. lines.to_come cert bytes ≡ certificates.stopped (Some g)) → HasLostAsked start end)
+    → ((g : CertFault) (e : Event) → text_event (Some g) ≡ Some e → IfSome (known cert.lines left) (λ bytes. lines.to_come cert bytes ≡ certificates.stopped (Some g)) → HasAsked start end)
     → IsStop start end (of_text f)
 text_stop start end cert left faults (text.BadText n kind) refused earlier reached near walked lost = record { event = walked (text.BadText n kind) _ refl refused; near = (near n reached, lost (text.BadText n kind) _ refl refused) }
 text_stop start end cert left faults (text.Truncated n) refused earlier reached near walked lost = record { event = walked (text.Truncated n) _ refl refused; near = (near n reached, lost (text.Truncated n) _ refl refused) }
@@ -211,7 +211,7 @@ module _ (start : Inputs) (h : Header) (given : List Object) (records : List Rec
         subst (λ n. HasLostFor start.reader.format start.reader.limits n b l) many
         (lost_for start.reader reader start.reader.format start.reader.limits (given ++ x ∷ []) b l p.begins p.gone (here ∙ p.rest_is) buffered (omega (arith, many, all, ap (λ r. length r.requests) p.reading)))
 
-    lost_here : (end : Inputs) → end.trace ≡ left → ((b t : List ℕ) → Took b → HasRecords h records now t → asked (traces.reading start.reader.format start.reader.limits b) t ≡ length given + 1) → HasLostAsked start end
+    lost_here : (end : Inputs) → end.trace ≡ left → ((b t : List ℕ) → Took b → HasRecords h records now t → asked (traces.reading start.reader.format start.reader.limits b) t ≡ length given + 1) → HasAsked start end
     lost_here end same count =
         if_both start.trace start.certificate _ _ _ took checked.records_read (λ b t p q.
         if_known end.trace _ (λ l e. subst (λ n. HasLostFor start.reader.format start.reader.limits n b l) (sym (count b t p q)) (lost_one b l p (sym same ∙ e))))

@@ -6,7 +6,7 @@ use Rattle.cache_model.specs.declared.certificates.Header.{Header}
 use Rattle.cache_model.specs.declared.certificates.Record.{Record}
 use Rattle.cache_model.specs.Objects.{objects_of}
 use Rattle.cache_model.specs.Certificates.{IsCertificate, IsValid}
-use Rattle.cache_model.proofs.Headline.{valid_bounds}
+use Rattle.cache_model.proofs.Headline.{exact_is_least, valid_bounds}
 use Rattle.cert_checker.specs.declared.verdict.Counted.{Counted}
 use Rattle.cert_checker.specs.declared.verdict.Verdict.{Verdict}
 use Rattle.cert_checker.specs.Answers.{IsYes}
@@ -40,4 +40,5 @@ module _ (h : Header) (trace : List Object) (records : List Record) (s : Summary
       objects = objects;
       valid = valid;
       bounds_every_policy = valid_bounds trace h records valid;
+      least = exact_is_least trace h records valid;
     }

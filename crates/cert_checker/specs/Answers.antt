@@ -1,12 +1,12 @@
 -- What a checker answers, for every header, requests and records that it stands for.
-use Rattle.std.specs.Prelude.{◌≡◌, List, [], ◌∷◌, ◌++◌, length, Result, Ok, Err, None, Some}
+use Rattle.std.specs.Prelude.{◌≡◌, IsTrue, List, [], ◌∷◌, ◌++◌, length, Result, Ok, Err, None, Some}
 use Rattle.std.specs.declared.option.Option.{Option}
 use Rattle.cache_model.specs.declared.objects.Object.{Object}
 use Rattle.cache_model.specs.declared.certificates.Header.{Header}
 use Rattle.cache_model.specs.declared.certificates.Record.{Record}
 use Rattle.cache_model.specs.Objects.{objects_of}
 use Rattle.cache_model.specs.Claim.{BoundsEveryPolicy}
-use Rattle.cache_model.specs.Certificates.{IsValid}
+use Rattle.cache_model.specs.Certificates.{IsLeastOverAll, IsValid}
 use Rattle.cert_checker.specs.declared.invalid.InvalidKind.{InvalidKind}
 use Rattle.cert_checker.specs.declared.checker.StepFault.{StepFault}
 use Rattle.cert_checker.specs.declared.checker.StepFault.TheVariants.{Rule, NoMemory}
@@ -24,13 +24,14 @@ abbrev pub IsStepped : Header → List Object → List Record → Object → Rec
 IsStepped h trace records x r new (Ok done) = StandsFor h (trace ++ x ∷ []) (records ++ r ∷ []) new
 IsStepped h trace records x r new (Err fault) = IsRuleOr (record_fault h (trace ++ x ∷ []) (records ++ r ∷ []) (length trace)) fault
 
--- a yes: the certificate is valid, so no policy scores more than its upper bound
+-- a yes: the certificate is valid, so no policy scores more than its upper bound, and in the form exact no prices over any denominator have a smaller one
 pub record IsYes (h : Header) (trace : List Object) (records : List Record) (verdict : Verdict) : Type 0 where
   pub no_fault : end_fault h trace records ≡ None
   pub header : verdict.header ≡ h
   pub objects : verdict.objects ≡ length (objects_of trace)
   pub valid : IsValid trace h records
   pub bounds_every_policy : BoundsEveryPolicy trace h
+  pub least : IsTrue h.exact → IsLeastOverAll trace h records
 
 -- the end: a yes, or the first rule that it fails
 abbrev pub IsFinished : Header → List Object → List Record → Result Verdict InvalidKind → Type 0

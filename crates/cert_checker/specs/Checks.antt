@@ -2,12 +2,15 @@
 use Rattle.std.specs.Prelude.{◌≡◌, ℕ, ◌+◌, ◌≤◌, List, [], ◌∷◌, ◌++◌, length, Bool, true, false, None, Some, IfSome, Result, Ok, Err}
 use Rattle.std.specs.declared.option.Option.{Option}
 use Rattle.bound_io.specs.Causes.{HasNewFault}
+use Rattle.bound_io.specs.Devices.{Device, device}
 use Rattle.cache_model.specs.declared.objects.Object.{Object}
 use Rattle.cache_model.specs.declared.certificates.Header.{Header}
 use Rattle.cache_model.specs.declared.certificates.Record.{Record}
 use Rattle.cache_model.specs.Texts.{header_len}
 use Rattle.trace_any.specs.declared.fault.TraceFault.{TraceFault}
 use Rattle.trace_any.specs.declared.fault.TraceFault.TheVariants as refusal
+use Rattle.trace_any.specs.declared.format.Format.{Format}
+use Rattle.trace_any.specs.declared.format.Limits.{Limits}
 use Rattle.trace_any.specs.Readings as traces
 use Rattle.trace_any.specs.FirstLines.{HasGiven, HasLostFor}
 use Rattle.trace_any.specs.Readers.{IsWhole, after, bytes_after}
@@ -99,21 +102,41 @@ IsEvent start end (fault.Trace refusal.NoMemory) = ⊥
 IsEvent start end fault.CertReadFault = HasNewFault start.certificate_faults end.certificate_faults
 IsEvent start end fault.NoMemory = Unit {0}
 
--- if all bytes are known, the trace has lost no more than what the requests that the walk asks for need
-abbrev pub HasLostAsked : Inputs → Inputs → Type 0
-HasLostAsked start end = IfSome start.trace (λ bytes. IfSome start.certificate (λ text. IfSome end.trace (HasLostFor start.reader.format start.reader.limits (asked (traces.reading start.reader.format start.reader.limits bytes) text) bytes)))
+-- of a trace a source has lost no more than the requests need that the walk over it and these bytes of a certificate asks for
+abbrev pub HasLostAsked : Format → Limits → Option (List ℕ) → Option (List ℕ) → Option (List ℕ) → Type 0
+HasLostAsked format limits before after certificate = IfSome before (λ bytes. IfSome certificate (λ text. IfSome after (HasLostFor format limits (asked (traces.reading format limits bytes) text) bytes)))
 
--- the sources have lost little beyond this line: the certificate a buffer of bytes, and the trace what the walk asks for
-pub record IsNearLine (line : ℕ) (start end : Inputs) : Type 0 where
-  pub certificate : IfSome start.certificate (λ text. IfSome end.certificate (λ left. length text ≤ length left + bytes_through line text + 65536))
-  pub trace : HasLostAsked start end
+-- the two sources have lost little beyond this line of the certificate: the certificate at most a buffer of bytes more, and the trace what the walk asks for, if their bytes are known
+pub record IsNearLine (format : Format) (limits : Limits) (line : ℕ) (trace cert : Device) : Type 0 where
+  pub certificate : IfSome cert.before (λ text. IfSome cert.after (λ left. length text ≤ length left + bytes_through line text + 65536))
+  pub requests : HasLostAsked format limits trace.before trace.after cert.before
+
+-- the source of the trace, before and after
+abbrev pub trace_source : Inputs → Inputs → Device
+trace_source start end = device start.trace end.trace start.trace_faults end.trace_faults
+
+-- the source of the certificate, before and after
+abbrev pub cert_source : Inputs → Inputs → Device
+cert_source start end = device start.certificate end.certificate start.certificate_faults end.certificate_faults
 
 -- if the certificate fails at a line, the sources have lost little beyond it
 abbrev pub IsNear : Inputs → Inputs → CheckFault → Type 0
-IsNear start end (fault.Invalid line kind) = IsNearLine line start end
+IsNear start end (fault.Invalid line kind) = IsNearLine start.reader.format start.reader.limits line (trace_source start end) (cert_source start end)
 IsNear start end (fault.Trace why) = Unit {0}
 IsNear start end fault.CertReadFault = Unit {0}
 IsNear start end fault.NoMemory = Unit {0}
+
+-- a reader keeps the fault that is answered
+abbrev pub IsKept : Option TraceFault → Option CertFault → CheckFault → Type 0
+IsKept reader cert (fault.Invalid line kind) = Unit {0}
+IsKept reader cert (fault.Trace why) = reader ≡ Some why
+IsKept reader cert fault.CertReadFault = cert ≡ Some text.ReadFault
+IsKept reader cert fault.NoMemory = Unit {0}
+
+-- a fault that is answered is kept, and no other: what the reader of a trace and that of a certificate keep after a check
+abbrev pub KeepsAnswer : {A : Type 0} → Option TraceFault → Option CertFault → Result A CheckFault → Type 0
+KeepsAnswer reader cert (Ok answer) = (reader ≡ None) × (cert ≡ None)
+KeepsAnswer reader cert (Err why) = IsKept reader cert why × IfSome reader (λ fault. of_trace fault ≡ why) × IfSome cert (λ fault. of_text fault ≡ why)
 
 -- a yes: of some requests and records, which are all that the two sources have, if their bytes are known
 pub record IsPassed (start end : Inputs) (verdict : Verdict) : Type 0 where
@@ -183,9 +206,13 @@ taken cert = cert.lines.consumed + length cert.lines.held
 abbrev pub IsTakenTo : ℕ → Inputs → Inputs → Type 0
 IsTakenTo line start end = IfSome start.certificate (λ text. taken end.cert ≤ bytes_through line text + 65536)
 
+-- the trace has lost no more than what is asked for
+abbrev pub HasAsked : Inputs → Inputs → Type 0
+HasAsked start end = HasLostAsked start.reader.format start.reader.limits start.trace end.trace start.certificate
+
 -- what was taken of the certificate, and lost of the trace, where the certificate fails at a line
 abbrev pub IsSparing : Inputs → Inputs → CheckFault → Type 0
-IsSparing start end (fault.Invalid line kind) = IsTakenTo line start end × HasLostAsked start end
+IsSparing start end (fault.Invalid line kind) = IsTakenTo line start end × HasAsked start end
 IsSparing start end (fault.Trace why) = Unit {0}
 IsSparing start end fault.CertReadFault = Unit {0}
 IsSparing start end fault.NoMemory = Unit {0}

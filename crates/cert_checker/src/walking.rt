@@ -1,5 +1,5 @@
 //! The check of a certificate against a trace, both read as streams.
-ghost use Rattle.std.specs.Prelude.{◌≡◌, ◌≤◌, ◌<◌, ◌+◌, ◌^◌, ℕ, List, IfOk, IfErr, OnOk, length, true};
+ghost use Rattle.std.specs.Prelude.{◌≡◌, ◌≤◌, ◌<◌, ◌+◌, ◌^◌, ℕ, List, IfOk, IfErr, None, OnOk, length, true};
 ghost use Rattle.std.specs.declared.option.Option.{Option};
 ghost use Rattle.bound_io.specs.Reading.{LosesPrefix};
 ghost use Rattle.trace_any.specs.Readers.{Reader};
@@ -11,7 +11,7 @@ ghost use Rattle.cert_checker.specs.declared.invalid.InvalidKind.TheVariants.{Re
 ghost use Rattle.cert_format.specs.Lines.{IsTaken};
 ghost use Rattle.cert_format.specs.Readers.{fresh};
 ghost use Rattle.cert_checker.specs.declared.walking.CheckFault.TheVariants.{Invalid};
-ghost use Rattle.cert_checker.specs.Checks.{HasChecked, HasCheckedAll, Inputs, IsLastCheck, IsEvent, IsFresh, IsInStep, IsNear, IsPassed, IsSteppedAt, IsNextCheck, inputs};
+ghost use Rattle.cert_checker.specs.Checks.{HasChecked, HasCheckedAll, Inputs, IsLastCheck, IsEvent, IsFresh, IsInStep, IsNear, IsPassed, IsSteppedAt, IsNextCheck, KeepsAnswer, inputs};
 ghost use Rattle.cert_checker.specs.Walks.{text_kind};
 
 use crate::checker::{Checker, StepFault};
@@ -154,6 +154,7 @@ fn check_next<T: Source, Q: Source>(
     ensures checked { (start : Inputs) (h : Head) (requests : List Requested) (records : List Entry) → HasChecked start h requests records (inputs reader.old (T.left trace.old) (T.faults trace.old) cert.old (Q.left certificate.old) (Q.faults certificate.old)) checker.old → IsNextCheck start h requests records (inputs reader.new (T.left trace.new) (T.faults trace.new) cert.new (Q.left certificate.new) (Q.faults certificate.new)) checker.new result }
     ensures trace { LosesPrefix (T.left trace.old) (T.left trace.new) × (T.faults trace.old ≤ T.faults trace.new) × (length reader.new.lines.held ≤ 65536) }
     ensures taken { IsTaken cert.old.lines cert.new.lines (Q.left certificate.old) (Q.left certificate.new) }
+    ensures kept { KeepsAnswer reader.new.fault cert.new.fault result }
     ensures cert { LosesPrefix (Q.left certificate.old) (Q.left certificate.new) × (Q.faults certificate.old ≤ Q.faults certificate.new) × (length cert.new.lines.held ≤ 65536) }
 {
     let Some(object) = reader.next(alloc, trace)? else {
@@ -179,6 +180,7 @@ fn check_last<Q: Source>(
     requires in_step { (reader : Reader) × (left : Option (List ℕ)) × (faults : ℕ) × IsInStep (inputs reader left faults cert.old (Q.left certificate.old) (Q.faults certificate.old)) checker.now }
     ensures checked { (start : Inputs) (reader : Reader) (left : Option (List ℕ)) (faults : ℕ) (h : Head) (requests : List Requested) (records : List Entry) → HasCheckedAll start h requests records (inputs reader left faults cert.old (Q.left certificate.old) (Q.faults certificate.old)) checker.now → IsLastCheck start (inputs reader left faults cert.new (Q.left certificate.new) (Q.faults certificate.new)) result }
     ensures taken { IsTaken cert.old.lines cert.new.lines (Q.left certificate.old) (Q.left certificate.new) }
+    ensures kept { KeepsAnswer None cert.new.fault result }
     ensures source { LosesPrefix (Q.left certificate.old) (Q.left certificate.new) }
     ensures later { Q.faults certificate.old ≤ Q.faults certificate.new }
 {
@@ -209,6 +211,7 @@ fn walk<T: Source, Q: Source>(
     ensures checked { (start : Inputs) (h : Head) (requests : List Requested) (records : List Entry) → HasChecked start h requests records (inputs reader.old (T.left trace.old) (T.faults trace.old) cert.old (Q.left certificate.old) (Q.faults certificate.old)) checker.old → IsLastCheck start (inputs reader.new (T.left trace.new) (T.faults trace.new) cert.new (Q.left certificate.new) (Q.faults certificate.new)) result }
     ensures trace { LosesPrefix (T.left trace.old) (T.left trace.new) × (T.faults trace.old ≤ T.faults trace.new) × (length reader.new.lines.held ≤ 65536) }
     ensures taken { IsTaken cert.old.lines cert.new.lines (Q.left certificate.old) (Q.left certificate.new) }
+    ensures kept { KeepsAnswer reader.new.fault cert.new.fault result }
     ensures cert { LosesPrefix (Q.left certificate.old) (Q.left certificate.new) × (Q.faults certificate.old ≤ Q.faults certificate.new) }
 {
     while check_next(alloc, reader, trace, cert, certificate, header, checker)? {}
@@ -231,6 +234,7 @@ pub fn check_streams<T: Source, Q: Source>(
     ensures yes { IfOk result (IsPassed (inputs reader.old (T.left trace.old) (T.faults trace.old) cert.old (Q.left certificate.old) (Q.faults certificate.old)) (inputs reader.new (T.left trace.new) (T.faults trace.new) cert.new (Q.left certificate.new) (Q.faults certificate.new))) }
     ensures event { IfErr result (IsEvent (inputs reader.old (T.left trace.old) (T.faults trace.old) cert.old (Q.left certificate.old) (Q.faults certificate.old)) (inputs reader.new (T.left trace.new) (T.faults trace.new) cert.new (Q.left certificate.new) (Q.faults certificate.new))) }
     ensures near { IfErr result (IsNear (inputs reader.old (T.left trace.old) (T.faults trace.old) cert.old (Q.left certificate.old) (Q.faults certificate.old)) (inputs reader.new (T.left trace.new) (T.faults trace.new) cert.new (Q.left certificate.new) (Q.faults certificate.new))) }
+    ensures kept { KeepsAnswer reader.new.fault cert.new.fault result }
     ensures trace_source { LosesPrefix (T.left trace.old) (T.left trace.new) }
     ensures trace_later { T.faults trace.old ≤ T.faults trace.new }
     ensures trace_ahead { length reader.new.lines.held ≤ 65536 }

@@ -9,6 +9,7 @@ use Rattle.cert_checker.specs.declared.walking.CheckFault.TheVariants.{Invalid}
 use Rattle.cert_checker.specs.Checks.{Inputs, inputs, IsStop}
 use Rattle.cert_checker.proofs.Stops.{last_line}
 use Rattle.cert_checker.proofs.Ends.{stop_few, stop_end, stop_end_rule, passes}
+use Rattle.cert_checker.proofs.Kept.{kept_none, kept_text}
 use Rattle.cert_checker.proofs.walking.check_last.Goals as goal
 
 pub returns-then-read-header-clause-checked : goal.returns-then-read-header-clause-checked
@@ -92,3 +93,17 @@ overflow_add-end g c =
     let s = c.requires.in_step.3 in
     let h = c.args.checker.now.header in
     omega (arith, c.line-end.ensures, s.line, s.left, few_lines h, s.some.2.input.header_in_range.requests)
+
+pub returns-then-read-header-clause-kept : goal.returns-then-read-header-clause-kept
+returns-then-read-header-clause-kept g c = rw c.count_differs.ensures (kept_none _ _ _ refl c.requires.in_step.3.cert_fault tt)
+
+pub returns-in_err-finish_text-clause-kept : goal.returns-in_err-finish_text-clause-kept
+returns-in_err-finish_text-clause-kept g c =
+    let p = err_from_is_err_and c.from_residual.result c.from_residual.ensures.1 in
+    rw (p.1, p.2) (kept_text c.in_err-finish_text.field-0.0 _ _ refl (c.in_err-finish_text.ensures.fault c.requires.in_step.3.cert_fault))
+
+pub returns-in-Ok-clause-kept : goal.returns-in-Ok-clause-kept
+returns-in-Ok-clause-kept g c = (refl, c.in_ok-finish_text.ensures.fault c.requires.in_step.3.cert_fault)
+
+pub returns-in-Err-clause-kept : goal.returns-in-Err-clause-kept
+returns-in-Err-clause-kept g c = kept_none _ _ _ refl (c.in_ok-finish_text.ensures.fault c.requires.in_step.3.cert_fault) tt

@@ -11,6 +11,7 @@ use Rattle.cert_checker.specs.Rules.{record_fault}
 use Rattle.cert_checker.specs.Summaries.{StandsFor}
 use Rattle.cert_format.proofs.Taken.{same_taken}
 use Rattle.cert_checker.proofs.Losses.{keeps}
+use Rattle.cert_checker.proofs.Kept.{kept_none, kept_rule, kept_text, kept_trace}
 use Rattle.cert_checker.proofs.Stops.{last_line, stop_trace, end_trace, stop_count, stop_text, stop_rule, goes_further}
 use Rattle.cert_checker.proofs.walking.check_next.Goals as goal
 
@@ -218,3 +219,29 @@ returns-in_default-clause-fewer g c = λ more. absurd (false≢true more)
 
 pub returns-clause-fewer : goal.returns-clause-fewer
 returns-clause-fewer g c = λ _. omega (arith, (c.in_ok-entry.ensures.read c.requires.in_step.cert_fault).1)
+
+pub returns-in_err-object-clause-kept : goal.returns-in_err-object-clause-kept
+returns-in_err-object-clause-kept g c =
+    let p = err_from_is_err_and c.from_residual.result c.from_residual.ensures.1 in
+    rw (p.1, p.2) (kept_trace c.in_err-object.field-0.0 _ _ (c.in_err-object.ensures.fault c.requires.in_step.trace_fault) c.requires.in_step.cert_fault)
+
+pub returns-in_default-clause-kept : goal.returns-in_default-clause-kept
+returns-in_default-clause-kept g c = (c.in_ok-object.ensures.fault c.requires.in_step.trace_fault, c.requires.in_step.cert_fault)
+
+pub returns-then-read-header-clause-kept : goal.returns-then-read-header-clause-kept
+returns-then-read-header-clause-kept g c = rw c.count_differs.ensures (kept_none _ _ _ (c.in_ok-object.ensures.fault c.requires.in_step.trace_fault) c.requires.in_step.cert_fault tt)
+
+pub returns-in_err-entry-clause-kept : goal.returns-in_err-entry-clause-kept
+returns-in_err-entry-clause-kept g c =
+    let p = err_from_is_err_and c.from_residual-in_err-entry.result c.from_residual-in_err-entry.ensures.1 in
+    rw (p.1, p.2) (kept_text c.in_err-entry.field-0.0 _ _ (c.in_ok-object.ensures.fault c.requires.in_step.trace_fault) (c.in_err-entry.ensures.fault c.requires.in_step.cert_fault))
+
+pub returns-in_err-step-clause-kept : goal.returns-in_err-step-clause-kept
+returns-in_err-step-clause-kept g c =
+    let p = err_from_is_err_and c.from_residual-in_err-step.result c.from_residual-in_err-step.ensures.1 in
+    let s = c.requires.in_step.some in
+    rw (p.1, p.2) (kept_none _ _ _ (c.in_ok-object.ensures.fault c.requires.in_step.trace_fault) (c.in_ok-entry.ensures.fault c.requires.in_step.cert_fault)
+    (kept_rule _ _ _ (c.in_err-step.ensures.stepped c.args.checker.now.header s.0 s.1 s.2)))
+
+pub returns-clause-kept : goal.returns-clause-kept
+returns-clause-kept g c = (c.in_ok-object.ensures.fault c.requires.in_step.trace_fault, c.in_ok-entry.ensures.fault c.requires.in_step.cert_fault)

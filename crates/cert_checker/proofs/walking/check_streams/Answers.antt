@@ -15,6 +15,7 @@ use Rattle.cert_checker.specs.Checks.{Inputs, inputs, IsLastCheck, IsEvent, IsNe
 use Rattle.cert_checker.specs.Summaries.{StandsFor}
 use Rattle.cert_checker.proofs.Ends.{stop_header, opens}
 use Rattle.cert_checker.proofs.Losses.{keeps}
+use Rattle.cert_checker.proofs.Kept.{kept_text}
 use Rattle.cert_checker.proofs.walking.check_streams.Goals as goal
 
 yes_closed : (start end : Inputs) (result : Result Verdict CheckFault) → IsLastCheck start end result → IfOk result (IsPassed start end)
@@ -35,7 +36,7 @@ lost_taken (Some text) (Some left) old new line consumed held taken near = omega
 near_stop : (start end : Inputs) (why : CheckFault) → start.cert ≡ fresh → IsTaken start.cert.lines end.cert.lines start.certificate end.certificate → IsSparing start end why → IsNear start end why
 near_stop start end (fault.Invalid line kind) first taken near = record {
   certificate = lost_taken start.certificate end.certificate start.cert.lines end.cert.lines line (ap (λ (r : Reader). r.lines.consumed) first) (ap (λ (r : Reader). r.lines.held) first) taken near.0;
-  trace = near.1;
+  requests = near.1;
 }
 near_stop start end (fault.Trace why) first taken near = tt
 near_stop start end fault.CertReadFault first taken near = tt
@@ -148,3 +149,12 @@ returns-clause-cert_source g c = loses_both (g.Q.Source.left c.args.certificate.
 
 pub returns-clause-cert_later : goal.returns-clause-cert_later
 returns-clause-cert_later g c = omega (arith, c.in_ok-header.ensures.later, c.walk.ensures.cert.1)
+
+pub returns-in_err-header-clause-kept : goal.returns-in_err-header-clause-kept
+returns-in_err-header-clause-kept g c =
+    let p = err_from_is_err_and c.from_residual.result c.from_residual.ensures.1 in
+    let none : c.args.cert.now.fault ≡ None = ap (λ r. r.fault) c.requires.fresh_cert in
+    rw (p.1, p.2) (kept_text c.in_err-header.field-0.0 _ _ (ap (λ r. r.fault) c.requires.fresh_reader) (c.in_err-header.ensures.fault none))
+
+pub returns-clause-kept : goal.returns-clause-kept
+returns-clause-kept g c = c.walk.ensures.kept

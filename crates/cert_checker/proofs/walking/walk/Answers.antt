@@ -88,3 +88,11 @@ returns-clause-taken g c =
     let before = loses_both (g.Q.Source.left c.args.certificate.now) (g.Q.Source.left c.loop.certificate) (g.Q.Source.left c.check_next.new.certificate) i.cert_source e.cert.0 in
     taken_both c.args.cert.now.lines c.check_next.new.cert.lines c.check_last.new.cert.lines (g.Q.Source.left c.args.certificate.now) (g.Q.Source.left c.check_next.new.certificate) (g.Q.Source.left c.check_last.new.certificate) before
     (taken_both c.args.cert.now.lines c.loop.cert.lines c.check_next.new.cert.lines (g.Q.Source.left c.args.certificate.now) (g.Q.Source.left c.loop.certificate) (g.Q.Source.left c.check_next.new.certificate) i.cert_source i.taken e.taken) c.check_last.ensures.taken
+
+pub returns-in_err-check_next-clause-kept : goal.returns-in_err-check_next-clause-kept
+returns-in_err-check_next-clause-kept g c =
+    let p = err_from_is_err_and c.from_residual.result c.from_residual.ensures.1 in
+    rw (p.1, p.2) c.in_err-check_next.ensures.kept
+
+pub returns-clause-kept : goal.returns-clause-kept
+returns-clause-kept g c = rw (c.in_ok-check_next.ensures.kept.0) c.check_last.ensures.kept
