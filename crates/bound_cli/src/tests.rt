@@ -49,6 +49,8 @@ struct Row<'a> {
     status: Status,
     report: &'a [u8],
     made: &'a [u8],
+    // How many bytes may be made.
+    room: usize,
 }
 
 const GOOD: Row<'static> = Row {
@@ -60,6 +62,7 @@ const GOOD: Row<'static> = Row {
     status: Status::Done,
     report: PAIR_REPORT,
     made: PAIR_CERT,
+    room: 4096,
 };
 
 const CYCLE_TRACE: &[u8] = b"1 1 1\n2 2 1\n3 3 1\n4 1 1\n5 2 1\n6 3 1\n";
@@ -176,7 +179,8 @@ impl Row<'_> {
 
     fn sink(&self, rt: &impl Abort, alloc: Global, device: Device) -> MemSink {
         let fails = self.fails_of(rt, alloc, device);
-        MemSink::new(alloc, 4096, fails, 1).expect(rt, "memory")
+        let room = if device == Device::Made { self.room } else { 4096 };
+        MemSink::new(alloc, room, fails, 1).expect(rt, "memory")
     }
 
     // Runs over memory, where a read gives so many bytes and a write takes one.
@@ -229,6 +233,16 @@ fn check_report_writes(rt: &impl Abort, alloc: Global, row: &Row<'_>) {
         let mut failing = *row;
         failing.fails = Some((Device::Report, taken as u64 + 1));
         failing.report = &row.report[..taken];
+        check(rt, alloc, &failing);
+    }
+}
+
+// Runs the row with each write of the certificate failing in turn, so that it has what was written before it.
+fn check_made_writes(rt: &impl Abort, alloc: Global, row: &Row<'_>) {
+    for taken in 0..row.made.len() {
+        let mut failing = *row;
+        failing.fails = Some((Device::Made, taken as u64 + 1));
+        failing.made = &row.made[..taken];
         check(rt, alloc, &failing);
     }
 }

@@ -154,7 +154,7 @@ module _ (format : Format) where
       (source_works : ¬ (HasFailed source)) (cert_works : ¬ (HasFailed cert)) (report_works : ¬ (HasFailed report)) where
     check_complete : (status : Status) → CheckEnds format source cert report (ending_of status) → AnswersOf format source.before cert.before status
     check_complete Done (verdict, dropped, accepted, all) = yes_at source.before cert.before accepted.requests dropped verdict.header accepted.records good known_cert accepted.loaded.read accepted.text accepted.valid
-    check_complete (Invalid line kind) e = no_at source.before cert.before line kind good known_cert e.0
+    check_complete (Invalid line kind) e = no_at source.before cert.before line kind good known_cert e.0.0
     check_complete (BadLine line kind) e = absurd (not_refused_at source.before cert.before (trace.BadLine line kind) good known_cert e.0)
     check_complete (Limit Requests) e = absurd (not_refused_at source.before cert.before trace.TooManyRequests good known_cert e.0)
     check_complete (Limit TraceBytes) e = absurd (not_refused_at source.before cert.before trace.InputTooLong good known_cert e.0)

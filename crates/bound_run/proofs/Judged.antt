@@ -16,7 +16,7 @@ use Rattle.cert_format.proofs.Wholes.{read_written}
 use Rattle.cert_checker.specs.declared.verdict.Verdict.{Verdict}
 use Rattle.cert_checker.specs.declared.walking.CheckFault.{CheckFault}
 use Rattle.cert_checker.specs.declared.walking.CheckFault.TheVariants as check
-use Rattle.cert_checker.specs.Checks.{Inputs, IsEvent, IsPassed}
+use Rattle.cert_checker.specs.Checks.{Inputs, IsEvent, IsNear, IsPassed}
 use Rattle.bound_run.specs.Inputs.{IsAccepted}
 use Rattle.bound_run.specs.Parts.{RefusesCheck}
 use Rattle.bound_run.specs.Statuses.{refusal_of_check}
@@ -58,13 +58,13 @@ module _ (format : Format) (start end : Inputs) (new : start.reader ≡ fresh fo
       }
 
   -- and a no is the first event of the walk over it
-  pub refused : (fault : CheckFault) → IsEvent start end fault
+  pub refused : (fault : CheckFault) → IsEvent start end fault → IsNear start end fault
       → RefusesCheck format (device start.trace end.trace start.trace_faults end.trace_faults) (device start.certificate end.certificate start.certificate_faults end.certificate_faults) (refusal_of_check fault)
-  refused (check.Invalid line kind) e = rw (same_format, same_limits) at e
-  refused (check.Trace (trace.BadLine line kind)) e = rw (same_format, same_limits) at e
-  refused (check.Trace trace.InputTooLong) e = rw (same_format, same_limits) at e
-  refused (check.Trace trace.TooManyRequests) e = rw (same_format, same_limits) at e
-  refused (check.Trace trace.ReadFault) e = e
-  refused (check.Trace trace.NoMemory) e = absurd e
-  refused check.CertReadFault e = e
-  refused check.NoMemory e = tt
+  refused (check.Invalid line kind) e near = (rw (same_format, same_limits) at e, rw (same_format, same_limits) at near)
+  refused (check.Trace (trace.BadLine line kind)) e near = rw (same_format, same_limits) at e
+  refused (check.Trace trace.InputTooLong) e near = rw (same_format, same_limits) at e
+  refused (check.Trace trace.TooManyRequests) e near = rw (same_format, same_limits) at e
+  refused (check.Trace trace.ReadFault) e near = e
+  refused (check.Trace trace.NoMemory) e near = absurd e
+  refused check.CertReadFault e near = e
+  refused check.NoMemory e near = tt

@@ -9,6 +9,8 @@ use Rattle.bound_report.specs.declared.refusal.Refusal.{Refusal}
 use Rattle.bound_report.specs.declared.refusal.Refusal.TheVariants as refusal
 use Rattle.bound_report.specs.Refusals.{refusal_line}
 use Rattle.bound_report.specs.Verdicts.{verdict_text}
+use Rattle.trace_any.specs.Readings.{full_limits}
+use Rattle.cert_checker.specs.Checks.{IsNearLine}
 use Rattle.cert_checker.specs.Walks as walk
 use Rattle.cert_checker.specs.declared.verdict.Verdict.{Verdict}
 use Rattle.bound_run.specs.Asked.{Asked}
@@ -33,9 +35,9 @@ abbrev pub RefusesBounds : Format → Asked → Device → Refusal → Type 0
 RefusesBounds format asked source (refusal.Limit Denominator) = IsPastDenominator format asked source
 RefusesBounds format asked source r = RefusesLoading format source r
 
--- why a check is no yes: the first event of the walk over both inputs, or a failed read of the certificate
+-- why a check is no yes: the first event of the walk over both inputs, of which little was read beyond the line that fails, or a failed read of the certificate
 abbrev pub RefusesCheck : Format → Device → Device → Refusal → Type 0
-RefusesCheck format source cert (refusal.Invalid line kind) = IsFirstEvent format source cert (walk.Invalid line kind)
+RefusesCheck format source cert (refusal.Invalid line kind) = IsFirstEvent format source cert (walk.Invalid line kind) × IsNearLine format full_limits line source cert
 RefusesCheck format source cert refusal.CertFault = HasFailed cert
 RefusesCheck format source cert r = RefusesReading (λ fault. IsFirstEvent format source cert (walk.Refused fault)) source r
 

@@ -409,9 +409,24 @@ const FAILING: Part<'static> = Part {
     loaded: Err(TraceFault::ReadFault),
 };
 
+const LETTER: TraceFault = TraceFault::BadLine {
+    line: 2,
+    kind: LineKind::BadNumber { word: 2 },
+};
+
+// A request that would be given stands after the line that is refused.
+const REFUSED: Part<'static> = Part {
+    trace: b"1 7 4\n2 x 4\n3 7 4\n",
+    step: 1,
+    failing: 0,
+    first: &[Ok(Some(SEVEN)), Err(LETTER), Err(LETTER), Err(LETTER)],
+    loaded: Err(LETTER),
+};
+
 #[test]
-fn a_failed_read_is_answered_again_and_nothing_more_is_read(rt: HostRuntime) {
+fn a_fault_is_answered_again_and_nothing_more_is_read(rt: HostRuntime) {
     check_part(&rt, rt.alloc(), &FAILING);
+    check_part(&rt, rt.alloc(), &REFUSED);
 }
 
 const TO_COME: Part<'static> = Part {

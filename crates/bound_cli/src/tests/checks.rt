@@ -3,10 +3,11 @@ ghost use Rattle.std.specs.Prelude.{◌≤◌};
 
 use super::*;
 use bound_report::InvalidKind;
-use events::{Checked, EXACT_PAIR, HEADERS, PAIR_VERDICT};
+use events::{Checked, EXACT_CYCLE, EXACT_PAIR, HEADERS, PAIR_VERDICT};
 use records::RECORDS;
 
 mod events;
+mod long;
 mod records;
 
 const WORDS: &str = "check t c format=webcache";
@@ -88,14 +89,57 @@ fn check_prefix(rt: &impl Abort, alloc: Global, prefix: &[u8]) {
     let kind = InvalidKind::Truncated;
     let status = Status::Invalid { line, kind };
     let shows = "a certificate that is cut";
-    expect_of(rt, alloc, shows, PAIR, prefix, status, report.as_bytes());
+    expect_of(rt, alloc, shows, CYCLE_TRACE, prefix, status, report.as_bytes());
 }
 
 #[test]
 fn a_certificate_that_is_cut_is_truncated(rt: HostRuntime) {
-    for taken in 0..EXACT_PAIR.len() {
-        check_prefix(&rt, rt.alloc(), &EXACT_PAIR[..taken]);
+    for taken in 0..EXACT_CYCLE.len() {
+        check_prefix(&rt, rt.alloc(), &EXACT_CYCLE[..taken]);
     }
+}
+
+// The check of a certificate of six requests beside the first of them, of which a line has six bytes.
+fn check_cut(rt: &impl Abort, alloc: Global, trace: &[u8]) {
+    let read = trace.len() as u64 / 6;
+    let line = 11 + read;
+    let report = format!(in alloc; "invalid line {line}: request count 6 {read}\n").expect(rt, "memory");
+    let kind = InvalidKind::RequestCount { written: 6, read };
+    let status = Status::Invalid { line, kind };
+    let shows = "a trace that is cut";
+    expect_of(rt, alloc, shows, trace, EXACT_CYCLE, status, report.as_bytes());
+}
+
+#[test]
+fn a_trace_that_is_cut_has_too_few_requests(rt: HostRuntime) {
+    for taken in [0, 6, 12, 18, 24, 30] {
+        check_cut(&rt, rt.alloc(), &CYCLE_TRACE[..taken]);
+    }
+}
+
+// A price of 2^126, which is the greatest.
+const DEAR_CERT: &[u8] =
+    b"cache-bound-certificate 1\nobjective object\ncapacity 4\nrequests 2\nunit 4\n\
+denominator 1\nform plain\nupper 85070591730234615865843651857942052864\nflow 0\nlower 1\nrecords\n\
+85070591730234615865843651857942052864 1 0\n0 0 0\nend\n";
+
+const DEAR_VERDICT: &[u8] =
+    b"trace requests 2 objects 1 dropped 0\ncapacity 4 objective object\nform plain\n\
+unit 4 units 1 denominator 1\nupper 85070591730234615865843651857942052864/1 \
+floor 85070591730234615865843651857942052864\nflow 0/1\nlower 1\nvalid\n";
+
+const DEAR_PRICE: &str = "85070591730234615865843651857942052865 1 0";
+
+#[test]
+fn a_price_may_be_2_to_the_126_and_no_more(rt: HostRuntime) {
+    let alloc = rt.alloc();
+    let shows = "a price of 2^126";
+    expect_of(&rt, alloc, shows, PAIR, DEAR_CERT, Status::Done, DEAR_VERDICT);
+    let cert = spoilt(&rt, alloc, DEAR_CERT, 12, DEAR_PRICE);
+    let kind = InvalidKind::Range;
+    let status = Status::Invalid { line: 12, kind };
+    let report = b"invalid line 12: range\n";
+    expect_of(&rt, alloc, "one more", PAIR, &cert, status, report);
 }
 
 // The check of a certificate with a line that is too long.
@@ -117,7 +161,8 @@ fn a_line_of_65536_bytes_is_too_long(rt: HostRuntime) {
 
 const FAILED_READ: Row<'static> = Row {
     shows: "a read that fails",
-    cert: EXACT_PAIR,
+    trace: CYCLE_TRACE,
+    cert: EXACT_CYCLE,
     status: Status::CertFault,
     report: b"certificate fault\n",
     ..CHECK
@@ -125,7 +170,7 @@ const FAILED_READ: Row<'static> = Row {
 
 #[test]
 fn a_failed_read_of_the_certificate_is_its_fault(rt: HostRuntime) {
-    let reads = EXACT_PAIR.len() + 1;
+    let reads = EXACT_CYCLE.len() + 1;
     check_reads(&rt, rt.alloc(), Device::Cert, reads, &FAILED_READ);
 }
 

@@ -4,7 +4,15 @@ ghost use Rattle.std.specs.Prelude.{◌≡◌};
 use super::*;
 use trace_lines::LineKind;
 
-const ROWS: [Row<'static>; 3] = [
+// Three objects in turn, of which two fit, in the mode where none is named.
+const FLOW: Row<'static> = Row {
+    shows: "a call that fails",
+    words: "bounds t c format=webcache capacity=2",
+    trace: CYCLE_TRACE,
+    ..GOOD
+};
+
+const ROWS: [Row<'static>; 4] = [
     Row {
         shows: "the second read fails",
         fails: Some((Device::Trace, 2)),
@@ -28,6 +36,14 @@ const ROWS: [Row<'static>; 3] = [
         made: b"ca",
         ..CYCLE
     },
+    Row {
+        shows: "a sink of the certificate without room",
+        status: Status::MadeFault,
+        report: b"made fault\n",
+        made: b"",
+        room: 0,
+        ..FLOW
+    },
 ];
 
 #[test]
@@ -36,44 +52,42 @@ fn faults_end_the_run(rt: HostRuntime) {
 }
 
 const FAILED_READ: Row<'static> = Row {
-    shows: "a read that fails",
     status: Status::TraceFault,
     report: b"trace fault\n",
     made: b"",
-    ..GOOD
+    ..FLOW
 };
 
 #[test]
 fn a_read_that_fails_is_a_trace_fault(rt: HostRuntime) {
-    check_reads(&rt, rt.alloc(), Device::Trace, PAIR.len() + 1, &FAILED_READ);
+    let reads = CYCLE_TRACE.len() + 1;
+    check_reads(&rt, rt.alloc(), Device::Trace, reads, &FAILED_READ);
 }
-
-const FAILED_WRITE: Row<'static> = Row {
-    shows: "a write of the certificate that fails",
-    status: Status::MadeFault,
-    report: b"made fault\n",
-    ..GOOD
-};
 
 #[test]
 fn a_write_of_the_certificate_that_fails_is_a_made_fault(rt: HostRuntime) {
-    for taken in 0..PAIR_CERT.len() {
-        let mut row = FAILED_WRITE;
-        row.fails = Some((Device::Made, taken as u64 + 1));
-        row.made = &PAIR_CERT[..taken];
-        check(&rt, rt.alloc(), &row);
-    }
+    let whole = done(&rt, rt.alloc(), &FLOW);
+    let row = Row {
+        status: Status::MadeFault,
+        report: b"made fault\n",
+        made: &whole.made,
+        ..FLOW
+    };
+    check_made_writes(&rt, rt.alloc(), &row);
+    drop(whole);
 }
-
-const FAILED_REPORT: Row<'static> = Row {
-    shows: "a write of the report that fails",
-    status: Status::ReportFault,
-    ..GOOD
-};
 
 #[test]
 fn a_write_of_the_report_that_fails_is_a_report_fault(rt: HostRuntime) {
-    check_report_writes(&rt, rt.alloc(), &FAILED_REPORT);
+    let whole = done(&rt, rt.alloc(), &FLOW);
+    let row = Row {
+        status: Status::ReportFault,
+        report: &whole.report,
+        made: &whole.made,
+        ..FLOW
+    };
+    check_report_writes(&rt, rt.alloc(), &row);
+    drop(whole);
 }
 
 const REFUSAL: Row<'static> = Row {

@@ -19,7 +19,7 @@ pub returns-in-Err-clause-refused : goal.returns-in-Err-clause-refused
 returns-in-Err-clause-refused g c =
     let start = inputs c.args.requests.now (g.T.Source.left c.args.trace.now) (g.T.Source.faults c.args.trace.now) c.args.records.now (g.Q.Source.left c.args.cert.now) (g.Q.Source.faults c.args.cert.now) in
     let end = inputs c.check_streams.new.reader (g.T.Source.left c.check_streams.new.trace) (g.T.Source.faults c.check_streams.new.trace) c.check_streams.new.cert (g.Q.Source.left c.check_streams.new.certificate) (g.Q.Source.faults c.check_streams.new.certificate) in
-    rw c.refusal_of_check.ensures (refused c.args.requests.now.format start end c.requires.requests c.in-Err.fault c.in-Err.ensures.event)
+    rw c.refusal_of_check.ensures (refused c.args.requests.now.format start end c.requires.requests c.in-Err.fault c.in-Err.ensures.event c.in-Err.ensures.near)
 
 pub check_streams-requires : goal.check_streams-requires
 check_streams-requires g c = record {
