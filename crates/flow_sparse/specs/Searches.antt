@@ -1,0 +1,123 @@
+-- A search for the distance of nodes from one of them, as far as the nearest that has units over.
+use Rattle.std.specs.Prelude.{◌≡◌, ◌≢◌, ◌⊎◌, ℕ, ◌+◌, ◌*◌, ◌^◌, ◌<◌, ◌≤◌, List, length, slice_index, sum}
+use Rattle.flow_model.specs.declared.edges.Edge.{Edge}
+use Rattle.flow_model.specs.Instances.{Instance}
+use Rattle.flow_model.specs.Networks.{tail, head, gain, loss, residual, IsEdge, IsTight}
+use Rattle.flow_model.specs.Pushes.{edge_at}
+use Rattle.flow_parts.specs.Queues.{Waiting, Waits, IsPlaced, IsQueue}
+use Rattle.flow_parts.specs.OuterEdges.{Lists, AreListed}
+use Rattle.flow_sparse.specs.States.{State, IsSettled, lowered}
+
+-- how far each node is by a walk that was found, the last edge of that walk, the nodes that wait for their edges to be looked
+-- at, and the nearest node with units over, with its distance as the limit beyond which no other matters
+pub record Found : Type 0 where
+  pub distances : List ℕ
+  pub parents : List Edge
+  pub waiting : Waiting
+  pub limit : ℕ
+  pub goal : ℕ
+
+-- the node does not wait
+abbrev pub Rests : Found → ℕ → Type 0
+Rests found node = slice_index found.waiting.places node ≡ 0
+
+-- the distance of a node that was not found: farther than any limit
+abbrev pub far : ℕ
+far = 2 ^ 125
+
+-- the distance and the potential at the edge's tail, with what the edge gives up
+abbrev pub at_tail : State → List ℕ → Edge → ℕ
+at_tail state distances e = slice_index distances (tail state.instance.arcs e) + (loss state.instance.arcs e + slice_index state.potentials (tail state.instance.arcs e))
+
+-- the distance and the potential at the edge's head, with what the edge earns
+abbrev pub at_head : State → List ℕ → Edge → ℕ
+at_head state distances e = slice_index distances (head state.instance.arcs e) + (gain state.instance.arcs e + slice_index state.potentials (head state.instance.arcs e))
+
+-- the edge leads to the node, with room; the node was no nearer than along it when it was found, and if it still is not,
+-- the tail was found before
+pub record IsParent (state : State) (distances : List ℕ) (times : ℕ → ℕ) (e : Edge) (node : ℕ) : Type 0 where
+  pub is_edge : IsEdge state.instance e
+  pub room : 0 < residual state.instance state.flows e
+  pub leads : head state.instance.arcs e ≡ node
+  pub along : at_tail state distances e ≤ at_head state distances e
+  pub earlier : at_tail state distances e ≡ at_head state distances e → times (tail state.instance.arcs e) < times node
+
+-- each node that was found, but the first, was found by its parent, at some time
+pub record IsTree (state : State) (from : ℕ) (distances : List ℕ) (parents : List Edge) : Type 0 where
+  pub each_distance : state.instance.steps + 1 ≤ length distances
+  pub each_parent : state.instance.steps + 1 ≤ length parents
+  pub from_within : from ≤ state.instance.steps
+  pub start : slice_index distances from ≡ 0
+  pub small : (node : ℕ) → node ≤ state.instance.steps → slice_index distances node ≤ far
+  pub found_by : (times : ℕ → ℕ)
+      × ((node : ℕ) → node ≢ from → node ≤ state.instance.steps → slice_index distances node < far → IsParent state distances times (edge_at parents node) node)
+
+-- the goal has units over, and is as far as the limit
+pub record IsGoal (state : State) (found : Found) : Type 0 where
+  pub within : found.goal ≤ state.instance.steps
+  pub over : 0 < slice_index state.over found.goal
+  pub at_limit : slice_index found.distances found.goal ≡ found.limit
+
+-- a tree of the nodes that were found, a queue by their distances, and the nearest with units over, if one was found
+pub record IsSearch (state : State) (from : ℕ) (found : Found) : Type 0 where
+  pub tree : IsTree state from found.distances found.parents
+  pub queue : IsQueue found.waiting found.distances
+  pub waits : (node : ℕ) → Waits found.waiting node → node ≤ state.instance.steps
+  pub small : found.limit ≤ far
+  pub over_is_past : (node : ℕ) → node ≤ state.instance.steps → 0 < slice_index state.over node → found.limit ≤ slice_index found.distances node
+  pub goal : found.limit < far → IsGoal state found
+
+-- the edges out of nodes that don't wait are settled
+abbrev pub AreSettled : State → Found → Type 0
+AreSettled state found = (e : Edge) → IsEdge state.instance e → Rests found (tail state.instance.arcs e) → IsSettled state found.distances found.limit e
+
+-- distances and the limit only fell, and the nodes whose distance fell wait; so edges out of nodes that rest stay settled
+pub record Nears (state : State) (from : ℕ) (old new : Found) : Type 0 where
+  pub search : IsSearch state from new
+  pub rests : (node : ℕ) → Rests new node → Rests old node
+  pub stays : (e : Edge) → IsEdge state.instance e → Rests new (tail state.instance.arcs e) → IsSettled state old.distances old.limit e → IsSettled state new.distances new.limit e
+  pub falls : 2 * sum new.distances + new.waiting.count ≤ 2 * sum old.distances + old.waiting.count
+  pub each_distance : length new.distances ≡ length old.distances
+  pub each_parent : length new.parents ≡ length old.parents
+
+-- no node waits, and there is room for a search over so many steps
+pub record IsIdle (steps : ℕ) (found : Found) : Type 0 where
+  pub each_distance : steps + 1 ≤ length found.distances
+  pub each_parent : steps + 1 ≤ length found.parents
+  pub each_place : length found.distances ≡ length found.waiting.places
+  pub placed : IsPlaced found.waiting
+  pub none_waits : found.waiting.count ≡ 0
+
+-- there is as much room as before, and no node waits
+pub record KeepsRoom (old new : Found) : Type 0 where
+  pub each_distance : length new.distances ≡ length old.distances
+  pub each_parent : length new.parents ≡ length old.parents
+  pub each_place : length new.distances ≡ length new.waiting.places
+  pub placed : IsPlaced new.waiting
+  pub none_waits : new.waiting.count ≡ 0
+
+-- the lists have the outer edges out of each node
+pub record IsListed (instance : Instance) (lists : Lists) : Type 0 where
+  pub times : ℕ
+  pub few : instance.steps ≤ times
+  pub listed : AreListed (record instance { steps = times }) lists (2 * length instance.arcs)
+
+-- under the lowered potentials the edge is tight, and leads to the node from one within the limit that was found before
+pub record IsHop (state : State) (found : Found) (times : ℕ → ℕ) (e : Edge) (node : ℕ) : Type 0 where
+  pub tight : IsTight state.instance state.flows (lowered state found.distances found.limit) e
+  pub leads : head state.instance.arcs e ≡ node
+  pub near : slice_index found.distances (tail state.instance.arcs e) ≤ found.limit
+  pub earlier : times (tail state.instance.arcs e) < times node
+
+-- tight edges lead back to where the search began from each node within the limit
+pub record LeadsBack (state : State) (from : ℕ) (found : Found) : Type 0 where
+  pub from_within : from ≤ state.instance.steps
+  pub each_parent : state.instance.steps + 1 ≤ length found.parents
+  pub hops : (times : ℕ → ℕ)
+      × ((node : ℕ) → node ≢ from → node ≤ state.instance.steps → slice_index found.distances node ≤ found.limit → IsHop state found times (edge_at found.parents node) node)
+
+-- the nearest with units over after a node was found at the distance
+pub record IsAimed (state : State) (old_limit old_goal : ℕ) (distances : List ℕ) (node limit goal : ℕ) : Type 0 where
+  pub limit_falls : limit ≤ old_limit
+  pub past : 0 < slice_index state.over node → limit ≤ slice_index distances node
+  pub goal_is : ((limit ≡ old_limit) × (goal ≡ old_goal)) ⊎ ((limit ≡ slice_index distances node) × (goal ≡ node) × (0 < slice_index state.over node))

@@ -1,0 +1,133 @@
+//! The loads of steps, and what they leave over at nodes.
+ghost use Rattle.std.specs.Prelude.{◌≡◌, ℕ, ◌+◌, ◌-◌, ◌<◌, ◌≤◌, ◌^◌, IsTrue, min, length, slice_index, slice_set};
+ghost use Rattle.flow_model.specs.Instances.{IsInstance, load_at};
+ghost use Rattle.flow_uniform.specs.Cuts.{ends_at, flow_where};
+ghost use Rattle.flow_sparse.specs.Loads.{AreBalanced, starts_at};
+
+use flow_model::Instance;
+
+// Sets all to 0.
+fn clear(list: &mut [u128])
+    ensures zeros { (t : ℕ) → t < length list.old → slice_index list.new t ≡ 0 }
+    ensures each { length list.new ≡ length list.old }
+{
+    for place in 0..list.len() {
+        list[place] = 0;
+    }
+}
+
+// Adds the flow of each arc at its start and at its end.
+fn add_ends(instance: &Instance, flows: &[u64], starting: &mut [u128], ending: &mut [u128])
+    requires each_arc { length flows.now ≡ length instance.now.arcs }
+    requires small { (i : ℕ) → i < length flows.now → slice_index flows.now i ≤ 2 ^ 48 }
+    requires starting { (length starting.old ≡ instance.now.steps + 1) × ((t : ℕ) → t < length starting.old → slice_index starting.old t ≡ 0) }
+    requires ending { (length ending.old ≡ instance.now.steps + 1) × ((t : ℕ) → t < length ending.old → slice_index ending.old t ≡ 0) }
+    ensures starting { (t : ℕ) → t ≤ instance.now.steps → slice_index starting.new t ≡ flow_where (starts_at t) instance.now.arcs flows.now }
+    ensures ending { (t : ℕ) → t ≤ instance.now.steps → slice_index ending.new t ≡ flow_where (ends_at t) instance.now.arcs flows.now }
+    ensures each_start { length starting.new ≡ length starting.old }
+    ensures each_end { length ending.new ≡ length ending.old }
+{
+    let arcs = instance.arcs();
+    for number in 0..flows.len() {
+        let arc = arcs[number];
+        let flow = flows[number] as u128;
+        starting[arc.start as usize] += flow;
+        ending[arc.end as usize] += flow;
+    }
+}
+
+// Turns what starts at each step into its load.
+fn sum_up(instance: &Instance, flows: &[u64], ending: &[u128], loads: &mut [u128])
+    requires fits { IsInstance instance.now }
+    requires each_arc { length flows.now ≡ length instance.now.arcs }
+    requires small { (i : ℕ) → i < length flows.now → slice_index flows.now i ≤ 2 ^ 48 }
+    requires each_start { length loads.old ≡ instance.now.steps + 1 }
+    requires each_end { length ending.now ≡ instance.now.steps + 1 }
+    requires starting { (t : ℕ) → t ≤ instance.now.steps → slice_index loads.old t ≡ flow_where (starts_at t) instance.now.arcs flows.now }
+    requires ending { (t : ℕ) → t ≤ instance.now.steps → slice_index ending.now t ≡ flow_where (ends_at t) instance.now.arcs flows.now }
+    ensures loads { (t : ℕ) → t < instance.now.steps → slice_index loads.new t ≡ load_at instance.now.arcs flows.now t }
+    ensures each { length loads.new ≡ length loads.old }
+{
+    let mut load = 0;
+    for step in 0..instance.steps() as usize {
+        load = load + loads[step] - ending[step];
+        loads[step] = load;
+    }
+}
+
+/// Writes the load of each step.
+pub fn write_loads(instance: &Instance, flows: &[u64], ending: &mut [u128], loads: &mut [u128])
+    requires fits { IsInstance instance.now }
+    requires each_arc { length flows.now ≡ length instance.now.arcs }
+    requires small { (i : ℕ) → i < length flows.now → slice_index flows.now i ≤ 2 ^ 48 }
+    requires each_start { length loads.old ≡ instance.now.steps + 1 }
+    requires each_end { length ending.old ≡ instance.now.steps + 1 }
+    ensures loads { (t : ℕ) → t < instance.now.steps → slice_index loads.new t ≡ load_at instance.now.arcs flows.now t }
+    ensures each { length loads.new ≡ length loads.old }
+    ensures each_end { length ending.new ≡ length ending.old }
+{
+    clear(loads);
+    clear(ending);
+    add_ends(instance, flows, loads, ending);
+    sum_up(instance, flows, ending, loads);
+}
+
+// What flows beside the arcs over an open step: none if it has a price.
+fn beside(load: u128, price: u128, units: u64) -> u128
+    ensures shut { 0 < result → price ≡ 0 }
+    ensures small { result ≤ units }
+{
+    if price > 0 || load > units as u128 {
+        return 0;
+    }
+    units as u128 - load
+}
+
+// Writes what is over at a node, or what is missing.
+fn put(node: usize, more: u128, less: u128, over: &mut [u128], under: &mut [u128])
+    requires { (node < length over.old) × (node < length under.old) }
+    ensures over { over.new ≡ slice_set over.old node (more - min more less) }
+    ensures under { under.new ≡ slice_set under.old node (less - min more less) }
+{
+    let both = more.min(less);
+    over[node] = more - both;
+    under[node] = less - both;
+}
+
+/// Writes what flows beside the arcs over the open steps, and what is over and missing at the nodes.
+pub fn balance(
+    count: u32,
+    units: u64,
+    steps_of: &[u32],
+    loads: &[u128],
+    prices: &[u128],
+    inner: &mut [u128],
+    over: &mut [u128],
+    under: &mut [u128],
+)
+    requires few { count ≤ 2 ^ 25 }
+    requires units { units ≤ 2 ^ 56 }
+    requires each_step { (count ≤ length steps_of.now) × (count ≤ length inner.old) }
+    requires each_node { (count < length over.old) × (count < length under.old) }
+    requires within { (k : ℕ) → k < count → (slice_index steps_of.now k < length loads.now) × (slice_index steps_of.now k < length prices.now) }
+    requires small { (k : ℕ) → k < count → slice_index loads.now (slice_index steps_of.now k) ≤ 2 ^ 74 }
+    ensures balanced { AreBalanced count units steps_of.now loads.now prices.now inner.new over.new under.new }
+    ensures inner { length inner.new ≡ length inner.old }
+    ensures over { length over.new ≡ length over.old }
+    ensures under { length under.new ≡ length under.old }
+{
+    let mut more = 0;
+    let mut less = 0;
+    for node in 0..count as usize {
+        let step = steps_of[node] as usize;
+        let room = beside(loads[step], prices[step], units);
+        let total = loads[step] + room;
+        let passes = total.saturating_sub(units as u128);
+        let lacks = (units as u128).saturating_sub(total);
+        inner[node] = room;
+        put(node, passes + less, lacks + more, over, under);
+        more = passes;
+        less = lacks;
+    }
+    put(count as usize, less, more, over, under);
+}

@@ -1,0 +1,345 @@
+//! The network of the open steps.
+ghost use Rattle.std.specs.Prelude.{◌≡◌, ℕ, ◌+◌, ◌-◌, ◌*◌, ◌≤◌, ◌<◌, ◌^◌, All, length, map, slice_index, slice_set};
+ghost use Rattle.flow_model.specs.Networks.{IsEdge, residual, tail, head, gain, loss};
+ghost use Rattle.flow_model.specs.Pushes.{IsSimple, push_path};
+ghost use Rattle.flow_parts.specs.OuterEdges.{tail_of};
+ghost use Rattle.flow_model.specs.Instances.{IsInstance, arc_at, load_at};
+ghost use Rattle.flow_sparse.specs.Loads.{AreBalanced};
+ghost use Rattle.flow_sparse.specs.Contractions.{AreOpen, IsNumbering, IsSized, IsSlack, between, contracted};
+ghost use Rattle.flow_sparse.specs.Starts.{IsFitted};
+ghost use Rattle.flow_sparse.specs.States.{CanPush, HasRoomFor, IsHigh, IsNetwork, IsReady, IsState, pushed};
+
+use crate::loads::{balance, write_loads};
+use crate::numbering::{contract, number, write_potentials, write_prices, write_weights};
+use crate::pushing::push_along;
+use crate::starting::fit_flows;
+use flow_model::{Edge, Instance, OuterArc};
+use flow_network::Hop;
+use flow_parts::outer_edge;
+use std::marker::Model;
+
+/// The arcs between nodes, with one node for all times between two open steps; the flows along the arcs and beside them, the
+/// potential of each node, and how many units are over at each and how many are missing.
+#[derive(Drop)]
+pub struct Network {
+    pub arcs: Vec<OuterArc>,
+    pub units: u64,
+    pub count: u32,
+    pub outer: Vec<u64>,
+    pub inner: Vec<u128>,
+    pub potentials: Vec<u128>,
+    pub over: Vec<u128>,
+    pub under: Vec<u128>,
+}
+
+impl Model for Network {
+    ghost use Rattle.flow_parts.specs.OuterEdges.{tail_of};
+    ghost use Rattle.flow_sparse.specs.States.{State};
+
+    ghost Value = { State };
+
+    ghost view = { λ n. record { instance = record { steps = n.count; units = n.units; arcs = n.arcs.items }; flows = record { outer = n.outer.items; inner = n.inner.items }; potentials = n.potentials.items; over = n.over.items; under = n.under.items } };
+}
+
+impl Network {
+    /// How many steps are open.
+    #[inline(always)]
+    pub fn steps(&self) -> u32
+        ensures { result ≡ self.now.instance.steps }
+    {
+        self.count
+    }
+
+    /// How many arcs there are.
+    #[inline(always)]
+    pub fn arc_count(&self) -> u32
+        requires { length self.now.instance.arcs ≤ 2 ^ 26 }
+        ensures { result ≡ length self.now.instance.arcs }
+    {
+        self.arcs.len() as u32
+    }
+
+    /// How many units more can go along the edge. An inner edge has no limit of its own, and answers the units.
+    #[inline(always)]
+    pub fn residual(&self, edge: Edge) -> u128
+        requires fits { IsState self.now }
+        requires edge { IsEdge self.now.instance edge }
+        ensures { result ≡ residual self.now.instance self.now.flows edge }
+    {
+        match edge {
+            Edge::Inner(_) => self.units as u128,
+            Edge::InnerBack(step) => self.inner[step as usize],
+            Edge::Outer(arc) => {
+                (self.arcs[arc as usize].weight - self.outer[arc as usize]) as u128
+            }
+            Edge::OuterBack(arc) => self.outer[arc as usize] as u128,
+        }
+    }
+
+    /// The ends and the cost of the edge.
+    #[inline(always)]
+    pub fn hop(&self, edge: Edge) -> Hop
+        requires fits { IsNetwork self.now.instance }
+        requires edge { IsEdge self.now.instance edge }
+        ensures tail { result.tail ≡ tail self.now.instance.arcs edge }
+        ensures head { result.head ≡ head self.now.instance.arcs edge }
+        ensures gain { result.gain ≡ gain self.now.instance.arcs edge }
+        ensures loss { result.loss ≡ loss self.now.instance.arcs edge }
+        ensures ends { (result.tail ≤ self.now.instance.steps) × (result.head ≤ self.now.instance.steps) }
+        ensures small { (result.gain ≤ 2 ^ 97) × (result.loss ≤ 2 ^ 97) }
+    {
+        match edge {
+            Edge::Inner(step) => Hop {
+                tail: step,
+                head: step + 1,
+                gain: 0,
+                loss: 0,
+            },
+            Edge::InnerBack(step) => Hop {
+                tail: step + 1,
+                head: step,
+                gain: 0,
+                loss: 0,
+            },
+            Edge::Outer(arc) => {
+                let arc = self.arcs[arc as usize];
+                Hop {
+                    tail: arc.start,
+                    head: arc.end,
+                    gain: arc.cost,
+                    loss: 0,
+                }
+            }
+            Edge::OuterBack(arc) => {
+                let arc = self.arcs[arc as usize];
+                Hop {
+                    tail: arc.end,
+                    head: arc.start,
+                    gain: 0,
+                    loss: arc.cost,
+                }
+            }
+        }
+    }
+
+    /// The node that the outer edge of that number leads out of.
+    pub fn tail_of(&self, number: u32) -> u32
+        requires fits { IsNetwork self.now.instance }
+        requires number { number < 2 * length self.now.instance.arcs }
+        ensures tail { result ≡ tail_of self.now.instance.arcs number }
+        ensures within { result ≤ self.now.instance.steps }
+    {
+        self.hop(outer_edge(self.arc_count(), number)).tail
+    }
+
+    /// The potential of the node.
+    #[inline(always)]
+    pub fn potential(&self, node: u32) -> u128
+        requires { node < length self.now.potentials }
+        ensures { result ≡ slice_index self.now.potentials node }
+    {
+        self.potentials[node as usize]
+    }
+
+    /// Sets the potential of the node, and of no other.
+    #[inline(always)]
+    pub fn set_potential(&mut self, node: u32, value: u128)
+        requires { node < length self.old.potentials }
+        ensures { self.new ≡ record self.old { potentials = slice_set self.old.potentials node value } }
+    {
+        self.potentials[node as usize] = value;
+    }
+
+    /// How many units are over at the node.
+    #[inline(always)]
+    pub fn over(&self, node: u32) -> u128
+        requires { node < length self.now.over }
+        ensures { result ≡ slice_index self.now.over node }
+    {
+        self.over[node as usize]
+    }
+
+    /// How many units are missing at the node.
+    #[inline(always)]
+    pub fn under(&self, node: u32) -> u128
+        requires { node < length self.now.under }
+        ensures { result ≡ slice_index self.now.under node }
+    {
+        self.under[node as usize]
+    }
+
+    // Takes the amount from what is over at the one node, and from what is missing at the other.
+    fn settle(&mut self, from: u32, to: u32, amount: u128)
+        requires missing { (from < length self.old.under) × (amount ≤ slice_index self.old.under from) }
+        requires over { (to < length self.old.over) × (amount ≤ slice_index self.old.over to) }
+        ensures { self.new ≡ record self.old { under = slice_set self.old.under from (slice_index self.old.under from - amount); over = slice_set self.old.over to (slice_index self.old.over to - amount) } }
+    {
+        self.under[from as usize] -= amount;
+        self.over[to as usize] -= amount;
+    }
+
+    // Pushes the amount along the path.
+    fn push_path(&mut self, path: &[Edge], amount: u128)
+        requires room { All (HasRoomFor amount self.old.flows) path.now }
+        requires simple { IsSimple path.now }
+        ensures { self.new ≡ record self.old { flows = push_path amount self.old.flows path.now } }
+    {
+        push_along(path, amount, &mut self.outer, &mut self.inner);
+    }
+
+    /// Pushes the amount along the path, from a node where it is missing to one where it is over.
+    pub fn push(&mut self, from: u32, to: u32, path: &[Edge], amount: u128)
+        requires ready { IsReady self.old }
+        requires high { IsHigh self.old }
+        requires can { CanPush self.old from to path.now amount }
+        ensures { self.new ≡ pushed self.old from to path.now amount }
+    {
+        self.push_path(path, amount);
+        self.settle(from, to, amount);
+    }
+
+    // Takes the arcs between the nodes.
+    fn set_arcs(&mut self, instance: &Instance, nodes: &[u32])
+        requires each_time { length nodes.now ≡ instance.now.steps + 1 }
+        requires each_arc { length self.old.instance.arcs ≡ length instance.now.arcs }
+        ensures { self.new ≡ record self.old { instance = record { steps = self.old.instance.steps; units = self.old.instance.units; arcs = map (between nodes.now) instance.now.arcs } } }
+    {
+        contract(instance, nodes, &mut self.arcs);
+    }
+
+    // Takes so many steps.
+    fn set_steps(&mut self, count: u32)
+        ensures { self.new ≡ record self.old { instance = record { steps = count; units = self.old.instance.units; arcs = self.old.instance.arcs } } }
+    {
+        self.count = count;
+    }
+
+    // Makes the price of each open step the fall of the potential over it.
+    fn set_potentials(&mut self, steps_of: &[u32], prices: &[u128])
+        requires few { self.old.instance.steps ≤ 2 ^ 25 }
+        requires each_node { self.old.instance.steps < length self.old.potentials }
+        requires each_step { self.old.instance.steps ≤ length steps_of.now }
+        requires within { (k : ℕ) → k < self.old.instance.steps → slice_index steps_of.now k < length prices.now }
+        requires small { (t : ℕ) → t < length prices.now → slice_index prices.now t ≤ 2 ^ 97 }
+        ensures rest { self.new ≡ record self.old { potentials = self.new.potentials } }
+        ensures last { slice_index self.new.potentials self.old.instance.steps ≡ 2 ^ 123 }
+        ensures falls { (k : ℕ) → k < self.old.instance.steps → slice_index prices.now (slice_index steps_of.now k) + slice_index self.new.potentials (k + 1) ≡ slice_index self.new.potentials k }
+        ensures each { length self.new.potentials ≡ length self.old.potentials }
+    {
+        write_potentials(self.count, steps_of, prices, &mut self.potentials);
+    }
+
+    // Balances the loads of the open steps.
+    fn set_balance(&mut self, steps_of: &[u32], loads: &[u128], prices: &[u128])
+        requires few { self.old.instance.steps ≤ 2 ^ 25 }
+        requires units { self.old.instance.units ≤ 2 ^ 56 }
+        requires each_step { (self.old.instance.steps ≤ length steps_of.now) × (self.old.instance.steps ≤ length self.old.flows.inner) }
+        requires each_node { (self.old.instance.steps < length self.old.over) × (self.old.instance.steps < length self.old.under) }
+        requires within { (k : ℕ) → k < self.old.instance.steps → (slice_index steps_of.now k < length loads.now) × (slice_index steps_of.now k < length prices.now) }
+        requires small { (k : ℕ) → k < self.old.instance.steps → slice_index loads.now (slice_index steps_of.now k) ≤ 2 ^ 74 }
+        ensures rest { self.new ≡ record self.old { flows = record { outer = self.old.flows.outer; inner = self.new.flows.inner }; over = self.new.over; under = self.new.under } }
+        ensures balanced { AreBalanced self.old.instance.steps self.old.instance.units steps_of.now loads.now prices.now self.new.flows.inner self.new.over self.new.under }
+        ensures inner { length self.new.flows.inner ≡ length self.old.flows.inner }
+        ensures over { length self.new.over ≡ length self.old.over }
+        ensures under { length self.new.under ≡ length self.old.under }
+    {
+        balance(
+            self.count,
+            self.units,
+            steps_of,
+            loads,
+            prices,
+            &mut self.inner,
+            &mut self.over,
+            &mut self.under,
+        );
+    }
+
+    /// Lets the steps be open that the flags say: numbers the nodes, and takes the arcs between them, the potentials that the prices
+    /// are the falls of, and what the loads leave over.
+    pub fn open(
+        &mut self,
+        instance: &Instance,
+        opens: &[bool],
+        loads: &[u128],
+        prices: &[u128],
+        nodes: &mut [u32],
+        steps_of: &mut [u32],
+    )
+        requires fits { IsInstance instance.now }
+        requires sized { IsSized instance.now self.old }
+        requires slack { IsSlack instance.now prices.now self.old.flows.outer }
+        requires opens { (length opens.now ≡ instance.now.steps) × AreOpen opens.now prices.now }
+        requires small { (t : ℕ) → t < instance.now.steps → slice_index prices.now t ≤ 2 ^ 97 }
+        requires loads { (instance.now.steps ≤ length loads.now) × ((t : ℕ) → t < instance.now.steps → slice_index loads.now t ≡ load_at instance.now.arcs self.old.flows.outer t) }
+        requires each_time { length nodes.old ≡ instance.now.steps + 1 }
+        requires each_step { instance.now.steps ≤ length steps_of.old }
+        ensures ready { IsReady self.new }
+        ensures high { IsHigh self.new }
+        ensures numbers { IsNumbering instance.now.steps opens.now nodes.new steps_of.new self.new.instance.steps }
+        ensures same { self.new.instance ≡ contracted instance.now nodes.new self.new.instance.steps }
+        ensures sized { IsSized instance.now self.new }
+        ensures each_time { length nodes.new ≡ length nodes.old }
+        ensures each_step { length steps_of.new ≡ length steps_of.old }
+    {
+        let count = number(opens, nodes, steps_of);
+        self.set_arcs(instance, nodes);
+        self.set_steps(count);
+        self.set_potentials(steps_of, prices);
+        self.set_balance(steps_of, loads, prices);
+    }
+
+    /// Writes the price of each step: the fall of the potential between the nodes of its times.
+    pub fn write_prices(&self, nodes: &[u32], prices: &mut [u128])
+        requires each_time { length nodes.now ≡ length prices.old + 1 }
+        requires within { (t : ℕ) → t < length nodes.now → slice_index nodes.now t < length self.now.potentials }
+        requires falls { (t : ℕ) → t < length prices.old → slice_index self.now.potentials (slice_index nodes.now (t + 1)) ≤ slice_index self.now.potentials (slice_index nodes.now t) }
+        ensures falls { (t : ℕ) → t < length prices.old → slice_index prices.new t + slice_index self.now.potentials (slice_index nodes.now (t + 1)) ≡ slice_index self.now.potentials (slice_index nodes.now t) }
+        ensures each_step { length prices.new ≡ length prices.old }
+    {
+        write_prices(nodes, &self.potentials, prices);
+    }
+
+    /// Lets each arc be full.
+    pub fn fill(&mut self, instance: &Instance)
+        requires { length self.old.flows.outer ≡ length instance.now.arcs }
+        ensures rest { self.new ≡ record self.old { flows = record { outer = self.new.flows.outer; inner = self.old.flows.inner } } }
+        ensures each { length self.new.flows.outer ≡ length self.old.flows.outer }
+        ensures full { (i : ℕ) → i < length instance.now.arcs → slice_index self.new.flows.outer i ≡ (arc_at instance.now.arcs i).weight }
+    {
+        write_weights(instance, &mut self.outer);
+    }
+
+    /// Gives each arc its weight as flow, unless it costs less than its steps' prices.
+    pub fn fit(&mut self, instance: &Instance, falls: &[u128])
+        requires each_arc { length self.old.flows.outer ≡ length instance.now.arcs }
+        requires each { length falls.now ≡ instance.now.steps + 1 }
+        requires small { (t : ℕ) → t ≤ instance.now.steps → slice_index falls.now t ≤ 2 ^ 122 }
+        ensures rest { self.new ≡ record self.old { flows = record { outer = self.new.flows.outer; inner = self.old.flows.inner } } }
+        ensures each { length self.new.flows.outer ≡ length self.old.flows.outer }
+        ensures fitted { (i : ℕ) → i < length instance.now.arcs → IsFitted (arc_at instance.now.arcs i).weight (arc_at instance.now.arcs i).cost (slice_index falls.now (arc_at instance.now.arcs i).start) (slice_index falls.now (arc_at instance.now.arcs i).end) (slice_index self.new.flows.outer i) }
+    {
+        fit_flows(instance, falls, &mut self.outer);
+    }
+
+    /// Writes the load of each step.
+    pub fn write_loads(&self, instance: &Instance, ending: &mut [u128], loads: &mut [u128])
+        requires fits { IsInstance instance.now }
+        requires each_arc { length self.now.flows.outer ≡ length instance.now.arcs }
+        requires small { (i : ℕ) → i < length self.now.flows.outer → slice_index self.now.flows.outer i ≤ 2 ^ 48 }
+        requires each_start { length loads.old ≡ instance.now.steps + 1 }
+        requires each_end { length ending.old ≡ instance.now.steps + 1 }
+        ensures loads { (t : ℕ) → t < instance.now.steps → slice_index loads.new t ≡ load_at instance.now.arcs self.now.flows.outer t }
+        ensures each { length loads.new ≡ length loads.old }
+        ensures each_end { length ending.new ≡ length ending.old }
+    {
+        write_loads(instance, &self.outer, ending, loads);
+    }
+
+    /// The flow of each arc. The rest of the network is given back.
+    pub fn into_flows(self) -> Vec<u64>
+        ensures { result.items ≡ self.flows.outer }
+    {
+        self.outer
+    }
+}

@@ -1,0 +1,307 @@
+//! The search for the distances of nodes from one of them, nearest first, as far as the nearest that has units over.
+ghost use Rattle.std.specs.Prelude.{◌≡◌, ℕ, ◌+◌, ◌-◌, ◌*◌, ◌≤◌, ◌<◌, ◌^◌, ◌↔◌, ◌≢◌, IfNone, IfSome, IsNone, length, slice_index, slice_set, sum};
+ghost use Rattle.flow_model.specs.declared.edges.Edge.{Edge as FlowEdge};
+ghost use Rattle.flow_model.specs.declared.edges.Edge.TheVariants.{Inner, InnerBack};
+ghost use Rattle.flow_model.specs.Networks.{IsEdge, tail};
+ghost use Rattle.flow_model.specs.Pushes.{edge_at};
+ghost use Rattle.flow_parts.specs.OuterEdges.{AreListed, edge_of, tail_of};
+ghost use Rattle.flow_parts.specs.Queues.{IsPlaced, IsQueue, IsQueueBut, Joins, Leaves, Waits};
+ghost use Rattle.flow_sparse.specs.States.{IsReady, IsHigh, IsSettled};
+ghost use Rattle.flow_sparse.specs.Searches.{AreSettled, IsAimed, IsIdle, IsListed, IsSearch, KeepsRoom, Nears, Rests, far};
+
+use crate::lists::EdgeLists;
+use crate::network::Network;
+use flow_model::Edge;
+use flow_parts::{Queue, outer_edge};
+use std::marker::Model;
+
+/// The distance of a node that was not found.
+const FAR: u128 = 1 << 125;
+
+/// How far each node is from the first, by the walks that were found, and the last edge of the walk to it. The length of an
+/// edge with room is its negated reduced cost. No distance matters beyond that of the nearest node with units over.
+#[derive(Drop)]
+pub struct Search {
+    pub distances: Vec<u128>,
+    pub parents: Vec<Edge>,
+    pub queue: Queue,
+    pub limit: u128,
+    pub goal: u32,
+}
+
+impl Model for Search {
+    ghost use Rattle.flow_sparse.specs.Searches.{Found};
+
+    ghost Value = { Found };
+
+    ghost view = { λ s. record { distances = s.distances.items; parents = s.parents.items; waiting = s.queue; limit = s.limit; goal = s.goal } };
+}
+
+impl Search {
+    /// How far the node is.
+    #[inline(always)]
+    pub fn distance(&self, node: u32) -> u128
+        requires { node < length self.now.distances }
+        ensures { result ≡ slice_index self.now.distances node }
+    {
+        self.distances[node as usize]
+    }
+
+    /// The edge by which the node was found.
+    #[inline(always)]
+    pub fn parent(&self, node: u32) -> Edge
+        requires { node < length self.now.parents }
+        ensures { result ≡ edge_at self.now.parents node }
+    {
+        self.parents[node as usize]
+    }
+
+    /// How far the nearest node with units over is.
+    #[inline(always)]
+    pub fn limit(&self) -> u128
+        ensures { result ≡ self.now.limit }
+    {
+        self.limit
+    }
+
+    /// The nearest node with units over.
+    #[inline(always)]
+    pub fn goal(&self) -> u32
+        ensures { result ≡ self.now.goal }
+    {
+        self.goal
+    }
+
+    // Writes the lesser distance of the node, and the edge that leads to it.
+    #[inline(always)]
+    fn lower(&mut self, node: u32, distance: u128, edge: Edge)
+        requires parents { node < length self.old.parents }
+        requires node { node < length self.old.distances }
+        ensures { self.new ≡ record self.old { distances = slice_set self.old.distances node distance; parents = slice_set self.old.parents node edge } }
+    {
+        self.distances[node as usize] = distance;
+        self.parents[node as usize] = edge;
+    }
+
+    // Makes the node the goal, if units are over there and it is nearer than the limit.
+    #[inline(always)]
+    fn aim(&mut self, network: &Network, node: u32)
+        requires node { node < length self.old.distances }
+        requires over { node < length network.now.over }
+        ensures rest { self.new ≡ record self.old { limit = self.new.limit; goal = self.new.goal } }
+        ensures aimed { IsAimed network.now self.old.limit self.old.goal self.new.distances node self.new.limit self.new.goal }
+    {
+        if network.over(node) > 0 && self.distance(node) < self.limit {
+            self.limit = self.distance(node);
+            self.goal = node;
+        }
+    }
+
+    // Lets the node wait, whose distance may have fallen.
+    #[inline(always)]
+    fn enqueue(&mut self, node: u32)
+        requires queue { IsQueueBut self.old.waiting self.old.distances node }
+        requires node { node < length self.old.distances }
+        ensures rest { self.new ≡ record self.old { waiting = self.new.waiting } }
+        ensures queue { IsQueue self.new.waiting self.new.distances }
+        ensures joins { Joins self.old.waiting self.new.waiting node }
+    {
+        self.queue.offer(&self.distances, node);
+    }
+
+    // Lowers the distance of the edge's head to that along the edge, where it is less and below the limit.
+    #[inline(always)]
+    fn relax(&mut self, network: &Network, from: u32, edge: Edge)
+        requires ready { IsReady network.now }
+        requires high { IsHigh network.now }
+        requires edge { IsEdge network.now.instance edge }
+        requires search { IsSearch network.now from self.old }
+        ensures nears { Nears network.now from self.old self.new }
+        ensures settled { IsSettled network.now self.new.distances self.new.limit edge }
+    {
+        let hop = network.hop(edge);
+        let near = self.distance(hop.tail);
+        if near >= self.distance(hop.head) || network.residual(edge) == 0 {
+            return;
+        }
+        let behind = near + (hop.loss + network.potential(hop.tail));
+        let along = behind - (hop.gain + network.potential(hop.head));
+        if along >= self.limit() || along >= self.distance(hop.head) {
+            return;
+        }
+        self.lower(hop.head, along, edge);
+        self.aim(network, hop.head);
+        self.enqueue(hop.head);
+    }
+
+    // Relaxes the outer edges that lead out of the node.
+    fn relax_outer(&mut self, network: &Network, lists: &EdgeLists, from: u32, node: u32)
+        requires ready { IsReady network.now }
+        requires high { IsHigh network.now }
+        requires search { IsSearch network.now from self.old }
+        requires lists { IsListed network.now.instance lists.now }
+        requires node { node ≤ network.now.instance.steps }
+        ensures nears { Nears network.now from self.old self.new }
+        ensures settled { Rests self.new node → (k : ℕ) → k < 2 * length network.now.instance.arcs → tail_of network.now.instance.arcs k ≡ node → IsSettled network.now self.new.distances self.new.limit (edge_of (length network.now.instance.arcs) k) }
+    {
+        let arcs = network.arc_count();
+        let mut left = lists.first(node);
+        while left > 0 {
+            let number = left - 1;
+            self.relax(network, from, outer_edge(arcs, number));
+            left = lists.after(number);
+        }
+    }
+
+    // Relaxes the inner edge that leads on from the node, where there is one.
+    #[inline(always)]
+    fn relax_on(&mut self, network: &Network, from: u32, node: u32)
+        requires ready { IsReady network.now }
+        requires high { IsHigh network.now }
+        requires search { IsSearch network.now from self.old }
+        ensures nears { Nears network.now from self.old self.new }
+        ensures settled { node < network.now.instance.steps → IsSettled network.now self.new.distances self.new.limit (Inner node) }
+    {
+        if node < network.steps() {
+            self.relax(network, from, Edge::Inner(node));
+        }
+    }
+
+    // Relaxes the inner edge that leads back from the node, where there is one.
+    #[inline(always)]
+    fn relax_back(&mut self, network: &Network, from: u32, node: u32)
+        requires ready { IsReady network.now }
+        requires high { IsHigh network.now }
+        requires search { IsSearch network.now from self.old }
+        requires node { node ≤ network.now.instance.steps }
+        ensures nears { Nears network.now from self.old self.new }
+        ensures settled { 0 < node → IsSettled network.now self.new.distances self.new.limit (InnerBack (node - 1)) }
+    {
+        if node > 0 {
+            self.relax(network, from, Edge::InnerBack(node - 1));
+        }
+    }
+
+    // Relaxes the edges that lead out of the node.
+    fn relax_from(&mut self, network: &Network, lists: &EdgeLists, from: u32, node: u32)
+        requires ready { IsReady network.now }
+        requires high { IsHigh network.now }
+        requires search { IsSearch network.now from self.old }
+        requires lists { IsListed network.now.instance lists.now }
+        requires node { node ≤ network.now.instance.steps }
+        ensures nears { Nears network.now from self.old self.new }
+        ensures settled { Rests self.new node → (e : FlowEdge) → IsEdge network.now.instance e → tail network.now.instance.arcs e ≡ node → IsSettled network.now self.new.distances self.new.limit e }
+    {
+        self.relax_on(network, from, node);
+        self.relax_outer(network, lists, from, node);
+        self.relax_back(network, from, node);
+    }
+
+    // Takes the nearest of the nodes from the queue.
+    #[inline(always)]
+    fn take_nearest(&mut self) -> Option<u32>
+        requires { IsQueue self.old.waiting self.old.distances }
+        ensures rest { self.new ≡ record self.old { waiting = self.new.waiting } }
+        ensures queue { IsQueue self.new.waiting self.new.distances }
+        ensures some { IfSome result (Leaves self.old.waiting self.new.waiting self.old.distances) }
+        ensures none { IsNone result ↔ (self.old.waiting.count ≡ 0) }
+        ensures same { IfNone result (self.new.waiting ≡ self.old.waiting) }
+    {
+        self.queue.take(&self.distances)
+    }
+
+    // Forgets that the node was found.
+    #[inline(always)]
+    fn forget_one(&mut self, node: u32)
+        requires { node < length self.old.distances }
+        ensures { self.new ≡ record self.old { distances = slice_set self.old.distances node far } }
+    {
+        self.distances[node as usize] = FAR;
+    }
+
+    // Forgets the nodes before that one.
+    fn forget(&mut self, nodes: u32)
+        requires { nodes ≤ length self.old.distances }
+        ensures rest { self.new ≡ record self.old { distances = self.new.distances } }
+        ensures each { length self.new.distances ≡ length self.old.distances }
+        ensures far_off { (node : ℕ) → node < nodes → slice_index self.new.distances node ≡ far }
+    {
+        for node in 0..nodes {
+            self.forget_one(node);
+        }
+    }
+
+    // Sets the distance of the node to 0, and no limit.
+    fn place(&mut self, node: u32)
+        requires { node < length self.old.distances }
+        ensures { self.new ≡ record self.old { distances = slice_set self.old.distances node 0; limit = far } }
+    {
+        self.distances[node as usize] = 0;
+        self.limit = FAR;
+    }
+
+    // Lets the node alone wait, at no distance.
+    fn start(&mut self, network: &Network, first: u32)
+        requires idle { IsIdle network.now.instance.steps self.old }
+        requires within { first ≤ network.now.instance.steps }
+        requires over { network.now.instance.steps < length network.now.over }
+        requires far_off { (node : ℕ) → node ≤ network.now.instance.steps → slice_index self.old.distances node ≡ far }
+        ensures search { IsSearch network.now first self.new }
+        ensures far_off { (node : ℕ) → node ≢ first → node ≤ network.now.instance.steps → slice_index self.new.distances node ≡ far }
+        ensures waits { Waits self.new.waiting first }
+        ensures each_distance { length self.new.distances ≡ length self.old.distances }
+        ensures each_parent { length self.new.parents ≡ length self.old.parents }
+    {
+        self.place(first);
+        self.aim(network, first);
+        self.enqueue(first);
+    }
+
+    // Lets no node wait.
+    fn empty(&mut self)
+        requires { IsQueue self.old.waiting self.old.distances }
+        ensures rest { self.new ≡ record self.old { waiting = self.new.waiting } }
+        ensures none { self.new.waiting.count ≡ 0 }
+        ensures queue { IsQueue self.new.waiting self.new.distances }
+    {
+        while let Some(_node) = self.take_nearest() {}
+    }
+
+    // Looks at the edges out of the nodes that wait, the nearest first, until none is nearer than the limit.
+    fn spread(&mut self, network: &Network, lists: &EdgeLists, from: u32)
+        requires ready { IsReady network.now }
+        requires high { IsHigh network.now }
+        requires search { IsSearch network.now from self.old }
+        requires settled { AreSettled network.now self.old }
+        requires lists { IsListed network.now.instance lists.now }
+        ensures search { IsSearch network.now from self.new }
+        ensures settled { (e : FlowEdge) → IsEdge network.now.instance e → IsSettled network.now self.new.distances self.new.limit e }
+        ensures each_distance { length self.new.distances ≡ length self.old.distances }
+        ensures each_parent { length self.new.parents ≡ length self.old.parents }
+    {
+        while let Some(node) = self.take_nearest() {
+            if self.distance(node) >= self.limit() {
+                return;
+            }
+            self.relax_from(network, lists, from, node);
+        }
+    }
+
+    /// Finds the distances from the node, as far as the nearest node with units over.
+    pub fn run(&mut self, network: &Network, lists: &EdgeLists, from: u32)
+        requires ready { IsReady network.now }
+        requires high { IsHigh network.now }
+        requires idle { IsIdle network.now.instance.steps self.old }
+        requires lists { IsListed network.now.instance lists.now }
+        requires from { from ≤ network.now.instance.steps }
+        ensures search { IsSearch network.now from self.new }
+        ensures settled { (e : FlowEdge) → IsEdge network.now.instance e → IsSettled network.now self.new.distances self.new.limit e }
+        ensures none { self.new.waiting.count ≡ 0 }
+        ensures room { KeepsRoom self.old self.new }
+    {
+        self.forget(network.steps() + 1);
+        self.start(network, from);
+        self.spread(network, lists, from);
+        self.empty();
+    }
+}

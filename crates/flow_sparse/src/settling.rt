@@ -1,0 +1,135 @@
+//! Turns: steps open, and the network of the open steps is repaired, until all steps fit.
+ghost use Rattle.std.specs.Prelude.{◌≡◌, ℕ, ◌+◌, ◌<◌, ◌≤◌, ◌^◌, IsTrue, false, length, slice_index, slice_index_or};
+ghost use Rattle.flow_model.specs.Instances.{IsInstance, IsSolution, load_at};
+ghost use Rattle.flow_sparse.specs.Contractions.{AreFull, AreOpen, IsSlack};
+ghost use Rattle.flow_sparse.specs.Openings.{Opens, shut_steps};
+ghost use Rattle.flow_sparse.specs.Rooms.{HasRoom, IsAtRest};
+
+use crate::lists::EdgeLists;
+use crate::network::Network;
+use crate::opening::open_fullest;
+use crate::repairing::repair;
+use crate::search::Search;
+use crate::starting::{open_priced, take_prices, write_falls};
+use flow_model::{Edge, Instance};
+
+// Makes prices and flows suit each other where the steps are open that the flags say, each of which is then within the units, and full
+// if it has a price.
+fn turn(
+    instance: &Instance,
+    opens: &[bool],
+    loads: &[u128],
+    prices: &mut [u128],
+    nodes: &mut [u32],
+    steps_of: &mut [u32],
+    path: &mut [Edge],
+    network: &mut Network,
+    lists: &mut EdgeLists,
+    search: &mut Search,
+)
+    requires fits { IsInstance instance.now }
+    requires room { HasRoom instance.now network.old lists.old search.old (length nodes.old) (length steps_of.old) (length path.old) }
+    requires each { length opens.now ≡ instance.now.steps }
+    requires slack { IsSlack instance.now prices.old network.old.flows.outer }
+    requires shut { AreOpen opens.now prices.old }
+    requires small { (t : ℕ) → t < instance.now.steps → slice_index prices.old t ≤ 2 ^ 97 }
+    requires loads { (instance.now.steps ≤ length loads.now) × ((t : ℕ) → t < instance.now.steps → slice_index loads.now t ≡ load_at instance.now.arcs network.old.flows.outer t) }
+    ensures room { HasRoom instance.now network.new lists.new search.new (length nodes.new) (length steps_of.new) (length path.new) }
+    ensures rests { IsAtRest instance.now opens.now prices.new network.new.flows.outer }
+{
+    network.open(instance, opens, loads, prices, nodes, steps_of);
+    lists.relist(network);
+    repair(network, lists, search, path);
+    network.write_prices(nodes, prices);
+}
+
+// Opens steps over which more flows than fits, and answers whether there are any.
+fn open_more(
+    instance: &Instance,
+    network: &Network,
+    opens: &mut [bool],
+    ending: &mut [u128],
+    loads: &mut [u128],
+) -> bool
+    requires fits { IsInstance instance.now }
+    requires each { length opens.old ≡ instance.now.steps }
+    requires each_arc { length network.now.flows.outer ≡ length instance.now.arcs }
+    requires small { (i : ℕ) → i < length network.now.flows.outer → slice_index network.now.flows.outer i ≤ 2 ^ 48 }
+    requires each_start { length loads.old ≡ instance.now.steps + 1 }
+    requires each_end { length ending.old ≡ instance.now.steps + 1 }
+    ensures opens { Opens opens.old opens.new }
+    ensures less { IsTrue result → shut_steps opens.new < shut_steps opens.old }
+    ensures same { (IsTrue result → ⊥) → opens.new ≡ opens.old }
+    ensures fit { (IsTrue result → ⊥) → (t : ℕ) → t < instance.now.steps → slice_index_or opens.new t false ≡ false → load_at instance.now.arcs network.now.flows.outer t ≤ instance.now.units }
+    ensures loads { (t : ℕ) → t < instance.now.steps → slice_index loads.new t ≡ load_at instance.now.arcs network.now.flows.outer t }
+    ensures each_start { length loads.new ≡ length loads.old }
+    ensures each_end { length ending.new ≡ length ending.old }
+{
+    network.write_loads(instance, ending, loads);
+    open_fullest(instance.units(), loads, opens)
+}
+
+/// Opens steps and repairs, until no step is over which more flows than fits.
+pub fn settle(
+    instance: &Instance,
+    opens: &mut [bool],
+    ending: &mut [u128],
+    loads: &mut [u128],
+    prices: &mut [u128],
+    nodes: &mut [u32],
+    steps_of: &mut [u32],
+    path: &mut [Edge],
+    network: &mut Network,
+    lists: &mut EdgeLists,
+    search: &mut Search,
+)
+    requires fits { IsInstance instance.now }
+    requires room { HasRoom instance.now network.old lists.old search.old (length nodes.old) (length steps_of.old) (length path.old) }
+    requires rests { IsAtRest instance.now opens.old prices.old network.old.flows.outer }
+    requires each_start { length loads.old ≡ instance.now.steps + 1 }
+    requires each_end { length ending.old ≡ instance.now.steps + 1 }
+    ensures { IsSolution instance.now prices.new network.new.flows.outer }
+{
+    while open_more(instance, network, opens, ending, loads) {
+        turn(
+            instance, opens, loads, prices, nodes, steps_of, path, network, lists, search,
+        );
+    }
+}
+
+/// Begins with prices: opens the steps that have one, and lets the flows suit them. Then it settles.
+pub fn settle_from(
+    instance: &Instance,
+    start: &[u128],
+    opens: &mut [bool],
+    ending: &mut [u128],
+    loads: &mut [u128],
+    prices: &mut [u128],
+    nodes: &mut [u32],
+    steps_of: &mut [u32],
+    path: &mut [Edge],
+    network: &mut Network,
+    lists: &mut EdgeLists,
+    search: &mut Search,
+)
+    requires fits { IsInstance instance.now }
+    requires room { HasRoom instance.now network.old lists.old search.old (length nodes.old) (length steps_of.old) (length path.old) }
+    requires each_price { length start.now ≡ instance.now.steps }
+    requires each_step { length prices.old ≡ instance.now.steps }
+    requires each_open { length opens.old ≡ instance.now.steps }
+    requires each_start { length loads.old ≡ instance.now.steps + 1 }
+    requires each_end { length ending.old ≡ instance.now.steps + 1 }
+    ensures { IsSolution instance.now prices.new network.new.flows.outer }
+{
+    take_prices(start, prices);
+    open_priced(prices, opens);
+    write_falls(prices, loads);
+    network.fit(instance, loads);
+    network.write_loads(instance, ending, loads);
+    turn(
+        instance, opens, loads, prices, nodes, steps_of, path, network, lists, search,
+    );
+    settle(
+        instance, opens, ending, loads, prices, nodes, steps_of, path, network, lists, search,
+    );
+}
