@@ -2,12 +2,15 @@
 //! all times between two open steps are one node.
 #![tactic(auto)]
 
+mod blocks;
+mod grain;
 mod laws;
 mod lists;
 mod loads;
 mod network;
 mod numbering;
 mod opening;
+mod priced;
 mod pushing;
 mod repairing;
 mod route;

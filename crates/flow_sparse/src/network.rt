@@ -10,7 +10,7 @@ ghost use Rattle.flow_sparse.specs.Starts.{IsFitted};
 ghost use Rattle.flow_sparse.specs.States.{CanPush, HasRoomFor, IsHigh, IsNetwork, IsReady, IsState, pushed};
 
 use crate::loads::{balance, write_loads};
-use crate::numbering::{contract, number, write_potentials, write_prices, write_weights};
+use crate::numbering::{contract, number, write_potentials, write_prices};
 use crate::pushing::push_along;
 use crate::starting::fit_flows;
 use flow_model::{Edge, Instance, OuterArc};
@@ -298,16 +298,6 @@ impl Network {
         ensures each_step { length prices.new ≡ length prices.old }
     {
         write_prices(nodes, &self.potentials, prices);
-    }
-
-    /// Lets each arc be full.
-    pub fn fill(&mut self, instance: &Instance)
-        requires { length self.old.flows.outer ≡ length instance.now.arcs }
-        ensures rest { self.new ≡ record self.old { flows = record { outer = self.new.flows.outer; inner = self.old.flows.inner } } }
-        ensures each { length self.new.flows.outer ≡ length self.old.flows.outer }
-        ensures full { (i : ℕ) → i < length instance.now.arcs → slice_index self.new.flows.outer i ≡ (arc_at instance.now.arcs i).weight }
-    {
-        write_weights(instance, &mut self.outer);
     }
 
     /// Gives each arc its weight as flow, unless it costs less than its steps' prices.

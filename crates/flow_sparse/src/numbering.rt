@@ -96,15 +96,3 @@ pub fn write_potentials(count: u32, steps_of: &[u32], prices: &[u128], potential
         potentials[node] = high;
     }
 }
-
-/// Writes the weight of each arc as its flow.
-pub fn write_weights(instance: &Instance, flows: &mut [u64])
-    requires { length flows.old ≡ length instance.now.arcs }
-    ensures each { length flows.new ≡ length flows.old }
-    ensures full { (i : ℕ) → i < length instance.now.arcs → slice_index flows.new i ≡ (arc_at instance.now.arcs i).weight }
-{
-    let arcs = instance.arcs();
-    for number in 0..flows.len() {
-        flows[number] = arcs[number].weight;
-    }
-}

@@ -10,7 +10,7 @@ use crate::network::Network;
 use crate::opening::open_fullest;
 use crate::repairing::repair;
 use crate::search::Search;
-use crate::starting::{open_priced, take_prices, write_falls};
+use crate::starting::{cut_prices, open_priced, write_falls};
 use flow_model::{Edge, Instance};
 
 // Makes prices and flows suit each other where the steps are open that the flags say, each of which is then within the units, and full
@@ -69,8 +69,8 @@ fn open_more(
     open_fullest(instance.units(), loads, opens)
 }
 
-/// Opens steps and repairs, until no step is over which more flows than fits.
-pub fn settle(
+// Opens steps and repairs, until no step is over which more flows than fits.
+fn open_all(
     instance: &Instance,
     opens: &mut [bool],
     ending: &mut [u128],
@@ -98,9 +98,8 @@ pub fn settle(
 }
 
 /// Begins with prices: opens the steps that have one, and lets the flows suit them. Then it settles.
-pub fn settle_from(
+pub fn settle(
     instance: &Instance,
-    start: &[u128],
     opens: &mut [bool],
     ending: &mut [u128],
     loads: &mut [u128],
@@ -114,14 +113,13 @@ pub fn settle_from(
 )
     requires fits { IsInstance instance.now }
     requires room { HasRoom instance.now network.old lists.old search.old (length nodes.old) (length steps_of.old) (length path.old) }
-    requires each_price { length start.now ≡ instance.now.steps }
     requires each_step { length prices.old ≡ instance.now.steps }
     requires each_open { length opens.old ≡ instance.now.steps }
     requires each_start { length loads.old ≡ instance.now.steps + 1 }
     requires each_end { length ending.old ≡ instance.now.steps + 1 }
     ensures { IsSolution instance.now prices.new network.new.flows.outer }
 {
-    take_prices(start, prices);
+    cut_prices(prices);
     open_priced(prices, opens);
     write_falls(prices, loads);
     network.fit(instance, loads);
@@ -129,7 +127,7 @@ pub fn settle_from(
     turn(
         instance, opens, loads, prices, nodes, steps_of, path, network, lists, search,
     );
-    settle(
+    open_all(
         instance, opens, ending, loads, prices, nodes, steps_of, path, network, lists, search,
     );
 }

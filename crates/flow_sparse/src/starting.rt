@@ -16,14 +16,13 @@ pub fn open_priced(prices: &[u128], opens: &mut [bool])
     }
 }
 
-/// Takes the prices, those above the greatest cost as that.
-pub fn take_prices(start: &[u128], prices: &mut [u128])
-    requires { length start.now ≡ length prices.old }
+/// Cuts prices above the greatest cost that an arc can have.
+pub fn cut_prices(prices: &mut [u128])
     ensures each { length prices.new ≡ length prices.old }
     ensures small { (t : ℕ) → t < length prices.old → slice_index prices.new t ≤ 2 ^ 97 }
 {
     for step in 0..prices.len() {
-        prices[step] = start[step].min(1 << 97);
+        prices[step] = prices[step].min(1 << 97);
     }
 }
 

@@ -7,7 +7,7 @@ ghost use Rattle.window_bounds.specs.Solutions.{AreLowered, AreSolutions, IsNext
 use crate::solution::WindowSolution;
 use bound_base::NoMemory;
 use flow_model::{Instance, OuterArc, Solution};
-use flow_solver::Solver;
+use flow_sparse::Solver;
 use flow_uniform::{Solver as UniformSolver, common_cost};
 use flow_windows::Windows;
 use std::alloc::Global;
