@@ -23,6 +23,8 @@ mod rounding;
 #[cfg(test)]
 mod solver;
 #[cfg(test)]
+mod sparse;
+#[cfg(test)]
 mod uniform;
 #[cfg(test)]
 mod values;

@@ -97,7 +97,8 @@ fn fits(steps: u32, arc: &OuterArc) -> bool
         && arc.cost <= 1 << 97
 }
 
-fn all_fit(steps: u32, arcs: &[OuterArc]) -> bool
+/// Whether the arcs are in their ranges.
+pub fn all_fit(steps: u32, arcs: &[OuterArc]) -> bool
     ensures { IsTrue result → All (IsArc steps) arcs.now }
 {
     for arc in arcs {
@@ -108,8 +109,8 @@ fn all_fit(steps: u32, arcs: &[OuterArc]) -> bool
     true
 }
 
-// The instance of arcs by start, end, weight and cost.
-fn instance_of(
+/// The instance of arcs by start, end, weight and cost.
+pub fn instance_of(
     rt: &impl Abort,
     alloc: Global,
     steps: u32,
@@ -170,7 +171,8 @@ fn earned(instance: &Instance, flows: &[u64]) -> u128 {
     sum
 }
 
-fn values(instance: &Instance, solution: &Solution) -> [u128; 2] {
+/// The value at the prices, and what the flows earn.
+pub fn values(instance: &Instance, solution: &Solution) -> [u128; 2] {
     [
         worth(instance, solution.prices()),
         earned(instance, solution.flows()),

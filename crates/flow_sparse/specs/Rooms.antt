@@ -9,7 +9,7 @@ use Rattle.flow_sparse.specs.Searches.{Found, IsIdle}
 -- there is room for all steps and arcs, and no search is under way
 pub record HasRoom (whole : Instance) (state : State) (lists : Lists) (found : Found) (nodes steps_of path : ℕ) : Type 0 where
   pub sized : IsSized whole state
-  pub first : whole.steps < length lists.first
+  pub first : length lists.first ≡ whole.steps + 2
   pub next : length lists.next ≡ 2 * length whole.arcs
   pub idle : IsIdle whole.steps found
   pub nodes_fit : nodes ≡ whole.steps + 1

@@ -1,5 +1,6 @@
 -- A search for the distance of nodes from one of them, as far as the nearest that has units over.
-use Rattle.std.specs.Prelude.{◌≡◌, ◌≢◌, ◌⊎◌, ℕ, ◌+◌, ◌*◌, ◌^◌, ◌<◌, ◌≤◌, List, length, slice_index, sum}
+use Rattle.std.specs.Prelude.{◌≡◌, ◌≢◌, ◌⊎◌, ℕ, ◌+◌, ◌-◌, ◌*◌, ◌^◌, ◌<◌, ◌≤◌, if◌then◌else◌, List, length, map, nat_lt, slice_index, sum}
+use Rattle.flow_model.specs.declared.arcs.OuterArc.{OuterArc}
 use Rattle.flow_model.specs.declared.edges.Edge.{Edge}
 use Rattle.flow_model.specs.Instances.{Instance}
 use Rattle.flow_model.specs.Networks.{tail, head, gain, loss, residual, IsEdge, IsTight}
@@ -96,11 +97,18 @@ pub record KeepsRoom (old new : Found) : Type 0 where
   pub placed : IsPlaced new.waiting
   pub none_waits : new.waiting.count ≡ 0
 
--- the lists have the outer edges out of each node
+-- the last list, which is no node's
+abbrev pub last_list : Lists → ℕ
+last_list lists = length lists.first - 1
+
+-- the arc, or where it leads from a node to itself, one that does so from the node past all
+abbrev pub without_loop : ℕ → OuterArc → OuterArc
+without_loop past arc = if nat_lt arc.start arc.end then arc else record arc { start = past; end = past }
+
+-- the lists have the outer edges out of each node, but in the last list are those that lead back to it
 pub record IsListed (instance : Instance) (lists : Lists) : Type 0 where
-  pub times : ℕ
-  pub few : instance.steps ≤ times
-  pub listed : AreListed (record instance { steps = times }) lists (2 * length instance.arcs)
+  pub few : instance.steps < last_list lists
+  pub listed : AreListed (record { steps = last_list lists; units = instance.units; arcs = map (without_loop (last_list lists)) instance.arcs }) lists (2 * length instance.arcs)
 
 -- under the lowered potentials the edge is tight, and leads to the node from one within the limit that was found before
 pub record IsHop (state : State) (found : Found) (times : ℕ → ℕ) (e : Edge) (node : ℕ) : Type 0 where

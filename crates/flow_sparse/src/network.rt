@@ -1,11 +1,12 @@
 //! The network of the open steps.
-ghost use Rattle.std.specs.Prelude.{◌≡◌, ℕ, ◌+◌, ◌-◌, ◌*◌, ◌≤◌, ◌<◌, ◌^◌, All, length, map, slice_index, slice_set};
+ghost use Rattle.std.specs.Prelude.{◌≡◌, ◌⊎◌, ℕ, ◌+◌, ◌-◌, ◌*◌, ◌≤◌, ◌<◌, ◌^◌, All, length, map, slice_index, slice_set};
 ghost use Rattle.flow_model.specs.Networks.{IsEdge, residual, tail, head, gain, loss};
 ghost use Rattle.flow_model.specs.Pushes.{IsSimple, push_path};
 ghost use Rattle.flow_parts.specs.OuterEdges.{tail_of};
 ghost use Rattle.flow_model.specs.Instances.{IsInstance, arc_at, load_at};
 ghost use Rattle.flow_sparse.specs.Loads.{AreBalanced};
 ghost use Rattle.flow_sparse.specs.Contractions.{AreOpen, IsNumbering, IsSized, IsSlack, between, contracted};
+ghost use Rattle.flow_sparse.specs.Searches.{without_loop};
 ghost use Rattle.flow_sparse.specs.Starts.{IsFitted};
 ghost use Rattle.flow_sparse.specs.States.{CanPush, HasRoomFor, IsHigh, IsNetwork, IsReady, IsState, pushed};
 
@@ -122,14 +123,15 @@ impl Network {
         }
     }
 
-    /// The node that the outer edge of that number leads out of.
-    pub fn tail_of(&self, number: u32) -> u32
+    /// The node that the outer edge of that number leads out of, or the one past all where it leads back to it.
+    pub fn list_of(&self, number: u32, past: u32) -> u32
         requires fits { IsNetwork self.now.instance }
         requires number { number < 2 * length self.now.instance.arcs }
-        ensures tail { result ≡ tail_of self.now.instance.arcs number }
-        ensures within { result ≤ self.now.instance.steps }
+        ensures list { result ≡ tail_of (map (without_loop past) self.now.instance.arcs) number }
+        ensures within { (result ≤ self.now.instance.steps) ⊎ (result ≡ past) }
     {
-        self.hop(outer_edge(self.arc_count(), number)).tail
+        let hop = self.hop(outer_edge(self.arc_count(), number));
+        if hop.tail == hop.head { past } else { hop.tail }
     }
 
     /// The potential of the node.

@@ -75,10 +75,10 @@ fn network_of(alloc: Global, instance: &Instance) -> Result<Network, NoMemory>
 
 // Lists with room for the instance.
 fn lists_of(alloc: Global, instance: &Instance) -> Result<EdgeLists, NoMemory>
-    ensures first { IfOk result (λ lists. instance.now.steps < length lists.first) }
+    ensures first { IfOk result (λ lists. length lists.first ≡ instance.now.steps + 2) }
     ensures next { IfOk result (λ lists. length lists.next ≡ 2 * length instance.now.arcs) }
 {
-    let first = vec![in alloc; 0; instance.steps() as usize + 1]?;
+    let first = vec![in alloc; 0; instance.steps() as usize + 2]?;
     let next = vec![in alloc; 0; 2 * instance.arcs().len()]?;
     Ok(EdgeLists { first, next })
 }
