@@ -1,5 +1,5 @@
 -- Outer edges that lead from a node to itself stand in no node's list, and are settled at any distances.
-use Rattle.std.proofs.Common.{◌≡◌, ◌≢◌, ◌∙◌, ℕ, ◌+◌, ◌-◌, ◌*◌, ◌<◌, ◌≤◌, ap, sym, refl, subst, cond, nat_lt, List, length, map, min, arith, ⊎_elim, slice_index, All}
+use Rattle.std.proofs.Common.{◌≡◌, ◌≢◌, ◌∙◌, ℕ, ◌*◌, ◌<◌, ◌≤◌, ap, sym, refl, cond, List, length, map, arith, ⊎_elim, slice_index}
 use Rattle.std.proofs.lemmas.Bool.{cases_lt, cases_eq, lt-ltb, le-ltb}
 use Rattle.std.proofs.lemmas.List.{get_or-map, length-map}
 use Rattle.flow_model.specs.declared.arcs.OuterArc.{OuterArc}

@@ -1,5 +1,5 @@
 -- What a solver works on.
-use Rattle.std.specs.Prelude.{◌≡◌, ℕ, ◌+◌, ◌*◌, ◌<◌, ◌≤◌, Bool, List, length}
+use Rattle.std.specs.Prelude.{◌≡◌, ℕ, ◌+◌, ◌*◌, ◌≤◌, Bool, List, length}
 use Rattle.flow_model.specs.Instances.{Instance, IsInstance}
 use Rattle.flow_parts.specs.OuterEdges.{Lists}
 use Rattle.flow_sparse.specs.States.{State}

@@ -10,8 +10,11 @@ use flow_model::{Instance, OuterArc};
 use flow_windows::Windows;
 use std::alloc::Global;
 
-/// How many steps the narrowest blocks have.
-const NARROWEST: u32 = 4096;
+/// At most so many blocks are settled first. With more of them most arcs of a long trace would be in many.
+const MOST_BLOCKS: u32 = 64;
+
+/// How many steps a block at least has. With fewer it would cost more to make than it saves.
+const FEWEST_STEPS: u32 = 1024;
 
 /// How many times as wide the blocks of the next level are.
 const WIDER: u32 = 4;
@@ -123,7 +126,15 @@ fn settle_level(
     let mut first = 0;
     while windows.has_step() {
         let past = steps.min(first + width);
-        settle_block(alloc, instance, windows.numbers(), first, past, sums, prices)?;
+        settle_block(
+            alloc,
+            instance,
+            windows.numbers(),
+            first,
+            past,
+            sums,
+            prices,
+        )?;
         write_sums(prices, first as usize, past as usize, sums);
         windows.advance();
         first += width;
@@ -139,11 +150,11 @@ pub fn first_prices(alloc: Global, instance: &Instance) -> Result<Vec<u128>, NoM
     let steps = instance.steps();
     let arcs = instance.arcs().len();
     let mut prices = grain_prices(alloc, instance)?;
-    if steps / 2 < NARROWEST || arcs == 0 {
+    if steps / 2 < FEWEST_STEPS || arcs == 0 {
         return Ok(prices);
     }
     let mut sums = vec![in alloc; 0; steps as usize + 1]?;
-    let mut width = NARROWEST;
+    let mut width = FEWEST_STEPS.max(steps / MOST_BLOCKS);
     while width <= steps / 2 {
         settle_level(alloc, instance, width, &mut sums, &mut prices)?;
         width *= WIDER;

@@ -1,4 +1,4 @@
-use Rattle.std.proofs.Common.{◌≡◌, ◌-◌, ◌<◌, ◌≤◌, ◌+◌, length}
+use Rattle.std.proofs.Common.{◌≡◌, ◌-◌, ◌<◌, ◌+◌, length}
 use Rattle.flow_sparse.proofs.blocks.first_prices.Given as goal
 
 abbrev pub invariant-loop-width : goal.invariant-loop-width
