@@ -1,0 +1,4 @@
+pub mod LineParts
+pub mod ReadBack
+pub mod Growing
+mod Rows
