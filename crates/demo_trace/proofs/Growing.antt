@@ -1,6 +1,6 @@
 -- A trace that is drawn and a text of lines, one request further.
-use Rattle.std.proofs.Common.{◌≡◌, ℕ, suc, ◌+◌, ◌-◌, ◌<◌, ◌∙◌, sym, ap, List, [], ◌∷◌, ◌++◌, length, drop, arith, append_assoc}
-use Rattle.std.proofs.lemmas.List.{drop_more}
+use Rattle.std.proofs.Common.{◌≡◌, ℕ, suc, ◌+◌, ◌-◌, ◌<◌, ◌≤◌, ◌∙◌, sym, ap, List, [], ◌∷◌, ◌++◌, length, drop, arith, append_assoc, append-nil}
+use Rattle.std.proofs.lemmas.List.{drop_more, drop_all}
 use Rattle.cache_model.specs.declared.objects.Object.{Object}
 use Rattle.cache_model.specs.Claim.{no_object, request_at}
 use Rattle.cache_model.specs.Texts.{line, text_of}
@@ -23,3 +23,8 @@ pub next_line : (text : List ℕ) (trace : List Object) (t : ℕ) → t < length
 next_line text trace t below =
     append_assoc text (line (webcache_line (t + 1) (request_at trace t))) (text_of (lines_from (t + 1 + 1) (drop (t + 1) trace)))
     ∙ ap (λ xs. text ++ text_of (lines_from (t + 1) xs)) (sym (drop_more trace t no_object below))
+
+-- no line is left
+pub all_written : (text whole : List ℕ) (trace : List Object) (t : ℕ) → length trace ≤ t → text ++ text_of (lines_from (t + 1) (drop t trace)) ≡ whole → text ≡ whole
+all_written text whole trace t past is =
+    sym (append-nil text) ∙ (ap (λ xs. text ++ text_of (lines_from (t + 1) xs)) (sym (drop_all t trace past)) ∙ is)

@@ -1,7 +1,10 @@
 //! Writing the lines.
-ghost use Rattle.std.specs.Prelude.{◌≡◌, IfOk};
+ghost use Rattle.std.specs.Prelude.{◌≡◌, All, IfOk};
 ghost use Rattle.cache_model.specs.Texts.{line};
-ghost use Rattle.demo_trace.specs.Lines.{webcache_line, webcache_text};
+ghost use Rattle.trace_any.specs.Readings.{full_limits, reading};
+ghost use Rattle.trace_any.specs.declared.format.Format.TheVariants.{Webcache};
+ghost use Rattle.demo_trace.specs.Laws.{read_whole};
+ghost use Rattle.demo_trace.specs.Lines.{IsWritable, webcache_line, webcache_text};
 
 use bound_base::NoMemory;
 use cache_model::Object;
@@ -26,9 +29,11 @@ fn line_of(number: u32, object: &Object) -> LineText<ROOM>
     text
 }
 
-/// The lines of a webcache trace that ask for these requests, which are numbered from 1.
+/// The lines of a webcache trace that ask for these requests, which are numbered from 1. Where a line can say what each
+/// request asks for, they are read back as this trace.
 pub fn webcache_text(alloc: Global, trace: &Trace) -> Result<Vec<u8>, NoMemory>
-    ensures { IfOk result (λ text. text.items ≡ webcache_text trace.now) }
+    ensures text { IfOk result (λ text. text.items ≡ webcache_text trace.now) }
+    ensures read { All IsWritable trace.now → IfOk result (λ text. reading Webcache full_limits text.items ≡ read_whole trace.now) }
 {
     let mut text = Vec::with_capacity(alloc, trace.len() as usize * USUAL)?;
     for t in 0..trace.len() {

@@ -1,8 +1,11 @@
 use Rattle.std.proofs.Common.{◌≡◌, ◌+◌, ◌∙◌, ◌++◌, Some, ap, arith, sym}
 use Rattle.cache_model.specs.Claim.{request_at}
 use Rattle.cache_model.specs.Texts.{line}
-use Rattle.demo_trace.specs.Lines.{webcache_line}
-use Rattle.demo_trace.proofs.Growing.{next_line}
+use Rattle.trace_any.specs.declared.format.Format.TheVariants.{Webcache}
+use Rattle.trace_any.specs.Readings.{full_limits, reading}
+use Rattle.demo_trace.specs.Lines.{webcache_line, webcache_text}
+use Rattle.demo_trace.proofs.Growing.{all_written, next_line}
+use Rattle.demo_trace.proofs.ReadBack.{written_read}
 use Rattle.demo_trace.proofs.lines.webcache_text.Goals as goal
 
 pub loop-t-preserved : goal.loop-t-preserved
@@ -14,3 +17,9 @@ loop-t-preserved c =
     let bytes = c.as_bytes.ensures.text ∙ c.line_of.ensures ∙ ap (λ x. line (webcache_line (t + 1) x)) object in
     let written : c.extend_from_slice.new.self.items ≡ c.loop-t.text.items ++ line (webcache_line (t + 1) (request_at trace t)) = c.in_ok-extend_from_slice.ensures.items ∙ ap (λ b. c.loop-t.text.items ++ b) bytes in
     rw written (next_line c.loop-t.text.items trace t (omega (arith, c.loop-t-test.true, c.len-t-end.ensures.requests)) ∙ c.loop-t.invariant)
+
+pub returns-clause-read : goal.returns-clause-read
+returns-clause-read c = λ each.
+    let trace = c.args.trace.now in
+    let whole = all_written c.loop-t.text.items (webcache_text trace) trace c.loop-t.t (omega (arith, c.loop-t-test.false, c.len-t-end.ensures.requests)) c.loop-t.invariant in
+    ap (reading Webcache full_limits) whole ∙ written_read trace (omega (arith, c.len-t-end.ensures)) each
