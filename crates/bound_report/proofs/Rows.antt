@@ -7,6 +7,8 @@ use Rattle.cache_model.specs.Texts.{text_of}
 use Rattle.bound_report.specs.declared.facts.Mode.TheVariants.{Flow, Infinite}
 use Rattle.bound_report.specs.declared.facts.Window.TheVariants.{All as Whole}
 use Rattle.bound_report.specs.Reports.{report_text}
+use Rattle.replay_core.specs.declared.counts.Replay.{Replay}
+use Rattle.bound_report.specs.Demos.{demo_text}
 
 -- two requests of size 4 at capacity 10
 abbrev pair_header : Bool → ℕ → Header
@@ -37,3 +39,20 @@ infinite_report : report_text (record { header = pair_header false 0; objects = 
     ∷ [])
 unfolding digits
 infinite_report = refl
+
+-- two requests of one object of size 1
+abbrev one_hit : Replay
+one_hit = record { hits = 1; bytes = 1 }
+
+demo_of_two : demo_text (record { seed = 1; requests = 2; objects = 1; capacity = 65536 }) (codes "lower 1\n") (record { lru = one_hit; fifo = one_hit; clock = one_hit; lfu = one_hit; belady = one_hit }) ≡ text_of (
+    codes "demo seed 1 requests 2 objects 1 capacity 65536"
+    ∷ codes "lower 1"
+    ∷ codes "check valid"
+    ∷ codes "replay lru hits 1 bytes 1"
+    ∷ codes "replay fifo hits 1 bytes 1"
+    ∷ codes "replay clock hits 1 bytes 1"
+    ∷ codes "replay lfu hits 1 bytes 1"
+    ∷ codes "replay belady hits 1 bytes 1"
+    ∷ [])
+unfolding digits
+demo_of_two = refl

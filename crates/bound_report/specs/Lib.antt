@@ -2,3 +2,4 @@ pub mod Reports
 pub mod Refusals
 pub mod Verdicts
 pub mod Replays
+pub mod Demos

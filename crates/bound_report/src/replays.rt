@@ -22,8 +22,8 @@ pub struct ReplayFacts {
     pub replay: Replay,
 }
 
-// The word of a policy.
-fn word_of_policy(policy: PolicyName) -> &'static [u8]
+/// The word of a policy.
+pub(crate) fn word_of_policy(policy: PolicyName) -> &'static [u8]
     ensures word { result.now ≡ policy_word policy }
     ensures short { length result.now ≤ 6 }
 {
