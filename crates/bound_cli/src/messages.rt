@@ -16,11 +16,13 @@ pub const STANDARD_INPUT: &str = "standard input";
 pub const STANDARD_OUTPUT: &str = "standard output";
 
 /// The commands with their operands, a line each.
-pub const USAGE: [&str; 5] = [
+pub const USAGE: [&str; 7] = [
     "usage: bound_cli bounds TRACE CERT format=FORM capacity=BYTES [block=BYTES]",
     "           [objective=OBJECTIVE] [mode=MODE] [window=STEPS] [denominator=NUMBER]",
     "       bound_cli check TRACE CERT format=FORM [block=BYTES]",
     "       bound_cli replay TRACE format=FORM capacity=BYTES policy=POLICY [block=BYTES] [warmup=REQUESTS]",
+    "       bound_cli demo [seed=NUMBER] [requests=NUMBER] [objects=NUMBER] [capacity=BYTES]",
+    "           [objective=OBJECTIVE] [mode=MODE] [window=STEPS] [denominator=NUMBER]",
     "       bound_cli help",
 ];
 
@@ -30,13 +32,16 @@ pub const PURPOSE: &str =
 replacement policy can exceed, a schedule that comes close to it, and a certificate of both.
 ";
 
-/// What stands for what, and three examples.
+/// What stands for what, and four examples.
 pub const EXAMPLES: &str = "
 FORM is webcache, arc or msr, OBJECTIVE is object or bytes, MODE is flow, constant or infinite,
 POLICY is lru, fifo, clock, lfu or belady.
 A path - is the standard input or output. The report goes to the standard output.
 
+A demo draws a trace of its own and shows its bounds, that they are checked, and the hits of each policy.
+
 examples:
+  bound_cli demo
   bound_cli bounds examples/build-files.webcache build.cert format=webcache capacity=8388608
   bound_cli check examples/build-files.webcache build.cert format=webcache
   bound_cli replay examples/build-files.webcache format=webcache capacity=8388608 policy=lru
@@ -71,6 +76,8 @@ fn values_of(name: &str) -> Option<&'static str> {
         "denominator" => Some("auto, exact, or digits alone, from 1 to 281474976710656"),
         "policy" => Some("lru, fifo, clock, lfu or belady"),
         "warmup" => Some("digits alone, from 0 to 33554432"),
+        "seed" => Some("digits alone, from 0 to 18446744073709551615"),
+        "requests" | "objects" => Some("digits alone, from 1 to 33554432"),
         _ => None,
     }
 }
@@ -80,6 +87,7 @@ fn operands_of(command: &str) -> &'static str {
     match command {
         "check" => "format and block",
         "replay" => "format, capacity, policy, block and warmup",
+        "demo" => "seed, requests, objects, capacity, objective, mode, window and denominator",
         _ => "format, capacity, block, objective, mode, window and denominator",
     }
 }
@@ -136,6 +144,7 @@ fn first_missing(words: &[String]) -> &'static str {
 // Which path stands at a place.
 fn path_at(words: &[String], place: u64) -> Option<&'static str> {
     match (word_at(words, 1), place) {
+        ("demo", _) => None,
         (_, 2) => Some("trace"),
         ("bounds" | "check", 3) => Some("certificate"),
         _ => None,
@@ -159,15 +168,17 @@ fn missing(alloc: Global, words: &[String], place: u64) -> Result<String, AllocE
 fn unknown(alloc: Global, words: &[String], place: u64) -> Result<String, AllocError> {
     let word = word_at(words, place);
     if place == 1 {
-        return format!(in alloc; "{word}: no command; the commands are bounds, check and replay");
+        return format!(in alloc; "{word}: no command; the commands are bounds, check, replay and demo");
     }
     if word.as_bytes().starts_with(b"--") {
         return format!(in alloc; "{word}: operands have no dashes, as format=webcache");
     }
     let command = word_at(words, 1);
     match name_of(word) {
-        "block" => format!(in alloc; "{word}: a block goes with format=msr alone"),
-        "window" if command == "bounds" => {
+        "block" if command != "demo" => {
+            format!(in alloc; "{word}: a block goes with format=msr alone")
+        }
+        "window" if command == "bounds" || command == "demo" => {
             format!(in alloc; "{word}: a window goes with mode=flow alone")
         }
         _ => {

@@ -11,6 +11,7 @@ use std::process::Abort;
 
 mod checks;
 mod command_line;
+mod demos;
 mod faults;
 mod flow;
 mod modes;

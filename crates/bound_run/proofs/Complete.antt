@@ -27,16 +27,17 @@ use Rattle.cert_checker.specs.Rules.{found, first_some, record_fault, end_fault}
 use Rattle.cert_checker.specs.Walks.{Event, at_line, events_at, last_events, refusal_event, text_event, walk, walk_under}
 use Rattle.cert_checker.specs.Walks as walks
 use Rattle.cert_checker.proofs.Walked.{passing_is_valid_lem}
-use Rattle.bound_run.specs.Asked.{Asked, Replaying}
+use Rattle.bound_run.specs.Asked.{Asked, Drawing, Replaying}
 use Rattle.bound_run.specs.declared.words.Plan.{Plan}
 use Rattle.bound_run.specs.declared.words.WordFault.{WordFault}
 use Rattle.bound_run.specs.declared.status.Status.{Status}
 use Rattle.bound_run.specs.declared.status.Status.TheVariants.{Done, Invalid, Words, BadLine, Limit, TraceFault, CertFault, ReportFault, MadeFault, NoMemory}
+use Rattle.bound_run.specs.Demos.{trace_drawn}
 use Rattle.bound_run.specs.Made.{RefusesDenominator}
 use Rattle.bound_run.specs.Inputs.{HasDenominator, IsGoodTrace}
-use Rattle.bound_run.specs.Run.{AnswersOf, Answers, AreGoodInputs, BoundsEnd, CheckEnds, Completes, Devices, NoneFails, ReplayEnds, RunEnds, TaskEnds}
+use Rattle.bound_run.specs.Run.{AnswersOf, Answers, AreGoodInputs, BoundsEnd, CheckEnds, Completes, DemoEnds, Devices, NoneFails, ReplayEnds, RunEnds, TaskEnds}
 use Rattle.bound_run.specs.Statuses.{ending_of}
-use Rattle.bound_run.specs.Tasks.{Task, bounds, check, replay, task_of}
+use Rattle.bound_run.specs.Tasks.{Task, bounds, check, replay, demo, task_of}
 
 -- ---- the walk over a trace that isn't refused
 
@@ -188,6 +189,23 @@ module _ (format : Format) (r : Replaying) (source report : Device) (good : IsGo
   replay_complete (Words fault) e = absurd e.0
   replay_complete CertFault e = absurd e.0
 
+-- ---- demos
+
+module _ (drawing : Drawing) (asked : Asked) (report : Device) (denominator : ¬ (RefusesDenominator asked (trace_drawn drawing))) (report_works : ¬ (HasFailed report)) where
+  demo_complete : (status : Status) → DemoEnds drawing asked report (ending_of status) → (status ≡ Done) ⊎ (status ≡ NoMemory)
+  demo_complete Done e = inl refl
+  demo_complete NoMemory e = inr refl
+  demo_complete (BadLine line kind) e = absurd e.0
+  demo_complete (Limit Requests) e = absurd e.0
+  demo_complete (Limit TraceBytes) e = absurd e.0
+  demo_complete (Limit Denominator) e = absurd (denominator e.0)
+  demo_complete TraceFault e = absurd e.0
+  demo_complete ReportFault (text, shows, failed) = absurd (report_works failed.0)
+  demo_complete MadeFault e = absurd e.0
+  demo_complete (Invalid line kind) e = absurd e.0
+  demo_complete (Words fault) e = absurd e.0
+  demo_complete CertFault e = absurd e.0
+
 -- ---- a whole run
 
 -- a task whose inputs are good ends in its answer
@@ -196,6 +214,7 @@ module _ (d : Devices) (status : Status) (works : NoneFails d) where
   task_complete (bounds format asked) e inputs = bounds_complete format asked d.trace d.report d.made inputs.0 inputs.1 works.trace works.report works.made status e.0
   task_complete (replay format r) e inputs = replay_complete format r d.trace d.report inputs works.trace works.report status e.0
   task_complete (check format) e inputs = check_complete format d.trace d.cert d.report inputs.0 inputs.1 works.trace works.cert works.report status e.0
+  task_complete (demo drawing asked) e inputs = demo_complete drawing asked d.report inputs works.report status e.0
 
 pub complete : (read : Result Plan WordFault) (d : Devices) (status : Status) → RunEnds read d status → Completes read d status
 complete (Ok plan) d status ends = λ good works. task_complete d status works (task_of plan) ends good

@@ -11,10 +11,11 @@ use Rattle.bound_run.specs.declared.words.Plan.{Plan}
 use Rattle.bound_run.specs.declared.words.WordFault.{WordFault}
 use Rattle.bound_run.specs.declared.status.Status.{Status}
 use Rattle.bound_run.specs.declared.status.Status.TheVariants.{Done, Words}
+use Rattle.bound_run.specs.Demos.{trace_drawn}
 use Rattle.bound_run.specs.Headline.{AreTrueBounds, Headline, Shows}
 use Rattle.bound_run.specs.Run.{Devices, RunEnds, TaskEnds}
 use Rattle.bound_run.specs.Statuses.{done, ending_of}
-use Rattle.bound_run.specs.Tasks.{Task, bounds, check, replay, task_of}
+use Rattle.bound_run.specs.Tasks.{Task, bounds, check, replay, demo, task_of}
 
 -- a valid certificate has true bounds
 true_bounds : (trace : List Object) (h : Header) (records : List Record) → IsValid trace h records → BoundsEveryPolicy trace h → AreTrueBounds trace h records
@@ -68,6 +69,19 @@ shown (replay format r) d ((text, replayed, printed), source, cert, made) = (
   replayed.loaded,
   record { text = text; printed = printed; replay = replayed.report },
 )
+shown (demo drawing asked) d ((text, shows, printed), trace, cert, made) =
+    let is = shows.made in
+    record {
+      header = shows.header;
+      records = shows.records;
+      price = shows.price;
+      replays = shows.replays;
+      printed = subst (λ t. Appends d.report.before d.report.after t) shows.text_is printed;
+      capacity = is.of_capacity;
+      objective = is.of_objective;
+      bounds = true_bounds (trace_drawn drawing) shows.header shows.records is.valid is.bounds;
+      replayed = shows.replayed;
+    }
 
 pub headlined : (read : Result Plan WordFault) (d : Devices) (status : Status) → RunEnds read d status → status ≡ Done → Headline read d
 headlined (Ok plan) d status ends is = shown (task_of plan) d (subst (λ s. TaskEnds (task_of plan) d (ending_of s)) is ends)

@@ -10,3 +10,4 @@ pub mod WordRows
 pub mod Headlined
 pub mod Bounded
 pub mod Replayed
+pub mod Demonstrated

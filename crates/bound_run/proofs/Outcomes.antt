@@ -13,7 +13,7 @@ use Rattle.trace_any.specs.declared.format.Format.{Format}
 use Rattle.trace_any.specs.Readings.{full_limits}
 use Rattle.trace_any.specs.Readers.{IsNotLoaded, IsWhole, fresh, to_come, known}
 use Rattle.trace_any.proofs.Coming.{fresh_to_come}
-use Rattle.bound_run.specs.Asked.{Asked, Replaying}
+use Rattle.bound_run.specs.Asked.{Asked, Drawing, Replaying}
 use Rattle.bound_run.specs.declared.bounds.BoundsFault.{BoundsFault}
 use Rattle.bound_run.specs.declared.bounds.BoundsFault.TheVariants as bounds
 use Rattle.bound_run.specs.BoundsFaults.{FailsBounds}
@@ -24,8 +24,9 @@ use Rattle.bound_report.specs.declared.refusal.Refusal.{Refusal}
 use Rattle.bound_report.specs.declared.refusal.Refusal.TheVariants as refusal
 use Rattle.bound_report.specs.Refusals.{refusal_line}
 use Rattle.bound_run.specs.Statuses.{Ending, done, refused, unreported, ending_of, refusal_of, refusal_of_bounds, status_of}
+use Rattle.bound_run.specs.Demos.{IsDemoText, RefusesDemo, trace_drawn}
 use Rattle.bound_run.specs.Inputs.{IsLoaded, IsReady, IsRefused, IsReplayed}
-use Rattle.bound_run.specs.Run.{BoundsEnd, CheckEnds, ReplayEnds}
+use Rattle.bound_run.specs.Run.{BoundsEnd, CheckEnds, DemoEnds, ReplayEnds}
 use Rattle.bound_run.specs.Parts.{IsVerdictText, RefusesBounds, RefusesLoading, WritesOut, WritesReport}
 
 -- where nothing is left to stand in, the source has nothing left
@@ -120,3 +121,17 @@ module _ (format : Format) (r : Replaying) (source report : Device) where
   replay_written text done replayed all = (text, replayed, all)
   replay_written text unreported replayed less = (text, replayed, less)
   replay_written text (refused why) replayed written = absurd written
+
+-- ---- demos
+
+module _ (drawing : Drawing) (asked : Asked) (report : Device) where
+  -- a demo that was reported, or failed to be
+  pub demo_written : (text : List ℕ) (ending : Ending) → IsDemoText drawing asked text → WritesReport report text ending → DemoEnds drawing asked report ending
+  demo_written text done shows all = (text, shows, all)
+  demo_written text unreported shows less = (text, shows, less)
+  demo_written text (refused why) shows written = absurd written
+
+-- what refuses the bounds of the trace refuses the demo
+pub demo_refused : (drawing : Drawing) (asked : Asked) (fault : BoundsFault) → FailsBounds asked (trace_drawn drawing) fault → RefusesDemo drawing asked (refusal_of_bounds fault)
+demo_refused drawing asked bounds.Denominator why = why
+demo_refused drawing asked bounds.NoMemory why = tt

@@ -1,10 +1,11 @@
 -- The words of the command line, at small rows, computed.
 use Rattle.std.proofs.Common.{◌≡◌, ℕ, List, [], ◌∷◌, codes, Ok, Err, refl}
 use Rattle.cache_model.specs.declared.objects.Objective.TheVariants.{Object as Hits, Bytes}
-use Rattle.bound_report.specs.declared.facts.Mode.TheVariants.{Constant, Infinite}
-use Rattle.relaxation.specs.declared.denominators.DenominatorChoice.TheVariants.{Exact, Given}
+use Rattle.bound_report.specs.declared.facts.Mode.TheVariants.{Constant, Flow, Infinite}
+use Rattle.bound_report.specs.declared.facts.Window.TheVariants.{All as Whole}
+use Rattle.relaxation.specs.declared.denominators.DenominatorChoice.TheVariants.{Auto, Exact, Given}
 use Rattle.trace_any.specs.declared.format.Format.TheVariants.{Webcache, Arc, Msr}
-use Rattle.bound_run.specs.declared.words.Plan.TheVariants.{Bounds, Check}
+use Rattle.bound_run.specs.declared.words.Plan.TheVariants.{Bounds, Check, Demo}
 use Rattle.bound_report.specs.declared.refusal.WordKind.TheVariants.{Missing, Unknown, Twice, BadValue}
 use Rattle.bound_run.specs.Words.{fault, plan}
 
@@ -93,3 +94,32 @@ both_dashes = refl
 form_first : plan (codes "check" ∷ codes "-" ∷ codes "-" ∷ []) ≡ Err (fault 4 Missing)
 unfolding plan
 form_first = refl
+
+-- a demo needs no operand
+usual_demo : plan (codes "demo" ∷ []) ≡ Ok (Demo 1 2000 200 65536 Hits (Flow Whole) Auto)
+unfolding plan
+usual_demo = refl
+
+chosen_demo : plan (codes "demo" ∷ codes "seed=0" ∷ codes "objects=1" ∷ codes "mode=infinite" ∷ codes "capacity=1" ∷ codes "requests=33554432" ∷ codes "objective=bytes" ∷ [])
+    ≡ Ok (Demo 0 33554432 1 1 Bytes Infinite (Given 1))
+unfolding plan
+chosen_demo = refl
+
+-- it reads no trace, and has no warm-up
+no_form : plan (codes "demo" ∷ codes "format=webcache" ∷ []) ≡ Err (fault 2 Unknown)
+unfolding plan
+no_form = refl
+
+-- a window beside another mode
+demo_window : plan (codes "demo" ∷ codes "seed=1" ∷ codes "window=3" ∷ codes "mode=constant" ∷ []) ≡ Err (fault 3 Unknown)
+unfolding plan
+demo_window = refl
+
+-- the largest seed is below 2^64, and no request is no demo
+large_seed : plan (codes "demo" ∷ codes "seed=18446744073709551616" ∷ []) ≡ Err (fault 2 BadValue)
+unfolding plan
+large_seed = refl
+
+no_request : plan (codes "demo" ∷ codes "requests=0" ∷ []) ≡ Err (fault 2 BadValue)
+unfolding plan
+no_request = refl

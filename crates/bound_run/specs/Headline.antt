@@ -12,14 +12,17 @@ use Rattle.bound_report.specs.Reports.{report_text}
 use Rattle.cache_model.specs.Units.{HasWholeCosts}
 use Rattle.cert_checker.specs.declared.verdict.Verdict.{Verdict}
 use Rattle.bound_report.specs.Verdicts.{verdict_text}
-use Rattle.bound_run.specs.Asked.{Asked, Replaying}
+use Rattle.bound_run.specs.Asked.{Asked, Drawing, Replaying}
 use Rattle.bound_run.specs.declared.words.Plan.{Plan}
 use Rattle.bound_run.specs.declared.words.WordFault.{WordFault}
+use Rattle.bound_report.specs.declared.demo.PolicyReplays.{PolicyReplays}
+use Rattle.bound_report.specs.Demos.{demo_text}
+use Rattle.bound_run.specs.Demos.{AreReplays, demo_facts, trace_drawn}
 use Rattle.bound_run.specs.Inputs.{IsLoaded}
 use Rattle.bound_run.specs.Made.{facts_of, is_unwindowed}
 use Rattle.bound_run.specs.Replays.{IsReplayText}
 use Rattle.bound_run.specs.Run.{Devices}
-use Rattle.bound_run.specs.Tasks.{Task, bounds, check, replay, task_of}
+use Rattle.bound_run.specs.Tasks.{Task, bounds, check, replay, demo, task_of}
 
 -- the bounds of a certificate are true of the trace: no allowed contents score more than the upper one, the keeps are allowed contents that scores the lower one, and in the form exact prices and flows have the upper one as their value
 pub record AreTrueBounds (trace : List Object) (h : Header) (records : List Record) : Type 0 where
@@ -56,11 +59,24 @@ pub record ShowsReplay (r : Replaying) (trace : List Object) (dropped : ℕ) (re
   pub printed : Appends report.before report.after text
   pub replay : IsReplayText r trace dropped text
 
--- all that the trace source had left was read, and the numbers that a task printed are true of it
+-- a demo printed true bounds of the trace that it drew, and the hits of each rule's run on it, which no valid certificate is below
+pub record ShowsDemo (drawing : Drawing) (asked : Asked) (report : Device) : Type 0 where
+  pub header : Header
+  pub records : List Record
+  pub price : ℕ
+  pub replays : PolicyReplays
+  pub printed : Appends report.before report.after (demo_text (demo_facts drawing asked) (report_text (facts_of asked (trace_drawn drawing) 0 price header)) replays)
+  pub capacity : header.capacity ≡ asked.capacity
+  pub objective : header.objective ≡ asked.objective
+  pub bounds : AreTrueBounds (trace_drawn drawing) header records
+  pub replayed : AreReplays asked.capacity (trace_drawn drawing) replays
+
+-- all that the trace source had left was read, or a trace was drawn, and the numbers that a task printed are true of it
 abbrev pub Shows : Task → Devices → Type 0
 Shows (bounds format asked) d = (trace : List Object) × (dropped : ℕ) × IsLoaded format d.trace trace dropped × ShowsBounds asked trace dropped d.report d.made
 Shows (check format) d = (trace : List Object) × (dropped : ℕ) × IsLoaded format d.trace trace dropped × ShowsCheck trace dropped d.cert d.report
 Shows (replay format r) d = (trace : List Object) × (dropped : ℕ) × IsLoaded format d.trace trace dropped × ShowsReplay r trace dropped d.report
+Shows (demo drawing asked) d = ShowsDemo drawing asked d.report
 
 -- Whatever trace is read and whatever the capacity, no allowed sequence of cache contents scores more than the printed
 -- upper bound, the certified schedule is allowed and scores exactly the lower bound, exact-form prices and flows have

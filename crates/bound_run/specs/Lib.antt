@@ -7,6 +7,7 @@ pub mod Made
 pub mod Records
 pub mod BoundsFaults
 pub mod Inputs
+pub mod Demos
 pub mod Parts
 pub mod Run
 pub mod Headline

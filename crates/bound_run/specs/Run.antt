@@ -9,15 +9,17 @@ use Rattle.bound_report.specs.declared.refusal.Refusal.TheVariants as refusal
 use Rattle.bound_report.specs.Refusals.{refusal_line}
 use Rattle.bound_report.specs.Verdicts.{verdict_text}
 use Rattle.cert_checker.specs.declared.verdict.Verdict.{Verdict}
-use Rattle.bound_run.specs.Asked.{Asked, Replaying}
+use Rattle.bound_run.specs.Asked.{Asked, Drawing, Replaying}
 use Rattle.bound_run.specs.declared.words.Plan.{Plan}
 use Rattle.bound_run.specs.declared.words.WordFault.{WordFault}
 use Rattle.bound_run.specs.declared.status.Status.{Status}
 use Rattle.bound_run.specs.declared.status.Status.TheVariants.{Done, Invalid, Words, NoMemory}
+use Rattle.bound_run.specs.Demos.{IsDemoText, RefusesDemo, trace_drawn}
+use Rattle.bound_run.specs.Made.{RefusesDenominator}
 use Rattle.bound_run.specs.Inputs.{HasDenominator, IsAccepted, IsCertified, IsGoodTrace, IsReady, IsReplayed}
 use Rattle.bound_run.specs.Parts.{RefusesBounds, RefusesCheck, RefusesLoading}
 use Rattle.bound_run.specs.Statuses.{Ending, done, refused, unreported, ending_of}
-use Rattle.bound_run.specs.Tasks.{Task, bounds, check, replay, task_of}
+use Rattle.bound_run.specs.Tasks.{Task, bounds, check, replay, demo, task_of}
 
 -- what is seen of the four devices of a run
 pub record Devices : Type 0 where
@@ -49,12 +51,19 @@ ReplayEnds format r source report done = (text : List ℕ) × IsReplayed format 
 ReplayEnds format r source report unreported = (text : List ℕ) × IsReplayed format r source text × GetsLess report text
 ReplayEnds format r source report (refused why) = RefusesLoading format source why × Gets report (refusal_line why)
 
+-- how a demo ends, and what the report got then
+abbrev pub DemoEnds : Drawing → Asked → Device → Ending → Type 0
+DemoEnds drawing asked report done = (text : List ℕ) × IsDemoText drawing asked text × GetsAll report text
+DemoEnds drawing asked report unreported = (text : List ℕ) × IsDemoText drawing asked text × GetsLess report text
+DemoEnds drawing asked report (refused why) = RefusesDemo drawing asked why × Gets report (refusal_line why)
+
 -- how a task ends: what it doesn't need is left alone, and what it reads loses no more than a prefix
 abbrev pub TaskEnds : Task → Devices → Ending → Type 0
 TaskEnds (bounds format asked) d ending = BoundsEnd format asked d.trace d.report d.made ending × LosesPrefix d.trace.before d.trace.after × IsUntouched d.cert
 TaskEnds (check format) d ending =
     CheckEnds format d.trace d.cert d.report ending × LosesPrefix d.trace.before d.trace.after × LosesPrefix d.cert.before d.cert.after × IsUntouched d.made
 TaskEnds (replay format r) d ending = ReplayEnds format r d.trace d.report ending × LosesPrefix d.trace.before d.trace.after × IsUntouched d.cert × IsUntouched d.made
+TaskEnds (demo drawing asked) d ending = DemoEnds drawing asked d.report ending × IsUntouched d.trace × IsUntouched d.cert × IsUntouched d.made
 
 -- how a run ends: the task of its plan does, or its words are refused and all but the report is left alone
 abbrev pub RunEnds : Result Plan WordFault → Devices → Status → Type 0
@@ -74,6 +83,7 @@ abbrev pub AreGoodInputs : Task → Devices → Type 0
 AreGoodInputs (bounds format asked) d = IsGoodTrace format d.trace.before × HasDenominator format asked d.trace.before
 AreGoodInputs (check format) d = IsGoodTrace format d.trace.before × IsSome d.cert.before
 AreGoodInputs (replay format r) d = IsGoodTrace format d.trace.before
+AreGoodInputs (demo drawing asked) d = ¬ (RefusesDenominator asked (trace_drawn drawing))
 
 -- what a check answers of good inputs: Done of a valid certificate, and Invalid of every other
 abbrev pub AnswersOf : Format → Option (List ℕ) → Option (List ℕ) → Status → Type 0
@@ -87,6 +97,7 @@ abbrev pub Answers : Task → Devices → Status → Type 0
 Answers (bounds format asked) d status = (status ≡ Done) ⊎ (status ≡ NoMemory)
 Answers (check format) d status = AnswersOf format d.trace.before d.cert.before status
 Answers (replay format r) d status = (status ≡ Done) ⊎ (status ≡ NoMemory)
+Answers (demo drawing asked) d status = (status ≡ Done) ⊎ (status ≡ NoMemory)
 
 -- good words, good inputs and no fault lead to the answer
 abbrev pub Completes : Result Plan WordFault → Devices → Status → Type 0

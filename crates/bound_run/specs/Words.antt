@@ -17,7 +17,7 @@ use Rattle.relaxation.specs.declared.denominators.DenominatorChoice.TheVariants.
 use Rattle.trace_any.specs.declared.format.Format.{Format}
 use Rattle.trace_any.specs.declared.format.Format.TheVariants.{Webcache, Arc, Msr}
 use Rattle.bound_run.specs.declared.words.Plan.{Plan}
-use Rattle.bound_run.specs.declared.words.Plan.TheVariants.{Bounds, Check, Replay}
+use Rattle.bound_run.specs.declared.words.Plan.TheVariants.{Bounds, Check, Replay, Demo}
 use Rattle.policy_model.specs.declared.names.PolicyName.{PolicyName}
 use Rattle.policy_model.specs.declared.names.PolicyName.TheVariants.{Lru, Fifo, Clock, Lfu, Belady}
 use Rattle.bound_run.specs.declared.operands.Command.{Command}
@@ -43,7 +43,8 @@ command_named word =
     if bytes_eq word (codes "bounds") then Some command.Bounds
     else (if bytes_eq word (codes "check") then Some command.Check
     else (if bytes_eq word (codes "replay") then Some command.Replay
-    else None))
+    else (if bytes_eq word (codes "demo") then Some command.Demo
+    else None)))
 
 -- a command that is none is unknown
 abbrev pub known_command : Option Command → Result Command WordFault
@@ -65,6 +66,7 @@ abbrev pub places_of : Command → PathPlaces
 places_of command.Bounds = record { count = 2; trace = Some 1; cert = Some 2; made = Some 2 }
 places_of command.Check = record { count = 2; trace = Some 1; cert = Some 2; made = None }
 places_of command.Replay = record { count = 1; trace = Some 1; cert = None; made = None }
+places_of command.Demo = record { count = 0; trace = None; cert = None; made = None }
 
 -- so many words from word `at` on are paths
 abbrev pub paths : ℕ → ℕ → List (List ℕ) → Result (Unit {0}) WordFault
@@ -161,6 +163,19 @@ few (Ok n) = if nat_le n (2 ^ 25) then Some n else None
 abbrev pub warmup_of : List ℕ → Option ℕ
 warmup_of value = few (number_of (2 ^ 64) value)
 
+-- the number that a value names
+abbrev pub named : Result ℕ NumFault → Option ℕ
+named (Err e) = None
+named (Ok n) = Some n
+
+-- a seed is below 2^64
+abbrev pub seed_of : List ℕ → Option ℕ
+seed_of value = named (number_of (2 ^ 64) value)
+
+-- a demo has 1 to 2^25 requests, and as many objects
+abbrev pub drawn_of : List ℕ → Option ℕ
+drawn_of value = number_to (2 ^ 25) value
+
 -- the denominator of a mode where none is given
 abbrev pub usual_denominator : Mode → DenominatorChoice
 usual_denominator (Flow window) = Auto
@@ -184,11 +199,16 @@ names_bounds name =
 abbrev pub names_replay : List ℕ → Bool
 names_replay name = bytes_eq name (codes "capacity") || bytes_eq name (codes "policy") || bytes_eq name (codes "warmup")
 
+-- whether an operand of this name says which demo is asked for
+abbrev pub names_demo : List ℕ → Bool
+names_demo name = bytes_eq name (codes "seed") || bytes_eq name (codes "requests") || bytes_eq name (codes "objects")
+
 -- whether the command has an operand of this name
 abbrev pub has_operand : Command → List ℕ → Bool
 has_operand command.Bounds name = names_trace name || names_bounds name
 has_operand command.Check name = names_trace name
 has_operand command.Replay name = names_trace name || names_replay name
+has_operand command.Demo name = names_demo name || names_bounds name
 
 -- whether the operand of this name may have this value
 abbrev pub is_value : List ℕ → List ℕ → Bool
@@ -201,7 +221,9 @@ is_value name value =
     else (if bytes_eq name (codes "window") then is_some (window_of value)
     else (if bytes_eq name (codes "denominator") then is_some (denominator_of value)
     else (if bytes_eq name (codes "policy") then is_some (policy_of value)
-    else bytes_eq name (codes "warmup") && is_some (warmup_of value))))))))
+    else (if bytes_eq name (codes "warmup") then is_some (warmup_of value)
+    else (if bytes_eq name (codes "seed") then is_some (seed_of value)
+    else (bytes_eq name (codes "requests") || bytes_eq name (codes "objects")) && is_some (drawn_of value))))))))))
 
 -- the value that the operands give to a name
 abbrev pub value_given : List ℕ → List (List ℕ) → Option (List ℕ)
@@ -298,6 +320,26 @@ policy_given operands = option_and_then policy_of (value_given (codes "policy") 
 abbrev pub warmup_given : List (List ℕ) → ℕ
 warmup_given operands = unwrap_or (option_and_then warmup_of (value_given (codes "warmup") operands)) 0
 
+-- the seed of a demo that the operands give, and 1 where they give none
+abbrev pub seed_given : List (List ℕ) → ℕ
+seed_given operands = unwrap_or (option_and_then seed_of (value_given (codes "seed") operands)) 1
+
+-- the number of this name that the operands give, and the usual one where they give none
+abbrev pub drawn_given : List ℕ → ℕ → List (List ℕ) → ℕ
+drawn_given name usual operands = unwrap_or (option_and_then drawn_of (value_given name operands)) usual
+
+-- the requests of a demo that the operands give, and 2000 where they give none
+abbrev pub requests_given : List (List ℕ) → ℕ
+requests_given operands = drawn_given (codes "requests") 2000 operands
+
+-- the objects of a demo that the operands give, and 200 where they give none
+abbrev pub objects_given : List (List ℕ) → ℕ
+objects_given operands = drawn_given (codes "objects") 200 operands
+
+-- the capacity of a demo that the operands give, and 65536 where they give none
+abbrev pub capacity_or_usual : List (List ℕ) → ℕ
+capacity_or_usual operands = unwrap_or (capacity_given operands) 65536
+
 -- the plan of bounds that accepted operands give, where the words end before this place
 abbrev pub bounds_plan : ℕ → List (List ℕ) → Result Plan WordFault
 bounds_plan end operands = do
@@ -312,6 +354,12 @@ replay_plan end operands = do
   capacity ← required end (capacity_given operands)
   policy ← required end (policy_given operands)
   Ok (Replay format capacity policy (warmup_given operands))
+
+-- the plan of a demo that accepted operands give, none of which is required
+abbrev pub demo_plan : List (List ℕ) → Plan
+demo_plan operands =
+    Demo (seed_given operands) (requests_given operands) (objects_given operands) (capacity_or_usual operands)
+    (objective_given operands) (mode_given operands) (denominator_given (mode_given operands) operands)
 
 -- whether a path is that of standard input
 abbrev pub is_dash : Option (List ℕ) → Bool
@@ -335,6 +383,7 @@ abbrev pub plan_of_command : Command → List (List ℕ) → List (List ℕ) →
 plan_of_command command.Bounds words operands = bounds_plan (length words + 1) operands
 plan_of_command command.Check words operands = check_plan (places_of command.Check) words operands
 plan_of_command command.Replay words operands = replay_plan (length words + 1) operands
+plan_of_command command.Demo words operands = Ok (demo_plan operands)
 
 -- what operands ask for that are the words of a command from this place on, or the first fault in them
 abbrev pub plan_of_operands : Command → ℕ → List (List ℕ) → List (List ℕ) → Result Plan WordFault

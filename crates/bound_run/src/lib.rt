@@ -5,6 +5,7 @@
 
 mod bounds;
 mod checking;
+mod demos;
 mod operands;
 mod relaxed;
 mod replays;

@@ -5,7 +5,7 @@ ghost use Rattle.std.specs.Str.{bytes_eq};
 ghost use Rattle.relaxation.specs.Denominators.{IsChoice};
 ghost use Rattle.trace_any.specs.Readings.{IsFormat};
 ghost use Rattle.bound_run.specs.Modes.{IsModeInRange};
-ghost use Rattle.bound_run.specs.Words.{operands_at, places_of, block_given, block_of, capacity_given, capacity_of, denominator_given, denominator_of, format_given, format_of, has_equals, has_operand, is_value, mode_given, mode_of, name_of, names_bounds, names_replay, names_trace, number_to, objective_given, objective_of, place_given, policy_given, policy_of, usual_denominator, value_given, value_of, warmup_given, warmup_of, window_given, window_of};
+ghost use Rattle.bound_run.specs.Words.{operands_at, places_of, block_given, block_of, capacity_given, capacity_of, capacity_or_usual, denominator_given, denominator_of, drawn_given, drawn_of, format_given, format_of, has_equals, has_operand, is_value, mode_given, mode_of, name_of, names_bounds, names_demo, names_replay, names_trace, number_to, objective_given, objective_of, objects_given, place_given, policy_given, policy_of, requests_given, seed_given, seed_of, usual_denominator, value_given, value_of, warmup_given, warmup_of, window_given, window_of};
 ghost use Rattle.bound_report.specs.declared.facts.Mode.TheVariants.{Flow};
 
 use bound_base::read_u64;
@@ -24,6 +24,8 @@ pub enum Command {
     Check,
     /// The hits of a policy on a trace.
     Replay,
+    /// Bounds, their check and replays on a trace that is made.
+    Demo,
 }
 
 /// Where the paths of a command stand among its words, of which the command is word 0, and how many there are.
@@ -59,6 +61,12 @@ impl Command {
                 cert: None,
                 made: None,
             },
+            Command::Demo => PathPlaces {
+                count: 0,
+                trace: None,
+                cert: None,
+                made: None,
+            },
         }
     }
 
@@ -85,6 +93,15 @@ const MOST_WINDOW: u64 = 1 << 25;
 
 // The most requests of a warm-up.
 const MOST_WARMUP: u64 = 1 << 25;
+
+// The most requests of a demo, and the most objects.
+const MOST_DRAWN: u64 = 1 << 25;
+
+// What a demo is made of where no operand says it.
+const USUAL_SEED: u64 = 1;
+const USUAL_REQUESTS: u32 = 2000;
+const USUAL_OBJECTS: u32 = 200;
+const USUAL_CAPACITY: u64 = 65536;
 
 // The largest denominator.
 const MOST_DENOMINATOR: u64 = 1 << 48;
@@ -251,6 +268,26 @@ fn warmup_of(value: &str) -> Option<u32>
     }
 }
 
+fn seed_of(value: &str) -> Option<u64>
+    ensures { result ≡ seed_of value.now }
+{
+    match read_u64(value.as_bytes()) {
+        Ok(seed) => Some(seed),
+        Err(_) => None,
+    }
+}
+
+// How many requests or objects a demo has.
+fn drawn_of(value: &str) -> Option<u32>
+    ensures value { result ≡ drawn_of value.now }
+    ensures range { IfSome result (λ n. (1 ≤ n) × (n ≤ 2 ^ 25)) }
+{
+    match number_to(MOST_DRAWN, value) {
+        Some(number) => Some(number as u32),
+        None => None,
+    }
+}
+
 fn names_trace(name: &str) -> bool
     ensures { result ≡ names_trace name.now }
 {
@@ -273,6 +310,12 @@ fn names_replay(name: &str) -> bool
     is(name, "capacity") || is(name, "policy") || is(name, "warmup")
 }
 
+fn names_demo(name: &str) -> bool
+    ensures { result ≡ names_demo name.now }
+{
+    is(name, "seed") || is(name, "requests") || is(name, "objects")
+}
+
 /// Whether a command has an operand of this name.
 pub(crate) fn has_operand(command: Command, name: &str) -> bool
     ensures { result ≡ has_operand command name.now }
@@ -281,6 +324,7 @@ pub(crate) fn has_operand(command: Command, name: &str) -> bool
         Command::Bounds => names_trace(name) || names_bounds(name),
         Command::Check => names_trace(name),
         Command::Replay => names_trace(name) || names_replay(name),
+        Command::Demo => names_demo(name) || names_bounds(name),
     }
 }
 
@@ -303,8 +347,12 @@ pub(crate) fn is_value(name: &str, value: &str) -> bool
         denominator_of(value).is_some()
     } else if is(name, "policy") {
         policy_of(value).is_some()
+    } else if is(name, "warmup") {
+        warmup_of(value).is_some()
+    } else if is(name, "seed") {
+        seed_of(value).is_some()
     } else {
-        is(name, "warmup") && warmup_of(value).is_some()
+        (is(name, "requests") || is(name, "objects")) && drawn_of(value).is_some()
     }
 }
 
@@ -419,4 +467,47 @@ pub(crate) fn warmup_given(operands: &[String]) -> u32
         Some(value) => warmup_of(value).unwrap_or(0),
         None => 0,
     }
+}
+
+pub(crate) fn seed_given(operands: &[String]) -> u64
+    ensures { result ≡ seed_given (map string_bytes operands.now) }
+{
+    match value_given("seed", operands) {
+        Some(value) => seed_of(value).unwrap_or(USUAL_SEED),
+        None => USUAL_SEED,
+    }
+}
+
+// The number of requests or of objects that an operand gives, and the usual one where none does.
+fn drawn_given(name: &str, usual: u32, operands: &[String]) -> u32
+    requires { (1 ≤ usual) × (usual ≤ 2 ^ 25) }
+    ensures value { result ≡ drawn_given name.now usual (map string_bytes operands.now) }
+    ensures range { (1 ≤ result) × (result ≤ 2 ^ 25) }
+{
+    match value_given(name, operands) {
+        Some(value) => drawn_of(value).unwrap_or(usual),
+        None => usual,
+    }
+}
+
+pub(crate) fn requests_given(operands: &[String]) -> u32
+    ensures value { result ≡ requests_given (map string_bytes operands.now) }
+    ensures range { (1 ≤ result) × (result ≤ 2 ^ 25) }
+{
+    drawn_given("requests", USUAL_REQUESTS, operands)
+}
+
+pub(crate) fn objects_given(operands: &[String]) -> u32
+    ensures value { result ≡ objects_given (map string_bytes operands.now) }
+    ensures range { (1 ≤ result) × (result ≤ 2 ^ 25) }
+{
+    drawn_given("objects", USUAL_OBJECTS, operands)
+}
+
+/// The capacity of a demo, which has a usual one.
+pub(crate) fn capacity_or_usual(operands: &[String]) -> u64
+    ensures value { result ≡ capacity_or_usual (map string_bytes operands.now) }
+    ensures range { (1 ≤ result) × (result ≤ 2 ^ 56) }
+{
+    capacity_given(operands).unwrap_or(USUAL_CAPACITY)
 }

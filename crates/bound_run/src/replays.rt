@@ -94,8 +94,8 @@ fn replay_belady(alloc: Global, trace: &Trace, r: ReplayTask) -> Result<Replay, 
     }
 }
 
-// The replay of a policy.
-fn replay_by(alloc: Global, trace: &Trace, r: ReplayTask) -> Result<Replay, NoMemory>
+/// The replay of a policy.
+pub(crate) fn replay_by(alloc: Global, trace: &Trace, r: ReplayTask) -> Result<Replay, NoMemory>
     ensures { IfOk result (IsReplay r.policy r.capacity r.warmup trace.now) }
 {
     match r.policy {

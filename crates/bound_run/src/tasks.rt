@@ -1,4 +1,4 @@
-//! What bounds and replays are asked for, each number in its range.
+//! What bounds, replays and demos are asked for, each number in its range.
 ghost use Rattle.std.specs.Prelude.{◌≤◌, ◌^◌};
 ghost use Rattle.relaxation.specs.Denominators.{IsChoice, IsChoice-prop};
 ghost use Rattle.bound_run.specs.Modes.{IsModeInRange, IsModeInRange-prop};
@@ -27,4 +27,15 @@ pub struct ReplayTask {
     pub capacity: u64,
     pub warmup: u32,
     pub ghost capacity_in_range: { (1 ≤ capacity) × (capacity ≤ 2 ^ 56) },
+}
+
+/// Which trace of a demo is asked for: the seed of its generator, how many requests it has, and how many objects they
+/// are drawn from.
+#[derive(Clone, Copy)]
+pub struct DrawTask {
+    pub seed: u64,
+    pub requests: u32,
+    pub objects: u32,
+    pub ghost requests_in_range: { (1 ≤ requests) × (requests ≤ 2 ^ 25) },
+    pub ghost objects_in_range: { (1 ≤ objects) × (objects ≤ 2 ^ 25) },
 }

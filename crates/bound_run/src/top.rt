@@ -4,20 +4,21 @@ ghost use Rattle.bound_io.specs.Devices.{Gets, seen};
 ghost use Rattle.bound_io.specs.Reading.{LosesPrefix};
 ghost use Rattle.trace_any.specs.Readings.{IsFormat};
 ghost use Rattle.bound_report.specs.Refusals.{refusal_line};
-ghost use Rattle.bound_run.specs.Asked.{asked_by, replaying_by};
+ghost use Rattle.bound_run.specs.Asked.{asked_by, drawing_by, replaying_by};
 ghost use Rattle.bound_run.specs.Headline.{Headline};
 ghost use Rattle.bound_run.specs.Inputs.{IsLoaded, IsReady, IsReplayed};
 ghost use Rattle.bound_run.specs.Parts.{RefusesBounds, RefusesLoading, WritesOut, WritesReport};
-ghost use Rattle.bound_run.specs.Run.{BoundsEnd, CheckEnds, Completes, ReplayEnds, RunEnds, devices};
+ghost use Rattle.bound_run.specs.Run.{BoundsEnd, CheckEnds, Completes, DemoEnds, ReplayEnds, RunEnds, devices};
 ghost use Rattle.bound_run.specs.Statuses.{ending_of, status_of};
 ghost use Rattle.bound_run.specs.Tasks.{IsPlanInRange};
 ghost use Rattle.bound_run.specs.Words.{plan};
 
 use crate::bounds::{Texts, texts_of};
 use crate::checking::verdict_of;
+use crate::demos::demo_report;
 use crate::replays::replay_report;
 use crate::status::{Status, refusal_of};
-use crate::tasks::{BoundsTask, ReplayTask};
+use crate::tasks::{BoundsTask, DrawTask, ReplayTask};
 use crate::words::{Plan, WordFault, plan_of};
 use bound_io::{Sink, Source, write_all};
 use bound_report::{Refusal, refusal_text};
@@ -179,6 +180,21 @@ fn run_replay<T: Source, R: Sink>(
     }
 }
 
+// Writes the report of a demo.
+fn run_demo<R: Sink>(
+    alloc: Global,
+    drawing: DrawTask,
+    asked: &BoundsTask,
+    report: &mut R,
+) -> Status
+    ensures { DemoEnds (drawing_by drawing) (asked_by asked.now) (seen R.written R.faults report.old report.new) (ending_of result) }
+{
+    match demo_report(alloc, drawing, asked) {
+        Ok(shown) => write_report(report, &shown),
+        Err(refusal) => refuse(report, refusal),
+    }
+}
+
 // Does what the words ask for, or tells why they are refused.
 fn run_plan<T: Source, Q: Source, R: Sink, K: Sink>(
     alloc: Global,
@@ -227,12 +243,34 @@ fn run_plan<T: Source, Q: Source, R: Sink, K: Sink>(
             };
             run_replay(alloc, format, r, trace, report)
         }
+        Plan::Demo {
+            seed,
+            requests,
+            objects,
+            capacity,
+            objective,
+            mode,
+            denominator,
+        } => {
+            let drawing = DrawTask {
+                seed,
+                requests,
+                objects,
+            };
+            let asked = BoundsTask {
+                capacity,
+                objective,
+                mode,
+                denominator,
+            };
+            run_demo(alloc, drawing, &asked, report)
+        }
     }
 }
 
 /// Does all that the program does. It reads the words, and for bounds the trace, and writes the certificate and then
 /// the report; for a check it reads the trace and the certificate side by side, and for a replay the trace, and writes the
-/// report.
+/// report; for a demo it reads nothing and writes the report.
 /// The words are those after the program's name. All memory is taken before the first byte is written.
 pub fn run<T: Source, Q: Source, R: Sink, K: Sink>(
     alloc: Global,

@@ -3,12 +3,12 @@ ghost use Rattle.std.specs.Prelude.{◌≡◌, ◌≤◌, [], map, slice_get, st
 ghost use Rattle.std.specs.Option.{option_copied};
 ghost use Rattle.bound_run.specs.Tasks.{IsPlanInRange};
 ghost use Rattle.std.specs.Option.{ForSome};
-ghost use Rattle.bound_run.specs.Words.{block_fault, bounds_plan, cert_path, check_plan, command_named, command_of, earlier, inputs_fault, is_dash, made_path, operand_fault, operands_fault, operands_of, passed, path, path_at, paths, replay_plan, places_in, places_of, plan, plan_of_command, plan_of_operands, required, trace_path, unknown_operand, window_fault, word_or_dash};
+ghost use Rattle.bound_run.specs.Words.{block_fault, bounds_plan, cert_path, check_plan, command_named, command_of, demo_plan, earlier, inputs_fault, is_dash, made_path, operand_fault, operands_fault, operands_of, passed, path, path_at, paths, replay_plan, places_in, places_of, plan, plan_of_command, plan_of_operands, required, trace_path, unknown_operand, window_fault, word_or_dash};
 
 use crate::operands::{
-    Command, PathPlaces, capacity_given, denominator_given, format_given, has_equals, has_operand,
-    is, is_value, mode_given, name_of, objective_given, place_given, policy_given, value_given,
-    value_of, warmup_given,
+    Command, PathPlaces, capacity_given, capacity_or_usual, denominator_given, format_given,
+    has_equals, has_operand, is, is_value, mode_given, name_of, objective_given, objects_given,
+    place_given, policy_given, requests_given, seed_given, value_given, value_of, warmup_given,
 };
 use bound_report::{Mode, WordKind};
 use cache_rules::Objective;
@@ -45,6 +45,17 @@ pub enum Plan {
         policy: PolicyName,
         warmup: u32,
     },
+    /// Bounds, their check and replays on a trace of this number of requests for some of this number of objects, drawn
+    /// from a seed, at a capacity in bytes.
+    Demo {
+        seed: u64,
+        requests: u32,
+        objects: u32,
+        capacity: u64,
+        objective: Objective,
+        mode: Mode,
+        denominator: DenominatorChoice,
+    },
 }
 
 /// The paths of a command, where `-` stands for the standard input or output and for a path that it lacks.
@@ -78,6 +89,8 @@ fn command_named(word: &str) -> Option<Command>
         Some(Command::Check)
     } else if is(word, "replay") {
         Some(Command::Replay)
+    } else if is(word, "demo") {
+        Some(Command::Demo)
     } else {
         None
     }
@@ -285,6 +298,23 @@ fn replay_plan(end: u64, operands: &[String]) -> Result<Plan, WordFault>
     })
 }
 
+// The plan of a demo that accepted operands give. Each has a usual value.
+fn demo_plan(operands: &[String]) -> Plan
+    ensures plan { result ≡ demo_plan (map string_bytes operands.now) }
+    ensures range { IsPlanInRange result }
+{
+    let mode = mode_given(operands);
+    Plan::Demo {
+        seed: seed_given(operands),
+        requests: requests_given(operands),
+        objects: objects_given(operands),
+        capacity: capacity_or_usual(operands),
+        objective: objective_given(operands),
+        mode,
+        denominator: denominator_given(mode, operands),
+    }
+}
+
 // The plan of a command, where the operands are accepted.
 fn plan_of_command(
     command: Command,
@@ -298,6 +328,7 @@ fn plan_of_command(
         Command::Bounds => bounds_plan(words.len() as u64 + 1, operands),
         Command::Check => check_plan(command.places(), words, operands),
         Command::Replay => replay_plan(words.len() as u64 + 1, operands),
+        Command::Demo => Ok(demo_plan(operands)),
     }
 }
 

@@ -1,6 +1,6 @@
 //! The words of the command line, in rows.
 use super::*;
-use bound_report::{Mode, PolicyName, WordKind};
+use bound_report::{Mode, PolicyName, Window, WordKind};
 use bound_run::{Paths, Plan, WordFault, paths_of, plan_of};
 use cache_rules::Objective;
 use plans::TAKEN;
@@ -155,6 +155,57 @@ fn a_replay_takes_a_policy_and_a_warmup(rt: HostRuntime) {
         };
         check_plan(&rt, rt.alloc(), text, Ok(plan));
     }
+}
+
+// Words of a demo, and the seed, the requests, the objects and the capacity that they ask for.
+const DEMOS: [(&str, u64, u32, u32, u64); 5] = [
+    ("demo", 1, 2000, 200, 65536),
+    (
+        "demo seed=0 requests=1 objects=1 capacity=1",
+        0,
+        1,
+        1,
+        1,
+    ),
+    (
+        "demo capacity=72057594037927936 objects=33554432 requests=33554432 seed=18446744073709551615",
+        u64::MAX,
+        1 << 25,
+        1 << 25,
+        1 << 56,
+    ),
+    ("demo objects=07 mode=flow window=all", 1, 2000, 7, 65536),
+    ("demo requests=5 objective=object denominator=auto", 1, 5, 200, 65536),
+];
+
+const DEMO: Plan = Plan::Demo {
+    seed: 1,
+    requests: 2000,
+    objects: 200,
+    capacity: 65536,
+    objective: Objective::Bytes,
+    mode: Mode::Infinite,
+    denominator: DenominatorChoice::Given(1),
+};
+
+#[test]
+fn a_demo_needs_no_operand(rt: HostRuntime) {
+    for (text, seed, requests, objects, capacity) in &DEMOS {
+        let plan = Plan::Demo {
+            seed: *seed,
+            requests: *requests,
+            objects: *objects,
+            capacity: *capacity,
+            objective: Objective::Object,
+            mode: Mode::Flow {
+                window: Window::All,
+            },
+            denominator: DenominatorChoice::Auto,
+        };
+        check_plan(&rt, rt.alloc(), text, Ok(plan));
+    }
+    let text = "demo objective=bytes mode=infinite";
+    check_plan(&rt, rt.alloc(), text, Ok(DEMO));
 }
 
 const NO_PATHS: Paths<'static> = Paths {

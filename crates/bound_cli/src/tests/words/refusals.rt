@@ -10,12 +10,12 @@ pub(super) const TWICE: WordKind = WordKind::Twice;
 pub(super) const BAD_VALUE: WordKind = WordKind::BadValue;
 
 // The place and the kind of the first fault, and words that have it, a command on each line.
-pub(super) const REFUSED: [(u64, WordKind, &str); 21] = [
+pub(super) const REFUSED: [(u64, WordKind, &str); 24] = [
     (1, MISSING, ""),
     (
         1,
         UNKNOWN,
-        "demo\n\
+        "demos\n\
 Bounds t c\n\
 format=webcache capacity=2 mode=infinite\n t c",
     ),
@@ -35,6 +35,32 @@ bounds  \n\
 bounds  c more",
     ),
     (
+        2,
+        UNKNOWN,
+        "demo t\n\
+demo -\n\
+demo \n\
+demo seed\n\
+demo format=webcache\n\
+demo block=512\n\
+demo policy=lru\n\
+demo warmup=1\n\
+demo window=3 mode=constant",
+    ),
+    (
+        2,
+        BAD_VALUE,
+        "demo seed=\n\
+demo seed=-1\n\
+demo seed=18446744073709551616\n\
+demo requests=0\n\
+demo requests=33554433\n\
+demo objects=0\n\
+demo objects=33554433\n\
+demo capacity=0\n\
+demo window=0",
+    ),
+    (
         3,
         MISSING,
         "replay t\n\
@@ -43,9 +69,17 @@ bounds t",
     (
         3,
         UNKNOWN,
-        "replay t objective=bytes\n\
+        "demo mode=infinite window=3\n\
+demo seed=1 t\n\
+replay t objective=bytes\n\
 replay t window=3\n\
 replay t c",
+    ),
+    (
+        3,
+        TWICE,
+        "demo seed=1 seed=2\n\
+demo objects=1 objects=x",
     ),
     (
         3,

@@ -12,3 +12,6 @@ returns-in-Check g c = rw (c.in-Ok.is, c.in-Check.is) (c.run_check.ensures.ends,
 
 pub returns-in-Replay : goal.returns-in-Replay
 returns-in-Replay g c = rw (c.in-Ok.is, c.in-Replay.is) (c.run_replay.ensures.ends, c.run_replay.ensures.source, (refl, refl), (refl, refl))
+
+pub returns-in-Demo : goal.returns-in-Demo
+returns-in-Demo g c = rw (c.in-Ok.is, c.in-Demo.is) (c.run_demo.ensures, (refl, refl), (refl, refl), (refl, refl))

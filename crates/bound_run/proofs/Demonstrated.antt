@@ -1,0 +1,70 @@
+-- A certificate that is made of a trace passes its check against the lines of the trace.
+use Rattle.std.proofs.Common.{◌≡◌, ◌∙◌, ℕ, ◌^◌, ◌-◌, ◌<◌, ◌≤◌, sym, ap, subst, refl, arith, inl, inr, ◌⊎◌, List, length, Some, None}
+use Rattle.std.specs.declared.option.Option.{Option}
+use Rattle.std.specs.Option.{is_some}
+use Rattle.std.proofs.lemmas.Bool.{false≢true}
+use Rattle.bound_io.specs.Causes.{HasNewFault}
+use Rattle.bound_io.specs.Devices.{device}
+use Rattle.cache_model.specs.declared.objects.Object.{Object}
+use Rattle.cache_model.specs.Certificates.{IsValid}
+use Rattle.trace_any.specs.declared.fault.TraceFault.TheVariants as trace
+use Rattle.trace_any.specs.declared.format.Format.TheVariants.{Webcache}
+use Rattle.trace_any.specs.Readings.{full_limits, reading}
+use Rattle.cert_checker.specs.Walks.{Event, walk}
+use Rattle.cert_checker.specs.Walks as walks
+use Rattle.cert_checker.proofs.Walked.{passing_is_valid_lem}
+use Rattle.demo_trace.specs.Laws.{read_whole}
+use Rattle.bound_report.specs.declared.demo.PolicyReplays.{PolicyReplays}
+use Rattle.bound_report.specs.Demos.{demo_text}
+use Rattle.bound_report.specs.Reports.{report_text}
+use Rattle.bound_report.specs.declared.refusal.LimitName.TheVariants.{Requests, TraceBytes, Denominator}
+use Rattle.bound_report.specs.declared.refusal.Refusal.{Refusal}
+use Rattle.bound_report.specs.declared.refusal.Refusal.TheVariants as refusal
+use Rattle.bound_run.specs.Asked.{Asked, Drawing}
+use Rattle.bound_run.specs.Demos.{AreReplays, IsDemoText, demo_facts, trace_drawn}
+use Rattle.bound_run.specs.Inputs.{IsCertified}
+use Rattle.bound_run.specs.Made.{AreTexts, IsMade, facts_of}
+use Rattle.bound_run.specs.Parts.{RefusesCheck}
+
+-- a count of faults that stays at 0 has no new one
+no_fault : HasNewFault 0 0 → ⊥
+no_fault (inl less) = omega (arith, less)
+no_fault (inr full) = omega (arith, full)
+
+module _ (lines text : List ℕ) (lines_after text_after : Option (List ℕ)) (good : (reading Webcache full_limits lines).refused ≡ None) (certified : IsCertified Webcache lines text) where
+  -- the walk has no event
+  no_event : (event : Event) → walk (reading Webcache full_limits lines) text ≡ Some event → ⊥
+  no_event event is =
+      let passes = (passing_is_valid_lem (reading Webcache full_limits lines) text good).1 (certified.header, certified.records, certified.text_is, certified.valid) in
+      false≢true (ap is_some (sym passes ∙ is))
+
+  -- a check of a valid certificate over sources in memory is refused only if memory runs out
+  pub only_memory : (why : Refusal) → RefusesCheck Webcache (device (Some lines) lines_after 0 0) (device (Some text) text_after 0 0) why → why ≡ refusal.NoMemory
+  only_memory (refusal.Invalid line kind) e = absurd (no_event (walks.Invalid line kind) e)
+  only_memory (refusal.BadLine line kind) e = absurd (no_event (walks.Refused (trace.BadLine line kind)) e)
+  only_memory (refusal.Limit Requests) e = absurd (no_event (walks.Refused trace.TooManyRequests) e)
+  only_memory (refusal.Limit TraceBytes) e = absurd (no_event (walks.Refused trace.InputTooLong) e)
+  only_memory (refusal.Limit Denominator) e = absurd e
+  only_memory refusal.TraceFault e = absurd (no_fault e)
+  only_memory refusal.CertFault e = absurd (no_fault e)
+  only_memory refusal.MadeFault e = absurd e
+  only_memory (refusal.Words place kind) e = absurd e
+  only_memory refusal.NoMemory e = refl
+
+-- the text of a demo, from its parts
+pub shown_by : (drawing : Drawing) (asked : Asked) (trace : List Object) (cert report text : List ℕ) (replays : PolicyReplays) → trace ≡ trace_drawn drawing
+    → AreTexts asked trace 0 cert report → AreReplays asked.capacity trace replays → text ≡ demo_text (demo_facts drawing asked) report replays → IsDemoText drawing asked text
+shown_by drawing asked trace cert report text replays drawn texts replayed is = record {
+  price = texts.price;
+  header = texts.header;
+  records = texts.records;
+  made = subst (λ xs. IsMade asked xs texts.price texts.header texts.records) drawn texts.made;
+  replays = replays;
+  replayed = subst (λ xs. AreReplays asked.capacity xs replays) drawn replayed;
+  text_is = is ∙ (ap (λ r. demo_text (demo_facts drawing asked) r replays) texts.report_is ∙ ap (λ xs. demo_text (demo_facts drawing asked) (report_text (facts_of asked xs 0 texts.price texts.header)) replays) drawn);
+}
+
+-- what is made of a trace is certified by its lines
+pub certified_by_texts : (asked : Asked) (requests : List Object) (lines cert report : List ℕ) → reading Webcache full_limits lines ≡ read_whole requests → AreTexts asked requests 0 cert report → IsCertified Webcache lines cert
+certified_by_texts asked requests lines cert report read texts =
+    record { header = texts.header; records = texts.records; text_is = texts.cert_is; valid = subst (λ xs. IsValid xs texts.header texts.records) (sym (ap (λ r. r.requests) read)) texts.made.valid }

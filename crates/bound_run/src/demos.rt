@@ -1,0 +1,95 @@
+//! A demo: bounds of a trace that is drawn, their check, and the replay of each policy.
+ghost use Rattle.std.specs.Prelude.{◌≡◌, None, IfOk, IfErr};
+ghost use Rattle.trace_any.specs.Readings.{full_limits, reading};
+ghost use Rattle.trace_any.specs.declared.format.Format.TheVariants.{Webcache};
+ghost use Rattle.bound_run.specs.Asked.{asked_by, drawing_by};
+ghost use Rattle.bound_run.specs.Demos.{AreReplays, IsDemoText, RefusesDemo};
+ghost use Rattle.bound_run.specs.Inputs.{IsCertified};
+ghost use Rattle.bound_run.specs.Replays.{IsReplay};
+
+use crate::bounds::{Texts, texts_of};
+use crate::checking::verdict_of;
+use crate::replays::replay_by;
+use crate::tasks::{BoundsTask, DrawTask, ReplayTask};
+use bound_base::NoMemory;
+use bound_io::CalmSource;
+use bound_report::{DemoFacts, PolicyReplays, Refusal, demo_text};
+use cache_rules::Trace;
+use demo_trace::{demo_trace, webcache_text};
+use policy_model::PolicyName;
+use replay_core::Replay;
+use std::alloc::Global;
+use trace_any::Format;
+
+// Checks a certificate against the lines of a trace, both in memory. No read fails and the certificate is valid, so
+// there is a refusal only if memory runs out.
+fn check_made(alloc: Global, lines: Vec<u8>, cert: Vec<u8>) -> Result<(), Refusal>
+    requires trace { (reading Webcache full_limits lines.items).refused ≡ None }
+    requires certified { IsCertified Webcache lines.items cert.items }
+    ensures { IfErr result (λ refusal. refusal ≡ Refusal.NoMemory) }
+{
+    let mut trace = CalmSource::new(lines);
+    let mut cert = CalmSource::new(cert);
+    match verdict_of(alloc, Format::Webcache, &mut trace, &mut cert) {
+        Ok(_) => Ok(()),
+        Err(refusal) => Err(refusal),
+    }
+}
+
+// The replay of a policy at the capacity of the bounds. Every request counts.
+fn replay_whole(
+    alloc: Global,
+    trace: &Trace,
+    policy: PolicyName,
+    asked: &BoundsTask,
+) -> Result<Replay, NoMemory>
+    ensures { IfOk result (IsReplay policy asked.now.capacity 0 trace.now) }
+{
+    let r = ReplayTask {
+        policy,
+        capacity: asked.capacity,
+        warmup: 0,
+    };
+    replay_by(alloc, trace, r)
+}
+
+// The replay of each policy.
+fn replays_of(
+    alloc: Global,
+    trace: &Trace,
+    asked: &BoundsTask,
+) -> Result<PolicyReplays, NoMemory>
+    ensures { IfOk result (AreReplays asked.now.capacity trace.now) }
+{
+    Ok(PolicyReplays {
+        lru: replay_whole(alloc, trace, PolicyName::Lru, asked)?,
+        fifo: replay_whole(alloc, trace, PolicyName::Fifo, asked)?,
+        clock: replay_whole(alloc, trace, PolicyName::Clock, asked)?,
+        lfu: replay_whole(alloc, trace, PolicyName::Lfu, asked)?,
+        belady: replay_whole(alloc, trace, PolicyName::Belady, asked)?,
+    })
+}
+
+/// The report of a demo. Its certificate stays in memory, and is checked against the lines of the trace before anything
+/// is reported.
+pub fn demo_report(
+    alloc: Global,
+    drawing: DrawTask,
+    asked: &BoundsTask,
+) -> Result<Vec<u8>, Refusal>
+    ensures shown { IfOk result (λ text. IsDemoText (drawing_by drawing) (asked_by asked.now) text.items) }
+    ensures refused { IfErr result (RefusesDemo (drawing_by drawing) (asked_by asked.now)) }
+{
+    let trace = demo_trace(alloc, drawing.seed, drawing.requests, drawing.objects)?;
+    let texts = texts_of(alloc, asked, &trace, 0)?;
+    let lines = webcache_text(alloc, &trace)?;
+    check_made(alloc, lines, texts.cert)?;
+    let replays = replays_of(alloc, &trace, asked)?;
+    let facts = DemoFacts {
+        seed: drawing.seed,
+        requests: drawing.requests,
+        objects: drawing.objects,
+        capacity: asked.capacity,
+    };
+    Ok(demo_text(alloc, &facts, &texts.report, &replays)?)
+}
