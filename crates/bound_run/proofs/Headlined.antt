@@ -1,5 +1,5 @@
 -- What a run that ends well has shown.
-use Rattle.std.proofs.Common.{◌≡◌, ◌∙◌, ℕ, ◌*◌, sym, ap, subst, List, Ok, Err}
+use Rattle.std.proofs.Common.{◌≡◌, ◌∙◌, ◌*◌, sym, ap, subst, List, Ok, Err}
 use Rattle.std.specs.Prelude.{Result}
 use Rattle.std.specs.Io.KnownBytes.{Appends}
 use Rattle.cache_model.specs.declared.objects.Object.{Object}

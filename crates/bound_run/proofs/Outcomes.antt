@@ -1,5 +1,5 @@
 -- How a run ends, from how its parts end.
-use Rattle.std.proofs.Common.{◌≡◌, ℕ, refl, sym, ap, subst, inl, inr, arith, length, length-append, List, [], ◌++◌, Some, None, IfSome}
+use Rattle.std.proofs.Common.{◌≡◌, ℕ, refl, ap, arith, length, length-append, List, [], ◌++◌, Some, None, IfSome}
 use Rattle.std.specs.declared.option.Option.{Option}
 use Rattle.std.specs.Option.{is_some, unwrap_or}
 use Rattle.std.proofs.lemmas.Bool.{false≢true}
@@ -18,8 +18,7 @@ use Rattle.bound_run.specs.declared.bounds.BoundsFault.{BoundsFault}
 use Rattle.bound_run.specs.declared.bounds.BoundsFault.TheVariants as bounds
 use Rattle.bound_run.specs.BoundsFaults.{FailsBounds}
 use Rattle.bound_run.specs.Made.{AreTexts}
-use Rattle.bound_run.specs.declared.status.Status.{Status}
-use Rattle.bound_report.specs.declared.refusal.LimitName.TheVariants.{Requests, TraceBytes, Denominator}
+use Rattle.bound_report.specs.declared.refusal.LimitName.TheVariants.{Denominator}
 use Rattle.bound_report.specs.declared.refusal.Refusal.{Refusal}
 use Rattle.bound_report.specs.declared.refusal.Refusal.TheVariants as refusal
 use Rattle.bound_report.specs.Refusals.{refusal_line}

@@ -1,4 +1,4 @@
-use Rattle.std.proofs.Common.{rules, ◌≡◌, ◌∙◌, ap, sym, string_bytes, Some, None}
+use Rattle.std.proofs.Common.{rules, ◌≡◌, ◌∙◌, sym, string_bytes, Some, None}
 use Rattle.std.specs.List.{position_from}
 use Rattle.std.specs.Str.{bytes_eq}
 use Rattle.std.proofs.lemmas.Iterator.{YieldsList-from_slice}
