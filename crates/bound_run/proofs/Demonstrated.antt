@@ -1,5 +1,5 @@
 -- A certificate that is made of a trace passes its check against the lines of the trace.
-use Rattle.std.proofs.Common.{◌≡◌, ◌∙◌, ℕ, ◌^◌, ◌-◌, ◌<◌, ◌≤◌, sym, ap, subst, refl, arith, inl, inr, ◌⊎◌, List, length, Some, None}
+use Rattle.std.proofs.Common.{◌≡◌, ◌∙◌, ℕ, sym, ap, subst, refl, arith, inl, inr, List, Some, None}
 use Rattle.std.specs.declared.option.Option.{Option}
 use Rattle.std.specs.Option.{is_some}
 use Rattle.std.proofs.lemmas.Bool.{false≢true}

@@ -54,11 +54,7 @@ fn replay_whole(
 }
 
 // The replay of each policy.
-fn replays_of(
-    alloc: Global,
-    trace: &Trace,
-    asked: &BoundsTask,
-) -> Result<PolicyReplays, NoMemory>
+fn replays_of(alloc: Global, trace: &Trace, asked: &BoundsTask) -> Result<PolicyReplays, NoMemory>
     ensures { IfOk result (AreReplays asked.now.capacity trace.now) }
 {
     Ok(PolicyReplays {
@@ -72,11 +68,7 @@ fn replays_of(
 
 /// The report of a demo. Its certificate stays in memory, and is checked against the lines of the trace before anything
 /// is reported.
-pub fn demo_report(
-    alloc: Global,
-    drawing: DrawTask,
-    asked: &BoundsTask,
-) -> Result<Vec<u8>, Refusal>
+pub fn demo_report(alloc: Global, drawing: DrawTask, asked: &BoundsTask) -> Result<Vec<u8>, Refusal>
     ensures shown { IfOk result (λ text. IsDemoText (drawing_by drawing) (asked_by asked.now) text.items) }
     ensures refused { IfErr result (RefusesDemo (drawing_by drawing) (asked_by asked.now)) }
 {

@@ -99,8 +99,11 @@ const MOST_DRAWN: u64 = 1 << 25;
 
 // What a demo is made of where no operand says it.
 const USUAL_SEED: u64 = 1;
+
 const USUAL_REQUESTS: u32 = 2000;
+
 const USUAL_OBJECTS: u32 = 200;
+
 const USUAL_CAPACITY: u64 = 65536;
 
 // The largest denominator.

@@ -181,12 +181,7 @@ fn run_replay<T: Source, R: Sink>(
 }
 
 // Writes the report of a demo.
-fn run_demo<R: Sink>(
-    alloc: Global,
-    drawing: DrawTask,
-    asked: &BoundsTask,
-    report: &mut R,
-) -> Status
+fn run_demo<R: Sink>(alloc: Global, drawing: DrawTask, asked: &BoundsTask, report: &mut R) -> Status
     ensures { DemoEnds (drawing_by drawing) (asked_by asked.now) (seen R.written R.faults report.old report.new) (ending_of result) }
 {
     match demo_report(alloc, drawing, asked) {

@@ -62,6 +62,26 @@ fn a_denominator_past_its_limit_is_refused(rt: HostRuntime) {
     check(&rt, rt.alloc(), &refused);
 }
 
+// The hits of the usual demo, as a program in another language counted them, which draws the words by itself.
+const USUAL_REPLAYS: &[u8] = b"check valid\nreplay lru hits 445 bytes 848448\n\
+replay fifo hits 445 bytes 861591\nreplay clock hits 472 bytes 907809\n\
+replay lfu hits 486 bytes 961435\nreplay belady hits 1085 bytes 2109414\n";
+
+#[test]
+fn the_usual_demo_has_these_hits(rt: HostRuntime) {
+    let usual = Row {
+        shows: "the usual demo, but for the mode",
+        words: "demo mode=infinite",
+        ..ONE_OBJECT
+    };
+    let ended = done(&rt, rt.alloc(), &usual);
+    let begins = b"demo seed 1 requests 2000 objects 200 capacity 65536\ntrace requests 2000 objects 186 dropped 0\n";
+    holds("what is asked", ended.report.starts_with(begins)).expect(&rt, "a row");
+    holds("the hits", ended.report.ends_with(USUAL_REPLAYS)).expect(&rt, "a row");
+    holds("nothing is made", ended.made.is_empty()).expect(&rt, "a row");
+    drop(ended);
+}
+
 const WINDOWED: Row<'static> = Row {
     shows: "a demo in windows",
     words: "demo window=100",

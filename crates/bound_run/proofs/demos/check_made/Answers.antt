@@ -1,4 +1,4 @@
-use Rattle.std.proofs.Common.{◌≡◌, ◌∙◌, Some, ap, subst, sym}
+use Rattle.std.proofs.Common.{◌∙◌, Some, ap, subst, sym}
 use Rattle.bound_io.specs.CalmSource.{bytes_left}
 use Rattle.trace_any.specs.declared.format.Format.TheVariants.{Webcache}
 use Rattle.trace_any.specs.Readings.{full_limits, reading}

@@ -1,4 +1,4 @@
-use Rattle.std.proofs.Common.{◌≡◌, ◌∙◌, ap}
+use Rattle.std.proofs.Common.{◌∙◌, ap}
 use Rattle.bound_report.specs.Demos.{demo_text}
 use Rattle.bound_run.specs.Asked.{asked_by, drawing_by}
 use Rattle.bound_run.specs.Demos.{demo_facts}
