@@ -40,7 +40,7 @@ module _ (lines text : List ℕ) (lines_after text_after : Option (List ℕ)) (g
 
   -- a check of a valid certificate over sources in memory is refused only if memory runs out
   pub only_memory : (why : Refusal) → RefusesCheck Webcache (device (Some lines) lines_after 0 0) (device (Some text) text_after 0 0) why → why ≡ refusal.NoMemory
-  only_memory (refusal.Invalid line kind) e = absurd (no_event (walks.Invalid line kind) e)
+  only_memory (refusal.Invalid line kind) e = absurd (no_event (walks.Invalid line kind) e.0)
   only_memory (refusal.BadLine line kind) e = absurd (no_event (walks.Refused (trace.BadLine line kind)) e)
   only_memory (refusal.Limit Requests) e = absurd (no_event (walks.Refused trace.TooManyRequests) e)
   only_memory (refusal.Limit TraceBytes) e = absurd (no_event (walks.Refused trace.InputTooLong) e)
