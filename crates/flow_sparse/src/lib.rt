@@ -1,10 +1,16 @@
-//! The exact solver of the flow on a chain by opening steps: a step has room for so many units only once it is open, and
-//! all times between two open steps are one node.
+//! The exact solver of the flow on a chain where costs differ: steps are opened one after another.
+//!
+//! Few steps have a price in a solution. So a step has room for the units only once it is open, and all times between two
+//! open steps are one node. The solver begins with first prices, for which nothing is proved, opens the steps that have one,
+//! and lets the flows suit them. Then it opens the fullest step of each gap over which more flows than the units, and moves
+//! units by shortest paths until the open steps are full or have no price; and so on until no step carries too much. The
+//! answer is a "Solution" of docs/DEFINITIONS.md from any first prices.
+//!
+//! The contract of `Solver` is all that a caller needs. What stands in specs/ serves its proof.
 #![tactic(auto)]
 
 mod blocks;
 mod grain;
-mod laws;
 mod lists;
 mod loads;
 mod network;
@@ -20,8 +26,4 @@ mod solver;
 mod starting;
 
 pub use flow_model::Solution;
-pub use laws::{
-    closed_is_slack, contracted_is_network, fitting_is_solved, levels_are_near, loads_are_same,
-    lowered_is_ready, opened_is_ready, over_is_reached, pushed_is_ready,
-};
 pub use solver::Solver;
