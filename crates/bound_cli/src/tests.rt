@@ -180,7 +180,11 @@ impl Row<'_> {
 
     fn sink(&self, rt: &impl Abort, alloc: Global, device: Device) -> MemSink {
         let fails = self.fails_of(rt, alloc, device);
-        let room = if device == Device::Made { self.room } else { 4096 };
+        let room = if device == Device::Made {
+            self.room
+        } else {
+            4096
+        };
         MemSink::new(alloc, room, fails, 1).expect(rt, "memory")
     }
 

@@ -89,7 +89,15 @@ fn check_prefix(rt: &impl Abort, alloc: Global, prefix: &[u8]) {
     let kind = InvalidKind::Truncated;
     let status = Status::Invalid { line, kind };
     let shows = "a certificate that is cut";
-    expect_of(rt, alloc, shows, CYCLE_TRACE, prefix, status, report.as_bytes());
+    expect_of(
+        rt,
+        alloc,
+        shows,
+        CYCLE_TRACE,
+        prefix,
+        status,
+        report.as_bytes(),
+    );
 }
 
 #[test]
@@ -103,11 +111,21 @@ fn a_certificate_that_is_cut_is_truncated(rt: HostRuntime) {
 fn check_cut(rt: &impl Abort, alloc: Global, trace: &[u8]) {
     let read = trace.len() as u64 / 6;
     let line = 11 + read;
-    let report = format!(in alloc; "invalid line {line}: request count 6 {read}\n").expect(rt, "memory");
+    let report = format!(in alloc; "invalid line {line}: request count 6 {read}\n").expect(
+        rt, "memory",
+    );
     let kind = InvalidKind::RequestCount { written: 6, read };
     let status = Status::Invalid { line, kind };
     let shows = "a trace that is cut";
-    expect_of(rt, alloc, shows, trace, EXACT_CYCLE, status, report.as_bytes());
+    expect_of(
+        rt,
+        alloc,
+        shows,
+        trace,
+        EXACT_CYCLE,
+        status,
+        report.as_bytes(),
+    );
 }
 
 #[test]
@@ -134,7 +152,15 @@ const DEAR_PRICE: &str = "85070591730234615865843651857942052865 1 0";
 fn a_price_may_be_2_to_the_126_and_no_more(rt: HostRuntime) {
     let alloc = rt.alloc();
     let shows = "a price of 2^126";
-    expect_of(&rt, alloc, shows, PAIR, DEAR_CERT, Status::Done, DEAR_VERDICT);
+    expect_of(
+        &rt,
+        alloc,
+        shows,
+        PAIR,
+        DEAR_CERT,
+        Status::Done,
+        DEAR_VERDICT,
+    );
     let cert = spoilt(&rt, alloc, DEAR_CERT, 12, DEAR_PRICE);
     let kind = InvalidKind::Range;
     let status = Status::Invalid { line: 12, kind };

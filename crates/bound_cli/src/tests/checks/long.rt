@@ -2,14 +2,20 @@
 use super::*;
 use bound_io::Source;
 
-const HEAD: &str = "cache-bound-certificate 1\nobjective object\ncapacity 10\nrequests 20000\nunit 4\n\
+const HEAD: &str =
+    "cache-bound-certificate 1\nobjective object\ncapacity 10\nrequests 20000\nunit 4\n\
 denominator 1\nform plain\nupper 0\nflow 0\nlower 0\nrecords\n0 1 9\n";
+
+// Of either source all but 19,999 lines of 6 bytes is needed, and a buffer of 65,536 bytes may be read beyond that.
+const LEAST_LEFT: usize = 119994 - 65536;
 
 // A source of a beginning and a line that is repeated, which gives all that fits at once.
 fn source_of(rt: &impl Abort, alloc: Global, begins: &str, line: &str, times: usize) -> MemSource {
     let more = line.repeat(alloc, times).expect(rt, "memory");
     let mut bytes = begins.as_bytes().to_vec(alloc).expect(rt, "memory");
-    bytes.extend_from_slice(more.as_bytes()).expect(rt, "memory");
+    bytes
+        .extend_from_slice(more.as_bytes())
+        .expect(rt, "memory");
     MemSource::new(bytes, Vec::new(alloc), 200000)
 }
 
@@ -34,7 +40,6 @@ fn little_is_read_beyond_the_line_that_fails(rt: HostRuntime) {
     same("the status", status, Status::Invalid { line: 12, kind }).expect(&rt, "a row");
     drop(made);
     drop(report);
-    // Of the trace a line of 6 bytes was needed, and of the certificate all but the last 19,999 lines of 6.
-    holds("the trace", left_in(&rt, alloc, trace) + 6 + 65536 >= 120000).expect(&rt, "a row");
-    holds("the certificate", left_in(&rt, alloc, cert) + 65536 >= 119994).expect(&rt, "a row");
+    holds("the trace", left_in(&rt, alloc, trace) >= LEAST_LEFT).expect(&rt, "a row");
+    holds("the certificate", left_in(&rt, alloc, cert) >= LEAST_LEFT).expect(&rt, "a row");
 }
