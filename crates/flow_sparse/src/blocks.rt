@@ -143,7 +143,7 @@ fn settle_level(
 }
 
 /// First prices of the instance: a constant price on some steps, then those of blocks, and then of blocks that are wider and
-/// wider, up to a half of the steps.
+/// wider. The last are thirds of the steps, so that the ends of the blocks before lie within them.
 pub fn first_prices(alloc: Global, instance: &Instance) -> Result<Vec<u128>, NoMemory>
     ensures { IfOk result (λ prices. length prices.items ≡ instance.now.steps) }
 {
@@ -159,5 +159,6 @@ pub fn first_prices(alloc: Global, instance: &Instance) -> Result<Vec<u128>, NoM
         settle_level(alloc, instance, width, &mut sums, &mut prices)?;
         width *= WIDER;
     }
+    settle_level(alloc, instance, steps / 3 + 1, &mut sums, &mut prices)?;
     Ok(prices)
 }

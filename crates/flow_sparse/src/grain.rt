@@ -6,8 +6,14 @@ use bound_base::NoMemory;
 use flow_model::{Instance, OuterArc};
 use std::alloc::Global;
 
-/// One step in so many has the price of all of them.
-const GRAIN: usize = 1024;
+/// About so many steps have a price, one of each grain of steps.
+const GRAINS: usize = 512;
+
+/// A grain has at least so many steps.
+const FEWEST_STEPS: usize = 16;
+
+/// A grain has at most so many steps.
+const MOST_STEPS: usize = 1024;
 
 // What one unit of the arc earns for each step, times 2^25, rounded down.
 fn earning_of(arc: &OuterArc) -> u128 {
@@ -57,12 +63,13 @@ pub fn grain_prices(alloc: Global, instance: &Instance) -> Result<Vec<u128>, NoM
 {
     let steps = instance.steps() as usize;
     let mut prices = vec![in alloc; 0; steps]?;
-    if steps <= GRAIN / 2 + 1 {
+    let grain = (steps / GRAINS).max(FEWEST_STEPS).min(MOST_STEPS);
+    if steps <= grain {
         return Ok(prices);
     }
-    let price = marginal(alloc, instance)?.saturating_mul(GRAIN as u128) >> 25;
+    let price = marginal(alloc, instance)?.saturating_mul(grain as u128) >> 25;
     for step in 0..steps - 1 {
-        if step % GRAIN == GRAIN / 2 {
+        if step % grain == grain / 2 {
             prices[step] = price;
         }
     }
