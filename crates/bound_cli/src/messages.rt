@@ -168,7 +168,9 @@ fn missing(alloc: Global, words: &[String], place: u64) -> Result<String, AllocE
 fn unknown(alloc: Global, words: &[String], place: u64) -> Result<String, AllocError> {
     let word = word_at(words, place);
     if place == 1 {
-        return format!(in alloc; "{word}: no command; the commands are bounds, check, replay and demo");
+        return format!(in alloc;
+            "{word}: no command; the commands are bounds, check, replay and demo"
+        );
     }
     if word.as_bytes().starts_with(b"--") {
         return format!(in alloc; "{word}: operands have no dashes, as format=webcache");

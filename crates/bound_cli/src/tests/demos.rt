@@ -75,7 +75,8 @@ fn the_usual_demo_has_these_hits(rt: HostRuntime) {
         ..ONE_OBJECT
     };
     let ended = done(&rt, rt.alloc(), &usual);
-    let begins = b"demo seed 1 requests 2000 objects 200 capacity 65536\ntrace requests 2000 objects 186 dropped 0\n";
+    let begins =
+        b"demo seed 1 requests 2000 objects 200 capacity 65536\ntrace requests 2000 objects 186 dropped 0\n";
     holds("what is asked", ended.report.starts_with(begins)).expect(&rt, "a row");
     holds("the hits", ended.report.ends_with(USUAL_REPLAYS)).expect(&rt, "a row");
     holds("nothing is made", ended.made.is_empty()).expect(&rt, "a row");
@@ -110,7 +111,12 @@ fn greatest_after(report: &[u8], word: &str) -> u64 {
 fn a_demo_is_the_same_again_and_its_hits_are_within_the_bound(rt: HostRuntime) {
     let first = done(&rt, rt.alloc(), &WINDOWED);
     let second = done(&rt, rt.alloc(), &WINDOWED);
-    same("two demos", second.report.as_slice(), first.report.as_slice()).expect(&rt, "a row");
+    same(
+        "two demos",
+        second.report.as_slice(),
+        first.report.as_slice(),
+    )
+    .expect(&rt, "a row");
     let floor = greatest_after(&first.report, " floor ");
     let hits = greatest_after(&first.report, " hits ");
     holds("some hits", hits > 0).expect(&rt, "a row");

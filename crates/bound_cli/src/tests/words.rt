@@ -160,13 +160,7 @@ fn a_replay_takes_a_policy_and_a_warmup(rt: HostRuntime) {
 // Words of a demo, and the seed, the requests, the objects and the capacity that they ask for.
 const DEMOS: [(&str, u64, u32, u32, u64); 5] = [
     ("demo", 1, 2000, 200, 65536),
-    (
-        "demo seed=0 requests=1 objects=1 capacity=1",
-        0,
-        1,
-        1,
-        1,
-    ),
+    ("demo seed=0 requests=1 objects=1 capacity=1", 0, 1, 1, 1),
     (
         "demo capacity=72057594037927936 objects=33554432 requests=33554432 seed=18446744073709551615",
         u64::MAX,
@@ -175,7 +169,13 @@ const DEMOS: [(&str, u64, u32, u32, u64); 5] = [
         1 << 56,
     ),
     ("demo objects=07 mode=flow window=all", 1, 2000, 7, 65536),
-    ("demo requests=5 objective=object denominator=auto", 1, 5, 200, 65536),
+    (
+        "demo requests=5 objective=object denominator=auto",
+        1,
+        5,
+        200,
+        65536,
+    ),
 ];
 
 const DEMO: Plan = Plan::Demo {
