@@ -20,7 +20,8 @@ use Rattle.bound_run.specs.Tasks.{Task, bounds, check, replay, demo, task_of}
 -- a valid certificate has true bounds
 true_bounds : (trace : List Object) (h : Header) (records : List Record) → IsValid trace h records → BoundsEveryPolicy trace h → AreTrueBounds trace h records
 true_bounds trace h records valid above = record {
-  some_capacity = valid.certificate.header.capacity;
+  certificate = valid.certificate;
+  requests = valid.requests;
   upper = above;
   schedule = valid.keeps;
   lower = sym valid.lower;
@@ -48,7 +49,10 @@ shown (bounds format asked) d ((cert, text, ready, certified, printed), source, 
         objective = made.of_objective;
         bounds = true_bounds ready.requests ready.texts.header ready.texts.records made.valid made.bounds;
         exact = made.form;
-        equal_sizes = λ size unwindowed same. (made.equal_sizes size unwindowed same).equal ∙ ap (λ n. ready.texts.header.denominator * n) (sym made.valid.lower);
+        equal_sizes = λ size unwindowed same. (
+          made.exact_if_equal size unwindowed same,
+          (made.equal_sizes size unwindowed same).equal ∙ ap (λ n. ready.texts.header.denominator * n) (sym made.valid.lower),
+        );
       },
     )
 shown (check format) d ((verdict, dropped, accepted, printed), trace, cert, untouched) = (

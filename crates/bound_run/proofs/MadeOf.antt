@@ -250,6 +250,7 @@ module _ (asked : Asked) (trace : List Object) (unit d : ℕ) (whole_costs : Boo
       bounds = bounds;
       least = exact_is_least trace h rs valid;
       near = λ wide. subst (IsNear trace h) (sym flowing) (near wide);
+      exact_if_equal = λ size wide same. and_from (is_unwindowed asked.mode (length trace)) whole_costs wide (found.whole_back (whole_of_equal size same));
       equal_sizes = λ size wide same. subst (IsBestSchedule (terms_asked asked) trace d upper) (sym kept) (best size wide same);
     }
 

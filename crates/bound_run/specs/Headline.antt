@@ -5,7 +5,7 @@ use Rattle.bound_io.specs.Devices.{Device}
 use Rattle.cache_model.specs.declared.objects.Object.{Object}
 use Rattle.cache_model.specs.declared.certificates.Header.{Header}
 use Rattle.cache_model.specs.declared.certificates.Record.{Record}
-use Rattle.cache_model.specs.Certificates.{eligible_of, flow_of, keeps_of, upper_of}
+use Rattle.cache_model.specs.Certificates.{IsCertificate, eligible_of, flow_of, keeps_of, upper_of}
 use Rattle.cache_model.specs.Claim.{IsAllowed, score, terms_of, BoundsEveryPolicy, contents_of}
 use Rattle.cache_model.specs.Texts.{cert_text}
 use Rattle.bound_report.specs.Reports.{report_text}
@@ -24,15 +24,16 @@ use Rattle.bound_run.specs.Replays.{IsReplayText}
 use Rattle.bound_run.specs.Run.{Devices}
 use Rattle.bound_run.specs.Tasks.{Task, bounds, check, replay, demo, task_of}
 
--- the bounds of a certificate are true of the trace: no allowed contents score more than the upper one, the keeps are allowed contents that scores the lower one, and in the form exact prices and flows have the upper one as their value
+-- header and records are a certificate in range, with a record for each request, and its bounds are true of the trace: no allowed contents score more than the upper one, the keeps are allowed contents that scores the lower one, and in the form exact prices and flows have the upper one as their value
 pub record AreTrueBounds (trace : List Object) (h : Header) (records : List Record) : Type 0 where
-  pub some_capacity : (1 ≤ h.capacity) × (h.capacity ≤ 2 ^ 56)
+  pub certificate : IsCertificate h records
+  pub requests : h.requests ≡ length trace
   pub upper : BoundsEveryPolicy trace h
   pub schedule : IsAllowed h.capacity trace (contents_of trace (keeps_of records))
   pub lower : score (terms_of h) trace (contents_of trace (keeps_of records)) ≡ h.lower
   pub equal_values : IsTrue h.exact → (upper_of trace h records ≡ h.upper) × (flow_of trace h records ≡ h.upper)
 
--- bounds printed and certified true bounds at the capacity and for the objective that were asked for; with one window for all steps they are of the form exact where no cost is rounded, and one number where all sizes are equal
+-- bounds printed and certified true bounds at the capacity and for the objective that were asked for; with one window for all steps they are of the form exact where no cost is rounded, and where all sizes are equal, and then they are one number
 pub record ShowsBounds (asked : Asked) (trace : List Object) (dropped : ℕ) (report made : Device) : Type 0 where
   pub header : Header
   pub records : List Record
@@ -43,7 +44,7 @@ pub record ShowsBounds (asked : Asked) (trace : List Object) (dropped : ℕ) (re
   pub objective : header.objective ≡ asked.objective
   pub bounds : AreTrueBounds trace header records
   pub exact : IsTrue header.exact ↔ (IsTrue (is_unwindowed asked.mode (length trace)) × HasWholeCosts (eligible_of trace header) header.unit header.denominator)
-  pub equal_sizes : (size : ℕ) → IsTrue (is_unwindowed asked.mode (length trace)) → All (λ i. i.size ≡ size) (eligible_of trace header) → header.upper ≡ header.denominator * header.lower
+  pub equal_sizes : (size : ℕ) → IsTrue (is_unwindowed asked.mode (length trace)) → All (λ i. i.size ≡ size) (eligible_of trace header) → IsTrue header.exact × (header.upper ≡ header.denominator * header.lower)
 
 -- a check printed what the certificate states, which is the text of true bounds, whatever bytes it was given
 pub record ShowsCheck (trace : List Object) (dropped : ℕ) (cert report : Device) : Type 0 where
@@ -53,7 +54,7 @@ pub record ShowsCheck (trace : List Object) (dropped : ℕ) (cert report : Devic
   pub certified : IfSome cert.before (λ text. text ≡ cert_text verdict.header records)
   pub bounds : AreTrueBounds trace verdict.header records
 
--- a replay printed the hits of its rule's run, which no valid certificate is below
+-- a replay printed the hits of its rule's run, which no valid certificate of its capacity and warm-up is below
 pub record ShowsReplay (r : Replaying) (trace : List Object) (dropped : ℕ) (report : Device) : Type 0 where
   pub text : List ℕ
   pub printed : Appends report.before report.after text

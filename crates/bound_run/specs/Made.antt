@@ -90,6 +90,7 @@ pub record IsMade (asked : Asked) (trace : List Object) (price : ℕ) (h : Heade
   pub bounds : BoundsEveryPolicy trace h
   pub least : IsTrue h.exact → IsLeastOverAll trace h records
   pub near : IsTrue (is_unwindowed asked.mode (length trace)) → IsNear trace h (flows_of (eligible_of trace h) records)
+  pub exact_if_equal : (size : ℕ) → IsTrue (is_unwindowed asked.mode (length trace)) → All (λ i. i.size ≡ size) (eligible_of trace h) → IsTrue h.exact
   pub equal_sizes : (size : ℕ) → IsTrue (is_unwindowed asked.mode (length trace)) → All (λ i. i.size ≡ size) (eligible_of trace h) → IsBestSchedule (terms_of h) trace h.denominator h.upper (keeps_of records)
 
 -- what the report states beside the header
