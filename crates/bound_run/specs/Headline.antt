@@ -1,5 +1,5 @@
 -- The headline: what is known of the numbers that a run printed, in the words of the trace and of contents alone.
-use Rattle.std.specs.Prelude.{◌≡◌, ◌↔◌, ℕ, ◌*◌, ◌^◌, ◌≤◌, IsTrue, IfSome, List, length, All, Result, Ok, Err}
+use Rattle.std.specs.Prelude.{◌≡◌, ◌↔◌, ℕ, ◌*◌, IsTrue, IfSome, List, length, All, Result, Ok, Err}
 use Rattle.std.specs.Io.KnownBytes.{Appends}
 use Rattle.bound_io.specs.Devices.{Device}
 use Rattle.cache_model.specs.declared.objects.Object.{Object}
