@@ -17,6 +17,8 @@ mod checkers;
 #[cfg(test)]
 mod checks;
 #[cfg(test)]
+mod demos;
+#[cfg(test)]
 mod lines;
 #[cfg(test)]
 mod msr_lines;
