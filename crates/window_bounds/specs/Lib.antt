@@ -1,1 +1,2 @@
 pub mod Solutions
+pub mod Laws

@@ -4,8 +4,10 @@
 //! one after another, bound the whole. One window at least as wide as the steps is the whole.
 #![tactic(auto)]
 
+mod laws;
 mod solution;
 mod solving;
 
+pub use laws::one_window_is_whole;
 pub use solution::WindowSolution;
 pub use solving::solve_windows;
