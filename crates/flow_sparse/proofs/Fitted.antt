@@ -4,7 +4,7 @@ use Rattle.std.proofs.lemmas.Bool.{cases_lt}
 use Rattle.std.proofs.lemmas.List.{get_or_past}
 use Rattle.flow_model.specs.Instances.{Instance, IsInstance, IsArc, no_arc, arc_at, price_over}
 use Rattle.flow_model.proofs.Equal.{telescope}
-use Rattle.flow_parts.specs.OuterEdges.{Lists}
+use Rattle.flow_sparse.specs.Ranges.{Ranges}
 use Rattle.flow_sparse.specs.States.{State}
 use Rattle.flow_sparse.specs.Contractions.{AreOpen, IsSlack}
 use Rattle.flow_sparse.specs.Searches.{Found}
@@ -36,7 +36,7 @@ small_fitted whole falls flows fits wide fitted i h = omega (arith, (fitted i (o
 pub shut_priced : (whole : Instance) (opens : List Bool) (prices : List ℕ) → length prices ≡ whole.steps → ((t : ℕ) → t < whole.steps → slice_index_or opens t false ≡ false → slice_index prices t ≡ 0) → AreOpen opens prices
 shut_priced whole opens prices long shut t is_shut = ⊎_elim (λ (h : t < whole.steps). shut t h is_shut) (λ (h : whole.steps ≤ t). get_or_past prices t 0 (omega (arith, h, long))) (cases_lt t whole.steps)
 
-pub room_fitted : (whole : Instance) (old new : State) (lists : Lists) (found : Found) (nodes steps_of path : ℕ) → HasRoom whole old lists found nodes steps_of path → new ≡ record old { flows = record { outer = new.flows.outer; inner = old.flows.inner } }
+pub room_fitted : (whole : Instance) (old new : State) (lists : Ranges) (found : Found) (nodes steps_of path : ℕ) → HasRoom whole old lists found nodes steps_of path → new ≡ record old { flows = record { outer = new.flows.outer; inner = old.flows.inner } }
     → length new.flows.outer ≡ length old.flows.outer → HasRoom whole new lists found nodes steps_of path
 room_fitted whole old new lists found nodes steps_of path room is same =
     record {
@@ -50,7 +50,8 @@ room_fitted whole old new lists found nodes steps_of path room is same =
         under = omega (arith, ap (λ (s : State). length s.under) is, room.sized.under);
       };
       first = room.first;
-      next = room.next;
+      numbers = room.numbers;
+      are_edges = room.are_edges;
       idle = room.idle;
       nodes_fit = room.nodes_fit;
       steps_fit = room.steps_fit;

@@ -1,6 +1,6 @@
 -- Outer edges that lead from a node to itself stand in no node's list, and are settled at any distances.
-use Rattle.std.proofs.Common.{◌≡◌, ◌≢◌, ◌∙◌, ℕ, ◌*◌, ◌<◌, ◌≤◌, ap, sym, refl, cond, List, length, map, arith, ⊎_elim, slice_index}
-use Rattle.std.proofs.lemmas.Bool.{cases_lt, cases_eq, lt-ltb, le-ltb}
+use Rattle.std.proofs.Common.{◌≡◌, ◌≢◌, ◌∙◌, ℕ, ◌*◌, ◌<◌, ◌≤◌, ap, refl, cond, List, length, map, arith, ⊎_elim, slice_index}
+use Rattle.std.proofs.lemmas.Bool.{cases_lt, lt-ltb, le-ltb}
 use Rattle.std.proofs.lemmas.List.{get_or-map, length-map}
 use Rattle.flow_model.specs.declared.arcs.OuterArc.{OuterArc}
 use Rattle.flow_model.specs.declared.edges.Edge.{Edge}
@@ -53,13 +53,15 @@ pub list_moved : (instance : Instance) (past k : ℕ) → k < 2 * length instanc
     → tail_of (map (without_loop past) instance.arcs) k ≡ past
 list_moved instance past k h same = same_edge instance past k ∙ tail_moved instance past (edge_of (length instance.arcs) k) (is_edge_of instance k h) same
 
--- what stands in a node's list leads out of it
-pub tail_listed : (instance : Instance) (past k node : ℕ) → IsNetwork instance → k < 2 * length instance.arcs → node < past → tail_of (map (without_loop past) instance.arcs) k ≡ node → tail_of instance.arcs k ≡ node
-tail_listed instance past k node fits h before is =
-    ⊎_elim
-    (λ (e : tail_of instance.arcs k ≡ head instance.arcs (edge_of (length instance.arcs) k)). absurd (omega (arith, before, is, list_moved instance past k h e)))
-    (λ (n : tail_of instance.arcs k ≡ head instance.arcs (edge_of (length instance.arcs) k) → ⊥). sym (list_kept instance past k fits h n) ∙ is)
-    (cases_eq (tail_of instance.arcs k) (head instance.arcs (edge_of (length instance.arcs) k)))
+-- the edge leads out of a node of the instance
+pub tail_within : (instance : Instance) (k : ℕ) → IsNetwork instance → k < 2 * length instance.arcs → tail_of instance.arcs k ≤ instance.steps
+tail_within instance k fits h = of_edge (edge_of (length instance.arcs) k) (is_edge_of instance k h)
+  where
+    of_edge : (e : Edge) → IsEdge instance e → tail instance.arcs e ≤ instance.steps
+    of_edge (Inner t) is = omega (arith, is)
+    of_edge (InnerBack t) is = omega (arith, is)
+    of_edge (Outer i) is = let a = fits.arcs_fit i no_arc is in omega (arith, a.order, a.within)
+    of_edge (OuterBack i) is = (fits.arcs_fit i no_arc is).within
 
 -- an edge that leads back to its node is settled
 pub loop_settled : (state : State) (distances : List ℕ) (limit : ℕ) (e : Edge) → IsReady state → IsEdge state.instance e → tail state.instance.arcs e ≡ head state.instance.arcs e → IsSettled state distances limit e

@@ -1,12 +1,13 @@
 -- A search for the distance of nodes from one of them, as far as the nearest that has units over.
-use Rattle.std.specs.Prelude.{◌≡◌, ◌≢◌, ◌⊎◌, ℕ, ◌+◌, ◌-◌, ◌*◌, ◌^◌, ◌<◌, ◌≤◌, if◌then◌else◌, List, length, map, nat_lt, slice_index, sum}
+use Rattle.std.specs.Prelude.{◌≡◌, ◌≢◌, ◌⊎◌, ℕ, ◌+◌, ◌*◌, ◌^◌, ◌<◌, ◌≤◌, if◌then◌else◌, List, length, nat_lt, slice_index, sum}
 use Rattle.flow_model.specs.declared.arcs.OuterArc.{OuterArc}
 use Rattle.flow_model.specs.declared.edges.Edge.{Edge}
 use Rattle.flow_model.specs.Instances.{Instance}
 use Rattle.flow_model.specs.Networks.{tail, head, gain, loss, residual, IsEdge, IsTight}
 use Rattle.flow_model.specs.Pushes.{edge_at}
 use Rattle.flow_parts.specs.Queues.{Waiting, Waits, IsPlaced, IsQueue}
-use Rattle.flow_parts.specs.OuterEdges.{Lists, AreListed}
+use Rattle.flow_parts.specs.OuterEdges.{edge_of, tail_of}
+use Rattle.flow_sparse.specs.Ranges.{Ranges}
 use Rattle.flow_sparse.specs.States.{State, IsSettled, lowered}
 
 -- how far each node is by a walk that was found, the last edge of that walk, the nodes that wait for their edges to be looked
@@ -97,18 +98,21 @@ pub record KeepsRoom (old new : Found) : Type 0 where
   pub placed : IsPlaced new.waiting
   pub none_waits : new.waiting.count ≡ 0
 
--- the last list, which is no node's
-abbrev pub last_list : Lists → ℕ
-last_list lists = length lists.first - 1
-
 -- the arc, or where it leads from a node to itself, one that does so from the node past all
 abbrev pub without_loop : ℕ → OuterArc → OuterArc
 without_loop past arc = if nat_lt arc.start arc.end then arc else record arc { start = past; end = past }
 
--- the lists have the outer edges out of each node, but in the last list are those that lead back to it
-pub record IsListed (instance : Instance) (lists : Lists) : Type 0 where
-  pub few : instance.steps < last_list lists
-  pub listed : AreListed (record { steps = last_list lists; units = instance.units; arcs = map (without_loop (last_list lists)) instance.arcs }) lists (2 * length instance.arcs)
+-- the edge of that number stands in the range of the node
+abbrev pub IsPlacedAt : Ranges → ℕ → ℕ → Type 0
+IsPlacedAt lists node number =
+    (place : ℕ) × (slice_index lists.first node ≤ place) × (place < slice_index lists.first (node + 1)) × (slice_index lists.numbers place ≡ number)
+
+-- each node has a range of places with the numbers of edges, and each outer edge to another node stands in that of its tail
+pub record IsListed (instance : Instance) (lists : Ranges) : Type 0 where
+  pub few : instance.steps + 1 < length lists.first
+  pub within : (node : ℕ) → node ≤ instance.steps → slice_index lists.first (node + 1) ≤ length lists.numbers
+  pub are_edges : (place : ℕ) → place < length lists.numbers → slice_index lists.numbers place < 2 * length instance.arcs
+  pub listed : (k : ℕ) → k < 2 * length instance.arcs → tail_of instance.arcs k ≢ head instance.arcs (edge_of (length instance.arcs) k) → IsPlacedAt lists (tail_of instance.arcs k) k
 
 -- under the lowered potentials the edge is tight, and leads to the node from one within the limit that was found before
 pub record IsHop (state : State) (found : Found) (times : ℕ → ℕ) (e : Edge) (node : ℕ) : Type 0 where

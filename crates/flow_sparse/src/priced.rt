@@ -76,11 +76,12 @@ fn network_of(alloc: Global, instance: &Instance) -> Result<Network, NoMemory>
 // Lists with room for the instance.
 fn lists_of(alloc: Global, instance: &Instance) -> Result<EdgeLists, NoMemory>
     ensures first { IfOk result (λ lists. length lists.first ≡ instance.now.steps + 2) }
-    ensures next { IfOk result (λ lists. length lists.next ≡ 2 * length instance.now.arcs) }
+    ensures numbers { IfOk result (λ lists. length lists.numbers ≡ 2 * length instance.now.arcs) }
+    ensures are_edges { IfOk result (λ lists. (place : ℕ) → place < length lists.numbers → slice_index lists.numbers place < 2 * length instance.now.arcs) }
 {
     let first = vec![in alloc; 0; instance.steps() as usize + 2]?;
-    let next = vec![in alloc; 0; 2 * instance.arcs().len()]?;
-    Ok(EdgeLists { first, next })
+    let numbers = vec![in alloc; 0; 2 * instance.arcs().len()]?;
+    Ok(EdgeLists { first, numbers })
 }
 
 // Room for searches over so many steps.

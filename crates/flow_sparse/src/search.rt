@@ -145,11 +145,8 @@ impl Search {
         ensures settled { Rests self.new node → (k : ℕ) → k < 2 * length network.now.instance.arcs → tail_of network.now.instance.arcs k ≡ node → IsSettled network.now self.new.distances self.new.limit (edge_of (length network.now.instance.arcs) k) }
     {
         let arcs = network.arc_count();
-        let mut left = lists.first(node);
-        while left > 0 {
-            let number = left - 1;
-            self.relax(network, from, outer_edge(arcs, number));
-            left = lists.after(number);
+        for place in lists.first(node)..lists.first(node + 1) {
+            self.relax(network, from, outer_edge(arcs, lists.number(place)));
         }
     }
 
