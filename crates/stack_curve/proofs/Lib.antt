@@ -1,1 +1,5 @@
 pub mod SumLemmas
+pub mod Different
+pub mod Recent
+pub mod LruEntries
+pub mod LruCurve

@@ -1,1 +1,3 @@
+pub mod Distances
+pub mod Laws
 pub mod Sums

@@ -4,7 +4,9 @@
 //! distance is no more. The latest request of each object carries a mark, and the distance is a count of marks.
 #![tactic(auto)]
 
+mod laws;
 mod marks;
 mod sums;
 
+pub use laws::curve_is_of_lru;
 pub use marks::Marks;

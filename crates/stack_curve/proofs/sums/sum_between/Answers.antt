@@ -1,6 +1,6 @@
 use Rattle.std.proofs.Common.{◌≡◌, ◌%◌, arith}
 use Rattle.stack_curve.proofs.SumLemmas.{IsCounted, sum-fits, low-odd, high-odd, parents}
-use Rattle.stack_curve.proofs.sums.sum_between.Goals.{After-row_known-1, After-row_known-in-up-2-1, then-low-eq1, else-low-eq1, then-high-eq1, else-high-eq1}
+use Rattle.stack_curve.proofs.sums.sum_between.Goals.{then-low-eq1, else-low-eq1, then-high-eq1, else-high-eq1}
 use Rattle.stack_curve.proofs.sums.sum_between.Goals as goal
 
 pub overflow_add-sum : goal.overflow_add-sum
