@@ -80,11 +80,11 @@ kinds-reverse (y ∷ ys) =
     ∙ ap (λ k. cond (asks_for y ys) k (1 + k)) (kinds-reverse ys)
 
 -- ---- the objects of a list
-asks-none : (x : Object) (xs : List Object) → ((k : ℕ) → k < length xs → same_object x (request_at xs k) ≡ false) → asks_for x xs ≡ false
+pub asks-none : (x : Object) (xs : List Object) → ((k : ℕ) → k < length xs → same_object x (request_at xs k) ≡ false) → asks_for x xs ≡ false
 asks-none x [] none = refl
 asks-none x (y ∷ ys) none = ap (λ b. b || asks_for x ys) (none 0 (omega arith)) ∙ asks-none x ys (λ k low. none (suc k) (omega arith))
 
-asks-at : (x : Object) (xs : List Object) (k : ℕ) → k < length xs → same_object x (request_at xs k) ≡ true → asks_for x xs ≡ true
+pub asks-at : (x : Object) (xs : List Object) (k : ℕ) → k < length xs → same_object x (request_at xs k) ≡ true → asks_for x xs ≡ true
 asks-at x [] k low same = absurd (omega arith)
 asks-at x (y ∷ ys) zero low same = ap (λ b. b || asks_for x ys) same
 asks-at x (y ∷ ys) (suc k) low same = ap (λ b. same_object x y || b) (asks-at x ys k (omega arith) same) ∙ or_true (same_object x y)

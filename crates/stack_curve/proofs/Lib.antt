@@ -3,3 +3,5 @@ pub mod Different
 pub mod Recent
 pub mod LruEntries
 pub mod LruCurve
+pub mod CountLemmas
+pub mod CurveLemmas

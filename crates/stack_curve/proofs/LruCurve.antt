@@ -1,6 +1,6 @@
 -- The hits of LRU's run are those of the curve.
-use Rattle.std.proofs.Common.{◌≡◌, ℕ, zero, suc, ◌+◌, ◌-◌, ◌/◌, ◌<◌, ◌≤◌, ◌∙◌, sym, refl, ap, subst, ⊎_elim, Bool, true, false, ◌&&◌, cond, eqb, leb, List, [], ◌∷◌, length, take, reverse, get_or, arith, Some, None, count_by}
-use Rattle.std.specs.List.{AllByRecursion, range_with_len}
+use Rattle.std.proofs.Common.{◌≡◌, ℕ, zero, suc, ◌+◌, ◌-◌, ◌/◌, ◌<◌, ◌≤◌, ◌∙◌, sym, refl, ap, subst, ⊎_elim, Bool, true, false, ◌&&◌, cond, eqb, leb, List, [], ◌∷◌, length, take, reverse, get_or, arith, Some, None}
+use Rattle.std.specs.List.{AllByRecursion}
 use Rattle.std.proofs.lemmas.Bool.{cases_Bool, le-leb, eqb-true, eq-eqb, false_from_ne_true}
 use Rattle.std.proofs.lemmas.List.{length-reverse, length-take-le, take_more, get_or-take, get_or-reverse, reverse-append}
 use Rattle.std.proofs.lemmas.List.Elements.{All-get_or}
@@ -16,15 +16,12 @@ use Rattle.policy_model.specs.Steps.{entries_after}
 use Rattle.policy_model.specs.Runs.{Run, run_step}
 use Rattle.policy_model.proofs.Replays.{run_to, run_to-more, run_to-all}
 use Rattle.policy_laws.proofs.Asked.{number_of-object}
+use Rattle.stack_curve.specs.Counts.{hits_before}
 use Rattle.stack_curve.specs.Distances.{earlier, since, different, stack_distance, is_within}
 use Rattle.stack_curve.specs.Laws.{HaveSize, CurveIsOfLru}
 use Rattle.stack_curve.proofs.Different.{asks_for, kinds, different-since}
 use Rattle.stack_curve.proofs.Recent.{recent, asks-recent, length-recent, since-recent, asks-take}
 use Rattle.stack_curve.proofs.LruEntries.{entries_of, lru_state, IsToldApart, all-recent, all-take, has-entries, after-request}
-
--- the hits of the curve among the first n requests
-abbrev pub hits_before : List Object → ℕ → ℕ → ℕ
-hits_before trace slots n = count_by (λ t. is_within slots (stack_distance trace t)) (range_with_len 0 n)
 
 pub hits-more : (trace : List Object) (slots t : ℕ) → hits_before trace slots (t + 1) ≡ hits_before trace slots t + cond (is_within slots (stack_distance trace t)) 1 0
 hits-more trace slots t =

@@ -1,3 +1,5 @@
+pub mod Counts
+pub mod Curves
 pub mod Distances
 pub mod Laws
 pub mod Sums

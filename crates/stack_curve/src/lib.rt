@@ -6,7 +6,11 @@
 
 mod laws;
 mod marks;
+mod pass;
+mod points;
 mod sums;
 
 pub use laws::curve_is_of_lru;
 pub use marks::Marks;
+pub use pass::{CurveFault, curve};
+pub use points::Curve;

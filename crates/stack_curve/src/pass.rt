@@ -1,0 +1,122 @@
+//! The curve of a trace whose objects have one size.
+ghost use Rattle.std.specs.Prelude.{◌≡◌, ◌≤◌, ◌<◌, ◌+◌, ◌/◌, ◌^◌, ℕ, length, sum_by, replicate, IfErr, IfOk, OnOk, MatchOption, slice_index};
+ghost use Rattle.cache_model.specs.Objects.{objects_of};
+ghost use Rattle.stack_curve.specs.Counts.{AreCounts, AreHits, marks_at, sum_to};
+ghost use Rattle.stack_curve.specs.Curves.{IsCause, IsCurve, IsFirstOther, IsOfLru, first_size, size_at};
+ghost use Rattle.stack_curve.specs.Laws.{HaveSize};
+
+use crate::marks::Marks;
+use crate::points::Curve;
+use bound_base::NoMemory;
+use cache_rules::Trace;
+use std::alloc::Global;
+
+/// Why there is no curve.
+#[derive(Clone, Copy, Debug, PartialEq, Eq)]
+pub enum CurveFault {
+    /// Two objects differ in size: the size of object 0, and that of the least numbered object which differs, in bytes.
+    Unequal { first: u64, other: u64 },
+    /// There was not enough memory.
+    NoMemory,
+}
+
+impl From<NoMemory> for CurveFault {
+    ghost use Rattle.std.specs.Prelude.{◌≡◌};
+    ghost use Rattle.stack_curve.specs.declared.pass.CurveFault.TheVariants.{NoMemory as WantOfMemory};
+
+    ghost from_gives = { λ _ fault. fault ≡ WantOfMemory };
+
+    fn from(_: NoMemory) -> Self {
+        CurveFault::NoMemory
+    }
+}
+
+// The size of the first request, and 0 of none.
+fn size_of_first(trace: &Trace) -> u64
+    ensures size { result ≡ first_size trace.now }
+    ensures positive { 0 < length trace.now → 1 ≤ result }
+{
+    if trace.objects() == 0 {
+        0
+    } else {
+        trace.size_of(0)
+    }
+}
+
+// The size of the first object that has not this one.
+fn other_size(trace: &Trace, size: u64) -> Option<u64>
+    ensures { MatchOption result ((n : ℕ) → n < length (objects_of trace.now) → size_at trace.now n ≡ size) (IsFirstOther trace.now size) }
+{
+    for number in 0..trace.objects() {
+        let here = trace.size_of(number);
+        if here != size {
+            return Some(here);
+        }
+    }
+    None
+}
+
+// Counts the stack distance of a request, and moves the mark of its object to it.
+fn count_request(trace: &Trace, t: u32, marks: &mut Marks, counts: &mut [u32])
+    requires within { t < length trace.now }
+    requires few { length trace.now ≤ 2 ^ 25 }
+    requires marked { marks.old ≡ marks_at trace.now t }
+    requires counted { AreCounts trace.now t counts.old }
+    ensures marked { marks.new ≡ marks_at trace.now (t + 1) }
+    ensures counted { AreCounts trace.now (t + 1) counts.new }
+{
+    if let Some(last) = trace.prev(t) {
+        let distance = marks.count(last + 1, t) + 1;
+        counts[distance as usize] += 1;
+        marks.set(last, false);
+    }
+    marks.set(t, true);
+}
+
+// A count of 0 for each distance up to the number of objects.
+fn no_counts(alloc: Global, objects: u32) -> Result<Vec<u32>, NoMemory>
+    ensures { IfOk result (λ counts. counts.items ≡ replicate (objects + 1) 0) }
+{
+    Ok(vec![in alloc; 0; objects as usize + 1]?)
+}
+
+// Makes of each count the sum of those up to it.
+fn sum_up(counts: &mut [u32])
+    requires small { sum_by (λ count. count) counts.old < 2 ^ 32 }
+    ensures { (k : ℕ) → k < length counts.old → slice_index counts.new k ≡ sum_to counts.old k }
+{
+    for k in 1..counts.len() {
+        counts[k] += counts[k - 1];
+    }
+}
+
+// The hits at each number of slots up to the number of objects.
+fn hits_of(alloc: Global, trace: &Trace) -> Result<Vec<u32>, NoMemory>
+    ensures { IfOk result (λ hits. AreHits trace.now hits.items) }
+{
+    let mut marks = Marks::new(alloc, trace.len())?;
+    let mut counts = no_counts(alloc, trace.objects())?;
+    for t in 0..trace.len() {
+        count_request(trace, t, &mut marks, &mut counts);
+    }
+    sum_up(&mut counts);
+    Ok(counts)
+}
+
+/// The curve of a trace whose objects have one size. It takes 8 bytes for each request while it counts, and 4 for each
+/// object.
+pub fn curve(alloc: Global, trace: &Trace) -> Result<Curve, CurveFault>
+    ensures curve { IfOk result (IsCurve trace.now) }
+    ensures one_size { OnOk result (HaveSize (first_size trace.now) trace.now) }
+    ensures lru { IfOk result (IsOfLru trace.now) }
+    ensures cause { IfErr result (IsCause trace.now) }
+{
+    let size = size_of_first(trace);
+    if let Some(other) = other_size(trace, size) {
+        return Err(CurveFault::Unequal { first: size, other });
+    }
+    Ok(Curve {
+        size,
+        hits: hits_of(alloc, trace)?,
+    })
+}
