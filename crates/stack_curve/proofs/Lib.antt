@@ -5,3 +5,4 @@ pub mod LruEntries
 pub mod LruCurve
 pub mod CountLemmas
 pub mod CurveLemmas
+mod Rows
