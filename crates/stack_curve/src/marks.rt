@@ -55,7 +55,8 @@ impl Marks {
         );
     }
 
-    /// How many of the places from `from` to the one before `to` are marked. Takes time in the logarithm of their number.
+    /// How many of the places from `from` to the one before `to` are marked. Takes time in the logarithm of their
+    /// number.
     pub fn count(&self, from: u32, to: u32) -> u32
         requires order { from ≤ to }
         requires within { to ≤ length self.now }
