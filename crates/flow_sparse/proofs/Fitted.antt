@@ -51,6 +51,8 @@ room_fitted whole old new lists found nodes steps_of path room is same =
       };
       first = room.first;
       numbers = room.numbers;
+      slacks = room.slacks;
+      marks = room.marks;
       are_edges = room.are_edges;
       idle = room.idle;
       nodes_fit = room.nodes_fit;

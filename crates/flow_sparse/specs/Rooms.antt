@@ -11,6 +11,8 @@ pub record HasRoom (whole : Instance) (state : State) (lists : Ranges) (found : 
   pub sized : IsSized whole state
   pub first : length lists.first ≡ whole.steps + 2
   pub numbers : length lists.numbers ≡ 2 * length whole.arcs
+  pub slacks : length lists.slacks ≡ 2 * length whole.arcs
+  pub marks : length lists.marks ≡ whole.steps + 1
   pub are_edges : (place : ℕ) → place < length lists.numbers → slice_index lists.numbers place < 2 * length whole.arcs
   pub idle : IsIdle whole.steps found
   pub nodes_fit : nodes ≡ whole.steps + 1

@@ -4,10 +4,10 @@ use Rattle.flow_model.specs.declared.arcs.OuterArc.{OuterArc}
 use Rattle.flow_model.specs.declared.edges.Edge.{Edge}
 use Rattle.flow_model.specs.Instances.{Instance}
 use Rattle.flow_model.specs.Networks.{tail, head, gain, loss, residual, IsEdge, IsTight}
-use Rattle.flow_model.specs.Pushes.{edge_at}
+use Rattle.flow_model.specs.Pushes.{edge_at, opposite}
 use Rattle.flow_parts.specs.Queues.{Waiting, Waits, IsPlaced, IsQueue}
 use Rattle.flow_parts.specs.OuterEdges.{edge_of, tail_of}
-use Rattle.flow_sparse.specs.Ranges.{Ranges}
+use Rattle.flow_sparse.specs.Ranges.{Ranges, number_of}
 use Rattle.flow_sparse.specs.States.{State, IsSettled, lowered}
 
 -- how far each node is by a walk that was found, the last edge of that walk, the nodes that wait for their edges to be looked
@@ -113,6 +113,30 @@ pub record IsListed (instance : Instance) (lists : Ranges) : Type 0 where
   pub within : (node : ℕ) → node ≤ instance.steps → slice_index lists.first (node + 1) ≤ length lists.numbers
   pub are_edges : (place : ℕ) → place < length lists.numbers → slice_index lists.numbers place < 2 * length instance.arcs
   pub listed : (k : ℕ) → k < 2 * length instance.arcs → tail_of instance.arcs k ≢ head instance.arcs (edge_of (length instance.arcs) k) → IsPlacedAt lists (tail_of instance.arcs k) k
+
+-- if the edge has room, it is at least that long
+abbrev pub IsLong : State → ℕ → Edge → Type 0
+IsLong state slack e =
+    0 < residual state.instance state.flows e
+    → slack + (gain state.instance.arcs e + slice_index state.potentials (head state.instance.arcs e)) ≤ loss state.instance.arcs e + slice_index state.potentials (tail state.instance.arcs e)
+
+-- where the opposite of the edge is listed there is no slack
+abbrev pub IsWoken : Instance → Ranges → Edge → Type 0
+IsWoken instance lists e =
+    (place : ℕ) → slice_index lists.first (head instance.arcs e) ≤ place → place < slice_index lists.first (head instance.arcs e + 1)
+    → slice_index lists.numbers place ≡ number_of (length instance.arcs) (opposite e) → slice_index lists.slacks place ≡ 0
+
+-- no listed edge with room is shorter than its slack, less what the potential of its tail fell by since it was marked
+pub record IsBounded (state : State) (lists : Ranges) : Type 0 where
+  pub each_slack : length lists.slacks ≡ length lists.numbers
+  pub each_mark : state.instance.steps + 1 ≤ length lists.marks
+  pub falls : (node : ℕ) → node ≤ state.instance.steps → slice_index state.potentials node ≤ slice_index lists.marks node
+  pub small : (node : ℕ) → node ≤ state.instance.steps → slice_index lists.marks node ≤ 2 ^ 124
+  pub bounds : (node place : ℕ) → node ≤ state.instance.steps → slice_index lists.first node ≤ place → place < slice_index lists.first (node + 1)
+      → tail_of state.instance.arcs (slice_index lists.numbers place) ≡ node
+      → 0 < residual state.instance state.flows (edge_of (length state.instance.arcs) (slice_index lists.numbers place))
+      → slice_index lists.slacks place + (gain state.instance.arcs (edge_of (length state.instance.arcs) (slice_index lists.numbers place)) + slice_index state.potentials (head state.instance.arcs (edge_of (length state.instance.arcs) (slice_index lists.numbers place))))
+      ≤ loss state.instance.arcs (edge_of (length state.instance.arcs) (slice_index lists.numbers place)) + slice_index lists.marks node
 
 -- under the lowered potentials the edge is tight, and leads to the node from one within the limit that was found before
 pub record IsHop (state : State) (found : Found) (times : ℕ → ℕ) (e : Edge) (node : ℕ) : Type 0 where

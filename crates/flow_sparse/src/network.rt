@@ -134,6 +134,22 @@ impl Network {
         if hop.tail == hop.head { past } else { hop.tail }
     }
 
+    /// How long the edge is, as far as 64 bits hold that; and the most that they hold where it has no room.
+    pub fn slack(&self, edge: Edge) -> u64
+        requires ready { IsReady self.now }
+        requires high { IsHigh self.now }
+        requires edge { IsEdge self.now.instance edge }
+        ensures { 0 < residual self.now.instance self.now.flows edge → result + (gain self.now.instance.arcs edge + slice_index self.now.potentials (head self.now.instance.arcs edge)) ≤ loss self.now.instance.arcs edge + slice_index self.now.potentials (tail self.now.instance.arcs edge) }
+    {
+        let hop = self.hop(edge);
+        if self.residual(edge) == 0 {
+            return u64::MAX;
+        }
+        let behind = hop.loss + self.potential(hop.tail);
+        let length = behind - (hop.gain + self.potential(hop.head));
+        length.min(u64::MAX as u128) as u64
+    }
+
     /// The potential of the node.
     #[inline(always)]
     pub fn potential(&self, node: u32) -> u128

@@ -7,7 +7,7 @@ ghost use Rattle.flow_model.specs.Pushes.{edge_at};
 ghost use Rattle.flow_parts.specs.OuterEdges.{AreListed, edge_of, tail_of};
 ghost use Rattle.flow_parts.specs.Queues.{IsPlaced, IsQueue, IsQueueBut, Joins, Leaves, Waits};
 ghost use Rattle.flow_sparse.specs.States.{IsReady, IsHigh, IsSettled};
-ghost use Rattle.flow_sparse.specs.Searches.{AreSettled, IsAimed, IsIdle, IsListed, IsSearch, KeepsRoom, Nears, Rests, far};
+ghost use Rattle.flow_sparse.specs.Searches.{AreSettled, IsAimed, IsBounded, IsIdle, IsListed, IsSearch, KeepsRoom, Nears, Rests, far};
 
 use crate::lists::EdgeLists;
 use crate::network::Network;
@@ -134,19 +134,47 @@ impl Search {
         self.enqueue(hop.head);
     }
 
+    // Relaxes the edge at the place, which is of the node's range, unless it is too long.
+    #[inline(always)]
+    fn relax_place(
+        &mut self,
+        network: &Network,
+        lists: &EdgeLists,
+        from: u32,
+        node: u32,
+        place: u32,
+    )
+        requires ready { IsReady network.now }
+        requires high { IsHigh network.now }
+        requires search { IsSearch network.now from self.old }
+        requires lists { IsListed network.now.instance lists.now }
+        requires bounded { IsBounded network.now lists.now }
+        requires node { node ≤ network.now.instance.steps }
+        requires place { (slice_index lists.now.first node ≤ place) × (place < slice_index lists.now.first (node + 1)) }
+        ensures nears { Nears network.now from self.old self.new }
+        ensures settled { tail_of network.now.instance.arcs (slice_index lists.now.numbers place) ≡ node → IsSettled network.now self.new.distances self.new.limit (edge_of (length network.now.instance.arcs) (slice_index lists.now.numbers place)) }
+    {
+        let reach = self.limit() + (lists.mark(node) - network.potential(node));
+        if self.distance(node) + lists.slack(place) as u128 >= reach {
+            return;
+        }
+        let edge = outer_edge(network.arc_count(), lists.number(place));
+        self.relax(network, from, edge);
+    }
+
     // Relaxes the outer edges that lead out of the node.
     fn relax_outer(&mut self, network: &Network, lists: &EdgeLists, from: u32, node: u32)
         requires ready { IsReady network.now }
         requires high { IsHigh network.now }
         requires search { IsSearch network.now from self.old }
         requires lists { IsListed network.now.instance lists.now }
+        requires bounded { IsBounded network.now lists.now }
         requires node { node ≤ network.now.instance.steps }
         ensures nears { Nears network.now from self.old self.new }
         ensures settled { Rests self.new node → (k : ℕ) → k < 2 * length network.now.instance.arcs → tail_of network.now.instance.arcs k ≡ node → IsSettled network.now self.new.distances self.new.limit (edge_of (length network.now.instance.arcs) k) }
     {
-        let arcs = network.arc_count();
         for place in lists.first(node)..lists.first(node + 1) {
-            self.relax(network, from, outer_edge(arcs, lists.number(place)));
+            self.relax_place(network, lists, from, node, place);
         }
     }
 
@@ -185,6 +213,7 @@ impl Search {
         requires high { IsHigh network.now }
         requires search { IsSearch network.now from self.old }
         requires lists { IsListed network.now.instance lists.now }
+        requires bounded { IsBounded network.now lists.now }
         requires node { node ≤ network.now.instance.steps }
         ensures nears { Nears network.now from self.old self.new }
         ensures settled { Rests self.new node → (e : FlowEdge) → IsEdge network.now.instance e → tail network.now.instance.arcs e ≡ node → IsSettled network.now self.new.distances self.new.limit e }
@@ -271,6 +300,7 @@ impl Search {
         requires search { IsSearch network.now from self.old }
         requires settled { AreSettled network.now self.old }
         requires lists { IsListed network.now.instance lists.now }
+        requires bounded { IsBounded network.now lists.now }
         ensures search { IsSearch network.now from self.new }
         ensures settled { (e : FlowEdge) → IsEdge network.now.instance e → IsSettled network.now self.new.distances self.new.limit e }
         ensures each_distance { length self.new.distances ≡ length self.old.distances }
@@ -290,6 +320,7 @@ impl Search {
         requires high { IsHigh network.now }
         requires idle { IsIdle network.now.instance.steps self.old }
         requires lists { IsListed network.now.instance lists.now }
+        requires bounded { IsBounded network.now lists.now }
         requires from { from ≤ network.now.instance.steps }
         ensures search { IsSearch network.now from self.new }
         ensures settled { (e : FlowEdge) → IsEdge network.now.instance e → IsSettled network.now self.new.distances self.new.limit e }

@@ -39,6 +39,7 @@ fn turn(
 {
     network.open(instance, opens, loads, prices, nodes, steps_of);
     lists.relist(network);
+    lists.bound(network);
     repair(network, lists, search, path);
     network.write_prices(nodes, prices);
 }

@@ -11,14 +11,6 @@ use Rattle.flow_sparse.proofs.Loops.{loop_settled}
 use Rattle.flow_sparse.proofs.Distances.{Nears-trans}
 use Rattle.flow_sparse.proofs.search.Search.relax_outer.Goals as goal
 
-pub relax-requires-clause-edge : goal.relax-requires-clause-edge
-relax-requires-clause-edge c =
-    let instance : Instance = c.args.network.now.instance in
-    let count : ℕ = length instance.arcs in
-    let own : c.outer_edge.result ≡ edge_of count c.number.result = c.outer_edge.ensures ∙ ap (λ (n : ℕ). edge_of n c.number.result) c.arc_count-arcs.ensures in
-    let place : c.loop-place.place < length c.args.lists.now.numbers = omega (arith, c.requires.lists.within c.args.node c.requires.node, c.loop-place-test.true, c.first-place-end.ensures) in
-    subst (λ (e : Edge). IsEdge instance e) (sym own) (is_edge_of instance c.number.result (omega (arith, c.number.ensures, c.requires.lists.are_edges c.loop-place.place place)))
-
 pub returns-clause-settled : goal.returns-clause-settled
 returns-clause-settled c = λ rests k high at.
     let n = c.args.network.now in
@@ -39,30 +31,22 @@ loop-place-preserved c =
     let n = c.args.network.now in
     let lists = c.args.lists.now in
     let before = c.loop-place.self in
-    let after = c.relax.new.self in
+    let after = c.relax_place.new.self in
     let inv = c.loop-place.invariant in
     let count : ℕ = length n.instance.arcs in
-    let own : c.outer_edge.result ≡ edge_of count (slice_index lists.numbers c.loop-place.place) =
-    c.outer_edge.ensures ∙ ap (λ (m : ℕ). edge_of m c.number.result) c.arc_count-arcs.ensures ∙ ap (edge_of count) c.number.ensures in
     let edges = c.requires.lists.within c.args.node c.requires.node in
     record {
-      nears = Nears-trans n c.args.from c.args.self.now before after inv.nears c.relax.ensures.nears;
+      nears = Nears-trans n c.args.from c.args.self.now before after inv.nears c.relax_place.ensures.nears;
       settled = λ rests p low high at.
           let inside : p < length lists.numbers = omega (arith, high, edges, c.loop-place-test.true, c.first-place-end.ensures) in
           let k : ℕ = slice_index lists.numbers p in
           ⊎_elim
-          (λ (e : p ≡ c.loop-place.place). subst (λ (f : Edge). IsSettled n after.distances after.limit f) (own ∙ ap (λ (q : ℕ). edge_of count (slice_index lists.numbers q)) (sym e)) c.relax.ensures.settled)
+          (λ (e : p ≡ c.loop-place.place). subst (λ (q : ℕ). IsSettled n after.distances after.limit (edge_of count (slice_index lists.numbers q))) (sym e) (c.relax_place.ensures.settled (ap (λ (q : ℕ). tail_of n.instance.arcs (slice_index lists.numbers q)) (sym e) ∙ at)))
           (λ (other : p ≡ c.loop-place.place → ⊥).
-          c.relax.ensures.nears.stays (edge_of count k) (is_edge_of n.instance k (c.requires.lists.are_edges p inside)) (subst (λ (v : ℕ). Rests after v) (sym at) rests)
-          (inv.settled (c.relax.ensures.nears.rests c.args.node rests) p low (omega (arith, high, other)) at))
+          c.relax_place.ensures.nears.stays (edge_of count k) (is_edge_of n.instance k (c.requires.lists.are_edges p inside)) (subst (λ (v : ℕ). Rests after v) (sym at) rests)
+          (inv.settled (c.relax_place.ensures.nears.rests c.args.node rests) p low (omega (arith, high, other)) at))
           (cases_eq p c.loop-place.place);
     }
-
-pub relax-requires-clause-ready : goal.relax-requires-clause-ready
-relax-requires-clause-ready c = c.requires.ready
-
-pub relax-requires-clause-search : goal.relax-requires-clause-search
-relax-requires-clause-search c = c.loop-place.invariant.nears.search
 
 pub first-place-requires : goal.first-place-requires
 first-place-requires c = omega (arith, c.requires.lists.few, c.requires.node)
@@ -70,8 +54,11 @@ first-place-requires c = omega (arith, c.requires.lists.few, c.requires.node)
 pub first-place-end-requires : goal.first-place-end-requires
 first-place-end-requires c = omega (arith, c.requires.lists.few, c.requires.node)
 
-pub number-requires : goal.number-requires
-number-requires c = omega (arith, c.requires.lists.within c.args.node c.requires.node, c.loop-place-test.true, c.first-place-end.ensures)
-
 pub returns-clause-nears : goal.returns-clause-nears
 returns-clause-nears c = c.loop-place.invariant.nears
+
+pub relax_place-requires-clause-ready : goal.relax_place-requires-clause-ready
+relax_place-requires-clause-ready c = c.requires.ready
+
+pub relax_place-requires-clause-search : goal.relax_place-requires-clause-search
+relax_place-requires-clause-search c = c.loop-place.invariant.nears.search
