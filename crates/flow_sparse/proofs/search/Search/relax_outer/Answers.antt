@@ -1,8 +1,7 @@
 use Rattle.std.proofs.Common.{◌≡◌, ℕ, ◌+◌, ◌<◌, ◌≤◌, ◌∙◌, sym, ap, subst, arith, ⊎_elim, length, slice_index}
 use Rattle.std.proofs.lemmas.Bool.{cases_eq}
 use Rattle.flow_model.specs.declared.edges.Edge.{Edge}
-use Rattle.flow_model.specs.Instances.{Instance}
-use Rattle.flow_model.specs.Networks.{IsEdge, head}
+use Rattle.flow_model.specs.Networks.{head}
 use Rattle.flow_parts.specs.OuterEdges.{edge_of, tail_of}
 use Rattle.flow_parts.proofs.EdgeLists.{is_edge_of}
 use Rattle.flow_sparse.specs.States.{IsSettled}

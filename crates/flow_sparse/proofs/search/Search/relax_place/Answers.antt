@@ -1,10 +1,8 @@
-use Rattle.std.proofs.Common.{◌≡◌, ℕ, ◌+◌, ◌*◌, ◌<◌, ◌≤◌, ◌∙◌, sym, ap, subst, min, arith, length, slice_index}
+use Rattle.std.proofs.Common.{◌≡◌, ℕ, ◌<◌, ◌∙◌, sym, ap, subst, arith, length}
 use Rattle.flow_model.specs.declared.edges.Edge.{Edge}
-use Rattle.flow_model.specs.Networks.{IsEdge, head}
+use Rattle.flow_model.specs.Networks.{IsEdge}
 use Rattle.flow_parts.specs.OuterEdges.{edge_of}
 use Rattle.flow_parts.proofs.EdgeLists.{is_edge_of}
-use Rattle.flow_sparse.specs.States.{IsSettled}
-use Rattle.flow_sparse.proofs.Distances.{Nears-refl}
 use Rattle.flow_sparse.proofs.search.Search.relax_place.Goals as goal
 
 pub mark-requires : goal.mark-requires
