@@ -7,7 +7,6 @@ use Rattle.flow_model.proofs.Equal.{telescope}
 use Rattle.flow_sparse.specs.Ranges.{Ranges}
 use Rattle.flow_sparse.specs.States.{State}
 use Rattle.flow_sparse.specs.Contractions.{AreOpen, IsSlack}
-use Rattle.flow_sparse.specs.Searches.{Found}
 use Rattle.flow_sparse.specs.Rooms.{HasRoom}
 use Rattle.flow_sparse.specs.Starts.{IsFitted}
 
@@ -36,26 +35,18 @@ small_fitted whole falls flows fits wide fitted i h = omega (arith, (fitted i (o
 pub shut_priced : (whole : Instance) (opens : List Bool) (prices : List ℕ) → length prices ≡ whole.steps → ((t : ℕ) → t < whole.steps → slice_index_or opens t false ≡ false → slice_index prices t ≡ 0) → AreOpen opens prices
 shut_priced whole opens prices long shut t is_shut = ⊎_elim (λ (h : t < whole.steps). shut t h is_shut) (λ (h : whole.steps ≤ t). get_or_past prices t 0 (omega (arith, h, long))) (cases_lt t whole.steps)
 
-pub room_fitted : (whole : Instance) (old new : State) (lists : Ranges) (found : Found) (nodes steps_of path : ℕ) → HasRoom whole old lists found nodes steps_of path → new ≡ record old { flows = record { outer = new.flows.outer; inner = old.flows.inner } }
-    → length new.flows.outer ≡ length old.flows.outer → HasRoom whole new lists found nodes steps_of path
-room_fitted whole old new lists found nodes steps_of path room is same =
+pub room_fitted : (whole : Instance) (old new : State) (lists : Ranges) (nodes steps_of : ℕ) → HasRoom whole old lists nodes steps_of → new ≡ record old { flows = record { outer = new.flows.outer; inner = old.flows.inner } }
+    → length new.flows.outer ≡ length old.flows.outer → HasRoom whole new lists nodes steps_of
+room_fitted whole old new lists nodes steps_of room is same =
     record {
       sized = record {
         units = ap (λ (s : State). s.instance.units) is ∙ room.sized.units;
         arcs = ap (λ (s : State). length s.instance.arcs) is ∙ room.sized.arcs;
         outer = same ∙ room.sized.outer;
-        inner = omega (arith, ap (λ (s : State). length s.flows.inner) is, room.sized.inner);
-        potentials = omega (arith, ap (λ (s : State). length s.potentials) is, room.sized.potentials);
-        over = omega (arith, ap (λ (s : State). length s.over) is, room.sized.over);
-        under = omega (arith, ap (λ (s : State). length s.under) is, room.sized.under);
       };
-      first = room.first;
       numbers = room.numbers;
       slacks = room.slacks;
-      marks = room.marks;
       are_edges = room.are_edges;
-      idle = room.idle;
       nodes_fit = room.nodes_fit;
       steps_fit = room.steps_fit;
-      path_fits = room.path_fits;
     }

@@ -7,7 +7,7 @@ use Rattle.flow_model.specs.Networks.{tail, head, gain, loss, residual, IsEdge, 
 use Rattle.flow_model.specs.Pushes.{edge_at, opposite}
 use Rattle.flow_parts.specs.Queues.{Waiting, Waits, IsPlaced, IsQueue}
 use Rattle.flow_parts.specs.OuterEdges.{edge_of, tail_of}
-use Rattle.flow_sparse.specs.Ranges.{Ranges, number_of}
+use Rattle.flow_sparse.specs.Ranges.{AreHeads, Ranges, number_of}
 use Rattle.flow_sparse.specs.States.{State, IsSettled, lowered}
 
 -- how far each node is by a walk that was found, the last edge of that walk, the nodes that wait for their edges to be looked
@@ -110,6 +110,7 @@ IsPlacedAt lists node number =
 -- each node has a range of places with the numbers of edges, and each outer edge to another node stands in that of its tail
 pub record IsListed (instance : Instance) (lists : Ranges) : Type 0 where
   pub few : instance.steps + 1 < length lists.first
+  pub order : (node : ℕ) → node ≤ instance.steps → slice_index lists.first node ≤ slice_index lists.first (node + 1)
   pub within : (node : ℕ) → node ≤ instance.steps → slice_index lists.first (node + 1) ≤ length lists.numbers
   pub are_edges : (place : ℕ) → place < length lists.numbers → slice_index lists.numbers place < 2 * length instance.arcs
   pub listed : (k : ℕ) → k < 2 * length instance.arcs → tail_of instance.arcs k ≢ head instance.arcs (edge_of (length instance.arcs) k) → IsPlacedAt lists (tail_of instance.arcs k) k
@@ -128,8 +129,10 @@ IsWoken instance lists e =
 
 -- no listed edge with room is shorter than its slack, less what the potential of its tail fell by since it was marked
 pub record IsBounded (state : State) (lists : Ranges) : Type 0 where
+  pub few : length lists.slacks ≤ 2 ^ 27
   pub each_slack : length lists.slacks ≡ length lists.numbers
   pub each_mark : state.instance.steps + 1 ≤ length lists.marks
+  pub heads : AreHeads lists.slacks
   pub falls : (node : ℕ) → node ≤ state.instance.steps → slice_index state.potentials node ≤ slice_index lists.marks node
   pub small : (node : ℕ) → node ≤ state.instance.steps → slice_index lists.marks node ≤ 2 ^ 124
   pub bounds : (node place : ℕ) → node ≤ state.instance.steps → slice_index lists.first node ≤ place → place < slice_index lists.first (node + 1)

@@ -1,10 +1,10 @@
 //! First prices: a constant price on some steps, and then those of blocks, which are settled one after another with the
 //! prices outside of them fixed. What is proved of them is their number alone, since a solution is found from any prices.
-ghost use Rattle.std.specs.Prelude.{◌≡◌, ℕ, ◌+◌, ◌-◌, ◌*◌, ◌<◌, ◌≤◌, ◌^◌, All, IfOk, length, slice_index};
-ghost use Rattle.flow_model.specs.Instances.{IsArc, IsInstance};
+ghost use Rattle.std.specs.Prelude.{◌≡◌, ◌+◌, ◌-◌, ◌*◌, ◌<◌, ◌≤◌, IfOk, length};
+ghost use Rattle.flow_model.specs.Instances.{IsInstance};
 
 use crate::grain::grain_prices;
-use crate::priced::PricedSolver;
+use crate::priced::solve_from;
 use bound_base::NoMemory;
 use flow_model::{Instance, OuterArc};
 use flow_windows::Windows;
@@ -99,7 +99,7 @@ fn settle_block(
 {
     let block = block_of(alloc, instance, numbers, first, past, sums)?;
     let own = prices[first as usize..past as usize].to_vec(alloc)?;
-    let solution = PricedSolver::new(alloc, &block, own)?.solve();
+    let solution = solve_from(alloc, &block, own)?;
     prices[first as usize..past as usize].copy_from_slice(solution.prices());
     Ok(())
 }

@@ -4,14 +4,12 @@ ghost use Rattle.flow_model.specs.Networks.{IsEdge, residual, tail, head, gain, 
 ghost use Rattle.flow_model.specs.Pushes.{IsSimple, push_path};
 ghost use Rattle.flow_parts.specs.OuterEdges.{tail_of};
 ghost use Rattle.flow_model.specs.Instances.{IsInstance, arc_at, load_at};
-ghost use Rattle.flow_sparse.specs.Loads.{AreBalanced};
-ghost use Rattle.flow_sparse.specs.Contractions.{AreOpen, IsNumbering, IsSized, IsSlack, between, contracted};
 ghost use Rattle.flow_sparse.specs.Searches.{without_loop};
 ghost use Rattle.flow_sparse.specs.Starts.{IsFitted};
 ghost use Rattle.flow_sparse.specs.States.{CanPush, HasRoomFor, IsHigh, IsNetwork, IsReady, IsState, pushed};
 
-use crate::loads::{balance, write_loads};
-use crate::numbering::{contract, number, write_potentials, write_prices};
+use crate::loads::write_loads;
+use crate::numbering::write_prices;
 use crate::pushing::push_along;
 use crate::starting::fit_flows;
 use flow_model::{Edge, Instance, OuterArc};
@@ -214,97 +212,6 @@ impl Network {
     {
         self.push_path(path, amount);
         self.settle(from, to, amount);
-    }
-
-    // Takes the arcs between the nodes.
-    fn set_arcs(&mut self, instance: &Instance, nodes: &[u32])
-        requires each_time { length nodes.now ≡ instance.now.steps + 1 }
-        requires each_arc { length self.old.instance.arcs ≡ length instance.now.arcs }
-        ensures { self.new ≡ record self.old { instance = record { steps = self.old.instance.steps; units = self.old.instance.units; arcs = map (between nodes.now) instance.now.arcs } } }
-    {
-        contract(instance, nodes, &mut self.arcs);
-    }
-
-    // Takes so many steps.
-    fn set_steps(&mut self, count: u32)
-        ensures { self.new ≡ record self.old { instance = record { steps = count; units = self.old.instance.units; arcs = self.old.instance.arcs } } }
-    {
-        self.count = count;
-    }
-
-    // Makes the price of each open step the fall of the potential over it.
-    fn set_potentials(&mut self, steps_of: &[u32], prices: &[u128])
-        requires few { self.old.instance.steps ≤ 2 ^ 25 }
-        requires each_node { self.old.instance.steps < length self.old.potentials }
-        requires each_step { self.old.instance.steps ≤ length steps_of.now }
-        requires within { (k : ℕ) → k < self.old.instance.steps → slice_index steps_of.now k < length prices.now }
-        requires small { (t : ℕ) → t < length prices.now → slice_index prices.now t ≤ 2 ^ 97 }
-        ensures rest { self.new ≡ record self.old { potentials = self.new.potentials } }
-        ensures last { slice_index self.new.potentials self.old.instance.steps ≡ 2 ^ 123 }
-        ensures falls { (k : ℕ) → k < self.old.instance.steps → slice_index prices.now (slice_index steps_of.now k) + slice_index self.new.potentials (k + 1) ≡ slice_index self.new.potentials k }
-        ensures each { length self.new.potentials ≡ length self.old.potentials }
-    {
-        write_potentials(self.count, steps_of, prices, &mut self.potentials);
-    }
-
-    // Balances the loads of the open steps.
-    fn set_balance(&mut self, steps_of: &[u32], loads: &[u128], prices: &[u128])
-        requires few { self.old.instance.steps ≤ 2 ^ 25 }
-        requires units { self.old.instance.units ≤ 2 ^ 56 }
-        requires each_step { (self.old.instance.steps ≤ length steps_of.now) × (self.old.instance.steps ≤ length self.old.flows.inner) }
-        requires each_node { (self.old.instance.steps < length self.old.over) × (self.old.instance.steps < length self.old.under) }
-        requires within { (k : ℕ) → k < self.old.instance.steps → (slice_index steps_of.now k < length loads.now) × (slice_index steps_of.now k < length prices.now) }
-        requires small { (k : ℕ) → k < self.old.instance.steps → slice_index loads.now (slice_index steps_of.now k) ≤ 2 ^ 74 }
-        ensures rest { self.new ≡ record self.old { flows = record { outer = self.old.flows.outer; inner = self.new.flows.inner }; over = self.new.over; under = self.new.under } }
-        ensures balanced { AreBalanced self.old.instance.steps self.old.instance.units steps_of.now loads.now prices.now self.new.flows.inner self.new.over self.new.under }
-        ensures inner { length self.new.flows.inner ≡ length self.old.flows.inner }
-        ensures over { length self.new.over ≡ length self.old.over }
-        ensures under { length self.new.under ≡ length self.old.under }
-    {
-        balance(
-            self.count,
-            self.units,
-            steps_of,
-            loads,
-            prices,
-            &mut self.inner,
-            &mut self.over,
-            &mut self.under,
-        );
-    }
-
-    /// Lets the steps be open that the flags say: numbers the nodes, and takes the arcs between them, the potentials that the prices
-    /// are the falls of, and what the loads leave over.
-    pub fn open(
-        &mut self,
-        instance: &Instance,
-        opens: &[bool],
-        loads: &[u128],
-        prices: &[u128],
-        nodes: &mut [u32],
-        steps_of: &mut [u32],
-    )
-        requires fits { IsInstance instance.now }
-        requires sized { IsSized instance.now self.old }
-        requires slack { IsSlack instance.now prices.now self.old.flows.outer }
-        requires opens { (length opens.now ≡ instance.now.steps) × AreOpen opens.now prices.now }
-        requires small { (t : ℕ) → t < instance.now.steps → slice_index prices.now t ≤ 2 ^ 97 }
-        requires loads { (instance.now.steps ≤ length loads.now) × ((t : ℕ) → t < instance.now.steps → slice_index loads.now t ≡ load_at instance.now.arcs self.old.flows.outer t) }
-        requires each_time { length nodes.old ≡ instance.now.steps + 1 }
-        requires each_step { instance.now.steps ≤ length steps_of.old }
-        ensures ready { IsReady self.new }
-        ensures high { IsHigh self.new }
-        ensures numbers { IsNumbering instance.now.steps opens.now nodes.new steps_of.new self.new.instance.steps }
-        ensures same { self.new.instance ≡ contracted instance.now nodes.new self.new.instance.steps }
-        ensures sized { IsSized instance.now self.new }
-        ensures each_time { length nodes.new ≡ length nodes.old }
-        ensures each_step { length steps_of.new ≡ length steps_of.old }
-    {
-        let count = number(opens, nodes, steps_of);
-        self.set_arcs(instance, nodes);
-        self.set_steps(count);
-        self.set_potentials(steps_of, prices);
-        self.set_balance(steps_of, loads, prices);
     }
 
     /// Writes the price of each step: the fall of the potential between the nodes of its times.

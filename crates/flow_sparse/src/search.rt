@@ -1,18 +1,19 @@
 //! The search for the distances of nodes from one of them, nearest first, as far as the nearest that has units over.
-ghost use Rattle.std.specs.Prelude.{◌≡◌, ℕ, ◌+◌, ◌-◌, ◌*◌, ◌≤◌, ◌<◌, ◌^◌, ◌↔◌, ◌≢◌, IfNone, IfSome, IsNone, length, slice_index, slice_set, sum};
+ghost use Rattle.std.specs.Prelude.{◌≡◌, ℕ, ◌+◌, ◌-◌, ◌≤◌, ◌<◌, ◌^◌, ◌↔◌, ◌≢◌, IfNone, IfOk, IfSome, IsNone, length, slice_index, slice_set};
 ghost use Rattle.flow_model.specs.declared.edges.Edge.{Edge as FlowEdge};
-ghost use Rattle.flow_model.specs.declared.edges.Edge.TheVariants.{Inner, InnerBack};
-ghost use Rattle.flow_model.specs.Networks.{IsEdge, tail};
+ghost use Rattle.flow_model.specs.declared.edges.Edge.TheVariants.{Inner};
+ghost use Rattle.flow_model.specs.Networks.{IsEdge};
 ghost use Rattle.flow_model.specs.Pushes.{edge_at};
-ghost use Rattle.flow_parts.specs.OuterEdges.{AreListed, edge_of, tail_of};
-ghost use Rattle.flow_parts.specs.Queues.{IsPlaced, IsQueue, IsQueueBut, Joins, Leaves, Waits};
+ghost use Rattle.flow_parts.specs.Queues.{IsQueue, IsQueueBut, Joins, Leaves, Waits};
 ghost use Rattle.flow_sparse.specs.States.{IsReady, IsHigh, IsSettled};
-ghost use Rattle.flow_sparse.specs.Searches.{AreSettled, IsAimed, IsBounded, IsIdle, IsListed, IsSearch, KeepsRoom, Nears, Rests, far};
+ghost use Rattle.flow_sparse.specs.Searches.{AreSettled, IsAimed, IsBounded, IsIdle, IsListed, IsSearch, KeepsRoom, far};
 
 use crate::lists::EdgeLists;
 use crate::network::Network;
+use bound_base::NoMemory;
 use flow_model::Edge;
-use flow_parts::{Queue, outer_edge};
+use flow_parts::Queue;
+use std::alloc::Global;
 use std::marker::Model;
 
 /// The distance of a node that was not found.
@@ -38,6 +39,25 @@ impl Model for Search {
 }
 
 impl Search {
+    /// Room for searches over the nodes between so many open steps.
+    pub fn new(alloc: Global, count: u32) -> Result<Search, NoMemory>
+        requires { count ≤ 2 ^ 25 }
+        ensures { IfOk result (IsIdle count) }
+    {
+        let nodes = count as usize + 1;
+        let distances = vec![in alloc; 0; nodes]?;
+        let parents = vec![in alloc; Edge::Inner(0); nodes]?;
+        let mut queue = Queue::new(alloc, count + 1)?;
+        queue.clear();
+        Ok(Search {
+            distances,
+            parents,
+            queue,
+            limit: 0,
+            goal: 0,
+        })
+    }
+
     /// How far the node is.
     #[inline(always)]
     pub fn distance(&self, node: u32) -> u128
@@ -72,9 +92,9 @@ impl Search {
         self.goal
     }
 
-    // Writes the lesser distance of the node, and the edge that leads to it.
+    /// Writes the lesser distance of the node, and the edge that leads to it.
     #[inline(always)]
-    fn lower(&mut self, node: u32, distance: u128, edge: Edge)
+    pub fn lower(&mut self, node: u32, distance: u128, edge: Edge)
         requires parents { node < length self.old.parents }
         requires node { node < length self.old.distances }
         ensures { self.new ≡ record self.old { distances = slice_set self.old.distances node distance; parents = slice_set self.old.parents node edge } }
@@ -83,9 +103,9 @@ impl Search {
         self.parents[node as usize] = edge;
     }
 
-    // Makes the node the goal, if units are over there and it is nearer than the limit.
+    /// Makes the node the goal, if units are over there and it is nearer than the limit.
     #[inline(always)]
-    fn aim(&mut self, network: &Network, node: u32)
+    pub fn aim(&mut self, network: &Network, node: u32)
         requires node { node < length self.old.distances }
         requires over { node < length network.now.over }
         ensures rest { self.new ≡ record self.old { limit = self.new.limit; goal = self.new.goal } }
@@ -97,9 +117,9 @@ impl Search {
         }
     }
 
-    // Lets the node wait, whose distance may have fallen.
+    /// Lets the node wait, whose distance may have fallen.
     #[inline(always)]
-    fn enqueue(&mut self, node: u32)
+    pub fn enqueue(&mut self, node: u32)
         requires queue { IsQueueBut self.old.waiting self.old.distances node }
         requires node { node < length self.old.distances }
         ensures rest { self.new ≡ record self.old { waiting = self.new.waiting } }
@@ -107,120 +127,6 @@ impl Search {
         ensures joins { Joins self.old.waiting self.new.waiting node }
     {
         self.queue.offer(&self.distances, node);
-    }
-
-    // Lowers the distance of the edge's head to that along the edge, where it is less and below the limit.
-    #[inline(always)]
-    fn relax(&mut self, network: &Network, from: u32, edge: Edge)
-        requires ready { IsReady network.now }
-        requires high { IsHigh network.now }
-        requires edge { IsEdge network.now.instance edge }
-        requires search { IsSearch network.now from self.old }
-        ensures nears { Nears network.now from self.old self.new }
-        ensures settled { IsSettled network.now self.new.distances self.new.limit edge }
-    {
-        let hop = network.hop(edge);
-        let near = self.distance(hop.tail);
-        if near >= self.distance(hop.head) || network.residual(edge) == 0 {
-            return;
-        }
-        let behind = near + (hop.loss + network.potential(hop.tail));
-        let along = behind - (hop.gain + network.potential(hop.head));
-        if along >= self.limit() || along >= self.distance(hop.head) {
-            return;
-        }
-        self.lower(hop.head, along, edge);
-        self.aim(network, hop.head);
-        self.enqueue(hop.head);
-    }
-
-    // Relaxes the edge at the place, which is of the node's range, unless it is too long.
-    #[inline(always)]
-    fn relax_place(
-        &mut self,
-        network: &Network,
-        lists: &EdgeLists,
-        from: u32,
-        node: u32,
-        place: u32,
-    )
-        requires ready { IsReady network.now }
-        requires high { IsHigh network.now }
-        requires search { IsSearch network.now from self.old }
-        requires lists { IsListed network.now.instance lists.now }
-        requires bounded { IsBounded network.now lists.now }
-        requires node { node ≤ network.now.instance.steps }
-        requires place { (slice_index lists.now.first node ≤ place) × (place < slice_index lists.now.first (node + 1)) }
-        ensures nears { Nears network.now from self.old self.new }
-        ensures settled { tail_of network.now.instance.arcs (slice_index lists.now.numbers place) ≡ node → IsSettled network.now self.new.distances self.new.limit (edge_of (length network.now.instance.arcs) (slice_index lists.now.numbers place)) }
-    {
-        let reach = self.limit() + (lists.mark(node) - network.potential(node));
-        if self.distance(node) + lists.slack(place) as u128 >= reach {
-            return;
-        }
-        let edge = outer_edge(network.arc_count(), lists.number(place));
-        self.relax(network, from, edge);
-    }
-
-    // Relaxes the outer edges that lead out of the node.
-    fn relax_outer(&mut self, network: &Network, lists: &EdgeLists, from: u32, node: u32)
-        requires ready { IsReady network.now }
-        requires high { IsHigh network.now }
-        requires search { IsSearch network.now from self.old }
-        requires lists { IsListed network.now.instance lists.now }
-        requires bounded { IsBounded network.now lists.now }
-        requires node { node ≤ network.now.instance.steps }
-        ensures nears { Nears network.now from self.old self.new }
-        ensures settled { Rests self.new node → (k : ℕ) → k < 2 * length network.now.instance.arcs → tail_of network.now.instance.arcs k ≡ node → IsSettled network.now self.new.distances self.new.limit (edge_of (length network.now.instance.arcs) k) }
-    {
-        for place in lists.first(node)..lists.first(node + 1) {
-            self.relax_place(network, lists, from, node, place);
-        }
-    }
-
-    // Relaxes the inner edge that leads on from the node, where there is one.
-    #[inline(always)]
-    fn relax_on(&mut self, network: &Network, from: u32, node: u32)
-        requires ready { IsReady network.now }
-        requires high { IsHigh network.now }
-        requires search { IsSearch network.now from self.old }
-        ensures nears { Nears network.now from self.old self.new }
-        ensures settled { node < network.now.instance.steps → IsSettled network.now self.new.distances self.new.limit (Inner node) }
-    {
-        if node < network.steps() {
-            self.relax(network, from, Edge::Inner(node));
-        }
-    }
-
-    // Relaxes the inner edge that leads back from the node, where there is one.
-    #[inline(always)]
-    fn relax_back(&mut self, network: &Network, from: u32, node: u32)
-        requires ready { IsReady network.now }
-        requires high { IsHigh network.now }
-        requires search { IsSearch network.now from self.old }
-        requires node { node ≤ network.now.instance.steps }
-        ensures nears { Nears network.now from self.old self.new }
-        ensures settled { 0 < node → IsSettled network.now self.new.distances self.new.limit (InnerBack (node - 1)) }
-    {
-        if node > 0 {
-            self.relax(network, from, Edge::InnerBack(node - 1));
-        }
-    }
-
-    // Relaxes the edges that lead out of the node.
-    fn relax_from(&mut self, network: &Network, lists: &EdgeLists, from: u32, node: u32)
-        requires ready { IsReady network.now }
-        requires high { IsHigh network.now }
-        requires search { IsSearch network.now from self.old }
-        requires lists { IsListed network.now.instance lists.now }
-        requires bounded { IsBounded network.now lists.now }
-        requires node { node ≤ network.now.instance.steps }
-        ensures nears { Nears network.now from self.old self.new }
-        ensures settled { Rests self.new node → (e : FlowEdge) → IsEdge network.now.instance e → tail network.now.instance.arcs e ≡ node → IsSettled network.now self.new.distances self.new.limit e }
-    {
-        self.relax_on(network, from, node);
-        self.relax_outer(network, lists, from, node);
-        self.relax_back(network, from, node);
     }
 
     // Takes the nearest of the nodes from the queue.
@@ -293,6 +199,26 @@ impl Search {
         while let Some(_node) = self.take_nearest() {}
     }
 
+    // Relaxes the inner edges that lead on from the node, as far as the first node with units over. So there is a limit before
+    // the edges of any list are looked at.
+    fn lead(&mut self, network: &Network, from: u32)
+        requires ready { IsReady network.now }
+        requires high { IsHigh network.now }
+        requires search { IsSearch network.now from self.old }
+        requires settled { AreSettled network.now self.old }
+        ensures search { IsSearch network.now from self.new }
+        ensures settled { AreSettled network.now self.new }
+        ensures each_distance { length self.new.distances ≡ length self.old.distances }
+        ensures each_parent { length self.new.parents ≡ length self.old.parents }
+    {
+        for node in from..network.steps() {
+            if self.limit() < FAR {
+                return;
+            }
+            self.relax_on(network, from, node);
+        }
+    }
+
     // Looks at the edges out of the nodes that wait, the nearest first, until none is nearer than the limit.
     fn spread(&mut self, network: &Network, lists: &EdgeLists, from: u32)
         requires ready { IsReady network.now }
@@ -329,6 +255,7 @@ impl Search {
     {
         self.forget(network.steps() + 1);
         self.start(network, from);
+        self.lead(network, from);
         self.spread(network, lists, from);
         self.empty();
     }

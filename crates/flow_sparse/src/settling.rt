@@ -1,47 +1,55 @@
 //! Turns: steps open, and the network of the open steps is repaired, until all steps fit.
-ghost use Rattle.std.specs.Prelude.{◌≡◌, ℕ, ◌+◌, ◌<◌, ◌≤◌, ◌^◌, IsTrue, false, length, slice_index, slice_index_or};
+ghost use Rattle.std.specs.Prelude.{◌≡◌, ℕ, ◌+◌, ◌<◌, ◌≤◌, ◌^◌, IfOk, IsTrue, false, length, slice_index, slice_index_or};
 ghost use Rattle.flow_model.specs.Instances.{IsInstance, IsSolution, load_at};
-ghost use Rattle.flow_sparse.specs.Contractions.{AreFull, AreOpen, IsSlack};
+ghost use Rattle.flow_sparse.specs.Contractions.{AreOpen, IsSlack};
 ghost use Rattle.flow_sparse.specs.Openings.{Opens, shut_steps};
 ghost use Rattle.flow_sparse.specs.Rooms.{HasRoom, IsAtRest};
 
 use crate::lists::EdgeLists;
 use crate::network::Network;
+use crate::numbering::number;
 use crate::opening::open_fullest;
 use crate::repairing::repair;
 use crate::search::Search;
 use crate::starting::{cut_prices, open_priced, write_falls};
+use bound_base::NoMemory;
 use flow_model::{Edge, Instance};
+use std::alloc::Global;
 
 // Makes prices and flows suit each other where the steps are open that the flags say, each of which is then within the units, and full
-// if it has a price.
+// if it has a price. It takes memory for the nodes between the open steps, and gives it back.
 fn turn(
+    alloc: Global,
     instance: &Instance,
     opens: &[bool],
     loads: &[u128],
     prices: &mut [u128],
     nodes: &mut [u32],
     steps_of: &mut [u32],
-    path: &mut [Edge],
     network: &mut Network,
     lists: &mut EdgeLists,
-    search: &mut Search,
-)
+) -> Result<(), NoMemory>
     requires fits { IsInstance instance.now }
-    requires room { HasRoom instance.now network.old lists.old search.old (length nodes.old) (length steps_of.old) (length path.old) }
+    requires room { HasRoom instance.now network.old lists.old (length nodes.old) (length steps_of.old) }
     requires each { length opens.now ≡ instance.now.steps }
     requires slack { IsSlack instance.now prices.old network.old.flows.outer }
     requires shut { AreOpen opens.now prices.old }
     requires small { (t : ℕ) → t < instance.now.steps → slice_index prices.old t ≤ 2 ^ 97 }
     requires loads { (instance.now.steps ≤ length loads.now) × ((t : ℕ) → t < instance.now.steps → slice_index loads.now t ≡ load_at instance.now.arcs network.old.flows.outer t) }
-    ensures room { HasRoom instance.now network.new lists.new search.new (length nodes.new) (length steps_of.new) (length path.new) }
-    ensures rests { IsAtRest instance.now opens.now prices.new network.new.flows.outer }
+    ensures room { IfOk result (λ done. HasRoom instance.now network.new lists.new (length nodes.new) (length steps_of.new)) }
+    ensures rests { IfOk result (λ done. IsAtRest instance.now opens.now prices.new network.new.flows.outer) }
 {
-    network.open(instance, opens, loads, prices, nodes, steps_of);
+    let count = number(opens, nodes, steps_of);
+    network.make_room(alloc, count)?;
+    lists.make_room(alloc, count)?;
+    let mut search = Search::new(alloc, count)?;
+    let mut path = vec![in alloc; Edge::Inner(0); count as usize]?;
+    network.open(instance, opens, loads, prices, nodes, steps_of, count);
     lists.relist(network);
     lists.bound(network);
-    repair(network, lists, search, path);
+    repair(network, lists, &mut search, &mut path);
     network.write_prices(nodes, prices);
+    Ok(())
 }
 
 // Opens steps over which more flows than fits, and answers whether there are any.
@@ -72,6 +80,7 @@ fn open_more(
 
 // Opens steps and repairs, until no step is over which more flows than fits.
 fn open_all(
+    alloc: Global,
     instance: &Instance,
     opens: &mut [bool],
     ending: &mut [u128],
@@ -79,27 +88,27 @@ fn open_all(
     prices: &mut [u128],
     nodes: &mut [u32],
     steps_of: &mut [u32],
-    path: &mut [Edge],
     network: &mut Network,
     lists: &mut EdgeLists,
-    search: &mut Search,
-)
+) -> Result<(), NoMemory>
     requires fits { IsInstance instance.now }
-    requires room { HasRoom instance.now network.old lists.old search.old (length nodes.old) (length steps_of.old) (length path.old) }
+    requires room { HasRoom instance.now network.old lists.old (length nodes.old) (length steps_of.old) }
     requires rests { IsAtRest instance.now opens.old prices.old network.old.flows.outer }
     requires each_start { length loads.old ≡ instance.now.steps + 1 }
     requires each_end { length ending.old ≡ instance.now.steps + 1 }
-    ensures { IsSolution instance.now prices.new network.new.flows.outer }
+    ensures { IfOk result (λ done. IsSolution instance.now prices.new network.new.flows.outer) }
 {
     while open_more(instance, network, opens, ending, loads) {
         turn(
-            instance, opens, loads, prices, nodes, steps_of, path, network, lists, search,
-        );
+            alloc, instance, opens, loads, prices, nodes, steps_of, network, lists,
+        )?;
     }
+    Ok(())
 }
 
 /// Begins with prices: opens the steps that have one, and lets the flows suit them. Then it settles.
 pub fn settle(
+    alloc: Global,
     instance: &Instance,
     opens: &mut [bool],
     ending: &mut [u128],
@@ -107,18 +116,16 @@ pub fn settle(
     prices: &mut [u128],
     nodes: &mut [u32],
     steps_of: &mut [u32],
-    path: &mut [Edge],
     network: &mut Network,
     lists: &mut EdgeLists,
-    search: &mut Search,
-)
+) -> Result<(), NoMemory>
     requires fits { IsInstance instance.now }
-    requires room { HasRoom instance.now network.old lists.old search.old (length nodes.old) (length steps_of.old) (length path.old) }
+    requires room { HasRoom instance.now network.old lists.old (length nodes.old) (length steps_of.old) }
     requires each_step { length prices.old ≡ instance.now.steps }
     requires each_open { length opens.old ≡ instance.now.steps }
     requires each_start { length loads.old ≡ instance.now.steps + 1 }
     requires each_end { length ending.old ≡ instance.now.steps + 1 }
-    ensures { IsSolution instance.now prices.new network.new.flows.outer }
+    ensures { IfOk result (λ done. IsSolution instance.now prices.new network.new.flows.outer) }
 {
     cut_prices(prices);
     open_priced(prices, opens);
@@ -126,9 +133,9 @@ pub fn settle(
     network.fit(instance, loads);
     network.write_loads(instance, ending, loads);
     turn(
-        instance, opens, loads, prices, nodes, steps_of, path, network, lists, search,
-    );
+        alloc, instance, opens, loads, prices, nodes, steps_of, network, lists,
+    )?;
     open_all(
-        instance, opens, ending, loads, prices, nodes, steps_of, path, network, lists, search,
-    );
+        alloc, instance, opens, ending, loads, prices, nodes, steps_of, network, lists,
+    )
 }

@@ -13,7 +13,7 @@ not_true b off on = at (sym on ∙ off)
 pub returns : goal.returns
 returns c =
     let more = c.open_more.ensures in
-    let none : IsTrue c.open_more.result → ⊥ = not_true c.open_more.result c.loop-opens-test.false in
-    solved c.args.instance.now c.open_more.new.opens c.loop-opens.prices c.loop-opens.network.flows.outer c.requires.fits
-    (subst (λ (opens : List Bool). IsAtRest c.args.instance.now opens c.loop-opens.prices c.loop-opens.network.flows.outer) (sym (more.same none)) c.loop-opens.invariant.rests)
+    let none : IsTrue c.open_more.result → ⊥ = not_true c.open_more.result c.loop-alloc-test.false in
+    solved c.args.instance.now c.open_more.new.opens c.loop-alloc.prices c.loop-alloc.network.flows.outer c.requires.fits
+    (subst (λ (opens : List Bool). IsAtRest c.args.instance.now opens c.loop-alloc.prices c.loop-alloc.network.flows.outer) (sym (more.same none)) c.loop-alloc.invariant.rests)
     (more.fit none)

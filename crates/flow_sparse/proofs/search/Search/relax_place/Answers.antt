@@ -5,11 +5,8 @@ use Rattle.flow_parts.specs.OuterEdges.{edge_of}
 use Rattle.flow_parts.proofs.EdgeLists.{is_edge_of}
 use Rattle.flow_sparse.proofs.search.Search.relax_place.Goals as goal
 
-pub mark-requires : goal.mark-requires
-mark-requires c = omega (arith, c.requires.node, c.requires.bounded.each_mark)
-
-pub slack-requires : goal.slack-requires
-slack-requires c = omega (arith, c.requires.place.1, c.requires.lists.within c.args.node c.requires.node, c.requires.bounded.each_slack)
+pub is_past-requires-clause-place : goal.is_past-requires-clause-place
+is_past-requires-clause-place c = omega (arith, c.requires.place.1, c.requires.lists.within c.args.node c.requires.node, c.requires.bounded.each_slack)
 
 pub number-requires : goal.number-requires
 number-requires c = omega (arith, c.requires.place.1, c.requires.lists.within c.args.node c.requires.node)
