@@ -5,6 +5,7 @@ use bound_report::WordKind;
 use bound_run::{Status, WordFault};
 use std::alloc::{AllocError, Global};
 use std::io;
+use trace_lines::LineKind;
 
 /// The program and its version.
 pub const VERSION: &str = "bound_cli 0.2.0";
@@ -16,13 +17,16 @@ pub const STANDARD_INPUT: &str = "standard input";
 pub const STANDARD_OUTPUT: &str = "standard output";
 
 /// The commands with their operands, a line each.
-pub const USAGE: [&str; 7] = [
+pub const USAGE: [&str; 10] = [
     "usage: bound_cli bounds TRACE CERT format=FORM capacity=BYTES [block=BYTES]",
     "           [objective=OBJECTIVE] [mode=MODE] [window=STEPS] [denominator=NUMBER]",
+    "           [warmup=REQUESTS] [version=VERSION]",
     "       bound_cli check TRACE CERT format=FORM [block=BYTES]",
     "       bound_cli replay TRACE format=FORM capacity=BYTES policy=POLICY [block=BYTES] [warmup=REQUESTS]",
+    "       bound_cli curve TRACE format=FORM [block=BYTES]",
     "       bound_cli demo [seed=NUMBER] [requests=NUMBER] [objects=NUMBER] [capacity=BYTES]",
     "           [objective=OBJECTIVE] [mode=MODE] [window=STEPS] [denominator=NUMBER]",
+    "       bound_cli upgrade CERT MADE",
     "       bound_cli help",
 ];
 
@@ -32,10 +36,10 @@ pub const PURPOSE: &str =
 replacement policy can exceed, a schedule that comes close to it, and a certificate of both.
 ";
 
-/// What stands for what, and four examples.
+/// What stands for what, and five examples.
 pub const EXAMPLES: &str = "
-FORM is webcache, arc or msr, OBJECTIVE is object or bytes, MODE is flow, constant or infinite,
-POLICY is lru, fifo, clock, lfu or belady.
+FORM is webcache, arc, msr or oracle, OBJECTIVE is object or bytes, MODE is flow, constant or infinite,
+POLICY is lru, fifo, clock, lfu or belady, VERSION is 1 or 2.
 A path - is the standard input or output. The report goes to the standard output.
 
 A demo draws a trace of its own and shows its bounds, that they are checked, and the hits of each policy.
@@ -45,6 +49,7 @@ examples:
   bound_cli bounds examples/build-files.webcache build.cert format=webcache capacity=8388608
   bound_cli check examples/build-files.webcache build.cert format=webcache
   bound_cli replay examples/build-files.webcache format=webcache capacity=8388608 policy=lru
+  bound_cli curve blocks.msr format=msr
 
 docs/GUIDE.md goes from a trace to a decision; man -l docs/bound_cli.1 has every operand.";
 
@@ -67,7 +72,7 @@ pub fn page_of(word: &str) -> Option<Page> {
 // What an operand's value may be.
 fn values_of(name: &str) -> Option<&'static str> {
     match name {
-        "format" => Some("webcache, arc or msr"),
+        "format" => Some("webcache, arc, msr or oracle"),
         "block" => Some("digits alone, from 1 to 281474976710656"),
         "capacity" => Some("digits alone, from 1 to 72057594037927936"),
         "objective" => Some("object or bytes"),
@@ -76,6 +81,7 @@ fn values_of(name: &str) -> Option<&'static str> {
         "denominator" => Some("auto, exact, or digits alone, from 1 to 281474976710656"),
         "policy" => Some("lru, fifo, clock, lfu or belady"),
         "warmup" => Some("digits alone, from 0 to 33554432"),
+        "version" => Some("1 or 2"),
         "seed" => Some("digits alone, from 0 to 18446744073709551615"),
         "requests" | "objects" => Some("digits alone, from 1 to 33554432"),
         _ => None,
@@ -85,10 +91,10 @@ fn values_of(name: &str) -> Option<&'static str> {
 // The operands of a command.
 fn operands_of(command: &str) -> &'static str {
     match command {
-        "check" => "format and block",
+        "check" | "curve" => "format and block",
         "replay" => "format, capacity, policy, block and warmup",
         "demo" => "seed, requests, objects, capacity, objective, mode, window and denominator",
-        _ => "format, capacity, block, objective, mode, window and denominator",
+        _ => "format, capacity, block, objective, mode, window, denominator, warmup and version",
     }
 }
 
@@ -145,6 +151,8 @@ fn first_missing(words: &[String]) -> &'static str {
 fn path_at(words: &[String], place: u64) -> Option<&'static str> {
     match (word_at(words, 1), place) {
         ("demo", _) => None,
+        ("upgrade", 2) => Some("certificate"),
+        ("upgrade", 3) => Some("new certificate"),
         (_, 2) => Some("trace"),
         ("bounds" | "check", 3) => Some("certificate"),
         _ => None,
@@ -169,7 +177,7 @@ fn unknown(alloc: Global, words: &[String], place: u64) -> Result<String, AllocE
     let word = word_at(words, place);
     if place == 1 {
         return format!(in alloc;
-            "{word}: no command; the commands are bounds, check, replay and demo"
+            "{word}: no command; the commands are bounds, check, replay, curve, demo and upgrade"
         );
     }
     if word.as_bytes().starts_with(b"--") {
@@ -177,12 +185,13 @@ fn unknown(alloc: Global, words: &[String], place: u64) -> Result<String, AllocE
     }
     let command = word_at(words, 1);
     match name_of(word) {
-        "block" if command != "demo" => {
+        "block" if command != "demo" && command != "upgrade" => {
             format!(in alloc; "{word}: a block goes with format=msr alone")
         }
         "window" if command == "bounds" || command == "demo" => {
             format!(in alloc; "{word}: a window goes with mode=flow alone")
         }
+        _ if command == "upgrade" => format!(in alloc; "{word}: an upgrade has no operands"),
         _ => {
             let operands = operands_of(command);
             format!(in alloc; "{word}: no operand of {command}, which are {operands}")
@@ -299,9 +308,20 @@ pub fn advice_on(
 ) -> Result<Option<String>, AllocError> {
     let text = match status {
         Status::Words(fault) => word_advice(alloc, words, fault)?,
+        Status::BadLine {
+            kind: LineKind::PartRecord { .. },
+            ..
+        } => String::from_str(
+            alloc,
+            "records have 24 bytes; the trace is cut short, packed, or of another form",
+        )?,
         Status::BadLine { line: 1, kind: _ } => {
             start_advice(alloc, word_at(words, 1), devices.trace)?
         }
+        Status::Unequal { .. } => String::from_str(
+            alloc,
+            "a curve needs one size; cut the objects into blocks, or replay the capacities of interest",
+        )?,
         Status::TraceFault => device_advice(alloc, devices.trace)?,
         Status::CertFault => device_advice(alloc, devices.cert)?,
         Status::ReportFault => device_advice(alloc, devices.report)?,

@@ -11,12 +11,16 @@ use std::process::Abort;
 
 mod checks;
 mod command_line;
+mod curves;
 mod demos;
 mod faults;
 mod flow;
 mod modes;
+mod records;
 mod replays;
 mod traces;
+mod upgrades;
+mod warmups;
 mod words;
 
 const WORDS: &str = "bounds t c format=webcache capacity=10 mode=infinite";

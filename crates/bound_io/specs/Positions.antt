@@ -1,5 +1,6 @@
 -- Where a reader of lines stands.
-use Rattle.std.specs.Prelude.{◌≡◌, ℕ, ◌+◌, ◌≤◌, ◌<◌, List, [], length, None, Some, IfSome, Result, Ok, Err}
+use Rattle.std.specs.Prelude.{◌≡◌, ℕ, ◌+◌, ◌≤◌, ◌<◌, List, [], length, take, drop, None, Some, IfSome, Result, Ok, Err}
+use Rattle.std.specs.Borrow.{Bor}
 use Rattle.std.specs.declared.option.Option.{Option}
 use Rattle.std.specs.Io.KnownBytes.{IsAtEnd, Keeps}
 use Rattle.bound_io.specs.Causes.{HasNewFault}
@@ -85,3 +86,31 @@ given AtEnd = None
 abbrev pub given_by : Result WholeLine LineFault → Result (Option (List ℕ)) LineFault
 given_by (Ok line) = Ok (given line)
 given_by (Err fault) = Err fault
+
+-- a piece of at most so many bytes stands in the held bytes and passes no limit; it has none only where none is held
+pub record FitsPiece (at : Position) (held : List ℕ) (count size : ℕ) : Type 0 where
+  pub most : size ≤ count
+  pub in_held : size ≤ length held
+  pub within : at.consumed + size ≤ at.limit
+  pub none : size ≡ 0 → 0 < count → length held ≡ 0
+
+-- why the next piece of so many bytes, or of all that are left, isn't given: the bytes through it pass the limit; and a failed read only where the count of faults rose
+abbrev pub IsPieceRefused : ℕ → Position → Option (List ℕ) → ℕ → ℕ → LineFault → Type 0
+IsPieceRefused count at known faults_before faults_after ReadFault = HasNewFault faults_before faults_after
+IsPieceRefused count at known faults_before faults_after (LineTooLong line) = ⊥
+IsPieceRefused count at known faults_before faults_after InputTooLong = IfSome known (λ bytes. at.limit < at.consumed + length (take count bytes))
+
+-- one piece of so many bytes, or of all that were left, was given: it is gone from what the reader stands in, known before and after
+pub record GivesPiece (count : ℕ) (old new : Position) (before after : Option (List ℕ)) : Type 0 where
+  pub limit : new.limit ≡ old.limit
+  pub line : new.line ≡ old.line + 1
+  pub some : old.consumed < new.consumed
+  pub within : new.consumed ≤ new.limit
+  pub fault : new.fault ≡ None
+  pub consumed : IfSome before (λ bytes. new.consumed ≡ old.consumed + length (take count bytes))
+  pub rest : IfSome before (λ bytes. after ≡ Some (drop count bytes))
+
+-- what a call that gives the next piece of so many bytes leaves; it gives no byte only where none is left
+abbrev pub NextBytes : ℕ → Position → Position → Option (List ℕ) → Option (List ℕ) → Result (Bor (List ℕ)) LineFault → Type 0
+NextBytes count old new before after (Ok piece) = (piece.now ≡ [] → GivesNone old new before after) × (0 < length piece.now → GivesPiece count old new before after)
+NextBytes count old new before after (Err fault) = Stops old new before after fault

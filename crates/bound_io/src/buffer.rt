@@ -128,6 +128,24 @@ impl Buffer {
         }
     }
 
+    /// Reads on until so many bytes are held, or the source ends.
+    pub fn hold<S: Source>(&mut self, source: &mut S, count: usize) -> Result<(), Failed>
+        requires { count ≤ 65536 }
+        ensures held { IfOk result (λ _. count ≤ length self.new ⊎ IsAtEnd (S.left source.new)) }
+        ensures kept { Keeps (stands_in self.old (S.left source.old)) (stands_in self.new (S.left source.new)) }
+        ensures room { length self.new ≤ 65536 }
+        ensures source { LosesPrefix (S.left source.old) (S.left source.new) }
+        ensures cause { HasCause (S.faults source.old) (S.faults source.new) result }
+        ensures none_failed { OnOk result (S.faults source.new ≡ S.faults source.old) }
+    {
+        while self.len() < count {
+            if self.fill(source)? == 0 {
+                return Ok(());
+            }
+        }
+        Ok(())
+    }
+
     /// Lends the first `text` bytes, and gives up the first `line`.
     pub fn give(&mut self, text: usize, line: usize) -> &[u8]
         requires text { text ≤ line }

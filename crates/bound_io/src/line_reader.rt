@@ -1,5 +1,5 @@
 //! A reader of lines.
-ghost use Rattle.std.specs.Prelude.{◌≡◌, ◌+◌, ◌≤◌, ◌<◌, ◌^◌, [], length, IfOk, IfErr, OnOk, IfSome, IfNone};
+ghost use Rattle.std.specs.Prelude.{◌≡◌, ◌+◌, ◌≤◌, ◌<◌, ◌^◌, [], length, take, IfOk, IfErr, OnOk, IfSome, IfNone};
 ghost use Rattle.std.specs.Io.KnownBytes.{IsAtEnd, Keeps};
 ghost use Rattle.bound_io.specs.Lines.{HasExtent, first_text, stands_in};
 ghost use Rattle.bound_io.specs.Reading.{LosesPrefix};
@@ -73,7 +73,7 @@ impl LineReader {
     ghost use Rattle.bound_io.specs.contracts.line_reader.LineReader.{the_row};
     ghost use Rattle.std.specs.Io.BufRead.{Rests};
     ghost use Rattle.std.specs.Borrow.{sem};
-    ghost use Rattle.bound_io.specs.Positions.{Fits, IsLine, IsRefused, NextLine, Stops, given, given_by, with_held};
+    ghost use Rattle.bound_io.specs.Positions.{Fits, FitsPiece, IsLine, IsPieceRefused, IsRefused, NextBytes, NextLine, Stops, given, given_by, with_held};
 
     /// A reader of lines of at most `limit` bytes in all, which takes its buffer here.
     pub fn new(alloc: Global, limit: u64) -> Result<Self, NoMemory>
@@ -203,5 +203,77 @@ impl LineReader {
             WholeLine::Whole(text) | WholeLine::Unended(text) => Ok(Some(text)),
             WholeLine::AtEnd => Ok(None),
         }
+    }
+
+    // How many bytes the next piece of so many has, once they stand in the buffer, or why none is given.
+    fn look_for<S: Source>(&mut self, source: &mut S, count: usize) -> Result<usize, LineFault>
+        requires { count ≤ 65536 }
+        ensures size { IfOk result (λ n. IfSome (stands_in self.old.held (S.left source.old)) (λ bytes. n ≡ length (take count bytes))) }
+        ensures within { IfOk result (λ n. FitsPiece self.old self.new.held count n) }
+        ensures refused { IfErr result (IsPieceRefused count self.old (stands_in self.old.held (S.left source.old)) (S.faults source.old) (S.faults source.new)) }
+        ensures still { self.new ≡ with_held self.old self.new.held }
+        ensures room { length self.new.held ≤ 65536 }
+        ensures kept { Keeps (stands_in self.old.held (S.left source.old)) (stands_in self.new.held (S.left source.new)) }
+        ensures source { LosesPrefix (S.left source.old) (S.left source.new) }
+        ensures later { S.faults source.old ≤ S.faults source.new }
+        ensures none_failed { OnOk result (S.faults source.new ≡ S.faults source.old) }
+    {
+        let held = self.buffer.hold(source, count);
+        held.or(Err(LineFault::ReadFault))?;
+        let size = self.buffer.len().min(count);
+        if size as u64 > self.limit - self.consumed {
+            return Err(LineFault::InputTooLong);
+        }
+        Ok(size)
+    }
+
+    // The size of the next piece, or the fault that ended the reading, which is kept.
+    fn find_piece<S: Source>(&mut self, source: &mut S, count: usize) -> Result<usize, LineFault>
+        requires { count ≤ 65536 }
+        ensures size { IfOk result (λ n. IfSome (stands_in self.old.held (S.left source.old)) (λ bytes. n ≡ length (take count bytes))) }
+        ensures within { IfOk result (λ n. FitsPiece self.old self.new.held count n) }
+        ensures still { IfOk result (λ n. (self.new ≡ with_held self.old self.new.held) × (self.old.fault ≡ None)) }
+        ensures refused { self.old.fault ≡ None → IfErr result (IsPieceRefused count self.old (stands_in self.old.held (S.left source.old)) (S.faults source.old) (S.faults source.new)) }
+        ensures stops { IfErr result (Stops self.old self.new (stands_in self.old.held (S.left source.old)) (stands_in self.new.held (S.left source.new))) }
+        ensures again { IfSome self.old.fault (λ fault. (result ≡ Err fault) × (S.left source.new ≡ S.left source.old) × (S.faults source.new ≡ S.faults source.old)) }
+        ensures room { length self.new.held ≤ 65536 }
+        ensures kept { Keeps (stands_in self.old.held (S.left source.old)) (stands_in self.new.held (S.left source.new)) }
+        ensures source { LosesPrefix (S.left source.old) (S.left source.new) }
+        ensures later { S.faults source.old ≤ S.faults source.new }
+        ensures none_failed { OnOk result (S.faults source.new ≡ S.faults source.old) }
+    {
+        if let Some(fault) = self.fault {
+            return Err(fault);
+        }
+        let found = self.look_for(source, count);
+        self.fault = found.err();
+        found
+    }
+
+    /// The next `count` bytes, or fewer where the input ends before. They count as one line, even if none of them is an
+    /// LF or many are; none at the end of the input count as no line. The bytes are lent until the next call.
+    pub fn next_bytes<S: Source>(
+        &mut self,
+        source: &mut S,
+        count: usize,
+    ) -> Result<&[u8], LineFault>
+        requires some { 1 ≤ count }
+        requires room { count ≤ 65536 }
+        ensures bytes { IfOk result (λ piece. IfSome (stands_in self.old.held (S.left source.old)) (λ bytes. piece.now ≡ take count bytes)) }
+        ensures most { IfOk result (λ piece. length piece.now ≤ count) }
+        ensures refused { self.old.fault ≡ None → IfErr result (IsPieceRefused count self.old (stands_in self.old.held (S.left source.old)) (S.faults source.old) (S.faults source.new)) }
+        ensures again { IfSome self.old.fault (λ fault. (result ≡ Err fault) × (S.left source.new ≡ S.left source.old) × (S.faults source.new ≡ S.faults source.old)) }
+        ensures source { LosesPrefix (S.left source.old) (S.left source.new) }
+        ensures later { S.faults source.old ≤ S.faults source.new }
+        ensures none_failed { OnOk result (S.faults source.new ≡ S.faults source.old) }
+        ensures* after { sem 𝓛 (Rests the_row self.entry (λ new. NextBytes count self.old new (stands_in self.old.held (S.left source.old)) (stands_in new.held (S.left source.new)) result × (length new.held ≤ 65536))) }
+    {
+        let size = self.find_piece(source, count)?;
+        if size == 0 {
+            return Ok(&[]);
+        }
+        self.consumed += size as u64;
+        self.line += 1;
+        Ok(self.buffer.give(size, size))
     }
 }

@@ -9,10 +9,12 @@ use Rattle.bound_report.specs.declared.facts.Window.TheVariants.{All as Whole}
 use Rattle.bound_report.specs.Reports.{report_text}
 use Rattle.replay_core.specs.declared.counts.Replay.{Replay}
 use Rattle.bound_report.specs.Demos.{demo_text}
+use Rattle.bound_report.specs.Curves.{curve_text}
+use Rattle.stack_curve.specs.Curves.{hits_with}
 
 -- two requests of size 4 at capacity 10
 abbrev pair_header : Bool → ℕ → Header
-pair_header exact flow = record { objective = Hits; capacity = 10; requests = 2; unit = 4; denominator = 1; exact = exact; upper = 1; flow = flow; lower = 1 }
+pair_header exact flow = record { objective = Hits; capacity = 10; requests = 2; unit = 4; denominator = 1; exact = exact; upper = 1; flow = flow; lower = 1; warmup = 0; version = 1 }
 
 pair_report : report_text (record { header = pair_header true 1; objects = 1; dropped = 0; mode = Flow Whole; price = 0; intervals = 1 }) ≡ text_of (
     codes "trace requests 2 objects 1 dropped 0"
@@ -56,3 +58,13 @@ demo_of_two : demo_text (record { seed = 1; requests = 2; objects = 1; capacity 
     ∷ [])
 unfolding digits
 demo_of_two = refl
+
+-- the curve of the requests A B A C B A, all of size 1
+curve_of_six : curve_text (record { requests = 6; objects = 3; dropped = 0 }) 1 (hits_with (record { size = 1; hits = 0 ∷ 0 ∷ 1 ∷ 3 ∷ [] })) ≡ text_of (
+    codes "trace requests 6 objects 3 dropped 0"
+    ∷ codes "size 1"
+    ∷ codes "slots 2 hits 1"
+    ∷ codes "slots 3 hits 3"
+    ∷ [])
+unfolding digits
+curve_of_six = refl

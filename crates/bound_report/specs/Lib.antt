@@ -1,3 +1,5 @@
+pub mod Curves
+pub mod Upgrades
 pub mod Reports
 pub mod Refusals
 pub mod Verdicts

@@ -4,13 +4,13 @@ use Rattle.cache_model.specs.Texts.{entry}
 use Rattle.cert_checker.specs.declared.invalid.InvalidKind.{InvalidKind}
 use Rattle.cert_checker.specs.declared.invalid.InvalidKind.TheVariants as invalid
 use Rattle.trace_lines.specs.declared.line.LineKind.{LineKind}
-use Rattle.trace_lines.specs.declared.line.LineKind.TheVariants.{TooFewWords, BadNumber, SizeTooLarge, BadRange, BadType, QuoteByte, TooLong}
+use Rattle.trace_lines.specs.declared.line.LineKind.TheVariants.{TooFewWords, BadNumber, SizeTooLarge, BadRange, BadType, QuoteByte, TooLong, PartRecord}
 use Rattle.bound_report.specs.declared.refusal.LimitName.{LimitName}
 use Rattle.bound_report.specs.declared.refusal.LimitName.TheVariants.{Requests, TraceBytes, Denominator}
 use Rattle.bound_report.specs.declared.refusal.WordKind.{WordKind}
 use Rattle.bound_report.specs.declared.refusal.WordKind.TheVariants.{Missing, Unknown, Twice, BadValue}
 use Rattle.bound_report.specs.declared.refusal.Refusal.{Refusal}
-use Rattle.bound_report.specs.declared.refusal.Refusal.TheVariants.{Invalid, Words, BadLine, Limit, TraceFault, CertFault, MadeFault, NoMemory}
+use Rattle.bound_report.specs.declared.refusal.Refusal.TheVariants.{Invalid, Words, BadLine, Limit, Unequal, TraceFault, CertFault, MadeFault, NoMemory}
 
 -- why a word is refused, and the end of the line
 abbrev pub word_kind_text : WordKind → List ℕ
@@ -28,6 +28,7 @@ line_kind_text BadRange = codes "block range\n"
 line_kind_text BadType = codes "type\n"
 line_kind_text QuoteByte = codes "quote\n"
 line_kind_text TooLong = codes "line too long\n"
+line_kind_text (PartRecord bytes) = codes "part record " ++ decimal bytes ++ codes "\n"
 
 -- the limit that was passed, its number, and the end of the line
 abbrev pub limit_text : LimitName → List ℕ
@@ -63,6 +64,7 @@ refusal_line (Invalid line kind) = codes "invalid line " ++ decimal line ++ code
 refusal_line (Words place kind) = codes "words: place " ++ decimal place ++ codes ": " ++ word_kind_text kind
 refusal_line (BadLine line kind) = codes "bad line " ++ decimal line ++ codes ": " ++ line_kind_text kind
 refusal_line (Limit name) = codes "limit: " ++ limit_text name
+refusal_line (Unequal first other) = entry (entry (codes "unequal sizes") first) other ++ codes "\n"
 refusal_line TraceFault = codes "trace fault\n"
 refusal_line CertFault = codes "certificate fault\n"
 refusal_line MadeFault = codes "made fault\n"

@@ -1,19 +1,23 @@
-//! Texts for people: the report of bounds, what a check says of a valid certificate, the texts of a replay and of a
-//! demo, and the line that tells why a run stopped.
+//! Texts for people: the report of bounds, what a check says of a valid certificate, the texts of a replay, of a
+//! curve and of a demo, and the line that tells why a run stopped.
 //!
 //! The rules are "Report of bounds", "Verdict" and "Refusal" in docs/DEFINITIONS.md.
 #![tactic(auto)]
 
+mod curves;
 mod demo;
 mod facts;
 mod refusal;
 mod replays;
 mod report;
+mod upgrade;
 
 pub use cert_checker::{InvalidKind, Verdict};
+pub use curves::{CurveFacts, curve_text};
 pub use demo::{DemoFacts, PolicyReplays, demo_text};
 pub use facts::{BoundFacts, Mode, Window};
 pub use policy_model::PolicyName;
 pub use refusal::{LimitName, Refusal, RefusalText, WordKind, refusal_text};
 pub use replays::{ReplayFacts, push_warmup, replay_text};
 pub use report::{report_text, verdict_text};
+pub use upgrade::upgrade_text;

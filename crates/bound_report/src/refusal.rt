@@ -43,6 +43,9 @@ pub enum Refusal {
     BadLine { line: u64, kind: LineKind },
     /// The trace passes a limit, or the least denominator that rounds no cost does.
     Limit(LimitName),
+    /// Two objects of the trace differ in size: the size of its first object, and that of the first object which differs,
+    /// in bytes.
+    Unequal { first: u64, other: u64 },
     /// A read of the trace failed.
     TraceFault,
     /// A read of the certificate failed.
@@ -120,6 +123,11 @@ fn push_line_kind(text: &mut RefusalText, kind: LineKind)
         LineKind::BadType => text.push(b"type\n"),
         LineKind::QuoteByte => text.push(b"quote\n"),
         LineKind::TooLong => text.push(b"line too long\n"),
+        LineKind::PartRecord { bytes } => {
+            text.push(b"part record ");
+            text.push_number(bytes as u128);
+            text.push(b"\n");
+        }
     }
 }
 
@@ -197,6 +205,10 @@ pub fn refusal_text(refusal: &Refusal) -> RefusalText
         Refusal::Limit(name) => {
             text.push(b"limit: ");
             text.push(limit_text(*name));
+        }
+        Refusal::Unequal { first, other } => {
+            push_pair(&mut text, b"unequal sizes", *first as u128, *other as u128);
+            text.push(b"\n");
         }
         Refusal::TraceFault => text.push(b"trace fault\n"),
         Refusal::CertFault => text.push(b"certificate fault\n"),

@@ -31,13 +31,14 @@ use Rattle.bound_run.specs.Asked.{Asked, Drawing, Replaying}
 use Rattle.bound_run.specs.declared.words.Plan.{Plan}
 use Rattle.bound_run.specs.declared.words.WordFault.{WordFault}
 use Rattle.bound_run.specs.declared.status.Status.{Status}
-use Rattle.bound_run.specs.declared.status.Status.TheVariants.{Done, Invalid, Words, BadLine, Limit, TraceFault, CertFault, ReportFault, MadeFault, NoMemory}
+use Rattle.bound_run.specs.declared.status.Status.TheVariants.{Done, Invalid, Words, BadLine, Limit, TraceFault, CertFault, ReportFault, MadeFault, NoMemory, Unequal}
 use Rattle.bound_run.specs.Demos.{trace_drawn}
 use Rattle.bound_run.specs.Made.{RefusesDenominator}
 use Rattle.bound_run.specs.Inputs.{HasDenominator, IsGoodTrace}
-use Rattle.bound_run.specs.Run.{AnswersOf, Answers, AreGoodInputs, BoundsEnd, CheckEnds, Completes, DemoEnds, Devices, NoneFails, ReplayEnds, RunEnds, TaskEnds}
+use Rattle.bound_run.specs.Run.{AnswersCurve, AnswersCurveOf, AnswersOf, Answers, AreGoodInputs, BoundsEnd, CheckEnds, CurveEnds, Completes, DemoEnds, Devices, NoneFails, ReplayEnds, RunEnds, TaskEnds, UpgradeEnds}
+use Rattle.bound_run.specs.Upgrades.{IsGoodCertificate}
 use Rattle.bound_run.specs.Statuses.{ending_of}
-use Rattle.bound_run.specs.Tasks.{Task, bounds, check, replay, demo, task_of}
+use Rattle.bound_run.specs.Tasks.{Task, bounds, check, replay, curve, demo, upgrade, task_of}
 
 -- ---- the walk over a trace that isn't refused
 
@@ -121,6 +122,7 @@ module _ (format : Format) (asked : Asked) (source report made : Device) (good :
   bounds_complete (Invalid line kind) e = absurd e.0
   bounds_complete (Words fault) e = absurd e.0
   bounds_complete CertFault e = absurd e.0
+  bounds_complete (Unequal first other) e = absurd e.0
 
 -- ---- checks
 
@@ -166,6 +168,7 @@ module _ (format : Format) where
     check_complete NoMemory e = free_at source.before cert.before
     check_complete (Words fault) e = absurd e.0
     check_complete MadeFault e = absurd e.0
+    check_complete (Unequal first other) e = absurd e.0
 
 -- ---- replays
 
@@ -188,6 +191,40 @@ module _ (format : Format) (r : Replaying) (source report : Device) (good : IsGo
   replay_complete (Invalid line kind) e = absurd e.0
   replay_complete (Words fault) e = absurd e.0
   replay_complete CertFault e = absurd e.0
+  replay_complete (Unequal first other) e = absurd e.0
+
+-- ---- curves
+
+module _ (format : Format) (source report : Device) (good : IsGoodTrace format source.before)
+    (source_works : ¬ (HasFailed source)) (report_works : ¬ (HasFailed report)) where
+  curve_not_refused : (before : Option (List ℕ)) (fault : FaultOfTrace) → IsGoodTrace format before → IfSome before (λ bytes. (reading format full_limits bytes).refused ≡ Some fault) → ⊥
+  curve_not_refused None fault known_trace why = known_trace
+  curve_not_refused (Some bytes) fault known_trace why = some_is_not_none fault _ why known_trace
+
+  -- what is true of the requests that were loaded is what is answered of the bytes
+  answered_of : (status : Status) (before : Option (List ℕ)) (requests : List Object) (dropped : ℕ) → IsGoodTrace format before
+      → IfSome before (λ bytes. IsWhole (reading format full_limits bytes) requests dropped) → AnswersCurve requests status → AnswersCurveOf format before status
+  answered_of status None requests dropped known_trace whole is = absurd known_trace
+  answered_of status (Some bytes) requests dropped known_trace whole is = subst (λ xs. AnswersCurve xs status) (sym whole.requests) is
+
+  answered_free : (before : Option (List ℕ)) → IsGoodTrace format before → AnswersCurveOf format before NoMemory
+  answered_free None known_trace = absurd known_trace
+  answered_free (Some bytes) known_trace = tt
+
+  curve_complete : (status : Status) → CurveEnds format source report (ending_of status) → AnswersCurveOf format source.before status
+  curve_complete Done (text, curved, all) = answered_of Done source.before curved.requests curved.dropped good curved.loaded.read curved.report.one_size
+  curve_complete (Unequal first other) e = answered_of (Unequal first other) source.before e.0.requests e.0.dropped good e.0.loaded.read e.0.clash
+  curve_complete NoMemory e = answered_free source.before good
+  curve_complete (BadLine line kind) e = absurd (curve_not_refused source.before (trace.BadLine line kind) good e.0)
+  curve_complete (Limit Requests) e = absurd (curve_not_refused source.before trace.TooManyRequests good e.0)
+  curve_complete (Limit TraceBytes) e = absurd (curve_not_refused source.before trace.InputTooLong good e.0)
+  curve_complete (Limit Denominator) e = absurd e.0
+  curve_complete TraceFault e = absurd (source_works e.0)
+  curve_complete ReportFault (text, curved, failed) = absurd (report_works failed.0)
+  curve_complete MadeFault e = absurd e.0
+  curve_complete (Invalid line kind) e = absurd e.0
+  curve_complete (Words fault) e = absurd e.0
+  curve_complete CertFault e = absurd e.0
 
 -- ---- demos
 
@@ -205,6 +242,28 @@ module _ (drawing : Drawing) (asked : Asked) (report : Device) (denominator : ¬
   demo_complete (Invalid line kind) e = absurd e.0
   demo_complete (Words fault) e = absurd e.0
   demo_complete CertFault e = absurd e.0
+  demo_complete (Unequal first other) e = absurd e.0
+
+-- ---- upgrades
+
+module _ (source report made : Device) (good : IsGoodCertificate source.before) (source_works : ¬ (HasFailed source)) (report_works : ¬ (HasFailed report)) (made_works : ¬ (HasFailed made)) where
+  -- a certificate without a fault isn't refused for one
+  faultless : (before : Option (List ℕ)) (line : ℕ) (kind : InvalidKind) → IsGoodCertificate before → IfSome before (λ bytes. text_event (certificates.reading bytes).fault ≡ Some (walks.Invalid line kind)) → ⊥
+  faultless None line kind known_cert why = known_cert
+  faultless (Some bytes) line kind known_cert why = false≢true (ap is_some (sym (ap text_event known_cert) ∙ why))
+
+  upgrade_complete : (status : Status) → UpgradeEnds source report made (ending_of status) → (status ≡ Done) ⊎ (status ≡ NoMemory)
+  upgrade_complete Done e = inl refl
+  upgrade_complete NoMemory e = inr refl
+  upgrade_complete (Invalid line kind) e = absurd (faultless source.before line kind good e.0.0)
+  upgrade_complete CertFault e = absurd (source_works e.0)
+  upgrade_complete ReportFault (cert, text, ready, all, failed) = absurd (report_works failed.0)
+  upgrade_complete MadeFault (cert, text, ready, failed, line) = absurd (made_works failed.0)
+  upgrade_complete (BadLine line kind) e = absurd e.0
+  upgrade_complete (Limit name) e = absurd e.0
+  upgrade_complete TraceFault e = absurd e.0
+  upgrade_complete (Words fault) e = absurd e.0
+  upgrade_complete (Unequal first other) e = absurd e.0
 
 -- ---- a whole run
 
@@ -213,6 +272,8 @@ module _ (d : Devices) (status : Status) (works : NoneFails d) where
   task_complete : (task : Task) → TaskEnds task d (ending_of status) → AreGoodInputs task d → Answers task d status
   task_complete (bounds format asked) e inputs = bounds_complete format asked d.trace d.report d.made inputs.0 inputs.1 works.trace works.report works.made status e.0
   task_complete (replay format r) e inputs = replay_complete format r d.trace d.report inputs works.trace works.report status e.0
+  task_complete (curve format) e inputs = curve_complete format d.trace d.report inputs works.trace works.report status e.0
+  task_complete upgrade e inputs = upgrade_complete d.cert d.report d.made inputs works.cert works.report works.made status e.0
   task_complete (check format) e inputs = check_complete format d.trace d.cert d.report inputs.0 inputs.1 works.trace works.cert works.report status e.0
   task_complete (demo drawing asked) e inputs = demo_complete drawing asked d.report inputs works.report status e.0
 

@@ -16,14 +16,13 @@ use Rattle.cert_checker.proofs.Walked.{passing_is_valid_lem}
 use Rattle.demo_trace.specs.Laws.{read_whole}
 use Rattle.bound_report.specs.declared.demo.PolicyReplays.{PolicyReplays}
 use Rattle.bound_report.specs.Demos.{demo_text}
-use Rattle.bound_report.specs.Reports.{report_text}
 use Rattle.bound_report.specs.declared.refusal.LimitName.TheVariants.{Requests, TraceBytes, Denominator}
 use Rattle.bound_report.specs.declared.refusal.Refusal.{Refusal}
 use Rattle.bound_report.specs.declared.refusal.Refusal.TheVariants as refusal
 use Rattle.bound_run.specs.Asked.{Asked, Drawing}
 use Rattle.bound_run.specs.Demos.{AreReplays, IsDemoText, demo_facts, trace_drawn}
 use Rattle.bound_run.specs.Inputs.{IsCertified}
-use Rattle.bound_run.specs.Made.{AreTexts, IsMade, facts_of}
+use Rattle.bound_run.specs.Made.{AreTexts, IsMade, bounds_report}
 use Rattle.bound_run.specs.Parts.{RefusesCheck}
 
 -- a count of faults that stays at 0 has no new one
@@ -47,6 +46,7 @@ module _ (lines text : List ℕ) (lines_after text_after : Option (List ℕ)) (g
   only_memory (refusal.Limit Denominator) e = absurd e
   only_memory refusal.TraceFault e = absurd (no_fault e)
   only_memory refusal.CertFault e = absurd (no_fault e)
+  only_memory (refusal.Unequal first other) e = absurd e
   only_memory refusal.MadeFault e = absurd e
   only_memory (refusal.Words place kind) e = absurd e
   only_memory refusal.NoMemory e = refl
@@ -61,7 +61,7 @@ shown_by drawing asked trace cert report text replays drawn texts replayed is = 
   made = subst (λ xs. IsMade asked xs texts.price texts.header texts.records) drawn texts.made;
   replays = replays;
   replayed = subst (λ xs. AreReplays asked.capacity xs replays) drawn replayed;
-  text_is = is ∙ (ap (λ r. demo_text (demo_facts drawing asked) r replays) texts.report_is ∙ ap (λ xs. demo_text (demo_facts drawing asked) (report_text (facts_of asked xs 0 texts.price texts.header)) replays) drawn);
+  text_is = is ∙ (ap (λ r. demo_text (demo_facts drawing asked) r replays) texts.report_is ∙ ap (λ xs. demo_text (demo_facts drawing asked) (bounds_report asked xs 0 texts.price texts.header) replays) drawn);
 }
 
 -- what is made of a trace is certified by its lines

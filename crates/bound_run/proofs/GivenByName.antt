@@ -6,8 +6,9 @@ use Rattle.std.specs.Option.{option_map, option_or}
 use Rattle.std.specs.Str.{bytes_eq}
 use Rattle.std.proofs.lemmas.List.{take_more, drop_more, take-map, get_or-map, length-map}
 use Rattle.bound_report.specs.declared.refusal.WordKind.{WordKind}
-use Rattle.bound_run.specs.declared.operands.Command.{Command}
-use Rattle.bound_run.specs.Words.{fault, name_of, operand_fault, operands_fault, place_given, value_given, value_of}
+use Rattle.bound_run.specs.declared.commands.Command.{Command}
+use Rattle.bound_run.specs.Operands.{name_of, place_given, value_given, value_of}
+use Rattle.bound_run.specs.Words.{fault, operand_fault, operands_fault}
 
 -- a choice among images
 choice_mapped : {A B : Type 0} (f : A → B) (b : Bool) (x : A) (xs : Option A) (ys : Option B) → ys ≡ option_map f xs → cond b (Some (f x)) ys ≡ option_map f (cond b (Some x) xs)

@@ -15,7 +15,7 @@ use Rattle.bound_run.specs.Demos.{trace_drawn}
 use Rattle.bound_run.specs.Headline.{AreTrueBounds, Headline, Shows}
 use Rattle.bound_run.specs.Run.{Devices, RunEnds, TaskEnds}
 use Rattle.bound_run.specs.Statuses.{done, ending_of}
-use Rattle.bound_run.specs.Tasks.{Task, bounds, check, replay, demo, task_of}
+use Rattle.bound_run.specs.Tasks.{Task, bounds, check, replay, curve, demo, upgrade, task_of}
 
 -- a valid certificate has true bounds
 true_bounds : (trace : List Object) (h : Header) (records : List Record) → IsValid trace h records → BoundsEveryPolicy trace h → AreTrueBounds trace h records
@@ -45,8 +45,9 @@ shown (bounds format asked) d ((cert, text, ready, certified, printed), source, 
         price = ready.texts.price;
         printed = subst (λ t. Appends d.report.before d.report.after t) ready.texts.report_is printed;
         certified = subst (λ t. Appends d.made.before d.made.after t) ready.texts.cert_is certified;
-        capacity = made.of_capacity;
-        objective = made.of_objective;
+        capacity = ap (λ t. t.capacity) made.terms;
+        objective = ap (λ t. t.objective) made.terms;
+        warmup = ap (λ t. t.warmup) made.terms;
         bounds = true_bounds ready.requests ready.texts.header ready.texts.records made.valid made.bounds;
         exact = made.form;
         equal_sizes = λ size unwindowed same. (
@@ -73,6 +74,12 @@ shown (replay format r) d ((text, replayed, printed), source, cert, made) = (
   replayed.loaded,
   record { text = text; printed = printed; replay = replayed.report },
 )
+shown (curve format) d ((text, curved, printed), source, cert, made) = (
+  curved.requests,
+  curved.dropped,
+  curved.loaded,
+  record { text = text; printed = printed; curve = curved.report },
+)
 shown (demo drawing asked) d ((text, shows, printed), trace, cert, made) =
     let is = shows.made in
     record {
@@ -81,11 +88,17 @@ shown (demo drawing asked) d ((text, shows, printed), trace, cert, made) =
       price = shows.price;
       replays = shows.replays;
       printed = subst (λ t. Appends d.report.before d.report.after t) shows.text_is printed;
-      capacity = is.of_capacity;
-      objective = is.of_objective;
+      capacity = ap (λ t. t.capacity) is.terms;
+      objective = ap (λ t. t.objective) is.terms;
       bounds = true_bounds (trace_drawn drawing) shows.header shows.records is.valid is.bounds;
+      exact = is.form;
+      equal_sizes = λ size unwindowed same. (
+        is.exact_if_equal size unwindowed same,
+        (is.equal_sizes size unwindowed same).equal ∙ ap (λ n. shows.header.denominator * n) (sym is.valid.lower),
+      );
       replayed = shows.replayed;
     }
+shown upgrade d ((cert, text, ready, certified, printed), source, untouched) = record { cert = cert; text = text; certified = certified; printed = printed; upgraded = ready }
 
 pub headlined : (read : Result Plan WordFault) (d : Devices) (status : Status) → RunEnds read d status → status ≡ Done → Headline read d
 headlined (Ok plan) d status ends is = shown (task_of plan) d (subst (λ s. TaskEnds (task_of plan) d (ending_of s)) is ends)

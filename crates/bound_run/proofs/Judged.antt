@@ -30,7 +30,7 @@ text_of_whole bytes h records is =
     let all : others ≡ records = ap (λ r. r.records) same in
     spelled.text ∙ ap (λ x. cert_text x others) heads ∙ ap (cert_text h) all
 
-texts_of_whole : (before : Option (List ℕ)) (h : Header) (records : List Record) → IfSome before (λ text. reading text ≡ whole h records) → IfSome before (λ text. text ≡ cert_text h records)
+pub texts_of_whole : (before : Option (List ℕ)) (h : Header) (records : List Record) → IfSome before (λ text. reading text ≡ whole h records) → IfSome before (λ text. text ≡ cert_text h records)
 texts_of_whole None h records is = tt
 texts_of_whole (Some bytes) h records is = text_of_whole bytes h records is
 

@@ -11,3 +11,5 @@ pub mod Headlined
 pub mod Bounded
 pub mod Replayed
 pub mod Demonstrated
+pub mod Upgraded
+pub mod CurveShown

@@ -14,6 +14,7 @@ use Rattle.cache_model.specs.declared.certificates.Record.{Record}
 use Rattle.bound_report.specs.declared.facts.Mode.{Mode}
 use Rattle.bound_report.specs.declared.facts.Mode.TheVariants.{Flow, Constant, Infinite}
 use Rattle.cache_model.specs.Intervals.{bound_of}
+use Rattle.cache_model.specs.declared.version.TheConstants.{CERT_VERSION, SHORT_VERSION}
 use Rattle.cache_model.specs.Units.{IsUnit, HasWholeCosts, weight}
 use Rattle.cache_model.specs.Certificates.{IsHeaderInRange, IsValid, flows_of, keeps_of, prices_of, upper_of}
 use Rattle.cache_model.specs.Claim.{IsAllowed, score, BoundsEveryPolicy, contents_of}
@@ -57,6 +58,8 @@ some_units capacity unit positive within = le-div 1 capacity unit positive (omeg
 -- what is found of a trace, by its intervals
 pub record IsFound (asked : Asked) (trace : List Object) (line : Timeline) (unit units d : ℕ) (whole_costs : Bool) (upper flow lower price : ℕ) (prices flows : List ℕ) (keeps : List Bool) : Type 0 where
   pub capacity : (1 ≤ asked.capacity) × (asked.capacity ≤ 2 ^ 56)
+  pub warmup : asked.warmup ≤ 2 ^ 25
+  pub version : (CERT_VERSION ≤ asked.version) × (asked.version ≤ SHORT_VERSION)
   pub mode : IsModeInRange asked.mode
   pub few : length trace ≤ 2 ^ 25
   pub is_line : IsTimeline line
@@ -85,7 +88,7 @@ pub record IsFound (asked : Asked) (trace : List Object) (line : Timeline) (unit
 -- the header of these numbers
 abbrev pub header_with : Asked → ℕ → ℕ → ℕ → Bool → ℕ → ℕ → ℕ → Header
 header_with asked requests unit d exact upper flow lower =
-    record { objective = asked.objective; capacity = asked.capacity; requests = requests; unit = unit; denominator = d; exact = exact; upper = upper; flow = flow; lower = lower }
+    record { objective = asked.objective; capacity = asked.capacity; requests = requests; unit = unit; denominator = d; exact = exact; upper = upper; flow = flow; lower = lower; warmup = asked.warmup; version = asked.version }
 
 -- with one window the prices and flows are a solution of the whole
 solved : (mode : Mode) (line : Timeline) (unit units d price : ℕ) (prices flows : List ℕ) → IsOfMode mode line unit units d prices flows price → IsTrue (is_unwindowed mode line.steps)
@@ -158,6 +161,8 @@ module _ (asked : Asked) (trace : List Object) (unit d : ℕ) (whole_costs : Boo
       denominator = found.range;
       upper = found.small;
       flow = found.small_value;
+      warmup = found.warmup;
+      version = found.version;
       lower = omega (arith, found.scored, found.small, bounds.no_policy_scores_more (contents_of trace keeps) found.allowed, scored_once d (score (terms_asked asked) trace (contents_of trace keeps)) found.range.0);
     }
 
@@ -233,8 +238,8 @@ module _ (asked : Asked) (trace : List Object) (unit d : ℕ) (whole_costs : Boo
     made_at : IsMade asked trace price h rs
     made_at = record {
       valid = valid;
-      of_capacity = refl;
-      of_objective = refl;
+      terms = refl;
+      version = refl;
       unit = found.unit_is;
       denominator = found.chosen;
       form = (

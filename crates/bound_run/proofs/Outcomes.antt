@@ -17,16 +17,19 @@ use Rattle.bound_run.specs.Asked.{Asked, Drawing, Replaying}
 use Rattle.bound_run.specs.declared.bounds.BoundsFault.{BoundsFault}
 use Rattle.bound_run.specs.declared.bounds.BoundsFault.TheVariants as bounds
 use Rattle.bound_run.specs.BoundsFaults.{FailsBounds}
+use Rattle.stack_curve.specs.declared.pass.CurveFault.{CurveFault}
+use Rattle.stack_curve.specs.declared.pass.CurveFault.TheVariants as curve
+use Rattle.stack_curve.specs.Curves.{IsCause}
 use Rattle.bound_run.specs.Made.{AreTexts}
 use Rattle.bound_report.specs.declared.refusal.LimitName.TheVariants.{Denominator}
 use Rattle.bound_report.specs.declared.refusal.Refusal.{Refusal}
 use Rattle.bound_report.specs.declared.refusal.Refusal.TheVariants as refusal
 use Rattle.bound_report.specs.Refusals.{refusal_line}
-use Rattle.bound_run.specs.Statuses.{Ending, done, refused, unreported, ending_of, refusal_of, refusal_of_bounds, status_of}
+use Rattle.bound_run.specs.Statuses.{Ending, done, refused, unreported, ending_of, refusal_of, refusal_of_bounds, refusal_of_curve, status_of}
 use Rattle.bound_run.specs.Demos.{IsDemoText, RefusesDemo, trace_drawn}
-use Rattle.bound_run.specs.Inputs.{IsLoaded, IsReady, IsRefused, IsReplayed}
-use Rattle.bound_run.specs.Run.{BoundsEnd, CheckEnds, DemoEnds, ReplayEnds}
-use Rattle.bound_run.specs.Parts.{IsVerdictText, RefusesBounds, RefusesLoading, WritesOut, WritesReport}
+use Rattle.bound_run.specs.Inputs.{IsLoaded, IsReady, IsRefused, IsReplayed, IsCurved}
+use Rattle.bound_run.specs.Run.{CheckEnds, CurveEnds, DemoEnds, MakesEnd, ReplayEnds}
+use Rattle.bound_run.specs.Parts.{IsVerdictText, RefusesBounds, RefusesCurve, RefusesLoading, WritesOut, WritesReport}
 
 -- where nothing is left to stand in, the source has nothing left
 left_nothing : (held : List ℕ) (left : Option (List ℕ)) → stands_in held left ≡ Some [] → left ≡ Some []
@@ -85,23 +88,24 @@ ending_of-status_of (refusal.Invalid line kind) = refl
 ending_of-status_of (refusal.Words place kind) = refl
 ending_of-status_of (refusal.BadLine line kind) = refl
 ending_of-status_of (refusal.Limit name) = refl
+ending_of-status_of (refusal.Unequal first other) = refl
 ending_of-status_of refusal.TraceFault = refl
 ending_of-status_of refusal.CertFault = refl
 ending_of-status_of refusal.MadeFault = refl
 ending_of-status_of refusal.NoMemory = refl
 
-module _ (format : Format) (asked : Asked) (source report made : Device) where
-  -- a run that wrote its bounds, or failed to
-  pub bounds_written : (cert text : List ℕ) (ending : Ending) → IsReady format asked source cert text → WritesOut report made cert text ending → BoundsEnd format asked source report made ending
-  bounds_written cert text done ready (made_all, report_all) = (cert, text, ready, made_all, report_all)
-  bounds_written cert text unreported ready (made_all, report_less) = (cert, text, ready, made_all, report_less)
-  bounds_written cert text (refused refusal.MadeFault) ready (made_less, line) = (cert, text, ready, made_less, line)
-  bounds_written cert text (refused why) ready written = absurd (written.1)
+module _ (AreReady : List ℕ → List ℕ → Type 0) (Refuses : Refusal → Type 0) (report made : Device) where
+  -- a run that wrote its certificate and its report, or failed to
+  pub makes_written : (cert text : List ℕ) (ending : Ending) → AreReady cert text → WritesOut report made cert text ending → MakesEnd AreReady Refuses report made ending
+  makes_written cert text done ready (made_all, report_all) = (cert, text, ready, made_all, report_all)
+  makes_written cert text unreported ready (made_all, report_less) = (cert, text, ready, made_all, report_less)
+  makes_written cert text (refused refusal.MadeFault) ready (made_less, line) = (cert, text, ready, made_less, line)
+  makes_written cert text (refused why) ready written = absurd (written.1)
 
-  -- a run whose trace or denominator is refused
-  pub bounds_refused : (why : Refusal) → RefusesBounds format asked source why → IsUntouched made → Gets report (refusal_line why) → BoundsEnd format asked source report made (refused why)
-  bounds_refused refusal.MadeFault e untouched line = absurd e
-  bounds_refused why e untouched line = (e, line, untouched)
+  -- a run that made none
+  pub makes_refused : (why : Refusal) → (Refuses refusal.MadeFault → ⊥) → Refuses why → IsUntouched made → Gets report (refusal_line why) → MakesEnd AreReady Refuses report made (refused why)
+  makes_refused refusal.MadeFault never e untouched line = absurd (never e)
+  makes_refused why never e untouched line = (e, line, untouched)
 
 -- ---- checks
 
@@ -120,6 +124,25 @@ module _ (format : Format) (r : Replaying) (source report : Device) where
   replay_written text done replayed all = (text, replayed, all)
   replay_written text unreported replayed less = (text, replayed, less)
   replay_written text (refused why) replayed written = absurd written
+
+-- ---- curves
+
+module _ (format : Format) (source report : Device) where
+  -- a curve that was reported, or failed to be
+  pub curve_written : (text : List ℕ) (ending : Ending) → IsCurved format source text → WritesReport report text ending → CurveEnds format source report ending
+  curve_written text done curved all = (text, curved, all)
+  curve_written text unreported curved less = (text, curved, less)
+  curve_written text (refused why) curved written = absurd written
+
+  -- what refuses the trace refuses its curve
+  pub loading_refuses_curve : (why : Refusal) → RefusesLoading format source why → RefusesCurve format source why
+  loading_refuses_curve (refusal.Unequal first other) e = absurd e
+  loading_refuses_curve why e = e
+
+  -- what refuses the curve of a trace that is loaded
+  pub curve_refused : (requests : List Object) (dropped : ℕ) (fault : CurveFault) → IsLoaded format source requests dropped → IsCause requests fault → RefusesCurve format source (refusal_of_curve fault)
+  curve_refused requests dropped (curve.Unequal first other) loaded why = record { requests = requests; dropped = dropped; loaded = loaded; clash = why }
+  curve_refused requests dropped curve.NoMemory loaded why = tt
 
 -- ---- demos
 

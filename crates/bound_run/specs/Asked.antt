@@ -8,12 +8,14 @@ use Rattle.bound_run.specs.declared.tasks.BoundsTask.{BoundsTask}
 use Rattle.bound_run.specs.declared.tasks.DrawTask.{DrawTask}
 use Rattle.bound_run.specs.declared.tasks.ReplayTask.{ReplayTask}
 
--- the capacity in bytes, what a hit earns, the mode, and which denominator is wanted
+-- the capacity in bytes, what a hit earns, the mode, which denominator is wanted, the request from which hits count, and the version of the certificate
 pub record Asked : Type 0 where
   pub capacity : ℕ
   pub objective : Objective
   pub mode : Mode
   pub denominator : DenominatorChoice
+  pub warmup : ℕ
+  pub version : ℕ
 
 -- the policy, its capacity in bytes, and the request from which its hits count
 pub record Replaying : Type 0 where
@@ -29,7 +31,7 @@ pub record Drawing : Type 0 where
 
 -- what a task asks for, apart from the ranges that it keeps
 abbrev pub asked_by : BoundsTask → Asked
-asked_by task = record { capacity = task.capacity; objective = task.objective; mode = task.mode; denominator = task.denominator }
+asked_by task = record { capacity = task.capacity; objective = task.objective; mode = task.mode; denominator = task.denominator; warmup = task.warmup; version = task.version }
 
 -- the replay that a task asks for
 abbrev pub replaying_by : ReplayTask → Replaying

@@ -11,9 +11,8 @@ use Rattle.bound_report.specs.declared.refusal.LimitName.TheVariants.{Denominato
 use Rattle.bound_report.specs.declared.refusal.Refusal.{Refusal}
 use Rattle.bound_report.specs.declared.refusal.Refusal.TheVariants.{Limit, NoMemory}
 use Rattle.bound_report.specs.Demos.{demo_text}
-use Rattle.bound_report.specs.Reports.{report_text}
 use Rattle.bound_run.specs.Asked.{Asked, Drawing}
-use Rattle.bound_run.specs.Made.{IsMade, RefusesDenominator, facts_of}
+use Rattle.bound_run.specs.Made.{IsMade, RefusesDenominator, bounds_report}
 use Rattle.bound_run.specs.Replays.{IsReplay}
 
 -- the trace that is drawn
@@ -40,7 +39,7 @@ pub record IsDemoText (drawing : Drawing) (asked : Asked) (text : List ℕ) : Ty
   pub made : IsMade asked (trace_drawn drawing) price header records
   pub replays : PolicyReplays
   pub replayed : AreReplays asked.capacity (trace_drawn drawing) replays
-  pub text_is : text ≡ demo_text (demo_facts drawing asked) (report_text (facts_of asked (trace_drawn drawing) 0 price header)) replays
+  pub text_is : text ≡ demo_text (demo_facts drawing asked) (bounds_report asked (trace_drawn drawing) 0 price header) replays
 
 -- why there is no demo: the denominator that is asked for passes its limit, or memory ran out
 abbrev pub RefusesDemo : Drawing → Asked → Refusal → Type 0

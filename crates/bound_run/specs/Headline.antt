@@ -8,21 +8,22 @@ use Rattle.cache_model.specs.declared.certificates.Record.{Record}
 use Rattle.cache_model.specs.Certificates.{IsCertificate, eligible_of, flow_of, keeps_of, upper_of}
 use Rattle.cache_model.specs.Claim.{IsAllowed, score, terms_of, BoundsEveryPolicy, contents_of}
 use Rattle.cache_model.specs.Texts.{cert_text}
-use Rattle.bound_report.specs.Reports.{report_text}
 use Rattle.cache_model.specs.Units.{HasWholeCosts}
 use Rattle.cert_checker.specs.declared.verdict.Verdict.{Verdict}
-use Rattle.bound_report.specs.Verdicts.{verdict_text}
 use Rattle.bound_run.specs.Asked.{Asked, Drawing, Replaying}
 use Rattle.bound_run.specs.declared.words.Plan.{Plan}
 use Rattle.bound_run.specs.declared.words.WordFault.{WordFault}
 use Rattle.bound_report.specs.declared.demo.PolicyReplays.{PolicyReplays}
 use Rattle.bound_report.specs.Demos.{demo_text}
 use Rattle.bound_run.specs.Demos.{AreReplays, demo_facts, trace_drawn}
+use Rattle.bound_run.specs.Curves.{IsCurveText}
 use Rattle.bound_run.specs.Inputs.{IsLoaded}
-use Rattle.bound_run.specs.Made.{facts_of, is_unwindowed}
+use Rattle.bound_run.specs.Made.{bounds_report, is_unwindowed}
+use Rattle.bound_run.specs.Parts.{verdict_report}
 use Rattle.bound_run.specs.Replays.{IsReplayText}
+use Rattle.bound_run.specs.Upgrades.{IsUpgraded}
 use Rattle.bound_run.specs.Run.{Devices}
-use Rattle.bound_run.specs.Tasks.{Task, bounds, check, replay, demo, task_of}
+use Rattle.bound_run.specs.Tasks.{Task, bounds, check, replay, curve, demo, upgrade, task_of}
 
 -- header and records are a certificate in range, with a record for each request, and its bounds are true of the trace: no allowed contents score more than the upper one, the keeps are allowed contents that scores the lower one, and in the form exact prices and flows have the upper one as their value
 pub record AreTrueBounds (trace : List Object) (h : Header) (records : List Record) : Type 0 where
@@ -33,15 +34,16 @@ pub record AreTrueBounds (trace : List Object) (h : Header) (records : List Reco
   pub lower : score (terms_of h) trace (contents_of trace (keeps_of records)) ≡ h.lower
   pub equal_values : IsTrue h.exact → (upper_of trace h records ≡ h.upper) × (flow_of trace h records ≡ h.upper)
 
--- bounds printed and certified true bounds at the capacity and for the objective that were asked for; with one window for all steps they are of the form exact where no cost is rounded, and where all sizes are equal, and then they are one number
+-- bounds printed and certified true bounds at the capacity, for the objective and from the warm-up on that were asked for; with one window for all steps they are of the form exact where no cost is rounded, and where all sizes are equal, and then they are one number
 pub record ShowsBounds (asked : Asked) (trace : List Object) (dropped : ℕ) (report made : Device) : Type 0 where
   pub header : Header
   pub records : List Record
   pub price : ℕ
-  pub printed : Appends report.before report.after (report_text (facts_of asked trace dropped price header))
+  pub printed : Appends report.before report.after (bounds_report asked trace dropped price header)
   pub certified : Appends made.before made.after (cert_text header records)
   pub capacity : header.capacity ≡ asked.capacity
   pub objective : header.objective ≡ asked.objective
+  pub warmup : header.warmup ≡ asked.warmup
   pub bounds : AreTrueBounds trace header records
   pub exact : IsTrue header.exact ↔ (IsTrue (is_unwindowed asked.mode (length trace)) × HasWholeCosts (eligible_of trace header) header.unit header.denominator)
   pub equal_sizes : (size : ℕ) → IsTrue (is_unwindowed asked.mode (length trace)) → All (λ i. i.size ≡ size) (eligible_of trace header) → IsTrue header.exact × (header.upper ≡ header.denominator * header.lower)
@@ -50,15 +52,21 @@ pub record ShowsBounds (asked : Asked) (trace : List Object) (dropped : ℕ) (re
 pub record ShowsCheck (trace : List Object) (dropped : ℕ) (cert report : Device) : Type 0 where
   pub verdict : Verdict
   pub records : List Record
-  pub printed : Appends report.before report.after (verdict_text verdict dropped)
+  pub printed : Appends report.before report.after (verdict_report verdict dropped)
   pub certified : IfSome cert.before (λ text. text ≡ cert_text verdict.header records)
   pub bounds : AreTrueBounds trace verdict.header records
 
--- a replay printed the hits of its rule's run, which no valid certificate of its capacity and warm-up is below
+-- a replay printed the hits of its rule's run, which no valid certificate of its capacity and no longer warm-up is below
 pub record ShowsReplay (r : Replaying) (trace : List Object) (dropped : ℕ) (report : Device) : Type 0 where
   pub text : List ℕ
   pub printed : Appends report.before report.after text
   pub replay : IsReplayText r trace dropped text
+
+-- a curve printed LRU's hits at every number of slots
+pub record ShowsCurve (trace : List Object) (dropped : ℕ) (report : Device) : Type 0 where
+  pub text : List ℕ
+  pub printed : Appends report.before report.after text
+  pub curve : IsCurveText trace dropped text
 
 -- a demo printed true bounds of the trace that it drew, and the hits of each rule's run on it, which no valid certificate is below
 pub record ShowsDemo (drawing : Drawing) (asked : Asked) (report : Device) : Type 0 where
@@ -66,18 +74,30 @@ pub record ShowsDemo (drawing : Drawing) (asked : Asked) (report : Device) : Typ
   pub records : List Record
   pub price : ℕ
   pub replays : PolicyReplays
-  pub printed : Appends report.before report.after (demo_text (demo_facts drawing asked) (report_text (facts_of asked (trace_drawn drawing) 0 price header)) replays)
+  pub printed : Appends report.before report.after (demo_text (demo_facts drawing asked) (bounds_report asked (trace_drawn drawing) 0 price header) replays)
   pub capacity : header.capacity ≡ asked.capacity
   pub objective : header.objective ≡ asked.objective
   pub bounds : AreTrueBounds (trace_drawn drawing) header records
+  pub exact : IsTrue header.exact ↔ (IsTrue (is_unwindowed asked.mode (length (trace_drawn drawing))) × HasWholeCosts (eligible_of (trace_drawn drawing) header) header.unit header.denominator)
+  pub equal_sizes : (size : ℕ) → IsTrue (is_unwindowed asked.mode (length (trace_drawn drawing))) → All (λ i. i.size ≡ size) (eligible_of (trace_drawn drawing) header) → IsTrue header.exact × (header.upper ≡ header.denominator * header.lower)
   pub replayed : AreReplays asked.capacity (trace_drawn drawing) replays
+
+-- an upgrade wrote the certificate that it read in the second version
+pub record ShowsUpgrade (source report made : Device) : Type 0 where
+  pub cert : List ℕ
+  pub text : List ℕ
+  pub certified : Appends made.before made.after cert
+  pub printed : Appends report.before report.after text
+  pub upgraded : IsUpgraded source cert text
 
 -- all that the trace source had left was read, or a trace was drawn, and the numbers that a task printed are true of it
 abbrev pub Shows : Task → Devices → Type 0
 Shows (bounds format asked) d = (trace : List Object) × (dropped : ℕ) × IsLoaded format d.trace trace dropped × ShowsBounds asked trace dropped d.report d.made
 Shows (check format) d = (trace : List Object) × (dropped : ℕ) × IsLoaded format d.trace trace dropped × ShowsCheck trace dropped d.cert d.report
 Shows (replay format r) d = (trace : List Object) × (dropped : ℕ) × IsLoaded format d.trace trace dropped × ShowsReplay r trace dropped d.report
+Shows (curve format) d = (trace : List Object) × (dropped : ℕ) × IsLoaded format d.trace trace dropped × ShowsCurve trace dropped d.report
 Shows (demo drawing asked) d = ShowsDemo drawing asked d.report
+Shows upgrade d = ShowsUpgrade d.cert d.report d.made
 
 -- Whatever trace is read and whatever the capacity, no allowed sequence of cache contents scores more than the printed
 -- upper bound, the certified schedule is allowed and scores exactly the lower bound, exact-form prices and flows have

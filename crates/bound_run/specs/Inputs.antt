@@ -16,6 +16,8 @@ use Rattle.trace_any.specs.Readers.{IsWhole}
 use Rattle.cert_checker.specs.declared.verdict.Verdict.{Verdict}
 use Rattle.cert_checker.specs.Walks.{Event, walk}
 use Rattle.bound_run.specs.Asked.{Asked, Replaying}
+use Rattle.stack_curve.specs.Curves.{IsClash}
+use Rattle.bound_run.specs.Curves.{IsCurveText}
 use Rattle.bound_run.specs.Made.{AreTexts, RefusesDenominator}
 use Rattle.bound_run.specs.Replays.{IsReplayText}
 
@@ -41,6 +43,20 @@ pub record IsReplayed (format : Format) (r : Replaying) (source : Device) (text 
   pub dropped : ℕ
   pub loaded : IsLoaded format source requests dropped
   pub report : IsReplayText r requests dropped text
+
+-- the report of the curve of all that the source had left
+pub record IsCurved (format : Format) (source : Device) (text : List ℕ) : Type 0 where
+  pub requests : List Object
+  pub dropped : ℕ
+  pub loaded : IsLoaded format source requests dropped
+  pub report : IsCurveText requests dropped text
+
+-- all that the source had left was read, and two objects of it differ in size
+pub record IsUnequal (format : Format) (source : Device) (first other : ℕ) : Type 0 where
+  pub requests : List Object
+  pub dropped : ℕ
+  pub loaded : IsLoaded format source requests dropped
+  pub clash : IsClash requests first other
 
 -- all that the source had left was read, and the denominator that is asked for passes its limit
 pub record IsPastDenominator (format : Format) (asked : Asked) (source : Device) : Type 0 where

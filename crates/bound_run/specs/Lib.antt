@@ -1,11 +1,16 @@
 pub mod Modes
 pub mod Asked
 pub mod Tasks
+pub mod Commands
+pub mod Values
+pub mod Operands
 pub mod Words
 pub mod Statuses
 pub mod Made
 pub mod Records
 pub mod BoundsFaults
+pub mod Curves
+pub mod Upgrades
 pub mod Inputs
 pub mod Demos
 pub mod Parts

@@ -18,6 +18,7 @@ use Rattle.cache_model.specs.Units.{IsUnit, HasWholeCosts}
 use Rattle.cache_model.specs.Certificates.{eligible_of, flows_of, keeps_of, prices_of, units_of, IsValid, IsLeastOverAll}
 use Rattle.cache_model.specs.Rounding.{IsMaximal, IsRounded, by_rank}
 use Rattle.cache_model.specs.Texts.{cert_text}
+use Rattle.bound_report.specs.Replays.{with_warmup}
 use Rattle.bound_report.specs.Reports.{report_text}
 use Rattle.flow_model.specs.Instances.{IsLeast, IsSolution, total_cost, whole_instance}
 use Rattle.flow_model.specs.Windows.{window_instance}
@@ -30,9 +31,9 @@ use Rattle.schedule_round.specs.Laws.{IsBestSchedule, full_flags}
 use Rattle.window_bounds.specs.Solutions.{AreSolutions, prices_in, value_of_windows, window_count}
 use Rattle.bound_run.specs.Asked.{Asked}
 
--- the terms that are asked for: every request counts
+-- the terms that are asked for
 abbrev pub terms_asked : Asked → Terms
-terms_asked asked = terms_from asked.objective asked.capacity 0
+terms_asked asked = terms_from asked.objective asked.capacity asked.warmup
 
 -- how many steps a window has
 abbrev pub width_of : Window → ℕ → ℕ
@@ -77,8 +78,8 @@ pub record IsNear (trace : List Object) (h : Header) (flows : List ℕ) : Type 0
 -- a valid certificate of the trace as asked for: the greatest unit, the denominator that is chosen, the prices and flows of the mode, and the keeps that are rounded from the full flows
 pub record IsMade (asked : Asked) (trace : List Object) (price : ℕ) (h : Header) (records : List Record) : Type 0 where
   pub valid : IsValid trace h records
-  pub of_capacity : h.capacity ≡ asked.capacity
-  pub of_objective : h.objective ≡ asked.objective
+  pub terms : terms_of h ≡ terms_asked asked
+  pub version : h.version ≡ asked.version
   pub unit : IsUnit (eligible_of trace h) h.unit
   pub denominator : IsChosen asked.denominator (eligible_of trace h) h.unit h.denominator
   pub form : IsTrue h.exact ↔ (IsTrue (is_unwindowed asked.mode (length trace)) × HasWholeCosts (eligible_of trace h) h.unit h.denominator)
@@ -98,6 +99,10 @@ abbrev pub facts_of : Asked → List Object → ℕ → ℕ → Header → Bound
 facts_of asked trace dropped price h =
     record { header = h; objects = length (objects_of trace); dropped = dropped; mode = asked.mode; price = price; intervals = length (eligible_of trace h) }
 
+-- the report of bounds: its lines, and the warm-up if there is one
+abbrev pub bounds_report : Asked → List Object → ℕ → ℕ → Header → List ℕ
+bounds_report asked trace dropped price h = with_warmup h.warmup (report_text (facts_of asked trace dropped price h))
+
 -- the certificate and the report are the texts of what is made of the trace
 pub record AreTexts (asked : Asked) (trace : List Object) (dropped : ℕ) (cert report : List ℕ) : Type 0 where
   pub price : ℕ
@@ -105,7 +110,7 @@ pub record AreTexts (asked : Asked) (trace : List Object) (dropped : ℕ) (cert 
   pub records : List Record
   pub made : IsMade asked trace price header records
   pub cert_is : cert ≡ cert_text header records
-  pub report_is : report ≡ report_text (facts_of asked trace dropped price header)
+  pub report_is : report ≡ bounds_report asked trace dropped price header
 
 -- a denominator that rounds no cost is asked for, and the least one passes 2^48
 pub record RefusesDenominator (asked : Asked) (trace : List Object) : Type 0 where

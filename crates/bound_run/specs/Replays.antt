@@ -6,7 +6,6 @@ use Rattle.cache_model.specs.declared.objects.Objective.TheVariants.{Object as H
 use Rattle.cache_model.specs.declared.certificates.Header.{Header}
 use Rattle.cache_model.specs.declared.certificates.Record.{Record}
 use Rattle.cache_model.specs.Certificates.{IsValid}
-use Rattle.cache_model.specs.Claim.{terms_of}
 use Rattle.cache_model.specs.Objects.{objects_of}
 use Rattle.policy_model.specs.declared.names.PolicyName.{PolicyName}
 use Rattle.policy_model.specs.declared.names.PolicyName.TheVariants.{Belady}
@@ -28,10 +27,10 @@ pub record IsUnder (h : Header) (earned : ℕ) : Type 0 where
   pub upper : h.denominator * earned ≤ h.upper
   pub floor : earned ≤ h.upper / h.denominator
 
--- each certificate that is valid for the trace, of this capacity and warm-up, bounds the hits, or the bytes, by its objective
+-- each certificate that is valid for the trace, of this capacity and no longer warm-up, bounds the hits, or the bytes, by its objective
 abbrev pub IsWithinBounds : ℕ → ℕ → List Object → ℕ → ℕ → Type 0
 IsWithinBounds capacity warmup trace hits bytes =
-    (h : Header) (records : List Record) → IsValid trace h records → h.capacity ≡ capacity → (terms_of h).warmup ≡ warmup → IsUnder h (earned_by h.objective hits bytes)
+    (h : Header) (records : List Record) → IsValid trace h records → h.capacity ≡ capacity → h.warmup ≤ warmup → IsUnder h (earned_by h.objective hits bytes)
 
 -- the counts are those of the rule's run; no valid certificate is below them; and those of Belady's rule are the greatest scores if all that fits has one size and every request counts
 pub record IsReplay (policy : PolicyName) (capacity warmup : ℕ) (trace : List Object) (replay : Replay) : Type 0 where

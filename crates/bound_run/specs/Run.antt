@@ -1,25 +1,30 @@
 -- When a run ends in each status, and what the devices got then.
-use Rattle.std.specs.Prelude.{◌≡◌, ℕ, ◌⊎◌, List, Result, Ok, Err, Some, IsSome}
+use Rattle.std.specs.Prelude.{◌≡◌, ℕ, ◌⊎◌, List, Result, Ok, Err, Some, None, IsSome}
 use Rattle.std.specs.declared.option.Option.{Option}
 use Rattle.bound_io.specs.Reading.{LosesPrefix}
 use Rattle.bound_io.specs.Devices.{Device, HasFailed, Gets, GetsAll, GetsLess, IsUntouched}
+use Rattle.cache_model.specs.declared.objects.Object.{Object}
+use Rattle.trace_any.specs.Readings.{reading, full_limits}
+use Rattle.stack_curve.specs.Curves.{IsClash, first_size}
+use Rattle.stack_curve.specs.Laws.{HaveSize}
 use Rattle.trace_any.specs.declared.format.Format.{Format}
+use Rattle.bound_report.specs.declared.refusal.Refusal.{Refusal}
 use Rattle.bound_report.specs.declared.refusal.Refusal.TheVariants.{MadeFault}
 use Rattle.bound_report.specs.declared.refusal.Refusal.TheVariants as refusal
 use Rattle.bound_report.specs.Refusals.{refusal_line}
-use Rattle.bound_report.specs.Verdicts.{verdict_text}
 use Rattle.cert_checker.specs.declared.verdict.Verdict.{Verdict}
 use Rattle.bound_run.specs.Asked.{Asked, Drawing, Replaying}
 use Rattle.bound_run.specs.declared.words.Plan.{Plan}
 use Rattle.bound_run.specs.declared.words.WordFault.{WordFault}
 use Rattle.bound_run.specs.declared.status.Status.{Status}
-use Rattle.bound_run.specs.declared.status.Status.TheVariants.{Done, Invalid, Words, NoMemory}
+use Rattle.bound_run.specs.declared.status.Status.TheVariants.{Done, Invalid, Words, NoMemory, Unequal}
 use Rattle.bound_run.specs.Demos.{IsDemoText, RefusesDemo, trace_drawn}
 use Rattle.bound_run.specs.Made.{RefusesDenominator}
-use Rattle.bound_run.specs.Inputs.{HasDenominator, IsAccepted, IsCertified, IsGoodTrace, IsReady, IsReplayed}
-use Rattle.bound_run.specs.Parts.{RefusesBounds, RefusesCheck, RefusesLoading}
+use Rattle.bound_run.specs.Inputs.{HasDenominator, IsAccepted, IsCertified, IsGoodTrace, IsReady, IsReplayed, IsCurved}
+use Rattle.bound_run.specs.Parts.{RefusesBounds, RefusesCheck, RefusesCurve, RefusesLoading, verdict_report}
+use Rattle.bound_run.specs.Upgrades.{IsGoodCertificate, IsUpgraded, RefusesUpgrade}
 use Rattle.bound_run.specs.Statuses.{Ending, done, refused, unreported, ending_of}
-use Rattle.bound_run.specs.Tasks.{Task, bounds, check, replay, demo, task_of}
+use Rattle.bound_run.specs.Tasks.{Task, bounds, check, replay, curve, demo, upgrade, task_of}
 
 -- what is seen of the four devices of a run
 pub record Devices : Type 0 where
@@ -32,17 +37,25 @@ pub record Devices : Type 0 where
 abbrev pub devices : Device → Device → Device → Device → Devices
 devices trace cert report made = record { trace = trace; cert = cert; report = report; made = made }
 
+-- how a run ends that makes a certificate, and what the sinks got then, where these are ready to be written and this refuses them
+abbrev pub MakesEnd : (List ℕ → List ℕ → Type 0) → (Refusal → Type 0) → Device → Device → Ending → Type 0
+MakesEnd AreReady Refuses report made done = (cert : List ℕ) × (text : List ℕ) × AreReady cert text × GetsAll made cert × GetsAll report text
+MakesEnd AreReady Refuses report made unreported = (cert : List ℕ) × (text : List ℕ) × AreReady cert text × GetsAll made cert × GetsLess report text
+MakesEnd AreReady Refuses report made (refused MadeFault) = (cert : List ℕ) × (text : List ℕ) × AreReady cert text × GetsLess made cert × Gets report (refusal_line MadeFault)
+MakesEnd AreReady Refuses report made (refused r) = Refuses r × Gets report (refusal_line r) × IsUntouched made
+
 -- how bounds end, and what the sinks got then
 abbrev pub BoundsEnd : Format → Asked → Device → Device → Device → Ending → Type 0
-BoundsEnd format asked source report made done = (cert : List ℕ) × (text : List ℕ) × IsReady format asked source cert text × GetsAll made cert × GetsAll report text
-BoundsEnd format asked source report made unreported = (cert : List ℕ) × (text : List ℕ) × IsReady format asked source cert text × GetsAll made cert × GetsLess report text
-BoundsEnd format asked source report made (refused MadeFault) = (cert : List ℕ) × (text : List ℕ) × IsReady format asked source cert text × GetsLess made cert × Gets report (refusal_line MadeFault)
-BoundsEnd format asked source report made (refused r) = RefusesBounds format asked source r × Gets report (refusal_line r) × IsUntouched made
+BoundsEnd format asked source report made ending = MakesEnd (IsReady format asked source) (RefusesBounds format asked source) report made ending
+
+-- how an upgrade ends, and what the sinks got then
+abbrev pub UpgradeEnds : Device → Device → Device → Ending → Type 0
+UpgradeEnds source report made ending = MakesEnd (IsUpgraded source) (RefusesUpgrade source) report made ending
 
 -- how a check ends, and what the report got then
 abbrev pub CheckEnds : Format → Device → Device → Device → Ending → Type 0
-CheckEnds format source cert report done = (verdict : Verdict) × (dropped : ℕ) × IsAccepted format source cert verdict dropped × GetsAll report (verdict_text verdict dropped)
-CheckEnds format source cert report unreported = (verdict : Verdict) × (dropped : ℕ) × IsAccepted format source cert verdict dropped × GetsLess report (verdict_text verdict dropped)
+CheckEnds format source cert report done = (verdict : Verdict) × (dropped : ℕ) × IsAccepted format source cert verdict dropped × GetsAll report (verdict_report verdict dropped)
+CheckEnds format source cert report unreported = (verdict : Verdict) × (dropped : ℕ) × IsAccepted format source cert verdict dropped × GetsLess report (verdict_report verdict dropped)
 CheckEnds format source cert report (refused r) = RefusesCheck format source cert r × Gets report (refusal_line r)
 
 -- how a replay ends, and what the report got then
@@ -50,6 +63,12 @@ abbrev pub ReplayEnds : Format → Replaying → Device → Device → Ending �
 ReplayEnds format r source report done = (text : List ℕ) × IsReplayed format r source text × GetsAll report text
 ReplayEnds format r source report unreported = (text : List ℕ) × IsReplayed format r source text × GetsLess report text
 ReplayEnds format r source report (refused why) = RefusesLoading format source why × Gets report (refusal_line why)
+
+-- how a curve ends, and what the report got then
+abbrev pub CurveEnds : Format → Device → Device → Ending → Type 0
+CurveEnds format source report done = (text : List ℕ) × IsCurved format source text × GetsAll report text
+CurveEnds format source report unreported = (text : List ℕ) × IsCurved format source text × GetsLess report text
+CurveEnds format source report (refused why) = RefusesCurve format source why × Gets report (refusal_line why)
 
 -- how a demo ends, and what the report got then
 abbrev pub DemoEnds : Drawing → Asked → Device → Ending → Type 0
@@ -63,7 +82,9 @@ TaskEnds (bounds format asked) d ending = BoundsEnd format asked d.trace d.repor
 TaskEnds (check format) d ending =
     CheckEnds format d.trace d.cert d.report ending × LosesPrefix d.trace.before d.trace.after × LosesPrefix d.cert.before d.cert.after × IsUntouched d.made
 TaskEnds (replay format r) d ending = ReplayEnds format r d.trace d.report ending × LosesPrefix d.trace.before d.trace.after × IsUntouched d.cert × IsUntouched d.made
+TaskEnds (curve format) d ending = CurveEnds format d.trace d.report ending × LosesPrefix d.trace.before d.trace.after × IsUntouched d.cert × IsUntouched d.made
 TaskEnds (demo drawing asked) d ending = DemoEnds drawing asked d.report ending × IsUntouched d.trace × IsUntouched d.cert × IsUntouched d.made
+TaskEnds upgrade d ending = UpgradeEnds d.cert d.report d.made ending × LosesPrefix d.cert.before d.cert.after × IsUntouched d.trace
 
 -- how a run ends: the task of its plan does, or its words are refused and all but the report is left alone
 abbrev pub RunEnds : Result Plan WordFault → Devices → Status → Type 0
@@ -83,7 +104,9 @@ abbrev pub AreGoodInputs : Task → Devices → Type 0
 AreGoodInputs (bounds format asked) d = IsGoodTrace format d.trace.before × HasDenominator format asked d.trace.before
 AreGoodInputs (check format) d = IsGoodTrace format d.trace.before × IsSome d.cert.before
 AreGoodInputs (replay format r) d = IsGoodTrace format d.trace.before
+AreGoodInputs (curve format) d = IsGoodTrace format d.trace.before
 AreGoodInputs (demo drawing asked) d = ¬ (RefusesDenominator asked (trace_drawn drawing))
+AreGoodInputs upgrade d = IsGoodCertificate d.cert.before
 
 -- what a check answers of good inputs: Done of a valid certificate, and Invalid of every other
 abbrev pub AnswersOf : Format → Option (List ℕ) → Option (List ℕ) → Status → Type 0
@@ -92,12 +115,26 @@ AnswersOf format (Some bytes) (Some text) (Invalid line kind) = ¬ (IsCertified 
 AnswersOf format before cert NoMemory = Unit {0}
 AnswersOf format before cert status = ⊥
 
+-- what a curve answers of a trace: Done if its objects have one size, and Unequal if two of them clash
+abbrev pub AnswersCurve : List Object → Status → Type 0
+AnswersCurve trace Done = HaveSize (first_size trace) trace
+AnswersCurve trace (Unequal first other) = IsClash trace first other
+AnswersCurve trace NoMemory = Unit {0}
+AnswersCurve trace status = ⊥
+
+-- what a curve answers of bytes that are known
+abbrev pub AnswersCurveOf : Format → Option (List ℕ) → Status → Type 0
+AnswersCurveOf format (Some bytes) status = AnswersCurve (reading format full_limits bytes).requests status
+AnswersCurveOf format None status = ⊥
+
 -- what is answered of good inputs, unless memory ran out
 abbrev pub Answers : Task → Devices → Status → Type 0
 Answers (bounds format asked) d status = (status ≡ Done) ⊎ (status ≡ NoMemory)
 Answers (check format) d status = AnswersOf format d.trace.before d.cert.before status
 Answers (replay format r) d status = (status ≡ Done) ⊎ (status ≡ NoMemory)
+Answers (curve format) d status = AnswersCurveOf format d.trace.before status
 Answers (demo drawing asked) d status = (status ≡ Done) ⊎ (status ≡ NoMemory)
+Answers upgrade d status = (status ≡ Done) ⊎ (status ≡ NoMemory)
 
 -- good words, good inputs and no fault lead to the answer
 abbrev pub Completes : Result Plan WordFault → Devices → Status → Type 0

@@ -7,10 +7,12 @@ use Rattle.trace_any.specs.declared.fault.TraceFault.TheVariants as trace
 use Rattle.bound_report.specs.declared.refusal.LimitName.TheVariants.{Requests, TraceBytes, Denominator}
 use Rattle.cert_checker.specs.declared.walking.CheckFault.{CheckFault}
 use Rattle.cert_checker.specs.declared.walking.CheckFault.TheVariants as check
+use Rattle.stack_curve.specs.declared.pass.CurveFault.{CurveFault}
+use Rattle.stack_curve.specs.declared.pass.CurveFault.TheVariants as curve
 use Rattle.bound_run.specs.declared.bounds.BoundsFault.{BoundsFault}
 use Rattle.bound_run.specs.declared.bounds.BoundsFault.TheVariants as bounds
 use Rattle.bound_run.specs.declared.status.Status.{Status}
-use Rattle.bound_run.specs.declared.status.Status.TheVariants.{Done, Invalid, Words, BadLine, Limit, TraceFault, CertFault, ReportFault, MadeFault, NoMemory}
+use Rattle.bound_run.specs.declared.status.Status.TheVariants.{Done, Invalid, Words, BadLine, Limit, TraceFault, CertFault, ReportFault, MadeFault, NoMemory, Unequal}
 
 -- the exit status of the program
 abbrev pub code_of : Status → ℕ
@@ -24,6 +26,7 @@ code_of CertFault = 6
 code_of ReportFault = 7
 code_of MadeFault = 8
 code_of NoMemory = 9
+code_of (Unequal first other) = 10
 
 -- how a run ended: all was done, it was refused, or its report could not be written
 pub data Ending : Type 0 where
@@ -43,6 +46,7 @@ ending_of CertFault = refused refusal.CertFault
 ending_of ReportFault = unreported
 ending_of MadeFault = refused refusal.MadeFault
 ending_of NoMemory = refused refusal.NoMemory
+ending_of (Unequal first other) = refused (refusal.Unequal first other)
 
 -- the status that a refusal ends in
 abbrev pub status_of : Refusal → Status
@@ -54,6 +58,7 @@ status_of refusal.TraceFault = TraceFault
 status_of refusal.CertFault = CertFault
 status_of refusal.MadeFault = MadeFault
 status_of refusal.NoMemory = NoMemory
+status_of (refusal.Unequal first other) = Unequal first other
 
 -- the refusal that a fault of the trace leads to
 abbrev pub refusal_of : FaultOfTrace → Refusal
@@ -74,3 +79,8 @@ refusal_of_check check.NoMemory = refusal.NoMemory
 abbrev pub refusal_of_bounds : BoundsFault → Refusal
 refusal_of_bounds bounds.Denominator = refusal.Limit Denominator
 refusal_of_bounds bounds.NoMemory = refusal.NoMemory
+
+-- the refusal that a fault of a curve leads to
+abbrev pub refusal_of_curve : CurveFault → Refusal
+refusal_of_curve (curve.Unequal first other) = refusal.Unequal first other
+refusal_of_curve curve.NoMemory = refusal.NoMemory

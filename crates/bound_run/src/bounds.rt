@@ -20,7 +20,7 @@ use crate::relaxed::{Relaxed, relax, width_of};
 use crate::tasks::BoundsTask;
 use bound_base::NoMemory;
 use bound_io::{Failed, GrowSink, Sink};
-use bound_report::{BoundFacts, LimitName, Mode, Refusal, report_text};
+use bound_report::{BoundFacts, LimitName, Mode, Refusal, push_warmup, report_text};
 use cache_model::{Header, Record, Terms};
 use cache_rules::{Trace, score_of_fitting};
 use cert_format::{write_end, write_header, write_record};
@@ -87,14 +87,14 @@ impl From<BoundsFault> for Refusal {
 }
 
 impl BoundsTask {
-    // What the objective, the capacity and the warm-up are. Every request counts.
+    // What the objective, the capacity and the warm-up are.
     fn terms(&self) -> Terms
         ensures { result ≡ terms_asked (asked_by self.now) }
     {
         Terms {
             objective: self.objective,
             capacity: self.capacity,
-            warmup: 0,
+            warmup: self.warmup,
         }
     }
 }
@@ -213,6 +213,8 @@ fn parts_of(
         upper,
         flow,
         lower: schedule.lower,
+        warmup: asked.warmup,
+        version: asked.version,
     };
     Ok((header, relaxed, schedule.keeps))
 }
@@ -224,7 +226,7 @@ fn bounds_of(alloc: Global, asked: &BoundsTask, trace: &Trace) -> Result<Bounds,
     ensures each { IfOk result HasEach }
     ensures refused { IfErr result (FailsBounds (asked_by asked.now) trace.now) }
 {
-    let intervals = make(alloc, trace, asked.capacity, asked.objective, 0)?;
+    let intervals = make(alloc, trace, asked.capacity, asked.objective, asked.warmup)?;
     let (header, relaxed, keeps) = parts_of(alloc, asked, trace, &intervals)?;
     Ok(Bounds {
         header,
@@ -266,8 +268,11 @@ fn write_cert<K: Sink>(sink: &mut K, bounds: &Bounds) -> Result<(), Failed>
     ensures { OnOk result (Appends (K.written sink.old) (K.written sink.new) (cert_text bounds.now.header (records_in bounds.now))) }
 {
     write_header(sink, &bounds.header)?;
+    let mut before = 0;
     for t in 0..bounds.intervals.steps() {
-        write_record(sink, &record_at(bounds, t))?;
+        let record = record_at(bounds, t);
+        write_record(sink, bounds.header.version, before, &record)?;
+        before = record.price;
     }
     write_end(sink)?;
     Ok(())
@@ -307,10 +312,10 @@ fn texts_with(
         price: bounds.relaxed.price,
         intervals: bounds.intervals.as_slice().len() as u32,
     };
-    Ok(Texts {
-        cert: cert_of(alloc, bounds)?,
-        report: report_text(alloc, &facts)?,
-    })
+    let cert = cert_of(alloc, bounds)?;
+    let mut report = report_text(alloc, &facts)?;
+    push_warmup(&mut report, bounds.header.warmup)?;
+    Ok(Texts { cert, report })
 }
 
 /// The certificate and the report of a trace as asked for, with the number of lines of the trace that were dropped.

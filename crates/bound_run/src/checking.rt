@@ -9,7 +9,7 @@ ghost use Rattle.bound_run.specs.Parts.{IsVerdictText, RefusesCheck};
 
 use crate::status::refusal_of_check;
 use bound_io::Source;
-use bound_report::{Refusal, verdict_text};
+use bound_report::{Refusal, push_warmup, verdict_text};
 use cert_checker::check_streams;
 use cert_format::CertReader;
 use std::alloc::Global;
@@ -31,7 +31,11 @@ fn verdict_with<T: Source, Q: Source>(
     ensures cert_source { LosesPrefix (Q.left cert.old) (Q.left cert.new) }
 {
     match check_streams(alloc, requests, trace, records, cert) {
-        Ok(verdict) => Ok(verdict_text(alloc, &verdict, requests.dropped())?),
+        Ok(verdict) => {
+            let mut text = verdict_text(alloc, &verdict, requests.dropped())?;
+            push_warmup(&mut text, verdict.header.warmup)?;
+            Ok(text)
+        }
         Err(fault) => Err(refusal_of_check(fault)),
     }
 }

@@ -5,14 +5,20 @@
 
 mod bounds;
 mod checking;
+mod commands;
+mod curves;
 mod demos;
+mod loading;
 mod operands;
 mod relaxed;
 mod replays;
 mod status;
 mod tasks;
 mod top;
+mod upgrades;
+mod values;
 mod words;
+mod writing;
 
 pub use replays::bounded_replay;
 pub use status::Status;

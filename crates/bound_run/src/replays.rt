@@ -19,7 +19,7 @@ use replay_recency::{Clock, Fifo, Lru};
 use std::alloc::Global;
 
 /// Replays the trace, and counts the hits from request `warmup` on. Whatever the policy, no certificate that is valid for
-/// the trace, of the same capacity and warm-up, has a smaller upper bound. It takes what a replay takes.
+/// the trace, of the same capacity and no longer warm-up, has a smaller upper bound. It takes what a replay takes.
 pub fn bounded_replay<P: Policy>(
     alloc: Global,
     trace: &Trace,

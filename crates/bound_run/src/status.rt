@@ -1,10 +1,11 @@
 //! How a run ends.
 ghost use Rattle.std.specs.Prelude.{◌≡◌};
-ghost use Rattle.bound_run.specs.Statuses.{code_of, refusal_of, refusal_of_check};
+ghost use Rattle.bound_run.specs.Statuses.{code_of, refusal_of, refusal_of_check, refusal_of_curve};
 
 use crate::words::WordFault;
 use bound_report::{InvalidKind, LimitName, Refusal};
 use cert_checker::CheckFault;
+use stack_curve::CurveFault;
 use trace_any::TraceFault;
 use trace_lines::LineKind;
 
@@ -31,6 +32,9 @@ pub enum Status {
     MadeFault,
     /// There was not enough memory.
     NoMemory,
+    /// Two objects of the trace differ in size: the size of its first object, and that of the first object which differs,
+    /// in bytes.
+    Unequal { first: u64, other: u64 },
 }
 
 impl Status {
@@ -49,6 +53,7 @@ impl Status {
             Status::ReportFault => 7,
             Status::MadeFault => 8,
             Status::NoMemory => 9,
+            Status::Unequal { .. } => 10,
         }
     }
 }
@@ -65,6 +70,7 @@ impl From<Refusal> for Status {
             Refusal::Words { place, kind } => Status::Words(WordFault { place, kind }),
             Refusal::BadLine { line, kind } => Status::BadLine { line, kind },
             Refusal::Limit(name) => Status::Limit(name),
+            Refusal::Unequal { first, other } => Status::Unequal { first, other },
             Refusal::TraceFault => Status::TraceFault,
             Refusal::CertFault => Status::CertFault,
             Refusal::MadeFault => Status::MadeFault,
@@ -95,5 +101,15 @@ pub fn refusal_of_check(fault: CheckFault) -> Refusal
         CheckFault::Trace(fault) => refusal_of(fault),
         CheckFault::CertReadFault => Refusal::CertFault,
         CheckFault::NoMemory => Refusal::NoMemory,
+    }
+}
+
+/// The refusal that a fault of a curve leads to.
+pub fn refusal_of_curve(fault: CurveFault) -> Refusal
+    ensures { result ≡ refusal_of_curve fault }
+{
+    match fault {
+        CurveFault::Unequal { first, other } => Refusal::Unequal { first, other },
+        CurveFault::NoMemory => Refusal::NoMemory,
     }
 }

@@ -3,13 +3,16 @@ ghost use Rattle.std.specs.Prelude.{◌≡◌, ◌≤◌, [], map, slice_get, st
 ghost use Rattle.std.specs.Option.{option_copied};
 ghost use Rattle.bound_run.specs.Tasks.{IsPlanInRange};
 ghost use Rattle.std.specs.Option.{ForSome};
-ghost use Rattle.bound_run.specs.Words.{block_fault, bounds_plan, cert_path, check_plan, command_named, command_of, demo_plan, earlier, inputs_fault, is_dash, made_path, operand_fault, operands_fault, operands_of, passed, path, path_at, paths, replay_plan, places_in, places_of, plan, plan_of_command, plan_of_operands, required, trace_path, unknown_operand, window_fault, word_or_dash};
+ghost use Rattle.bound_run.specs.Commands.{operands_of, places_of};
+ghost use Rattle.bound_run.specs.Words.{block_fault, bounds_plan, cert_path, check_plan, command_of, curve_plan, demo_plan, earlier, inputs_fault, is_dash, made_path, operand_fault, operands_fault, passed, path, path_at, paths, places_in, plan, plan_of_command, plan_of_operands, replay_plan, required, trace_path, unknown_operand, window_fault, word_or_dash};
 
+use crate::commands::{Command, PathPlaces, command_named, has_operand};
 use crate::operands::{
-    Command, PathPlaces, capacity_given, capacity_or_usual, denominator_given, format_given,
-    has_equals, has_operand, is, is_value, mode_given, name_of, objective_given, objects_given,
-    place_given, policy_given, requests_given, seed_given, value_given, value_of, warmup_given,
+    capacity_given, capacity_or_usual, denominator_given, format_given, has_equals, mode_given,
+    name_of, objective_given, objects_given, place_given, policy_given, requests_given, seed_given,
+    value_given, value_of, version_given, warmup_given,
 };
+use crate::values::{is, is_value};
 use bound_report::{Mode, WordKind};
 use cache_rules::Objective;
 use policy_model::PolicyName;
@@ -26,13 +29,16 @@ pub struct WordFault {
 /// What the words ask for.
 #[derive(Clone, Copy, Debug, PartialEq, Eq)]
 pub enum Plan {
-    /// Bounds on the best score on a trace of this form, at a capacity in bytes.
+    /// Bounds on the best score on a trace of this form from request `warmup` on, at a capacity in bytes, and their
+    /// certificate in a version of its text.
     Bounds {
         format: Format,
         capacity: u64,
         objective: Objective,
         mode: Mode,
         denominator: DenominatorChoice,
+        warmup: u32,
+        version: u8,
     },
     /// Whether a certificate is valid for a trace of this form.
     Check {
@@ -45,6 +51,10 @@ pub enum Plan {
         policy: PolicyName,
         warmup: u32,
     },
+    /// LRU's hits at every number of slots on a trace of this form.
+    Curve {
+        format: Format,
+    },
     /// Bounds, their check and replays on a trace of this number of requests for some of this number of objects, drawn
     /// from a seed, at a capacity in bytes.
     Demo {
@@ -56,6 +66,8 @@ pub enum Plan {
         mode: Mode,
         denominator: DenominatorChoice,
     },
+    /// A certificate in the second version of its text.
+    Upgrade,
 }
 
 /// The paths of a command, where `-` stands for the standard input or output and for a path that it lacks.
@@ -77,23 +89,6 @@ fn word_at(words: &[String], at: usize) -> Option<&str>
 {
     let word = words.get(at)?;
     Some(word.as_str())
-}
-
-// The command that a word names.
-fn command_named(word: &str) -> Option<Command>
-    ensures { result ≡ command_named word.now }
-{
-    if is(word, "bounds") {
-        Some(Command::Bounds)
-    } else if is(word, "check") {
-        Some(Command::Check)
-    } else if is(word, "replay") {
-        Some(Command::Replay)
-    } else if is(word, "demo") {
-        Some(Command::Demo)
-    } else {
-        None
-    }
 }
 
 fn command_of(word: Option<&str>) -> Result<Command, WordFault>
@@ -242,6 +237,8 @@ fn bounds_plan(end: u64, operands: &[String]) -> Result<Plan, WordFault>
         objective: objective_given(operands),
         mode,
         denominator: denominator_given(mode, operands),
+        warmup: warmup_given(operands),
+        version: version_given(operands),
     })
 }
 
@@ -298,6 +295,15 @@ fn replay_plan(end: u64, operands: &[String]) -> Result<Plan, WordFault>
     })
 }
 
+// The plan of a curve that accepted operands give, where the words end before a place.
+fn curve_plan(end: u64, operands: &[String]) -> Result<Plan, WordFault>
+    ensures plan { result ≡ curve_plan end (map string_bytes operands.now) }
+    ensures range { IfOk result IsPlanInRange }
+{
+    let format = required(end, format_given(operands))?;
+    Ok(Plan::Curve { format })
+}
+
 // The plan of a demo that accepted operands give. Each has a usual value.
 fn demo_plan(operands: &[String]) -> Plan
     ensures plan { result ≡ demo_plan (map string_bytes operands.now) }
@@ -328,7 +334,9 @@ fn plan_of_command(
         Command::Bounds => bounds_plan(words.len() as u64 + 1, operands),
         Command::Check => check_plan(command.places(), words, operands),
         Command::Replay => replay_plan(words.len() as u64 + 1, operands),
+        Command::Curve => curve_plan(words.len() as u64 + 1, operands),
         Command::Demo => Ok(demo_plan(operands)),
+        Command::Upgrade => Ok(Plan::Upgrade),
     }
 }
 

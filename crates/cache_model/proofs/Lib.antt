@@ -1,4 +1,6 @@
 mod Rows
+mod TextRows
+pub mod RecordLines
 pub mod Duality
 pub mod Sums
 pub mod Pairs

@@ -184,7 +184,7 @@ abbrev pair : List Object
 pair = object 7 4 ∷ object 7 4 ∷ []
 
 abbrev pair_header : Bool → ℕ → Header
-pair_header exact flow = record { objective = Hits; capacity = 10; requests = 2; unit = 4; denominator = 1; exact = exact; upper = 1; flow = flow; lower = 1 }
+pair_header exact flow = record { objective = Hits; capacity = 10; requests = 2; unit = 4; denominator = 1; exact = exact; upper = 1; flow = flow; lower = 1; warmup = 0; version = 1 }
 
 abbrev pair_records : ℕ → List Record
 pair_records flow = entry 0 true flow ∷ entry 0 false 0 ∷ []
@@ -283,7 +283,7 @@ small_record p f keep hp hf = record { price = omega arith; flow = omega arith }
 
 pair_certificate : IsCertificate (pair_header true 1) (pair_records 1)
 pair_certificate = record {
-  header = record { capacity = (lit≤ tt, lit≤ tt); requests = lit≤ tt; unit = (lit≤ tt, lit≤ tt); denominator = (lit≤ tt, lit≤ tt); upper = lit< tt; flow = lit< tt; lower = lit< tt };
+  header = record { capacity = (lit≤ tt, lit≤ tt); requests = lit≤ tt; unit = (lit≤ tt, lit≤ tt); denominator = (lit≤ tt, lit≤ tt); upper = lit< tt; flow = lit< tt; lower = lit< tt; warmup = lit≤ tt; version = (lit≤ tt, lit≤ tt) };
   count = refl;
   each = All-cons IsRecordInRange (entry 0 true 1) (entry 0 false 0 ∷ []) (small_record 0 1 true (lit≤ tt) (lit≤ tt))
       (All-cons IsRecordInRange (entry 0 false 0) [] (small_record 0 0 false (lit≤ tt) (lit≤ tt)) (All-nil IsRecordInRange));
@@ -337,7 +337,7 @@ twos_unit = record {
 
 -- ---- the certificate of no request at all
 abbrev none_header : Header
-none_header = record { objective = Hits; capacity = 10; requests = 0; unit = 1; denominator = 1; exact = true; upper = 0; flow = 0; lower = 0 }
+none_header = record { objective = Hits; capacity = 10; requests = 0; unit = 1; denominator = 1; exact = true; upper = 0; flow = 0; lower = 0; warmup = 0; version = 1 }
 
 none_text : cert_text none_header [] ≡ text_of (
     codes "cache-bound-certificate 1"
@@ -357,7 +357,7 @@ unfolding digits
 none_text = refl
 
 none_certificate : IsCertificate none_header []
-none_certificate = record { header = record { capacity = (lit≤ tt, lit≤ tt); requests = lit≤ tt; unit = (lit≤ tt, lit≤ tt); denominator = (lit≤ tt, lit≤ tt); upper = lit< tt; flow = lit< tt; lower = lit< tt }; count = refl; each = All-nil IsRecordInRange }
+none_certificate = record { header = record { capacity = (lit≤ tt, lit≤ tt); requests = lit≤ tt; unit = (lit≤ tt, lit≤ tt); denominator = (lit≤ tt, lit≤ tt); upper = lit< tt; flow = lit< tt; lower = lit< tt; warmup = lit≤ tt; version = (lit≤ tt, lit≤ tt) }; count = refl; each = All-nil IsRecordInRange }
 
 none_loads : (t : ℕ) → t ≤ 0 → total_size (held_before [] [] t) ≤ 10
 none_loads zero h = lit≤ tt

@@ -6,6 +6,7 @@ use Rattle.cache_model.specs.declared.objects.Object.{Object}
 use Rattle.cache_model.specs.declared.intervals.Interval.{Interval}
 use Rattle.cache_model.specs.declared.certificates.Header.{Header}
 use Rattle.cache_model.specs.declared.certificates.Record.{Record}
+use Rattle.cache_model.specs.declared.version.TheConstants.{CERT_VERSION, SHORT_VERSION}
 use Rattle.cache_model.specs.Claim.{IsAllowed, score, contents_of, terms_of}
 use Rattle.cache_model.specs.Intervals.{eligible_intervals, bound_of}
 use Rattle.cache_model.specs.Schedules.{IsFractionalSchedule, flow_value}
@@ -20,6 +21,8 @@ pub record IsHeaderInRange (h : Header) : Type 0 where
   pub upper : h.upper < 2 ^ 127
   pub flow : h.flow < 2 ^ 127
   pub lower : h.lower < 2 ^ 127
+  pub warmup : h.warmup ≤ 2 ^ 25
+  pub version : (CERT_VERSION ≤ h.version) × (h.version ≤ SHORT_VERSION)
 
 -- each number of a record is in its range
 pub record IsRecordInRange (r : Record) : Type 0 where

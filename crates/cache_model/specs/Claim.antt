@@ -72,9 +72,9 @@ contents_of trace keeps = map (held_before trace keeps) (range_with_len 0 (lengt
 abbrev pub terms_from : Objective → ℕ → ℕ → Terms
 terms_from objective capacity warmup = record { objective = objective; capacity = capacity; warmup = warmup }
 
--- the terms of a header: every request counts
+-- the terms of a header
 abbrev pub terms_of : Header → Terms
-terms_of h = terms_from h.objective h.capacity 0
+terms_of h = terms_from h.objective h.capacity h.warmup
 
 -- no policy within the capacity scores more than the upper bound, nor than its floor
 pub record BoundsEveryPolicy (trace : List Object) (h : Header) : Type 0 where

@@ -1,10 +1,10 @@
 -- The text of a certificate, as bytes.
-use Rattle.std.specs.Prelude.{ℕ, Bool, true, false, List, [], ◌∷◌, ◌++◌, codes, decimal, length, map, flat_map}
+use Rattle.std.specs.Prelude.{ℕ, Bool, true, false, ◌&&◌, ◌==◌, if◌then◌else◌, List, [], ◌∷◌, ◌++◌, codes, decimal, length, flat_map}
 use Rattle.cache_model.specs.declared.objects.Objective.{Objective}
 use Rattle.cache_model.specs.declared.objects.Objective.TheVariants.{Object as Hits, Bytes}
 use Rattle.cache_model.specs.declared.certificates.Header.{Header}
 use Rattle.cache_model.specs.declared.certificates.Record.{Record}
-use Rattle.cache_model.specs.declared.version.TheConstants.{CERT_VERSION}
+use Rattle.cache_model.specs.declared.version.TheConstants.{SHORT_VERSION}
 
 -- the words of a line and its end, LF
 abbrev pub line : List ℕ → List ℕ
@@ -33,14 +33,14 @@ abbrev pub keep_digit : Bool → ℕ
 keep_digit true = 1
 keep_digit false = 0
 
--- what the file is, and the version of its text
-abbrev pub first_line : List ℕ
-first_line = entry (codes "cache-bound-certificate") CERT_VERSION
+-- the lines from the warm-up on, which is stated only where there is one
+abbrev pub last_lines : ℕ → List (List ℕ)
+last_lines warmup = if warmup == 0 then codes "records" ∷ [] else entry (codes "warmup") warmup ∷ codes "records" ∷ []
 
--- the lines before the records
+-- the lines before the records; the first says what the file is, and the version of its text
 abbrev pub header_lines : Header → List (List ℕ)
 header_lines h =
-    first_line
+    entry (codes "cache-bound-certificate") h.version
     ∷ (codes "objective " ++ objective_word h.objective)
     ∷ entry (codes "capacity") h.capacity
     ∷ entry (codes "requests") h.requests
@@ -50,20 +50,32 @@ header_lines h =
     ∷ entry (codes "upper") h.upper
     ∷ entry (codes "flow") h.flow
     ∷ entry (codes "lower") h.lower
-    ∷ codes "records"
-    ∷ []
+    ∷ last_lines h.warmup
 
 -- how many lines stand before the records
 unfoldable pub header_len : Header → ℕ
 header_len h = length (header_lines h)
 
 -- price, keep and flow
-abbrev pub record_line : Record → List ℕ
-record_line r = entry (entry (decimal r.price) (keep_digit r.keep)) r.flow
+abbrev pub full_line : Record → List ℕ
+full_line r = entry (entry (decimal r.price) (keep_digit r.keep)) r.flow
 
--- the lines of a certificate
+-- keep and flow
+abbrev pub short_line : Record → List ℕ
+short_line r = entry (decimal (keep_digit r.keep)) r.flow
+
+-- the line of a record after one of the price `before`: the second version leaves out a price that is equal to it
+abbrev pub record_line : ℕ → ℕ → Record → List ℕ
+record_line version before r = if (version == SHORT_VERSION) && (r.price == before) then short_line r else full_line r
+
+-- the lines of records, after one of the price `before`
+abbrev pub record_lines : ℕ → ℕ → List Record → List (List ℕ)
+record_lines version before [] = []
+record_lines version before (r ∷ records) = record_line version before r ∷ record_lines version r.price records
+
+-- the lines of a certificate; the first record comes after the price 0
 abbrev pub cert_lines : Header → List Record → List (List ℕ)
-cert_lines h records = header_lines h ++ map record_line records ++ codes "end" ∷ []
+cert_lines h records = header_lines h ++ record_lines h.version 0 records ++ codes "end" ∷ []
 
 -- the text of a certificate
 abbrev pub cert_text : Header → List Record → List ℕ

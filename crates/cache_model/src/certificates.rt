@@ -1,10 +1,13 @@
 //! What a certificate states.
-ghost use Rattle.std.specs.Prelude.{◌↔◌, IsTrue};
+ghost use Rattle.std.specs.Prelude.{◌↔◌, ◌≤◌, ◌^◌, IsTrue};
+ghost use Rattle.cache_model.specs.declared.version.TheConstants.{CERT_VERSION, SHORT_VERSION};
 ghost use Rattle.cache_model.specs.Certificates.{IsHeaderInRange, IsRecordInRange};
 
 use crate::objects::Objective;
+use crate::version::{CERT_VERSION, SHORT_VERSION};
 
-/// The head of a certificate. The upper bound and the flow value are numerators over the denominator.
+/// The head of a certificate. The upper bound and the flow value are numerators over the denominator. That number of
+/// requests at first is the warm-up: they fill the cache and earn nothing.
 #[derive(Clone, Copy, Debug, PartialEq, Eq)]
 pub struct Header {
     pub objective: Objective,
@@ -16,9 +19,18 @@ pub struct Header {
     pub upper: u128,
     pub flow: u128,
     pub lower: u128,
+    pub warmup: u32,
+    pub version: u8,
 }
 
 impl Header {
+    // Whether the warm-up and the version are in their ranges.
+    fn form_in_range(&self) -> bool
+        ensures { IsTrue result ↔ ((self.now.warmup ≤ 2 ^ 25) × (CERT_VERSION ≤ self.now.version) × (self.now.version ≤ SHORT_VERSION)) }
+    {
+        self.warmup <= 1 << 25 && (CERT_VERSION..=SHORT_VERSION).contains(&self.version)
+    }
+
     /// Whether each number is in the range that the text of a certificate has for it.
     pub fn in_range(&self) -> bool
         ensures { IsTrue result ↔ IsHeaderInRange self.now }
@@ -27,7 +39,8 @@ impl Header {
             && (1..=1 << 56).contains(&self.capacity)
             && (1..=self.capacity).contains(&self.unit)
             && (1..=1 << 48).contains(&self.denominator);
-        counts
+        self.form_in_range()
+            && counts
             && [self.upper, self.flow, self.lower]
                 .iter()
                 .all(|value| *value < 1 << 127)

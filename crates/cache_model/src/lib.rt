@@ -21,4 +21,4 @@ pub use laws::{
 };
 pub use objects::{Object, Objective};
 pub use terms::Terms;
-pub use version::CERT_VERSION;
+pub use version::{CERT_VERSION, SHORT_VERSION};

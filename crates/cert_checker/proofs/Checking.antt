@@ -11,7 +11,8 @@ use Rattle.indexmap.specs.IndexMap.{insert_entry}
 use Rattle.cache_model.specs.declared.objects.Object.{Object}
 use Rattle.cache_model.specs.declared.certificates.Header.{Header}
 use Rattle.cache_model.specs.declared.certificates.Record.{Record}
-use Rattle.cache_model.specs.Claim.{same_object}
+use Rattle.cache_model.specs.Claim.{same_object, terms_of}
+use Rattle.cache_model.proofs.Scores.{score-requests}
 use Rattle.cache_model.specs.Objects.{objects_of}
 use Rattle.cache_model.proofs.DifferentObjects.{length-objects_of}
 use Rattle.std.proofs.lemmas.Map.Entries.{length-keys_of}
@@ -38,7 +39,7 @@ StandsFor-new h range entries none =
       no_fault = λ t low. absurd (omega arith);
       objects = refl;
       seen = λ x k low. absurd (omega arith);
-      sums = record { steps = refl; prices = refl; load = refl; flows = refl; surpluses = refl; values = refl; score = refl };
+      sums = record { steps = refl; prices = refl; load = refl; flows = refl; surpluses = refl; values = refl; score = sym (score-requests (terms_of h) [] []) };
     })
   where
     All-none : {X : Type 0} (P : X → Type 0) → All P []
@@ -94,13 +95,13 @@ module _ (s : Summary) (k : IsChecker s) where
       same_next = subst (λ o. AreNext s.header s.sums x r o now) is next
 
       -- an object that is requested again has a weight, where it fits
-      pub each_weight : IsSized x → first_some (record_rules s.header x r now) ≡ None → IfSome b (λ seen. x.size ≤ s.header.capacity → 1 ≤ x.size / s.header.unit)
-      each_weight sized passes = at b refl
+      pub each_weight : IsSized x → first_some (record_rules s.header x r now) ≡ None → s.header.warmup ≤ s.sums.steps → IfSome b (λ seen. x.size ≤ s.header.capacity → 1 ≤ x.size / s.header.unit)
+      each_weight sized passes over = at b refl
         where
           unit_divides : is_some b ≡ true → x.size ≤ s.header.capacity → x.size % s.header.unit ≡ 0
           unit_divides again fits =
               let p : Passes s.header x r now = Passes-from_none s.header x r now passes in
-              let ends : ends_interval s.header x now ≡ true = ap (λ a. a && nat_le x.size s.header.capacity) (next.again ∙ again) ∙ le-leb x.size s.header.capacity fits in
+              let ends : ends_interval s.header x now ≡ true = ap (λ a. a && nat_le x.size s.header.capacity) (next.counts ∙ ap (λ e. e && nat_le s.header.warmup s.sums.steps) again ∙ le-leb s.header.warmup s.sums.steps over) ∙ le-leb x.size s.header.capacity fits in
               let test : not (divides s.header.unit x.size) ≡ false = ap (λ e. e && not (divides s.header.unit x.size)) (sym ends) ∙ p.unit in
               ⊎_elim
               (λ (yes : divides s.header.unit x.size ≡ true). eqb-true (x.size % s.header.unit) 0 yes)
@@ -129,7 +130,7 @@ module _ (s : Summary) (k : IsChecker s) where
       module _ (sized : IsSized x) (ranged : IsRecordInRange r) (room : s.sums.steps < s.header.requests) (passes : first_some (record_rules s.header x r now) ≡ None)
           (after : List (Object × Seen)) (entered : after ≡ insert_entry same_object s.entries x (seen_at s.sums r))
           (looked : (y : Object) → lookup (same_object y) after ≡ cond (same_object x y) (Some (seen_at s.sums r)) (lookup (same_object y) s.entries))
-          (sums : Sums) (summed : sums ≡ sums_after s.sums now (added s.header x s.sums.prices b)) where
+          (sums : Sums) (summed : sums ≡ sums_after s.sums now (added s.header x s.sums.steps s.sums.prices b)) where
         -- the record is taken
         pub taken : (h : Header) (trace : List Object) (records : List Record) → StandsFor h trace records s
             → StandsFor h (trace ++ x ∷ []) (records ++ r ∷ []) (record { header = s.header; entries = after; sums = sums })
@@ -137,7 +138,7 @@ module _ (s : Summary) (k : IsChecker s) where
             StandsFor-pushed h trace records s st x r now (subst (λ g. AreNext g s.sums x r (lookup (same_object x) s.entries) now) st.header same_next)
             sized ranged (subst (λ g. s.sums.steps < g.requests) st.header room) (ap (λ g. first_some (record_rules g x r now)) (sym st.header) ∙ passes)
             after entered looked sums
-            (summed ∙ ap (λ o. sums_after s.sums now (added s.header x s.sums.prices o)) is ∙ ap (λ g. sums_after s.sums now (added g x s.sums.prices (lookup (same_object x) s.entries))) st.header)
+            (summed ∙ ap (λ o. sums_after s.sums now (added s.header x s.sums.steps s.sums.prices o)) is ∙ ap (λ g. sums_after s.sums now (added g x s.sums.steps s.sums.prices (lookup (same_object x) s.entries))) st.header)
 
         pub IsChecker-taken : AreSmall sums → IsDistinct same_object (keys_of after) → IsChecker (record { header = s.header; entries = after; sums = sums })
         IsChecker-taken small unique = record {

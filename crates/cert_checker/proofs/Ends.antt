@@ -42,7 +42,7 @@ after_end : (cert : lines.Reader) (bytes : List ℕ) → cert.stage ≡ InRecord
 unfolding read_records
 after_end cert bytes at none over =
     let n = cert.lines.line + 1 in
-    let coming : lines.to_come cert bytes ≡ certificates.stopped (certificates.end_fault n bytes) = ap (λ s. lines.coming s cert.left cert.lines.line bytes) at ∙ ap (λ k. read_records k n bytes) none in
+    let coming : lines.to_come cert bytes ≡ certificates.stopped (certificates.end_fault n bytes) = ap (λ s. lines.coming s cert bytes) at ∙ ap (λ k. read_records cert.version cert.price k n bytes) none in
     let faultless : certificates.end_fault n bytes ≡ None = ap (λ r. r.fault) (sym coming ∙ over) in
     after_lines-one bytes ∙ nothing_read (n + 1) (after_line bytes) (no_either (first_fault n end_slots bytes) (trailing (n + 1) (after_line bytes)) faultless).1
 
@@ -179,10 +179,10 @@ module _ (start : Inputs) (fresh_reader : IsFresh start.reader) (fresh_cert : st
         reading = sym (fresh_to_come start.reader.format start.reader.limits b) ∙ (ap (λ (r : requests.Reader). requests.to_come r b) (sym fresh_reader) ∙ ap (λ (r : requests.Reader). requests.to_come r b) (sym same_reader));
       });
       records_read = if_known start.certificate _ (λ t e.
-          let is = at_some (known start.cert.lines start.certificate) t _ (known_start t e) read.3 in
+          let is = at_some (known start.cert.lines start.certificate) t _ (known_start t e) read.5 in
           record {
-            stands_in = is.rest ∙ ap (λ k. Some (after_lines k t)) (sym read.2);
-            reading = reading_is t ∙ (is.coming_is ∙ ap (λ k. certificates.under h (lines.to_come end.cert (after_lines k t))) (sym read.2));
+            stands_in = is.rest ∙ ap (λ k. Some (after_lines k t)) (sym read.4);
+            reading = reading_is t ∙ (is.coming_is ∙ ap (λ k. certificates.under h (lines.to_come end.cert (after_lines k t))) (sym read.4));
             consumed = consumed_first end t e past;
           });
       later = later;

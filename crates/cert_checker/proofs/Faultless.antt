@@ -1,10 +1,10 @@
 -- A valid certificate has no fault.
-use Rattle.std.proofs.Common.{◌≡◌, ℕ, suc, zero, ◌+◌, ◌-◌, ◌*◌, ◌/◌, ◌%◌, ◌^◌, ◌<◌, ◌≤◌, ◌∙◌, sym, refl, ap, subst, Bool, true, false, not, ◌&&◌, ◌==◌, cond, nat_lt, nat_le, List, [], ◌∷◌, length, map, take, get_or, sum, arith, All, Any, None, ◌⊎◌, inl, inr}
+use Rattle.std.proofs.Common.{◌≡◌, ℕ, suc, zero, ◌+◌, ◌-◌, ◌*◌, ◌/◌, ◌%◌, ◌^◌, ◌<◌, ◌≤◌, ◌∙◌, sym, refl, ap, subst, Bool, true, false, not, ◌&&◌, ◌==◌, cond, nat_lt, nat_le, List, [], ◌∷◌, length, map, take, get_or, sum, arith, find, All, Any, None, Some, ◌⊎◌, inl, inr}
 use Rattle.std.specs.List.{AllZip, list_any, range_with_len}
 use Prim.Native.Nat.{◌∣◌}
 use Rattle.std.proofs.Common.{eq-eqb}
 use Rattle.std.proofs.Math.Nat.{mul-le-mul_left}
-use Rattle.std.proofs.lemmas.Bool.{and_parts, both_ways, eqb-true, leb-true, le-leb, le-ltb, not-true}
+use Rattle.std.proofs.lemmas.Bool.{and_parts, both_ways, cases_lt, eqb-true, leb-true, le-leb, le-ltb, lt-ltb, not-true}
 use Rattle.std.proofs.lemmas.List.{get_or-map}
 use Rattle.std.proofs.lemmas.List.Elements.{All-contains}
 use Rattle.std.proofs.lemmas.List.Folds.{Any-from_list_any}
@@ -29,7 +29,8 @@ use Rattle.cache_model.proofs.Members.{All-eligible_intervals, Contains-eligible
 use Rattle.cache_model.proofs.Loads.{load-latest}
 use Rattle.cache_model.proofs.Scores.{first_or_next}
 use Rattle.cert_checker.specs.Laws.{FaultlessIsValid, IsFaultless}
-use Rattle.cert_checker.specs.Rules.{counted_of, divides, ends_interval, figures_at, first_unused, record_at, record_fault, was_requested, weight_in}
+use Rattle.cert_checker.specs.Rules.{counted_of, divides, ends_interval, figures_at, first_unused, has_flow_until, record_at, record_fault, unused_before, was_requested, weight_in}
+use Rattle.cert_checker.proofs.Warmup.{find-first, find-next, none-starts}
 use Rattle.cert_checker.proofs.Passing.{none_from_Passes, none_from_EndPasses, and_from_second, not_from_equal}
 use Rattle.cert_checker.proofs.Unused.{find-range_none}
 use Rattle.cert_checker.proofs.Validity.{IsValid-faultless}
@@ -78,16 +79,17 @@ module _ (h : Header) (trace : List Object) (records : List Record) (v : IsValid
     -- the interval that ends there
     ended : ends_interval h (request_at trace t) (figures_at h trace records t) ≡ true → (a : ℕ) × IsEligible (terms_of h) trace (interval_of h.objective trace a t)
     ended ends =
-        let parts : (was_requested trace t ≡ true) × (nat_le (request_at trace t).size h.capacity ≡ true) =
-        and_parts (was_requested trace t) (nat_le (request_at trace t).size h.capacity) ends in
-        from parts.0 (leb-true (request_at trace t).size h.capacity parts.1) (first_or_next trace t low)
+        let parts : ((was_requested trace t && nat_le h.warmup t) ≡ true) × (nat_le (request_at trace t).size h.capacity ≡ true) =
+        and_parts (was_requested trace t && nat_le h.warmup t) (nat_le (request_at trace t).size h.capacity) ends in
+        let counts : (was_requested trace t ≡ true) × (nat_le h.warmup t ≡ true) = and_parts (was_requested trace t) (nat_le h.warmup t) parts.0 in
+        from counts.0 (leb-true h.warmup t counts.1) (leb-true (request_at trace t).size h.capacity parts.1) (first_or_next trace t low)
       where
-        from : was_requested trace t ≡ true → (request_at trace t).size ≤ h.capacity → IsFirst trace t ⊎ ((a : ℕ) × IsNext trace a t)
+        from : was_requested trace t ≡ true → h.warmup ≤ t → (request_at trace t).size ≤ h.capacity → IsFirst trace t ⊎ ((a : ℕ) × IsNext trace a t)
             → (a : ℕ) × IsEligible (terms_of h) trace (interval_of h.objective trace a t)
-        from again fits (inl first) = absurd (both_ways (was_requested trace t) (not-true (was_requested trace t) (is_first-yes trace t (omega arith) first)) again)
-        from again fits (inr (a, next)) =
+        from again over fits (inl first) = absurd (both_ways (was_requested trace t) (not-true (was_requested trace t) (is_first-yes trace t (omega arith) first)) again)
+        from again over fits (inr (a, next)) =
             let same : request_at trace a ≡ request_at trace t = same_object-true (request_at trace a) (request_at trace t) next.same in
-            (a, record { next = next; fits = subst (λ (y : Object). y.size ≤ h.capacity) (sym same) fits; counts = omega arith; numbers = refl })
+            (a, record { next = next; fits = subst (λ (y : Object). y.size ≤ h.capacity) (sym same) fits; counts = over; numbers = refl })
 
     -- what is said of the intervals holds of that one
     of_ended : (P : Interval → Type 0) → All P (eligible_of trace h) → (a : ℕ) → IsEligible (terms_of h) trace (interval_of h.objective trace a t)
@@ -151,10 +153,21 @@ module _ (h : Header) (trace : List Object) (records : List Record) (v : IsValid
         le-ltb (units_of h) (latest_sum trace (flow_at records) (t + 1))
         (omega (arith, load-latest (terms_of h) trace (flow_at records) t v.unused_flows low, v.flows.within_units t))
 
+    unused : unused_before h trace records t ≡ None
+    unused = at (cases_lt t h.warmup)
+      where
+        none_found : IsFirst trace t ⊎ ((a : ℕ) × IsNext trace a t) → t < h.warmup → find (has_flow_until trace records t) (range_with_len 0 t) ≡ None
+        none_found (inl first) warm = find-first trace records t first
+        none_found (inr (a, next)) warm = find-next trace t a next records ∙ ap (λ f. cond (nat_lt 0 f) (Some a) None) (v.unused_flows a (none-starts h trace a t next warm))
+
+        at : t < h.warmup ⊎ h.warmup ≤ t → unused_before h trace records t ≡ None
+        at (inl warm) = ap (λ c. cond c (find (has_flow_until trace records t) (range_with_len 0 t)) None) (lt-ltb t h.warmup warm) ∙ none_found (first_or_next trace t low) warm
+        at (inr over) = ap (λ c. cond c (find (has_flow_until trace records t) (range_with_len 0 t)) None) (le-ltb t h.warmup over)
+
     no_record : record_fault h trace records t ≡ None
     no_record =
         none_from_Passes h (request_at trace t) (record_at records t) (figures_at h trace records t)
-        (record { prices = prices; last = last; unit = unit; whole = whole; load = load; flow = flow; flows = flows })
+        (record { prices = prices; last = last; unit = unit; whole = whole; load = load; flow = flow; flows = flows; unused = unused })
 
   -- no interval starts at the last request of an object
   last_flow : (a : ℕ) → a < length trace → is_latest trace (length trace) a ≡ true → flow_at records a ≡ 0

@@ -43,7 +43,14 @@ pub found-not : (test : Bool) (kind : InvalidKind) → test ≡ false → found 
 found-not true kind e = absurd (true≢false e)
 found-not false kind e = refl
 
--- a record passes its seven rules
+none-from_map : (o : Option ℕ) → option_map Unused o ≡ None → o ≡ None
+none-from_map None e = refl
+none-from_map (Some n) e = absurd (true≢false (ap is_some e))
+
+map-none : (o : Option ℕ) → o ≡ None → option_map Unused o ≡ None
+map-none o e = ap (option_map Unused) e
+
+-- a record passes its eight rules
 pub record Passes (h : Header) (x : Object) (r : Record) (now : Figures) : Type 0 where
   pub prices : nat_lt (2 ^ 126) (units_of h * now.prices) ≡ false
   pub last : (now.last && not (r.price == 0)) ≡ false
@@ -52,6 +59,7 @@ pub record Passes (h : Header) (x : Object) (r : Record) (now : Figures) : Type 
   pub load : nat_lt h.capacity now.load ≡ false
   pub flow : nat_lt (weight_in h x) r.flow ≡ false
   pub flows : nat_lt (units_of h) now.flows ≡ false
+  pub unused : now.unused ≡ None
 
 pub Passes-from_none : (h : Header) (x : Object) (r : Record) (now : Figures) → first_some (record_rules h x r now) ≡ None → Passes h x r now
 Passes-from_none h x r now e0 =
@@ -61,6 +69,7 @@ Passes-from_none h x r now e0 =
     let e4 : first_some (drop 4 (record_rules h x r now)) ≡ None = first_some-tail _ (drop 4 (record_rules h x r now)) e3 in
     let e5 : first_some (drop 5 (record_rules h x r now)) ≡ None = first_some-tail _ (drop 5 (record_rules h x r now)) e4 in
     let e6 : first_some (drop 6 (record_rules h x r now)) ≡ None = first_some-tail _ (drop 6 (record_rules h x r now)) e5 in
+    let e7 : first_some (drop 7 (record_rules h x r now)) ≡ None = first_some-tail _ (drop 7 (record_rules h x r now)) e6 in
     record {
       prices = found-none _ _ (first_some-head _ (drop 1 (record_rules h x r now)) e0);
       last = found-none _ _ (first_some-head _ (drop 2 (record_rules h x r now)) e1);
@@ -68,7 +77,8 @@ Passes-from_none h x r now e0 =
       whole = found-none _ _ (first_some-head _ (drop 4 (record_rules h x r now)) e3);
       load = found-none _ _ (first_some-head _ (drop 5 (record_rules h x r now)) e4);
       flow = found-none _ _ (first_some-head _ (drop 6 (record_rules h x r now)) e5);
-      flows = found-none _ _ (first_some-head _ [] e6);
+      flows = found-none _ _ (first_some-head _ (drop 7 (record_rules h x r now)) e6);
+      unused = none-from_map now.unused (first_some-head _ [] e7);
     }
 
 pub none_from_Passes : (h : Header) (x : Object) (r : Record) (now : Figures) → Passes h x r now → first_some (record_rules h x r now) ≡ None
@@ -80,7 +90,8 @@ none_from_Passes h x r now p =
     (first_some-none _ (drop 4 (record_rules h x r now)) (found-not _ _ p.whole)
     (first_some-none _ (drop 5 (record_rules h x r now)) (found-not _ _ p.load)
     (first_some-none _ (drop 6 (record_rules h x r now)) (found-not _ _ p.flow)
-    (first_some-none _ [] (found-not _ _ p.flows) refl))))))
+    (first_some-none _ (drop 7 (record_rules h x r now)) (found-not _ _ p.flows)
+    (first_some-none _ [] (map-none now.unused p.unused) refl)))))))
 
 -- two checks in turn
 pub unless_fault-append : (xs ys : List (Option InvalidKind)) → first_some xs ≡ None → unless_fault (first_some (xs ++ ys)) ≡ unless_fault (first_some ys)
@@ -110,13 +121,6 @@ pub record EndPasses (h : Header) (unused : Option ℕ) (counted : Counted) : Ty
   pub flow : h.flow ≡ counted.flow
   pub lower : h.lower ≡ counted.lower
   pub gap : h.exact ≡ true → counted.upper ≡ counted.flow
-
-none-from_map : (o : Option ℕ) → option_map Unused o ≡ None → o ≡ None
-none-from_map None e = refl
-none-from_map (Some n) e = absurd (true≢false (ap is_some e))
-
-map-none : (o : Option ℕ) → o ≡ None → option_map Unused o ≡ None
-map-none o e = ap (option_map Unused) e
 
 pub equal_from_not : (a b : ℕ) → not (a == b) ≡ false → a ≡ b
 equal_from_not a b e = eqb-true a b (not-false (a == b) e)

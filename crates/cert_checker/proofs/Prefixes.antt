@@ -1,5 +1,6 @@
 -- What is said of the first requests and records does not change with those that follow.
-use Rattle.std.proofs.Common.{◌≡◌, ℕ, suc, zero, ◌+◌, ◌-◌, ◌<◌, ◌≤◌, ◌∙◌, refl, ap, Bool, true, false, not, ◌&&◌, ◌==◌, cond, nat_le, List, ◌∷◌, ◌++◌, length, map, filter, take, drop, slice_range, get_or, sum, arith}
+use Rattle.std.proofs.Common.{◌≡◌, ℕ, suc, zero, ◌+◌, ◌-◌, ◌<◌, ◌≤◌, ◌∙◌, refl, ap, Bool, true, false, not, ◌&&◌, ◌==◌, cond, nat_le, nat_lt, find, None, Some, List, ◌∷◌, ◌++◌, length, map, filter, take, drop, slice_range, get_or, sum, arith}
+use Rattle.std.specs.declared.option.Option.{Option}
 use Rattle.std.specs.List.{range_with_len, list_any}
 use Rattle.std.proofs.lemmas.List.{get_or_append_left, length-drop, length-map, map-append, take-append-le, drop-append-le}
 use Rattle.cache_model.specs.declared.objects.Object.{Object}
@@ -12,7 +13,7 @@ use Rattle.cache_model.specs.Certificates.{flow_at, keeps_of, prices_of, unprice
 use Rattle.cache_model.proofs.Streams.{sum_by-range_agree}
 use Rattle.cache_model.proofs.Scores.{earned_at}
 use Rattle.cert_checker.specs.declared.rules.Figures.{Figures}
-use Rattle.cert_checker.specs.Rules.{first_some, record_rules, record_at, was_requested, figures_at, record_fault}
+use Rattle.cert_checker.specs.Rules.{first_some, record_rules, record_at, was_requested, has_flow_until, unused_before, figures_at, record_fault}
 
 -- a part of a list that ends within its prefix
 pub slice_range-prefix : {X : Type 0} (xs ys : List X) (i j : ℕ) → i ≤ length xs → j ≤ length xs → slice_range (xs ++ ys) i j ≡ slice_range xs i j
@@ -84,6 +85,13 @@ module _ (records ss : List Record) where
       let size : length (prices_of records) ≡ length records = length-map records (λ (r : Record). r.price) in
       ap (λ ps. slice_range ps i j) prices_of-append ∙ slice_range-prefix (prices_of records) (prices_of ss) i j (omega (arith, size)) (omega (arith, size))
 
+-- what is found in a range by two tests that agree
+find-range_agree : (p q : ℕ → Bool) (a n : ℕ) → ((k : ℕ) → a ≤ k → k < a + n → p k ≡ q k) → find p (range_with_len a n) ≡ find q (range_with_len a n)
+find-range_agree p q a zero same = refl
+find-range_agree p q a (suc n) same =
+    ap (λ t. cond t (Some a) (find p (range_with_len (a + 1) n))) (same a (omega arith) (omega arith))
+    ∙ ap (cond (q a) (Some a)) (find-range_agree p q (a + 1) n (λ k low high. same k (omega arith) (omega arith)))
+
 -- the figures, and the rule that fails, are those of the lists so far
 module _ (h : Header) (trace ys : List Object) (records ss : List Record) (t : ℕ) (within : t < length trace) (recorded : t < length records) where
   was_requested-prefix : was_requested (trace ++ ys) t ≡ was_requested trace t
@@ -95,17 +103,31 @@ module _ (h : Header) (trace ys : List Object) (records ss : List Record) (t : �
   load_after-prefix =
       ap total_size (held_before-prefix trace ys (keeps_of records) (keeps_of (records ++ ss)) (t + 1) (omega arith) (λ a low. is_kept-prefix records ss a (omega arith)))
 
+  has_flow_until-prefix : (k : ℕ) → k < t → has_flow_until (trace ++ ys) (records ++ ss) t k ≡ has_flow_until trace records t k
+  has_flow_until-prefix k low =
+      ap (λ x. same_object x (request_at (trace ++ ys) k) && is_latest (trace ++ ys) t k && nat_lt 0 (flow_at (records ++ ss) k)) (request_at-prefix trace ys t within)
+      ∙ ap (λ y. same_object (request_at trace t) y && is_latest (trace ++ ys) t k && nat_lt 0 (flow_at (records ++ ss) k)) (request_at-prefix trace ys k (omega arith))
+      ∙ ap (λ b. same_object (request_at trace t) (request_at trace k) && b && nat_lt 0 (flow_at (records ++ ss) k)) (is_latest-prefix trace ys t k low (omega arith))
+      ∙ ap (λ f. same_object (request_at trace t) (request_at trace k) && is_latest trace t k && nat_lt 0 f) (flow_at-prefix records ss k (omega arith))
+
+  unused_before-prefix : unused_before h (trace ++ ys) (records ++ ss) t ≡ unused_before h trace records t
+  unused_before-prefix =
+      ap (λ o. cond (nat_lt t h.warmup) o None)
+      (find-range_agree (has_flow_until (trace ++ ys) (records ++ ss) t) (has_flow_until trace records t) 0 t (λ k low high. has_flow_until-prefix k (omega arith)))
+
   figures_at-prefix : figures_at h (trace ++ ys) (records ++ ss) t ≡ figures_at h trace records t
   figures_at-prefix =
-      let F : ℕ → Bool → ℕ → ℕ → Figures = λ prices again load flows. record { prices = prices; last = t + 1 == h.requests; again = again; load = load; flows = flows } in
+      let F : ℕ → Bool → Option ℕ → ℕ → ℕ → Figures = λ prices again unused load flows. record { prices = prices; last = t + 1 == h.requests; counts = again && nat_le h.warmup t; unused = unused; load = load; flows = flows } in
       let again : Bool = was_requested (trace ++ ys) t in
+      let unused : Option ℕ = unused_before h (trace ++ ys) (records ++ ss) t in
       let load : ℕ = load_after (trace ++ ys) (keeps_of (records ++ ss)) t in
       let flows : ℕ = latest_sum (trace ++ ys) (flow_at (records ++ ss)) (t + 1) in
       let prices : ℕ = sum (take (t + 1) (prices_of records)) in
-      ap (λ ps. F (sum ps) again load flows) (take-prices records ss (t + 1) (omega arith))
-      ∙ ap (λ b. F prices b load flows) was_requested-prefix
-      ∙ ap (λ n. F prices (was_requested trace t) n flows) load_after-prefix
-      ∙ ap (F prices (was_requested trace t) (load_after trace (keeps_of records) t))
+      ap (λ ps. F (sum ps) again unused load flows) (take-prices records ss (t + 1) (omega arith))
+      ∙ ap (λ b. F prices b unused load flows) was_requested-prefix
+      ∙ ap (λ o. F prices (was_requested trace t) o load flows) unused_before-prefix
+      ∙ ap (λ n. F prices (was_requested trace t) (unused_before h trace records t) n flows) load_after-prefix
+      ∙ ap (F prices (was_requested trace t) (unused_before h trace records t) (load_after trace (keeps_of records) t))
       (latest_sum-prefix trace ys (flow_at (records ++ ss)) (flow_at records) (t + 1) (omega arith) (λ a low. flow_at-prefix records ss a (omega arith)))
 
   pub record_fault-prefix : record_fault h (trace ++ ys) (records ++ ss) t ≡ record_fault h trace records t

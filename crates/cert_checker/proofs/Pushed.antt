@@ -1,10 +1,9 @@
 -- One more request and its record: what the figures and the sums become.
-use Rattle.std.proofs.Common.{◌≡◌, ℕ, suc, ◌+◌, ◌-◌, ◌*◌, ◌/◌, ◌<◌, ◌≤◌, ◌∙◌, sym, refl, ap, Bool, true, false, ◌&&◌, ◌==◌, cond, nat_le, List, [], ◌∷◌, ◌++◌, length, map, zip, take, drop, slice_range, get_or, sum, sum_by, arith, None, Some}
+use Rattle.std.proofs.Common.{◌≡◌, ℕ, suc, ◌+◌, ◌-◌, ◌*◌, ◌/◌, ◌<◌, ◌≤◌, ◌∙◌, sym, refl, ap, Bool, true, false, ◌&&◌, ◌==◌, cond, nat_le, nat_lt, List, [], ◌∷◌, ◌++◌, length, map, zip, take, drop, slice_range, get_or, sum, sum_by, arith, None, Some}
 use Rattle.std.specs.Prelude.{MatchOption}
 use Rattle.std.specs.declared.option.Option.{Option}
 use Rattle.std.specs.Option.{is_some}
 use Rattle.std.specs.List.{range_with_len, list_any}
-use Rattle.std.proofs.lemmas.Bool.{le-leb}
 use Rattle.std.proofs.lemmas.List.{get_or_push, length-append, length-drop, length-map, map-append, take-append-le, take_all}
 use Rattle.std.proofs.lemmas.List.Elements.{All-from_get_or}
 use Rattle.std.proofs.lemmas.List.Folds.{list_any_at, list_any_none}
@@ -30,8 +29,10 @@ use Rattle.cache_model.proofs.Scores.{earned_at, earned-more, score-requests, ho
 use Rattle.cert_checker.specs.declared.rules.Figures.{Figures}
 use Rattle.cert_checker.specs.declared.summary.Seen.{Seen}
 use Rattle.cert_checker.specs.declared.summary.Sums.{Sums}
-use Rattle.cert_checker.specs.Rules.{figures_at, record_at, was_requested}
-use Rattle.cert_checker.specs.Steps.{added, AreNext, flow_before, size_before}
+use Rattle.cert_checker.specs.declared.summary.Added.{Added}
+use Rattle.cert_checker.specs.Rules.{figures_at, record_at, unused_before, was_requested}
+use Rattle.cert_checker.specs.Steps.{added, added_by, added_if, AreNext, flow_before, size_before, unused_flow}
+use Rattle.cert_checker.proofs.Warmup.{find-first, find-next}
 use Rattle.cert_checker.specs.Summaries.{AreSums, IsSeen}
 use Rattle.cert_checker.proofs.Prefixes.{earned_at-prefix, flow_at-prefix, is_kept-prefix, request_at-prefix, slice_range-prices, prices_of-append}
 
@@ -41,10 +42,39 @@ sum_by-all_agree f g [] same = refl
 sum_by-all_agree f g (x ∷ xs) same =
     omega (arith, sum_by-cons f x xs, sum_by-cons g x xs, same 0 x (omega arith), sum_by-all_agree f g xs (λ k d low. same (suc k) d (omega arith)))
 
--- without a warm-up every request counts
-counts_all : (b : Bool) (n : ℕ) → (b && nat_le 0 n) ≡ b
-counts_all true n = le-leb 0 n (omega arith)
-counts_all false n = refl
+-- what is added where two tests pass
+both_tests : (a b : Bool) (v : ℕ) → cond (a && b) v 0 ≡ cond b (cond a v 0) 0
+both_tests true true v = refl
+both_tests true false v = refl
+both_tests false true v = refl
+both_tests false false v = refl
+
+-- nothing, whether it counts or not
+none_counts : (b : Bool) (n : ℕ) → cond b n n ≡ n
+none_counts true n = refl
+none_counts false n = refl
+
+-- the parts of what is added if it counts
+surplus_if : (b : Bool) (more : Added) → (added_if b more).surplus ≡ cond b more.surplus 0
+surplus_if true more = refl
+surplus_if false more = refl
+
+value_if : (b : Bool) (more : Added) → (added_if b more).value ≡ cond b more.value 0
+value_if true more = refl
+value_if false more = refl
+
+gain_if : (b : Bool) (more : Added) → (added_if b more).gain ≡ cond b more.gain 0
+gain_if true more = refl
+gain_if false more = refl
+
+-- a test on what another test gives
+one_test : (a b : Bool) (v : ℕ) → cond a (cond b (Some v) None) None ≡ cond (a && b) (Some v) None
+one_test true b v = refl
+one_test false b v = refl
+
+no_test : (a : Bool) (o : Option ℕ) → cond a o o ≡ o
+no_test true o = refl
+no_test false o = refl
 
 -- the value of an interval's flow
 abbrev pub value_in : Header → List Record → Interval → ℕ
@@ -177,18 +207,34 @@ module _ (h : Header) (trace : List Object) (records : List Record) (x : Object)
         at None new = list_any_none (same_object x) trace (All-from_get_or (λ y. same_object x y ≡ false) trace no_object new)
         at (Some seen) is = list_any_at (same_object x) trace seen.latest no_object is.latest.within is.latest.same
 
+    unused-pushed : unused_before h trace' records' n ≡ unused_flow h n before
+    unused-pushed = at before known
+      where
+        at : (b : Option Seen) → MatchOption b (IsNew trace x) (IsSeen trace records x) → unused_before h trace' records' n ≡ unused_flow h n b
+        at None new = ap (λ o. cond (nat_lt n h.warmup) o None) (find-first trace' records' n (IsFirst-pushed trace x new)) ∙ no_test (nat_lt n h.warmup) None
+        at (Some seen) is =
+            let low : seen.latest < n = is.latest.within in
+            let flow : flow_at records' seen.latest ≡ seen.flow = flow_at-prefix records (r ∷ []) seen.latest (omega (arith, one)) ∙ sym is.flow in
+            ap (λ o. cond (nat_lt n h.warmup) o None) (find-next trace' n seen.latest (IsNext-pushed trace x seen.latest is.latest) records' ∙ ap (λ f. cond (nat_lt 0 f) (Some seen.latest) None) flow)
+            ∙ one_test (nat_lt n h.warmup) (nat_lt 0 seen.flow) seen.latest
+
     -- the figures of the code are those of the lists
     pub figures-pushed : (sums : Sums) → AreSums h trace records sums → (now : Figures) → AreNext h sums x r before now → now ≡ figures_at h trace' records' n
     figures-pushed sums are now next =
-        let F : ℕ → Bool → Bool → ℕ → ℕ → Figures = λ prices last again load flows. record { prices = prices; last = last; again = again; load = load; flows = flows } in
+        let F : ℕ → Bool → Bool → Option ℕ → ℕ → ℕ → Figures = λ prices last counts unused load flows. record { prices = prices; last = last; counts = counts; unused = unused; load = load; flows = flows } in
         let prices : now.prices ≡ sum (take (n + 1) (prices_of records')) = omega (arith, next.prices, are.prices, all_prices) in
         let load : now.load ≡ load_after trace' (keeps_of records') n = omega (arith, next.load, are.load, load-pushed) in
         let flows : now.flows ≡ latest_sum trace' (flow_at records') (n + 1) = omega (arith, next.flows, are.flows, flows-pushed) in
-        ap (λ p. F p now.last now.again now.load now.flows) prices
-        ∙ ap (λ b. F (sum (take (n + 1) (prices_of records'))) b now.again now.load now.flows) (next.last ∙ ap (λ k. k + 1 == h.requests) are.steps)
-        ∙ ap (λ b. F (sum (take (n + 1) (prices_of records'))) (n + 1 == h.requests) b now.load now.flows) (next.again ∙ sym again-pushed)
-        ∙ ap (λ l. F (sum (take (n + 1) (prices_of records'))) (n + 1 == h.requests) (was_requested trace' n) l now.flows) load
-        ∙ ap (F (sum (take (n + 1) (prices_of records'))) (n + 1 == h.requests) (was_requested trace' n) (load_after trace' (keeps_of records') n)) flows
+        let counts : now.counts ≡ (was_requested trace' n && nat_le h.warmup n) = next.counts ∙ ap (λ b. b && nat_le h.warmup sums.steps) (sym again-pushed) ∙ ap (λ k. was_requested trace' n && nat_le h.warmup k) are.steps in
+        let unused : now.unused ≡ unused_before h trace' records' n = next.unused ∙ ap (λ k. unused_flow h k before) are.steps ∙ sym unused-pushed in
+        let all : ℕ = sum (take (n + 1) (prices_of records')) in
+        let ends : Bool = was_requested trace' n && nat_le h.warmup n in
+        ap (λ p. F p now.last now.counts now.unused now.load now.flows) prices
+        ∙ ap (λ b. F all b now.counts now.unused now.load now.flows) (next.last ∙ ap (λ k. k + 1 == h.requests) are.steps)
+        ∙ ap (λ b. F all (n + 1 == h.requests) b now.unused now.load now.flows) counts
+        ∙ ap (λ o. F all (n + 1 == h.requests) ends o now.load now.flows) unused
+        ∙ ap (λ l. F all (n + 1 == h.requests) ends (unused_before h trace' records' n) l now.flows) load
+        ∙ ap (F all (n + 1 == h.requests) ends (unused_before h trace' records' n) (load_after trace' (keeps_of records') n)) flows
 
     -- the sums over the intervals that have ended
     module _ (f g : Interval → ℕ) (same : (i : Interval) → IsEligible (terms_of h) trace i → f i ≡ g i) where
@@ -199,12 +245,12 @@ module _ (h : Header) (trace : List Object) (records : List Record) (x : Object)
       intervals-new new = eligible_push_first f (terms_of h) trace x new ∙ eligible-agree
 
       pub intervals-again : (a : ℕ) → IsLatest trace x a
-          → sum_by f (eligible_of trace' h) ≡ sum_by g (eligible_of trace h) + cond (nat_le x.size h.capacity) (f (interval_of h.objective trace' a n)) 0
+          → sum_by f (eligible_of trace' h) ≡ sum_by g (eligible_of trace h) + cond (nat_le h.warmup n) (cond (nat_le x.size h.capacity) (f (interval_of h.objective trace' a n)) 0) 0
       intervals-again a l =
           let more : ℕ = f (interval_of h.objective trace' a n) in
           eligible_push_again f (terms_of h) trace x a l
-          ∙ ap (λ b. sum_by f (eligible_of trace h) + cond b more 0) (counts_all (nat_le x.size h.capacity) n)
-          ∙ ap (λ m. m + cond (nat_le x.size h.capacity) more 0) eligible-agree
+          ∙ ap (λ v. sum_by f (eligible_of trace h) + v) (both_tests (nat_le x.size h.capacity) (nat_le h.warmup n) more)
+          ∙ ap (λ m. m + cond (nat_le h.warmup n) (cond (nat_le x.size h.capacity) more 0) 0) eligible-agree
 
     -- the interval that ends at the request has its object's size and gain
     ended : (a : ℕ) → IsLatest trace x a → interval_of h.objective trace' a n ≡ record { start = a; end = n; size = x.size; gain = gain_of h.objective x }
@@ -230,12 +276,12 @@ module _ (h : Header) (trace : List Object) (records : List Record) (x : Object)
         ap (λ ps. h.denominator * i.gain - (i.size / h.unit) * sum ps) (slice_range-prices records (r ∷ []) i.start i.end (omega (arith, one)) (omega (arith, one)))
 
     pub surpluses-pushed : sum_by (surplus h.unit h.denominator (prices_of records')) (eligible_of trace' h)
-        ≡ sum_by (surplus h.unit h.denominator (prices_of records)) (eligible_of trace h) + (added h x (sum (prices_of records)) before).surplus
+        ≡ sum_by (surplus h.unit h.denominator (prices_of records)) (eligible_of trace h) + (added h x n (sum (prices_of records)) before).surplus
     surpluses-pushed = at before known
       where
         at : (b : Option Seen) → MatchOption b (IsNew trace x) (IsSeen trace records x)
             → sum_by (surplus h.unit h.denominator (prices_of records')) (eligible_of trace' h)
-            ≡ sum_by (surplus h.unit h.denominator (prices_of records)) (eligible_of trace h) + (added h x (sum (prices_of records)) b).surplus
+            ≡ sum_by (surplus h.unit h.denominator (prices_of records)) (eligible_of trace h) + (added h x n (sum (prices_of records)) b).surplus
         at None new = omega (arith, intervals-new (surplus h.unit h.denominator (prices_of records')) (surplus h.unit h.denominator (prices_of records)) same_surplus new)
         at (Some seen) is =
             let f : Interval → ℕ = surplus h.unit h.denominator (prices_of records') in
@@ -243,7 +289,8 @@ module _ (h : Header) (trace : List Object) (records : List Record) (x : Object)
             ap f (ended seen.latest is.latest)
             ∙ ap (λ p. h.denominator * gain_of h.objective x - (x.size / h.unit) * p) (covered seen.latest is.latest.within ∙ ap (λ p. sum (prices_of records) - p) (sym is.price_before)) in
             intervals-again f (surplus h.unit h.denominator (prices_of records)) same_surplus seen.latest is.latest
-            ∙ ap (λ v. sum_by (surplus h.unit h.denominator (prices_of records)) (eligible_of trace h) + cond (nat_le x.size h.capacity) v 0) own
+            ∙ ap (λ v. sum_by (surplus h.unit h.denominator (prices_of records)) (eligible_of trace h) + cond (nat_le h.warmup n) (cond (nat_le x.size h.capacity) v 0) 0) own
+            ∙ ap (λ v. sum_by (surplus h.unit h.denominator (prices_of records)) (eligible_of trace h) + v) (sym (surplus_if (nat_le h.warmup n) (added_by h x (sum (prices_of records)) seen)))
 
     same_value : (i : Interval) → IsEligible (terms_of h) trace i → value_in h records' i ≡ value_in h records i
     same_value i e =
@@ -251,11 +298,11 @@ module _ (h : Header) (trace : List Object) (records : List Record) (x : Object)
         let high : i.end < n = e.next.within in
         ap (λ f. (h.denominator * i.gain / weight h.unit i) * f) (flow_at-prefix records (r ∷ []) i.start (omega (arith, one)))
 
-    pub values-pushed : flow_of trace' h records' ≡ flow_of trace h records + (added h x (sum (prices_of records)) before).value
+    pub values-pushed : flow_of trace' h records' ≡ flow_of trace h records + (added h x n (sum (prices_of records)) before).value
     values-pushed = at before known
       where
         at : (b : Option Seen) → MatchOption b (IsNew trace x) (IsSeen trace records x)
-            → flow_of trace' h records' ≡ flow_of trace h records + (added h x (sum (prices_of records)) b).value
+            → flow_of trace' h records' ≡ flow_of trace h records + (added h x n (sum (prices_of records)) b).value
         at None new = omega (arith, flow_of-sum h trace' records', flow_of-sum h trace records, intervals-new (value_in h records') (value_in h records) same_value new)
         at (Some seen) is =
             let low : seen.latest < n = is.latest.within in
@@ -264,32 +311,33 @@ module _ (h : Header) (trace : List Object) (records : List Record) (x : Object)
             ∙ ap (λ f. (h.denominator * gain_of h.objective x / (x.size / h.unit)) * f) (flow_at-prefix records (r ∷ []) seen.latest (omega (arith, one)) ∙ sym is.flow) in
             flow_of-sum h trace' records'
             ∙ intervals-again (value_in h records') (value_in h records) same_value seen.latest is.latest
-            ∙ ap (λ v. sum_by (value_in h records) (eligible_of trace h) + cond (nat_le x.size h.capacity) v 0) own
-            ∙ ap (λ s. s + (added h x (sum (prices_of records)) (Some seen)).value) (sym (flow_of-sum h trace records))
+            ∙ ap (λ v. sum_by (value_in h records) (eligible_of trace h) + cond (nat_le h.warmup n) (cond (nat_le x.size h.capacity) v 0) 0) own
+            ∙ ap (λ v. sum_by (value_in h records) (eligible_of trace h) + v) (sym (value_if (nat_le h.warmup n) (added_by h x (sum (prices_of records)) seen)))
+            ∙ ap (λ s. s + (added h x n (sum (prices_of records)) (Some seen)).value) (sym (flow_of-sum h trace records))
 
     -- the score
-    earned-pushed : earned_at (terms_of h) trace' (keeps_of records') n ≡ (added h x (sum (prices_of records)) before).gain
+    earned-pushed : earned_at (terms_of h) trace' (keeps_of records') n ≡ (added h x n (sum (prices_of records)) before).gain
     earned-pushed = at before known
       where
         high : n < length trace'
         high = omega (arith, length-pushed trace x)
 
         here : (b : Bool) → holds (held_before trace' (keeps_of records') n) (request_at trace' n) ≡ b
-            → earned_at (terms_of h) trace' (keeps_of records') n ≡ cond b (gain_of h.objective x) 0
+            → earned_at (terms_of h) trace' (keeps_of records') n ≡ cond (nat_le h.warmup n) (cond b (gain_of h.objective x) 0) 0
         here b e =
-            ap (λ t. cond t (cond (holds (held_before trace' (keeps_of records') n) (request_at trace' n)) (gain_of h.objective (request_at trace' n)) 0) 0) (le-leb 0 n (omega arith))
-            ∙ ap (λ k. cond k (gain_of h.objective (request_at trace' n)) 0) e ∙ ap (λ y. cond b (gain_of h.objective y) 0) (request_at-pushed trace x)
+            ap (λ k. cond (nat_le h.warmup n) (cond k (gain_of h.objective (request_at trace' n)) 0) 0) e ∙ ap (λ y. cond (nat_le h.warmup n) (cond b (gain_of h.objective y) 0) 0) (request_at-pushed trace x)
 
         at : (b : Option Seen) → MatchOption b (IsNew trace x) (IsSeen trace records x)
-            → earned_at (terms_of h) trace' (keeps_of records') n ≡ (added h x (sum (prices_of records)) b).gain
-        at None new = here false (holds-first trace' n high (keeps_of records') (IsFirst-pushed trace x new))
+            → earned_at (terms_of h) trace' (keeps_of records') n ≡ (added h x n (sum (prices_of records)) b).gain
+        at None new = here false (holds-first trace' n high (keeps_of records') (IsFirst-pushed trace x new)) ∙ none_counts (nat_le h.warmup n) 0
         at (Some seen) is =
             here seen.keep
             (holds-next trace' n high (keeps_of records') seen.latest (IsNext-pushed trace x seen.latest is.latest)
             ∙ same_keeps n (omega arith) seen.latest is.latest.within ∙ sym is.keep)
+            ∙ sym (gain_if (nat_le h.warmup n) (added_by h x (sum (prices_of records)) seen))
 
     pub score-pushed : score (terms_of h) trace' (contents_of trace' (keeps_of records'))
-        ≡ score (terms_of h) trace (contents_of trace (keeps_of records)) + (added h x (sum (prices_of records)) before).gain
+        ≡ score (terms_of h) trace (contents_of trace (keeps_of records)) + (added h x n (sum (prices_of records)) before).gain
     score-pushed =
         let earned : ℕ → ℕ = earned_at (terms_of h) trace' (keeps_of records') in
         let size : length trace' ≡ n + 1 = omega (arith, length-pushed trace x) in
@@ -297,7 +345,7 @@ module _ (h : Header) (trace : List Object) (records : List Record) (x : Object)
         ∙ ap (λ k. sum_by earned (range_with_len 0 k)) size
         ∙ earned-more (terms_of h) trace' (keeps_of records') n
         ∙ ap (λ e. sum_by earned (range_with_len 0 n) + e) earned-pushed
-        ∙ ap (λ s. s + (added h x (sum (prices_of records)) before).gain)
+        ∙ ap (λ s. s + (added h x n (sum (prices_of records)) before).gain)
         (sum_by-range_agree earned (earned_at (terms_of h) trace (keeps_of records)) 0 n
         (λ k low lt. earned_at-prefix trace (x ∷ []) (terms_of h) (keeps_of records) (keeps_of records') k (omega arith) (same_keeps k (omega arith)))
         ∙ sym (score-requests (terms_of h) trace (keeps_of records)))

@@ -28,7 +28,7 @@ abbrev cycle : List Object
 cycle = object 1 1 ∷ object 2 1 ∷ object 3 1 ∷ object 1 1 ∷ object 2 1 ∷ object 3 1 ∷ []
 
 abbrev cycle_header : ℕ → Header
-cycle_header upper = record { objective = Hits; capacity = 2; requests = 6; unit = 1; denominator = 1; exact = true; upper = upper; flow = 2; lower = 2 }
+cycle_header upper = record { objective = Hits; capacity = 2; requests = 6; unit = 1; denominator = 1; exact = true; upper = upper; flow = 2; lower = 2; warmup = 0; version = 1 }
 
 abbrev cycle_records : ℕ → Record → List Record
 cycle_records price third = entry price true 1 ∷ entry 0 true 1 ∷ third ∷ entry 0 false 0 ∷ entry 0 false 0 ∷ entry 0 false 0 ∷ []
@@ -60,7 +60,7 @@ abbrev pair : List Object
 pair = object 7 4 ∷ object 7 4 ∷ []
 
 abbrev pair_header : ℕ → ℕ → ℕ → ℕ → Header
-pair_header unit upper flow lower = record { objective = Hits; capacity = 10; requests = 2; unit = unit; denominator = 1; exact = true; upper = upper; flow = flow; lower = lower }
+pair_header unit upper flow lower = record { objective = Hits; capacity = 10; requests = 2; unit = unit; denominator = 1; exact = true; upper = upper; flow = flow; lower = lower; warmup = 0; version = 1 }
 
 abbrev pair_records : ℕ → ℕ → ℕ → List Record
 pair_records flow price last = entry 0 true flow ∷ entry price false last ∷ []
@@ -104,9 +104,42 @@ too_large : record_fault (pair_header 4 1 1 1) (object 7 11 ∷ []) (entry 0 fal
 too_large = refl
 
 -- flows where no interval starts load the units all the same
-apart : record_fault (record { objective = Hits; capacity = 1; requests = 2; unit = 1; denominator = 1; exact = false; upper = 0; flow = 0; lower = 0 })
+apart : record_fault (record { objective = Hits; capacity = 1; requests = 2; unit = 1; denominator = 1; exact = false; upper = 0; flow = 0; lower = 0; warmup = 0; version = 1 })
     (object 1 1 ∷ object 2 1 ∷ []) (entry 0 false 1 ∷ entry 0 false 1 ∷ []) 1 ≡ Some (FlowOverfull 2 1)
 apart = refl
+
+-- ---- the cycle where only the last request counts
+abbrev late_header : ℕ → ℕ → Header
+late_header warmup value = record { objective = Hits; capacity = 2; requests = 6; unit = 1; denominator = 1; exact = true; upper = value; flow = value; lower = value; warmup = warmup; version = 2 }
+
+abbrev late_records : ℕ → List Record
+late_records first = entry 0 true first ∷ entry 0 false 0 ∷ entry 0 true 1 ∷ entry 0 false 0 ∷ entry 0 false 0 ∷ entry 0 false 0 ∷ []
+
+late_passes : of_cycle (late_header 5 1) (late_records 0) ≡ None ∷ None ∷ None ∷ None ∷ None ∷ None ∷ []
+late_passes = refl
+
+-- the hit at the fourth request earns nothing
+late_end_passes : end_fault (late_header 5 1) cycle (late_records 0) ≡ None
+late_end_passes = refl
+
+-- where two requests count
+later_end : end_fault (late_header 4 1) cycle (late_records 0) ≡ Some (UpperDiffers 1 2)
+later_end = refl
+
+-- a flow whose interval ends within the warm-up
+warm_flow : of_cycle (late_header 5 1) (late_records 1) ≡ None ∷ None ∷ None ∷ Some (Unused 0) ∷ None ∷ None ∷ []
+warm_flow = refl
+
+-- where no request counts
+none_counts : of_cycle (late_header 6 0) (late_records 0) ≡ None ∷ None ∷ None ∷ None ∷ None ∷ Some (Unused 2) ∷ []
+none_counts = refl
+
+-- the unit is asked of the first request that counts
+warm_unit : map (record_fault (record (pair_header 3 1 1 1) { warmup = 2 }) pair (pair_records 0 0 0)) (0 ∷ 1 ∷ []) ≡ None ∷ None ∷ []
+warm_unit = refl
+
+counted_unit : record_fault (record (pair_header 3 1 1 1) { warmup = 1 }) pair (pair_records 0 0 0) 1 ≡ Some (UnitNotDivisor 3 4)
+counted_unit = refl
 
 -- ---- walks
 abbrev known : List Object → Option TraceFault → traces.Reading

@@ -146,7 +146,7 @@ module _ (h : Header) (trace : List Object) (records : List Record) (s : Summary
             ap (record_fault h (trace ++ x ∷ []) (records ++ r ∷ [])) here ∙ record_fault-pushed ∙ passes)
             (cases_lt t (length trace))
 
-        sums-pushed : AreSums h (trace ++ x ∷ []) (records ++ r ∷ []) (sums_after s.sums now (added h x s.sums.prices (lookup (same_object x) s.entries)))
+        sums-pushed : AreSums h (trace ++ x ∷ []) (records ++ r ∷ []) (sums_after s.sums now (added h x s.sums.steps s.sums.prices (lookup (same_object x) s.entries)))
         sums-pushed =
             let one : length records ≡ length trace = st.input.one_record_each in
             let b : Option Seen = lookup (same_object x) s.entries in
@@ -169,9 +169,9 @@ module _ (h : Header) (trace : List Object) (records : List Record) (s : Summary
                 flows-pushed h trace records x r one b (st.seen x),
                 ap (latest_sum (trace ++ x ∷ []) (flow_at (records ++ r ∷ []))) size,
               );
-              surpluses = omega (arith, st.sums.surpluses, surpluses-pushed h trace records x r one b (st.seen x), ap (λ p. (added h x p (lookup (same_object x) s.entries)).surplus) prices);
-              values = omega (arith, st.sums.values, values-pushed h trace records x r one b (st.seen x), ap (λ p. (added h x p (lookup (same_object x) s.entries)).value) prices);
-              score = omega (arith, st.sums.score, score-pushed h trace records x r one b (st.seen x), ap (λ p. (added h x p (lookup (same_object x) s.entries)).gain) prices);
+              surpluses = omega (arith, st.sums.surpluses, surpluses-pushed h trace records x r one b (st.seen x), ap (λ p. (added h x s.sums.steps p (lookup (same_object x) s.entries)).surplus) prices, ap (λ t. (added h x t (sum (prices_of records)) (lookup (same_object x) s.entries)).surplus) st.sums.steps);
+              values = omega (arith, st.sums.values, values-pushed h trace records x r one b (st.seen x), ap (λ p. (added h x s.sums.steps p (lookup (same_object x) s.entries)).value) prices, ap (λ t. (added h x t (sum (prices_of records)) (lookup (same_object x) s.entries)).value) st.sums.steps);
+              score = omega (arith, st.sums.score, score-pushed h trace records x r one b (st.seen x), ap (λ p. (added h x s.sums.steps p (lookup (same_object x) s.entries)).gain) prices, ap (λ t. (added h x t (sum (prices_of records)) (lookup (same_object x) s.entries)).gain) st.sums.steps);
             }
 
         -- what is kept of the object of the request
@@ -223,7 +223,7 @@ module _ (h : Header) (trace : List Object) (records : List Record) (s : Summary
               (cases_Bool (same_object x y))
 
           -- the checker stands for one more request and record
-          pub StandsFor-pushed : (sums : Sums) → sums ≡ sums_after s.sums now (added h x s.sums.prices (lookup (same_object x) s.entries))
+          pub StandsFor-pushed : (sums : Sums) → sums ≡ sums_after s.sums now (added h x s.sums.steps s.sums.prices (lookup (same_object x) s.entries))
               → StandsFor h (trace ++ x ∷ []) (records ++ r ∷ []) (record { header = s.header; entries = after; sums = sums })
           StandsFor-pushed sums summed = record {
             header = st.header;

@@ -97,7 +97,7 @@ same_records h records now end t q same_cert same_left = record {
 }
 
 -- one record more
-one_record : (h : Header) (records : List Record) (r : Record) (text : List ℕ) (now end : Inputs) (t : List ℕ) → HasRecords h records now t → end.cert.lines.line ≡ now.cert.lines.line + 1
+pub one_record : (h : Header) (records : List Record) (r : Record) (text : List ℕ) (now end : Inputs) (t : List ℕ) → HasRecords h records now t → end.cert.lines.line ≡ now.cert.lines.line + 1
     → IfSome (known now.cert.lines now.certificate) (lines.GoesOn (certificates.onto r) 1 text now.cert end.cert end.certificate) → IfSome (known now.cert.lines now.certificate) (IsPast now.cert.lines end.cert.lines)
     → HasRecords h (records ++ r ∷ []) end t
 one_record h records r text now end t has line_is goes past =

@@ -3,7 +3,7 @@ use Rattle.std.proofs.Common.{◌≡◌, ◌≢◌, ℕ, suc, zero, ◌+◌, ◌
 use Rattle.std.specs.Prelude.{IsTrue}
 use Rattle.std.specs.List.{AllZip, list_any, range_with_len}
 use Prim.Native.Nat.{◌∣◌}
-use Rattle.std.proofs.lemmas.Bool.{cases_Bool, cases_lt, both_ways, and_from, eqb-true, le-leb, le-ltb, lt-leb, ltb-false, not-false, and_right}
+use Rattle.std.proofs.lemmas.Bool.{cases_Bool, cases_lt, both_ways, and_from, eqb-true, le-leb, le-ltb, lt-leb, lt-ltb, ltb-false, not-false, and_right}
 use Rattle.std.proofs.Common.{eq-eqb}
 use Rattle.std.proofs.lemmas.List.{get_or-map, get_or-take, get_or_past, length-map, length-take-le, take_all}
 use Rattle.std.proofs.lemmas.List.Folds.{list_any_at}
@@ -27,7 +27,8 @@ use Rattle.cache_model.proofs.Loads.{load-latest}
 use Rattle.cache_model.proofs.Rounding.{sum_by-none}
 use Rattle.cache_model.proofs.Scores.{allowed-from_loads}
 use Rattle.cache_model.proofs.Loads.{load_at-map}
-use Rattle.cert_checker.specs.Rules.{counted_of, divides, ends_interval, end_fault, figures_at, first_unused, record_at, record_fault, was_requested, weight_in}
+use Rattle.cert_checker.specs.Rules.{counted_of, divides, ends_interval, end_fault, figures_at, first_unused, has_flow_until, record_at, record_fault, unused_before, was_requested, weight_in}
+use Rattle.cert_checker.proofs.Warmup.{find-next}
 use Rattle.cert_checker.proofs.Passing.{Passes, Passes-from_none, EndPasses, EndPasses-from_none, equal_from_not, second_from_and}
 
 -- a request of an object that was requested before
@@ -55,7 +56,8 @@ EndsWith-eligible h trace records i e =
       within = e.next.within;
       size = size;
       gain = ap (λ (j : Interval). j.gain) e.numbers;
-      ends = and_from (was_requested trace i.end) (nat_le (request_at trace i.end).size h.capacity) (was_requested-again trace i.start i.end e.next)
+      ends = and_from (was_requested trace i.end && nat_le h.warmup i.end) (nat_le (request_at trace i.end).size h.capacity)
+          (and_from (was_requested trace i.end) (nat_le h.warmup i.end) (was_requested-again trace i.start i.end e.next) (le-leb h.warmup i.end e.counts))
           (le-leb (request_at trace i.end).size h.capacity (subst (λ (x : Object). x.size ≤ h.capacity) same e.fits));
     }
 
@@ -195,8 +197,8 @@ module _ (h : Header) (trace : List Object) (records : List Record) (cert : IsCe
       (λ (past : length trace ≤ t). get_or_past (map (λ (r : Record). r.flow) records) t 0 (omega (arith, length-map records (λ (r : Record). r.flow), one)))
       (cases_lt t (length trace))
     where
-      started : (b : ℕ) → IsNext trace t b → t < length trace → flow_at records t ≡ 0
-      started b next within =
+      counted : (b : ℕ) → IsNext trace t b → t < length trace → h.warmup ≤ b → flow_at records t ≡ 0
+      counted b next within over =
           ⊎_elim
           (λ (large : h.capacity < (request_at trace t).size).
           let flow : (record_at records t).flow ≤ weight_in h (request_at trace t) = ltb-false (weight_in h (request_at trace t)) (record_at records t).flow (passes t within).flow in
@@ -204,10 +206,24 @@ module _ (h : Header) (trace : List Object) (records : List Record) (cert : IsCe
           omega (arith, flow-is t within))
           (λ (fits : (request_at trace t).size ≤ h.capacity).
           let i : Interval = interval_of h.objective trace t b in
-          let there = Contains-eligible (terms_of h) trace (interval_of h.objective trace t b) (record { next = next; fits = fits; counts = omega arith; numbers = refl }) in
+          let there = Contains-eligible (terms_of h) trace (interval_of h.objective trace t b) (record { next = next; fits = fits; counts = over; numbers = refl }) in
           absurd (both_ways _ none
           (list_any_at (λ i. i.start == t) (eligible_of trace h) there.0 (interval_of h.objective trace t b) there.1 (ap (λ (j : Interval). j.start == t) there.2 ∙ eq-eqb t t refl))))
           (cases_lt h.capacity (request_at trace t).size)
+
+      started : (b : ℕ) → IsNext trace t b → t < length trace → flow_at records t ≡ 0
+      started b next within =
+          ⊎_elim
+          (λ (warm : b < h.warmup).
+          let unused : unused_before h trace records b ≡ None = (passes b next.within).unused in
+          let found : find (has_flow_until trace records b) (range_with_len 0 b) ≡ None = ap (λ c. cond c (find (has_flow_until trace records b) (range_with_len 0 b)) None) (sym (lt-ltb b h.warmup warm)) ∙ unused in
+          no_flow-found (flow_at records t) (sym (find-next trace b t next records) ∙ found))
+          (λ (over : h.warmup ≤ b). counted b next within over)
+          (cases_lt b h.warmup)
+        where
+          no_flow-found : (f : ℕ) → cond (nat_lt 0 f) (Some t) None ≡ None → f ≡ 0
+          no_flow-found zero e = refl
+          no_flow-found (suc f) e = absurd (true≢false (ap is_some (ap (λ c. cond c (Some t) None) (sym (lt-ltb 0 (suc f) (omega arith))) ∙ e)))
 
   within_weights : AllZip (λ i f. f ≤ weight h.unit i) (eligible_of trace h) (flows_of (eligible_of trace h) records)
   within_weights = AllZip-map (λ i f. f ≤ weight h.unit i) (λ i. flow_at records i.start) (eligible_of trace h) each

@@ -19,7 +19,7 @@ use Rattle.cert_checker.specs.declared.invalid.InvalidKind.{InvalidKind}
 use Rattle.cert_checker.specs.declared.invalid.InvalidKind.TheVariants.{RequestCount}
 use Rattle.cert_format.specs.Grammar.{Slot, end_slots, header_slots, line_fault, number_at, record_slots}
 use Rattle.cert_format.specs.Laws.{IsSpelled}
-use Rattle.cert_format.specs.Readings.{Reading, after_lines, first_fault, header_fault, header_in, in_line, line_text, lines_fault, onto, read_after, read_records, reading, record_in, trailing, under, unless, whole}
+use Rattle.cert_format.specs.Readings.{Reading, after_lines, first_fault, header_fault, header_in, in_line, is_warmup, line_text, lines_fault, onto, read_after, read_records, reading, record_in, record_text_fault, trailing, under, unless, whole}
 use Rattle.cert_format.proofs.Wholes.{read_written, written_read}
 use Rattle.cert_checker.specs.Laws.{IsFaultless, PassingIsValid}
 use Rattle.cert_checker.specs.Rules.{end_fault, first_some, found, record_fault}
@@ -80,16 +80,17 @@ IsRead-unless : (o : Option CertFault) (most : ℕ) (r : Reading) → IsShown o 
 IsRead-unless None most r known is = is
 IsRead-unless (Some f) most r known is = record { shown = known; few = omega arith }
 
-IsRead-records : (k n : ℕ) (bytes : List ℕ) → IsRead k (read_records k n bytes)
+IsRead-records : (version before k n : ℕ) (bytes : List ℕ) → IsRead k (read_records version before k n bytes)
 unfolding read_records
-IsRead-records zero n bytes = record {
+IsRead-records version before zero n bytes = record {
   shown = Shown-or (first_fault n end_slots bytes) (trailing (n + 1) (after_line bytes)) (Shown-first n end_slots bytes) (Shown-trailing (n + 1) (after_line bytes));
   few = omega arith;
 }
-IsRead-records (suc k) n bytes =
-    let rest : IsRead k (read_records k (n + 1) (after_line bytes)) = IsRead-records k (n + 1) (after_line bytes) in
-    let few : length (read_records k (n + 1) (after_line bytes)).records ≤ k = rest.few in
-    IsRead-unless (first_fault n record_slots bytes) (suc k) (onto (record_in (first_text bytes)) (read_records k (n + 1) (after_line bytes))) (Shown-first n record_slots bytes)
+IsRead-records version before (suc k) n bytes =
+    let r = record_in version before (first_text bytes) in
+    let rest : IsRead k (read_records version r.price k (n + 1) (after_line bytes)) = IsRead-records version r.price k (n + 1) (after_line bytes) in
+    let few : length (read_records version r.price k (n + 1) (after_line bytes)).records ≤ k = rest.few in
+    IsRead-unless (record_text_fault version before n bytes) (suc k) (onto r (read_records version r.price k (n + 1) (after_line bytes))) (Shown-first n (record_slots version before (first_text bytes)) bytes)
     (record { shown = rest.shown; few = omega arith })
 
 -- a reading has a header, with no more records than it says, or a fault
@@ -100,7 +101,7 @@ record IsReading (r : Reading) : Type 0 where
 
 reading-is : (bytes : List ℕ) → IsReading (reading bytes)
 reading-is bytes =
-    at (header_fault bytes) (Shown-lines 1 (header_slots (number_at 1 (line_text 3 bytes))) bytes) (IsRead-records (header_in bytes).requests (header_len (header_in bytes) + 1) (after_lines (header_len (header_in bytes)) bytes))
+    at (header_fault bytes) (Shown-lines 1 (header_slots (number_at 1 (line_text 3 bytes)) (is_warmup (line_text 11 bytes))) bytes) (IsRead-records (header_in bytes).version 0 (header_in bytes).requests (header_len (header_in bytes) + 1) (after_lines (header_len (header_in bytes)) bytes))
   where
     rest : Reading
     rest = read_after (header_in bytes) bytes

@@ -2,7 +2,7 @@
 use Rattle.std.specs.Prelude.{ℕ, ◌+◌, ◌*◌, ◌/◌, ◌%◌, ◌^◌, Bool, false, not, ◌&&◌, ◌==◌, nat_lt, nat_le, if◌then◌else◌, List, [], ◌∷◌, ◌++◌, length, slice_index_or, take, find, sum, None, Some, Result, Ok, Err}
 use Rattle.std.specs.declared.option.Option.{Option}
 use Rattle.std.specs.Option.{option_map}
-use Rattle.std.specs.List.{list_any}
+use Rattle.std.specs.List.{list_any, range_with_len}
 use Rattle.cache_model.specs.declared.objects.Object.{Object}
 use Rattle.cache_model.specs.declared.certificates.Header.{Header}
 use Rattle.cache_model.specs.declared.certificates.Record.{Record}
@@ -33,9 +33,9 @@ divides a b = b % a == 0
 abbrev pub weight_in : Header → Object → ℕ
 weight_in h x = if nat_le x.size h.capacity then x.size / h.unit else 0
 
--- an interval ends at a request of x
+-- an interval that counts ends at a request of x
 abbrev pub ends_interval : Header → Object → Figures → Bool
-ends_interval h x now = now.again && nat_le x.size h.capacity
+ends_interval h x now = now.counts && nat_le x.size h.capacity
 
 -- the rules of the price
 abbrev pub price_rules : Header → Record → Figures → List (Option InvalidKind)
@@ -51,12 +51,13 @@ interval_rules h x now =
     ∷ found (ends_interval h x now && h.exact && not (divides (x.size / h.unit) (h.denominator * gain_of h.objective x))) (NotDivisible (x.size / h.unit))
     ∷ []
 
--- the rules of the loads and of the flow
+-- the rules of the loads and of the flows
 abbrev pub load_rules : Header → Object → Record → Figures → List (Option InvalidKind)
 load_rules h x r now =
     found (nat_lt h.capacity now.load) (Overfull now.load h.capacity)
     ∷ found (nat_lt (weight_in h x) r.flow) (FlowAboveWeight r.flow (weight_in h x))
     ∷ found (nat_lt (units_of h) now.flows) (FlowOverfull now.flows (units_of h))
+    ∷ option_map Unused now.unused
     ∷ []
 
 -- the rules of a record of a request of x, in their order
@@ -71,12 +72,21 @@ record_at records t = slice_index_or records t (unpriced false)
 abbrev pub was_requested : List Object → ℕ → Bool
 was_requested trace t = list_any (same_object (request_at trace t)) (take t trace)
 
+-- request a is the latest before t of the same object, and has a flow
+abbrev pub has_flow_until : List Object → List Record → ℕ → ℕ → Bool
+has_flow_until trace records t a = same_object (request_at trace t) (request_at trace a) && is_latest trace t a && nat_lt 0 (flow_at records a)
+
+-- within the warm-up, the request before t of the same object, if it has a flow
+abbrev pub unused_before : Header → List Object → List Record → ℕ → Option ℕ
+unused_before h trace records t = if nat_lt t h.warmup then find (has_flow_until trace records t) (range_with_len 0 t) else None
+
 -- the figures after request t and its record
 abbrev pub figures_at : Header → List Object → List Record → ℕ → Figures
 figures_at h trace records t = record {
   prices = sum (take (t + 1) (prices_of records));
   last = t + 1 == h.requests;
-  again = was_requested trace t;
+  counts = was_requested trace t && nat_le h.warmup t;
+  unused = unused_before h trace records t;
   load = load_after trace (keeps_of records) t;
   flows = latest_sum trace (flow_at records) (t + 1);
 }

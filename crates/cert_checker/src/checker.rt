@@ -116,7 +116,7 @@ impl Checker {
         let before = self.seen.get(&object).copied();
         let now = figures(&self.header, &self.sums, &object, &entry, before);
         check_record(&self.header, &object, &entry, &now)?;
-        let added = added(&self.header, &object, self.sums.prices, before);
+        let added = added(&self.header, &object, &self.sums, before);
         self.seen.insert(object, seen_of(&self.sums, &entry))?;
         self.sums = sums_with(&self.sums, &now, &added);
         Ok(())

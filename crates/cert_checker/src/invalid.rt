@@ -22,7 +22,7 @@ pub enum InvalidKind {
     SumLimit,
     /// The price of the last record is not 0.
     LastPrice { price: u128 },
-    /// The unit does not divide the size of an object that is requested again and fits the capacity.
+    /// The unit does not divide the size of an object that is requested again after the warm-up and fits the capacity.
     UnitNotDivisor { unit: u64, size: u64 },
     /// The form is exact, and the cost of an interval of this weight is not whole.
     NotDivisible { weight: u64 },
@@ -32,7 +32,8 @@ pub enum InvalidKind {
     FlowAboveWeight { flow: u128, weight: u64 },
     /// The flows over a step pass the units.
     FlowOverfull { load: u128, units: u64 },
-    /// The last request of an object has a flow, though no interval starts there. Records count from 0.
+    /// A request has a flow, though no interval that counts starts there: it is the last of its object, or the next one
+    /// is within the warm-up. Records count from 0.
     Unused { number: u64 },
     /// The upper bound is not that of the prices.
     UpperDiffers { written: u128, counted: u128 },

@@ -1,5 +1,7 @@
 //! The check of a record.
 ghost use Rattle.std.specs.Prelude.{◌≡◌, ◌≤◌, ◌^◌, ◌++◌};
+ghost use Rattle.std.specs.Option.{option_map};
+ghost use Rattle.cert_checker.specs.declared.invalid.InvalidKind.TheVariants.{Unused};
 ghost use Rattle.cache_model.specs.Certificates.{IsHeaderInRange};
 ghost use Rattle.cert_checker.specs.Rules.{first_some, interval_rules, load_rules, price_rules, record_rules, unless_fault, weight_in};
 
@@ -42,7 +44,7 @@ fn check_interval(header: &Header, object: &Object, now: &Figures) -> Result<(),
     requires size { (1 ≤ object.now.size) × (object.now.size ≤ 2 ^ 48) }
     ensures { result ≡ unless_fault (first_some (interval_rules header.now object.now now.now)) }
 {
-    if !now.again || object.size > header.capacity {
+    if !now.counts || object.size > header.capacity {
         return Ok(());
     }
     if object.size % header.unit != 0 {
@@ -56,6 +58,18 @@ fn check_interval(header: &Header, object: &Object, now: &Figures) -> Result<(),
         return Err(InvalidKind::NotDivisible { weight });
     }
     Ok(())
+}
+
+// A flow whose interval ends within the warm-up is not used.
+fn check_unused(now: &Figures) -> Result<(), InvalidKind>
+    ensures { result ≡ unless_fault (option_map Unused now.now.unused) }
+{
+    match now.unused {
+        Some(number) => Err(InvalidKind::Unused {
+            number: number as u64,
+        }),
+        None => Ok(()),
+    }
 }
 
 fn check_loads(
@@ -87,7 +101,7 @@ fn check_loads(
             units,
         });
     }
-    Ok(())
+    check_unused(now)
 }
 
 /// The first rule that a record of a request of the object fails, by the figures after it.

@@ -1,9 +1,9 @@
 //! What one more request and its record change.
-ghost use Rattle.std.specs.Prelude.{◌≡◌, ◌≤◌, ◌<◌, ◌+◌, ◌-◌, ◌*◌, ◌/◌, ◌^◌, IfSome, if◌then◌else◌};
+ghost use Rattle.std.specs.Prelude.{◌≡◌, nat_le, ◌≤◌, ◌<◌, ◌+◌, ◌-◌, ◌*◌, ◌/◌, ◌^◌, IfSome, if◌then◌else◌};
 ghost use Rattle.cache_model.specs.Certificates.{IsHeaderInRange};
 ghost use Rattle.cache_model.specs.Claim.{gain_of};
 ghost use Rattle.cert_checker.specs.Rules.{weight_in};
-ghost use Rattle.cert_checker.specs.Steps.{added, added_by, AreNext, flow_before, seen_at, size_before, sums_after};
+ghost use Rattle.cert_checker.specs.Steps.{added, added_by, added_if, AreNext, flow_before, seen_at, size_before, sums_after, unused_flow};
 ghost use Rattle.cert_checker.specs.Summaries.{AreSmall};
 
 use crate::rules::{Figures, worth};
@@ -30,6 +30,16 @@ fn shares(object: &Object, before: Option<Seen>) -> (u64, u64)
     }
 }
 
+// The request before this one of its object, if it has a flow and this one is within the warm-up.
+fn unused(header: &Header, sums: &Sums, before: Option<Seen>) -> Option<u32>
+    ensures { result ≡ unused_flow header.now sums.now.steps before }
+{
+    match before {
+        Some(seen) if sums.steps < header.warmup && seen.flow > 0 => Some(seen.latest),
+        _ => None,
+    }
+}
+
 /// The figures after a request of the object and its record, where this is what was kept of the object.
 pub fn figures(
     header: &Header,
@@ -50,11 +60,19 @@ pub fn figures(
     Figures {
         prices: sums.prices + entry.price,
         last: sums.steps + 1 == header.requests,
-        again: before.is_some(),
+        counts: before.is_some() && header.warmup <= sums.steps,
+        unused: unused(header, sums, before),
         load: sums.load - size + kept_size(object, entry.keep),
         flows: sums.flows - flow + entry.flow,
     }
 }
+
+// What no interval adds.
+const NOTHING_ADDED: Added = Added {
+    surplus: 0,
+    value: 0,
+    gain: 0,
+};
 
 // What is above the price of the weight, and 0 where nothing is.
 fn surplus(worth: u128, weight: u64, price: u128) -> u128
@@ -103,23 +121,36 @@ fn added_by_interval(header: &Header, object: &Object, prices: u128, seen: &Seen
     }
 }
 
-/// What a request of the object adds, where this is what was kept of the object.
-pub fn added(header: &Header, object: &Object, prices: u128, before: Option<Seen>) -> Added
+// What a later request of the object adds.
+fn added_by_hit(header: &Header, object: &Object, sums: &Sums, seen: &Seen) -> Added
     requires header { IsHeaderInRange header.now }
     requires size { object.now.size ≤ 2 ^ 48 }
-    requires prices { IfSome before (λ seen. seen.price_before ≤ prices) }
+    requires prices { seen.now.price_before ≤ sums.now.prices }
+    requires flow { seen.now.flow ≤ weight_in header.now object.now }
+    requires weight { header.now.warmup ≤ sums.now.steps → object.now.size ≤ header.now.capacity → 1 ≤ object.now.size / header.now.unit }
+    ensures sums { result ≡ added_if (nat_le header.now.warmup sums.now.steps) (added_by header.now object.now sums.now.prices seen.now) }
+    ensures small { (result.surplus ≤ 2 ^ 96) × (result.value ≤ 2 ^ 96) × (result.gain ≤ 2 ^ 48) }
+{
+    if header.warmup <= sums.steps {
+        added_by_interval(header, object, sums.prices, seen)
+    } else {
+        NOTHING_ADDED
+    }
+}
+
+/// What a request of the object adds, where this is what was kept of the object: nothing within the warm-up.
+pub fn added(header: &Header, object: &Object, sums: &Sums, before: Option<Seen>) -> Added
+    requires header { IsHeaderInRange header.now }
+    requires size { object.now.size ≤ 2 ^ 48 }
+    requires prices { IfSome before (λ seen. seen.price_before ≤ sums.now.prices) }
     requires flow { IfSome before (λ seen. seen.flow ≤ weight_in header.now object.now) }
-    requires weight { IfSome before (λ seen. object.now.size ≤ header.now.capacity → 1 ≤ object.now.size / header.now.unit) }
-    ensures sums { result ≡ added header.now object.now prices before }
+    requires weight { header.now.warmup ≤ sums.now.steps → IfSome before (λ seen. object.now.size ≤ header.now.capacity → 1 ≤ object.now.size / header.now.unit) }
+    ensures sums { result ≡ added header.now object.now sums.now.steps sums.now.prices before }
     ensures small { (result.surplus ≤ 2 ^ 96) × (result.value ≤ 2 ^ 96) × (result.gain ≤ 2 ^ 48) }
 {
     match before {
-        Some(seen) => added_by_interval(header, object, prices, &seen),
-        None => Added {
-            surplus: 0,
-            value: 0,
-            gain: 0,
-        },
+        Some(seen) => added_by_hit(header, object, sums, &seen),
+        None => NOTHING_ADDED,
     }
 }
 

@@ -1,5 +1,6 @@
 -- Lines that are appended to lines.
 use Rattle.std.proofs.Common.{◌≡◌, ◌∙◌, ℕ, ap, sym, List, [], ◌∷◌, ◌++◌, append_assoc, append-nil}
+use Rattle.std.proofs.lemmas.List.Concat.{flat_map-append}
 use Rattle.cache_model.specs.Texts.{line, text_of}
 
 text_of-append : (lines : List (List ℕ)) (words : List ℕ) → text_of (lines ++ words ∷ []) ≡ text_of lines ++ line words
@@ -9,3 +10,7 @@ text_of-append (first ∷ lines) words = ap (λ text. line first ++ text) (text_
 -- one line more
 pub one_more : (lines : List (List ℕ)) (words : List ℕ) (old new : List ℕ) → old ≡ text_of lines → new ≡ old ++ line words → new ≡ text_of (lines ++ words ∷ [])
 one_more lines words old new was is = is ∙ (ap (λ text. text ++ line words) was ∙ sym (text_of-append lines words))
+
+-- more lines
+pub more_lines : (lines others : List (List ℕ)) (old new : List ℕ) → old ≡ text_of lines → new ≡ old ++ text_of others → new ≡ text_of (lines ++ others)
+more_lines lines others old new was is = is ∙ (ap (λ text. text ++ text_of others) was ∙ sym (flat_map-append line lines others))

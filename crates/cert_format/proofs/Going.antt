@@ -1,5 +1,5 @@
 -- What a call of the reader gives of what is to come.
-use Rattle.std.proofs.Common.{◌∷◌, ◌≡◌, ◌≢◌, ℕ, suc, ◌+◌, ◌-◌, ◌<◌, ◌∙◌, sym, refl, ap, List, [], ◌++◌, arith, Some, None, Option, Ok, Err}
+use Rattle.std.proofs.Common.{◌∷◌, ◌≡◌, ◌≢◌, ℕ, suc, ◌+◌, ◌-◌, ◌^◌, ◌<◌, ◌≤◌, ◌∙◌, sym, refl, ap, List, [], ◌++◌, arith, Some, None, Option, Ok, Err}
 use Rattle.bound_io.specs.Devices.{Device}
 use Rattle.bound_io.specs.Lines.{first_text, after_line, stands_in}
 use Rattle.bound_io.specs.Positions.{Position}
@@ -11,15 +11,15 @@ use Rattle.cert_format.specs.declared.fault.CertFault.TheVariants.{BadText, Trun
 use Rattle.cert_format.specs.declared.reader.Stage.{Stage}
 use Rattle.cert_format.specs.declared.reader.Stage.TheVariants.{AtHeader, InRecords, AtEnd}
 use Rattle.cert_format.specs.Grammar.{record_slots, end_slots}
-use Rattle.cert_format.specs.Readings.{reading, read_after, read_records, stopped, unless, onto, under, trailing, end_fault, first_fault, header_fault, header_in, record_in, after_lines}
+use Rattle.cert_format.specs.Readings.{reading, read_after, read_records, stopped, unless, onto, under, trailing, end_fault, first_fault, header_fault, header_in, record_in, record_text_fault, after_lines}
 use Rattle.cert_format.specs.Lines.{known, IsStopped, Reads}
 use Rattle.cert_format.specs.Finish.{finish_fault, lines_left}
 use Rattle.cert_format.specs.Readers.{Reader, fresh, to_come, IsRefused, HeaderRead, RecordRead, EndRead}
-use Rattle.cert_format.proofs.Spellings.{record_spelled}
+use Rattle.cert_format.proofs.RecordSpellings.{record_spelled}
 use Rattle.cert_format.proofs.Prefixes.{fits_first}
 use Rattle.cert_format.proofs.Headers.{header_spelled, after_lines-zero, no_either}
 use Rattle.cert_format.proofs.Taken.{at_some, if_known, known_some, after_lines-one}
-use Rattle.cert_format.proofs.Wholes.{nothing_read}
+use Rattle.cert_format.proofs.Wholes.{nothing_read, read_more, with_more}
 
 -- why lines are not given is why nothing more is read
 refused_by : (old : Reader) (source : Device) (fault_of : List ℕ → Option CertFault) (fault : CertFault) → IsStopped fault_of (known old.lines source.before) source fault
@@ -33,25 +33,29 @@ refused_by old source fault_of (Trailing n) why is = if_known (known old.lines s
 coming_header : (old : Reader) (bytes : List ℕ) → old.stage ≡ AtHeader → to_come old bytes ≡ reading bytes
 coming_header old bytes is = rw is refl
 
-coming_records : (old : Reader) (bytes : List ℕ) → old.stage ≡ InRecords → to_come old bytes ≡ read_records old.left (old.lines.line + 1) bytes
+coming_records : (old : Reader) (bytes : List ℕ) → old.stage ≡ InRecords → to_come old bytes ≡ read_records old.version old.price old.left (old.lines.line + 1) bytes
 coming_records old bytes is = rw is refl
 
 coming_end : (old : Reader) (bytes : List ℕ) → old.stage ≡ AtEnd → to_come old bytes ≡ stopped (trailing (old.lines.line + 1) bytes)
 coming_end old bytes is = rw is refl
 
 -- the header
-pub header_goes : (old new : Reader) (source : Device) (h : Header) → old.stage ≡ AtHeader → old.lines.line ≡ 0 → new.stage ≡ InRecords → new.left ≡ h.requests → Reads header_fault (header_len h) header_in old.lines new.lines source (Ok h) → HeaderRead old new source (Ok h)
-header_goes old new source h at first now left reads =
+pub header_goes : (old new : Reader) (source : Device) (h : Header) → old.stage ≡ AtHeader → old.lines.line ≡ 0 → new.stage ≡ InRecords → new.left ≡ h.requests → new.version ≡ h.version → new.price ≡ 0 → Reads header_fault (header_len h) header_in old.lines new.lines source (Ok h) → HeaderRead old new source (Ok h)
+header_goes old new source h at first now left version price reads =
     let given : new.lines.line ≡ header_len h = omega (arith, reads.given.0, first) in (
       now,
       left,
+      version,
+      price,
       given,
       if_known (known old.lines source.before) _ (λ bytes e.
           let pass = at_some (known old.lines source.before) bytes _ e reads.passes in
           let is = at_some (known old.lines source.before) bytes _ e reads.value_is in
           let spelled = header_spelled bytes pass.none in
           let rest = after_lines (header_len h) bytes in
-          let new_coming : to_come new rest ≡ read_after h bytes = coming_records new rest now ∙ (ap (λ k. read_records k (new.lines.line + 1) rest) left ∙ ap (λ n. read_records h.requests (n + 1) rest) given) in
+          let new_coming : to_come new rest ≡ read_after h bytes = coming_records new rest now
+          ∙ (ap (λ v. read_records v new.price new.left (new.lines.line + 1) rest) version ∙ (ap (λ p. read_records h.version p new.left (new.lines.line + 1) rest) price
+          ∙ (ap (λ k. read_records h.version 0 k (new.lines.line + 1) rest) left ∙ ap (λ n. read_records h.version 0 h.requests (n + 1) rest) given))) in
           record {
             text_is = spelled.1 ∙ ap (λ (k : Header). text_of (header_lines k) ++ after_lines (header_len k) bytes) (sym is);
             rest = pass.rest;
@@ -64,52 +68,54 @@ pub header_stops : (old new : Reader) (source : Device) (fault : CertFault) → 
 header_stops old new source fault at reads = refused_by old source header_fault fault reads.stopped (λ bytes f is. coming_header old bytes at ∙ ap (λ o. unless o (under (header_in bytes) (read_after (header_in bytes) bytes))) is)
 
 -- a record of those that are left
-one_record : (k n : ℕ) (bytes : List ℕ) → read_records (suc k) n bytes ≡ unless (first_fault n record_slots bytes) (onto (record_in (first_text bytes)) (read_records k (n + 1) (after_line bytes)))
-unfolding read_records
-one_record k n bytes = refl
-
 next_record : (old : Reader) (k : ℕ) (bytes : List ℕ) → old.stage ≡ InRecords → old.left ≡ k + 1
-    → to_come old bytes ≡ unless (first_fault (old.lines.line + 1) record_slots bytes) (onto (record_in (first_text bytes)) (read_records k (old.lines.line + 1 + 1) (after_line bytes)))
+    → to_come old bytes ≡ unless (record_text_fault old.version old.price (old.lines.line + 1) bytes) (with_more old.version k (old.lines.line + 1) bytes (record_in old.version old.price (first_text bytes)))
 next_record old k bytes at left =
     let more : old.left ≡ suc k = omega (arith, left) in
-    coming_records old bytes at ∙ (ap (λ m. read_records m (old.lines.line + 1) bytes) more ∙ one_record k (old.lines.line + 1) bytes)
+    coming_records old bytes at ∙ (ap (λ m. read_records old.version old.price m (old.lines.line + 1) bytes) more ∙ read_more old.version old.price k (old.lines.line + 1) bytes)
 
-pub record_goes : (old new : Reader) (source : Device) (r : Record) → old.stage ≡ InRecords → new.stage ≡ InRecords → new.left + 1 ≡ old.left
-    → Reads (first_fault (old.lines.line + 1) record_slots) 1 (λ bytes. record_in (first_text bytes)) old.lines new.lines source (Ok r) → RecordRead old new source (Ok r)
-record_goes old new source r at now left reads =
-    let one : new.lines.line ≡ old.lines.line + 1 = reads.given.0 in (
+pub record_goes : (old new : Reader) (source : Device) (r : Record) → old.price ≤ 2 ^ 126 → old.stage ≡ InRecords → new.stage ≡ InRecords → new.left + 1 ≡ old.left → new.version ≡ old.version → new.price ≡ r.price
+    → Reads (record_text_fault old.version old.price (old.lines.line + 1)) 1 (λ bytes. record_in old.version old.price (first_text bytes)) old.lines new.lines source (Ok r) → RecordRead old new source (Ok r)
+record_goes old new source r small at now left version price reads =
+    let one : new.lines.line ≡ old.lines.line + 1 = reads.given.0 in
+    let n = old.lines.line + 1 in (
       now,
       left,
+      version,
+      price,
       one,
       if_known (known old.lines source.before) _ (λ bytes e.
           let pass = at_some (known old.lines source.before) bytes _ e reads.passes in
           let is = at_some (known old.lines source.before) bytes _ e reads.value_is in
-          let has = fits_first (old.lines.line + 1) record_slots bytes pass.none in
-          let spelled = record_spelled (first_text bytes) has.fits in
+          let entry = record_in old.version old.price (first_text bytes) in
+          let has = fits_first n (record_slots old.version old.price (first_text bytes)) bytes pass.none in
+          let spelled = record_spelled old.version old.price (first_text bytes) small has.fits in
           let rest = after_lines 1 bytes in
-          let new_coming : to_come new rest ≡ read_records new.left (old.lines.line + 1 + 1) (after_line bytes) = coming_records new rest now ∙ (ap (λ n. read_records new.left (n + 1) rest) one ∙ ap (read_records new.left (old.lines.line + 1 + 1)) (after_lines-one bytes)) in
+          let new_coming : to_come new rest ≡ read_records old.version r.price new.left (n + 1) (after_line bytes) = coming_records new rest now
+          ∙ (ap (λ v. read_records v new.price new.left (new.lines.line + 1) rest) version ∙ (ap (λ p. read_records old.version p new.left (new.lines.line + 1) rest) price
+          ∙ (ap (λ m. read_records old.version r.price new.left (m + 1) rest) one ∙ ap (read_records old.version r.price new.left (n + 1)) (after_lines-one bytes)))) in
           record {
-            text_is = has.is ∙ (ap (λ t. line t ++ after_line bytes) spelled.1 ∙ (ap (λ q. line (record_line q) ++ after_line bytes) (sym is) ∙ ap (λ b. line (record_line r) ++ b) (sym (after_lines-one bytes))));
+            text_is = has.is ∙ (ap (λ t. line t ++ after_line bytes) spelled.1 ∙ (ap (λ q. line (record_line old.version old.price q) ++ after_line bytes) (sym is) ∙ ap (λ b. line (record_line old.version old.price r) ++ b) (sym (after_lines-one bytes))));
             rest = pass.rest;
-            coming_is = next_record old new.left bytes at (sym left) ∙ (ap (λ o. unless o (onto (record_in (first_text bytes)) (read_records new.left (old.lines.line + 1 + 1) (after_line bytes)))) pass.none
-                ∙ (ap (λ q. onto q (read_records new.left (old.lines.line + 1 + 1) (after_line bytes))) (sym is) ∙ ap (onto r) (sym new_coming)));
+            coming_is = next_record old new.left bytes at (sym left) ∙ (ap (λ o. unless o (with_more old.version new.left n bytes entry)) pass.none
+                ∙ (ap (with_more old.version new.left n bytes) (sym is) ∙ ap (onto r) (sym new_coming)));
           }),
     )
 
 pub record_stops : (old new : Reader) (source : Device) (fault : CertFault) → old.stage ≡ InRecords → 0 < old.left
-    → Reads (first_fault (old.lines.line + 1) record_slots) 1 (λ bytes. record_in (first_text bytes)) old.lines new.lines source (Err fault) → IsRefused old source fault
-record_stops old new source fault at some reads = refused_by old source (first_fault (old.lines.line + 1) record_slots) fault reads.stopped (λ bytes f is.
+    → Reads (record_text_fault old.version old.price (old.lines.line + 1)) 1 (λ bytes. record_in old.version old.price (first_text bytes)) old.lines new.lines source (Err fault) → IsRefused old source fault
+record_stops old new source fault at some reads = refused_by old source (record_text_fault old.version old.price (old.lines.line + 1)) fault reads.stopped (λ bytes f is.
     let k = old.left - 1 in
-    next_record old k bytes at (omega (arith, some)) ∙ ap (λ o. unless o (onto (record_in (first_text bytes)) (read_records k (old.lines.line + 1 + 1) (after_line bytes)))) is)
+    next_record old k bytes at (omega (arith, some)) ∙ ap (λ o. unless o (with_more old.version k (old.lines.line + 1) bytes (record_in old.version old.price (first_text bytes)))) is)
 
 -- the end
-no_records : (n : ℕ) (bytes : List ℕ) → read_records 0 n bytes ≡ stopped (end_fault n bytes)
+no_records : (version before n : ℕ) (bytes : List ℕ) → read_records version before 0 n bytes ≡ stopped (end_fault n bytes)
 unfolding read_records
-no_records n bytes = refl
+no_records version before n bytes = refl
 
 coming_finish : (old : Reader) (stage : Stage) (bytes : List ℕ) → old.stage ≡ stage → stage ≢ AtHeader → old.left ≡ 0 → to_come old bytes ≡ stopped (finish_fault stage (old.lines.line + 1) bytes)
 coming_finish old AtHeader bytes at other none = absurd (other refl)
-coming_finish old InRecords bytes at other none = coming_records old bytes at ∙ (ap (λ k. read_records k (old.lines.line + 1) bytes) none ∙ no_records (old.lines.line + 1) bytes)
+coming_finish old InRecords bytes at other none = coming_records old bytes at ∙ (ap (λ k. read_records old.version old.price k (old.lines.line + 1) bytes) none ∙ no_records old.version old.price (old.lines.line + 1) bytes)
 coming_finish old AtEnd bytes at other none = coming_end old bytes at
 
 -- nothing is left after the end

@@ -1,9 +1,11 @@
 pub mod GrammarRows
 pub mod Words
 pub mod Shapes
+pub mod RecordShapes
 pub mod Numbers
 pub mod Decimals
 pub mod Spellings
+pub mod RecordSpellings
 pub mod Prefixes
 pub mod Headers
 pub mod Wholes

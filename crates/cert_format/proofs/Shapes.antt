@@ -1,18 +1,14 @@
 -- Which texts have the shape of a line.
-use Rattle.std.proofs.Common.{◌≡◌, ◌≢◌, ℕ, ◌+◌, ◌^◌, ◌<◌, ◌∙◌, sym, refl, ap, Bool, true, false, ◌&&◌, ◌||◌, List, [], ◌∷◌, length, map, arith, Some, None, Option, codes, inl, inr, ◌⊎◌, Ok, Err}
+use Rattle.std.proofs.Common.{◌≡◌, ◌≢◌, ℕ, ◌<◌, ◌∙◌, sym, refl, ap, Bool, true, false, ◌&&◌, ◌||◌, List, [], ◌∷◌, length, map, arith, Some, None, Option, inl, inr, ◌⊎◌, Ok, Err}
 use Rattle.std.specs.Prelude.{slice_index_or}
-use Rattle.std.specs.Option.{option_or, is_some}
+use Rattle.std.specs.Option.{option_or}
 use Rattle.std.specs.Result.{is_ok}
 use Rattle.std.specs.Str.{bytes_eq}
 use Rattle.std.proofs.lemmas.Bool.{true≢false, and_parts, and_from, or_cases, or_left, or_right, cases_Bool, ne_eqb, false_from_ne_true}
 use Rattle.std.proofs.lemmas.Slice.Eq.{bytes_eq-Decides}
-use Rattle.cert_format.specs.Grammar.{Slot, OneOf, Within, words, can_stand, has_shape, first_number_fault, number_fault, line_fault, fixed_line, choice_line, number_line, record_slots, number_at, number_in, word_at, value_unless}
-use Rattle.cert_format.specs.declared.fault.TextKind.{TextKind}
+use Rattle.cert_format.specs.Grammar.{Slot, OneOf, Within, words, can_stand, has_shape, first_number_fault, number_fault, words_fault, line_fault, fixed_line, choice_line, number_line, number_at, number_in, word_at, value_unless}
 use Rattle.cert_format.specs.declared.fault.TextKind.TheVariants.{Shape}
-use Rattle.cert_format.specs.Readings.{record_in}
-use Rattle.cache_model.specs.Texts.{keep_digit}
-use Rattle.cache_model.specs.declared.certificates.Record.{Record}
-use Rattle.cert_format.proofs.Words.{text_of_words, lone_word}
+use Rattle.cert_format.proofs.Words.{text_of_words}
 
 pub same_bytes : (xs ys : List ℕ) → bytes_eq xs ys ≡ true → xs ≡ ys
 same_bytes xs ys same = (bytes_eq-Decides xs ys).0 same
@@ -54,6 +50,13 @@ fixed_numbers [] given = refl
 fixed_numbers (k ∷ known) [] = refl
 fixed_numbers (k ∷ known) (g ∷ given) = fixed_numbers known given
 
+-- the fault of the words of a line by their shape
+pub no_words : (slots : List Slot) (given : List (List ℕ)) → has_shape slots given ≡ false → words_fault slots given ≡ Some Shape
+no_words slots given none = rw none refl
+
+pub of_words : (slots : List Slot) (given : List (List ℕ)) → has_shape slots given ≡ true → words_fault slots given ≡ first_number_fault slots given
+of_words slots given shape = rw shape refl
+
 -- the fault of a line by its shape
 pub no_shape : (slots : List Slot) (text : List ℕ) → has_shape slots (words text) ≡ false → line_fault slots text ≡ Some Shape
 no_shape slots text none = rw none refl
@@ -92,14 +95,14 @@ two_shape name slot (n ∷ word ∷ more ∷ others) shape =
 shape_two : (name : List ℕ) (slot : Slot) (word : List ℕ) → can_stand slot word ≡ true → has_shape (fixed name ∷ slot ∷ []) (name ∷ word ∷ []) ≡ true
 shape_two name slot word stands = and_from (can_stand (fixed name) name) (can_stand slot word && true) (fixed_stands name) (and_from (can_stand slot word) true stands refl)
 
-some_stands : (low high : ℕ) (word : List ℕ) → 0 < length word → can_stand (Within low high) word ≡ true
+pub some_stands : (low high : ℕ) (word : List ℕ) → 0 < length word → can_stand (Within low high) word ≡ true
 some_stands low high word some = rw (ne_eqb (length word) 0 (λ none. omega (arith, none))) refl
 
-stands_some : (low high : ℕ) (word : List ℕ) → can_stand (Within low high) word ≡ true → 0 < length word
+pub stands_some : (low high : ℕ) (word : List ℕ) → can_stand (Within low high) word ≡ true → 0 < length word
 stands_some low high [] stands = absurd (true≢false (sym stands))
 stands_some low high (x ∷ xs) stands = omega arith
 
-or_none : {A : Type 0} (o : Option A) → option_or o None ≡ o
+pub or_none : {A : Type 0} (o : Option A) → option_or o None ≡ o
 or_none None = refl
 or_none (Some x) = refl
 
@@ -132,7 +135,7 @@ text_number name low high text fits = by (cases_Bool (has_shape (number_line nam
     by (inr none) = let wrong : Some Shape ≡ None = sym (no_shape (number_line name low high) text none) ∙ fits in cc
 
 -- one of two words
-first_or_second : (first second word : List ℕ) → can_stand (OneOf (first ∷ second ∷ [])) word ≡ true → (word ≡ first) ⊎ (word ≡ second)
+pub first_or_second : (first second word : List ℕ) → can_stand (OneOf (first ∷ second ∷ [])) word ≡ true → (word ≡ first) ⊎ (word ≡ second)
 first_or_second first second word stands = by (or_cases (bytes_eq word first) (bytes_eq word second || false) stands)
   where
     by : (bytes_eq word first ≡ true) ⊎ ((bytes_eq word second || false) ≡ true) → (word ≡ first) ⊎ (word ≡ second)
@@ -172,66 +175,11 @@ text_choice name first second text fits = by (cases_Bool (has_shape (choice_line
         (found.0, found.1, first_or_second first second found.0 found.2)
     by (inr none) = let wrong : Some Shape ≡ None = sym (no_shape (choice_line name first second) text none) ∙ fits in cc
 
--- a line of a record
-abbrev keep_slot : Slot
-keep_slot = OneOf (codes "0" ∷ codes "1" ∷ [])
-
-pub three_shape : (low high low' high' : ℕ) (given : List (List ℕ)) → has_shape (Within low high ∷ keep_slot ∷ Within low' high' ∷ []) given ≡ true
-    → (p : List ℕ) × (k : List ℕ) × (f : List ℕ) × (given ≡ p ∷ k ∷ f ∷ []) × (0 < length p) × (can_stand keep_slot k ≡ true) × (0 < length f)
-three_shape low high low' high' [] shape = absurd (true≢false (sym shape))
-three_shape low high low' high' (p ∷ []) shape = let parts = and_parts (can_stand (Within low high) p) false shape in absurd (true≢false (sym parts.1))
-three_shape low high low' high' (p ∷ k ∷ []) shape =
-    let parts = and_parts (can_stand (Within low high) p) (can_stand keep_slot k && false) shape in
-    absurd (true≢false (sym (and_parts (can_stand keep_slot k) false parts.1).1))
-three_shape low high low' high' (p ∷ k ∷ f ∷ []) shape =
-    let first = and_parts (can_stand (Within low high) p) (can_stand keep_slot k && (can_stand (Within low' high') f && true)) shape in
-    let second = and_parts (can_stand keep_slot k) (can_stand (Within low' high') f && true) first.1 in
-    let third = and_parts (can_stand (Within low' high') f) true second.1 in
-    (p, k, f, refl, stands_some low high p first.0, second.0, stands_some low' high' f third.0)
-three_shape low high low' high' (p ∷ k ∷ f ∷ more ∷ others) shape =
-    let first = and_parts (can_stand (Within low high) p) (can_stand keep_slot k && (can_stand (Within low' high') f && false)) shape in
-    let second = and_parts (can_stand keep_slot k) (can_stand (Within low' high') f && false) first.1 in
-    absurd (true≢false (sym (and_parts (can_stand (Within low' high') f) false second.1).1))
-
-keep_stands : (keep : Bool) → can_stand keep_slot ((48 + keep_digit keep) ∷ []) ≡ true
-keep_stands true = refl
-keep_stands false = refl
-
-shape_three : (low high low' high' : ℕ) (p f : List ℕ) (keep : Bool) → 0 < length p → 0 < length f
-    → has_shape (Within low high ∷ keep_slot ∷ Within low' high' ∷ []) (p ∷ ((48 + keep_digit keep) ∷ []) ∷ f ∷ []) ≡ true
-shape_three low high low' high' p f keep some more =
-    and_from (can_stand (Within low high) p) _ (some_stands low high p some)
-    (and_from (can_stand keep_slot ((48 + keep_digit keep) ∷ [])) _ (keep_stands keep) (and_from (can_stand (Within low' high') f) true (some_stands low' high' f more) refl))
-
--- the text of a record's line, by its words
-pub record_text : (text p f : List ℕ) (keep : Bool) → words text ≡ p ∷ ((48 + keep_digit keep) ∷ []) ∷ f ∷ [] → 0 < length p → 0 < length f
-    → line_fault record_slots text ≡ option_or (number_fault (Within 0 (2 ^ 126)) p) (number_fault (Within 0 (2 ^ 48)) f)
-record_text text p f keep are some more =
-    let shape : has_shape record_slots (words text) ≡ true = rw are (shape_three 0 (2 ^ 126) 0 (2 ^ 48) p f keep some more) in
-    of_shape record_slots text shape ∙ (ap (first_number_fault record_slots) are ∙ ap (option_or (number_fault (Within 0 (2 ^ 126)) p)) (or_none (number_fault (Within 0 (2 ^ 48)) f)))
-
-kept : (keep : Bool) → bytes_eq ((48 + keep_digit keep) ∷ []) (codes "1") ≡ keep
-kept true = refl
-kept false = refl
-
-pub record_of_text : (text p f : List ℕ) (keep : Bool) → words text ≡ p ∷ ((48 + keep_digit keep) ∷ []) ∷ f ∷ [] → record_in text ≡ record { price = number_in p; keep = keep; flow = number_in f }
-record_of_text text p f keep are = rw are (ap (λ (k : Bool). record_from (number_in p) k (number_in f)) (kept keep))
-  where
-    record_from : ℕ → Bool → ℕ → Record
-    record_from p k f = record { price = p; keep = k; flow = f }
-
--- a line with a price of no byte, or with other than one word of a byte after its keep
-pub no_record : (text p k rest flow : List ℕ) → words text ≡ p ∷ words rest → words rest ≡ k ∷ words flow → (length p ≡ 0) ⊎ ((words flow ≡ flow ∷ []) × (0 < length flow) → ⊥) → has_shape record_slots (words text) ≡ false
-no_record text p k rest flow first second other = false_from_ne_true _ (λ shape.
-    let three = three_shape 0 (2 ^ 126) 0 (2 ^ 48) (words text) shape in
-    let all : p ∷ k ∷ words flow ≡ three.0 ∷ three.1 ∷ three.2 ∷ [] = ap (λ ws. p ∷ ws) (sym second) ∙ (sym first ∙ three.3) in
-    let same : p ≡ three.0 = cc in
-    let lone : words flow ≡ three.2 ∷ [] = cc in
-    by other (omega (arith, three.4, ap length same)) (lone ∙ ap (λ w. w ∷ []) (sym (lone_word flow three.2 lone))) (omega (arith, three.6, ap length (lone_word flow three.2 lone))))
-  where
-    by : (length p ≡ 0) ⊎ ((words flow ≡ flow ∷ []) × (0 < length flow) → ⊥) → 0 < length p → words flow ≡ flow ∷ [] → 0 < length flow → ⊥
-    by (inl empty) some lone more = omega (arith, empty, some)
-    by (inr none) some lone more = none (lone, more)
+-- a name that is another one
+pub other_name : (name : List ℕ) (low high : ℕ) (text : List ℕ) → bytes_eq (word_at 0 text) name ≡ false → line_fault (number_line name low high) text ≡ Some Shape
+other_name name low high text other = no_number_text name low high text (λ word are.
+    let first : word_at 0 text ≡ name = ap (λ ws. slice_index_or ws 0 []) are in
+    absurd (true≢false (sym (ap (λ w. bytes_eq w name) first ∙ bytes_same name) ∙ other)))
 
 -- the fault, or the value, of an answer
 pub fault_of_err : {A F : Type 0} (o : Option F) (value : A) (fault : F) → Err fault ≡ value_unless o value → o ≡ Some fault
@@ -241,32 +189,3 @@ fault_of_err (Some other) value fault is = let same : fault ≡ other = cc in ap
 pub none_of_ok : {A F : Type 0} (o : Option F) (value given : A) → Ok given ≡ value_unless o value → (o ≡ None) × (given ≡ value)
 none_of_ok None value given is = let same : given ≡ value = cc in (refl, same)
 none_of_ok (Some other) value given is = absurd (true≢false (ap is_ok is))
-
--- a keep is written by its digit
-pub keep_word_of : (word : List ℕ) → can_stand keep_slot word ≡ true → (keep : Bool) × (word ≡ (48 + keep_digit keep) ∷ [])
-keep_word_of word stands = by (first_or_second (codes "0") (codes "1") word stands)
-  where
-    by : (word ≡ codes "0") ⊎ (word ≡ codes "1") → (keep : Bool) × (word ≡ (48 + keep_digit keep) ∷ [])
-    by (inl no') = (false, no')
-    by (inr yes') = (true, yes')
-
--- the line of a record without a fault has these words
-pub text_record : (text : List ℕ) → line_fault record_slots text ≡ None
-    → (p : List ℕ) × (keep : Bool) × (f : List ℕ) × (words text ≡ p ∷ ((48 + keep_digit keep) ∷ []) ∷ f ∷ [])
-    × (number_fault (Within 0 (2 ^ 126)) p ≡ None) × (number_fault (Within 0 (2 ^ 48)) f ≡ None)
-text_record text fits = by (cases_Bool (has_shape record_slots (words text)))
-  where
-    both : (o p : Option TextKind) → option_or o p ≡ None → (o ≡ None) × (p ≡ None)
-    both None p h = (refl, h)
-    both (Some x) p h = let wrong : Some x ≡ None = h in absurd (true≢false (ap is_some wrong))
-
-    by : (has_shape record_slots (words text) ≡ true) ⊎ (has_shape record_slots (words text) ≡ false)
-        → (p : List ℕ) × (keep : Bool) × (f : List ℕ) × (words text ≡ p ∷ ((48 + keep_digit keep) ∷ []) ∷ f ∷ [])
-        × (number_fault (Within 0 (2 ^ 126)) p ≡ None) × (number_fault (Within 0 (2 ^ 48)) f ≡ None)
-    by (inl shape) =
-        let three = three_shape 0 (2 ^ 126) 0 (2 ^ 48) (words text) shape in
-        let keep = keep_word_of three.1 three.5 in
-        let are : words text ≡ three.0 ∷ ((48 + keep_digit keep.0) ∷ []) ∷ three.2 ∷ [] = three.3 ∙ ap (λ k. three.0 ∷ k ∷ three.2 ∷ []) keep.1 in
-        let numbers = both _ _ (sym (record_text text three.0 three.2 keep.0 are three.4 three.6) ∙ fits) in
-        (three.0, keep.0, three.2, are, numbers.0, numbers.1)
-    by (inr none) = let wrong : Some Shape ≡ None = sym (no_shape record_slots text none) ∙ fits in cc

@@ -1,7 +1,7 @@
 -- Each line has one spelling: what is written is read, and what is read is what is written.
-use Rattle.std.proofs.Common.{◌≡◌, ℕ, ◌+◌, ◌^◌, ◌≤◌, ◌<◌, ◌∙◌, sym, refl, ap, Bool, true, false, ◌&&◌, ◌==◌, List, [], ◌∷◌, ◌++◌, append_assoc, length, arith, decimal, codes, Some, None, inl, inr, ◌⊎◌}
+use Rattle.std.proofs.Common.{◌≡◌, ℕ, zero, suc, ◌^◌, ◌≤◌, ◌<◌, ◌∙◌, sym, refl, ap, subst, Bool, true, false, ◌&&◌, ◌==◌, List, [], ◌∷◌, ◌++◌, append_assoc, length, arith, decimal, codes, Some, None, inl, inr, ◌⊎◌}
 use Rattle.std.specs.Prelude.{nat_le}
-use Rattle.std.specs.Option.{option_or}
+use Rattle.std.specs.Fmt.{digits}
 use Rattle.std.specs.List.{list_any}
 use Rattle.std.specs.Str.{bytes_eq}
 use Rattle.std.proofs.lemmas.Bool.{cases_Bool, and_parts, leb-true, le-leb, or_from}
@@ -9,24 +9,22 @@ use Rattle.std.proofs.lemmas.List.{length-append}
 use Rattle.std.proofs.lemmas.List.Folds.{list_any-append}
 use Rattle.cache_model.specs.declared.objects.Objective.{Objective}
 use Rattle.cache_model.specs.declared.objects.Objective.TheVariants.{Object as Hits, Bytes}
-use Rattle.cache_model.specs.declared.certificates.Record.{Record}
-use Rattle.cache_model.specs.Certificates.{IsRecordInRange}
-use Rattle.cache_model.specs.Texts.{entry, objective_word, form_word, keep_digit, record_line}
+use Rattle.cache_model.specs.declared.version.TheConstants.{CERT_VERSION, SHORT_VERSION}
+use Rattle.cache_model.specs.Texts.{entry, objective_word, form_word}
 use Rattle.cert_format.specs.declared.fault.TextKind.TheVariants.{Number, Range}
-use Rattle.cert_format.specs.Grammar.{Within, words, line_fault, number_line, choice_line, record_slots, number_fault, number_at, number_in, word_at, is_canonical}
-use Rattle.cert_format.specs.Readings.{objective_in, record_in}
-use Rattle.cert_format.proofs.Words.{words-append, words_lone, text_of_two, text_of_three}
-use Rattle.cert_format.proofs.Numbers.{}
-use Rattle.cert_format.proofs.Shapes.{number_text, text_number, text_choice, text_record, record_text, record_of_text}
-use Rattle.cert_format.proofs.Decimals.{keep_text, number_in-decimal, digits-decimal, canonical-decimal, some-decimal, lacks-digits, decimal-number_in, length-decimal}
+use Rattle.cert_format.specs.Grammar.{Within, words, line_fault, number_line, choice_line, number_fault, number_at, number_in, word_at, is_canonical}
+use Rattle.cert_format.specs.Readings.{objective_in, version_in}
+use Rattle.cert_format.proofs.Words.{words-append, words_lone, text_of_two}
+use Rattle.cert_format.proofs.Shapes.{number_text, text_number, text_choice}
+use Rattle.cert_format.proofs.Decimals.{number_in-decimal, digits-decimal, canonical-decimal, some-decimal, lacks-digits, decimal-number_in, length-decimal}
 
 -- a canonical number within its ends has no fault
-fits_range : (low high n : ℕ) → low ≤ n → n ≤ high → n < 10 ^ 64 → number_fault (Within low high) (decimal n) ≡ None
+pub fits_range : (low high n : ℕ) → low ≤ n → n ≤ high → n < 10 ^ 64 → number_fault (Within low high) (decimal n) ≡ None
 fits_range low high n above below small =
     rw (canonical-decimal n small, number_in-decimal n small, le-leb low n above, le-leb n high below) refl
 
 -- a number without a fault is canonical, and within its ends
-range_fits : (low high : ℕ) (word : List ℕ) → number_fault (Within low high) word ≡ None → (is_canonical word ≡ true) × (low ≤ number_in word) × (number_in word ≤ high)
+pub range_fits : (low high : ℕ) (word : List ℕ) → number_fault (Within low high) word ≡ None → (is_canonical word ≡ true) × (low ≤ number_in word) × (number_in word ≤ high)
 range_fits low high word fits = by (cases_Bool (is_canonical word)) (cases_Bool (nat_le low (number_in word) && nat_le (number_in word) high))
   where
     by : (is_canonical word ≡ true) ⊎ (is_canonical word ≡ false) → ((nat_le low (number_in word) && nat_le (number_in word) high) ≡ true) ⊎ ((nat_le low (number_in word) && nat_le (number_in word) high) ≡ false)
@@ -37,10 +35,10 @@ range_fits low high word fits = by (cases_Bool (is_canonical word)) (cases_Bool 
         (canonical, leb-true low (number_in word) ends.0, leb-true (number_in word) high ends.1)
     by (inl canonical) (inr outside) = let wrong : Some Range ≡ None = rw (canonical, outside) at fits in cc
 
-words-decimal : (n : ℕ) → n < 10 ^ 64 → words (decimal n) ≡ decimal n ∷ []
+pub words-decimal : (n : ℕ) → n < 10 ^ 64 → words (decimal n) ≡ decimal n ∷ []
 words-decimal n small = words_lone (decimal n) (lacks-digits 32 (decimal n) (omega arith) (digits-decimal n small))
 
-space_between : (a b : List ℕ) → (a ++ 32 ∷ []) ++ b ≡ a ++ 32 ∷ b
+pub space_between : (a b : List ℕ) → (a ++ 32 ∷ []) ++ b ≡ a ++ 32 ∷ b
 space_between a b = append_assoc a (32 ∷ []) b
 
 words-entry : (name : List ℕ) (n : ℕ) → words name ≡ name ∷ [] → n < 10 ^ 64 → words (entry name n) ≡ name ∷ decimal n ∷ []
@@ -72,6 +70,33 @@ pub objective_fits : (o : Objective) → (line_fault (choice_line (codes "object
 objective_fits Hits = (refl, refl)
 objective_fits Bytes = (refl, refl)
 
+-- the first line
+pub version_fits : (n : ℕ) → CERT_VERSION ≤ n → n ≤ SHORT_VERSION
+    → (line_fault (choice_line (codes "cache-bound-certificate") (codes "1") (codes "2")) (entry (codes "cache-bound-certificate") n) ≡ None) × (version_in (entry (codes "cache-bound-certificate") n) ≡ n)
+unfolding digits
+version_fits zero some few = absurd (omega arith)
+version_fits (suc zero) some few = (refl, refl)
+version_fits (suc (suc zero)) some few = (refl, refl)
+version_fits (suc (suc (suc n))) some few = absurd (omega arith)
+
+pub version_spelled : (text : List ℕ) → line_fault (choice_line (codes "cache-bound-certificate") (codes "1") (codes "2")) text ≡ None
+    → (text ≡ entry (codes "cache-bound-certificate") (version_in text)) × (CERT_VERSION ≤ version_in text) × (version_in text ≤ SHORT_VERSION)
+unfolding digits
+version_spelled text fits =
+    let parts = text_choice (codes "cache-bound-certificate") (codes "1") (codes "2") text fits in
+    by parts.0 (text_of_two text (codes "cache-bound-certificate") parts.0 parts.1) parts.2
+  where
+    Spelled : List ℕ → Type 0
+    Spelled t = (t ≡ entry (codes "cache-bound-certificate") (version_in t)) × (CERT_VERSION ≤ version_in t) × (version_in t ≤ SHORT_VERSION)
+
+    by : (word : List ℕ) → text ≡ codes "cache-bound-certificate" ++ 32 ∷ word → (word ≡ codes "1") ⊎ (word ≡ codes "2") → Spelled text
+    by word is (inl one) =
+        let all : text ≡ codes "cache-bound-certificate 1" = is ∙ ap (λ w. codes "cache-bound-certificate" ++ 32 ∷ w) one in
+        subst Spelled (sym all) (refl, omega arith, omega arith)
+    by word is (inr other) =
+        let all : text ≡ codes "cache-bound-certificate 2" = is ∙ ap (λ w. codes "cache-bound-certificate" ++ 32 ∷ w) other in
+        subst Spelled (sym all) (refl, omega arith, omega arith)
+
 pub form_fits : (exact : Bool) → (line_fault (choice_line (codes "form") (codes "exact") (codes "plain")) (codes "form " ++ form_word exact) ≡ None)
     × (bytes_eq (word_at 1 (codes "form " ++ form_word exact)) (codes "exact") ≡ exact)
 form_fits true = (refl, refl)
@@ -95,59 +120,11 @@ form_spelled text fits =
     by word is (inl one) = let all : text ≡ codes "form exact" = is ∙ ap (λ w. codes "form" ++ 32 ∷ w) one in all ∙ ap (λ t. codes "form " ++ form_word (bytes_eq (word_at 1 t) (codes "exact"))) (sym all)
     by word is (inr other) = let all : text ≡ codes "form plain" = is ∙ ap (λ w. codes "form" ++ 32 ∷ w) other in all ∙ ap (λ t. codes "form " ++ form_word (bytes_eq (word_at 1 t) (codes "exact"))) (sym all)
 
-keep_lone : (keep : Bool) → words ((48 + keep_digit keep) ∷ []) ≡ ((48 + keep_digit keep) ∷ []) ∷ []
-keep_lone true = refl
-keep_lone false = refl
-
-record_words_of : (p f : List ℕ) (keep : Bool) → words p ≡ p ∷ [] → words f ≡ f ∷ [] → words (p ++ 32 ∷ (((48 + keep_digit keep) ∷ []) ++ 32 ∷ f)) ≡ p ∷ ((48 + keep_digit keep) ∷ []) ∷ f ∷ []
-record_words_of p f keep lone last =
-    words-append p (((48 + keep_digit keep) ∷ []) ++ 32 ∷ f)
-    ∙ (ap (λ ps. ps ++ words (((48 + keep_digit keep) ∷ []) ++ 32 ∷ f)) lone
-    ∙ ap (λ ps. p ∷ ps) (words-append ((48 + keep_digit keep) ∷ []) f ∙ (ap (λ ps. ps ++ words f) (keep_lone keep) ∙ ap (λ ps. ((48 + keep_digit keep) ∷ []) ∷ ps) last)))
-
-two_spaces : (a b d : List ℕ) → ((((a ++ 32 ∷ []) ++ b) ++ 32 ∷ []) ++ d) ≡ a ++ 32 ∷ (b ++ 32 ∷ d)
-two_spaces a b d = simp append_assoc
-
-record_line_is : (r : Record) → record_line r ≡ decimal r.price ++ 32 ∷ (((48 + keep_digit r.keep) ∷ []) ++ 32 ∷ decimal r.flow)
-record_line_is r = two_spaces (decimal r.price) (decimal (keep_digit r.keep)) (decimal r.flow) ∙ ap (λ k. decimal r.price ++ 32 ∷ (k ++ 32 ∷ decimal r.flow)) (keep_text r.keep)
-
--- the line of a record
-pub record_fits : (r : Record) → IsRecordInRange r → (line_fault record_slots (record_line r) ≡ None) × (record_in (record_line r) ≡ r)
-record_fits r range =
-    let price : r.price < 10 ^ 64 = omega (arith, range.price) in
-    let flow : r.flow < 10 ^ 64 = omega (arith, range.flow) in
-    let are : words (record_line r) ≡ decimal r.price ∷ ((48 + keep_digit r.keep) ∷ []) ∷ decimal r.flow ∷ []
-    = ap words (record_line_is r) ∙ record_words_of (decimal r.price) (decimal r.flow) r.keep (words-decimal r.price price) (words-decimal r.flow flow) in
-    let read = record_text (record_line r) (decimal r.price) (decimal r.flow) r.keep are (some-decimal r.price price) (some-decimal r.flow flow) in
-    let fits = ap (λ o. option_or o (number_fault (Within 0 (2 ^ 48)) (decimal r.flow))) (fits_range 0 (2 ^ 126) r.price (omega arith) range.price price) ∙ fits_range 0 (2 ^ 48) r.flow (omega arith) range.flow flow in
-    (read ∙ fits, record_of_text (record_line r) (decimal r.price) (decimal r.flow) r.keep are ∙ same (number_in-decimal r.price price) (number_in-decimal r.flow flow))
-  where
-    record_from : ℕ → ℕ → Record
-    record_from p f = record { price = p; keep = r.keep; flow = f }
-
-    same : {p f : ℕ} → p ≡ r.price → f ≡ r.flow → record_from p f ≡ record_from r.price r.flow
-    same {p} {f} e d = ap (λ q. record_from q f) e ∙ ap (record_from r.price) d
-
-pub record_spelled : (text : List ℕ) → line_fault record_slots text ≡ None → IsRecordInRange (record_in text) × (text ≡ record_line (record_in text))
-record_spelled text fits =
-    let parts = text_record text fits in
-    let price = range_fits 0 (2 ^ 126) parts.0 parts.4 in
-    let flow = range_fits 0 (2 ^ 48) parts.2 parts.5 in
-    let is = record_of_text text parts.0 parts.2 parts.1 parts.3 in
-    let first : decimal (number_in parts.0) ≡ parts.0 = decimal-number_in parts.0 price.0 (omega (arith, price.2)) in
-    let last : decimal (number_in parts.2) ≡ parts.2 = decimal-number_in parts.2 flow.0 (omega (arith, flow.2)) in (
-      record { price = omega (arith, ap (λ (r : Record). r.price) is, price.2); flow = omega (arith, ap (λ (r : Record). r.flow) is, flow.2) },
-      text_of_three text parts.0 ((48 + keep_digit parts.1) ∷ []) parts.2 parts.3
-          ∙ (ap (λ p. p ++ 32 ∷ (((48 + keep_digit parts.1) ∷ []) ++ 32 ∷ parts.2)) (sym first)
-          ∙ (ap (λ f. decimal (number_in parts.0) ++ 32 ∷ (((48 + keep_digit parts.1) ∷ []) ++ 32 ∷ f)) (sym last)
-          ∙ (sym (record_line_is (record { price = number_in parts.0; keep = parts.1; flow = number_in parts.2 })) ∙ ap record_line (sym is)))),
-    )
-
 -- no line has an LF, and each has few bytes
 abbrev pub IsLine : List ℕ → Type 0
 IsLine text = (list_any (λ b. b == 10) text ≡ false) × (length text ≤ 63)
 
-both_lack : (a b : List ℕ) → list_any (λ x. x == 10) a ≡ false → list_any (λ x. x == 10) b ≡ false → list_any (λ x. x == 10) (a ++ b) ≡ false
+pub both_lack : (a b : List ℕ) → list_any (λ x. x == 10) a ≡ false → list_any (λ x. x == 10) b ≡ false → list_any (λ x. x == 10) (a ++ b) ≡ false
 both_lack a b la lb = list_any-append (λ x. x == 10) a b ∙ or_from _ _ la lb
 
 pub entry_line : (name : List ℕ) (n : ℕ) → list_any (λ b. b == 10) name ≡ false → length name ≤ 23 → n < 2 ^ 127 → IsLine (entry name n)
@@ -157,6 +134,9 @@ entry_line name n lacks short small =
       omega (arith, length-append (name ++ codes " ") (decimal n), length-append name (codes " "), length-decimal 39 n (omega arith) (omega arith) (omega arith), short),
     )
 
+pub version_line : (n : ℕ) → n ≤ SHORT_VERSION → IsLine (entry (codes "cache-bound-certificate") n)
+version_line n small = entry_line (codes "cache-bound-certificate") n refl (omega arith) (omega arith)
+
 pub objective_line : (o : Objective) → IsLine (codes "objective " ++ objective_word o)
 objective_line Hits = (refl, omega arith)
 objective_line Bytes = (refl, omega arith)
@@ -164,22 +144,3 @@ objective_line Bytes = (refl, omega arith)
 pub form_line : (exact : Bool) → IsLine (codes "form " ++ form_word exact)
 form_line true = (refl, omega arith)
 form_line false = (refl, omega arith)
-
-keep_one : (keep : Bool) → IsLine ((48 + keep_digit keep) ∷ [])
-keep_one true = (refl, omega arith)
-keep_one false = (refl, omega arith)
-
-pub record_is_line : (r : Record) → IsRecordInRange r → IsLine (record_line r)
-record_is_line r range =
-    let price : list_any (λ b. b == 10) (decimal r.price) ≡ false = lacks-digits 10 (decimal r.price) (omega arith) (digits-decimal r.price (omega (arith, range.price))) in
-    let flow : list_any (λ b. b == 10) (decimal r.flow) ≡ false = lacks-digits 10 (decimal r.flow) (omega arith) (digits-decimal r.flow (omega (arith, range.flow))) in
-    let rest = both_lack ((48 + keep_digit r.keep) ∷ []) (32 ∷ decimal r.flow) (keep_one r.keep).0 flow in (
-      ap (list_any (λ b. b == 10)) (record_line_is r) ∙ both_lack (decimal r.price) (32 ∷ (((48 + keep_digit r.keep) ∷ []) ++ 32 ∷ decimal r.flow)) price rest,
-      omega (
-        arith,
-        ap length (record_line_is r),
-        length-append (decimal r.price) (32 ∷ (((48 + keep_digit r.keep) ∷ []) ++ 32 ∷ decimal r.flow)),
-        length-decimal 38 r.price (omega arith) (omega (arith, range.price)) (omega (arith, range.price)),
-        length-decimal 15 r.flow (omega arith) (omega (arith, range.flow)) (omega (arith, range.flow)),
-      ),
-    )

@@ -104,13 +104,17 @@ pub same_taken : (at : Position) (left : Option (List ℕ)) → IsTaken at at le
 same_taken at None = tt
 same_taken at (Some bytes) = refl
 
+-- the fault of the first line of these bytes, which is line n, if its places depend on its text
+abbrev line_fault_of : ℕ → (List ℕ → List Slot) → List ℕ → Option CertFault
+line_fault_of n slots_of bytes = first_fault n (slots_of (first_text bytes)) bytes
+
 -- no line is read: the input ends, the line is too long, or a read failed
-module _ {A : Type 0} (slots : List Slot) (value : List ℕ → A) (old new : Position) (source : Device) (limit : old.limit ≡ 2 ^ 36) (few : old.line < 2 ^ 26) (loses : LosesPrefix source.before source.after) (later : source.faults_before ≤ source.faults_after) where
+module _ {A : Type 0} (slots_of : List ℕ → List Slot) (value : List ℕ → A) (old new : Position) (source : Device) (limit : old.limit ≡ 2 ^ 36) (few : old.line < 2 ^ 26) (loses : LosesPrefix source.before source.after) (later : source.faults_before ≤ source.faults_after) where
   abbrev Stopped : CertFault → Type 0
-  Stopped fault = Reads (first_fault (old.line + 1) slots) 1 value old new source (Err fault)
+  Stopped fault = Reads (line_fault_of (old.line + 1) slots_of) 1 value old new source (Err fault)
 
   -- from its parts
-  stops : (fault : CertFault) → (new.limit ≡ old.limit) → (length new.held ≤ 65536) → IsStopped (first_fault (old.line + 1) slots) (known old source.before) source fault → IsWithin new.line fault → IfSome (known old source.before) (IsPast old new) → IsTaken old new source.before source.after → Stopped fault
+  stops : (fault : CertFault) → (new.limit ≡ old.limit) → (length new.held ≤ 65536) → IsStopped (line_fault_of (old.line + 1) slots_of) (known old source.before) source fault → IsWithin new.line fault → IfSome (known old source.before) (IsPast old new) → IsTaken old new source.before source.after → Stopped fault
   stops fault same held stopped within past taken = record { limit = same; held = held; given = tt; passes = tt; value_is = tt; stopped = stopped; within = within; past = past; taken = taken; loses = loses; later = later }
 
   -- the bytes that the reader of lines stands in are known too
@@ -120,7 +124,7 @@ module _ {A : Type 0} (slots : List Slot) (value : List ℕ → A) (old new : Po
   stop_unended : (text : List ℕ) → length text ≤ 65535 → GivesLine old new (stands_in old.held source.before) (stands_in new.held source.after) → length new.held ≤ 65536
       → IfSome (stands_in old.held source.before) (λ bytes. (text ≡ bytes) × (text_len bytes ≡ length bytes) × (0 < length bytes)) → Stopped (Truncated (old.line + 1))
   stop_unended text short gives held is = stops (Truncated (old.line + 1)) gives.limit held
-      (if_known (known old source.before) _ (λ bytes e. let whole = in_known _ is bytes e in (cut_line (old.line + 1) slots bytes (omega (arith, whole.1)) (omega (arith, whole.1, ap length whole.0, short)))))
+      (if_known (known old source.before) _ (λ bytes e. let whole = in_known _ is bytes e in (cut_line (old.line + 1) (slots_of (first_text bytes)) bytes (omega (arith, whole.1)) (omega (arith, whole.1, ap length whole.0, short)))))
       (omega (arith, gives.line)) (if_known (known old source.before) _ (λ bytes e. one_past old new bytes gives.line (in_known _ gives.consumed bytes e))) (line_taken old new source.before source.after gives)
 
   stop_end : GivesNone old new (stands_in old.held source.before) (stands_in new.held source.after) → length new.held ≤ 65536 → IfSome (stands_in old.held source.before) (λ bytes. bytes ≡ []) → Stopped (Truncated (old.line + 1))
@@ -129,13 +133,13 @@ module _ {A : Type 0} (slots : List Slot) (value : List ℕ → A) (old new : Po
       (omega (arith, ap (λ p. p.line) gives.still)) (if_known (known old source.before) _ (λ bytes e. kept_past old new bytes (ap (λ p. p.line) gives.still) (ap (λ p. p.consumed) gives.still)))
       (held_taken old new source.before source.after (ap (λ p. p.consumed) gives.still) gives.rest)
 
-  stop_fault : (given : LineFault) (fault : CertFault) → Stops old new (stands_in old.held source.before) (stands_in new.held source.after) given → length new.held ≤ 65536 → IsStopped (first_fault (old.line + 1) slots) (known old source.before) source fault → IsWithin old.line fault → Stopped fault
+  stop_fault : (given : LineFault) (fault : CertFault) → Stops old new (stands_in old.held source.before) (stands_in new.held source.after) given → length new.held ≤ 65536 → IsStopped (line_fault_of (old.line + 1) slots_of) (known old source.before) source fault → IsWithin old.line fault → Stopped fault
   stop_fault given fault stop held why within = stops fault (ap (λ p. p.limit) stop.still) held why (rw (ap (λ p. p.line) stop.still) within)
       (if_known (known old source.before) _ (λ bytes e. kept_past old new bytes (ap (λ p. p.line) stop.still) (ap (λ p. p.consumed) stop.still)))
       (held_taken old new source.before source.after (ap (λ p. p.consumed) stop.still) stop.rest)
 
   -- a certificate doesn't pass the limit
-  not_past : IfSome (stands_in old.held source.before) (λ bytes. (text_len bytes ≤ 65535) × (old.limit < old.consumed + length (first_line bytes))) → IsStopped (first_fault (old.line + 1) slots) (known old source.before) source (BadText (old.line + 1) TooLong)
+  not_past : IfSome (stands_in old.held source.before) (λ bytes. (text_len bytes ≤ 65535) × (old.limit < old.consumed + length (first_line bytes))) → IsStopped (line_fault_of (old.line + 1) slots_of) (known old source.before) source (BadText (old.line + 1) TooLong)
   not_past past = if_known (known old source.before) _ (λ bytes e.
       let some = known_some old source.before bytes e in
       let wrong = in_known _ past bytes e in
@@ -155,21 +159,21 @@ module _ {A : Type 0} (slots : List Slot) (value : List ℕ → A) (old new : Po
   stop_line (Err (line.LineTooLong m)) fault gave is =
       let same : BadText (old.line + 1) TooLong ≡ fault = cc in
       subst Stopped same (stop_fault (line.LineTooLong m) (BadText (old.line + 1) TooLong) gave.next gave.held
-      (if_known (known old source.before) _ (λ bytes e. long_line (old.line + 1) slots bytes (in_known _ gave.refused.1 bytes e))) (omega arith))
+      (if_known (known old source.before) _ (λ bytes e. long_line (old.line + 1) (slots_of (first_text bytes)) bytes (in_known _ gave.refused.1 bytes e))) (omega arith))
   stop_line (Err line.InputTooLong) fault gave is =
       let same : BadText (old.line + 1) TooLong ≡ fault = cc in
       subst Stopped same (stop_fault line.InputTooLong (BadText (old.line + 1) TooLong) gave.next gave.held (not_past gave.refused) (omega arith))
 
 -- a whole line is read: its text has this fault, or this value
-module _ {A : Type 0} (slots : List Slot) (value : List ℕ → A) (old new : Position) (source : Device) (text : List ℕ) (short : line_fault slots text ≡ None → length text ≤ 63) (loses : LosesPrefix source.before source.after) (later : source.faults_before ≤ source.faults_after) where
+module _ {A : Type 0} (slots_of : List ℕ → List Slot) (value : List ℕ → A) (old new : Position) (source : Device) (text : List ℕ) (short : line_fault (slots_of text) text ≡ None → length text ≤ 63) (loses : LosesPrefix source.before source.after) (later : source.faults_before ≤ source.faults_after) where
   abbrev Read : Result A CertFault → Type 0
-  Read result = Reads (first_fault (old.line + 1) slots) 1 (λ bytes. value (first_text bytes)) old new source result
+  Read result = Reads (line_fault_of (old.line + 1) slots_of) 1 (λ bytes. value (first_text bytes)) old new source result
 
   -- the first line of the bytes that are known is this text
   abbrev IsFirst : List ℕ → Type 0
   IsFirst bytes = (text ≡ first_text bytes) × (text_len bytes < length bytes)
 
-  read_whole : (o : Option TextKind) → line_fault slots text ≡ o → GivesLine old new (stands_in old.held source.before) (stands_in new.held source.after) → length new.held ≤ 65536 → length text ≤ 65535 → IfSome (stands_in old.held source.before) IsFirst
+  read_whole : (o : Option TextKind) → line_fault (slots_of text) text ≡ o → GivesLine old new (stands_in old.held source.before) (stands_in new.held source.after) → length new.held ≤ 65536 → length text ≤ 65535 → IfSome (stands_in old.held source.before) IsFirst
       → Read (of_line (old.line + 1) (value_unless o (value text)))
   read_whole None fits gives held long is = record {
     limit = gives.limit;
@@ -181,7 +185,7 @@ module _ {A : Type 0} (slots : List Slot) (value : List ℕ → A) (old new : Po
         let consumed = at_some (stands_in old.held source.before) bytes _ some.1 gives.consumed in
         let rest = at_some (stands_in old.held source.before) bytes _ some.1 gives.rest in
         let size = ap length first.0 ∙ length-first_text bytes in
-        let fault : first_fault (old.line + 1) slots bytes ≡ None = whole_line (old.line + 1) slots bytes first.1 (omega (arith, size, long)) ∙ ap (option_map (in_line (old.line + 1))) (ap (line_fault slots) (sym first.0) ∙ fits) in
+        let fault : line_fault_of (old.line + 1) slots_of bytes ≡ None = whole_line (old.line + 1) (slots_of (first_text bytes)) bytes first.1 (omega (arith, size, long)) ∙ ap (option_map (in_line (old.line + 1))) (ap (λ t. line_fault (slots_of t) t) (sym first.0) ∙ fits) in
         record {
           none = fault;
           rest = known_all new source.after (omega (arith, consumed, some.0, gives.line, size, short fits, length-take (text_len bytes + 1) bytes)) ∙ (rest ∙ ap (λ b. Some b) (sym (after_lines-one bytes)));
@@ -203,7 +207,7 @@ module _ {A : Type 0} (slots : List Slot) (value : List ℕ → A) (old new : Po
     stopped = if_known (known old source.before) _ (λ bytes e.
         let first = at_some (stands_in old.held source.before) bytes IsFirst (known_some old source.before bytes e).1 is in
         let size = ap length first.0 ∙ length-first_text bytes in
-        whole_line (old.line + 1) slots bytes first.1 (omega (arith, size, long)) ∙ ap (option_map (in_line (old.line + 1))) (ap (line_fault slots) (sym first.0) ∙ fault));
+        whole_line (old.line + 1) (slots_of (first_text bytes)) bytes first.1 (omega (arith, size, long)) ∙ ap (option_map (in_line (old.line + 1))) (ap (λ t. line_fault (slots_of t) t) (sym first.0) ∙ fault));
     within = omega (arith, gives.line);
     past = if_known (known old source.before) _ (λ bytes e. one_past old new bytes gives.line (at_some (stands_in old.held source.before) bytes _ (known_some old source.before bytes e).1 gives.consumed));
     taken = line_taken old new source.before source.after gives;
@@ -211,10 +215,10 @@ module _ {A : Type 0} (slots : List Slot) (value : List ℕ → A) (old new : Po
     later = later;
   }
 
-  pub read_line : (r : Result WholeLine LineFault) → Gave old new source r → text_given (old.line + 1) r ≡ Ok text → Read (of_line (old.line + 1) (value_unless (line_fault slots text) (value text)))
+  pub read_line : (r : Result WholeLine LineFault) → Gave old new source r → text_given (old.line + 1) r ≡ Ok text → Read (of_line (old.line + 1) (value_unless (line_fault (slots_of text) text) (value text)))
   read_line (Ok (Whole whole)) gave is =
       let same : whole.now ≡ text = cc in
-      read_whole (line_fault slots text) refl gave.next gave.held (omega (arith, gave.short, ap length same)) (subst (λ t. IfSome (stands_in old.held source.before) (λ bytes. (t ≡ first_text bytes) × (text_len bytes < length bytes))) same gave.line)
+      read_whole (line_fault (slots_of text) text) refl gave.next gave.held (omega (arith, gave.short, ap length same)) (subst (λ t. IfSome (stands_in old.held source.before) (λ bytes. (t ≡ first_text bytes) × (text_len bytes < length bytes))) same gave.line)
   read_line (Ok (Unended cut)) gave is = absurd (no_fault text (Truncated (old.line + 1)) is)
   read_line (Ok AtEnd) gave is = absurd (no_fault text (Truncated (old.line + 1)) is)
   read_line (Err line.ReadFault) gave is = absurd (no_fault text ReadFault is)

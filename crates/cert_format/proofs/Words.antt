@@ -3,7 +3,7 @@ use Rattle.std.proofs.Common.{◌≡◌, ℕ, suc, ◌+◌, ◌≤◌, ◌<◌, 
 use Rattle.std.specs.Prelude.{position, IsTrue}
 use Rattle.std.specs.Option.{is_some}
 use Rattle.std.specs.List.{onto_first, join_with_byte, list_any, position_or_len}
-use Rattle.std.proofs.lemmas.Bool.{true≢false, or_from, or_parts, cases_lt, lt-ltb, le-ltb}
+use Rattle.std.proofs.lemmas.Bool.{ne_eqb, true≢false, or_from, or_parts, cases_lt, lt-ltb, le-ltb}
 use Rattle.std.proofs.lemmas.List.{length-append}
 use Rattle.std.proofs.lemmas.List.Splits.{slice_split-cons_yes, slice_split-cons_no, slice_split_first, join_with_byte-slice_split, length-slice_split}
 use Rattle.std.proofs.lemmas.List.Quantifiers.{position-Some}
@@ -159,3 +159,8 @@ no_word_after text first name rest word cut none are =
     by : 0 < length word ⊎ length word ≤ 0 → words rest ≡ rest ∷ [] → rest ≡ word → length word ≡ 0
     by (inl some) lone same = absurd (none (lone, omega (arith, some, ap length same)))
     by (inr empty) lone same = omega (arith, empty)
+
+-- where the text after the first word is cut again, there are more than two words
+pub three_words : (text first rest : List ℕ) (place : ℕ) → words text ≡ first ∷ words rest → position is_space rest ≡ Some place → (length (words text) == 2) ≡ false
+three_words text first rest place are found =
+    ne_eqb (length (words text)) 2 (λ two. omega (arith, two, ap length are, ap length (cut_words rest place found), length-words (drop (place + 1) rest)))

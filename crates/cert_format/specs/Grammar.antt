@@ -6,14 +6,15 @@ use Rattle.std.specs.List.{list_any, list_all, slice_split}
 use Rattle.std.specs.Char.{is_ascii_digit}
 use Rattle.std.specs.Str.{bytes_eq}
 use Rattle.bound_base.specs.Digits.{value_after}
-use Rattle.cache_model.specs.Texts.{first_line}
+use Rattle.cache_model.specs.declared.version.TheConstants.{SHORT_VERSION}
 use Rattle.cert_format.specs.declared.fault.TextKind.{TextKind}
 use Rattle.cert_format.specs.declared.fault.TextKind.TheVariants.{Shape, Number, Range}
 
--- a place of a line, which has one of these words, or a number from low to high
+-- a place of a line, which has one of these words, or a number from low to high, or one from low to high that is not n
 pub data Slot : Type 0 where
   OneOf : List (List ℕ) → Slot
   Within : ℕ → ℕ → Slot
+  WithinBut : ℕ → ℕ → ℕ → Slot
 
 -- the words of a line: what stands between its spaces, which may be empty
 abbrev pub words : List ℕ → List (List ℕ)
@@ -48,18 +49,39 @@ value_slots =
     ∷ number_line (codes "lower") 0 (2 ^ 127 - 1)
     ∷ []
 
--- the lines before the records, where the third states this capacity
-abbrev pub header_slots : ℕ → List (List Slot)
-header_slots capacity =
-    fixed_line first_line
+-- the last lines before the records: that of the warm-up, where there is one, and one of a fixed word
+abbrev pub last_slots : Bool → List (List Slot)
+last_slots true = number_line (codes "warmup") 1 (2 ^ 25) ∷ fixed_line (codes "records") ∷ []
+last_slots false = fixed_line (codes "records") ∷ []
+
+-- the lines before the records, where the third states this capacity, and the eleventh a warm-up or none
+abbrev pub header_slots : ℕ → Bool → List (List Slot)
+header_slots capacity warm =
+    choice_line (codes "cache-bound-certificate") (codes "1") (codes "2")
     ∷ choice_line (codes "objective") (codes "object") (codes "bytes")
     ∷ (count_slots capacity
     ++ choice_line (codes "form") (codes "exact") (codes "plain")
-    ∷ (value_slots ++ fixed_line (codes "records") ∷ []))
+    ∷ (value_slots ++ last_slots warm))
+
+-- keep and flow
+abbrev pub short_slots : List Slot
+short_slots = OneOf (codes "0" ∷ codes "1" ∷ []) ∷ Within 0 (2 ^ 48) ∷ []
 
 -- price, keep and flow
-abbrev pub record_slots : List Slot
-record_slots = Within 0 (2 ^ 126) ∷ OneOf (codes "0" ∷ codes "1" ∷ []) ∷ Within 0 (2 ^ 48) ∷ []
+abbrev pub full_slots : Slot → List Slot
+full_slots price = price ∷ short_slots
+
+-- the place of a price after the price `before`: the second version states no price that is equal to it
+abbrev pub price_slot : ℕ → ℕ → Slot
+price_slot version before = if version == SHORT_VERSION then WithinBut 0 (2 ^ 126) before else Within 0 (2 ^ 126)
+
+-- the line of a record states no price: it has two words, in the second version
+abbrev pub is_short : ℕ → List ℕ → Bool
+is_short version text = (version == SHORT_VERSION) && (length (words text) == 2)
+
+-- the places of the line of a record after one of the price `before`
+abbrev pub record_slots : ℕ → ℕ → List ℕ → List Slot
+record_slots version before text = if is_short version text then short_slots else full_slots (price_slot version before)
 
 -- the line after the records
 abbrev pub end_slots : List Slot
@@ -69,6 +91,7 @@ end_slots = fixed_line (codes "end")
 abbrev pub can_stand : Slot → List ℕ → Bool
 can_stand (OneOf known) word = list_any (bytes_eq word) known
 can_stand (Within low high) word = not (length word == 0)
+can_stand (WithinBut low high n) word = not (length word == 0)
 
 -- there are as many words as places, and each may stand in its place
 abbrev pub has_shape : List Slot → List (List ℕ) → Bool
@@ -85,12 +108,17 @@ is_canonical word = list_all is_ascii_digit word && ((length word == 1) || nat_l
 abbrev pub number_in : List ℕ → ℕ
 number_in word = value_after 0 word
 
+-- what is wrong with a word that should write a number from low to high
+abbrev pub range_fault : ℕ → ℕ → List ℕ → Option TextKind
+range_fault low high word =
+    if not (is_canonical word) then Some Number
+    else (if nat_le low (number_in word) && nat_le (number_in word) high then None else Some Range)
+
 -- what is wrong with the number of a word
 abbrev pub number_fault : Slot → List ℕ → Option TextKind
 number_fault (OneOf known) word = None
-number_fault (Within low high) word =
-    if not (is_canonical word) then Some Number
-    else (if nat_le low (number_in word) && nat_le (number_in word) high then None else Some Range)
+number_fault (Within low high) word = range_fault low high word
+number_fault (WithinBut low high n) word = option_or (range_fault low high word) (if number_in word == n then Some Range else None)
 
 -- the first of these words whose number is wrong
 abbrev pub first_number_fault : List Slot → List (List ℕ) → Option TextKind
@@ -98,9 +126,13 @@ first_number_fault [] others = None
 first_number_fault (slot ∷ slots) [] = None
 first_number_fault (slot ∷ slots) (word ∷ others) = option_or (number_fault slot word) (first_number_fault slots others)
 
--- what is wrong with the text of a line: its shape before its numbers, and those from left to right
+-- what is wrong with the words of a line: their shape before their numbers, and those from left to right
+abbrev pub words_fault : List Slot → List (List ℕ) → Option TextKind
+words_fault slots given = if has_shape slots given then first_number_fault slots given else Some Shape
+
+-- what is wrong with the text of a line
 abbrev pub line_fault : List Slot → List ℕ → Option TextKind
-line_fault slots text = if has_shape slots (words text) then first_number_fault slots (words text) else Some Shape
+line_fault slots text = words_fault slots (words text)
 
 -- a word of a line, of which the first is 0
 abbrev pub word_at : ℕ → List ℕ → List ℕ

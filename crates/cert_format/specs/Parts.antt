@@ -1,9 +1,13 @@
 -- The parts of a header that are read one after another.
-use Rattle.std.specs.Prelude.{ℕ, ◌^◌, ◌<◌, ◌≤◌, List}
+use Rattle.std.specs.Prelude.{ℕ, ◌^◌, ◌<◌, ◌≤◌, List, length, if◌then◌else◌, codes, Result, Ok, Err}
+use Rattle.std.specs.declared.option.Option.{Option}
 use Rattle.cert_format.specs.declared.header.Counts.{Counts}
 use Rattle.cert_format.specs.declared.header.Values.{Values}
-use Rattle.cert_format.specs.Grammar.{number_at}
-use Rattle.cert_format.specs.Readings.{line_text}
+use Rattle.bound_io.specs.Lines.{first_text}
+use Rattle.cache_model.specs.Texts.{last_lines}
+use Rattle.cert_format.specs.declared.fault.CertFault.{CertFault}
+use Rattle.cert_format.specs.Grammar.{Slot, fixed_line, last_slots, number_at, number_line}
+use Rattle.cert_format.specs.Readings.{first_fault, is_warmup, line_text, lines_fault}
 
 -- the counts that four lines state
 abbrev pub counts_in : List ℕ → Counts
@@ -25,3 +29,20 @@ pub record IsValuesInRange (values : Values) : Type 0 where
   pub upper : values.upper < 2 ^ 127
   pub flow : values.flow < 2 ^ 127
   pub lower : values.lower < 2 ^ 127
+
+-- the places of the line where a warm-up would stand
+abbrev pub warmup_slots : List ℕ → List Slot
+warmup_slots text = if is_warmup text then number_line (codes "warmup") 1 (2 ^ 25) else fixed_line (codes "records")
+
+-- the fault of that line, which is line n
+abbrev pub warmup_fault : ℕ → List ℕ → Option CertFault
+warmup_fault n bytes = first_fault n (warmup_slots (first_text bytes)) bytes
+
+-- the first fault of the last lines before the records, from line n on
+abbrev pub last_fault : ℕ → List ℕ → Option CertFault
+last_fault n bytes = lines_fault n (last_slots (is_warmup (first_text bytes))) bytes
+
+-- how many lines those are, by the warm-up that was read
+abbrev pub last_len : Result ℕ CertFault → ℕ
+last_len (Ok warmup) = length (last_lines warmup)
+last_len (Err fault) = 0

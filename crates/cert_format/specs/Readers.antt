@@ -5,6 +5,7 @@ use Rattle.bound_io.specs.Devices.{Device, HasFailed}
 use Rattle.bound_io.specs.Positions.{Position}
 use Rattle.cache_model.specs.declared.certificates.Header.{Header}
 use Rattle.cache_model.specs.declared.certificates.Record.{Record}
+use Rattle.cache_model.specs.declared.version.TheConstants.{CERT_VERSION}
 use Rattle.cache_model.specs.Texts.{header_len, header_lines, line, record_line, text_of}
 use Rattle.cert_format.specs.declared.fault.CertFault.{CertFault}
 use Rattle.cert_format.specs.declared.fault.CertFault.TheVariants.{BadText, Truncated, Trailing, ReadFault}
@@ -13,26 +14,28 @@ use Rattle.cert_format.specs.declared.reader.Stage.TheVariants.{AtHeader, InReco
 use Rattle.cert_format.specs.Readings.{Reading, reading, read_records, stopped, trailing, onto, under, after_lines}
 use Rattle.cert_format.specs.Lines.{known}
 
--- where a reader of a certificate stands: its lines, what it reads next, how many records are left, and the fault that was answered
+-- where a reader of a certificate stands: its lines, what it reads next, how many records are left, the version, the price of the last record, and the fault that was answered
 pub record Reader : Type 0 where
   pub lines : Position
   pub stage : Stage
   pub left : ℕ
+  pub version : ℕ
+  pub price : ℕ
   pub fault : Option CertFault
 
 -- a reader that has read nothing
 abbrev pub fresh : Reader
-fresh = record { lines = record { limit = 2 ^ 36; consumed = 0; line = 0; held = []; fault = None }; stage = AtHeader; left = 0; fault = None }
+fresh = record { lines = record { limit = 2 ^ 36; consumed = 0; line = 0; held = []; fault = None }; stage = AtHeader; left = 0; version = CERT_VERSION; price = 0; fault = None }
 
--- what is to come after this number of lines, by what is read next and how many records are left
-abbrev pub coming : Stage → ℕ → ℕ → List ℕ → Reading
-coming AtHeader left line bytes = reading bytes
-coming InRecords left line bytes = read_records left (line + 1) bytes
-coming AtEnd left line bytes = stopped (trailing (line + 1) bytes)
+-- what is to come, by what is read next
+abbrev pub coming : Stage → Reader → List ℕ → Reading
+coming AtHeader r bytes = reading bytes
+coming InRecords r bytes = read_records r.version r.price r.left (r.lines.line + 1) bytes
+coming AtEnd r bytes = stopped (trailing (r.lines.line + 1) bytes)
 
 -- the reading of what is still to come, where the reader stands in these bytes
 abbrev pub to_come : Reader → List ℕ → Reading
-to_come r bytes = coming r.stage r.left r.lines.line bytes
+to_come r bytes = coming r.stage r bytes
 
 -- the fault of an answer, if it is one
 abbrev pub err_of : {A : Type 0} → Result A CertFault → Option CertFault
@@ -59,12 +62,12 @@ lines_read (Err fault) = 0
 
 -- how the header is read
 abbrev pub HeaderRead : Reader → Reader → Device → Result Header CertFault → Type 0
-HeaderRead old new source (Ok h) = (new.stage ≡ InRecords) × (new.left ≡ h.requests) × (new.lines.line ≡ header_len h) × IfSome (known old.lines source.before) (GoesOn (under h) (header_len h) (text_of (header_lines h)) old new source.after)
+HeaderRead old new source (Ok h) = (new.stage ≡ InRecords) × (new.left ≡ h.requests) × (new.version ≡ h.version) × (new.price ≡ 0) × (new.lines.line ≡ header_len h) × IfSome (known old.lines source.before) (GoesOn (under h) (header_len h) (text_of (header_lines h)) old new source.after)
 HeaderRead old new source (Err fault) = IsRefused old source fault
 
 -- how a record is read
 abbrev pub RecordRead : Reader → Reader → Device → Result Record CertFault → Type 0
-RecordRead old new source (Ok r) = (new.stage ≡ InRecords) × (new.left + 1 ≡ old.left) × (new.lines.line ≡ old.lines.line + 1) × IfSome (known old.lines source.before) (GoesOn (onto r) 1 (line (record_line r)) old new source.after)
+RecordRead old new source (Ok r) = (new.stage ≡ InRecords) × (new.left + 1 ≡ old.left) × (new.version ≡ old.version) × (new.price ≡ r.price) × (new.lines.line ≡ old.lines.line + 1) × IfSome (known old.lines source.before) (GoesOn (onto r) 1 (line (record_line old.version old.price r)) old new source.after)
 RecordRead old new source (Err fault) = IsRefused old source fault
 
 -- how the end is read: nothing is to come, and nothing is left, neither held nor in the source

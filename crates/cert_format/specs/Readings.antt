@@ -1,5 +1,5 @@
 -- The reading of a certificate, over all its bytes at once.
-use Rattle.std.specs.Prelude.{ℕ, suc, zero, ◌+◌, ◌-◌, List, [], ◌∷◌, ◌==◌, nat_lt, if◌then◌else◌, length, codes, None, Some}
+use Rattle.std.specs.Prelude.{ℕ, Bool, suc, zero, ◌+◌, ◌-◌, List, [], ◌∷◌, ◌==◌, nat_lt, if◌then◌else◌, length, codes, None, Some}
 use Rattle.std.specs.declared.option.Option.{Option}
 use Rattle.std.specs.Option.{option_or, option_map}
 use Rattle.std.specs.Str.{bytes_eq}
@@ -9,7 +9,8 @@ use Rattle.cache_model.specs.declared.objects.Objective.TheVariants.{Object as H
 use Rattle.cache_model.specs.declared.certificates.Header.{Header}
 use Rattle.cache_model.specs.declared.certificates.Record.{Record}
 use Rattle.cache_model.specs.Texts.{header_len}
-use Rattle.cert_format.specs.Grammar.{Slot, header_slots, record_slots, end_slots, line_fault, word_at, number_at}
+use Rattle.cache_model.specs.declared.version.TheConstants.{CERT_VERSION, SHORT_VERSION}
+use Rattle.cert_format.specs.Grammar.{Slot, header_slots, is_short, record_slots, end_slots, line_fault, word_at, number_at}
 use Rattle.cert_format.specs.declared.fault.TextKind.{TextKind}
 use Rattle.cert_format.specs.declared.fault.TextKind.TheVariants.{TooLong}
 use Rattle.cert_format.specs.declared.fault.CertFault.{CertFault}
@@ -43,9 +44,21 @@ bytes_through k bytes = length bytes - length (after_lines k bytes)
 abbrev pub line_text : ℕ → List ℕ → List ℕ
 line_text n bytes = first_text (after_lines (n - 1) bytes)
 
+-- a line states a warm-up
+abbrev pub is_warmup : List ℕ → Bool
+is_warmup text = bytes_eq (word_at 0 text) (codes "warmup")
+
 -- the first fault of the lines before the records
 abbrev pub header_fault : List ℕ → Option CertFault
-header_fault bytes = lines_fault 1 (header_slots (number_at 1 (line_text 3 bytes))) bytes
+header_fault bytes = lines_fault 1 (header_slots (number_at 1 (line_text 3 bytes)) (is_warmup (line_text 11 bytes))) bytes
+
+-- the version of the first line
+abbrev pub version_in : List ℕ → ℕ
+version_in text = if bytes_eq (word_at 1 text) (codes "1") then CERT_VERSION else SHORT_VERSION
+
+-- the warm-up of the line where one would stand, which is 0 if there is none
+abbrev pub warmup_in : List ℕ → ℕ
+warmup_in text = if is_warmup text then number_at 1 text else 0
 
 -- the objective of a line
 abbrev pub objective_in : List ℕ → Objective
@@ -63,11 +76,29 @@ header_in bytes = record {
   upper = number_at 1 (line_text 8 bytes);
   flow = number_at 1 (line_text 9 bytes);
   lower = number_at 1 (line_text 10 bytes);
+  warmup = warmup_in (line_text 11 bytes);
+  version = version_in (line_text 1 bytes);
 }
 
--- what the line of a record states
-abbrev pub record_in : List ℕ → Record
-record_in text = record { price = number_at 0 text; keep = bytes_eq (word_at 1 text) (codes "1"); flow = number_at 2 text }
+-- the record of a price, a keep and a flow
+abbrev pub entry_of : ℕ → Bool → ℕ → Record
+entry_of price keep flow = record { price = price; keep = keep; flow = flow }
+
+-- what a line of price, keep and flow states
+abbrev pub full_in : List ℕ → Record
+full_in text = entry_of (number_at 0 text) (bytes_eq (word_at 1 text) (codes "1")) (number_at 2 text)
+
+-- what a line of keep and flow states, after a record of the price `before`
+abbrev pub short_in : ℕ → List ℕ → Record
+short_in before text = entry_of before (bytes_eq (word_at 0 text) (codes "1")) (number_at 1 text)
+
+-- what the line of a record states, after one of the price `before`
+abbrev pub record_in : ℕ → ℕ → List ℕ → Record
+record_in version before text = if is_short version text then short_in before text else full_in text
+
+-- the fault of the line of a record, after one of the price `before`
+abbrev pub record_text_fault : ℕ → ℕ → ℕ → List ℕ → Option CertFault
+record_text_fault version before n bytes = first_fault n (record_slots version before (first_text bytes)) bytes
 
 -- the header, if it can be read, the records before the first fault, and that fault, if there is one
 pub record Reading : Type 0 where
@@ -100,14 +131,16 @@ trailing n bytes = if length bytes == 0 then None else Some (Trailing n)
 abbrev pub end_fault : ℕ → List ℕ → Option CertFault
 end_fault n bytes = option_or (first_fault n end_slots bytes) (trailing (n + 1) (after_line bytes))
 
--- this number of records, from line n on, and the end
-unfoldable pub read_records : ℕ → ℕ → List ℕ → Reading
-read_records zero n bytes = stopped (end_fault n bytes)
-read_records (suc k) n bytes = unless (first_fault n record_slots bytes) (onto (record_in (first_text bytes)) (read_records k (n + 1) (after_line bytes)))
+-- this number of records, from line n on and after one of the price `before`, and the end
+unfoldable pub read_records : ℕ → ℕ → ℕ → ℕ → List ℕ → Reading
+read_records version before zero n bytes = stopped (end_fault n bytes)
+read_records version before (suc k) n bytes =
+    let r = record_in version before (first_text bytes) in
+    unless (record_text_fault version before n bytes) (onto r (read_records version r.price k (n + 1) (after_line bytes)))
 
 -- what stands after the lines of a header: its records, and the end
 abbrev pub read_after : Header → List ℕ → Reading
-read_after h bytes = read_records h.requests (header_len h + 1) (after_lines (header_len h) bytes)
+read_after h bytes = read_records h.version 0 h.requests (header_len h + 1) (after_lines (header_len h) bytes)
 
 -- the reading of all the bytes of a certificate
 abbrev pub reading : List ℕ → Reading

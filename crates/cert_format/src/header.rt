@@ -3,18 +3,17 @@ ghost use Rattle.std.specs.Prelude.{◌≡◌, ◌+◌, ◌<◌, ◌≤◌, ◌^
 ghost use Rattle.bound_io.specs.Lines.{first_text};
 ghost use Rattle.bound_io.specs.Devices.{seen};
 ghost use Rattle.cache_model.specs.Certificates.{IsHeaderInRange};
-ghost use Rattle.cache_model.specs.Texts.{first_line};
-ghost use Rattle.cert_format.specs.Grammar.{count_slots, fixed_line, number_at, value_slots};
+ghost use Rattle.cache_model.specs.declared.version.TheConstants.{CERT_VERSION, SHORT_VERSION};
+ghost use Rattle.cert_format.specs.Grammar.{count_slots, number_at, value_slots};
 ghost use Rattle.cert_format.specs.Lines.{Reads};
-ghost use Rattle.cert_format.specs.Parts.{IsCountsInRange, IsValuesInRange, counts_in, values_in};
+ghost use Rattle.cert_format.specs.Parts.{IsCountsInRange, IsValuesInRange, counts_in, last_fault, last_len, values_in};
 ghost use Rattle.cert_format.specs.Readers.{lines_read};
-ghost use Rattle.cert_format.specs.Readings.{first_fault, header_fault, header_in, lines_fault};
+ghost use Rattle.cert_format.specs.Readings.{header_fault, header_in, lines_fault, warmup_in};
 
 use crate::fault::CertFault;
-use crate::lines::{read_choice, read_fixed, read_number};
-use crate::text::first_line;
+use crate::lines::{read_choice, read_fixed, read_number, read_warmup};
 use bound_io::{LineReader, Source};
-use cache_model::{Header, Objective};
+use cache_model::{CERT_VERSION, Header, Objective, SHORT_VERSION};
 
 /// The counts of a header.
 #[derive(Clone, Copy)]
@@ -31,16 +30,6 @@ struct Values {
     upper: u128,
     flow: u128,
     lower: u128,
-}
-
-// Reads what the file is, and the version of its text.
-fn read_first<S: Source>(lines: &mut LineReader, source: &mut S) -> Result<(), CertFault>
-    requires limit { lines.old.limit ≡ 2 ^ 36 }
-    requires few { lines.old.line < 2 ^ 26 }
-    requires no_fault { lines.old.fault ≡ None }
-    ensures { Reads (first_fault (lines.old.line + 1) (fixed_line first_line)) 1 (λ _. tt) lines.old lines.new (seen S.left S.faults source.old source.new) result }
-{
-    read_fixed(lines, source, first_line().as_bytes())
 }
 
 fn read_counts<S: Source>(lines: &mut LineReader, source: &mut S) -> Result<Counts, CertFault>
@@ -77,6 +66,33 @@ fn read_values<S: Source>(lines: &mut LineReader, source: &mut S) -> Result<Valu
     })
 }
 
+// Reads the last lines, and says the warm-up.
+fn read_last<S: Source>(lines: &mut LineReader, source: &mut S) -> Result<u128, CertFault>
+    requires limit { lines.old.limit ≡ 2 ^ 36 }
+    requires few { lines.old.line + 1 < 2 ^ 26 }
+    requires no_fault { lines.old.fault ≡ None }
+    ensures range { IfOk result (λ warmup. warmup ≤ 2 ^ 25) }
+    ensures read { Reads (last_fault (lines.old.line + 1)) (last_len result) (λ bytes. warmup_in (first_text bytes)) lines.old lines.new (seen S.left S.faults source.old source.new) result }
+{
+    let warmup = read_warmup(lines, source)?;
+    if warmup == 0 {
+        return Ok(0);
+    }
+    read_fixed(lines, source, b"records")?;
+    Ok(warmup)
+}
+
+// The version whose number is the first or the second word.
+fn version_of(is_first: bool) -> u8
+    ensures { result ≡ (if is_first then CERT_VERSION else SHORT_VERSION) }
+{
+    if is_first {
+        CERT_VERSION
+    } else {
+        SHORT_VERSION
+    }
+}
+
 fn objective_of(of_objects: bool) -> Objective
     ensures { result ≡ (if of_objects then Objective.Object else Objective.Bytes) }
 {
@@ -95,12 +111,12 @@ pub fn read_header<S: Source>(lines: &mut LineReader, source: &mut S) -> Result<
     ensures range { IfOk result IsHeaderInRange }
     ensures read { Reads header_fault (lines_read result) header_in lines.old lines.new (seen S.left S.faults source.old source.new) result }
 {
-    read_first(lines, source)?;
+    let is_first = read_choice(lines, source, b"cache-bound-certificate", b"1", b"2")?;
     let of_objects = read_choice(lines, source, b"objective", b"object", b"bytes")?;
     let counts = read_counts(lines, source)?;
     let exact = read_choice(lines, source, b"form", b"exact", b"plain")?;
     let values = read_values(lines, source)?;
-    read_fixed(lines, source, b"records")?;
+    let warmup = read_last(lines, source)?;
     Ok(Header {
         objective: objective_of(of_objects),
         capacity: counts.capacity,
@@ -111,5 +127,7 @@ pub fn read_header<S: Source>(lines: &mut LineReader, source: &mut S) -> Result<
         upper: values.upper,
         flow: values.flow,
         lower: values.lower,
+        warmup: warmup as u32,
+        version: version_of(is_first),
     })
 }

@@ -1,13 +1,14 @@
 //! What the text of a line states.
-ghost use Rattle.std.specs.Prelude.{◌≡◌, ◌↔◌, ◌==◌, ◌+◌, ◌<◌, List, false, ℕ, [], ◌∷◌, codes, length, position, IsTrue, IfNone, IfSome};
+ghost use Rattle.std.specs.Prelude.{◌≡◌, ◌↔◌, ◌==◌, ◌+◌, ◌<◌, ◌^◌, List, false, true, ℕ, [], ◌∷◌, codes, length, position, IsTrue, IfNone, IfSome};
 ghost use Rattle.std.specs.Str.{bytes_eq};
 ghost use Rattle.cache_model.specs.Texts.{keep_digit};
-ghost use Rattle.cert_format.specs.Grammar.{OneOf, can_stand, choice_line, fixed_line, has_shape, line_fault, number_at, number_line, record_slots, value_unless, word_at, words};
-ghost use Rattle.cert_format.specs.Readings.{record_in};
+ghost use Rattle.cert_format.specs.Grammar.{OneOf, Within, can_stand, choice_line, fixed_line, full_slots, has_shape, is_short, line_fault, number_at, number_fault, number_in, number_line, price_slot, record_slots, short_slots, value_unless, word_at, words, words_fault};
+ghost use Rattle.cert_format.specs.Parts.{warmup_slots};
+ghost use Rattle.cert_format.specs.Readings.{entry_of, full_in, record_in, warmup_in};
 
 use crate::fault::TextKind;
 use crate::number::number;
-use cache_model::Record;
+use cache_model::{Record, SHORT_VERSION};
 
 // The place of the first space.
 fn space_in(text: &[u8]) -> Option<usize>
@@ -79,7 +80,17 @@ pub fn choice_after(text: &[u8], name: &[u8], first: &[u8], second: &[u8]) -> Re
     }
 }
 
-// The words of the line of a record.
+/// The warm-up of the line where one may stand, and 0 where the records come next.
+pub fn warmup(text: &[u8]) -> Result<u128, TextKind>
+    ensures { result ≡ value_unless (line_fault (warmup_slots text.now) text.now) (warmup_in text.now) }
+{
+    match fixed(text, b"records") {
+        Ok(()) => Ok(0),
+        Err(_) => number_after(text, b"warmup", 1, 1 << 25),
+    }
+}
+
+// The words of the line of a record, with its price.
 #[derive(Clone, Copy)]
 struct RecordWords<'a> {
     price: &'a [u8],
@@ -99,11 +110,11 @@ fn keep_of(word: &[u8]) -> Option<bool>
     }
 }
 
-// The words of a line, if it has those of a record.
+// The words of a line, if it has those of a record with its price.
 fn record_words(text: &[u8]) -> Option<RecordWords<'_>>
     ensures words { IfSome result (λ w. words text.now ≡ w.price.now ∷ ((48 + keep_digit w.keep) ∷ []) ∷ w.flow.now ∷ []) }
     ensures some { IfSome result (λ w. (0 < length w.price.now) × (0 < length w.flow.now)) }
-    ensures none { IfNone result (has_shape record_slots (words text.now) ≡ false) }
+    ensures none { IfNone result (has_shape (full_slots (Within 0 (2 ^ 126))) (words text.now) ≡ false) }
 {
     let (price, rest) = cut(text)?;
     let (keep, flow) = cut(rest)?;
@@ -115,18 +126,82 @@ fn record_words(text: &[u8]) -> Option<RecordWords<'_>>
     }
 }
 
-/// The record of a line.
-pub fn record(text: &[u8]) -> Result<Record, TextKind>
-    ensures { result ≡ value_unless (line_fault record_slots text.now) (record_in text.now) }
+// The price of a word, after the price `before`.
+fn price_of(word: &[u8], version: u8, before: u128) -> Result<u128, TextKind>
+    ensures { result ≡ value_unless (number_fault (price_slot version before) word.now) (number_in word.now) }
+{
+    let price = number(word, 0, 1 << 126)?;
+    if version == SHORT_VERSION && price == before {
+        return Err(TextKind::Range);
+    }
+    Ok(price)
+}
+
+// The record of a line with its price, after one of the price `before`.
+fn full_record(text: &[u8], version: u8, before: u128) -> Result<Record, TextKind>
+    ensures { result ≡ value_unless (line_fault (full_slots (price_slot version before)) text.now) (full_in text.now) }
 {
     let Some(words) = record_words(text) else {
         return Err(TextKind::Shape);
     };
-    let price = number(words.price, 0, 1 << 126)?;
+    let price = price_of(words.price, version, before)?;
     let flow = number(words.flow, 0, 1 << 48)?;
     Ok(Record {
         price,
         keep: words.keep,
         flow: flow as u64,
     })
+}
+
+// The words of a line of two words.
+fn two_words(text: &[u8]) -> Option<(&[u8], &[u8])>
+    ensures some { IfSome result (λ parts. words text.now ≡ parts.0.now ∷ parts.1.now ∷ []) }
+    ensures none { IfNone result ((length (words text.now) == 2) ≡ false) }
+{
+    let (first, second) = cut(text)?;
+    match space_in(second) {
+        Some(_) => None,
+        None => Some((first, second)),
+    }
+}
+
+// The words of a line that states no price.
+fn short_words(text: &[u8], version: u8) -> Option<(&[u8], &[u8])>
+    ensures words { IfSome result (λ parts. words text.now ≡ parts.0.now ∷ parts.1.now ∷ []) }
+    ensures some { IfSome result (λ _. is_short version text.now ≡ true) }
+    ensures none { IfNone result (is_short version text.now ≡ false) }
+{
+    if version == SHORT_VERSION {
+        two_words(text)
+    } else {
+        None
+    }
+}
+
+// The record of a line of these two words, after one of the price `before`.
+fn short_record(keep: &[u8], flow: &[u8], before: u128) -> Result<Record, TextKind>
+    ensures { result ≡ value_unless (words_fault short_slots (keep.now ∷ flow.now ∷ [])) (entry_of before (bytes_eq keep.now (codes "1")) (number_in flow.now)) }
+{
+    let Some(keep) = keep_of(keep) else {
+        return Err(TextKind::Shape);
+    };
+    if flow.is_empty() {
+        return Err(TextKind::Shape);
+    }
+    let flow = number(flow, 0, 1 << 48)?;
+    Ok(Record {
+        price: before,
+        keep,
+        flow: flow as u64,
+    })
+}
+
+/// The record of a line, after one of the price `before`.
+pub fn record(text: &[u8], version: u8, before: u128) -> Result<Record, TextKind>
+    ensures { result ≡ value_unless (line_fault (record_slots version before text.now) text.now) (record_in version before text.now) }
+{
+    match short_words(text, version) {
+        Some((keep, flow)) => short_record(keep, flow, before),
+        None => full_record(text, version, before),
+    }
 }

@@ -4,12 +4,13 @@ ghost use Rattle.std.specs.Str.{bytes_eq};
 ghost use Rattle.bound_io.specs.Lines.{first_text};
 ghost use Rattle.bound_io.specs.Devices.{seen};
 ghost use Rattle.cache_model.specs.Certificates.{IsRecordInRange};
-ghost use Rattle.cert_format.specs.Grammar.{choice_line, fixed_line, number_at, number_line, record_slots, word_at};
+ghost use Rattle.cert_format.specs.Grammar.{choice_line, fixed_line, number_at, number_line, word_at};
 ghost use Rattle.cert_format.specs.Lines.{Reads, nothing_given, of_line, text_given};
-ghost use Rattle.cert_format.specs.Readings.{end_fault, first_fault, record_in, trailing};
+ghost use Rattle.cert_format.specs.Parts.{warmup_fault};
+ghost use Rattle.cert_format.specs.Readings.{end_fault, first_fault, record_in, record_text_fault, trailing, warmup_in};
 
 use crate::fault::{CertFault, TextKind};
-use crate::line::{choice_after, fixed, number_after, record};
+use crate::line::{choice_after, fixed, number_after, record, warmup};
 use bound_io::{LineFault, LineReader, Source, WholeLine};
 use cache_model::Record;
 
@@ -101,7 +102,7 @@ pub fn read_choice<S: Source>(
     requires limit { lines.old.limit ≡ 2 ^ 36 }
     requires few { lines.old.line < 2 ^ 26 }
     requires no_fault { lines.old.fault ≡ None }
-    requires name { length name.now ≤ 20 }
+    requires name { length name.now ≤ 23 }
     requires first { (0 < length first.now) × (length first.now ≤ 20) }
     requires second { (0 < length second.now) × (length second.now ≤ 20) }
     ensures { Reads (first_fault (lines.old.line + 1) (choice_line name.now first.now second.now)) 1 (λ bytes. bytes_eq (word_at 1 (first_text bytes)) first.now) lines.old lines.new (seen S.left S.faults source.old source.new) result }
@@ -111,17 +112,36 @@ pub fn read_choice<S: Source>(
     in_line(line, choice_after(text, name, first, second))
 }
 
-/// Reads the line of a record.
-pub fn read_record<S: Source>(lines: &mut LineReader, source: &mut S) -> Result<Record, CertFault>
+/// Reads the line where a warm-up may stand, which is 0 where the records come next.
+pub fn read_warmup<S: Source>(lines: &mut LineReader, source: &mut S) -> Result<u128, CertFault>
     requires limit { lines.old.limit ≡ 2 ^ 36 }
     requires few { lines.old.line < 2 ^ 26 }
     requires no_fault { lines.old.fault ≡ None }
-    ensures range { IfOk result IsRecordInRange }
-    ensures read { Reads (first_fault (lines.old.line + 1) record_slots) 1 (λ bytes. record_in (first_text bytes)) lines.old lines.new (seen S.left S.faults source.old source.new) result }
+    ensures range { IfOk result (λ n. n ≤ 2 ^ 25) }
+    ensures read { Reads (warmup_fault (lines.old.line + 1)) 1 (λ bytes. warmup_in (first_text bytes)) lines.old lines.new (seen S.left S.faults source.old source.new) result }
 {
     let line = lines.line() + 1;
     let text = whole_text(line, lines.next_whole_line(source))?;
-    in_line(line, record(text))
+    in_line(line, warmup(text))
+}
+
+/// Reads the line of a record, after one of the price `before`.
+pub fn read_record<S: Source>(
+    lines: &mut LineReader,
+    source: &mut S,
+    version: u8,
+    before: u128,
+) -> Result<Record, CertFault>
+    requires limit { lines.old.limit ≡ 2 ^ 36 }
+    requires few { lines.old.line < 2 ^ 26 }
+    requires no_fault { lines.old.fault ≡ None }
+    requires price { before ≤ 2 ^ 126 }
+    ensures range { IfOk result IsRecordInRange }
+    ensures read { Reads (record_text_fault version before (lines.old.line + 1)) 1 (λ bytes. record_in version before (first_text bytes)) lines.old lines.new (seen S.left S.faults source.old source.new) result }
+{
+    let line = lines.line() + 1;
+    let text = whole_text(line, lines.next_whole_line(source))?;
+    in_line(line, record(text, version, before))
 }
 
 /// Looks whether nothing is left.

@@ -11,7 +11,7 @@ use crate::header::read_header;
 use crate::lines::{read_end, read_nothing, read_record};
 use bound_base::NoMemory;
 use bound_io::{LineReader, Source};
-use cache_model::{Header, Record};
+use cache_model::{CERT_VERSION, Header, Record};
 use std::alloc::Global;
 use std::marker::Model;
 
@@ -49,6 +49,8 @@ pub struct CertReader {
     lines: LineReader,
     stage: Stage,
     left: u32,
+    version: u8,
+    price: u128,
     fault: Option<CertFault>,
 }
 
@@ -60,11 +62,12 @@ impl Model for CertReader {
 
     ghost Value = { Reader };
 
-    ghost view = { λ r. record { lines = r.lines; stage = r.stage; left = r.left; fault = r.fault } };
+    ghost view = { λ r. record { lines = r.lines; stage = r.stage; left = r.left; version = r.version; price = r.price; fault = r.fault } };
 
     ghost invariant = { λ r.
         (r.lines.limit ≡ 2 ^ 36) × (length r.lines.held ≤ 65536) × (r.fault ≡ None → r.lines.fault ≡ None)
-        × (r.fault ≡ None → r.lines.line + r.left + lines_left r.stage < 2 ^ 26) × (r.fault ≡ None → r.stage ≡ AtHeader → r.lines.line ≡ 0) };
+        × (r.fault ≡ None → r.lines.line + r.left + lines_left r.stage < 2 ^ 26) × (r.fault ≡ None → r.stage ≡ AtHeader → r.lines.line ≡ 0)
+        × (r.price ≤ 2 ^ 126) };
 }
 
 impl CertReader {
@@ -79,6 +82,8 @@ impl CertReader {
             lines: LineReader::new(alloc, 1 << 36)?,
             stage: Stage::AtHeader,
             left: 0,
+            version: CERT_VERSION,
+            price: 0,
             fault: None,
         })
     }
@@ -134,6 +139,8 @@ impl CertReader {
             Ok(header) => {
                 self.stage = Stage::InRecords;
                 self.left = header.requests;
+                self.version = header.version;
+                self.price = 0;
             }
             Err(fault) => self.fault = Some(fault),
         }
@@ -157,9 +164,12 @@ impl CertReader {
         if let Some(fault) = self.fault {
             return Err(fault);
         }
-        let found = read_record(&mut self.lines, source);
+        let found = read_record(&mut self.lines, source, self.version, self.price);
         match found {
-            Ok(_) => self.left -= 1,
+            Ok(entry) => {
+                self.left -= 1;
+                self.price = entry.price;
+            }
             Err(fault) => self.fault = Some(fault),
         }
         found

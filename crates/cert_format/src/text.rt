@@ -1,26 +1,27 @@
 //! The lines of a certificate, as they are written.
-ghost use Rattle.std.specs.Prelude.{◌≡◌, ◌≤◌, ◌++◌, codes, length, decimal};
-ghost use Rattle.cache_model.specs.Texts.{first_line, form_word, header_lines, keep_digit, line, objective_word, record_line, text_of};
+ghost use Rattle.std.specs.Prelude.{◌≡◌, ◌≤◌, ◌+◌, ◌++◌, codes, length, decimal};
+ghost use Rattle.cache_model.specs.Texts.{form_word, full_line, header_lines, keep_digit, last_lines, line, objective_word, record_line, short_line, text_of};
 
-use cache_model::{CERT_VERSION, Header, Objective, Record};
+use cache_model::{Header, Objective, Record, SHORT_VERSION};
 use line_text::LineText;
 
 /// The lines before the records have fewer bytes.
 pub const HEADER_ROOM: usize = 384;
 
-/// What the file is and its version have fewer bytes.
-pub const FIRST_ROOM: usize = 32;
-
 /// The line of a record has fewer bytes. The room is small, since it is made anew for each record.
 pub const RECORD_ROOM: usize = 64;
 
-/// What the file is, and the version of its text.
-pub fn first_line() -> LineText<FIRST_ROOM>
-    ensures { result ≡ first_line }
+// Appends the lines from the warm-up on.
+fn push_last(text: &mut LineText<HEADER_ROOM>, warmup: u32)
+    requires { length text.old + 64 ≤ HEADER_ROOM }
+    ensures { text.new ≡ text.old ++ text_of (last_lines warmup) }
 {
-    let mut text = LineText::new();
-    text.push_entry(b"cache-bound-certificate", CERT_VERSION);
-    text
+    if warmup == 0 {
+        text.push_line(b"records");
+    } else {
+        text.push_entry_line(b"warmup", warmup);
+        text.push_line(b"records");
+    }
 }
 
 /// The lines before the records.
@@ -28,7 +29,7 @@ pub fn header_text(header: &Header) -> LineText<HEADER_ROOM>
     ensures { result ≡ text_of (header_lines header.now) }
 {
     let mut text = LineText::new();
-    text.push_line(first_line().as_bytes());
+    text.push_entry_line(b"cache-bound-certificate", header.version);
     text.push_line(objective_line(header.objective));
     text.push_entry_line(b"capacity", header.capacity);
     text.push_entry_line(b"requests", header.requests);
@@ -38,13 +39,13 @@ pub fn header_text(header: &Header) -> LineText<HEADER_ROOM>
     text.push_entry_line(b"upper", header.upper);
     text.push_entry_line(b"flow", header.flow);
     text.push_entry_line(b"lower", header.lower);
-    text.push_line(b"records");
+    push_last(&mut text, header.warmup);
     text
 }
 
-/// The line of a record.
-pub fn record_text(entry: &Record) -> LineText<RECORD_ROOM>
-    ensures { result ≡ line (record_line entry.now) }
+// The line of a record, with its price.
+fn full_text(entry: &Record) -> LineText<RECORD_ROOM>
+    ensures { result ≡ line (full_line entry.now) }
 {
     let mut text = LineText::new();
     text.push_number(entry.price);
@@ -52,6 +53,28 @@ pub fn record_text(entry: &Record) -> LineText<RECORD_ROOM>
     text.push_number(entry.flow);
     text.push(b"\n");
     text
+}
+
+// The line of a record, without its price.
+fn short_text(entry: &Record) -> LineText<RECORD_ROOM>
+    ensures { result ≡ line (short_line entry.now) }
+{
+    let mut text = LineText::new();
+    text.push(keep_first(entry.keep));
+    text.push_number(entry.flow);
+    text.push(b"\n");
+    text
+}
+
+/// The line of a record after one of this price.
+pub fn record_text(version: u8, before: u128, entry: &Record) -> LineText<RECORD_ROOM>
+    ensures { result ≡ line (record_line version before entry.now) }
+{
+    if version == SHORT_VERSION && entry.price == before {
+        short_text(entry)
+    } else {
+        full_text(entry)
+    }
 }
 
 fn objective_line(objective: Objective) -> &'static [u8]
@@ -69,6 +92,14 @@ fn form_line(exact: bool) -> &'static [u8]
     ensures short { length result.now ≤ 20 }
 {
     if exact { b"form exact" } else { b"form plain" }
+}
+
+// A keep, and the space after it.
+fn keep_first(keep: bool) -> &'static [u8]
+    ensures text { result.now ≡ decimal (keep_digit keep) ++ codes " " }
+    ensures short { length result.now ≤ 2 }
+{
+    if keep { b"1 " } else { b"0 " }
 }
 
 // A keep, between two spaces.

@@ -3,7 +3,7 @@ ghost use Rattle.std.specs.Prelude.{◌≡◌, ◌≤◌};
 ghost use Rattle.cert_format.specs.declared.reader.Stage.TheVariants.{AtHeader};
 
 use bound_io::{Failed, MemSink, MemSource, Source};
-use cache_model::{Header, Objective, Record};
+use cache_model::{CERT_VERSION, Header, Objective, Record, SHORT_VERSION};
 use cert_format::{CertFault, CertReader, TextKind, write_end, write_header, write_record};
 use compared::{holds, same};
 use std::alloc::Global;
@@ -38,6 +38,8 @@ const HEADER: Header = Header {
     upper: 1,
     flow: 1,
     lower: 1,
+    warmup: 0,
+    version: CERT_VERSION,
 };
 
 const FIRST: Record = Record {
@@ -313,7 +315,7 @@ const LONG_HEADER: Header = Header {
 fn write_long(sink: &mut MemSink) -> Result<(), Failed> {
     write_header(sink, &LONG_HEADER)?;
     for _ in 0..20000 {
-        write_record(sink, &FIRST)?;
+        write_record(sink, CERT_VERSION, 0, &FIRST)?;
     }
     Ok(())
 }
@@ -353,7 +355,7 @@ fn at_most_a_buffer_is_taken_ahead(rt: HostRuntime) {
     same("the counts", counts, [12, 139, 65536]).expect(&rt, "a row");
 }
 
-const HEADERS: [(Header, bool); 4] = [
+const HEADERS: [(Header, bool); 8] = [
     (HEADER, true),
     (Header { unit: 11, ..HEADER }, false),
     (
@@ -366,6 +368,35 @@ const HEADERS: [(Header, bool); 4] = [
     (
         Header {
             lower: 1 << 127,
+            ..HEADER
+        },
+        false,
+    ),
+    (
+        Header {
+            warmup: 1 << 25,
+            version: SHORT_VERSION,
+            ..HEADER
+        },
+        true,
+    ),
+    (
+        Header {
+            warmup: (1 << 25) + 1,
+            ..HEADER
+        },
+        false,
+    ),
+    (
+        Header {
+            version: 3,
+            ..HEADER
+        },
+        false,
+    ),
+    (
+        Header {
+            version: 0,
             ..HEADER
         },
         false,
@@ -387,8 +418,8 @@ fn numbers_are_in_range_or_not(rt: HostRuntime) {
 
 fn write(sink: &mut MemSink) -> Result<(), Failed> {
     write_header(sink, &HEADER)?;
-    write_record(sink, &FIRST)?;
-    write_record(sink, &LAST)?;
+    write_record(sink, CERT_VERSION, 0, &FIRST)?;
+    write_record(sink, CERT_VERSION, 0, &LAST)?;
     write_end(sink)
 }
 

@@ -1,7 +1,7 @@
 //! `cert_checker`: small certificates through a checker. The numbers were worked out by hand.
 ghost use Rattle.std.specs.Prelude.{◌≡◌, ◌<◌, ◌≤◌, ◌+◌, ◌^◌, true, OnErr, OnOk};
 
-use cache_model::{Object, Objective};
+use cache_model::{CERT_VERSION, Object, Objective};
 use cert_checker::{Checker, InvalidKind, StepFault, Verdict};
 use cert_format::{Header, Record};
 use compared::{holds, same};
@@ -70,6 +70,8 @@ const PAIR_HEADER: Header = Header {
     upper: 1,
     flow: 1,
     lower: 1,
+    warmup: 0,
+    version: CERT_VERSION,
 };
 
 const PAIR: Row<'static> = Row {
@@ -128,7 +130,28 @@ const PLAIN_HEADER: Header = Header {
     ..BYTES_HEADER
 };
 
-const VALID: [Row<'static>; 4] = [
+// The last of the six requests is the only one that counts.
+const LATE_HEADER: Header = Header {
+    upper: 1,
+    flow: 1,
+    lower: 1,
+    warmup: 5,
+    ..CYCLE_HEADER
+};
+
+const LATE_RECORDS: [Record; 6] = [NONE, NONE, KEPT, NONE, NONE, NONE];
+
+// Neither of two requests counts, and the unit doesn't divide their size.
+const WARM_HEADER: Header = Header {
+    unit: 3,
+    upper: 0,
+    flow: 0,
+    lower: 0,
+    warmup: 2,
+    ..PAIR_HEADER
+};
+
+const VALID: [Row<'static>; 7] = [
     CYCLE,
     PAIR,
     Row {
@@ -151,10 +174,40 @@ const VALID: [Row<'static>; 4] = [
             objects: 2,
         }),
     },
+    Row {
+        name: "the last request is the only one past the warm-up",
+        header: LATE_HEADER,
+        records: &LATE_RECORDS,
+        answer: Answer::Yes(Verdict {
+            header: LATE_HEADER,
+            objects: 3,
+        }),
+        ..CYCLE
+    },
+    Row {
+        name: "a hit within the warm-up earns nothing",
+        header: LATE_HEADER,
+        records: &[Record { flow: 0, ..KEPT }, NONE, KEPT, NONE, NONE, NONE],
+        answer: Answer::Yes(Verdict {
+            header: LATE_HEADER,
+            objects: 3,
+        }),
+        ..CYCLE
+    },
+    Row {
+        name: "the unit isn't asked for within the warm-up",
+        header: WARM_HEADER,
+        records: &[NONE, NONE],
+        answer: Answer::Yes(Verdict {
+            header: WARM_HEADER,
+            objects: 1,
+        }),
+        ..PAIR
+    },
 ];
 
-// Those of the cycle, then those of the pair.
-const INVALID: [Row<'static>; 12] = [
+// Those of the cycle, then those of the pair, then those with a warm-up.
+const INVALID: [Row<'static>; 16] = [
     Row {
         name: "two units that pay 2^126 each",
         records: &[
@@ -297,6 +350,55 @@ const INVALID: [Row<'static>; 12] = [
         },
         records: &[Record { flow: 0, ..KEPT }, NONE],
         answer: Answer::RefusedAtEnd(InvalidKind::ExactGap { upper: 1, flow: 0 }),
+        ..PAIR
+    },
+    Row {
+        name: "a flow whose interval ends within the warm-up",
+        header: LATE_HEADER,
+        records: &[KEPT, NONE, KEPT, NONE, NONE, NONE],
+        answer: Answer::Refused {
+            step: 3,
+            fault: StepFault::Rule(InvalidKind::Unused { number: 0 }),
+        },
+        ..CYCLE
+    },
+    Row {
+        name: "a warm-up of one request fewer",
+        header: Header {
+            warmup: 4,
+            ..LATE_HEADER
+        },
+        records: &LATE_RECORDS,
+        answer: Answer::RefusedAtEnd(InvalidKind::UpperDiffers {
+            written: 1,
+            counted: 2,
+        }),
+        ..CYCLE
+    },
+    Row {
+        name: "a warm-up of all requests",
+        header: Header {
+            warmup: 6,
+            ..LATE_HEADER
+        },
+        records: &LATE_RECORDS,
+        answer: Answer::Refused {
+            step: 5,
+            fault: StepFault::Rule(InvalidKind::Unused { number: 2 }),
+        },
+        ..CYCLE
+    },
+    Row {
+        name: "the unit is asked for at the end of the warm-up",
+        header: Header {
+            warmup: 1,
+            ..WARM_HEADER
+        },
+        records: &[NONE, NONE],
+        answer: Answer::Refused {
+            step: 1,
+            fault: StepFault::Rule(InvalidKind::UnitNotDivisor { unit: 3, size: 4 }),
+        },
         ..PAIR
     },
 ];

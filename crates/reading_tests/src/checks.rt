@@ -1,6 +1,6 @@
 //! `cert_checker`: small traces and certificates of them, checked side by side.
 use bound_io::MemSource;
-use cache_model::Objective;
+use cache_model::{CERT_VERSION, Objective};
 use cert_checker::{CheckFault, Header, InvalidKind, Verdict, check_streams};
 use cert_format::CertReader;
 use compared::holds;
@@ -29,6 +29,8 @@ const VERDICT: Verdict = Verdict {
         upper: 1,
         flow: 1,
         lower: 1,
+        warmup: 0,
+        version: CERT_VERSION,
     },
     objects: 1,
 };

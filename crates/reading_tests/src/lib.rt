@@ -25,6 +25,10 @@ mod msr_lines;
 #[cfg(test)]
 mod numbers;
 #[cfg(test)]
+mod oracle_records;
+#[cfg(test)]
+mod pieces;
+#[cfg(test)]
 mod requests;
 #[cfg(test)]
 mod scores;
@@ -36,6 +40,8 @@ mod sources;
 mod texts;
 #[cfg(test)]
 mod traces;
+#[cfg(test)]
+mod versions;
 #[cfg(test)]
 mod webcache_lines;
 #[cfg(test)]

@@ -14,14 +14,14 @@ const STEPS: [usize; 6] = [1, 2, 7, 65535, 65536, 65537];
 
 // A form and a trace of it, the limits of its reading, the volumes, ids and sizes of the requests, and how it ends.
 #[derive(Clone, Copy)]
-struct Row<'a> {
-    format: Format,
-    trace: &'a [u8],
-    requests: u32,
-    bytes: u64,
-    given: &'a [[u64; 3]],
-    dropped: u64,
-    end: Result<Option<Object>, TraceFault>,
+pub struct Row<'a> {
+    pub format: Format,
+    pub trace: &'a [u8],
+    pub requests: u32,
+    pub bytes: u64,
+    pub given: &'a [[u64; 3]],
+    pub dropped: u64,
+    pub end: Result<Option<Object>, TraceFault>,
 }
 
 const PAIR: Row<'static> = Row {
@@ -293,19 +293,26 @@ fn check_answers(
     same(step, reader.dropped(), row.dropped).expect(rt, "a row");
 }
 
-// The answers, however the bytes are cut.
-fn check(rt: &impl Abort, alloc: Global, row: &Row<'_>) {
+// The answers, where a read gives so many bytes.
+pub fn check_at(rt: &impl Abort, alloc: Global, row: &Row<'_>, step: usize)
+    requires { 1 ≤ step }
+{
     holds(row.trace, is_readable(row)).expect(rt, "a row");
     let limits = Limits {
         requests: row.requests,
         bytes: row.bytes,
     };
+    let mut source = source_of(rt, alloc, row.trace, 0, step);
+    let mut reader = RequestReader::new(alloc, row.format, limits).expect(rt, "memory");
+    check_answers(rt, alloc, &mut reader, &mut source, row, step);
+    drop(reader);
+    drop(source);
+}
+
+// The answers, however the bytes are cut.
+fn check(rt: &impl Abort, alloc: Global, row: &Row<'_>) {
     for step in STEPS {
-        let mut source = source_of(rt, alloc, row.trace, 0, step);
-        let mut reader = RequestReader::new(alloc, row.format, limits).expect(rt, "memory");
-        check_answers(rt, alloc, &mut reader, &mut source, row, step);
-        drop(reader);
-        drop(source);
+        check_at(rt, alloc, row, step);
     }
 }
 

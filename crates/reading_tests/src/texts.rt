@@ -3,7 +3,7 @@ use bound_report::{
     BoundFacts, InvalidKind, LimitName, Mode, Refusal, Verdict, Window, WordKind, refusal_text,
     report_text, verdict_text,
 };
-use cache_model::{Header, Objective};
+use cache_model::{CERT_VERSION, Header, Objective};
 use compared::same;
 use trace_lines::LineKind;
 
@@ -17,6 +17,8 @@ const HEADER: Header = Header {
     upper: 14,
     flow: 13,
     lower: 4,
+    warmup: 0,
+    version: CERT_VERSION,
 };
 
 // A mode, the price that it found, and the report.
@@ -117,7 +119,7 @@ fn names_what_makes_a_certificate_invalid(rt: HostRuntime) {
     }
 }
 
-const OTHERS: [(Refusal, &[u8]); 8] = [
+const OTHERS: [(Refusal, &[u8]); 9] = [
     (
         Refusal::Words {
             place: u64::MAX,
@@ -138,6 +140,13 @@ const OTHERS: [(Refusal, &[u8]); 8] = [
             kind: LineKind::TooLong,
         },
         b"bad line 1: line too long\n",
+    ),
+    (
+        Refusal::BadLine {
+            line: 2,
+            kind: LineKind::PartRecord { bytes: 23 },
+        },
+        b"bad line 2: part record 23\n",
     ),
     (
         Refusal::Limit(LimitName::Denominator),

@@ -1,15 +1,13 @@
 -- What is to come of a reader, after one line more and after one request more.
-use Rattle.std.proofs.Common.{◌≡◌, ℕ, zero, suc, ◌+◌, ◌-◌, ◌≤◌, ◌<◌, ◌∙◌, sym, refl, ap, List, [], ◌∷◌, ◌++◌, append_assoc, append-nil, length, take, drop, subst, inl, inr, ◌⊎◌, arith, not, length-take, fold, Option, Some, None, Result, Ok, Err, IfSome, Bool}
+use Rattle.std.proofs.Common.{◌≡◌, ℕ, zero, suc, ◌+◌, ◌-◌, ◌≤◌, ◌<◌, ◌∙◌, sym, refl, ap, List, [], ◌∷◌, ◌++◌, append_assoc, append-nil, length, drop, subst, arith, not, fold, Option, Some, None, Result, Ok, Err, IfSome, Bool, true, false}
 use Rattle.std.specs.Result.{IsErr, IsErrAnd, is_ok}
-use Rattle.std.proofs.lemmas.List.{drop_all, drop-drop}
-use Rattle.std.proofs.lemmas.Bool.{cases_lt, le-ltb, lt-ltb, false≢true, true≢false}
-use Rattle.std.proofs.lemmas.List.Sums.{prefix_len-le-length}
+use Rattle.std.proofs.lemmas.List.{drop-drop}
+use Rattle.std.proofs.lemmas.Bool.{le-ltb, lt-ltb, false≢true, true≢false}
 use Rattle.std.specs.Io.KnownBytes.{IsAtEnd}
-use Rattle.bound_io.specs.Lines.{text_len, first_text, first_line, after_line, is_lf}
-use Rattle.bound_io.specs.Positions.{Position, GivesLine, NextLine, IsRefused}
+use Rattle.bound_io.specs.Causes.{HasNewFault}
+use Rattle.bound_io.specs.Positions.{Position}
 use Rattle.bound_io.specs.declared.line_reader.LineFault.{LineFault}
 use Rattle.bound_io.specs.declared.line_reader.LineFault.TheVariants as line
-use Rattle.bound_io.proofs.Texts.{length-first_text}
 use Rattle.cache_model.specs.declared.objects.Object.{Object}
 use Rattle.trace_lines.specs.declared.line.Span.{Span}
 use Rattle.trace_lines.specs.declared.line.Span.TheVariants.{Nothing, One, Blocks}
@@ -18,13 +16,15 @@ use Rattle.trace_lines.specs.declared.line.LineKind.TheVariants.{TooLong}
 use Rattle.trace_any.specs.declared.fault.TraceFault.{TraceFault}
 use Rattle.trace_any.specs.declared.fault.TraceFault.TheVariants.{BadLine, InputTooLong, TooManyRequests}
 use Rattle.trace_any.specs.Volumes.{Volume}
-use Rattle.trace_any.specs.Readings.{LineContents, spanned, stopped, requested, text_content, with_line, read_line, read_on, reading, nothing_read, fault_of}
+use Rattle.trace_any.specs.Readings.{LineContents, has_records, spanned, stopped, requested, text_content, with_line, read_line, read_on, reading, nothing_read, fault_of}
 use Rattle.trace_any.specs.declared.format.Format.{Format}
 use Rattle.trace_any.specs.declared.format.Limits.{Limits}
 use Rattle.bound_io.specs.Reading.{LosesPrefix}
 use Rattle.trace_any.specs.Readers.{Reader, Ahead, fresh, room_left, so_far, to_come, onto, after, with_ahead_by, ahead_by, with_named_by, number_by, bytes_after, GoesOn, GivesNone, IsOver, IsStopped, IsWhole, LineTaken}
 use Rattle.trace_any.specs.FirstLines.{coming_in}
-use Rattle.trace_any.proofs.ReadingSteps.{plain, read_on-first, read_on-stopped, fold-onto, requested-next, requested-none, requested-full}
+use Rattle.trace_any.specs.NextPieces.{GivesNext, IsNextRefused, NextPiece, after_next, next_size, next_text}
+use Rattle.trace_any.proofs.NextPieces.{is_given, next_size-le, next_text-le, past_next, refused_past_limit, refused_too_long}
+use Rattle.trace_any.proofs.ReadingSteps.{plain, read_on-first, read_on-none, read_on-stopped, fold-onto, requested-next, requested-none, requested-full}
 
 -- no block is left of the last line
 to_come_lines : (r : Reader) (bytes : List ℕ) → r.ahead.count ≡ 0 → to_come r bytes ≡ read_on r.format (room_left r) (so_far r) bytes
@@ -34,16 +34,16 @@ to_come_lines r bytes none =
 
 -- the first line is read, whatever comes of it
 to_come_line : (r : Reader) (bytes : List ℕ) → r.ahead.count ≡ 0 → 0 < length bytes
-    → to_come r bytes ≡ read_on r.format (room_left r) (read_line r.format (room_left r) (so_far r) (first_text bytes, length (first_line bytes))) (after_line bytes)
+    → to_come r bytes ≡ read_on r.format (room_left r) (read_line r.format (room_left r) (so_far r) (next_text (has_records r.format) bytes, next_size (has_records r.format) bytes)) (after_next (has_records r.format) bytes)
 to_come_line r bytes none some = to_come_lines r bytes none ∙ read_on-first r.format (room_left r) (so_far r) bytes some
 
 -- a line that is neither too long nor past the limit is taken up
-line_read : (r : Reader) (bytes : List ℕ) (line consumed : ℕ) → r.ahead.count ≡ 0 → 0 < length bytes → text_len bytes ≤ 65535 → consumed ≤ r.limits.bytes
-    → line ≡ r.lines.line + 1 → consumed ≡ r.lines.consumed + length (first_line bytes)
-    → to_come r bytes ≡ read_on r.format (room_left r) (with_line (r.limits.requests - r.given) (plain r.volumes r.dropped line consumed) (text_content r.format (first_text bytes))) (after_line bytes)
+line_read : (r : Reader) (bytes : List ℕ) (line consumed : ℕ) → r.ahead.count ≡ 0 → 0 < length bytes → length (next_text (has_records r.format) bytes) ≤ 65535 → consumed ≤ r.limits.bytes
+    → line ≡ r.lines.line + 1 → consumed ≡ r.lines.consumed + next_size (has_records r.format) bytes
+    → to_come r bytes ≡ read_on r.format (room_left r) (with_line (r.limits.requests - r.given) (plain r.volumes r.dropped line consumed) (text_content r.format (next_text (has_records r.format) bytes))) (after_next (has_records r.format) bytes)
 line_read r bytes line consumed none some short within line_is consumed_is =
     to_come_line r bytes none some
-    ∙ rw (line_is, consumed_is, le-ltb 65535 (length (first_text bytes)) (omega (arith, length-first_text bytes, short)), le-ltb r.limits.bytes (r.lines.consumed + length (first_line bytes)) (omega (arith, within, consumed_is))) refl
+    ∙ rw (line_is, consumed_is, le-ltb 65535 (length (next_text (has_records r.format) bytes)) short, le-ltb r.limits.bytes (r.lines.consumed + next_size (has_records r.format) bytes) (omega (arith, within, consumed_is))) refl
 
 -- a reader after its lines have moved
 abbrev pub with_lines : Reader → Position → Reader
@@ -55,27 +55,21 @@ pub record TakesUp (r new : Reader) (said : Result (Option LineContents) LineKin
   pub rest : after ≡ Some (bytes_after r new bytes)
   pub coming : to_come r bytes ≡ read_on r.format (room_left r) (with_line (r.limits.requests - r.given) (so_far new) said) (bytes_after r new bytes)
 
--- as many bytes as there are of so many from the prefix
-pub drop_taken : (n : ℕ) (bytes : List ℕ) → drop (length (take n bytes)) bytes ≡ drop n bytes
-drop_taken n bytes = by (cases_lt n (length bytes))
-  where
-    by : n < length bytes ⊎ length bytes ≤ n → drop (length (take n bytes)) bytes ≡ drop n bytes
-    by (inl some) = ap (λ k. drop k bytes) (omega (arith, length-take n bytes, some))
-    by (inr all) = drop_all (length (take n bytes)) bytes (omega (arith, length-take n bytes, all)) ∙ sym (drop_all n bytes all)
-
-pub takes_up : (r : Reader) (l : Position) (before after : Option (List ℕ)) (text : List ℕ) → r.ahead.count ≡ 0 → r.lines.limit ≡ r.limits.bytes → GivesLine r.lines l before after
-    → IfSome before (λ bytes. (text ≡ first_text bytes) × (0 < length bytes)) → length text ≤ 65535 → IfSome before (λ bytes. TakesUp r (with_lines r l) (text_content r.format text) bytes after)
+pub takes_up : (r : Reader) (l : Position) (before after : Option (List ℕ)) (text : List ℕ) → r.ahead.count ≡ 0 → r.lines.limit ≡ r.limits.bytes → GivesNext (has_records r.format) r.lines l before after
+    → IfSome before (λ bytes. (text ≡ next_text (has_records r.format) bytes) × (0 < length bytes)) → length text ≤ 65535 → IfSome before (λ bytes. TakesUp r (with_lines r l) (text_content r.format text) bytes after)
 takes_up r l None after text none limit gives texts short = tt
-takes_up r l (Some bytes) after text none limit gives texts short =
+takes_up r l (Some bytes) after text none limit gives_next texts short =
+    let records = has_records r.format in
+    let gives = is_given records r.lines l (Some bytes) after gives_next in
     let within : l.consumed ≤ r.limits.bytes = omega (arith, gives.within, gives.limit, limit) in
-    let text_short : text_len bytes ≤ 65535 = omega (arith, length-first_text bytes, ap length (texts.0), short) in
-    let size : l.consumed - r.lines.consumed ≡ length (first_line bytes) = omega (arith, gives.consumed) in
-    let past : after_line bytes ≡ bytes_after r (with_lines r l) bytes = sym (ap (λ n. drop n bytes) size ∙ drop_taken (text_len bytes + 1) bytes) in
+    let text_short : length (next_text records bytes) ≤ 65535 = omega (arith, ap length (texts.0), short) in
+    let size : l.consumed - r.lines.consumed ≡ next_size records bytes = omega (arith, gives.consumed) in
+    let past : after_next records bytes ≡ bytes_after r (with_lines r l) bytes = sym (ap (λ n. drop n bytes) size ∙ past_next records bytes) in
     let taken = line_read r bytes l.line l.consumed none (texts.1) text_short within gives.line gives.consumed in
     record {
       further = omega (arith, gives.some);
       rest = gives.rest ∙ ap (λ rest. Some rest) past;
-      coming = taken ∙ (ap (λ t. read_on r.format (room_left r) (with_line (r.limits.requests - r.given) (plain r.volumes r.dropped l.line l.consumed) (text_content r.format t)) (after_line bytes)) (sym (texts.0))
+      coming = taken ∙ (ap (λ t. read_on r.format (room_left r) (with_line (r.limits.requests - r.given) (plain r.volumes r.dropped l.line l.consumed) (text_content r.format t)) (after_next records bytes)) (sym (texts.0))
           ∙ ap (λ rest. read_on r.format (room_left r) (with_line (r.limits.requests - r.given) (plain r.volumes r.dropped l.line l.consumed) (text_content r.format text)) rest) past);
     }
 
@@ -139,37 +133,37 @@ refused_line r l kind (Some bytes) after said refused takes =
     let stop : to_come r bytes ≡ stopped now (BadLine l.line kind) = takes.coming ∙ (ap (λ t. read_on r.format (room_left r) (with_line (r.limits.requests - r.given) now t) (bytes_after r (with_lines r l) bytes)) refused ∙ read_on-stopped r.format (room_left r) now (BadLine l.line kind) (bytes_after r (with_lines r l) bytes)) in
     record { requests = ap (λ s. s.requests) stop; dropped_lines = ap (λ s. s.dropped) stop; stop = ap (λ s. s.refused) stop }
 
-some_text : (bytes : List ℕ) → 0 < text_len bytes → 0 < length bytes
-some_text bytes some = omega (arith, prefix_len-le-length (λ b. not (is_lf b)) bytes, some)
-
-pub too_long : (r : Reader) (line : ℕ) (before : Option (List ℕ)) → r.ahead.count ≡ 0 → line ≡ r.lines.line + 1 → IfSome before (λ bytes. 65535 < text_len bytes) → IfSome before (λ bytes. IsOver (to_come r bytes) r.dropped (Some (BadLine line TooLong)))
+pub too_long : (r : Reader) (line : ℕ) (before : Option (List ℕ)) → r.ahead.count ≡ 0 → line ≡ r.lines.line + 1 → IfSome before (λ bytes. 65535 < length (next_text (has_records r.format) bytes)) → IfSome before (λ bytes. IsOver (to_come r bytes) r.dropped (Some (BadLine line TooLong)))
 too_long r line None none line_is long = tt
 too_long r line (Some bytes) none line_is long =
-    let now = plain r.volumes r.dropped (r.lines.line + 1) (r.lines.consumed + length (first_line bytes)) in
-    let read : read_line r.format (room_left r) (so_far r) (first_text bytes, length (first_line bytes)) ≡ stopped now (BadLine (r.lines.line + 1) TooLong)
-    = rw (lt-ltb 65535 (length (first_text bytes)) (omega (arith, length-first_text bytes, long))) refl in
-    let stop : to_come r bytes ≡ stopped now (BadLine (r.lines.line + 1) TooLong) = to_come_line r bytes none (some_text bytes (omega (arith, long)))
-    ∙ (ap (λ t. read_on r.format (room_left r) t (after_line bytes)) read ∙ read_on-stopped r.format (room_left r) now (BadLine (r.lines.line + 1) TooLong) (after_line bytes)) in
+    let records = has_records r.format in
+    let text = next_text records bytes in
+    let size = next_size records bytes in
+    let now = plain r.volumes r.dropped (r.lines.line + 1) (r.lines.consumed + size) in
+    let read : read_line r.format (room_left r) (so_far r) (text, size) ≡ stopped now (BadLine (r.lines.line + 1) TooLong) = rw (lt-ltb 65535 (length text) long) refl in
+    let stop : to_come r bytes ≡ stopped now (BadLine (r.lines.line + 1) TooLong) = to_come_line r bytes none (omega (arith, long, next_text-le records bytes))
+    ∙ (ap (λ t. read_on r.format (room_left r) t (after_next records bytes)) read ∙ read_on-stopped r.format (room_left r) now (BadLine (r.lines.line + 1) TooLong) (after_next records bytes)) in
     rw line_is (record { requests = ap (λ s. s.requests) stop; dropped_lines = ap (λ s. s.dropped) stop; stop = ap (λ s. s.refused) stop })
 
 pub past_limit : (r : Reader) (before : Option (List ℕ)) → r.ahead.count ≡ 0 → r.lines.limit ≡ r.limits.bytes → r.lines.consumed ≤ r.limits.bytes
-    → IfSome before (λ bytes. (text_len bytes ≤ 65535) × (r.lines.limit < r.lines.consumed + length (first_line bytes))) → IfSome before (λ bytes. IsOver (to_come r bytes) r.dropped (Some InputTooLong))
+    → IfSome before (λ bytes. (length (next_text (has_records r.format) bytes) ≤ 65535) × (r.lines.limit < r.lines.consumed + next_size (has_records r.format) bytes)) → IfSome before (λ bytes. IsOver (to_come r bytes) r.dropped (Some InputTooLong))
 past_limit r None none limit within past = tt
 past_limit r (Some bytes) none limit within past =
-    let size = length (first_line bytes) in
+    let records = has_records r.format in
+    let text = next_text records bytes in
+    let size = next_size records bytes in
     let now = plain r.volumes r.dropped (r.lines.line + 1) (r.lines.consumed + size) in
-    let some : 0 < length bytes = omega (arith, length-take (text_len bytes + 1) bytes, past.1, limit, within) in
-    let read : read_line r.format (room_left r) (so_far r) (first_text bytes, size) ≡ stopped now InputTooLong
-    = rw (le-ltb 65535 (length (first_text bytes)) (omega (arith, length-first_text bytes, past.0)), lt-ltb r.limits.bytes (r.lines.consumed + size) (omega (arith, past.1, limit))) refl in
+    let some : 0 < length bytes = omega (arith, next_size-le records bytes, past.1, limit, within) in
+    let read : read_line r.format (room_left r) (so_far r) (text, size) ≡ stopped now InputTooLong = rw (le-ltb 65535 (length text) (past.0), lt-ltb r.limits.bytes (r.lines.consumed + size) (omega (arith, past.1, limit))) refl in
     let stop : to_come r bytes ≡ stopped now InputTooLong = to_come_line r bytes none some
-    ∙ (ap (λ t. read_on r.format (room_left r) t (after_line bytes)) read ∙ read_on-stopped r.format (room_left r) now InputTooLong (after_line bytes)) in
+    ∙ (ap (λ t. read_on r.format (room_left r) t (after_next records bytes)) read ∙ read_on-stopped r.format (room_left r) now InputTooLong (after_next records bytes)) in
     record { requests = ap (λ s. s.requests) stop; dropped_lines = ap (λ s. s.dropped) stop; stop = ap (λ s. s.refused) stop }
 
 -- no line is left
 pub no_line : (r : Reader) (before : Option (List ℕ)) → r.ahead.count ≡ 0 → IsAtEnd before → IfSome before (λ bytes. IsOver (to_come r bytes) r.dropped None)
 no_line r None none end = tt
 no_line r (Some bytes) none end =
-    let over : to_come r bytes ≡ so_far r = to_come_lines r bytes none ∙ ap (λ b. read_on r.format (room_left r) (so_far r) b) end in
+    let over : to_come r bytes ≡ so_far r = to_come_lines r bytes none ∙ (ap (λ b. read_on r.format (room_left r) (so_far r) b) end ∙ read_on-none r.format (room_left r) (so_far r)) in
     record { requests = ap (λ s. s.requests) over; dropped_lines = ap (λ s. s.dropped) over; stop = ap (λ s. s.refused) over }
 
 -- a reader that has given the first of its blocks, where the next one is this
@@ -212,10 +206,17 @@ no_room r bytes full some =
 
 -- a fault of the lines is that fault of the trace
 pub lines_refused : (r new : Reader) (before : Option (List ℕ)) (faults_before faults_after : ℕ) (fault : LineFault) → r.ahead.count ≡ 0 → r.lines.limit ≡ r.limits.bytes → r.lines.consumed ≤ r.limits.bytes → new.dropped ≡ r.dropped
-    → IsRefused r.lines before faults_before faults_after fault → IsStopped r new before faults_before faults_after (fault_of fault)
-lines_refused r new before faults_before faults_after line.ReadFault none limit within same refused = refused
-lines_refused r new before faults_before faults_after (line.LineTooLong n) none limit within same refused = rw same (too_long r n before none (refused.0) (refused.1))
-lines_refused r new before faults_before faults_after line.InputTooLong none limit within same refused = rw same (past_limit r before none limit within refused)
+    → IsNextRefused (has_records r.format) r.lines before faults_before faults_after fault → IsStopped r new before faults_before faults_after (fault_of fault)
+lines_refused r new before faults_before faults_after line.ReadFault none limit within same refused = by (has_records r.format) refused
+  where
+    by : (records : Bool) → IsNextRefused records r.lines before faults_before faults_after line.ReadFault → HasNewFault faults_before faults_after
+    by true why = why
+    by false why = why
+lines_refused r new before faults_before faults_after (line.LineTooLong n) none limit within same refused =
+    let why = refused_too_long (has_records r.format) r.lines before faults_before faults_after n refused in
+    rw same (too_long r n before none (why.0) (why.1))
+lines_refused r new before faults_before faults_after line.InputTooLong none limit within same refused =
+    rw same (past_limit r before none limit within (refused_past_limit (has_records r.format) r.lines before faults_before faults_after refused))
 
 -- whether or not a line was given, the lines are within their limit, and no fewer than those that were dropped
 pub record Onward (bytes dropped : ℕ) (l : Position) : Type 0 where
@@ -224,16 +225,18 @@ pub record Onward (bytes dropped : ℕ) (l : Position) : Type 0 where
   pub counted : l.line ≤ l.consumed
   pub some_dropped : dropped ≤ l.line
 
-pub goes_onward : {A : Type 0} (bytes dropped : ℕ) (old new : Position) (before after : Option (List ℕ)) (result : Result (Option A) LineFault) → old.limit ≡ bytes → old.consumed ≤ bytes → old.line ≤ old.consumed → dropped ≤ old.line
-    → NextLine old new before after result → Onward bytes dropped new
-goes_onward bytes dropped old new before after (Ok (Some text)) limit within counted fewer gives = record {
-  limit = gives.limit ∙ limit;
-  within = omega (arith, gives.within, gives.limit, limit);
-  counted = omega (arith, gives.line, gives.some, counted);
-  some_dropped = omega (arith, gives.line, fewer);
-}
-goes_onward bytes dropped old new before after (Ok None) limit within counted fewer none = rw (none.still) (record { limit = limit; within = within; counted = counted; some_dropped = fewer })
-goes_onward bytes dropped old new before after (Err fault) limit within counted fewer stops = rw (stops.still) (record { limit = limit; within = within; counted = counted; some_dropped = fewer })
+pub goes_onward : {A : Type 0} (records : Bool) (bytes dropped : ℕ) (old new : Position) (before after : Option (List ℕ)) (result : Result (Option A) LineFault) → old.limit ≡ bytes → old.consumed ≤ bytes → old.line ≤ old.consumed → dropped ≤ old.line
+    → NextPiece records old new before after result → Onward bytes dropped new
+goes_onward records bytes dropped old new before after (Ok (Some text)) limit within counted fewer gives_next =
+    let gives = is_given records old new before after gives_next in
+    record {
+      limit = gives.limit ∙ limit;
+      within = omega (arith, gives.within, gives.limit, limit);
+      counted = omega (arith, gives.line, gives.some, counted);
+      some_dropped = omega (arith, gives.line, fewer);
+    }
+goes_onward records bytes dropped old new before after (Ok None) limit within counted fewer none = rw (none.still) (record { limit = limit; within = within; counted = counted; some_dropped = fewer })
+goes_onward records bytes dropped old new before after (Err fault) limit within counted fewer stops = rw (stops.still) (record { limit = limit; within = within; counted = counted; some_dropped = fewer })
 
 pub taken_err : (r new : Reader) (before after : Option (List ℕ)) (faults_before faults_after : ℕ) (fault : TraceFault) (result : Result Bool TraceFault) → IsErr result → IsErrAnd result (λ e. e ≡ fault)
     → IsStopped r new before faults_before faults_after fault → LineTaken r new before after faults_before faults_after result

@@ -1,5 +1,6 @@
 pub mod ReadingRows
 pub mod FirstLines
+pub mod NextPieces
 pub mod ReadingSteps
 pub mod Coming
 pub mod Through

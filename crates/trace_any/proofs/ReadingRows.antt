@@ -1,9 +1,9 @@
 -- Readings worked out by hand.
-use Rattle.std.proofs.Common.{◌≡◌, ℕ, [], ◌∷◌, codes, refl, Some, None}
+use Rattle.std.proofs.Common.{◌≡◌, ℕ, List, [], ◌∷◌, ◌++◌, codes, refl, take, Some, None}
 use Rattle.cache_model.specs.declared.objects.Object.{Object}
-use Rattle.trace_lines.specs.declared.line.LineKind.TheVariants.{TooFewWords, BadNumber, SizeTooLarge}
+use Rattle.trace_lines.specs.declared.line.LineKind.TheVariants.{TooFewWords, BadNumber, SizeTooLarge, PartRecord}
 use Rattle.trace_any.specs.declared.fault.TraceFault.TheVariants.{BadLine, InputTooLong, TooManyRequests}
-use Rattle.trace_any.specs.declared.format.Format.TheVariants.{Webcache}
+use Rattle.trace_any.specs.declared.format.Format.TheVariants.{Webcache, Oracle}
 use Rattle.trace_any.specs.declared.format.Limits.{Limits}
 use Rattle.trace_any.specs.Readings.{reading, full_limits}
 
@@ -48,3 +48,39 @@ unended_limit = refl
 
 no_bytes : reading Webcache full_limits [] ≡ record { requests = []; volumes = []; dropped = 0; lines = 0; bytes = 0; refused = None }
 no_bytes = refl
+
+-- a record of a time, an id and a size, and as its next access 13, 10 and blanks
+abbrev oracle_record : ℕ → ℕ → ℕ → List ℕ
+oracle_record time id size =
+    (time ∷ 0 ∷ 0 ∷ 0 ∷ []) ++ (id ∷ 0 ∷ 0 ∷ 0 ∷ 0 ∷ 0 ∷ 0 ∷ 0 ∷ []) ++ (size ∷ 0 ∷ 0 ∷ 0 ∷ []) ++ (13 ∷ 10 ∷ 32 ∷ 32 ∷ 32 ∷ 32 ∷ 10 ∷ 13 ∷ [])
+
+-- records, of which one asks for no byte
+abbrev three_records : List ℕ
+three_records = oracle_record 1 7 4 ++ oracle_record 10 32 0 ++ oracle_record 10 7 4
+
+records : reading Oracle full_limits three_records ≡ record { requests = ob 7 4 ∷ ob 7 4 ∷ []; volumes = []; dropped = 1; lines = 3; bytes = 72; refused = None }
+records = refl
+
+-- the last record has 23 bytes, or 1
+part_of_23 : reading Oracle full_limits (take 71 three_records) ≡ record { requests = ob 7 4 ∷ []; volumes = []; dropped = 1; lines = 3; bytes = 71; refused = Some (BadLine 3 (PartRecord 23)) }
+part_of_23 = refl
+
+part_of_1 : reading Oracle full_limits (take 49 three_records) ≡ record { requests = ob 7 4 ∷ []; volumes = []; dropped = 1; lines = 3; bytes = 49; refused = Some (BadLine 3 (PartRecord 1)) }
+part_of_1 = refl
+
+-- the bytes through a record pass the limit, or those through a part of one
+record_past_limit : (reading Oracle (few 9 71) three_records).refused ≡ Some InputTooLong
+record_past_limit = refl
+
+part_past_limit : (reading Oracle (few 9 70) (take 71 three_records)).refused ≡ Some InputTooLong
+part_past_limit = refl
+
+part_at_limit : (reading Oracle (few 9 71) (take 71 three_records)).refused ≡ Some (BadLine 3 (PartRecord 23))
+part_at_limit = refl
+
+-- a second request where one is allowed
+second_record : reading Oracle (few 1 1000) three_records ≡ record { requests = ob 7 4 ∷ []; volumes = []; dropped = 1; lines = 3; bytes = 72; refused = Some TooManyRequests }
+second_record = refl
+
+no_records : reading Oracle full_limits [] ≡ record { requests = []; volumes = []; dropped = 0; lines = 0; bytes = 0; refused = None }
+no_records = refl

@@ -2,7 +2,6 @@
 use Rattle.std.proofs.Common.{◌≡◌, ℕ, suc, ◌+◌, ◌-◌, ◌≤◌, ◌<◌, ◌∙◌, sym, refl, ap, Bool, true, false, cond, nat_lt, List, [], ◌∷◌, ◌++◌, length, min, fold, arith, inl, inr, ◌⊎◌, Option, Some, None, Result, Ok, Err}
 use Rattle.std.proofs.lemmas.Bool.{cases_lt, lt-ltb, le-ltb}
 use Rattle.std.specs.Option.{is_some}
-use Rattle.bound_io.specs.Lines.{first_text, first_line, after_line}
 use Rattle.cache_model.specs.declared.objects.Object.{Object}
 use Rattle.trace_lines.specs.declared.line.Span.{Span}
 use Rattle.trace_lines.specs.declared.line.Span.TheVariants.{Nothing, One, Blocks}
@@ -12,15 +11,20 @@ use Rattle.trace_any.specs.declared.fault.TraceFault.{TraceFault}
 use Rattle.trace_any.specs.declared.fault.TraceFault.TheVariants.{BadLine, InputTooLong, TooManyRequests}
 use Rattle.trace_any.specs.declared.format.Format.{Format}
 use Rattle.trace_any.specs.declared.format.Limits.{Limits}
-use Rattle.trace_any.specs.Readings.{Reading, stopped, blocks, requested, LineContents, spanned, with_named, number_of, text_content, with_line, read_line, lines_of, read_on}
+use Rattle.trace_any.specs.Readings.{Reading, stopped, blocks, requested, LineContents, spanned, with_named, number_of, text_content, with_line, read_line, has_records, pieces_of, read_on}
 use Rattle.trace_any.specs.Volumes.{Volume}
+use Rattle.trace_any.specs.NextPieces.{after_next, next_size, next_text}
 use Rattle.trace_any.specs.Readers.{onto}
-use Rattle.trace_any.proofs.FirstLines.{lines_of-first}
+use Rattle.trace_any.proofs.NextPieces.{cut-first, cut-none}
 
--- the first line, and then the others
+-- the first line or the first record, and then the others
 pub read_on-first : (format : Format) (limits : Limits) (r : Reading) (bytes : List ℕ) → 0 < length bytes
-    → read_on format limits r bytes ≡ read_on format limits (read_line format limits r (first_text bytes, length (first_line bytes))) (after_line bytes)
-read_on-first format limits r bytes some = ap (λ lines. fold (read_line format limits) r lines) (lines_of-first bytes some)
+    → read_on format limits r bytes ≡ read_on format limits (read_line format limits r (next_text (has_records format) bytes, next_size (has_records format) bytes)) (after_next (has_records format) bytes)
+read_on-first format limits r bytes some = ap (λ pieces. fold (read_line format limits) r pieces) (cut-first (has_records format) bytes some)
+
+-- no bytes, and so no line and no record
+pub read_on-none : (format : Format) (limits : Limits) (r : Reading) → read_on format limits r [] ≡ r
+read_on-none format limits r = ap (λ pieces. fold (read_line format limits) r pieces) (cut-none (has_records format))
 
 -- a reading that has stopped stays as it is
 stays : (format : Format) (limits : Limits) (r : Reading) (lines : List (List ℕ × ℕ)) → is_some r.refused ≡ true → fold (read_line format limits) r lines ≡ r
@@ -31,7 +35,7 @@ stays format limits r ((text, size) ∷ lines) stop = ap (λ s. fold (read_line 
     still e = rw e refl
 
 pub read_on-stopped : (format : Format) (limits : Limits) (r : Reading) (fault : TraceFault) (bytes : List ℕ) → read_on format limits (stopped r fault) bytes ≡ stopped r fault
-read_on-stopped format limits r fault bytes = stays format limits (stopped r fault) (lines_of bytes) refl
+read_on-stopped format limits r fault bytes = stays format limits (stopped r fault) (pieces_of format bytes) refl
 
 -- room for so many requests, and these bytes
 abbrev pub room : ℕ → ℕ → Limits
@@ -87,7 +91,7 @@ fold-onto format most bytes x r (line ∷ lines) =
 
 -- a reading with a request more in prefix and one place more
 pub read_on-onto : (format : Format) (most bytes : ℕ) (x : Object) (r : Reading) (rest : List ℕ) → read_on format (room (most + 1) bytes) (onto x r) rest ≡ onto x (read_on format (room most bytes) r rest)
-read_on-onto format most bytes x r rest = fold-onto format most bytes x r (lines_of rest)
+read_on-onto format most bytes x r rest = fold-onto format most bytes x r (pieces_of format rest)
 
 -- a reading without requests, which has not stopped
 abbrev pub plain : List Volume → ℕ → ℕ → ℕ → Reading

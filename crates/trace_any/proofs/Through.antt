@@ -5,8 +5,7 @@ use Rattle.std.proofs.Math.Seq.{take-add}
 use Rattle.std.proofs.lemmas.List.{drop-drop}
 use Rattle.std.proofs.lemmas.List.Sums.{sum_by-append}
 use Rattle.std.proofs.lemmas.Bool.{cases_lt, le-ltb}
-use Rattle.bound_io.specs.Lines.{text_len, first_text, first_line, after_line}
-use Rattle.bound_io.specs.Positions.{Position, GivesLine}
+use Rattle.bound_io.specs.Positions.{Position}
 use Rattle.cache_model.specs.declared.objects.Object.{Object}
 use Rattle.trace_lines.specs.declared.line.Span.{Span}
 use Rattle.trace_lines.specs.declared.line.Span.TheVariants.{Nothing, One, Blocks}
@@ -14,11 +13,12 @@ use Rattle.trace_lines.specs.declared.line.LineKind.{LineKind}
 use Rattle.trace_any.specs.Volumes.{Volume}
 use Rattle.trace_any.specs.declared.format.Format.{Format}
 use Rattle.trace_any.specs.declared.format.Limits.{Limits}
-use Rattle.trace_any.specs.Readings.{LineContents, Reading, lines_of, nothing_read, reading, requested, read_line, spanned, text_content, with_line}
+use Rattle.trace_any.specs.Readings.{LineContents, Reading, has_records, pieces_of, nothing_read, reading, requested, read_line, spanned, text_content, with_line}
 use Rattle.trace_any.specs.Readers.{GoesOn, Reader, after, bytes_after, fresh, onto, room_left, so_far, with_ahead}
 use Rattle.trace_any.specs.FirstLines.{GoesNoFurther, GoesThrough, HasGiven, HasLostFor, bytes_of, coming_in, first_lines, lines_between, reading_of_first}
-use Rattle.trace_any.proofs.Coming.{drop_taken, past_both, with_asked, with_lines}
-use Rattle.trace_any.proofs.FirstLines.{lines_of-first}
+use Rattle.trace_any.specs.NextPieces.{GivesNext, after_next, next_size, next_text}
+use Rattle.trace_any.proofs.Coming.{past_both, with_asked, with_lines}
+use Rattle.trace_any.proofs.NextPieces.{cut-first, is_given, past_next}
 use Rattle.trace_any.proofs.ReadingSteps.{plain, requested-none}
 
 -- no block is left of the last line
@@ -31,25 +31,29 @@ ahead_none r none =
 pub record ReadsLine (r : Reader) (l : Position) (said : Result (Option LineContents) LineKind) (bytes : List ℕ) : Type 0 where
   pub some : 0 < length bytes
   pub line : l.line ≡ r.lines.line + 1
-  pub consumed : l.consumed ≡ r.lines.consumed + length (first_line bytes)
-  pub step : read_line r.format (room_left r) (with_ahead r) (first_text bytes, length (first_line bytes)) ≡ with_line (r.limits.requests - r.given) (so_far (with_lines r l)) said
+  pub consumed : l.consumed ≡ r.lines.consumed + next_size (has_records r.format) bytes
+  pub step : read_line r.format (room_left r) (with_ahead r) (next_text (has_records r.format) bytes, next_size (has_records r.format) bytes) ≡ with_line (r.limits.requests - r.given) (so_far (with_lines r l)) said
 
-pub reads_line : (r : Reader) (l : Position) (before after : Option (List ℕ)) (text : List ℕ) → r.ahead.count ≡ 0 → r.lines.limit ≡ r.limits.bytes → GivesLine r.lines l before after
-    → IfSome before (λ bytes. (text ≡ first_text bytes) × (0 < length bytes)) → length text ≤ 65535 → IfSome before (ReadsLine r l (text_content r.format text))
+pub reads_line : (r : Reader) (l : Position) (before after : Option (List ℕ)) (text : List ℕ) → r.ahead.count ≡ 0 → r.lines.limit ≡ r.limits.bytes → GivesNext (has_records r.format) r.lines l before after
+    → IfSome before (λ bytes. (text ≡ next_text (has_records r.format) bytes) × (0 < length bytes)) → length text ≤ 65535 → IfSome before (ReadsLine r l (text_content r.format text))
 reads_line r l None after text none limit gives texts short = tt
-reads_line r l (Some bytes) after text none limit gives texts short =
+reads_line r l (Some bytes) after text none limit gives_next texts short =
+    let records = has_records r.format in
+    let gives = is_given records r.lines l (Some bytes) after gives_next in
     let within : l.consumed ≤ r.limits.bytes = omega (arith, gives.within, gives.limit, limit) in
-    let line : List ℕ × ℕ = (first_text bytes, length (first_line bytes)) in
-    let taken : read_line r.format (room_left r) (so_far r) line ≡ with_line (r.limits.requests - r.given) (plain r.volumes r.dropped (r.lines.line + 1) (r.lines.consumed + length (first_line bytes))) (text_content r.format (first_text bytes)) =
-    rw (le-ltb 65535 (length (first_text bytes)) (omega (arith, ap length (texts.0), short)), le-ltb r.limits.bytes (r.lines.consumed + length (first_line bytes)) (omega (arith, within, gives.consumed))) refl in
+    let first = next_text records bytes in
+    let size = next_size records bytes in
+    let line : List ℕ × ℕ = (first, size) in
+    let taken : read_line r.format (room_left r) (so_far r) line ≡ with_line (r.limits.requests - r.given) (plain r.volumes r.dropped (r.lines.line + 1) (r.lines.consumed + size)) (text_content r.format first) =
+    rw (le-ltb 65535 (length first) (omega (arith, ap length (texts.0), short)), le-ltb r.limits.bytes (r.lines.consumed + size) (omega (arith, within, gives.consumed))) refl in
     record {
       some = texts.1;
       line = gives.line;
       consumed = gives.consumed;
       step = ap (λ s. read_line r.format (room_left r) s line) (ahead_none r none)
           ∙ (taken
-          ∙ (ap (λ n. with_line (r.limits.requests - r.given) (plain r.volumes r.dropped n (r.lines.consumed + length (first_line bytes))) (text_content r.format (first_text bytes))) (sym gives.line)
-          ∙ (ap (λ n. with_line (r.limits.requests - r.given) (plain r.volumes r.dropped l.line n) (text_content r.format (first_text bytes))) (sym gives.consumed)
+          ∙ (ap (λ n. with_line (r.limits.requests - r.given) (plain r.volumes r.dropped n (r.lines.consumed + size)) (text_content r.format first)) (sym gives.line)
+          ∙ (ap (λ n. with_line (r.limits.requests - r.given) (plain r.volumes r.dropped l.line n) (text_content r.format first)) (sym gives.consumed)
           ∙ ap (λ t. with_line (r.limits.requests - r.given) (plain r.volumes r.dropped l.line l.consumed) (text_content r.format t)) (sym (texts.0)))));
     }
 
@@ -62,17 +66,19 @@ pub record IsNextAt (r new : Reader) (l : Position) : Type 0 where
 one_more : (r new : Reader) (l : Position) (said : Result (Option LineContents) LineKind) (bytes : List ℕ) → r.ahead.count ≡ 0 → IsNextAt r new l → ReadsLine r l said bytes
     → with_line (r.limits.requests - r.given) (so_far (with_lines r l)) said ≡ with_ahead new → GoesNoFurther (λ s. s) r new bytes
 one_more r new l said bytes none next reads asks =
-    let line : List ℕ × ℕ = (first_text bytes, length (first_line bytes)) in
-    let rest = lines_of (after_line bytes) in
-    let all : lines_of bytes ≡ line ∷ rest = lines_of-first bytes (reads.some) in
+    let records = has_records r.format in
+    let line : List ℕ × ℕ = (next_text records bytes, next_size records bytes) in
+    let rest = pieces_of r.format (after_next records bytes) in
+    let all : pieces_of r.format bytes ≡ line ∷ rest = cut-first records bytes (reads.some) in
     let number : new.lines.line ≡ r.lines.line + 1 = ap (λ (p : Position). p.line) (next.lines) ∙ reads.line in
     let one : lines_between r new ≡ 1 = omega (arith, number) in
-    let size : new.lines.consumed - r.lines.consumed ≡ length (first_line bytes) = omega (arith, ap (λ (p : Position). p.consumed) (next.lines), reads.consumed) in
-    let first : first_lines (lines_between r new) bytes ≡ line ∷ [] = ap (λ n. first_lines n bytes) one ∙ ap (take 1) all in
+    let size : new.lines.consumed - r.lines.consumed ≡ next_size records bytes = omega (arith, ap (λ (p : Position). p.consumed) (next.lines), reads.consumed) in
+    let first : first_lines r.format (lines_between r new) bytes ≡ line ∷ [] = ap (λ n. first_lines r.format n bytes) one ∙ ap (take 1) all in
     let through : GoesThrough (λ s. s) r new bytes = record {
+      format = next.format;
       further = omega (arith, number);
       consumed = omega (arith, ap (λ (p : Position). p.consumed) (next.lines), reads.consumed, ap bytes_of first);
-      rest = ap lines_of (ap (λ n. drop n bytes) size ∙ drop_taken (text_len bytes + 1) bytes) ∙ (sym (ap (drop 1) all) ∙ ap (λ n. drop n (lines_of bytes)) (sym one));
+      rest = ap (pieces_of r.format) (ap (λ n. drop n bytes) size ∙ past_next records bytes) ∙ (sym (ap (drop 1) all) ∙ ap (λ n. drop n (pieces_of r.format bytes)) (sym one));
       coming = λ more. ap (λ ls. coming_in r (ls ++ more)) first
           ∙ (ap (λ s. fold (read_line r.format (room_left r)) s more) (reads.step ∙ asks)
           ∙ (ap (λ f. fold (read_line f (room_left r)) (with_ahead new) more) (sym next.format) ∙ ap (λ m. fold (read_line new.format m) (with_ahead new) more) (sym next.room)));
@@ -81,7 +87,7 @@ one_more r new l said bytes none next reads asks =
       through = through;
       none_before = λ fewer few.
           let zero_is : fewer ≡ 0 = omega (arith, few, one) in
-          let zero_lines : first_lines fewer bytes ≡ [] = ap (λ n. first_lines n bytes) zero_is in
+          let zero_lines : first_lines r.format fewer bytes ≡ [] = ap (λ n. first_lines r.format n bytes) zero_is in
           ap (λ ls. (coming_in r ls).requests) zero_lines ∙ ap (λ (s : Reading). s.requests) (ahead_none r none);
     }
 
@@ -119,30 +125,38 @@ module _ (one other both : Reading → Reading) (same : (s : Reading) → one (o
   abbrev rest : List ℕ
   rest = bytes_after first second bytes
 
-  split : (n : ℕ) → first_lines (k + n) bytes ≡ first_lines k bytes ++ first_lines n rest
-  split n = take-add k n (lines_of bytes) ∙ ap (λ ls. first_lines k bytes ++ take n ls) (sym goes.rest)
+  split : (n : ℕ) → first_lines first.format (k + n) bytes ≡ first_lines first.format k bytes ++ first_lines second.format n rest
+  split n =
+      take-add k n (pieces_of first.format bytes)
+      ∙ (ap (λ ls. first_lines first.format k bytes ++ take n ls) (sym goes.rest)
+      ∙ ap (λ f. first_lines first.format k bytes ++ first_lines f n rest) (sym goes.format))
 
   -- what comes of the first lines and some of those after them
-  pub coming_both : (n : ℕ) (more : List (List ℕ × ℕ)) → coming_in first (first_lines (k + n) bytes ++ more) ≡ one (coming_in second (first_lines n rest ++ more))
+  pub coming_both : (n : ℕ) (more : List (List ℕ × ℕ)) → coming_in first (first_lines first.format (k + n) bytes ++ more) ≡ one (coming_in second (first_lines second.format n rest ++ more))
   coming_both n more =
       ap (λ ls. coming_in first (ls ++ more)) (split n)
-      ∙ (ap (coming_in first) (append_assoc (first_lines k bytes) (first_lines n rest) more) ∙ goes.coming (first_lines n rest ++ more))
+      ∙ (ap (coming_in first) (append_assoc (first_lines first.format k bytes) (first_lines second.format n rest) more) ∙ goes.coming (first_lines second.format n rest ++ more))
 
-  pub coming_first : (n : ℕ) → coming_in first (first_lines (k + n) bytes) ≡ one (coming_in second (first_lines n rest))
-  coming_first n = ap (coming_in first) (sym (append-nil (first_lines (k + n) bytes))) ∙ (coming_both n [] ∙ ap (λ ls. one (coming_in second ls)) (append-nil (first_lines n rest)))
+  pub coming_first : (n : ℕ) → coming_in first (first_lines first.format (k + n) bytes) ≡ one (coming_in second (first_lines second.format n rest))
+  coming_first n =
+      ap (coming_in first) (sym (append-nil (first_lines first.format (k + n) bytes))) ∙ (coming_both n [] ∙ ap (λ ls. one (coming_in second ls)) (append-nil (first_lines second.format n rest)))
 
   pub through_both : GoesThrough other second third rest → GoesThrough both first third bytes
   through_both next =
       let m = lines_between second third in
       let lines : lines_between first third ≡ k + m = omega (arith, next.further, goes.further) in
-      let size : bytes_of (first_lines (k + m) bytes) ≡ bytes_of (first_lines k bytes) + bytes_of (first_lines m rest) = ap bytes_of (split m) ∙ sum_by-append (λ (line : List ℕ × ℕ). line.1) (first_lines k bytes) (first_lines m rest) in
+      let size : bytes_of (first_lines first.format (k + m) bytes) ≡ bytes_of (first_lines first.format k bytes) + bytes_of (first_lines second.format m rest) =
+      ap bytes_of (split m) ∙ sum_by-append (λ (line : List ℕ × ℕ). line.1) (first_lines first.format k bytes) (first_lines second.format m rest) in
       let after_both : bytes_after second third rest ≡ bytes_after first third bytes =
       past_both (second.lines.consumed - first.lines.consumed) (third.lines.consumed - second.lines.consumed) (third.lines.consumed - first.lines.consumed) bytes (omega (arith, goes.consumed, next.consumed)) in
+      let next_rest : pieces_of first.format (bytes_after second third rest) ≡ drop m (pieces_of first.format rest) = rw (goes.format) at next.rest in
       record {
+        format = next.format ∙ goes.format;
         further = omega (arith, goes.further, next.further);
-        consumed = omega (arith, goes.consumed, next.consumed, size, ap (λ n. bytes_of (first_lines n bytes)) lines);
-        rest = ap lines_of (sym after_both) ∙ (next.rest ∙ (ap (drop m) goes.rest ∙ (drop-drop m k (lines_of bytes) ∙ ap (λ n. drop n (lines_of bytes)) (sym lines))));
-        coming = λ more. ap (λ n. coming_in first (first_lines n bytes ++ more)) lines ∙ (coming_both m more ∙ (ap one (next.coming more) ∙ same (coming_in third more)));
+        consumed = omega (arith, goes.consumed, next.consumed, size, ap (λ n. bytes_of (first_lines first.format n bytes)) lines);
+        rest = ap (pieces_of first.format) (sym after_both)
+            ∙ (next_rest ∙ (ap (drop m) goes.rest ∙ (drop-drop m k (pieces_of first.format bytes) ∙ ap (λ n. drop n (pieces_of first.format bytes)) (sym lines))));
+        coming = λ more. ap (λ n. coming_in first (first_lines first.format n bytes ++ more)) lines ∙ (coming_both m more ∙ (ap one (next.coming more) ∙ same (coming_in third more)));
       }
 
 -- what the reader of lines stands in after some lines
@@ -163,19 +177,19 @@ no_further_then first second third (Some bytes) between rest one other =
       none_before = λ fewer few. by fewer few next (cases_lt fewer (lines_between first second));
     }
   where
-    by : (fewer : ℕ) → fewer < lines_between first third → GoesNoFurther (λ s. s) second third (bytes_after first second bytes) → fewer < lines_between first second ⊎ lines_between first second ≤ fewer → (coming_in first (first_lines fewer bytes)).requests ≡ []
+    by : (fewer : ℕ) → fewer < lines_between first third → GoesNoFurther (λ s. s) second third (bytes_after first second bytes) → fewer < lines_between first second ⊎ lines_between first second ≤ fewer → (coming_in first (first_lines first.format fewer bytes)).requests ≡ []
     by fewer few next (inl less) = one.none_before fewer less
     by fewer few next (inr more) =
         let n = fewer - lines_between first second in
         let at : fewer ≡ lines_between first second + n = omega (arith, more) in
-        ap (λ j. (coming_in first (first_lines j bytes)).requests) at
+        ap (λ j. (coming_in first (first_lines first.format j bytes)).requests) at
         ∙ (ap (λ (s : Reading). s.requests) (coming_first (λ s. s) (λ s. s) (λ s. s) (λ s. refl) first second third bytes one.through n) ∙ next.none_before n (omega (arith, few, more, one.through.further, next.through.further)))
 
 -- a request is given of the lines so far
-pub no_further_given : (first second third : Reader) (x : Object) (before : Option (List ℕ)) → third.lines ≡ second.lines → ((lines : List (List ℕ × ℕ)) → coming_in second lines ≡ onto x (coming_in third lines))
+pub no_further_given : (first second third : Reader) (x : Object) (before : Option (List ℕ)) → third.format ≡ second.format → third.lines ≡ second.lines → ((lines : List (List ℕ × ℕ)) → coming_in second lines ≡ onto x (coming_in third lines))
     → IfSome before (GoesNoFurther (λ s. s) first second) → IfSome before (GoesNoFurther (onto x) first third)
-no_further_given first second third x None same gives one = tt
-no_further_given first second third x (Some bytes) same gives one =
+no_further_given first second third x None form same gives one = tt
+no_further_given first second third x (Some bytes) form same gives one =
     let goes = one.through in
     let line : third.lines.line ≡ second.lines.line = ap (λ (p : Position). p.line) same in
     let consumed : third.lines.consumed ≡ second.lines.consumed = ap (λ (p : Position). p.consumed) same in
@@ -183,10 +197,11 @@ no_further_given first second third x (Some bytes) same gives one =
     let rest : bytes_after first third bytes ≡ bytes_after first second bytes = ap (λ n. drop (n - first.lines.consumed) bytes) consumed in
     record {
       through = record {
+        format = form ∙ goes.format;
         further = omega (arith, goes.further, line);
-        consumed = consumed ∙ (goes.consumed ∙ ap (λ n. first.lines.consumed + bytes_of (first_lines n bytes)) (sym lines));
-        rest = ap lines_of rest ∙ (goes.rest ∙ ap (λ n. drop n (lines_of bytes)) (sym lines));
-        coming = λ more. ap (λ n. coming_in first (first_lines n bytes ++ more)) lines ∙ (goes.coming more ∙ gives more);
+        consumed = consumed ∙ (goes.consumed ∙ ap (λ n. first.lines.consumed + bytes_of (first_lines first.format n bytes)) (sym lines));
+        rest = ap (pieces_of first.format) rest ∙ (goes.rest ∙ ap (λ n. drop n (pieces_of first.format bytes)) (sym lines));
+        coming = λ more. ap (λ n. coming_in first (first_lines first.format n bytes ++ more)) lines ∙ (goes.coming more ∙ gives more);
       };
       none_before = λ fewer few. one.none_before fewer (omega (arith, few, lines));
     }
@@ -197,12 +212,13 @@ no_further_yet r None = tt
 no_further_yet r (Some bytes) =
     let none : lines_between r r ≡ 0 = omega arith in
     let nothing : r.lines.consumed - r.lines.consumed ≡ 0 = omega arith in
-    let empty : first_lines (lines_between r r) bytes ≡ [] = ap (λ n. first_lines n bytes) none in
+    let empty : first_lines r.format (lines_between r r) bytes ≡ [] = ap (λ n. first_lines r.format n bytes) none in
     record {
       through = record {
+        format = refl;
         further = omega arith;
         consumed = omega (arith, ap bytes_of empty);
-        rest = ap (λ n. lines_of (drop n bytes)) nothing ∙ ap (λ n. drop n (lines_of bytes)) (sym none);
+        rest = ap (λ n. pieces_of r.format (drop n bytes)) nothing ∙ ap (λ n. drop n (pieces_of r.format bytes)) (sym none);
         coming = λ more. ap (λ ls. coming_in r (ls ++ more)) empty;
       };
       none_before = λ fewer few. absurd (omega (arith, few, none));
@@ -218,15 +234,15 @@ given_next first second third given x bytes has next = record {
     same : (s : Reading) → after given (onto x s) ≡ after (given ++ x ∷ []) s
     same s = ap (λ requests. record s { requests = requests }) (sym (append_assoc given (x ∷ []) s.requests))
 
-    by : (lines : ℕ) → length (given ++ x ∷ []) ≤ length (coming_in first (first_lines lines bytes)).requests → lines < lines_between first third ⊎ lines_between first third ≤ lines → lines_between first third ≤ lines
+    by : (lines : ℕ) → length (given ++ x ∷ []) ≤ length (coming_in first (first_lines first.format lines bytes)).requests → lines < lines_between first third ⊎ lines_between first third ≤ lines → lines_between first third ≤ lines
     by lines some (inr more) = more
     by lines some (inl fewer) =
         let long : length (given ++ x ∷ []) ≡ length given + 1 = length-append given (x ∷ []) in
         let before : lines_between first second ≤ lines = has.least lines (omega (arith, some, long)) in
         let n = lines - lines_between first second in
         let at : lines ≡ lines_between first second + n = omega (arith, before) in
-        let none : (coming_in second (first_lines n (bytes_after first second bytes))).requests ≡ [] = next.none_before n (omega (arith, fewer, before, has.through.further, next.through.further)) in
-        let count : (coming_in first (first_lines lines bytes)).requests ≡ given = ap (λ j. (coming_in first (first_lines j bytes)).requests) at
+        let none : (coming_in second (first_lines second.format n (bytes_after first second bytes))).requests ≡ [] = next.none_before n (omega (arith, fewer, before, has.through.further, next.through.further)) in
+        let count : (coming_in first (first_lines first.format lines bytes)).requests ≡ given = ap (λ j. (coming_in first (first_lines first.format j bytes)).requests) at
         ∙ (ap (λ (s : Reading). s.requests) (coming_first (after given) (onto x) (after (given ++ x ∷ [])) same first second third bytes has.through n) ∙ (ap (λ rs. given ++ rs) none ∙ append-nil given)) in
         absurd (omega (arith, some, long, ap length count))
 
@@ -235,30 +251,32 @@ pub given_none : (r : Reader) (bytes : List ℕ) → HasGiven [] r r bytes
 given_none r bytes =
     let none : lines_between r r ≡ 0 = omega arith in
     let nothing : r.lines.consumed - r.lines.consumed ≡ 0 = omega arith in
-    let empty : first_lines (lines_between r r) bytes ≡ [] = ap (λ n. first_lines n bytes) none in
+    let empty : first_lines r.format (lines_between r r) bytes ≡ [] = ap (λ n. first_lines r.format n bytes) none in
     record {
       through = record {
+        format = refl;
         further = omega arith;
         consumed = omega (arith, ap bytes_of empty);
-        rest = ap (λ n. lines_of (drop n bytes)) nothing ∙ ap (λ n. drop n (lines_of bytes)) (sym none);
+        rest = ap (λ n. pieces_of r.format (drop n bytes)) nothing ∙ ap (λ n. drop n (pieces_of r.format bytes)) (sym none);
         coming = λ more. ap (λ ls. coming_in r (ls ++ more)) empty;
       };
       least = λ lines some. omega (arith, none);
     }
 
 -- what a reader that has read nothing makes of the first lines
-fresh_coming : (format : Format) (limits : Limits) (lines : ℕ) (bytes : List ℕ) → coming_in (fresh format limits) (first_lines lines bytes) ≡ reading_of_first format limits lines bytes
+fresh_coming : (format : Format) (limits : Limits) (lines : ℕ) (bytes : List ℕ) → coming_in (fresh format limits) (first_lines format lines bytes) ≡ reading_of_first format limits lines bytes
 fresh_coming format limits lines bytes =
     let all : limits.requests - 0 ≡ limits.requests = omega arith in
-    ap (λ s. fold (read_line format (room_left (fresh format limits))) s (first_lines lines bytes)) (ahead_none (fresh format limits) refl)
-    ∙ ap (λ n. fold (read_line format (record { requests = n; bytes = limits.bytes })) nothing_read (first_lines lines bytes)) all
+    ap (λ s. fold (read_line format (room_left (fresh format limits))) s (first_lines format lines bytes)) (ahead_none (fresh format limits) refl)
+    ∙ ap (λ n. fold (read_line format (record { requests = n; bytes = limits.bytes })) nothing_read (first_lines format lines bytes)) all
 
 -- more lines have no fewer bytes
-bytes_of-more : (j k : ℕ) (bytes : List ℕ) → j ≤ k → bytes_of (first_lines j bytes) ≤ bytes_of (first_lines k bytes)
-bytes_of-more j k bytes low =
+bytes_of-more : (format : Format) (j k : ℕ) (bytes : List ℕ) → j ≤ k → bytes_of (first_lines format j bytes) ≤ bytes_of (first_lines format k bytes)
+bytes_of-more format j k bytes low =
     let same : k ≡ j + (k - j) = omega (arith, low) in
-    let both : bytes_of (first_lines k bytes) ≡ bytes_of (first_lines j bytes) + bytes_of (take (k - j) (drop j (lines_of bytes))) =
-    ap (λ n. bytes_of (first_lines n bytes)) same ∙ (ap bytes_of (take-add j (k - j) (lines_of bytes)) ∙ sum_by-append (λ (line : List ℕ × ℕ). line.1) (first_lines j bytes) (take (k - j) (drop j (lines_of bytes)))) in
+    let more = take (k - j) (drop j (pieces_of format bytes)) in
+    let both : bytes_of (first_lines format k bytes) ≡ bytes_of (first_lines format j bytes) + bytes_of more =
+    ap (λ n. bytes_of (first_lines format n bytes)) same ∙ (ap bytes_of (take-add j (k - j) (pieces_of format bytes)) ∙ sum_by-append (λ (line : List ℕ × ℕ). line.1) (first_lines format j bytes) more) in
     omega (arith, both)
 
 -- what a source lost for the requests that a reader has given
@@ -266,10 +284,13 @@ pub lost_for : (start now : Reader) (format : Format) (limits : Limits) (given :
     → length given ≤ length (reading format limits bytes).requests → HasLostFor format limits (length given) bytes left
 lost_for start now format limits given bytes left begins has rest held enough =
     let none : start.lines.consumed ≡ 0 = ap (λ (r : Reader). r.lines.consumed) begins in
+    let form : start.format ≡ format = ap (λ (r : Reader). r.format) begins in
     record {
       near = λ _ lines some.
-          let many : length given ≤ length (coming_in start (first_lines lines bytes)).requests = omega (arith, some, ap (λ (s : Reading). length s.requests) (ap (λ r. coming_in r (first_lines lines bytes)) begins ∙ fresh_coming format limits lines bytes)) in
-          let size = bytes_of-more (lines_between start now) lines bytes (has.least lines many) in
-          omega (arith, size, held, none, has.through.consumed, ap length rest, length-append now.lines.held left, length-drop (now.lines.consumed - start.lines.consumed) bytes);
+          let coming : coming_in start (first_lines start.format lines bytes) ≡ reading_of_first format limits lines bytes = ap (λ (r : Reader). coming_in r (first_lines r.format lines bytes)) begins ∙ fresh_coming format limits lines bytes in
+          let many : length given ≤ length (coming_in start (first_lines start.format lines bytes)).requests = omega (arith, some, ap (λ (s : Reading). length s.requests) coming) in
+          let size = bytes_of-more start.format (lines_between start now) lines bytes (has.least lines many) in
+          let same = ap (λ f. bytes_of (first_lines f lines bytes)) form in
+          omega (arith, size, same, held, none, has.through.consumed, ap length rest, length-append now.lines.held left, length-drop (now.lines.consumed - start.lines.consumed) bytes);
       all = λ fewer. absurd (omega (arith, fewer, enough));
     }

@@ -1,15 +1,15 @@
--- The first lines of a trace: what a reader of requests has gone through, and how much of a source its first requests need.
+-- The first lines of a trace, or its first records: what a reader of requests has gone through, and how much of a source its first requests need.
 use Rattle.std.specs.Prelude.{◌≡◌, ℕ, ◌+◌, ◌-◌, ◌<◌, ◌≤◌, List, [], ◌++◌, length, take, drop, fold}
 use Rattle.std.specs.List.{sum_by}
 use Rattle.cache_model.specs.declared.objects.Object.{Object}
 use Rattle.trace_any.specs.declared.format.Format.{Format}
 use Rattle.trace_any.specs.declared.format.Limits.{Limits}
-use Rattle.trace_any.specs.Readings.{Reading, lines_of, nothing_read, read_line, reading}
+use Rattle.trace_any.specs.Readings.{Reading, pieces_of, nothing_read, read_line, reading}
 use Rattle.trace_any.specs.Readers.{Reader, after, bytes_after, room_left, with_ahead}
 
--- the first lines of some bytes, so many or all that there are: the text of each, and how many bytes it has
-abbrev pub first_lines : ℕ → List ℕ → List (List ℕ × ℕ)
-first_lines count bytes = take count (lines_of bytes)
+-- the first lines of some bytes, so many or all that there are: the text of each, and how many bytes it has; a record counts as a line, and is its text
+abbrev pub first_lines : Format → ℕ → List ℕ → List (List ℕ × ℕ)
+first_lines format count bytes = take count (pieces_of format bytes)
 
 -- how many bytes some lines have
 abbrev pub bytes_of : List (List ℕ × ℕ) → ℕ
@@ -17,11 +17,11 @@ bytes_of lines = sum_by (λ line. line.1) lines
 
 -- the reading of the first lines of a trace alone
 abbrev pub reading_of_first : Format → Limits → ℕ → List ℕ → Reading
-reading_of_first format limits count bytes = fold (read_line format limits) nothing_read (first_lines count bytes)
+reading_of_first format limits count bytes = fold (read_line format limits) nothing_read (first_lines format count bytes)
 
 -- what a source lost for so many requests of a trace, where this is left: at most the first lines that have them, however few, and a buffer of bytes; or all, if the trace has fewer requests
 pub record HasLostFor (format : Format) (limits : Limits) (count : ℕ) (bytes left : List ℕ) : Type 0 where
-  pub near : count ≤ length (reading format limits bytes).requests → (lines : ℕ) → count ≤ length (reading_of_first format limits lines bytes).requests → length bytes ≤ length left + bytes_of (first_lines lines bytes) + 65536
+  pub near : count ≤ length (reading format limits bytes).requests → (lines : ℕ) → count ≤ length (reading_of_first format limits lines bytes).requests → length bytes ≤ length left + bytes_of (first_lines format lines bytes) + 65536
   pub all : length (reading format limits bytes).requests < count → left ≡ []
 
 -- how many lines a reader has given between two places
@@ -34,17 +34,18 @@ coming_in r lines = fold (read_line r.format (room_left r)) (with_ahead r) lines
 
 -- a reader has gone through the first of these bytes' lines and stands after them; whatever lines follow them, what is to come is what was, without the requests that were given
 pub record GoesThrough (with_given : Reading → Reading) (old new : Reader) (bytes : List ℕ) : Type 0 where
+  pub format : new.format ≡ old.format
   pub further : old.lines.line ≤ new.lines.line
-  pub consumed : new.lines.consumed ≡ old.lines.consumed + bytes_of (first_lines (lines_between old new) bytes)
-  pub rest : lines_of (bytes_after old new bytes) ≡ drop (lines_between old new) (lines_of bytes)
-  pub coming : (more : List (List ℕ × ℕ)) → coming_in old (first_lines (lines_between old new) bytes ++ more) ≡ with_given (coming_in new more)
+  pub consumed : new.lines.consumed ≡ old.lines.consumed + bytes_of (first_lines old.format (lines_between old new) bytes)
+  pub rest : pieces_of old.format (bytes_after old new bytes) ≡ drop (lines_between old new) (pieces_of old.format bytes)
+  pub coming : (more : List (List ℕ × ℕ)) → coming_in old (first_lines old.format (lines_between old new) bytes ++ more) ≡ with_given (coming_in new more)
 
 -- a reader goes no further than the line that gives its answer: the lines before that one ask for no request
 pub record GoesNoFurther (with_given : Reading → Reading) (old new : Reader) (bytes : List ℕ) : Type 0 where
   pub through : GoesThrough with_given old new bytes
-  pub none_before : (fewer : ℕ) → fewer < lines_between old new → (coming_in old (first_lines fewer bytes)).requests ≡ []
+  pub none_before : (fewer : ℕ) → fewer < lines_between old new → (coming_in old (first_lines old.format fewer bytes)).requests ≡ []
 
 -- a reader has given these requests, and has gone through no more lines than they need
 pub record HasGiven (given : List Object) (old new : Reader) (bytes : List ℕ) : Type 0 where
   pub through : GoesThrough (after given) old new bytes
-  pub least : (lines : ℕ) → length given ≤ length (coming_in old (first_lines lines bytes)).requests → lines_between old new ≤ lines
+  pub least : (lines : ℕ) → length given ≤ length (coming_in old (first_lines old.format lines bytes)).requests → lines_between old new ≤ lines

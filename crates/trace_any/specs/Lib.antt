@@ -2,4 +2,5 @@ pub mod Volumes
 pub mod Readings
 pub mod LineContent
 pub mod Readers
+pub mod NextPieces
 pub mod FirstLines

@@ -16,6 +16,11 @@ volume_of (Some (host, disk)) = Some (record { host = host.now; disk = disk })
 abbrev pub content_by : LineContent → LineContents
 content_by content = record { span = content.span; volume = volume_of content.volume }
 
+-- what is wanted, or why it is refused
+abbrev pub named_of : Result LineContent LineKind → Result LineContents LineKind
+named_of (Ok content) = Ok (content_by content)
+named_of (Err kind) = Err kind
+
 -- what is wanted, if anything, or why it is refused
 abbrev pub answer_of : Result (Option LineContent) LineKind → Result (Option LineContents) LineKind
 answer_of (Ok None) = Ok None

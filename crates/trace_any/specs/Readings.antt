@@ -1,8 +1,10 @@
 -- The reading of a trace, over all its bytes at once.
-use Rattle.std.specs.Prelude.{ℕ, ◌+◌, ◌-◌, ◌^◌, ◌≤◌, List, [], ◌∷◌, ◌++◌, length, map, min, fold, ◌==◌, nat_lt, if◌then◌else◌, Result, Ok, Err, None, Some}
+use Rattle.std.specs.Prelude.{ℕ, ◌+◌, ◌-◌, ◌^◌, ◌≤◌, List, [], ◌∷◌, ◌++◌, length, map, min, fold, Bool, true, false, ◌==◌, nat_lt, if◌then◌else◌, Result, Ok, Err, None, Some}
 use Rattle.std.specs.declared.option.Option.{Option}
 use Rattle.std.specs.Option.{is_some}
+use Rattle.std.specs.Int.{div_ceil}
 use Rattle.std.specs.List.{slice_split, range_with_len}
+use Rattle.std.specs.Simd.{first_chunks}
 use Rattle.bound_io.specs.Lines.{is_lf}
 use Rattle.bound_io.specs.declared.line_reader.LineFault.{LineFault}
 use Rattle.bound_io.specs.declared.line_reader.LineFault.TheVariants as line
@@ -11,15 +13,16 @@ use Rattle.trace_lines.specs.Lines.{without_cr, is_blank}
 use Rattle.trace_lines.specs.declared.line.Span.{Span}
 use Rattle.trace_lines.specs.declared.line.Span.TheVariants.{Nothing, One, Blocks}
 use Rattle.trace_lines.specs.declared.line.LineKind.{LineKind}
-use Rattle.trace_lines.specs.declared.line.LineKind.TheVariants.{TooLong}
+use Rattle.trace_lines.specs.declared.line.LineKind.TheVariants.{TooLong, PartRecord}
 use Rattle.trace_webcache.specs.Lines as webcache
 use Rattle.trace_arc.specs.Lines as arc
 use Rattle.trace_msr.specs.Lines as msr
 use Rattle.trace_msr.specs.Lines.{Parts}
+use Rattle.trace_oracle.specs.Records.{record_span}
 use Rattle.trace_any.specs.declared.fault.TraceFault.{TraceFault}
 use Rattle.trace_any.specs.declared.fault.TraceFault.TheVariants.{BadLine, ReadFault, InputTooLong, TooManyRequests}
 use Rattle.trace_any.specs.declared.format.Format.{Format}
-use Rattle.trace_any.specs.declared.format.Format.TheVariants.{Webcache, Arc, Msr}
+use Rattle.trace_any.specs.declared.format.Format.TheVariants.{Webcache, Arc, Msr, Oracle}
 use Rattle.trace_any.specs.declared.format.Limits.{Limits}
 use Rattle.trace_any.specs.Volumes.{Volume, volume_number, with_volume}
 
@@ -27,7 +30,7 @@ use Rattle.trace_any.specs.Volumes.{Volume, volume_number, with_volume}
 abbrev pub full_limits : Limits
 full_limits = record { requests = 2 ^ 25; bytes = 2 ^ 36 }
 
--- the requests so far, the volumes named by lines that ask for one, how many lines were dropped, how many lines there were and their bytes, and why the reading stopped, if it did
+-- the requests so far, the volumes named by lines that ask for one, how many lines were dropped, how many lines there were and their bytes, and why the reading stopped, if it did; a record counts as a line
 pub record Reading : Type 0 where
   pub requests : List Object
   pub volumes : List Volume
@@ -70,20 +73,34 @@ abbrev pub of_volume : Result Parts LineKind → Result LineContents LineKind
 of_volume (Ok parts) = Ok (record { span = parts.span; volume = Some (record { host = parts.host; disk = parts.disk }) })
 of_volume (Err kind) = Err kind
 
--- what a line asks for, by the form of the trace
+-- what a record of a form of records asks for; a last one of fewer than 24 bytes is refused
+abbrev pub whole_record : List ℕ → Result Span LineKind
+whole_record bytes = if length bytes == 24 then Ok (record_span bytes) else Err (PartRecord (length bytes))
+
+-- what a line or a record asks for, by the form of the trace
 abbrev pub content_named : Format → List ℕ → Result LineContents LineKind
 content_named Webcache text = of_no_volume (webcache.line_span text)
 content_named Arc text = of_no_volume (arc.line_span text)
 content_named (Msr block) text = of_volume (msr.line_parts block text)
+content_named Oracle record_bytes = of_no_volume (whole_record record_bytes)
 
 -- what is asked for is something
 abbrev pub some_content : Result LineContents LineKind → Result (Option LineContents) LineKind
 some_content (Ok what) = Ok (Some what)
 some_content (Err kind) = Err kind
 
--- what a text asks for, once a CR at its end is dropped; one without a word is skipped
+-- the form is one of records of 24 bytes, and not of lines
+abbrev pub has_records : Format → Bool
+has_records Webcache = false
+has_records Arc = false
+has_records (Msr block) = false
+has_records Oracle = true
+
+-- what a record asks for, or the text of a line, once a CR at its end is dropped; a text without a word is skipped
 abbrev pub text_content : Format → List ℕ → Result (Option LineContents) LineKind
-text_content format text = if is_blank (without_cr text) then Ok None else some_content (content_named format (without_cr text))
+text_content format text =
+    if has_records format then some_content (content_named format text)
+    else (if is_blank (without_cr text) then Ok None else some_content (content_named format (without_cr text)))
 
 -- the number of a volume after these, where one is named, and else 0
 abbrev pub number_of : List Volume → Option Volume → ℕ
@@ -107,7 +124,7 @@ with_line most r (Ok None) = r
 with_line most r (Ok (Some what)) = spanned most r what.volume what.span
 with_line most r (Err kind) = stopped r (BadLine r.lines kind)
 
--- one more line, of a text and so many bytes, where the reading has not stopped
+-- one more line or record, of a text and so many bytes, where the reading has not stopped
 abbrev pub read_line : Format → Limits → Reading → List ℕ × ℕ → Reading
 read_line format limits r (text, size) =
     let now : Reading = record r { lines = r.lines + 1; bytes = r.bytes + size } in
@@ -126,9 +143,17 @@ ended (text ∷ next ∷ more) = (text, length text + 1) ∷ ended (next ∷ mor
 abbrev pub lines_of : List ℕ → List (List ℕ × ℕ)
 lines_of bytes = ended (slice_split is_lf bytes)
 
+-- the records of some bytes: each of 24, and a last one of what is left, if anything is
+abbrev pub records_of : List ℕ → List (List ℕ × ℕ)
+records_of bytes = map (λ piece. (piece, length piece)) (first_chunks 24 (div_ceil (length bytes) 24) bytes)
+
+-- how the bytes of a trace are cut: into records or into lines, by its form
+abbrev pub pieces_of : Format → List ℕ → List (List ℕ × ℕ)
+pieces_of format bytes = if has_records format then records_of bytes else lines_of bytes
+
 -- the reading goes on with these bytes
 abbrev pub read_on : Format → Limits → Reading → List ℕ → Reading
-read_on format limits r bytes = fold (read_line format limits) r (lines_of bytes)
+read_on format limits r bytes = fold (read_line format limits) r (pieces_of format bytes)
 
 -- the reading of all the bytes of a trace
 abbrev pub reading : Format → Limits → List ℕ → Reading
@@ -145,9 +170,11 @@ abbrev pub NamesVolumes : Format → Type 0
 NamesVolumes Webcache = ⊥
 NamesVolumes Arc = ⊥
 NamesVolumes (Msr block) = Unit {0}
+NamesVolumes Oracle = ⊥
 
 -- the blocks of a form have from 1 to 2^48 bytes
 abbrev pub IsFormat : Format → Type 0
 IsFormat Webcache = Unit {0}
 IsFormat Arc = Unit {0}
 IsFormat (Msr block) = (1 ≤ block) × (block ≤ 2 ^ 48)
+IsFormat Oracle = Unit {0}

@@ -1,9 +1,9 @@
-//! What a line asks for, by the form of the trace.
-ghost use Rattle.std.specs.Prelude.{◌≡◌, ◌+◌, ◌≤◌, ◌^◌, None, Some, length, IfOk, IfSome, IsSome, OnOk, OnErr};
+//! What a line or a record asks for, by the form of the trace.
+ghost use Rattle.std.specs.Prelude.{◌≡◌, ◌+◌, ◌≤◌, ◌^◌, true, None, Some, length, IfOk, IfSome, IsSome, OnOk, OnErr};
 ghost use Rattle.trace_any.specs.Readers.{with_named_by, number_by};
-ghost use Rattle.trace_any.specs.Readings.{IsFormat, NamesVolumes, text_content};
+ghost use Rattle.trace_any.specs.Readings.{IsFormat, NamesVolumes, content_named, has_records, text_content, whole_record};
 ghost use Rattle.trace_lines.specs.Lines.{IsSpan};
-ghost use Rattle.trace_any.specs.LineContent.{answer_of, volume_of};
+ghost use Rattle.trace_any.specs.LineContent.{answer_of, named_of, volume_of};
 
 use crate::format::Format;
 use crate::volumes::Volumes;
@@ -37,22 +37,52 @@ fn of_volume(line: MsrLine<'_>) -> LineContent<'_>
     }
 }
 
-/// What the text of a line asks for, where it has a word.
+// What a record asks for; a last one of fewer bytes is refused.
+fn whole_record(bytes: &[u8]) -> Result<Span, LineKind>
+    requires { length bytes.now ≤ 24 }
+    ensures span { result ≡ whole_record bytes.now }
+    ensures range { IfOk result (λ s. IsSpan s) }
+{
+    match <&[u8; 24]>::try_from(bytes) {
+        Ok(record) => Ok(trace_oracle::parse(record)),
+        Err(_) => Err(LineKind::PartRecord {
+            bytes: bytes.len() as u8,
+        }),
+    }
+}
+
+// What a line with a word or a record asks for.
+fn content_named(format: Format, text: &[u8]) -> Result<LineContent<'_>, LineKind>
+    requires format { IsFormat format }
+    requires records { has_records format ≡ true → length text.now ≤ 24 }
+    ensures content_named { named_of result ≡ content_named format text.now }
+    ensures range { IfOk result (λ content. IsSpan content.span) }
+    ensures volume { IfOk result (λ content. IfSome content.volume (λ _. NamesVolumes format)) }
+{
+    match format {
+        Format::Webcache => Ok(of_no_volume(trace_webcache::parse(text)?)),
+        Format::Arc => Ok(of_no_volume(trace_arc::parse(text)?)),
+        Format::Msr { block } => Ok(of_volume(trace_msr::parse(text, block)?)),
+        Format::Oracle => Ok(of_no_volume(whole_record(text)?)),
+    }
+}
+
+/// What a record asks for, or the text of a line, where it has a word.
 pub fn content_of(format: Format, text: &[u8]) -> Result<Option<LineContent<'_>>, LineKind>
-    requires { IsFormat format }
+    requires format { IsFormat format }
+    requires records { has_records format ≡ true → length text.now ≤ 24 }
     ensures content_named { answer_of result ≡ text_content format text.now }
     ensures range { IfOk result (λ found. IfSome found (λ content. IsSpan content.span)) }
     ensures volume { IfOk result (λ found. IfSome found (λ content. IfSome content.volume (λ _. NamesVolumes format))) }
 {
+    if format.has_records() {
+        return Ok(Some(content_named(format, text)?));
+    }
     let text = trim_cr(text);
     if is_blank(text) {
         return Ok(None);
     }
-    match format {
-        Format::Webcache => Ok(Some(of_no_volume(trace_webcache::parse(text)?))),
-        Format::Arc => Ok(Some(of_no_volume(trace_arc::parse(text)?))),
-        Format::Msr { block } => Ok(Some(of_volume(trace_msr::parse(text, block)?))),
-    }
+    Ok(Some(content_named(format, text)?))
 }
 
 /// The number of the volume of a line, which is 0 where it names none or asks for nothing.

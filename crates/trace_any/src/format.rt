@@ -1,6 +1,6 @@
 //! The forms of a trace, and how much of one is read.
 ghost use Rattle.std.specs.Prelude.{◌≡◌};
-ghost use Rattle.trace_any.specs.Readings.{full_limits};
+ghost use Rattle.trace_any.specs.Readings.{full_limits, has_records};
 
 /// The form of a trace.
 #[derive(Clone, Copy, Debug, PartialEq, Eq)]
@@ -12,6 +12,18 @@ pub enum Format {
     /// A line is of fields with commas between them: a timestamp, a host, a disk, a type, an offset and a size in
     /// bytes, and any further fields. Each block of this many bytes, from 1 to 2^48, that it touches is a request.
     Msr { block: u64 },
+    /// A record is of 24 bytes, packed and little endian: a time of 4, an id of 8, a size in bytes of 4, and the time of
+    /// the next access, of 8. There are no lines.
+    Oracle,
+}
+
+impl Format {
+    /// Whether the form is one of records of 24 bytes, and not of lines.
+    pub(crate) fn has_records(self) -> bool
+        ensures { result ≡ has_records self }
+    {
+        matches!(self, Format::Oracle)
+    }
 }
 
 /// The most requests and the most bytes that a trace may have.

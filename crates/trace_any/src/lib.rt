@@ -1,12 +1,13 @@
-//! The requests of a source: its lines in the form of a trace, whatever the pieces in which they come.
+//! The requests of a source: its lines or its records in the form of a trace, whatever the pieces in which they come.
 //!
-//! The rules are "A line of a trace", "The reading of a trace", "Volume" and "What is to come" in docs/DEFINITIONS.md.
+//! The rules are "A line of a trace", "A record of an oracleGeneral trace", "The reading of a trace", "Volume" and "What is to come" in docs/DEFINITIONS.md.
 #![tactic(auto)]
 
 mod content;
 mod fault;
 mod format;
 mod loading;
+mod pieces;
 mod progress;
 mod requests;
 mod volumes;

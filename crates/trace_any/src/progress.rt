@@ -10,6 +10,7 @@ ghost use Rattle.trace_any.specs.Readers.{ahead_by};
 use crate::content::{content_of, number_of};
 use crate::fault::TraceFault;
 use crate::format::{Format, Limits};
+use crate::pieces::next_piece;
 use crate::volumes::Volumes;
 use bound_base::NoMemory;
 use bound_io::{LineReader, Source};
@@ -131,7 +132,8 @@ impl Progress {
         ensures none_failed { OnOk result (S.faults source.new ≡ S.faults source.old) }
         ensures memory { IfErr result (λ fault. fault ≡ TraceFault.NoMemory → NamesVolumes self.old.format) }
     {
-        let Some(text) = self.lines.next_line(source)? else {
+        let records = self.format.has_records();
+        let Some(text) = next_piece(&mut self.lines, records, source)? else {
             return Ok(false);
         };
         let content = match content_of(self.format, text) {

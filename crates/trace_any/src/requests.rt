@@ -12,7 +12,7 @@ use cache_rules::Object;
 use std::alloc::Global;
 use std::marker::Model;
 
-/// Gives the requests of a source one by one, from its lines.
+/// Gives the requests of a source one by one, from its lines, or from its records, of which each counts as a line.
 ///
 /// It doesn't keep the source: each reading call is given it. Over one source the requests are those of all its
 /// bytes, in whatever pieces it gives them. A reader that has answered a fault answers the same from then on, and

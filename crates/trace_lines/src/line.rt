@@ -17,6 +17,8 @@ pub enum LineKind {
     QuoteByte,
     /// Its text passes 65,535 bytes.
     TooLong,
+    /// It is the last record of a trace of records of 24 bytes, and has this many of them, from 1 to 23.
+    PartRecord { bytes: u8 },
 }
 
 /// What a line asks for.

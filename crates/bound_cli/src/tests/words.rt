@@ -54,6 +54,8 @@ const ASKED: Plan = Plan::Bounds {
     objective: Objective::Bytes,
     mode: Mode::Infinite,
     denominator: DenominatorChoice::Given(1),
+    warmup: 0,
+    version: 1,
 };
 
 // How far the other operands stand after the first one, in a circle.
@@ -85,6 +87,41 @@ fn check_orders(rt: &impl Abort, alloc: Global, first: u8) {
 fn takes_the_operands_in_any_order(rt: HostRuntime) {
     for first in 0..4 {
         check_orders(&rt, rt.alloc(), first);
+    }
+}
+
+// Words of bounds, and the warm-up and the version that they ask for.
+const CERTIFICATES: [(&str, u32, u8); 3] = [
+    (
+        "bounds t c format=webcache capacity=10 objective=bytes mode=infinite version=1 warmup=0",
+        0,
+        1,
+    ),
+    (
+        "bounds t c warmup=33554432 format=webcache capacity=10 objective=bytes mode=infinite",
+        1 << 25,
+        1,
+    ),
+    (
+        "bounds t c version=02 format=webcache mode=infinite capacity=10 warmup=1 objective=bytes",
+        1,
+        2,
+    ),
+];
+
+#[test]
+fn bounds_take_a_warmup_and_a_version(rt: HostRuntime) {
+    for (text, warmup, version) in &CERTIFICATES {
+        let plan = Plan::Bounds {
+            format: Format::Webcache,
+            capacity: 10,
+            objective: Objective::Bytes,
+            mode: Mode::Infinite,
+            denominator: DenominatorChoice::Given(1),
+            warmup: *warmup,
+            version: *version,
+        };
+        check_plan(&rt, rt.alloc(), text, Ok(plan));
     }
 }
 
@@ -157,6 +194,21 @@ fn a_replay_takes_a_policy_and_a_warmup(rt: HostRuntime) {
     }
 }
 
+// Words of a curve, and the form of the trace that they name.
+const CURVES: [(&str, Format); 3] = [
+    ("curve t format=webcache", Format::Webcache),
+    ("curve - format=msr", Format::Msr { block: 4096 }),
+    ("curve t block=8192 format=msr", Format::Msr { block: 8192 }),
+];
+
+#[test]
+fn a_curve_takes_the_form_of_the_trace(rt: HostRuntime) {
+    for (text, format) in &CURVES {
+        let plan = Plan::Curve { format: *format };
+        check_plan(&rt, rt.alloc(), text, Ok(plan));
+    }
+}
+
 // Words of a demo, and the seed, the requests, the objects and the capacity that they ask for.
 const DEMOS: [(&str, u64, u32, u32, u64); 5] = [
     ("demo", 1, 2000, 200, 65536),
@@ -215,12 +267,14 @@ const NO_PATHS: Paths<'static> = Paths {
 };
 
 // Words, and the paths of the trace, the certificate and what is made.
-const PATHS: [(&str, [&str; 3]); 8] = [
+const PATHS: [(&str, [&str; 3]); 10] = [
     ("bounds t c", ["t", "c", "c"]),
     ("check t c", ["t", "c", "-"]),
     ("check t", ["t", "-", "-"]),
     ("bounds", ["-"; 3]),
     ("replay t c", ["t", "-", "-"]),
+    ("curve t c", ["t", "-", "-"]),
+    ("upgrade c d", ["-", "c", "d"]),
     ("demo t c", ["-"; 3]),
     ("", ["-"; 3]),
     (" t c", ["-"; 3]),

@@ -24,6 +24,8 @@ impl Bounds<'_> {
             objective: self.objective,
             mode: self.mode,
             denominator: self.denominator,
+            warmup: 0,
+            version: 1,
         }
     }
 }

@@ -11,3 +11,7 @@ returns-in-SizeTooLarge c = rw (c.in-SizeTooLarge.is, c.push-in-SizeTooLarge.ens
 
 pub returns-in-BadRange : goal.returns-in-BadRange
 returns-in-BadRange c = rw (c.in-BadRange.is, c.push-in-BadRange.ensures.text) refl
+
+pub returns-in-PartRecord : goal.returns-in-PartRecord
+returns-in-PartRecord c =
+    rw (c.in-PartRecord.is, c.push-in-PartRecord-2.ensures.text, c.push_number-in-PartRecord.ensures.text, c.push-in-PartRecord.ensures.text) (append_assoc (c.args.text.now ++ codes "part record ") (decimal c.in-PartRecord.bytes) (codes "\n") ∙ append_assoc c.args.text.now (codes "part record ") (decimal c.in-PartRecord.bytes ++ codes "\n"))

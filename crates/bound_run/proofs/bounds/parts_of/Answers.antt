@@ -30,6 +30,8 @@ returns-clause-made c =
     c.in_ok-upper.upper c.value_of_schedule-flow.result c.in_ok-schedule.schedule.lower c.in_ok-relaxed.relaxed.price c.in_ok-relaxed.relaxed.solution.prices c.in_ok-relaxed.relaxed.solution.flows c.in_ok-schedule.schedule.keeps
     c.requires.intervals c.len-requests.ensures.requests refl (record {
       capacity = c.args.asked.now.capacity_in_range;
+      warmup = c.args.asked.now.warmup_in_range;
+      version = c.args.asked.now.version_in_range;
       mode = c.args.asked.now.mode_in_range;
       few = omega (arith, c.len-requests.ensures.requests, c.len-requests.ensures.most);
       is_line = c.requires.timeline;

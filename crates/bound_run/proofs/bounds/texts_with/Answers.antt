@@ -1,4 +1,6 @@
+use Rattle.std.proofs.Common.{◌∙◌, ap}
 use Rattle.std.proofs.lemmas.Result.{err_from_is_err_and}
+use Rattle.bound_report.specs.Replays.{with_warmup}
 use Rattle.bound_run.specs.Records.{records_in}
 use Rattle.bound_run.proofs.bounds.texts_with.Goals as goal
 
@@ -11,11 +13,11 @@ cert_of-requires-clause-each c = c.requires.each
 pub report_text-requires : goal.report_text-requires
 report_text-requires c = record { unit = c.requires.made.valid.certificate.header.unit.0; denominator = c.requires.made.valid.certificate.header.denominator.0 }
 
-pub returns-in_err-cert_of : goal.returns-in_err-cert_of
-returns-in_err-cert_of c = rw (err_from_is_err_and c.from_residual.result c.from_residual.ensures.1).1 tt
+pub returns-in_err-cert : goal.returns-in_err-cert
+returns-in_err-cert c = rw (err_from_is_err_and c.from_residual.result c.from_residual.ensures.1).1 tt
 
-pub returns-in_err-report_text : goal.returns-in_err-report_text
-returns-in_err-report_text c = rw (err_from_is_err_and c.from_residual-in_err-report_text.result c.from_residual-in_err-report_text.ensures.1).1 tt
+pub returns-in_err-report : goal.returns-in_err-report
+returns-in_err-report c = rw (err_from_is_err_and c.from_residual-in_err-report.result c.from_residual-in_err-report.ensures.1).1 tt
 
 pub returns : goal.returns
 returns c = record {
@@ -23,6 +25,6 @@ returns c = record {
   header = c.args.bounds.now.header;
   records = records_in c.args.bounds.now;
   made = c.requires.made;
-  cert_is = c.in_ok-cert_of.ensures;
-  report_is = rw (c.objects.ensures.different, c.as_slice.ensures.items, c.requires.intervals) at c.in_ok-report_text.ensures;
+  cert_is = c.in_ok-cert.ensures;
+  report_is = c.in_ok-push_warmup.ensures ∙ ap (with_warmup c.args.bounds.now.header.warmup) (rw (c.objects.ensures.different, c.as_slice.ensures.items, c.requires.intervals) at c.in_ok-report.ensures);
 }

@@ -1,8 +1,11 @@
-use Rattle.std.proofs.Common.{map, take}
+use Rattle.std.proofs.Common.{◌≡◌, take}
 use Rattle.std.specs.Io.KnownBytes.{Appends}
-use Rattle.cache_model.specs.Texts.{record_line, text_of}
+use Rattle.cache_model.specs.Texts.{record_lines, text_of}
+use Rattle.cache_model.proofs.RecordLines.{last_price}
 use Rattle.bound_run.specs.Records.{records_in}
 use Rattle.bound_run.proofs.bounds.write_cert.Given as goal
 
 abbrev pub invariant-loop-t : goal.invariant-loop-t
-invariant-loop-t g l = Appends (g.K.Sink.written l.initial.sink) (g.K.Sink.written l.sink) (text_of (map record_line (take l.t (records_in l.bounds))))
+invariant-loop-t g l =
+    Appends (g.K.Sink.written l.initial.sink) (g.K.Sink.written l.sink) (text_of (record_lines l.bounds.header.version 0 (take l.t (records_in l.bounds))))
+    × (l.before ≡ last_price 0 (take l.t (records_in l.bounds)))

@@ -4,7 +4,7 @@ use Rattle.std.specs.Str.{bytes_eq}
 use Rattle.std.proofs.lemmas.Iterator.{YieldsList-from_slice}
 use Rattle.std.proofs.lemmas.Iterator.Adapters.{position_from-zero}
 use Rattle.std.proofs.lemmas.Iterator.Search.{position_from_yields_List}
-use Rattle.bound_run.specs.Words.{name_of}
+use Rattle.bound_run.specs.Operands.{name_of}
 use Rattle.bound_run.proofs.GivenByName.{place_given_by}
 use Rattle.bound_run.proofs.operands.place_given.Goals as goal
 

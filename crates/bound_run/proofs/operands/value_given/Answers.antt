@@ -4,7 +4,7 @@ use Rattle.std.specs.List.{find}
 use Rattle.std.specs.Str.{bytes_eq}
 use Rattle.std.proofs.lemmas.Iterator.{YieldsList-from_slice}
 use Rattle.std.proofs.lemmas.Iterator.Search.{find_from_yields_List}
-use Rattle.bound_run.specs.Words.{name_of, value_of}
+use Rattle.bound_run.specs.Operands.{name_of, value_of}
 use Rattle.bound_run.proofs.GivenByName.{value_given_by}
 use Rattle.bound_run.proofs.operands.value_given.Goals as goal
 

@@ -15,3 +15,9 @@ returns-in-Replay g c = rw (c.in-Ok.is, c.in-Replay.is) (c.run_replay.ensures.en
 
 pub returns-in-Demo : goal.returns-in-Demo
 returns-in-Demo g c = rw (c.in-Ok.is, c.in-Demo.is) (c.run_demo.ensures, (refl, refl), (refl, refl), (refl, refl))
+
+pub returns-in-Curve : goal.returns-in-Curve
+returns-in-Curve g c = rw (c.in-Ok.is, c.in-Curve.is) (c.run_curve.ensures.ends, c.run_curve.ensures.source, (refl, refl), (refl, refl))
+
+pub returns-in-Upgrade : goal.returns-in-Upgrade
+returns-in-Upgrade g c = rw (c.in-Ok.is, c.in-Upgrade.is) (c.run_upgrade.ensures.ends, c.run_upgrade.ensures.source, (refl, refl))

@@ -71,7 +71,7 @@ returns-in_err-step-clause-checked g c =
     let fewer : length given < h.requests = omega (arith, c.records_read-read.ensures, c.requires.in_step.left, checked.stands.sums.steps, ap (λ (k : Header). k.requests) c.requires.header, written, checked.stands.input.within, c.if-read-header.false) in
     let e = c.in_ok-entry.ensures in
     let read = e.read c.requires.in_step.cert_fault in
-    stop_rule start h given records now c.args.checker.now checked c.in-Some.object c.next.new.self (g.T.Source.left c.next.new.source) next.1 near c.in_ok-object.ensures.ahead c.in_ok-entry.entry (line (record_line c.in_ok-entry.entry)) end read.2 read.3 e.past c.in_err-step.field-0.0 refl fewer
+    stop_rule start h given records now c.args.checker.now checked c.in-Some.object c.next.new.self (g.T.Source.left c.next.new.source) next.1 near c.in_ok-object.ensures.ahead c.in_ok-entry.entry (line (record_line c.args.cert.now.version c.args.cert.now.price c.in_ok-entry.entry)) end read.4 read.5 e.past c.in_err-step.field-0.0 refl fewer
     (last_line h given records c.args.checker.now c.args.cert.now.lines.line checked.stands c.requires.in_step.line) e.ahead
     (subst (λ l. IsFailing l (record_fault h (given ++ c.in-Some.object ∷ []) (records ++ c.in_ok-entry.entry ∷ []) (length given)) c.in_err-step.field-0.0) c.line-2.ensures (c.in_err-step.ensures.stepped h given records checked.stands)))
 
@@ -85,7 +85,7 @@ returns-clause-checked g c = λ start h given records checked.
     let read = e.read c.requires.in_step.cert_fault in (
       c.in-Some.object,
       c.in_ok-entry.entry,
-      goes_further start h given records now c.args.checker.now checked c.in-Some.object c.next.new.self (g.T.Source.left c.next.new.source) next.1 near c.in_ok-object.ensures.ahead c.in_ok-entry.entry (line (record_line c.in_ok-entry.entry)) end read.2 read.3 e.past c.step.new.checker refl refl
+      goes_further start h given records now c.args.checker.now checked c.in-Some.object c.next.new.self (g.T.Source.left c.next.new.source) next.1 near c.in_ok-object.ensures.ahead c.in_ok-entry.entry (line (record_line c.args.cert.now.version c.args.cert.now.price c.in_ok-entry.entry)) end read.4 read.5 e.past c.step.new.checker refl refl
           (c.in_ok-step.ensures.stepped h given records checked.stands)
           (record { trace = omega (arith, checked.later.trace, c.in_ok-object.ensures.later); certificate = omega (arith, checked.later.certificate, e.later) }),
     )
@@ -104,7 +104,7 @@ returns-clause-in_step g c =
         trace_fault = c.in_ok-object.ensures.fault s.trace_fault;
         cert_fault = e.fault s.cert_fault;
         stage = read.0;
-        line = omega (arith, read.2, s.line, steps, old, ap header_len more.header);
+        line = omega (arith, read.4, s.line, steps, old, ap header_len more.header);
         left = omega (arith, read.1, s.left, steps, old, ap (λ (k : Header). k.requests) more.header);
         held = e.ahead;
         some = (s.some.0 ++ x ∷ [], s.some.1 ++ r ∷ [], subst (λ k. StandsFor k (s.some.0 ++ x ∷ []) (s.some.1 ++ r ∷ []) c.step.new.checker) (sym more.header) more);

@@ -1,6 +1,6 @@
 use Rattle.std.proofs.Common.{◌∙◌, sym, length, inl, inr}
 use Rattle.std.proofs.lemmas.Bool.{true≢false, eqb-true}
-use Rattle.cert_format.proofs.Shapes.{no_record}
+use Rattle.cert_format.proofs.RecordShapes.{no_record}
 use Rattle.cert_format.proofs.line.record_words.Goals as goal
 use Rattle.cert_format.proofs.line.record_words.Goals.{else-not-is_empty-via-then-not-is_empty+else-is_word, else-not-is_empty-via-else-not-is_empty}
 

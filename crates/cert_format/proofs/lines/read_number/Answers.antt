@@ -15,7 +15,7 @@ returns-in_err-text-clause-read g c =
     = record { line = f.line; refused = f.refused c.requires.no_fault; next = c.next_whole_line.follows.holds-at-none.0; short = f.short; held = c.next_whole_line.follows.holds-at-none.1; loses = f.source; later = f.later } in
     let given = ap (λ n. text_given (n + 1) c.next_whole_line.result) (sym c.line-line.ensures) in
     let p = err_from_is_err_and c.from_residual.result c.from_residual.ensures.1 in
-    rw (p.1, p.2) (stop_line (number_line c.args.name.now c.args.low c.args.high) (λ bytes. (number_at 1) (first_text bytes)) _ _ _ c.requires.limit c.requires.few f.source f.later c.next_whole_line.result c.in_err-text.field-0.0 gave (given ∙ c.in_err-text.ensures))
+    rw (p.1, p.2) (stop_line (λ _. number_line c.args.name.now c.args.low c.args.high) (λ bytes. (number_at 1) (first_text bytes)) _ _ _ c.requires.limit c.requires.few f.source f.later c.next_whole_line.result c.in_err-text.field-0.0 gave (given ∙ c.in_err-text.ensures))
 
 pub returns-clause-read : goal.returns-clause-read
 returns-clause-read g c =
@@ -27,4 +27,4 @@ returns-clause-read g c =
     let text = c.in_ok-text.text.now in
     let short : line_fault (number_line c.args.name.now c.args.low c.args.high) text ≡ None → length text ≤ 63 = λ fits. number_short c.args.name.now c.args.low c.args.high text fits c.requires.short c.requires.high in
     reads_as _ _ _ _ _ _ _ _ (read_of_line c.line-line.result c.args.lines.now.line c.in_line.result c.number_after.result (line_fault (number_line c.args.name.now c.args.low c.args.high) text) ((number_at 1) text) c.in_line.ensures c.number_after.ensures line)
-    (read_line (number_line c.args.name.now c.args.low c.args.high) (number_at 1) _ _ _ text short f.source f.later c.next_whole_line.result gave (given ∙ c.in_ok-text.ensures))
+    (read_line (λ _. number_line c.args.name.now c.args.low c.args.high) (number_at 1) _ _ _ text short f.source f.later c.next_whole_line.result gave (given ∙ c.in_ok-text.ensures))

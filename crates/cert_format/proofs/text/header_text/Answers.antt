@@ -1,11 +1,12 @@
 use Rattle.std.proofs.Common.{◌∙◌, ap, [], ◌∷◌, ◌++◌, codes}
-use Rattle.cache_model.specs.Texts.{entry, first_line, form_word, line, objective_word}
-use Rattle.cert_format.proofs.Appended.{one_more}
+use Rattle.cache_model.specs.Texts.{entry, form_word, last_lines, line, objective_word}
+use Rattle.cert_format.proofs.Appended.{one_more, more_lines}
 use Rattle.cert_format.proofs.text.header_text.Goals as goal
 
 pub returns : goal.returns
 returns c =
     let h = c.args.header.now in
+    let first = entry (codes "cache-bound-certificate") h.version in
     let objective = codes "objective " ++ objective_word h.objective in
     let capacity = entry (codes "capacity") h.capacity in
     let requests = entry (codes "requests") h.requests in
@@ -15,14 +16,14 @@ returns c =
     let upper = entry (codes "upper") h.upper in
     let flow = entry (codes "flow") h.flow in
     let lower = entry (codes "lower") h.lower in
-    let at1 = one_more [] first_line _ c.push_line.new.self c.new-text.ensures (c.push_line.ensures.text ∙ ap (λ words. c.new-text.result ++ line words) (c.as_bytes.ensures.text ∙ c.first_line.ensures)) in
-    let at2 = one_more (first_line ∷ []) objective _ c.push_line-2.new.self at1 (c.push_line-2.ensures.text ∙ ap (λ words. c.push_line.new.self ++ line words) c.objective_line.ensures.text) in
-    let at3 = one_more (first_line ∷ objective ∷ []) capacity _ c.push_entry_line.new.self at2 c.push_entry_line.ensures.text in
-    let at4 = one_more (first_line ∷ objective ∷ capacity ∷ []) requests _ c.push_entry_line-2.new.self at3 c.push_entry_line-2.ensures.text in
-    let at5 = one_more (first_line ∷ objective ∷ capacity ∷ requests ∷ []) unit _ c.push_entry_line-3.new.self at4 c.push_entry_line-3.ensures.text in
-    let at6 = one_more (first_line ∷ objective ∷ capacity ∷ requests ∷ unit ∷ []) denominator _ c.push_entry_line-4.new.self at5 c.push_entry_line-4.ensures.text in
-    let at7 = one_more (first_line ∷ objective ∷ capacity ∷ requests ∷ unit ∷ denominator ∷ []) form _ c.push_line-3.new.self at6 (c.push_line-3.ensures.text ∙ ap (λ words. c.push_entry_line-4.new.self ++ line words) c.form_line.ensures.text) in
-    let at8 = one_more (first_line ∷ objective ∷ capacity ∷ requests ∷ unit ∷ denominator ∷ form ∷ []) upper _ c.push_entry_line-5.new.self at7 c.push_entry_line-5.ensures.text in
-    let at9 = one_more (first_line ∷ objective ∷ capacity ∷ requests ∷ unit ∷ denominator ∷ form ∷ upper ∷ []) flow _ c.push_entry_line-6.new.self at8 c.push_entry_line-6.ensures.text in
-    let at10 = one_more (first_line ∷ objective ∷ capacity ∷ requests ∷ unit ∷ denominator ∷ form ∷ upper ∷ flow ∷ []) lower _ c.push_entry_line-7.new.self at9 c.push_entry_line-7.ensures.text in
-    one_more (first_line ∷ objective ∷ capacity ∷ requests ∷ unit ∷ denominator ∷ form ∷ upper ∷ flow ∷ lower ∷ []) (codes "records") _ c.push_line-4.new.self at10 c.push_line-4.ensures.text
+    let at1 = one_more [] first _ c.push_entry_line.new.self c.new-text.ensures c.push_entry_line.ensures.text in
+    let at2 = one_more (first ∷ []) objective _ c.push_line.new.self at1 (c.push_line.ensures.text ∙ ap (λ words. c.push_entry_line.new.self ++ line words) c.objective_line.ensures.text) in
+    let at3 = one_more (first ∷ objective ∷ []) capacity _ c.push_entry_line-2.new.self at2 c.push_entry_line-2.ensures.text in
+    let at4 = one_more (first ∷ objective ∷ capacity ∷ []) requests _ c.push_entry_line-3.new.self at3 c.push_entry_line-3.ensures.text in
+    let at5 = one_more (first ∷ objective ∷ capacity ∷ requests ∷ []) unit _ c.push_entry_line-4.new.self at4 c.push_entry_line-4.ensures.text in
+    let at6 = one_more (first ∷ objective ∷ capacity ∷ requests ∷ unit ∷ []) denominator _ c.push_entry_line-5.new.self at5 c.push_entry_line-5.ensures.text in
+    let at7 = one_more (first ∷ objective ∷ capacity ∷ requests ∷ unit ∷ denominator ∷ []) form _ c.push_line-2.new.self at6 (c.push_line-2.ensures.text ∙ ap (λ words. c.push_entry_line-5.new.self ++ line words) c.form_line.ensures.text) in
+    let at8 = one_more (first ∷ objective ∷ capacity ∷ requests ∷ unit ∷ denominator ∷ form ∷ []) upper _ c.push_entry_line-6.new.self at7 c.push_entry_line-6.ensures.text in
+    let at9 = one_more (first ∷ objective ∷ capacity ∷ requests ∷ unit ∷ denominator ∷ form ∷ upper ∷ []) flow _ c.push_entry_line-7.new.self at8 c.push_entry_line-7.ensures.text in
+    let at10 = one_more (first ∷ objective ∷ capacity ∷ requests ∷ unit ∷ denominator ∷ form ∷ upper ∷ flow ∷ []) lower _ c.push_entry_line-8.new.self at9 c.push_entry_line-8.ensures.text in
+    more_lines (first ∷ objective ∷ capacity ∷ requests ∷ unit ∷ denominator ∷ form ∷ upper ∷ flow ∷ lower ∷ []) (last_lines h.warmup) _ _ at10 c.push_last.ensures

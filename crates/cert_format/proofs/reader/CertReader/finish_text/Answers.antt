@@ -18,7 +18,7 @@ returns-in-Ok-clause-read g c = λ none.
     let old = the_view c.self.inside in
     let is = c.self.view_is in
     let other : old.stage ≢ AtHeader = λ at. (c.requires none).0 (sym (ap (λ r. r.stage) is) ∙ at) in
-    let new = the_view (record { lines = c.finish-finished.new.lines; stage = AtEnd; left = c.self.inside.left; fault = c.self.inside.fault }) in
+    let new = the_view (record { lines = c.finish-finished.new.lines; stage = AtEnd; left = c.self.inside.left; version = c.self.inside.version; price = c.self.inside.price; fault = c.self.inside.fault }) in
     rw c.in-Ok.is
     (subst (λ r. EndRead r new (device (g.Q.Source.left c.args.source.now) (g.Q.Source.left c.finish-finished.new.source) (g.Q.Source.faults c.args.source.now) (g.Q.Source.faults c.finish-finished.new.source)) (Ok c.in-Ok.field-0)) is
     (end_goes old new _ old.stage c.in-Ok.field-0 refl other (ap (λ r. r.left) is ∙ (c.requires none).1) refl (ap (λ r. r.left) is ∙ (c.requires none).1) (rw c.in-Ok.is at c.finish-finished.ensures)))
@@ -28,6 +28,6 @@ returns-in-Err-clause-read g c = λ none.
     let old = the_view c.self.inside in
     let is = c.self.view_is in
     let other : old.stage ≢ AtHeader = λ at. (c.requires none).0 (sym (ap (λ r. r.stage) is) ∙ at) in
-    let new = the_view (record { lines = c.finish-finished.new.lines; stage = c.self.inside.stage; left = c.self.inside.left; fault = Some c.in-Err.fault }) in
+    let new = the_view (record { lines = c.finish-finished.new.lines; stage = c.self.inside.stage; left = c.self.inside.left; version = c.self.inside.version; price = c.self.inside.price; fault = Some c.in-Err.fault }) in
     subst (λ r. IsRefused r (device (g.Q.Source.left c.args.source.now) (g.Q.Source.left c.finish-finished.new.source) (g.Q.Source.faults c.args.source.now) (g.Q.Source.faults c.finish-finished.new.source)) c.in-Err.fault) is
     (end_stops old new _ old.stage c.in-Err.fault refl other (ap (λ r. r.left) is ∙ (c.requires none).1) (rw c.in-Err.is at c.finish-finished.ensures))

@@ -19,9 +19,9 @@ returns-in-Ok-clause-read g c = λ none.
     let old = the_view c.self.inside in
     let is = c.self.view_is in
     let at = ap (λ r. r.stage) is ∙ c.requires none in
-    let new = the_view (record { lines = c.read_header-found.new.lines; stage = InRecords; left = c.in-Ok.header.requests; fault = c.self.inside.fault }) in
+    let new = the_view (record { lines = c.read_header-found.new.lines; stage = InRecords; left = c.in-Ok.header.requests; version = c.in-Ok.header.version; price = 0; fault = c.self.inside.fault }) in
     subst (λ r. HeaderRead r new (device (g.Q.Source.left c.args.source.now) (g.Q.Source.left c.read_header-found.new.source) (g.Q.Source.faults c.args.source.now) (g.Q.Source.faults c.read_header-found.new.source)) (Ok c.in-Ok.header)) is
-    (header_goes old new _ c.in-Ok.header at (c.self.invariant.4 c.in_default.is at) refl refl (rw c.in-Ok.is at c.read_header-found.ensures.read))
+    (header_goes old new _ c.in-Ok.header at (c.self.invariant.4 c.in_default.is at) refl refl refl refl (rw c.in-Ok.is at c.read_header-found.ensures.read))
 
 pub invariant_of-self : goal.invariant_of-self
 invariant_of-self g c =
@@ -35,4 +35,5 @@ invariant_of-self g c =
       λ none. read.given.1,
       λ none. omega (arith, read.given.0, first, range.requests, few_lines h),
       λ none wrong. cc,
+      omega arith,
     )

@@ -45,4 +45,4 @@ loop-self-init g c = record {
 }
 
 pub returns-clause-lines : goal.returns-clause-lines
-returns-clause-lines g c = no_further_given c.args.self.now c.loop-self.self c.give.new.self c.in_ok-give.field-0 _ c.give.ensures.still.2 c.in_ok-give.ensures.given_in c.loop-self.invariant.lines
+returns-clause-lines g c = no_further_given c.args.self.now c.loop-self.self c.give.new.self c.in_ok-give.field-0 _ c.give.ensures.still.0 c.give.ensures.still.2 c.in_ok-give.ensures.given_in c.loop-self.invariant.lines

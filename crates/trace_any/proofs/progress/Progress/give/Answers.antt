@@ -1,6 +1,8 @@
 use Rattle.std.proofs.Common.{◌≡◌, ◌+◌, ◌<◌, ◌∙◌, sym, refl, arith, ap}
+use Rattle.cache_model.specs.declared.objects.Object.{Object}
+use Rattle.trace_any.specs.contracts.progress.Progress.{the_view}
 use Rattle.trace_any.specs.FirstLines.{coming_in}
-use Rattle.trace_any.specs.Readings.{lines_of}
+use Rattle.trace_any.specs.Readings.{pieces_of}
 use Rattle.trace_any.specs.Readers.{onto}
 use Rattle.trace_any.proofs.Coming.{gives_block, no_room, with_given}
 use Rattle.trace_any.proofs.progress.Progress.give.Goals as goal
@@ -22,4 +24,11 @@ returns-clause-given_in c =
     λ lines. gives_block self next lines room (c.requires.some) follows ∙ ap (λ r. onto (record { volume = r.ahead.volume; id = r.ahead.first; size = r.ahead.size }) (coming_in (with_given r next) lines)) (sym is)
 
 pub returns-clause-given : goal.returns-clause-given
-returns-clause-given c = (ap (λ r. r.given + 1) c.self.view_is, λ bytes. returns-clause-given_in c (lines_of bytes))
+returns-clause-given c =
+    let is = c.self.view_is in
+    let self = c.args.self.now in
+    let next = c.saturating_add-self-inside.result in
+    let x : Object = record { volume = c.self.inside.ahead.volume; id = c.self.inside.ahead.first; size = c.self.inside.ahead.size } in
+    let new = with_given (the_view c.self.inside) next in
+    let form : c.self.inside.format ≡ self.format = ap (λ r. r.format) is in
+    (ap (λ r. r.given + 1) is, λ bytes. returns-clause-given_in c (pieces_of self.format bytes) ∙ ap (λ f. onto x (coming_in new (pieces_of f bytes))) (sym form))

@@ -1,0 +1,66 @@
+//! Traces of records of 24 bytes. The bounds were worked out by hand.
+ghost use Rattle.std.specs.Prelude.{◌≤◌};
+
+use super::*;
+use trace_lines::LineKind;
+
+// Two requests for 4 bytes of object 7.
+const RECORDS: &[u8] = b"\x01\0\0\0\x07\0\0\0\0\0\0\0\x04\0\0\0\x01\0\0\0\0\0\0\0\
+\x02\0\0\0\x07\0\0\0\0\0\0\0\x04\0\0\0\xff\xff\xff\xff\xff\xff\xff\xff";
+
+// A byte less.
+const CUT: &[u8] = b"\x01\0\0\0\x07\0\0\0\0\0\0\0\x04\0\0\0\x01\0\0\0\0\0\0\0\
+\x02\0\0\0\x07\0\0\0\0\0\0\0\x04\0\0\0\xff\xff\xff\xff\xff\xff\xff";
+
+// The first of them asks for no byte.
+const FIRST_EMPTY: &[u8] = b"\x01\0\0\0\x07\0\0\0\0\0\0\0\0\0\0\0\x01\0\0\0\0\0\0\0\
+\x02\0\0\0\x07\0\0\0\0\0\0\0\x04\0\0\0\xff\xff\xff\xff\xff\xff\xff\xff";
+
+const WHOLE: Row<'static> = Row {
+    shows: "records are read as the lines of the same requests",
+    words: "bounds t c format=oracle capacity=10 mode=infinite",
+    trace: RECORDS,
+    ..GOOD
+};
+
+#[test]
+fn records_are_read_whatever_the_pieces(rt: HostRuntime) {
+    for step in [1, 7, 48] {
+        check_at(&rt, rt.alloc(), &WHOLE, step);
+    }
+}
+
+const ROWS: [Row<'static>; 3] = [
+    Row {
+        shows: "a part of a record at the end",
+        trace: CUT,
+        status: Status::BadLine {
+            line: 2,
+            kind: LineKind::PartRecord { bytes: 23 },
+        },
+        report: b"bad line 2: part record 23\n",
+        made: b"",
+        ..WHOLE
+    },
+    Row {
+        shows: "a record that asks for no byte",
+        trace: FIRST_EMPTY,
+        report: b"trace requests 1 objects 1 dropped 1\ncapacity 10 objective object\n\
+mode infinite form plain\nunit 1 units 10 denominator 1\nintervals 0\nupper 0/1 floor 0\nflow 0/1\nlower 0\n",
+        made: b"cache-bound-certificate 1\nobjective object\ncapacity 10\nrequests 1\nunit 1\n\
+denominator 1\nform plain\nupper 0\nflow 0\nlower 0\nrecords\n0 0 0\nend\n",
+        ..WHOLE
+    },
+    Row {
+        shows: "the curve of records",
+        words: "curve t format=oracle",
+        report: b"trace requests 2 objects 1 dropped 0\nsize 4\nslots 1 hits 1\n",
+        made: b"",
+        ..WHOLE
+    },
+];
+
+#[test]
+fn records_end_as_their_sizes_say(rt: HostRuntime) {
+    check_all(&rt, rt.alloc(), &ROWS);
+}

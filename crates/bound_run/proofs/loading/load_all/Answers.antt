@@ -1,0 +1,44 @@
+use Rattle.std.proofs.Common.{◌≡◌, ◌∙◌, ap, subst, IfSome, None, Some, []}
+use Rattle.std.proofs.lemmas.Result.{err_from_is_err_and}
+use Rattle.trace_any.specs.Readings.{full_limits}
+use Rattle.trace_any.specs.Readers.{IsNotLoaded, IsWhole, fresh, known, to_come}
+use Rattle.bound_run.proofs.Outcomes.{loaded_all, not_loaded, nothing_left}
+use Rattle.bound_run.proofs.loading.load_all.Goals as goal
+
+pub returns-in-Ok-clause-loaded : goal.returns-in-Ok-clause-loaded
+returns-in-Ok-clause-loaded g c =
+    let reader = c.in_ok-reader.reader in
+    let read = c.in-Ok.read in
+    let new : reader ≡ fresh c.args.format full_limits = c.in_ok-reader.ensures ∙ ap (fresh c.args.format) c.full.ensures in
+    let none : reader.fault ≡ None = ap (λ r. r.fault) new in
+    let whole = subst (λ r. IfSome (known r (g.T.Source.left c.args.trace.now)) (λ bytes. IsWhole (to_come r bytes) read.0 read.1)) new (rw c.in-Ok.is at (c.load-read.ensures.whole none)) in
+    let end = subst (λ r. IfSome (known r (g.T.Source.left c.args.trace.now)) (λ _. known c.load-read.new.reader (g.T.Source.left c.load-read.new.source) ≡ Some [])) new (rw c.in-Ok.is at (c.load-read.ensures.end none)) in
+    loaded_all c.args.format _ _ _ _ _ _ whole (nothing_left _ _ c.load-read.new.reader.lines.held end)
+
+pub returns-in-Ok-clause-refused : goal.returns-in-Ok-clause-refused
+returns-in-Ok-clause-refused g c = tt
+
+pub returns-in-Ok-clause-source : goal.returns-in-Ok-clause-source
+returns-in-Ok-clause-source g c = c.load-read.ensures.source
+
+pub returns-in-Err-clause-loaded : goal.returns-in-Err-clause-loaded
+returns-in-Err-clause-loaded g c = tt
+
+pub returns-in-Err-clause-refused : goal.returns-in-Err-clause-refused
+returns-in-Err-clause-refused g c =
+    let reader = c.in_ok-reader.reader in
+    let new : reader ≡ fresh c.args.format full_limits = c.in_ok-reader.ensures ∙ ap (fresh c.args.format) c.full.ensures in
+    let none : reader.fault ≡ None = ap (λ r. r.fault) new in
+    let why = subst (λ r. IsNotLoaded r (known r (g.T.Source.left c.args.trace.now)) (g.T.Source.faults c.args.trace.now) (g.T.Source.faults c.load-read.new.source) c.in-Err.fault) new (rw c.in-Err.is at (c.load-read.ensures.refused none)) in
+    rw c.refusal_of.ensures (not_loaded c.args.format (g.T.Source.left c.args.trace.now) (g.T.Source.left c.load-read.new.source) _ _ c.in-Err.fault why)
+
+pub returns-in-Err-clause-source : goal.returns-in-Err-clause-source
+returns-in-Err-clause-source g c = c.load-read.ensures.source
+
+pub returns-in_err-reader-clause-loaded : goal.returns-in_err-reader-clause-loaded
+returns-in_err-reader-clause-loaded g c = rw (err_from_is_err_and c.from_residual.result c.from_residual.ensures.1).1 tt
+
+pub returns-in_err-reader-clause-refused : goal.returns-in_err-reader-clause-refused
+returns-in_err-reader-clause-refused g c =
+    let p = err_from_is_err_and c.from_residual.result c.from_residual.ensures.1 in
+    rw (p.1, p.2) tt

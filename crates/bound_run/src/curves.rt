@@ -1,0 +1,28 @@
+//! The curve of a trace, and its report.
+ghost use Rattle.std.specs.Prelude.{◌≡◌, IfOk, IfErr};
+ghost use Rattle.stack_curve.specs.Curves.{IsCause};
+ghost use Rattle.bound_run.specs.Curves.{IsCurveText};
+
+use bound_report::{CurveFacts, curve_text};
+use cache_rules::Trace;
+use stack_curve::{CurveFault, curve};
+use std::alloc::Global;
+
+/// The report of the curve of a trace, with the number of its lines that were dropped. It takes 8 bytes for each request
+/// while it counts, and a line for each number of slots that adds hits.
+pub(crate) fn curve_report(
+    alloc: Global,
+    trace: &Trace,
+    dropped: u64,
+) -> Result<Vec<u8>, CurveFault>
+    ensures report { IfOk result (λ text. IsCurveText trace.now dropped text.items) }
+    ensures cause { IfErr result (IsCause trace.now) }
+{
+    let curve = curve(alloc, trace)?;
+    let facts = CurveFacts {
+        requests: trace.len(),
+        objects: trace.objects(),
+        dropped,
+    };
+    Ok(curve_text(alloc, &facts, &curve)?)
+}

@@ -1,0 +1,99 @@
+//! What comes of reading the whole trace.
+ghost use Rattle.std.specs.Prelude.{IfOk, IfErr};
+ghost use Rattle.bound_io.specs.Devices.{seen};
+ghost use Rattle.bound_io.specs.Reading.{LosesPrefix};
+ghost use Rattle.trace_any.specs.Readings.{IsFormat};
+ghost use Rattle.bound_run.specs.Asked.{asked_by, replaying_by};
+ghost use Rattle.bound_run.specs.Inputs.{IsCurved, IsLoaded, IsReady, IsReplayed};
+ghost use Rattle.bound_run.specs.Parts.{RefusesBounds, RefusesCurve, RefusesLoading};
+
+use crate::bounds::{Texts, texts_of};
+use crate::curves::curve_report;
+use crate::replays::replay_report;
+use crate::status::{refusal_of, refusal_of_curve};
+use crate::tasks::{BoundsTask, ReplayTask};
+use bound_io::Source;
+use bound_report::Refusal;
+use cache_rules::Trace;
+use std::alloc::Global;
+use trace_any::{Format, Limits, RequestReader, load};
+
+// The requests of all that the source has left, and how many lines of it were dropped.
+fn load_all<T: Source>(
+    alloc: Global,
+    format: Format,
+    trace: &mut T,
+) -> Result<(Trace, u64), Refusal>
+    requires { IsFormat format }
+    ensures loaded { IfOk result (λ read. IsLoaded format (seen T.left T.faults trace.old trace.new) read.0 read.1) }
+    ensures refused { IfErr result (RefusesLoading format (seen T.left T.faults trace.old trace.new)) }
+    ensures source { LosesPrefix (T.left trace.old) (T.left trace.new) }
+{
+    let read = {
+        let mut reader = RequestReader::new(alloc, format, Limits::full())?;
+        load(alloc, &mut reader, trace)
+    };
+    match read {
+        Ok(read) => Ok(read),
+        Err(fault) => Err(refusal_of(fault)),
+    }
+}
+
+/// The certificate and the report of all that the source has left.
+pub(crate) fn prepare<T: Source>(
+    alloc: Global,
+    format: Format,
+    asked: &BoundsTask,
+    trace: &mut T,
+) -> Result<Texts, Refusal>
+    requires format { IsFormat format }
+    ensures ready { IfOk result (λ texts. IsReady format (asked_by asked.now) (seen T.left T.faults trace.old trace.new) texts.cert.items texts.report.items) }
+    ensures refused { IfErr result (RefusesBounds format (asked_by asked.now) (seen T.left T.faults trace.old trace.new)) }
+    ensures source { LosesPrefix (T.left trace.old) (T.left trace.new) }
+{
+    let texts = {
+        let (requests, dropped) = load_all(alloc, format, trace)?;
+        texts_of(alloc, asked, &requests, dropped)
+    };
+    Ok(texts?)
+}
+
+/// The report of the replay of all that the source has left.
+pub(crate) fn replay_all<T: Source>(
+    alloc: Global,
+    format: Format,
+    r: ReplayTask,
+    trace: &mut T,
+) -> Result<Vec<u8>, Refusal>
+    requires format { IsFormat format }
+    ensures replayed { IfOk result (λ text. IsReplayed format (replaying_by r) (seen T.left T.faults trace.old trace.new) text.items) }
+    ensures refused { IfErr result (RefusesLoading format (seen T.left T.faults trace.old trace.new)) }
+    ensures source { LosesPrefix (T.left trace.old) (T.left trace.new) }
+{
+    let text = {
+        let (requests, dropped) = load_all(alloc, format, trace)?;
+        replay_report(alloc, r, &requests, dropped)
+    };
+    Ok(text?)
+}
+
+/// The report of the curve of all that the source has left.
+pub(crate) fn curve_all<T: Source>(
+    alloc: Global,
+    format: Format,
+    trace: &mut T,
+) -> Result<Vec<u8>, Refusal>
+    requires format { IsFormat format }
+    ensures curved { IfOk result (λ text. IsCurved format (seen T.left T.faults trace.old trace.new) text.items) }
+    ensures refused { IfErr result (RefusesCurve format (seen T.left T.faults trace.old trace.new)) }
+    ensures source { LosesPrefix (T.left trace.old) (T.left trace.new) }
+{
+    let text = {
+        let (requests, dropped) = load_all(alloc, format, trace)?;
+        curve_report(alloc, &requests, dropped)
+    };
+    match text {
+        Ok(text) => Ok(text),
+        Err(fault) => Err(refusal_of_curve(fault)),
+    }
+}

@@ -1,0 +1,5 @@
+use Rattle.std.proofs.Common.{append_assoc}
+use Rattle.cert_format.proofs.text.short_text.Goals as goal
+
+pub returns : goal.returns
+returns c = rw (c.push-2.ensures.text, c.push_number.ensures.text, c.push.ensures.text, c.keep_first.ensures.text, c.new-text.ensures) (simp append_assoc)

@@ -1,0 +1,20 @@
+-- What a record of an oracleGeneral trace asks for.
+use Rattle.std.specs.Prelude.{ℕ, ◌+◌, ◌*◌, List, [], ◌∷◌, take, drop, ◌==◌, if◌then◌else◌}
+use Rattle.trace_lines.specs.declared.line.Span.{Span}
+use Rattle.trace_lines.specs.declared.line.Span.TheVariants.{Nothing, One}
+
+-- the number that some bytes are, of which the first counts least
+abbrev pub little_endian : List ℕ → ℕ
+little_endian [] = 0
+little_endian (byte ∷ more) = byte + 256 * little_endian more
+
+-- so many bytes of a record after the first so many, as a number
+abbrev pub number_after : ℕ → ℕ → List ℕ → ℕ
+number_after place count bytes = little_endian (take count (drop place bytes))
+
+-- what a record asks for: after 4 bytes of a time stand 8 of the id and 4 of the size; the last 8, the next access, are not looked at, nor is the time
+abbrev pub record_span : List ℕ → Span
+record_span bytes =
+    let id = number_after 4 8 bytes in
+    let size = number_after 12 4 bytes in
+    if size == 0 then Nothing else One id size
