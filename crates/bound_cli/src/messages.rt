@@ -33,7 +33,7 @@ pub const USAGE: [&str; 10] = [
 /// What the program is for.
 pub const PURPOSE: &str =
     "bound_cli computes how well any cache could do on a trace of requests: an upper bound that no
-replacement policy can exceed, a schedule that comes close to it, and a certificate of both.
+replacement policy can exceed, a schedule that reaches a score, and a certificate of both.
 ";
 
 /// What stands for what, and five examples.
@@ -49,7 +49,7 @@ examples:
   bound_cli bounds examples/build-files.webcache build.cert format=webcache capacity=8388608
   bound_cli check examples/build-files.webcache build.cert format=webcache
   bound_cli replay examples/build-files.webcache format=webcache capacity=8388608 policy=lru
-  bound_cli curve blocks.msr format=msr
+  bound_cli curve examples/database-blocks.msr format=msr block=8192
 
 docs/GUIDE.md goes from a trace to a decision; man -l docs/bound_cli.1 has every operand.";
 
@@ -292,7 +292,7 @@ fn start_advice(alloc: Global, command: &str, trace: Seen<'_>) -> Result<String,
     }
     if start.iter().any(|byte| *byte == b',') {
         return format!(in alloc;
-            "{name}: its first line has commas; for a table see examples/forms/key_table.awk"
+            "{name}: its first line has commas; for a table see examples/forms/"
         );
     }
     let pipe = pipe(alloc, "tail -n +2", name, command)?;
