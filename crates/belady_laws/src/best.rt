@@ -43,7 +43,7 @@ fn replay_belady(alloc: Global, trace: &Trace, capacity: u64) -> Result<Replay, 
     replay(alloc, trace, 0, &mut policy)
 }
 
-/// Replays the rule of Belady, 1966, where all objects that fit have one size. Then no allowed contents has more hits, or
+/// Replays the rule of Belady, 1966, if all objects that fit have one size. Then no allowed contents has more hits, or
 /// more bytes of hits.
 pub fn best_replay(alloc: Global, trace: &Trace, capacity: u64) -> Result<Replay, BestFault>
     requires range { (1 ≤ capacity) × (capacity ≤ 2 ^ 56) }

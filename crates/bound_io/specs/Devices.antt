@@ -5,7 +5,7 @@ use Rattle.std.specs.Io.KnownBytes.{Appends}
 use Rattle.bound_io.specs.Causes.{HasNewFault}
 use Rattle.bound_io.specs.Writing.{AppendsProperPrefix}
 
--- the bytes that a source has left, or that a sink was written, where they are known, and the count of faults
+-- the bytes that a source has left, or that a sink was written, if they are known, and the count of faults
 pub record Device : Type 0 where
   pub before : Option (List ℕ)
   pub after : Option (List ℕ)

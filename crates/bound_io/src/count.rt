@@ -9,7 +9,7 @@ use crate::device::Failed;
 use std::io;
 use std::io::{Read, Write};
 
-// The answer of the system, where there is one, and else a fault that is counted.
+// The answer of the system, if there is one, and else a fault that is counted.
 pub(crate) fn count_fault(answer: Option<usize>, faults: &mut u64) -> Result<usize, Failed>
     ensures value { result_ok result ≡ answer }
     ensures cause { HasCause faults.old faults.new result }

@@ -6,7 +6,7 @@ ghost use Rattle.bound_io.specs.Causes.{HasCause, count_after};
 use crate::device::{Failed, Sink};
 use std::alloc::Global;
 
-/// Keeps each piece whole, in memory that grows. It fails only where it finds no memory.
+/// Keeps each piece whole, in memory that grows. It fails only if it finds no memory.
 #[derive(Drop)]
 pub struct GrowSink {
     bytes: Vec<u8>,

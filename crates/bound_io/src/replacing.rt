@@ -75,7 +75,7 @@ fn open_beside<R: Files>(rt: &R, alloc: Global, path: &str) -> io::Result<(R::Fi
     Ok((file, Beside { new, old }))
 }
 
-/// Opens what a path stands for, to write a certificate. A file that has bytes and is no certificate is refused. Where a
+/// Opens what a path stands for, to write a certificate. A file that has bytes and is no certificate is refused. If a
 /// certificate stands, the file that is opened stands beside it, at its path and `.part`.
 pub(crate) fn open_target<R: Files>(
     rt: &R,

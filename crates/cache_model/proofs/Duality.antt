@@ -33,7 +33,7 @@ abbrev pub earns_now : ℕ → ℕ → ℕ
 earns_now zero n = n
 earns_now (suc m) n = 0
 
--- what the interval from x in the contents to its next request is worth, where the first m requests earn nothing
+-- what the interval from x in the contents to its next request is worth, if the first m requests earn nothing
 abbrev pub worth : ℕ → (Object → ℕ) → (Object → ℕ) → List Object → List ℕ → Object → ℕ
 worth m g w [] prices x = 0
 worth m g w (r ∷ later) [] x = 0
@@ -144,7 +144,7 @@ inside-without r held (x ∷ xs) h = (at (same_object r x) refl, inside-without 
         ⊎_elim (λ (same : same_object x r ≡ true). or_left _ _ same)
         (λ (in_held : holds held x ≡ true). or_right _ _ (holds-without r x held e in_held)) (or_cases _ _ h.0)
 
--- what the requests earn, where the first m earn nothing
+-- what the requests earn, if the first m earn nothing
 abbrev pub earned : ℕ → (Object → ℕ) → List Object → List (List Object) → ℕ
 earned m earns trace contents = sum_by (λ (x, held). cond (holds held x) (earns x) 0) (drop m (zip trace contents))
 

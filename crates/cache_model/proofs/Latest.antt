@@ -72,7 +72,7 @@ module _ (trace : List Object) (x : Object) (g : ℕ → ℕ) where
       ap (λ y. same_object y (request_at ts (length trace))) (early_object a la) ∙ ap (same_object (request_at trace a)) last_object ∙ same_object-sym (request_at trace a) x ∙ same in
       ap (λ b. cond (not b) (g a) 0) (list_any-range_true p ts no_object (a + 1) (length trace + 1) (length trace) (omega arith) (omega arith) (omega (arith, size_more)) last)
 
-  -- nor was it where a later one stood before
+  -- nor was it if a later one stood before
   past_before : (a b : ℕ) → a < b → b < length trace → same_object (request_at trace a) (request_at trace b) ≡ true → term trace (length trace) a ≡ 0
   unfolding term
   past_before a b ab lb same =

@@ -27,7 +27,7 @@ take_drop_nil zero a = refl
 take_drop_nil (suc k) zero = refl
 take_drop_nil (suc k) (suc a) = refl
 
--- the price of step t, where the range has it
+-- the price of step t, if the range has it
 abbrev pub priced : List ℕ → ℕ → ℕ → ℕ → ℕ
 priced prices a b t = cond (within a b t) (get_or prices t 0) 0
 

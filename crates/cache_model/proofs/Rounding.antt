@@ -111,7 +111,7 @@ module _ (terms : Terms) (trace : List Object) (keeps : List Bool) (t : ℕ) whe
 
 -- ---- rounded keeps are maximal
 
--- a test fails at some number of a list, where another then passes
+-- a test fails at some number of a list where another then passes
 list_any-from_not_all : (p q : ℕ → Bool) (xs : List ℕ) → ((x : ℕ) → p x ≡ false → q x ≡ true) → list_all p xs ≡ false → list_any q xs ≡ true
 list_any-from_not_all p q [] turns h = absurd (true≢false h)
 list_any-from_not_all p q (x ∷ xs) turns h =

@@ -43,7 +43,7 @@ dvd-mul_gcd (suc k) a b g e h p q =
     let divides : found.0 ∣ suc k * g = subst (λ n. n ∣ suc k * g) whole (mul-dvd-mul_left part (suc k) (h.2 part divides_a divides_b)) in
     dvd_trans e (found.1.2 e p q) divides
 
--- a weight divides d times the gain exactly where the reduced weight divides d
+-- a weight divides d times the gain exactly if the reduced weight divides d
 pub weight-dvd_iff : (w x g d : ℕ) → 0 < w → IsGcd w x g → (w ∣ d * x) ↔ (w / g ∣ d)
 weight-dvd_iff w x g d positive h =
     let some : 0 < g = pos_of_dvd_of_pos h.0 positive in
@@ -52,7 +52,7 @@ weight-dvd_iff w x g d positive h =
       λ divides. dvd_trans w (subst (λ n. n ∣ d * g) whole (mul-dvd-mul_right (w / g) divides g)) (mul-dvd-mul_left g d h.1),
     )
 
--- no cost is rounded over d exactly where each reduced weight divides d
+-- no cost is rounded over d exactly if each reduced weight divides d
 pub whole_costs_iff : (intervals : List Interval) (unit d : ℕ) (reduced : List ℕ) → All (λ i. 0 < weight unit i) intervals → AllZip (IsReducedWeight unit) intervals reduced → HasWholeCosts intervals unit d ↔ All (λ n. n ∣ d) reduced
 whole_costs_iff [] unit d [] positive each =
     (λ h. All-nil (λ (n : ℕ). n ∣ d), λ h. All-nil (λ (i : Interval). weight unit i ∣ d * i.gain))

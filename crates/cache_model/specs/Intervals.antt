@@ -28,7 +28,7 @@ eligible_from terms trace a = map (interval_of terms.objective trace a) (filter 
 abbrev pub eligible_intervals : Terms → List Object → List Interval
 eligible_intervals terms trace = flat_map (eligible_from terms trace) (numbers_of trace)
 
--- the gain times the denominator, less the weight times the prices of the steps covered, and 0 where that is negative
+-- the gain times the denominator, less the weight times the prices of the steps covered, and 0 if that is negative
 abbrev pub surplus : ℕ → ℕ → List ℕ → Interval → ℕ
 surplus unit denominator prices i =
     denominator * i.gain - (i.size / unit) * sum (slice_range prices i.start i.end)

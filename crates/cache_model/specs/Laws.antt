@@ -90,7 +90,7 @@ OneMoreRequest =
     (terms : Terms) (trace : List Object) (x : Object) (of_interval : Interval → ℕ) (of_request : ℕ → ℕ)
     → IntervalsGrow terms trace x of_interval × LatestSumGrows trace x of_request
 
--- the load of a step is the sum over the latest requests, where only starts of intervals have an amount
+-- the load of a step is the sum over the latest requests, if only starts of intervals have an amount
 abbrev pub LoadIsLatestSum : Type 0
 LoadIsLatestSum =
     (terms : Terms) (trace : List Object) (amount : ℕ → ℕ) (t : ℕ)

@@ -32,7 +32,7 @@ pub record FitTogether (intervals : List Interval) (capacity : ℕ) (full : List
   pub one_flag_each : length full ≡ length intervals
   pub within_capacity : (t : ℕ) → sum_by (λ (i, flagged). if covers t i && flagged then i.size else 0) (zip intervals full) ≤ capacity
 
--- an interval is taken exactly where it is flagged or fits, and a request is kept only where a taken interval starts
+-- an interval is taken exactly if it is flagged or fits, and a request is kept only if a taken interval starts
 pub record IsRounded (ahead : Interval → Interval → Bool) (intervals : List Interval) (capacity steps : ℕ) (full keeps : List Bool) : Type 0 where
   pub one_keep_each : length keeps ≡ steps
   pub flagged_fit : FitTogether intervals capacity full

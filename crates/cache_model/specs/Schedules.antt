@@ -12,7 +12,7 @@ covers t i = nat_le i.start t && nat_lt t i.end
 abbrev pub load_at : List Interval → List ℕ → ℕ → ℕ
 load_at intervals amounts t = sum_by (λ (i, amount). if covers t i then amount else 0) (zip intervals amounts)
 
--- one flow for each interval, at most its weight, where the flows over each step are within the units
+-- one flow for each interval, at most its weight, and the flows over each step are within the units
 pub record IsFractionalSchedule (intervals : List Interval) (unit units : ℕ) (flows : List ℕ) : Type 0 where
   pub within_weights : AllZip (λ i f. f ≤ weight unit i) intervals flows
   pub within_units : (t : ℕ) → load_at intervals flows t ≤ units

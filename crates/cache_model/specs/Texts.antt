@@ -33,7 +33,7 @@ abbrev pub keep_digit : Bool → ℕ
 keep_digit true = 1
 keep_digit false = 0
 
--- the lines from the warm-up on, which is stated only where there is one
+-- the lines from the warm-up on, which is stated only if there is one
 abbrev pub last_lines : ℕ → List (List ℕ)
 last_lines warmup = if warmup == 0 then codes "records" ∷ [] else entry (codes "warmup") warmup ∷ codes "records" ∷ []
 

@@ -22,7 +22,7 @@ cost unit denominator i = div_ceil (denominator * i.gain) (weight unit i)
 abbrev pub HasWholeCosts : List Interval → ℕ → ℕ → Type 0
 HasWholeCosts intervals unit denominator = All (λ i. weight unit i ∣ denominator * i.gain) intervals
 
--- no cost is rounded at the denominator, and it divides every other one where none is
+-- no cost is rounded at the denominator, and it divides every other one if none is
 pub record IsLeastWhole (intervals : List Interval) (unit denominator : ℕ) : Type 0 where
   pub positive : 0 < denominator
   pub whole : HasWholeCosts intervals unit denominator

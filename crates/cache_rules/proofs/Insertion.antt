@@ -51,7 +51,7 @@ module _ {K X : Type 0} (same : K → K → Bool) (key : K) (value : X) where
   none_is_some : {x : X} → None ≡ Some x → ⊥
   none_is_some e = true≢false (sym (ap is_some e))
 
-  -- a look-up finds nothing exactly where the key is added
+  -- a look-up finds nothing exactly if the key is added
   pub Adds-from_lookup : (entries : List (K × X)) → lookup (same key) entries ≡ None → Adds entries (position_or_len (same key) (keys_of entries))
   Adds-from_lookup [] none = record { last = refl; after = refl; absent = λ n d low. absurd (omega arith) }
   Adds-from_lookup (e ∷ es) none =

@@ -91,7 +91,7 @@ tail_parts bytes =
     (lines_fault-append 8 value_slots lasts (after_lines 7 bytes)
     ∙ ap (λ b. option_or (values_fault 8 (after_lines 7 bytes)) (lines_fault (10 + 1) lasts b)) (sym (after_lines-add 7 3 bytes)))
 
--- the last lines, from line n on, where the first of them has a fault
+-- the last lines, from line n on, if the first of them has a fault
 pub last_stops : (n : ℕ) (bytes : List ℕ) (g : CertFault) → warmup_fault (n + 0 + 1) (after_lines 0 bytes) ≡ Some g → last_fault (n + 1) bytes ≡ Some g
 last_stops n bytes g is =
     let same : n + 0 + 1 ≡ n + 1 = omega arith in

@@ -84,7 +84,7 @@ pub nothing_read : (n : ℕ) (bytes : List ℕ) → trailing n bytes ≡ None �
 nothing_read n [] none = refl
 nothing_read n (b ∷ bytes) none = let wrong : Some (Trailing n) ≡ None = rw (ne_eqb (length (b ∷ bytes)) 0 (λ e. omega (arith, e))) at none in absurd (true≢false (ap is_some wrong))
 
--- what the bytes of some records and the end give, where there is no fault
+-- what the bytes of some records and the end give, if there is no fault
 record SpelledRecords (version before k n : ℕ) (bytes : List ℕ) (records : List Record) : Type 0 where
   read : read_records version before k n bytes ≡ only records
   each : All IsRecordInRange records

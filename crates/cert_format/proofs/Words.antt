@@ -107,7 +107,7 @@ cut_words text place found =
     by (inl before) = let some : Some (position_or_len is_space text) ≡ Some place = sym (ap (λ b. cond b (Some (position_or_len is_space text)) None) (lt-ltb _ _ before)) ∙ found in cc
     by (inr past) = let none : None ≡ Some place = sym (ap (λ b. cond b (Some (position_or_len is_space text)) None) (le-ltb _ _ past)) ∙ found in cc
 
--- a text has one word exactly where no space is found
+-- a text has one word exactly if no space is found
 no_space : (text : List ℕ) → length text ≤ position_or_len is_space text → list_any is_space text ≡ false
 no_space [] none = refl
 no_space (x ∷ xs) none =
@@ -148,7 +148,7 @@ is_lone text b said some = (λ yes. (uncut_words text (by (position is_space tex
 pub lone_word : (text word : List ℕ) → words text ≡ word ∷ [] → text ≡ word
 lone_word text word are = words-join text (word ∷ []) are
 
--- no word of a byte after a name, where the text after it is none
+-- no word of a byte after a name, if the text after it is none
 pub no_word_after : (text first name rest word : List ℕ) → words text ≡ first ∷ words rest → ((words rest ≡ rest ∷ []) × (0 < length rest) → ⊥) → words text ≡ name ∷ word ∷ [] → length word ≡ 0
 no_word_after text first name rest word cut none are =
     let both : first ∷ words rest ≡ name ∷ word ∷ [] = sym cut ∙ are in

@@ -32,7 +32,7 @@ choice_line name first second = OneOf (name ∷ []) ∷ OneOf (first ∷ second 
 abbrev pub number_line : List ℕ → ℕ → ℕ → List Slot
 number_line name low high = OneOf (name ∷ []) ∷ Within low high ∷ []
 
--- the lines of the counts, where the first states this capacity
+-- the lines of the counts, if the first states this capacity
 abbrev pub count_slots : ℕ → List (List Slot)
 count_slots capacity =
     number_line (codes "capacity") 1 (2 ^ 56)
@@ -49,12 +49,12 @@ value_slots =
     ∷ number_line (codes "lower") 0 (2 ^ 127 - 1)
     ∷ []
 
--- the last lines before the records: that of the warm-up, where there is one, and one of a fixed word
+-- the last lines before the records: that of the warm-up, if there is one, and one of a fixed word
 abbrev pub last_slots : Bool → List (List Slot)
 last_slots true = number_line (codes "warmup") 1 (2 ^ 25) ∷ fixed_line (codes "records") ∷ []
 last_slots false = fixed_line (codes "records") ∷ []
 
--- the lines before the records, where the third states this capacity, and the eleventh a warm-up or none
+-- the lines before the records, if the third states this capacity, and the eleventh a warm-up or none
 abbrev pub header_slots : ℕ → Bool → List (List Slot)
 header_slots capacity warm =
     choice_line (codes "cache-bound-certificate") (codes "1") (codes "2")

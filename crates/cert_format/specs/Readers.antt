@@ -33,7 +33,7 @@ coming AtHeader r bytes = reading bytes
 coming InRecords r bytes = read_records r.version r.price r.left (r.lines.line + 1) bytes
 coming AtEnd r bytes = stopped (trailing (r.lines.line + 1) bytes)
 
--- the reading of what is still to come, where the reader stands in these bytes
+-- the reading of what is still to come, if the reader stands in these bytes
 abbrev pub to_come : Reader → List ℕ → Reading
 to_come r bytes = coming r.stage r bytes
 

@@ -123,7 +123,7 @@ onto entry r = record r { records = entry ∷ r.records }
 abbrev pub under : Header → Reading → Reading
 under h r = record r { header = Some h }
 
--- no byte is to follow, where line n would be
+-- no byte is to follow, if line n would be
 abbrev pub trailing : ℕ → List ℕ → Option CertFault
 trailing n bytes = if length bytes == 0 then None else Some (Trailing n)
 

@@ -37,7 +37,7 @@ pub enum CertFault {
     BadText { line: u64, kind: TextKind },
     /// The input ends before the end of this line.
     Truncated { line: u64 },
-    /// Something follows the line `end`, where this line would be.
+    /// Something follows the line `end`, if this line would be.
     Trailing { line: u64 },
     /// A read failed.
     ReadFault,

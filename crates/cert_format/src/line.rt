@@ -33,7 +33,7 @@ fn is_word(text: &[u8]) -> bool
     !text.is_empty() && space_in(text).is_none()
 }
 
-// The word after a name, where the line has these two words.
+// The word after a name, if the line has these two words.
 fn word_after<'a>(text: &'a [u8], name: &[u8]) -> Option<&'a [u8]>
     ensures word { IfSome result (λ word. (words text.now ≡ name.now ∷ word.now ∷ []) × (0 < length word.now)) }
     ensures none { IfNone result ((word : List ℕ) → words text.now ≡ name.now ∷ word ∷ [] → length word ≡ 0) }
@@ -80,7 +80,7 @@ pub fn choice_after(text: &[u8], name: &[u8], first: &[u8], second: &[u8]) -> Re
     }
 }
 
-/// The warm-up of the line where one may stand, and 0 where the records come next.
+/// The warm-up of the line where one may stand, and 0 if the records come next.
 pub fn warmup(text: &[u8]) -> Result<u128, TextKind>
     ensures { result ≡ value_unless (line_fault (warmup_slots text.now) text.now) (warmup_in text.now) }
 {
@@ -98,7 +98,7 @@ struct RecordWords<'a> {
     flow: &'a [u8],
 }
 
-// Whether a keep is kept, where the word is one.
+// Whether a keep is kept, if the word is one.
 fn keep_of(word: &[u8]) -> Option<bool>
     ensures keep { IfSome result (λ keep. word.now ≡ (48 + keep_digit keep) ∷ []) }
     ensures none { IfNone result (can_stand (OneOf (codes "0" ∷ codes "1" ∷ [])) word.now ≡ false) }

@@ -29,7 +29,7 @@ fn whole_text<'a>(line: u64, given: Result<WholeLine<'a>, LineFault>) -> Result<
     }
 }
 
-// Whether no line is left, where it would be this one.
+// Whether no line is left, if it would be this one.
 fn nothing(line: u64, given: Result<WholeLine<'_>, LineFault>) -> Result<(), CertFault>
     ensures { result ≡ nothing_given line given.entry }
 {
@@ -112,7 +112,7 @@ pub fn read_choice<S: Source>(
     in_line(line, choice_after(text, name, first, second))
 }
 
-/// Reads the line where a warm-up may stand, which is 0 where the records come next.
+/// Reads the line where a warm-up may stand, which is 0 if the records come next.
 pub fn read_warmup<S: Source>(lines: &mut LineReader, source: &mut S) -> Result<u128, CertFault>
     requires limit { lines.old.limit ≡ 2 ^ 36 }
     requires few { lines.old.line < 2 ^ 26 }

@@ -8,7 +8,7 @@ ghost use Rattle.cert_format.specs.Grammar.{Within, number_fault, number_in, val
 use crate::fault::TextKind;
 use bound_base::{NumFault, read_u128};
 
-// The number of a few digits, which fits 64 bits. None where a byte is no digit.
+// The number of a few digits, which fits 64 bits. None if a byte is no digit.
 fn short_value(digits: &[u8]) -> Option<u64>
     requires { length digits.now ≤ 19 }
     ensures { IfSome result (λ value. (list_all is_ascii_digit digits.now ≡ true) × (value ≡ value_after 0 digits.now)) }

@@ -20,7 +20,7 @@ use std::marker::Model;
 pub enum Stage {
     /// The lines before the records.
     AtHeader,
-    /// A record, or the end where none is left.
+    /// A record, or the end if none is left.
     InRecords,
     /// Nothing.
     AtEnd,
@@ -175,7 +175,7 @@ impl CertReader {
         found
     }
 
-    /// Reads the end, where all records were read, and what follows it, which is nothing.
+    /// Reads the end, if all records were read, and what follows it, which is nothing.
     pub fn finish_text<Q: Source>(&mut self, source: &mut Q) -> Result<(), CertFault>
         requires { self.old.fault ≡ None → (self.old.stage ≢ AtHeader) × (self.old.left ≡ 0) }
         ensures lines { self.old.fault ≡ None → OnOk result (self.new.lines.line ≡ self.old.lines.line + lines_left self.old.stage) }

@@ -7,7 +7,7 @@ use Rattle.constant_price.specs.Constants.{constant_prices, constant_bound}
 abbrev interval : ℕ → ℕ → ℕ → ℕ → Interval
 interval start end size gain = record { start = start; end = end; size = size; gain = gain }
 
--- the last step has no price, and is the only one where there is one step
+-- the last step has no price, and is the only one if there is one step
 no_step : constant_prices 7 0 ≡ []
 no_step = refl
 

@@ -7,7 +7,7 @@ use Rattle.cache_model.specs.Units.{weight}
 abbrev pub charge : ℕ → Interval → ℕ
 charge unit i = weight unit i * (i.end - i.start)
 
--- the gain times the denominator, less what the interval pays, and 0 where that is negative
+-- the gain times the denominator, less what the interval pays, and 0 if that is negative
 abbrev pub surplus_at : ℕ → ℕ → ℕ → Interval → ℕ
 surplus_at unit denominator price i = denominator * i.gain - charge unit i * price
 

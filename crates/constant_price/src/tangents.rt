@@ -16,7 +16,7 @@ pub(crate) struct Tangent {
     pub(crate) fall: u128,
 }
 
-// The size in units. Where the unit is 1, as in most traces, a division would take longer than all the rest.
+// The size in units. If the unit is 1, as in most traces, a division would take longer than all the rest.
 fn weight_of(size: u64, unit: u64) -> u64
     requires { 1 ≤ unit }
     ensures { result ≡ size / unit }

@@ -29,7 +29,7 @@ fn line_of(number: u32, object: &Object) -> LineText<ROOM>
     text
 }
 
-/// The lines of a webcache trace that ask for these requests, which are numbered from 1. Where a line can say what each
+/// The lines of a webcache trace that ask for these requests, which are numbered from 1. If a line can say what each
 /// request asks for, they are read back as this trace.
 pub fn webcache_text(alloc: Global, trace: &Trace) -> Result<Vec<u8>, NoMemory>
     ensures text { IfOk result (λ text. text.items ≡ webcache_text trace.now) }

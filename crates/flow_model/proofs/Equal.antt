@@ -1,4 +1,4 @@
--- Where prices suit a schedule, its cost is their value; and potentials make prices that suit.
+-- If prices suit a schedule, its cost is their value; and potentials make prices that suit.
 use Rattle.std.proofs.Common.{◌≡◌, ℕ, suc, zero, ◌+◌, ◌-◌, ◌*◌, ◌<◌, ◌≤◌, ◌∙◌, sym, refl, ap, false, cond, nat_lt, nat_le, List, [], ◌∷◌, length, arith, ⊎_elim, sum, sum_by, zip, take, get_or, slice_range, All}
 use Rattle.std.specs.List.{range_with_len, AllZip}
 use Rattle.std.proofs.Math.Nat.{mul-le-mul_left}

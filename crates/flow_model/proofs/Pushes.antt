@@ -233,7 +233,7 @@ push_edge-rises instance flows amount (OuterBack i) (OuterBack j) lengths is_edg
     let at = inner_set flows.outer j i (get_or flows.outer i 0 - amount) (omega (arith, lengths.outer)) in
     ⊎_elim (λ (h : j ≡ i). absurd (omega (arith, at.0 h, ap (λ k. get_or flows.outer k 0) h))) (λ (h : j ≡ i → ⊥). absurd (omega (arith, at.1 h))) (cases_eq j i)
 
--- an edge gains room only where its opposite is on the path: there is an edge of the path with it for opposite
+-- an edge gains room only if its opposite is on the path: there is an edge of the path with it for opposite
 pub push_path-rises : (instance : Instance) (amount : ℕ) (path : List Edge) (flows : Flows) (f : Edge) → HasLengths instance flows → All (IsEdge instance) path
     → residual instance flows f < residual instance (push_path amount flows path) f → (k : ℕ) × (k < length path) × (f ≡ opposite (edge_at path k))
 push_path-rises instance amount [] flows f lengths edges rises = absurd (omega arith)

@@ -32,7 +32,7 @@ second_window = refl
 one_window : window_instance three 6 0 ≡ three
 one_window = refl
 
--- in the first window the price that is best over all steps has the value 2, where zero prices have 1
+-- in the first window the price that is best over all steps has the value 2, and zero prices have 1
 three_values : value_at (window_instance three 3 0) (0 ∷ 0 ∷ 1 ∷ []) ≡ 2
 three_values = refl
 

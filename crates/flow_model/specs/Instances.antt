@@ -39,7 +39,7 @@ arc_at arcs i = slice_index_or arcs i no_arc
 abbrev pub price_over : List ℕ → OuterArc → ℕ
 price_over prices arc = sum (slice_range prices arc.start arc.end)
 
--- what the whole weight of the arc earns above the price of its steps, and 0 where it earns less
+-- what the whole weight of the arc earns above the price of its steps, and 0 if it earns less
 abbrev pub surplus : List ℕ → OuterArc → ℕ
 surplus prices arc = arc.weight * arc.cost - arc.weight * price_over prices arc
 
@@ -55,7 +55,7 @@ covers t arc = nat_le arc.start t && nat_lt t arc.end
 abbrev pub load_at : List OuterArc → List ℕ → ℕ → ℕ
 load_at arcs flows t = sum_by (λ (arc, flow). if covers t arc then flow else 0) (zip arcs flows)
 
--- one flow for each arc, at most its weight, where the flows over each step are within the units
+-- one flow for each arc, at most its weight, and the flows over each step are within the units
 pub record IsSchedule (instance : Instance) (flows : List ℕ) : Type 0 where
   pub within_weights : AllZip (λ arc flow. flow ≤ arc.weight) instance.arcs flows
   pub within_units : (t : ℕ) → load_at instance.arcs flows t ≤ instance.units
@@ -72,7 +72,7 @@ IsLeast instance prices = (others : List ℕ) → length others ≡ instance.ste
 abbrev pub IsBest : Instance → List ℕ → Type 0
 IsBest instance flows = (others : List ℕ) → IsSchedule instance others → total_cost instance.arcs others ≤ total_cost instance.arcs flows
 
--- a price for each step and a schedule, where the value at the prices is what the flows earn
+-- a price for each step and a schedule: the value at the prices is what the flows earn
 pub record IsSolution (instance : Instance) (prices flows : List ℕ) : Type 0 where
   pub each_step : length prices ≡ instance.steps
   pub schedule : IsSchedule instance flows

@@ -6,7 +6,7 @@ pub fn schedules_are_below_prices()
     ensures { SchedulesAreBelowPrices }
 {}
 
-/// Where all units are pushed and no residual edge has a positive reduced cost, prices and flows have one value.
+/// If all units are pushed and no residual edge has a positive reduced cost, prices and flows have one value.
 pub fn equal_values()
     ensures { EqualValues }
 {}

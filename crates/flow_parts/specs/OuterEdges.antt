@@ -6,7 +6,7 @@ use Rattle.flow_model.specs.declared.edges.Edge.TheVariants.{Outer, OuterBack}
 use Rattle.flow_model.specs.Instances.{Instance}
 use Rattle.flow_model.specs.Networks.{tail}
 
--- the edge of that number, where there are so many arcs: first come the arcs, and then their back edges
+-- the edge of that number, if there are so many arcs: first come the arcs, and then their back edges
 abbrev pub edge_of : ℕ → ℕ → Edge
 edge_of arcs number = if nat_lt number arcs then Outer number else OuterBack (number - arcs)
 
@@ -14,7 +14,7 @@ edge_of arcs number = if nat_lt number arcs then Outer number else OuterBack (nu
 abbrev pub tail_of : List OuterArc → ℕ → ℕ
 tail_of arcs number = tail arcs (edge_of (length arcs) number)
 
--- for each node the number of the first edge in its list, and for each edge that of the next one, each from 1; or 0 where
+-- for each node the number of the first edge in its list, and for each edge that of the next one, each from 1; or 0 if
 -- there is none
 pub record Lists : Type 0 where
   pub first : List ℕ

@@ -35,7 +35,7 @@ impl Heap {
         Ok(Heap { queue, ranks })
     }
 
-    /// Gives the key that rank or, where it has one, the lesser of both. It takes time in the logarithm of the keys.
+    /// Gives the key that rank or, if it has one, the lesser of both. It takes time in the logarithm of the keys.
     pub fn offer(&mut self, key: u32, rank: u128)
         requires { key < length self.old }
         ensures { ChangesRank self.old self.new key (Some (lesser (rank_at self.old key) rank)) }

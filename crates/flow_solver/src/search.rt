@@ -93,7 +93,7 @@ impl Search {
         self.queue.offer(&self.distances, 0);
     }
 
-    // Lowers the distance of the edge's head to that along the edge, where it is less and below the last node's.
+    // Lowers the distance of the edge's head to that along the edge, if it is less and below the last node's.
     #[inline(always)]
     fn relax(&mut self, network: &Network, edge: Edge)
         requires ready { IsReady network.now }
@@ -168,7 +168,7 @@ impl Search {
         }
     }
 
-    // Relaxes the inner edge that leads on from the node, where there is one.
+    // Relaxes the inner edge that leads on from the node, if there is one.
     #[inline(always)]
     fn relax_on(&mut self, network: &Network, node: u32)
         requires ready { IsReady network.now }
@@ -181,7 +181,7 @@ impl Search {
         }
     }
 
-    // Relaxes the inner edge that leads back from the node, where there is one.
+    // Relaxes the inner edge that leads back from the node, if there is one.
     #[inline(always)]
     fn relax_back(&mut self, network: &Network, node: u32)
         requires ready { IsReady network.now }

@@ -91,7 +91,7 @@ module _ (s : State) (from to amount : ℕ) (path : List Edge) (ready : IsReady 
   pub path_lengths : HasLengths (wide s) (push_path amount s.flows path)
   path_lengths = after.lengths
 
-  -- an edge gets room only where its opposite is on the path
+  -- an edge gets room only if its opposite is on the path
   pub pushed_rises : (f : Edge) → 0 < residual s.instance (push_path amount s.flows path) f → residual s.instance s.flows f ≤ 0 → (k : ℕ) × (k < length path) × (f ≡ opposite (edge_at path k))
   pushed_rises f has none = push_path-rises (wide s) amount path s.flows f lengths edges (omega (arith, has, none, wide_room s s.flows f, wide_room s (push_path amount s.flows path) f))
 

@@ -132,7 +132,7 @@ impl Network {
         if hop.tail == hop.head { past } else { hop.tail }
     }
 
-    /// How long the edge is, as far as 64 bits hold that; and the most that they hold where it has no room.
+    /// How long the edge is, as far as 64 bits hold that; and the most that they hold if it has no room.
     pub fn slack(&self, edge: Edge) -> u64
         requires ready { IsReady self.now }
         requires high { IsHigh self.now }

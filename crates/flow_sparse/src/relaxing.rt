@@ -15,7 +15,7 @@ use flow_model::Edge;
 use flow_parts::outer_edge;
 
 impl Search {
-    // Lowers the distance of the edge's head to that along the edge, where it is less and below the limit.
+    // Lowers the distance of the edge's head to that along the edge, if it is less and below the limit.
     #[inline(always)]
     fn relax(&mut self, network: &Network, from: u32, edge: Edge)
         requires ready { IsReady network.now }
@@ -131,7 +131,7 @@ impl Search {
         }
     }
 
-    /// Relaxes the inner edge that leads on from the node, where there is one.
+    /// Relaxes the inner edge that leads on from the node, if there is one.
     #[inline(always)]
     pub fn relax_on(&mut self, network: &Network, from: u32, node: u32)
         requires ready { IsReady network.now }
@@ -145,7 +145,7 @@ impl Search {
         }
     }
 
-    // Relaxes the inner edge that leads back from the node, where there is one.
+    // Relaxes the inner edge that leads back from the node, if there is one.
     #[inline(always)]
     fn relax_back(&mut self, network: &Network, from: u32, node: u32)
         requires ready { IsReady network.now }

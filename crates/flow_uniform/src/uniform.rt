@@ -5,7 +5,7 @@ ghost use Rattle.flow_uniform.specs.Uniform.{IsUniform};
 
 use flow_model::{Instance, OuterArc};
 
-// The greatest cost of an arc, or 0 where there is none.
+// The greatest cost of an arc, or 0 if there is none.
 fn greatest_cost(arcs: &[OuterArc]) -> u128
     ensures most { All (λ arc. arc.cost ≤ result) arcs.now }
     ensures of_one { 0 < result → (i : ℕ) × (i < length arcs.now) × ((arc_at arcs.now i).cost ≡ result) }

@@ -58,7 +58,7 @@ none_before p a (suc n) past k all low high = at (λ next before. none_before p 
         (λ (other : a ≢ k). later (omega arith) before)
         (cases_eq a k)
 
--- what passes from a on is what passes from x on, where x is no later than the first
+-- what passes from a on is what passes from x on, if x is no later than the first
 pub passing_from : (p : ℕ → Bool) (a n past x : ℕ) → a + n ≡ past → a ≤ x → x < past → x ≤ head_or past (passing p a n)
     → passing p a n ≡ cond (p x) (x ∷ passing p (x + 1) (past - (x + 1))) (passing p (x + 1) (past - (x + 1)))
 passing_from p a zero past x all low within early = absurd (omega arith)

@@ -19,7 +19,7 @@ map_filter-skip f p xs i d ys zs within fails made same =
     let step : filter p (take (i + 1) xs) ≡ filter p (take i xs) ++ [] = rw fails at (filter_more p xs i d within) in
     same ∙ made ∙ ap (map f) (sym (step ∙ append-nil (filter p (take i xs))))
 
--- what is left to pass, where the next element passes
+-- what is left to pass, if the next element passes
 pub count_by-drop_pass : {X : Type 0} (p : X → Bool) (xs : List X) (i : ℕ) (d : X) → i < length xs → p (get_or xs i d) ≡ true → count_by p (drop i xs) ≡ count_by p (drop (i + 1) xs) + 1
 count_by-drop_pass p xs i d within passes = omega (arith, sum_by-drop_more (λ x. cond (p x) 1 0) xs i d within, ap {B = ℕ} (λ b. cond b 1 0) passes)
 

@@ -60,7 +60,7 @@ module _ (trace : List Object) where
       let at = found (same_object x) (objects_of trace) place.0 no_object place.1 (ap (same_object x) here ∙ same_object-refl x) in
       (at.0, sym (same_object-true x (object_numbered trace (number_of trace x)) at.1))
 
-  -- two requests have one number exactly where they are of one object
+  -- two requests have one number exactly if they are of one object
   same_numbers : (t u : ℕ) → t < length trace → u < length trace
       → eqb (number_of trace (request_at trace t)) (number_of trace (request_at trace u)) ≡ same_object (request_at trace t) (request_at trace u)
   same_numbers t u within_t within_u = at (same_object (request_at trace t) (request_at trace u)) refl

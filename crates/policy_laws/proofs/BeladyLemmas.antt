@@ -51,7 +51,7 @@ score-earned o c trace contents =
     sum_by-agree (λ (x, held). cond (holds held x) (gain_of o x) 0) (λ (x, held). cond (holds held x) (1 * gain_of o x) 0) (zip trace contents)
     (λ e. let one : gain_of o e.0 ≡ 1 * gain_of o e.0 = omega arith in ap (λ n. cond (holds e.1 e.0) n 0) one)
 
--- allowed contents are within what the rule gains, where each object of the trace is alike
+-- allowed contents are within what the rule gains, if each object of the trace is alike
 within_won : (o : Objective) (amount : Ask → ℕ) (gain c s : ℕ) (trace : List Object) (held : List Object) (nexts : List (List Object))
     → ((y : Object) (t k : ℕ) (next : Option ℕ) → amount (record { request = t; object = k; size = y.size; next = next }) ≡ earns_of o 1 y)
     → AllByRecursion (IsAlike (earns_of o 1) (counted_of o c 1) gain c s) trace

@@ -1,7 +1,7 @@
 //! What is proved of the rules: each law is the contract of a function that does nothing.
 ghost use Rattle.policy_laws.specs.Laws.{BeladyIsBest, RunsAreAllowed};
 
-/// Where all objects that fit have one size, no allowed contents scores more than the rule of Belady, 1966.
+/// If all objects that fit have one size, no allowed contents scores more than the rule of Belady, 1966.
 pub fn belady_is_best()
     ensures { BeladyIsBest }
 {}

@@ -73,7 +73,7 @@ module _ (trace : List Object) where
             let here : x ≡ object_numbered trace m.object = same_object-true x (object_numbered trace m.object) same in
             eqb-false m.object k e (ap (λ r. unwrap_or r 0) (sym of_m.found ∙ ap (λ y. position (same_object y) (objects_of trace)) (sym here) ∙ found))))
 
-    -- the members have the number exactly where the objects have the object
+    -- the members have the number exactly if the objects have the object
     pub has_member-held : (members : List Member) → All (IsNumbered trace) members → has_member members k ≡ holds (objects_held trace members) x
     has_member-held [] each = refl
     has_member-held (m ∷ rest) each =

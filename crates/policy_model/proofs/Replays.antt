@@ -121,7 +121,7 @@ run_to-more warmup s trace t within =
 pub run_to-all : (warmup : ℕ) (s : State) (trace : List Object) (t : ℕ) → t ≡ length trace → run_to warmup s trace t ≡ fold (run_step warmup) (run_from s) (asks_of trace)
 run_to-all warmup s trace t end = ap (λ xs. fold (run_step warmup) (run_from s) xs) (take_all t (asks_of trace) (omega (arith, length-asks_of trace)))
 
--- the entries have an object exactly where their members do
+-- the entries have an object exactly if their members do
 pub has_entry-members : (entries : List Entry) (k : ℕ) → has_entry entries k ≡ has_member (members_of entries) k
 has_entry-members [] k = refl
 has_entry-members (e ∷ rest) k = ap (λ b. eqb e.object k || b) (has_entry-members rest k)

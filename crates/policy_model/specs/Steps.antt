@@ -68,7 +68,7 @@ on_hit Clock now e entries = touch Clock now e.next e.object entries
 on_hit Lfu now e entries = touch Lfu now e.next e.object entries
 on_hit Belady now e entries = touch Belady now e.next e.object entries
 
--- the entries with e put in, where they stand in order of their objects' numbers
+-- the entries with e put in, if they stand in order of their objects' numbers
 abbrev pub put_in : Entry → List Entry → List Entry
 put_in e [] = e ∷ []
 put_in e (f ∷ rest) = if nat_lt e.object f.object then e ∷ f ∷ rest else f ∷ put_in e rest

@@ -48,7 +48,7 @@ none_with key (i ∷ intervals) (f ∷ flows) t apart =
       none_with key intervals flows t (All-tail (λ j. key j ≢ t) i intervals apart),
     )
 
--- the flows of the intervals whose key is t are that of the first of them, where keys differ
+-- the flows of the intervals whose key is t are that of the first of them, if keys differ
 flow_with-from : (key : Interval → ℕ) (intervals : List Interval) (flows : List ℕ) (t : ℕ) → length flows ≡ length intervals → AllPairs (λ i j. key i ≢ key j) intervals
     → flow_with key intervals flows t ≡ amount_of flows (position_from (λ i. key i == t) 0 intervals)
 flow_with-from key [] flows t same apart = refl
@@ -83,7 +83,7 @@ flow_with-position key intervals flows t same apart =
 abbrev pub carried : List Interval → List ℕ → ℕ → ℕ
 carried intervals flows t = sum_by (λ (i, f). cond (nat_lt i.start t && nat_le t i.end) f 0) (zip intervals flows)
 
--- one interval: it is carried to t or starts there exactly where it covers t or ends there
+-- one interval: it is carried to t or starts there exactly if it covers t or ends there
 one_step : (start end t f : ℕ) → start < end
     → cond (nat_lt start t && nat_le t end) f 0 + cond (start == t) f 0 ≡ cond (nat_le start t && nat_lt t end) f 0 + cond (end == t) f 0
 one_step start end t f order = grind (arith, nat_tests)

@@ -58,7 +58,7 @@ running_all prices k limit sum_now sums done so_far = record {
   each = λ t low. so_far.each t (omega arith);
 }
 
--- a sum is within the units' share of the limit exactly where the units pay no more than it
+-- a sum is within the units' share of the limit exactly if the units pay no more than it
 pub paid_within : (units all : ℕ) → all ≤ most_paid / units → units * all ≤ most_paid
 paid_within units all low = omega (arith, mul-le-mul_left units low, mul-div-le most_paid units)
 

@@ -30,7 +30,7 @@ has_whole_cost unit denominator i = denominator * i.gain % weight unit i == 0
 abbrev pub PassesMost : List Interval → ℕ → Type 0
 PassesMost intervals unit = (least : ℕ) × IsLeastWhole intervals unit least × (most < least)
 
--- the least that rounds no cost, or the greatest one where that passes it; that least one; the one that is given
+-- the least that rounds no cost, or the greatest one if that passes it; that least one; the one that is given
 abbrev pub IsChosen : DenominatorChoice → List Interval → ℕ → ℕ → Type 0
 IsChosen Auto intervals unit denominator = (least : ℕ) × IsLeastWhole intervals unit least × (denominator ≡ min least most)
 IsChosen Exact intervals unit denominator = IsLeastWhole intervals unit denominator × (denominator ≤ most)

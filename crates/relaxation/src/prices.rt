@@ -69,7 +69,7 @@ fn room_for(alloc: Global, steps: usize) -> Result<Vec<u128>, NoMemory>
     Ok(sums)
 }
 
-// The sum with one more price, where it is within the limit.
+// The sum with one more price, if it is within the limit.
 fn with_price(sum: u128, price: u128, limit: u128) -> Option<u128>
     ensures { SomeIff result (sum + price ≤ limit) (sum + price) }
 {
@@ -134,7 +134,7 @@ impl Sums {
     }
 }
 
-// What the gain of an interval is above the price of its room, over the denominator, and 0 where it isn't.
+// What the gain of an interval is above the price of its room, over the denominator, and 0 if it isn't.
 fn surplus_of(interval: &Interval, unit: u64, denominator: u64, sums: &Sums) -> u128
     requires unit { 1 ≤ unit }
     requires denominator { denominator ≤ 2 ^ 48 }

@@ -7,7 +7,7 @@ use bound_base::gcd;
 use cache_model::Interval;
 use interval_maker::Intervals;
 
-// The greatest common divisor of the sizes, which is 0 where there is none.
+// The greatest common divisor of the sizes, which is 0 if there is none.
 fn divisor_of(intervals: &[Interval]) -> u64
     ensures { IsGreatest intervals.now result }
 {

@@ -65,7 +65,7 @@ module _ (trace : List Object) where
       at true = refl
       at false = refl
 
-  -- requests have one number exactly where they are of one object
+  -- requests have one number exactly if they are of one object
   same_numbers : (t u : ℕ) → t < length trace → u < length trace
       → eqb (number_of trace (request_at trace t)) (number_of trace (request_at trace u)) ≡ same_object (request_at trace u) (request_at trace t)
   same_numbers t u within_t within_u =

@@ -128,7 +128,7 @@ since-recent x (y ∷ h) =
     ∙ sym (ap recent (since-other x y h later)))
     (cases_Bool (same_object x y))
 
--- x is among the first k exactly where fewer than k come before it
+-- x is among the first k exactly if fewer than k come before it
 pub asks-take : (x : Object) (k : ℕ) (ys : List Object) → asks_for x (take k ys) ≡ (asks_for x ys && nat_lt (length (since x ys)) k)
 asks-take x zero ys =
     let none : nat_lt (length (since x ys)) 0 ≡ false = le-ltb (length (since x ys)) 0 (omega arith) in

@@ -4,7 +4,7 @@ ghost use Rattle.stack_curve.specs.Curves.{hits_with, hits_within};
 
 use std::marker::Model;
 
-/// LRU's hits at every number of slots, where each object takes one slot.
+/// LRU's hits at every number of slots, if each object takes one slot.
 #[derive(Debug, Drop)]
 pub struct Curve {
     pub(crate) size: u64,
@@ -23,7 +23,7 @@ impl Model for Curve {
 }
 
 impl Curve {
-    /// The size of all objects, in bytes, and 0 where there are none.
+    /// The size of all objects, in bytes, and 0 if there are none.
     pub fn size(&self) -> u64
         ensures { result ≡ self.now.size }
     {
@@ -45,7 +45,7 @@ impl Curve {
         self.at(u64::from(slots))
     }
 
-    /// LRU's hits in a cache of this capacity, in bytes, and 0 where there are no objects.
+    /// LRU's hits in a cache of this capacity, in bytes, and 0 if there are no objects.
     pub fn hits_at(&self, capacity: u64) -> u64
         ensures { result ≡ hits_within self.now capacity }
     {

@@ -166,7 +166,7 @@ no_line r (Some bytes) none end =
     let over : to_come r bytes ≡ so_far r = to_come_lines r bytes none ∙ (ap (λ b. read_on r.format (room_left r) (so_far r) b) end ∙ read_on-none r.format (room_left r) (so_far r)) in
     record { requests = ap (λ s. s.requests) over; dropped_lines = ap (λ s. s.dropped) over; stop = ap (λ s. s.refused) over }
 
--- a reader that has given the first of its blocks, where the next one is this
+-- a reader that has given the first of its blocks, if the next one is this
 abbrev pub with_given : Reader → ℕ → Reader
 with_given r next = record r { given = r.given + 1; ahead = record { volume = r.ahead.volume; first = next; count = r.ahead.count - 1; size = r.ahead.size } }
 

@@ -97,7 +97,7 @@ read_on-onto format most bytes x r rest = fold-onto format most bytes x r (piece
 abbrev pub plain : List Volume → ℕ → ℕ → ℕ → Reading
 plain volumes dropped lines bytes = record { requests = []; volumes = volumes; dropped = dropped; lines = lines; bytes = bytes; refused = None }
 
--- the first of some blocks, where there is room for it
+-- the first of some blocks, if there is room for it
 pub requested-next : (volumes : List Volume) (most dropped lines bytes volume first count size : ℕ)
     → requested (most + 1) (plain volumes dropped lines bytes) volume first (count + 1) size ≡ onto (record { volume = volume; id = first; size = size }) (requested most (plain volumes dropped lines bytes) volume (first + 1) count size)
 requested-next volumes most dropped lines bytes volume first count size =

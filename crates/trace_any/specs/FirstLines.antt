@@ -19,7 +19,7 @@ bytes_of lines = sum_by (λ line. line.1) lines
 abbrev pub reading_of_first : Format → Limits → ℕ → List ℕ → Reading
 reading_of_first format limits count bytes = fold (read_line format limits) nothing_read (first_lines format count bytes)
 
--- what a source lost for so many requests of a trace, where this is left: at most the first lines that have them, however few, and a buffer of bytes; or all, if the trace has fewer requests
+-- what a source lost for so many requests of a trace, if this is left: at most the first lines that have them, however few, and a buffer of bytes; or all, if the trace has fewer requests
 pub record HasLostFor (format : Format) (limits : Limits) (count : ℕ) (bytes left : List ℕ) : Type 0 where
   pub near : count ≤ length (reading format limits bytes).requests → (lines : ℕ) → count ≤ length (reading_of_first format limits lines bytes).requests → length bytes ≤ length left + bytes_of (first_lines format lines bytes) + 65536
   pub all : length (reading format limits bytes).requests < count → left ≡ []

@@ -70,7 +70,7 @@ so_far r = record { requests = []; volumes = r.volumes; dropped = r.dropped; lin
 abbrev pub with_ahead : Reader → Reading
 with_ahead r = requested (r.limits.requests - r.given) (so_far r) r.ahead.volume r.ahead.first r.ahead.count r.ahead.size
 
--- the reading of what is still to come, where the reader stands in these bytes: the requests after those given, the dropped lines in all, and why it stops
+-- the reading of what is still to come, if the reader stands in these bytes: the requests after those given, the dropped lines in all, and why it stops
 abbrev pub to_come : Reader → List ℕ → Reading
 to_come r bytes = read_on r.format (room_left r) (with_ahead r) bytes
 
@@ -88,7 +88,7 @@ pub record IsOver (r : Reading) (dropped : ℕ) (refused : Option TraceFault) : 
   pub dropped_lines : r.dropped ≡ dropped
   pub stop : r.refused ≡ refused
 
--- the bytes that a reader stands in, where the source tells those that it has left
+-- the bytes that a reader stands in, if the source tells those that it has left
 abbrev pub known : Reader → Option (List ℕ) → Option (List ℕ)
 known r left = stands_in r.lines.held left
 
@@ -143,7 +143,7 @@ with_named_by Nothing volumes volume = volumes
 with_named_by (One id size) volumes volume = with_named volumes volume
 with_named_by (Blocks first count size) volumes volume = with_named volumes volume
 
--- the number of the volume of a line with this span, which is 0 where it asks for nothing
+-- the number of the volume of a line with this span, which is 0 if it asks for nothing
 abbrev pub number_by : Span → List Volume → Option Volume → ℕ
 number_by Nothing volumes volume = 0
 number_by (One id size) volumes volume = number_of volumes volume

@@ -58,7 +58,7 @@ requested most r volume first count size =
     let taken : Reading = record r { requests = r.requests ++ blocks volume first (min count room) size } in
     if nat_lt room count then stopped taken TooManyRequests else taken
 
--- what a line asks for, and of which volume, where its form names volumes
+-- what a line asks for, and of which volume, if its form names volumes
 pub record LineContents : Type 0 where
   pub span : Span
   pub volume : Option Volume
@@ -102,7 +102,7 @@ text_content format text =
     if has_records format then some_content (content_named format text)
     else (if is_blank (without_cr text) then Ok None else some_content (content_named format (without_cr text)))
 
--- the number of a volume after these, where one is named, and else 0
+-- the number of a volume after these, if one is named, and else 0
 abbrev pub number_of : List Volume → Option Volume → ℕ
 number_of volumes None = 0
 number_of volumes (Some v) = volume_number volumes v
@@ -124,7 +124,7 @@ with_line most r (Ok None) = r
 with_line most r (Ok (Some what)) = spanned most r what.volume what.span
 with_line most r (Err kind) = stopped r (BadLine r.lines kind)
 
--- one more line or record, of a text and so many bytes, where the reading has not stopped
+-- one more line or record, of a text and so many bytes, if the reading has not stopped
 abbrev pub read_line : Format → Limits → Reading → List ℕ × ℕ → Reading
 read_line format limits r (text, size) =
     let now : Reading = record r { lines = r.lines + 1; bytes = r.bytes + size } in

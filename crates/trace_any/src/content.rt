@@ -12,7 +12,7 @@ use std::alloc::Global;
 use trace_lines::{LineKind, Span, is_blank, trim_cr};
 use trace_msr::MsrLine;
 
-/// What a line asks for, and the host and the disk of its volume, where its form names volumes.
+/// What a line asks for, and the host and the disk of its volume, if its form names volumes.
 #[derive(Clone, Copy)]
 pub struct LineContent<'a> {
     pub span: Span,
@@ -67,7 +67,7 @@ fn content_named(format: Format, text: &[u8]) -> Result<LineContent<'_>, LineKin
     }
 }
 
-/// What a record asks for, or the text of a line, where it has a word.
+/// What a record asks for, or the text of a line, if it has a word.
 pub fn content_of(format: Format, text: &[u8]) -> Result<Option<LineContent<'_>>, LineKind>
     requires format { IsFormat format }
     requires records { has_records format ≡ true → length text.now ≤ 24 }
@@ -85,7 +85,7 @@ pub fn content_of(format: Format, text: &[u8]) -> Result<Option<LineContent<'_>>
     Ok(Some(content_named(format, text)?))
 }
 
-/// The number of the volume of a line, which is 0 where it names none or asks for nothing.
+/// The number of the volume of a line, which is 0 if it names none or asks for nothing.
 pub fn number_of(
     volumes: &mut Volumes,
     alloc: Global,

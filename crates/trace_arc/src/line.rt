@@ -9,7 +9,7 @@ use trace_lines::{LineKind, Span, first_word};
 /// The bytes of a block.
 const BLOCK_SIZE: u64 = 512;
 
-// The first and the second word, or None where there are fewer.
+// The first and the second word, or None if there are fewer.
 fn first_and_count(line: &[u8]) -> Option<(&[u8], &[u8])>
     ensures enough { IsSome result ↔ (2 ≤ length (words line.now)) }
     ensures first { IfSome result (λ found. found.0.now ≡ slice_index_or (words line.now) 0 []) }

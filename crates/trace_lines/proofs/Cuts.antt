@@ -21,7 +21,7 @@ not-true : (b : Bool) → not b ≡ true → b ≡ false
 not-true true h = cc
 not-true false h = refl
 
--- the same, where true is impossible
+-- the same, if true is impossible
 false_unless_true : (b : Bool) → (b ≡ true → ⊥) → b ≡ false
 false_unless_true true h = absurd (h refl)
 false_unless_true false h = refl

@@ -5,7 +5,7 @@ ghost use Rattle.trace_lines.specs.Lines.{fields};
 
 use memchr::memchr;
 
-// The first field and what stands after its comma, or None where there is no comma.
+// The first field and what stands after its comma, or None if there is no comma.
 fn cut_at_comma(text: &[u8]) -> Option<(&[u8], &[u8])>
     ensures { MatchOption result (fields text.now ≡ text.now ∷ []) (λ parts. fields text.now ≡ parts.0.now ∷ fields parts.1.now) }
 {
@@ -15,7 +15,7 @@ fn cut_at_comma(text: &[u8]) -> Option<(&[u8], &[u8])>
     Some((first, rest))
 }
 
-/// The first field, and what stands after its comma where it has one. Takes time in the length of the field.
+/// The first field, and what stands after its comma if it has one. Takes time in the length of the field.
 pub fn first_field(line: &[u8]) -> (&[u8], Option<&[u8]>)
     ensures { MatchOption result.1 (fields line.now ≡ result.0.now ∷ []) (λ rest. fields line.now ≡ result.0.now ∷ fields rest.now) }
 {
@@ -25,7 +25,7 @@ pub fn first_field(line: &[u8]) -> (&[u8], Option<&[u8]>)
     }
 }
 
-/// The field with this number, counted from 1, or None where there are fewer. Empty fields count. Takes time in the
+/// The field with this number, counted from 1, or None if there are fewer. Empty fields count. Takes time in the
 /// bytes up to its end.
 pub fn field(line: &[u8], number: usize) -> Option<&[u8]>
     requires { 1 ≤ number }

@@ -24,7 +24,7 @@ fn first_gap(text: &[u8]) -> Option<usize>
     text.iter().position(|byte| is_gap_byte(*byte))
 }
 
-/// The first word and what stands after it, or None where there is no word. Takes time in the length of the word
+/// The first word and what stands after it, or None if there is no word. Takes time in the length of the word
 /// and of the gaps before it.
 pub fn first_word(line: &[u8]) -> Option<(&[u8], &[u8])>
     ensures words { MatchOption result (words line.now ≡ []) (λ parts. words line.now ≡ parts.0.now ∷ words parts.1.now) }
@@ -38,7 +38,7 @@ pub fn first_word(line: &[u8]) -> Option<(&[u8], &[u8])>
     Some((first, rest))
 }
 
-/// The word with this number, counted from 1, or None where there are fewer. Takes time in the bytes up to its end.
+/// The word with this number, counted from 1, or None if there are fewer. Takes time in the bytes up to its end.
 pub fn word(line: &[u8], number: usize) -> Option<&[u8]>
     requires { 1 ≤ number }
     ensures { option_copied result ≡ slice_get (words line.now) (number - 1) }

@@ -2,7 +2,7 @@
 ghost use Rattle.std.specs.Prelude.{◌≡◌};
 ghost use Rattle.trace_lines.specs.Lines.{without_cr};
 
-/// The line without one last CR, where it has one.
+/// The line without one last CR, if it has one.
 pub fn trim_cr(line: &[u8]) -> &[u8]
     ensures { result.now ≡ without_cr line.now }
 {

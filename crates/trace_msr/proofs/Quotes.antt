@@ -11,7 +11,7 @@ false_unless_true : (b : Bool) → (b ≡ true → ⊥) → b ≡ false
 false_unless_true true h = absurd (h refl)
 false_unless_true false h = refl
 
--- there is one where a search finds it
+-- there is one if a search finds it
 pub is_some-first : (p : ℕ → Bool) (text : List ℕ) (found : Option ℕ) → IsFirstByte p text found → is_some found ≡ list_any p text
 is_some-first p text None none =
     sym (list_any_none p text (All-from_get_or (λ byte. p byte ≡ false) text 0 (λ k below. false_unless_true (p (get_or text k 0)) (none k (omega arith) below))))

@@ -4,7 +4,7 @@ use Rattle.std.specs.declared.option.Option.{Option}
 use Rattle.std.specs.Borrow.{Bor}
 use Rattle.trace_lines.specs.Lines.{fields}
 
--- its fields, which are none where nothing stands after a comma
+-- its fields, which are none if nothing stands after a comma
 abbrev pub fields_left : Option (Bor (List ℕ)) → List (List ℕ)
 fields_left None = []
 fields_left (Some text) = fields text.now

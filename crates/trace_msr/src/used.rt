@@ -15,7 +15,7 @@ pub(crate) struct UsedFields<'a> {
     pub(crate) size: &'a [u8],
 }
 
-// The next field, and what stands after its comma where it has one. Where no field is left it is empty.
+// The next field, and what stands after its comma if it has one. If no field is left it is empty.
 fn next_field(left: Option<&[u8]>) -> (&[u8], Option<&[u8]>)
     ensures field { result.0.now ≡ slice_index_or (fields_left left.entry) 0 [] }
     ensures left { fields_left result.1 ≡ drop 1 (fields_left left.entry) }
@@ -26,7 +26,7 @@ fn next_field(left: Option<&[u8]>) -> (&[u8], Option<&[u8]>)
     }
 }
 
-/// The fields that are interpreted, or None where there are fewer than six. Takes time in the bytes up to the end of
+/// The fields that are interpreted, or None if there are fewer than six. Takes time in the bytes up to the end of
 /// the sixth.
 pub(crate) fn used_fields(line: &[u8]) -> Option<UsedFields<'_>>
     ensures enough { IsSome result ↔ (6 ≤ length (fields line.now)) }

@@ -9,7 +9,7 @@ use trace_lines::{LineKind, Span, first_word};
 /// The bytes that an object may have.
 const MOST_SIZE: u64 = 1 << 48;
 
-// The second and the third word, or None where there are fewer.
+// The second and the third word, or None if there are fewer.
 fn id_and_size(line: &[u8]) -> Option<(&[u8], &[u8])>
     ensures enough { IsSome result ↔ (3 ≤ length (words line.now)) }
     ensures id { IfSome result (λ found. found.0.now ≡ slice_index_or (words line.now) 1 []) }

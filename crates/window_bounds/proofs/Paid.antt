@@ -15,7 +15,7 @@ use Rattle.flow_model.specs.Windows.{last_window, meets, part_cost, part_of, par
 use Rattle.flow_model.proofs.Sums.{sum-slice_range}
 use Rattle.window_bounds.specs.Solutions.{prices_in}
 
--- what the part of the arc in window k costs, and 0 where it has none
+-- what the part of the arc in window k costs, and 0 if it has none
 abbrev pub met_cost : ℕ → ℕ → OuterArc → ℕ
 met_cost width k arc = cond (meets width k arc) (part_cost width k arc) 0
 

@@ -16,7 +16,7 @@ use Rattle.window_bounds.proofs.Places.{flow_in-le}
 use Rattle.window_bounds.proofs.Rounds.{AreSolved}
 use Rattle.window_bounds.proofs.Schedules.{load-le, load_past}
 
--- a window is counted exactly where it has a step
+-- a window is counted exactly if it has a step
 pub starts_within : (whole : Instance) (width k : ℕ) → 0 < width → k < window_count whole width → width * k < whole.steps
 starts_within whole width k some counted =
     ⊎_elim

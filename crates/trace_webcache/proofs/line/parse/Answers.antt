@@ -9,7 +9,7 @@ use Rattle.trace_lines.specs.declared.line.LineKind.TheVariants.{SizeTooLarge}
 use Rattle.trace_webcache.specs.Lines.{line_span, span_of}
 use Rattle.trace_webcache.proofs.line.parse.Goals as goal
 
--- what a line of three words asks for, where the second and the third are numbers
+-- what a line of three words asks for, if the second and the third are numbers
 span_is : (line a b : List ℕ) (id size : ℕ) → 3 ≤ length (words line) → a ≡ slice_index_or (words line) 1 [] → b ≡ slice_index_or (words line) 2 []
     → number_of (2 ^ 64) a ≡ Ok id → number_of (2 ^ 64) b ≡ Ok size → line_span line ≡ span_of (Ok id) (Ok size)
 span_is line a b id size enough a_is b_is id_is size_is =
