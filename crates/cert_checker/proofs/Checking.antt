@@ -94,7 +94,7 @@ module _ (s : Summary) (k : IsChecker s) where
       same_next : AreNext s.header s.sums x r (lookup (same_object x) s.entries) now
       same_next = subst (λ o. AreNext s.header s.sums x r o now) is next
 
-      -- an object that is requested again has a weight, where it fits
+      -- an object that is requested again has a weight, if it fits
       pub each_weight : IsSized x → first_some (record_rules s.header x r now) ≡ None → s.header.warmup ≤ s.sums.steps → IfSome b (λ seen. x.size ≤ s.header.capacity → 1 ≤ x.size / s.header.unit)
       each_weight sized passes over = at b refl
         where

@@ -30,7 +30,8 @@ use Rattle.cert_format.proofs.Wholes.{nothing_read}
 use Rattle.cert_checker.specs.declared.verdict.Verdict.{Verdict}
 use Rattle.cert_checker.specs.declared.walking.CheckFault.TheVariants as fault
 use Rattle.cert_checker.specs.Answers.{IsYes}
-use Rattle.cert_checker.specs.Checks.{Inputs, HasChecked, HasCheckedAll, HasAsked, IsFresh, IsLater, IsPassed, IsStop, after_records, of_text}
+use Rattle.cert_checker.specs.Checks.{Inputs, HasChecked, HasCheckedAll, HasAsked, IsFresh, IsLater, IsStop, after_records, of_text}
+use Rattle.cert_checker.specs.Keeping.{HasKept}
 use Rattle.cert_checker.specs.Rules.{end_fault}
 use Rattle.cert_checker.specs.Summaries.{StandsFor, Summary}
 use Rattle.cert_checker.specs.Walks.{asked}
@@ -114,21 +115,25 @@ module _ (start : Inputs) (h : Header) (given : List Object) (records : List Rec
       }
 
       -- the end is read, and no rule fails
-      pub passes : end.reader ≡ now.reader → end.trace ≡ now.trace → (verdict : Verdict) → IsYes h given records verdict → IsPassed start end verdict
+      pub passes : end.reader ≡ now.reader → end.trace ≡ now.trace → (verdict : Verdict) → IsYes h given records verdict → HasKept start end (record { verdict = verdict; trace = given; records = records })
       passes same_reader same_left verdict said = record {
-        requests = given;
-        records = records;
-        yes = subst (λ k. IsYes k given records verdict) (sym said.header) said;
-        trace = if_one start.trace _ _ ended.trace_read (λ b p. subst (λ (r : requests.Reader). IsWhole (traces.reading start.reader.format start.reader.limits b) given r.dropped) (sym same_reader) p);
-        certificate = if_one start.certificate _ _ ended.records_read (λ t q.
-            let is = at_some (known now.cert.lines now.certificate) _ _ q.stands_in read in
-            q.reading ∙ (ap (after_records h records) is.0 ∙ (ap (λ rs. certificates.whole h rs) (append-nil records) ∙ ap (λ k. certificates.whole k records) (sym said.header))));
-        walked = if_both start.trace start.certificate _ _ _ ended.trace_read ended.records_read (λ b t p q.
-            walk_at start b t _ _ refl q.reading
-            ∙ walked_all h given records input within ended.stands.no_fault (traces.reading start.reader.format start.reader.limits b) (lines.to_come now.cert (after_lines now.cert.lines.line t)) p.requests p.stop full
-            (at_some (known now.cert.lines now.certificate) _ _ q.stands_in read).0 said.no_fault);
-        trace_end = if_one start.trace _ _ ended.trace_end (λ b p. same_left ∙ p);
-        certificate_end = if_one start.certificate _ _ ended.records_read (λ t q. (at_some (known now.cert.lines now.certificate) _ _ q.stands_in read).2);
+        passed = record {
+          requests = given;
+          records = records;
+          yes = subst (λ k. IsYes k given records verdict) (sym said.header) said;
+          trace = if_one start.trace _ _ ended.trace_read (λ b p. subst (λ (r : requests.Reader). IsWhole (traces.reading start.reader.format start.reader.limits b) given r.dropped) (sym same_reader) p);
+          certificate = if_one start.certificate _ _ ended.records_read (λ t q.
+              let is = at_some (known now.cert.lines now.certificate) _ _ q.stands_in read in
+              q.reading ∙ (ap (after_records h records) is.0 ∙ (ap (λ rs. certificates.whole h rs) (append-nil records) ∙ ap (λ k. certificates.whole k records) (sym said.header))));
+          walked = if_both start.trace start.certificate _ _ _ ended.trace_read ended.records_read (λ b t p q.
+              walk_at start b t _ _ refl q.reading
+              ∙ walked_all h given records input within ended.stands.no_fault (traces.reading start.reader.format start.reader.limits b) (lines.to_come now.cert (after_lines now.cert.lines.line t)) p.requests p.stop full
+              (at_some (known now.cert.lines now.certificate) _ _ q.stands_in read).0 said.no_fault);
+          trace_end = if_one start.trace _ _ ended.trace_end (λ b p. same_left ∙ p);
+          certificate_end = if_one start.certificate _ _ ended.records_read (λ t q. (at_some (known now.cert.lines now.certificate) _ _ q.stands_in read).2);
+        };
+        trace = refl;
+        records = refl;
       }
 
 module _ (start : Inputs) (fresh_reader : IsFresh start.reader) (fresh_cert : start.cert ≡ lines.fresh) where

@@ -22,7 +22,7 @@ first_some-append [] ys = refl
 first_some-append (None ∷ xs) ys = first_some-append xs ys
 first_some-append (Some a ∷ xs) ys = refl
 
--- none of a list is there exactly where its first isn't and none of the others is
+-- none of a list is there exactly if its first isn't and none of the others is
 pub first_some-head : {A : Type 0} (o : Option A) (xs : List (Option A)) → first_some (o ∷ xs) ≡ None → o ≡ None
 first_some-head None xs e = refl
 first_some-head (Some a) xs e = absurd (true≢false (ap is_some e))

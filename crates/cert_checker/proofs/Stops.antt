@@ -33,7 +33,7 @@ use Rattle.cert_checker.specs.Summaries.{StandsFor, Summary}
 use Rattle.cert_checker.specs.Walks.{Event, Invalid, Refused, asked, text_event, walk}
 use Rattle.cert_checker.proofs.Events.{EndsAt, asked_of, walk_of, walked_too_many, walked_text, walked_rule, walked_refused}
 
--- a fact of both, where both are known
+-- a fact of both, if both are known
 pub if_both : (a b : Option (List ℕ)) (P Q : List ℕ → Type 0) (S : List ℕ → List ℕ → Type 0) → IfSome a P → IfSome b Q → ((x y : List ℕ) → P x → Q y → S x y) → IfSome a (λ x. IfSome b (S x))
 if_both None b P Q S p q f = tt
 if_both (Some x) None P Q S p q f = tt
@@ -88,7 +88,7 @@ pub asked_at : (start : Inputs) (b t : List ℕ) (trace : traces.Reading) (c : c
     → asked (traces.reading start.reader.format start.reader.limits b) t ≡ asked_of trace c
 asked_at start b t trace c trace_is c_is = ap (λ r. asked_of r (certificates.reading t)) trace_is ∙ ap (asked_of trace) c_is
 
--- the same records, where the certificate is read no further
+-- the same records, if the certificate is read no further
 pub same_records : (h : Header) (records : List Record) (now end : Inputs) (t : List ℕ) → HasRecords h records now t → end.cert ≡ now.cert → end.certificate ≡ now.certificate → HasRecords h records end t
 same_records h records now end t q same_cert same_left = record {
   stands_in = ap (λ (c : lines.Reader). known c.lines end.certificate) same_cert ∙ (ap (λ l. known now.cert.lines l) same_left ∙ (q.stands_in ∙ ap (λ (c : lines.Reader). Some (after_lines c.lines.line t)) (sym same_cert)));
@@ -111,7 +111,7 @@ one_record h records r text now end t has line_is goes past =
       consumed = (consumed_on h records now end t has past).1;
     }
 
--- the text of the certificate is refused, where that is the event
+-- the text of the certificate is refused, if that is the event
 pub text_stop : (start end : Inputs) (cert : lines.Reader) (left : Option (List ℕ)) (faults : ℕ) (f : CertFault) → lines.IsRefused cert (device left end.certificate faults end.certificate_faults) f → start.certificate_faults ≤ faults
     → IfErr {T = Unit {0}} (Err f) (IsWithin end.cert.lines.line) → ((n : ℕ) → end.cert.lines.line ≤ n → IfSome start.certificate (λ text. taken end.cert ≤ bytes_through n text + 65536))
     → ((g : CertFault) (e : Event) → text_event (Some g) ≡ Some e → IfSome (known cert.lines left) (λ bytes. lines.to_come cert bytes ≡ certificates.stopped (Some g)) → IsWalked start (Some e))

@@ -284,7 +284,7 @@ walk-passes : (trace : traces.Reading) (bytes : List ℕ) → (o : Option Header
 walk-passes trace bytes None none passes = absurd ((reading-is bytes).headless none ((reading-is bytes).shown passes))
 walk-passes trace bytes (Some h) headed passes = certificate_of trace bytes h headed passes
 
--- a walk passes exactly where the certificate is valid
+-- a walk passes exactly if the certificate is valid
 pub passing_is_valid_lem : PassingIsValid
 passing_is_valid_lem trace bytes whole_trace = (
   λ passes. walk-passes trace bytes (reading bytes).header refl passes,

@@ -1,5 +1,5 @@
 -- A check of a certificate against a trace, both read as streams.
-use Rattle.std.specs.Prelude.{◌≡◌, ℕ, ◌+◌, ◌≤◌, List, [], ◌∷◌, ◌++◌, length, Bool, true, false, None, Some, IfSome, Result, Ok, Err}
+use Rattle.std.specs.Prelude.{◌≡◌, ℕ, ◌+◌, ◌≤◌, List, [], ◌∷◌, ◌++◌, length, None, Some, IfSome, Result, Ok, Err}
 use Rattle.std.specs.declared.option.Option.{Option}
 use Rattle.bound_io.specs.Causes.{HasNewFault}
 use Rattle.bound_io.specs.Devices.{Device, device}
@@ -210,7 +210,7 @@ IsTakenTo line start end = IfSome start.certificate (λ text. taken end.cert ≤
 abbrev pub HasAsked : Inputs → Inputs → Type 0
 HasAsked start end = HasLostAsked start.reader.format start.reader.limits start.trace end.trace start.certificate
 
--- what was taken of the certificate, and lost of the trace, where the certificate fails at a line
+-- what was taken of the certificate, and lost of the trace, if the certificate fails at a line
 abbrev pub IsSparing : Inputs → Inputs → CheckFault → Type 0
 IsSparing start end (fault.Invalid line kind) = IsTakenTo line start end × HasAsked start end
 IsSparing start end (fault.Trace why) = Unit {0}
@@ -222,10 +222,10 @@ pub record IsStop (start end : Inputs) (why : CheckFault) : Type 0 where
   pub event : IsEvent start end why
   pub near : IsSparing start end why
 
--- the next check: of one request and its record, or there is none more, or why the walk ends here
-abbrev pub IsNextCheck : Inputs → Header → List Object → List Record → Inputs → Summary → Result Bool CheckFault → Type 0
-IsNextCheck start h trace records now checker (Ok true) = (x : Object) × (r : Record) × HasChecked start h (trace ++ x ∷ []) (records ++ r ∷ []) now checker
-IsNextCheck start h trace records now checker (Ok false) = HasCheckedAll start h trace records now checker
+-- the next check: of this request and its record, or there is none more, or why the walk ends here
+abbrev pub IsNextCheck : Inputs → Header → List Object → List Record → Inputs → Summary → Result (Option (Object × Record)) CheckFault → Type 0
+IsNextCheck start h trace records now checker (Ok (Some p)) = HasChecked start h (trace ++ p.0 ∷ []) (records ++ p.1 ∷ []) now checker
+IsNextCheck start h trace records now checker (Ok None) = HasCheckedAll start h trace records now checker
 IsNextCheck start h trace records now checker (Err why) = IsStop start now why
 
 -- the last check: a yes, or why it is none

@@ -1,4 +1,4 @@
--- What is proved of the rules and of the walk: a certificate passes them exactly where it is valid.
+-- What is proved of the rules and of the walk: a certificate passes them exactly if it is valid.
 use Rattle.std.specs.Prelude.{◌≡◌, ◌↔◌, ℕ, ◌<◌, List, length, None}
 use Rattle.cache_model.specs.declared.objects.Object.{Object}
 use Rattle.cache_model.specs.declared.certificates.Header.{Header}
@@ -14,14 +14,14 @@ pub record IsFaultless (h : Header) (trace : List Object) (records : List Record
   pub no_record : (t : ℕ) → t < length trace → record_fault h trace records t ≡ None
   pub no_end : end_fault h trace records ≡ None
 
--- a certificate of as many records as the trace has requests is valid exactly where it has no fault
+-- a certificate of as many records as the trace has requests is valid exactly if it has no fault
 abbrev pub FaultlessIsValid : Type 0
 FaultlessIsValid =
     (h : Header) (trace : List Object) (records : List Record)
     → IsCertificate h records → h.requests ≡ length trace
     → IsFaultless h trace records ↔ IsValid trace h records
 
--- a trace that is not refused and some bytes pass the whole walk exactly where the bytes are the text of a valid certificate
+-- a trace that is not refused and some bytes pass the whole walk exactly if the bytes are the text of a valid certificate
 abbrev pub PassingIsValid : Type 0
 PassingIsValid =
     (trace : traces.Reading) (bytes : List ℕ)

@@ -5,3 +5,4 @@ pub mod Steps
 pub mod Answers
 pub mod Laws
 pub mod Checks
+pub mod Keeping

@@ -15,7 +15,7 @@ use Rattle.cert_checker.specs.declared.verdict.Counted.{Counted}
 use Rattle.cert_checker.specs.declared.invalid.InvalidKind.{InvalidKind}
 use Rattle.cert_checker.specs.declared.invalid.InvalidKind.TheVariants.{SumLimit, LastPrice, UnitNotDivisor, NotDivisible, Overfull, FlowAboveWeight, FlowOverfull, Unused, UpperDiffers, FlowDiffers, LowerDiffers, ExactGap}
 
--- a kind, where the test passes
+-- a kind, if the test passes
 abbrev pub found : Bool → InvalidKind → Option InvalidKind
 found test kind = if test then Some kind else None
 

@@ -35,7 +35,7 @@ pub record AreNext (h : Header) (sums : Sums) (x : Object) (r : Record) (before 
   pub load : now.load + size_before x before ≡ sums.load + (if r.keep then x.size else 0)
   pub flows : now.flows + flow_before before ≡ sums.flows + r.flow
 
--- what the interval that ends at a request of x adds, where the prices before it have this sum
+-- what the interval that ends at a request of x adds, if the prices before it have this sum
 abbrev pub added_by : Header → Object → ℕ → Seen → Added
 added_by h x prices seen = record {
   surplus = if nat_le x.size h.capacity then h.denominator * gain_of h.objective x - (x.size / h.unit) * (prices - seen.price_before) else 0;

@@ -74,7 +74,7 @@ last_events h c trace =
 abbrev pub events_by_request : Header → certificates.Reading → List Object → List (Option Event)
 events_by_request h c trace = map (λ t. first_some (events_at h c trace t)) (numbers_of trace)
 
--- the first event of the two readings, where the certificate has this header or none
+-- the first event of the two readings, if the certificate has this header or none
 abbrev pub walk_under : Option Header → traces.Reading → certificates.Reading → Option Event
 walk_under None trace c = text_event c.fault
 walk_under (Some h) trace c = first_some (events_by_request h c trace.requests ++ last_events h c trace)

@@ -28,7 +28,7 @@ pub enum InvalidKind {
     NotDivisible { weight: u64 },
     /// The objects that are kept have more bytes than the capacity.
     Overfull { load: u128, capacity: u64 },
-    /// The flow passes the weight of the object, which is 0 where the object is larger than the capacity.
+    /// The flow passes the weight of the object, which is 0 if the object is larger than the capacity.
     FlowAboveWeight { flow: u128, weight: u64 },
     /// The flows over a step pass the units.
     FlowOverfull { load: u128, units: u64 },

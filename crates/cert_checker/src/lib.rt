@@ -7,6 +7,7 @@
 mod checker;
 mod end_check;
 mod invalid;
+mod keeping;
 mod laws;
 mod record_check;
 mod rules;
@@ -18,6 +19,7 @@ mod walking;
 pub use cert_format::{Header, Record};
 pub use checker::{Checker, StepFault};
 pub use invalid::InvalidKind;
+pub use keeping::{Kept, check_and_keep};
 pub use laws::{faultless_is_valid, passing_is_valid};
 pub use verdict::Verdict;
 pub use walking::{CheckFault, check_streams};

@@ -40,7 +40,7 @@ fn unused(header: &Header, sums: &Sums, before: Option<Seen>) -> Option<u32>
     }
 }
 
-/// The figures after a request of the object and its record, where this is what was kept of the object.
+/// The figures after a request of the object and its record, if this is what was kept of the object.
 pub fn figures(
     header: &Header,
     sums: &Sums,
@@ -74,7 +74,7 @@ const NOTHING_ADDED: Added = Added {
     gain: 0,
 };
 
-// What is above the price of the weight, and 0 where nothing is.
+// What is above the price of the weight, and 0 if nothing is.
 fn surplus(worth: u128, weight: u64, price: u128) -> u128
     ensures value { result ≡ worth - weight * price }
 {
@@ -95,7 +95,7 @@ fn kept_gain(header: &Header, object: &Object, keep: bool) -> u64
     }
 }
 
-// What the interval that ends at a request of the object adds, where the prices before that have this sum.
+// What the interval that ends at a request of the object adds, if the prices before that have this sum.
 fn added_by_interval(header: &Header, object: &Object, prices: u128, seen: &Seen) -> Added
     requires header { IsHeaderInRange header.now }
     requires size { object.now.size ≤ 2 ^ 48 }
@@ -138,7 +138,7 @@ fn added_by_hit(header: &Header, object: &Object, sums: &Sums, seen: &Seen) -> A
     }
 }
 
-/// What a request of the object adds, where this is what was kept of the object: nothing within the warm-up.
+/// What a request of the object adds, if this is what was kept of the object: nothing within the warm-up.
 pub fn added(header: &Header, object: &Object, sums: &Sums, before: Option<Seen>) -> Added
     requires header { IsHeaderInRange header.now }
     requires size { object.now.size ≤ 2 ^ 48 }
@@ -173,7 +173,7 @@ pub fn sums_with(sums: &Sums, now: &Figures, added: &Added) -> Sums
     }
 }
 
-/// What is kept of the object of a request with this record, where these are the sums before it.
+/// What is kept of the object of a request with this record, if these are the sums before it.
 pub fn seen_of(sums: &Sums, entry: &Record) -> Seen
     ensures { result ≡ seen_at sums.now entry.now }
 {

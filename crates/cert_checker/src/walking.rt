@@ -1,5 +1,5 @@
 //! The check of a certificate against a trace, both read as streams.
-ghost use Rattle.std.specs.Prelude.{◌≡◌, ◌≤◌, ◌<◌, ◌+◌, ◌^◌, ℕ, List, IfOk, IfErr, None, OnOk, length, true};
+ghost use Rattle.std.specs.Prelude.{◌≡◌, ◌≤◌, ◌<◌, ◌+◌, ◌^◌, ℕ, List, IfOk, IfErr, IfSome, None, OnOk, length};
 ghost use Rattle.std.specs.declared.option.Option.{Option};
 ghost use Rattle.bound_io.specs.Reading.{LosesPrefix};
 ghost use Rattle.trace_any.specs.Readers.{Reader};
@@ -12,6 +12,8 @@ ghost use Rattle.cert_format.specs.Lines.{IsTaken};
 ghost use Rattle.cert_format.specs.Readers.{fresh};
 ghost use Rattle.cert_checker.specs.declared.walking.CheckFault.TheVariants.{Invalid};
 ghost use Rattle.cert_checker.specs.Checks.{HasChecked, HasCheckedAll, Inputs, IsLastCheck, IsEvent, IsFresh, IsInStep, IsNear, IsPassed, IsSteppedAt, IsNextCheck, KeepsAnswer, inputs};
+ghost use Rattle.cert_checker.specs.Keeping.{IsEnd};
+ghost use Rattle.cert_checker.specs.Summaries.{IsSized};
 ghost use Rattle.cert_checker.specs.Walks.{text_kind};
 
 use crate::checker::{Checker, StepFault};
@@ -137,8 +139,8 @@ fn step(
     }
 }
 
-// Reads and checks the next request and its record. Says whether there was one.
-fn check_next<T: Source, Q: Source>(
+// Reads and checks the next request and its record, and answers them, if there was one.
+pub(crate) fn check_next<T: Source, Q: Source>(
     alloc: Global,
     reader: &mut RequestReader,
     trace: &mut T,
@@ -146,11 +148,12 @@ fn check_next<T: Source, Q: Source>(
     certificate: &mut Q,
     header: &Header,
     checker: &mut Checker,
-) -> Result<bool, CheckFault>
+) -> Result<Option<(Object, Record)>, CheckFault>
     requires header { header.now ≡ checker.old.header }
     requires in_step { IsInStep (inputs reader.old (T.left trace.old) (T.faults trace.old) cert.old (Q.left certificate.old) (Q.faults certificate.old)) checker.old }
     ensures in_step { OnOk result (IsInStep (inputs reader.new (T.left trace.new) (T.faults trace.new) cert.new (Q.left certificate.new) (Q.faults certificate.new)) checker.new × (checker.new.header ≡ checker.old.header)) }
-    ensures fewer { IfOk result (λ more. more ≡ true → cert.new.left + 1 ≡ cert.old.left) }
+    ensures fewer { IfOk result (λ next. IfSome next (λ _. cert.new.left + 1 ≡ cert.old.left)) }
+    ensures size { IfOk result (λ next. IfSome next (λ p. IsSized p.0)) }
     ensures checked { (start : Inputs) (h : Head) (requests : List Requested) (records : List Entry) → HasChecked start h requests records (inputs reader.old (T.left trace.old) (T.faults trace.old) cert.old (Q.left certificate.old) (Q.faults certificate.old)) checker.old → IsNextCheck start h requests records (inputs reader.new (T.left trace.new) (T.faults trace.new) cert.new (Q.left certificate.new) (Q.faults certificate.new)) checker.new result }
     ensures trace { LosesPrefix (T.left trace.old) (T.left trace.new) × (T.faults trace.old ≤ T.faults trace.new) × (length reader.new.lines.held ≤ 65536) }
     ensures taken { IsTaken cert.old.lines cert.new.lines (Q.left certificate.old) (Q.left certificate.new) }
@@ -158,7 +161,7 @@ fn check_next<T: Source, Q: Source>(
     ensures cert { LosesPrefix (Q.left certificate.old) (Q.left certificate.new) × (Q.faults certificate.old ≤ Q.faults certificate.new) × (length cert.new.lines.held ≤ 65536) }
 {
     let Some(object) = reader.next(alloc, trace)? else {
-        return Ok(false);
+        return Ok(None);
     };
     let read = records_read(header, cert);
     if read == header.requests as u64 {
@@ -166,11 +169,11 @@ fn check_next<T: Source, Q: Source>(
     }
     let entry = cert.next_record(certificate)?;
     step(alloc, checker, object, entry, cert.line())?;
-    Ok(true)
+    Ok(Some((object, entry)))
 }
 
 // Reads and checks the end, after the last request of the trace.
-fn check_last<Q: Source>(
+pub(crate) fn check_last<Q: Source>(
     cert: &mut CertReader,
     certificate: &mut Q,
     header: &Header,
@@ -178,7 +181,7 @@ fn check_last<Q: Source>(
 ) -> Result<Verdict, CheckFault>
     requires header { header.now ≡ checker.now.header }
     requires in_step { (reader : Reader) × (left : Option (List ℕ)) × (faults : ℕ) × IsInStep (inputs reader left faults cert.old (Q.left certificate.old) (Q.faults certificate.old)) checker.now }
-    ensures checked { (start : Inputs) (reader : Reader) (left : Option (List ℕ)) (faults : ℕ) (h : Head) (requests : List Requested) (records : List Entry) → HasCheckedAll start h requests records (inputs reader left faults cert.old (Q.left certificate.old) (Q.faults certificate.old)) checker.now → IsLastCheck start (inputs reader left faults cert.new (Q.left certificate.new) (Q.faults certificate.new)) result }
+    ensures checked { (start : Inputs) (reader : Reader) (left : Option (List ℕ)) (faults : ℕ) (h : Head) (requests : List Requested) (records : List Entry) → HasCheckedAll start h requests records (inputs reader left faults cert.old (Q.left certificate.old) (Q.faults certificate.old)) checker.now → IsEnd start (inputs reader left faults cert.new (Q.left certificate.new) (Q.faults certificate.new)) requests records result }
     ensures taken { IsTaken cert.old.lines cert.new.lines (Q.left certificate.old) (Q.left certificate.new) }
     ensures kept { KeepsAnswer None cert.new.fault result }
     ensures source { LosesPrefix (Q.left certificate.old) (Q.left certificate.new) }
@@ -214,7 +217,7 @@ fn walk<T: Source, Q: Source>(
     ensures kept { KeepsAnswer reader.new.fault cert.new.fault result }
     ensures cert { LosesPrefix (Q.left certificate.old) (Q.left certificate.new) × (Q.faults certificate.old ≤ Q.faults certificate.new) }
 {
-    while check_next(alloc, reader, trace, cert, certificate, header, checker)? {}
+    while check_next(alloc, reader, trace, cert, certificate, header, checker)?.is_some() {}
     check_last(cert, certificate, header, checker)
 }
 

@@ -423,7 +423,7 @@ fn write(sink: &mut MemSink) -> Result<(), Failed> {
     write_end(sink)
 }
 
-// Writes the certificate to a sink that fails at one call, or at none where its number is 0.
+// Writes the certificate to a sink that fails at one call, or at none if its number is 0.
 fn check_written(
     rt: &impl Abort,
     alloc: Global,

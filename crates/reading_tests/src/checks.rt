@@ -1,9 +1,11 @@
 //! `cert_checker`: small traces and certificates of them, checked side by side.
 use bound_io::MemSource;
-use cache_model::{CERT_VERSION, Objective};
-use cert_checker::{CheckFault, Header, InvalidKind, Verdict, check_streams};
+use cache_model::{CERT_VERSION, Object, Objective};
+use cert_checker::{
+    CheckFault, Header, InvalidKind, Kept, Record, Verdict, check_and_keep, check_streams,
+};
 use cert_format::CertReader;
-use compared::holds;
+use compared::{holds, same};
 use std::alloc::Global;
 use std::process::Abort;
 use trace_any::{Format, Limits, RequestReader, TraceFault};
@@ -33,6 +35,25 @@ const VERDICT: Verdict = Verdict {
         version: CERT_VERSION,
     },
     objects: 1,
+};
+
+const RECORDS: [Record; 2] = [
+    Record {
+        price: 0,
+        keep: true,
+        flow: 1,
+    },
+    Record {
+        price: 0,
+        keep: false,
+        flow: 0,
+    },
+];
+
+const OBJECT: Object = Object {
+    volume: 0,
+    id: 7,
+    size: 4,
 };
 
 // A trace, its read that fails, or 0 for none, the other lines of the certificate, its read that fails, and the answer.
@@ -158,5 +179,44 @@ fn answer(rt: &impl Abort, alloc: Global, row: &Row) -> Result<Verdict, CheckFau
 fn says_yes_or_names_the_first_event_of_the_walk(rt: HostRuntime) {
     for (place, row) in ROWS.iter().enumerate() {
         holds(place, answer(&rt, rt.alloc(), row) == row.4).expect(&rt, "a row");
+    }
+}
+
+// What a check that keeps says of the two sources.
+fn kept(rt: &impl Abort, alloc: Global, row: &Row) -> Result<Kept, CheckFault> {
+    let mut trace = source(rt, alloc, row.0, b"", row.1);
+    let mut certificate = source(rt, alloc, HEAD, row.2, row.3);
+    let reader = RequestReader::new(alloc, Format::Webcache, Limits::full());
+    let mut reader = reader.expect(rt, "memory");
+    let mut cert = CertReader::new(alloc).expect(rt, "memory");
+    let kept = check_and_keep(alloc, &mut reader, &mut trace, &mut cert, &mut certificate);
+    drop(reader);
+    drop(trace);
+    drop(cert);
+    drop(certificate);
+    kept
+}
+
+#[test]
+fn keeps_the_requests_and_the_records_of_a_yes(rt: HostRuntime) {
+    let kept = kept(&rt, rt.alloc(), &ROWS[0]).expect(&rt, "a yes");
+    holds("the verdict", *kept.verdict() == VERDICT).expect(&rt, "a row");
+    same("the records", kept.records(), &RECORDS[..]).expect(&rt, "a row");
+    same("the requests", kept.trace().len(), 2).expect(&rt, "a row");
+    same("the objects", kept.trace().objects(), 1).expect(&rt, "a row");
+    if kept.trace().objects() > 0 {
+        same("the object", kept.trace().object(0), OBJECT).expect(&rt, "a row");
+    }
+    drop(kept);
+}
+
+#[test]
+fn names_the_fault_of_the_check_that_keeps_nothing(rt: HostRuntime) {
+    for (place, row) in ROWS.iter().enumerate().skip(1) {
+        if let Err(fault) = kept(&rt, rt.alloc(), row) {
+            same(place, Err(fault), row.4).expect(&rt, "a row");
+        } else {
+            holds(place, false).expect(&rt, "a row");
+        }
     }
 }

@@ -262,7 +262,7 @@ fn gives(
     reader.next(alloc, source) == want
 }
 
-// A source of the trace, whose reads give so many bytes, and of which one fails, or none where its number is 0.
+// A source of the trace, whose reads give so many bytes, and of which one fails, or none if its number is 0.
 fn source_of(rt: &impl Abort, alloc: Global, trace: &[u8], failing: u64, step: usize) -> MemSource
     requires { 1 ≤ step }
 {

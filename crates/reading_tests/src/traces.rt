@@ -29,7 +29,7 @@ const D: Object = Object {
     size: 11,
 };
 
-// Adds a request, where memory is wanted at the second try.
+// Adds a request where memory is wanted at the second try.
 fn add(rt: &impl Abort, builder: &mut Builder, object: Object) {
     let before = builder.len();
     holds(before, before < 10).expect(rt, "a row");

@@ -9,7 +9,7 @@ use Rattle.cert_checker.specs.declared.walking.CheckFault.TheVariants.{Invalid}
 use Rattle.cert_checker.specs.Checks.{Inputs, inputs, IsStop}
 use Rattle.cert_checker.proofs.Stops.{last_line}
 use Rattle.cert_checker.proofs.Ends.{stop_few, stop_end, stop_end_rule, passes}
-use Rattle.cert_checker.proofs.Kept.{kept_none, kept_text}
+use Rattle.cert_checker.proofs.KeptFaults.{kept_none, kept_text}
 use Rattle.cert_checker.proofs.walking.check_last.Goals as goal
 
 pub returns-then-read-header-clause-checked : goal.returns-then-read-header-clause-checked

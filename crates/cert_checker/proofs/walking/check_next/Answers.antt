@@ -1,5 +1,4 @@
 use Rattle.std.proofs.Common.{◌≡◌, ◌+◌, ◌<◌, ◌∙◌, sym, ap, refl, subst, arith, [], ◌∷◌, ◌++◌, length}
-use Rattle.std.proofs.lemmas.Bool.{false≢true}
 use Rattle.std.proofs.lemmas.Result.{err_from_is_err_and}
 use Rattle.std.proofs.lemmas.List.{length-append}
 use Rattle.cache_model.specs.declared.certificates.Header.{Header}
@@ -11,7 +10,7 @@ use Rattle.cert_checker.specs.Rules.{record_fault}
 use Rattle.cert_checker.specs.Summaries.{StandsFor}
 use Rattle.cert_format.proofs.Taken.{same_taken}
 use Rattle.cert_checker.proofs.Losses.{keeps}
-use Rattle.cert_checker.proofs.Kept.{kept_none, kept_rule, kept_text, kept_trace}
+use Rattle.cert_checker.proofs.KeptFaults.{kept_none, kept_rule, kept_text, kept_trace}
 use Rattle.cert_checker.proofs.Stops.{last_line, stop_trace, end_trace, stop_count, stop_text, stop_rule, goes_further}
 use Rattle.cert_checker.proofs.walking.check_next.Goals as goal
 
@@ -82,13 +81,10 @@ returns-clause-checked g c = λ start h given records checked.
     let next = rw c.in-Some.is at c.in_ok-object.ensures.next c.requires.in_step.trace_fault in
     let near = rw c.in-Some.is at c.in_ok-object.ensures.lines c.requires.in_step.trace_fault in
     let e = c.in_ok-entry.ensures in
-    let read = e.read c.requires.in_step.cert_fault in (
-      c.in-Some.object,
-      c.in_ok-entry.entry,
-      goes_further start h given records now c.args.checker.now checked c.in-Some.object c.next.new.self (g.T.Source.left c.next.new.source) next.1 near c.in_ok-object.ensures.ahead c.in_ok-entry.entry (line (record_line c.args.cert.now.version c.args.cert.now.price c.in_ok-entry.entry)) end read.4 read.5 e.past c.step.new.checker refl refl
-          (c.in_ok-step.ensures.stepped h given records checked.stands)
-          (record { trace = omega (arith, checked.later.trace, c.in_ok-object.ensures.later); certificate = omega (arith, checked.later.certificate, e.later) }),
-    )
+    let read = e.read c.requires.in_step.cert_fault in
+    goes_further start h given records now c.args.checker.now checked c.in-Some.object c.next.new.self (g.T.Source.left c.next.new.source) next.1 near c.in_ok-object.ensures.ahead c.in_ok-entry.entry (line (record_line c.args.cert.now.version c.args.cert.now.price c.in_ok-entry.entry)) end read.4 read.5 e.past c.step.new.checker refl refl
+    (c.in_ok-step.ensures.stepped h given records checked.stands)
+    (record { trace = omega (arith, checked.later.trace, c.in_ok-object.ensures.later); certificate = omega (arith, checked.later.certificate, e.later) })
 
 pub returns-clause-in_step : goal.returns-clause-in_step
 returns-clause-in_step g c =
@@ -214,11 +210,20 @@ returns-in_default-clause-in_step g c =
       refl,
     )
 
-pub returns-in_default-clause-fewer : goal.returns-in_default-clause-fewer
-returns-in_default-clause-fewer g c = λ more. absurd (false≢true more)
-
 pub returns-clause-fewer : goal.returns-clause-fewer
-returns-clause-fewer g c = λ _. omega (arith, (c.in_ok-entry.ensures.read c.requires.in_step.cert_fault).1)
+returns-clause-fewer g c = omega (arith, (c.in_ok-entry.ensures.read c.requires.in_step.cert_fault).1)
+
+pub returns-clause-size : goal.returns-clause-size
+returns-clause-size g c = rw c.in-Some.is at c.in_ok-object.ensures.size
+
+pub returns-in_err-object-clause-size : goal.returns-in_err-object-clause-size
+returns-in_err-object-clause-size g c = rw (err_from_is_err_and c.from_residual.result c.from_residual.ensures.1).1 tt
+
+pub returns-in_err-entry-clause-size : goal.returns-in_err-entry-clause-size
+returns-in_err-entry-clause-size g c = rw (err_from_is_err_and c.from_residual-in_err-entry.result c.from_residual-in_err-entry.ensures.1).1 tt
+
+pub returns-in_err-step-clause-size : goal.returns-in_err-step-clause-size
+returns-in_err-step-clause-size g c = rw (err_from_is_err_and c.from_residual-in_err-step.result c.from_residual-in_err-step.ensures.1).1 tt
 
 pub returns-in_err-object-clause-kept : goal.returns-in_err-object-clause-kept
 returns-in_err-object-clause-kept g c =

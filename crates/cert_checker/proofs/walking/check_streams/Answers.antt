@@ -15,7 +15,7 @@ use Rattle.cert_checker.specs.Checks.{Inputs, inputs, IsLastCheck, IsEvent, IsNe
 use Rattle.cert_checker.specs.Summaries.{StandsFor}
 use Rattle.cert_checker.proofs.Ends.{stop_header, opens}
 use Rattle.cert_checker.proofs.Losses.{keeps}
-use Rattle.cert_checker.proofs.Kept.{kept_text}
+use Rattle.cert_checker.proofs.KeptFaults.{kept_text}
 use Rattle.cert_checker.proofs.walking.check_streams.Goals as goal
 
 yes_closed : (start end : Inputs) (result : Result Verdict CheckFault) → IsLastCheck start end result → IfOk result (IsPassed start end)

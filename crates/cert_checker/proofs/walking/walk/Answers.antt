@@ -1,8 +1,9 @@
-use Rattle.std.proofs.Common.{◌∙◌, sym, subst, arith, [], ◌∷◌, ◌++◌, Ok}
+use Rattle.std.proofs.Common.{◌∙◌, sym, arith}
 use Rattle.std.proofs.lemmas.Result.{err_from_is_err_and}
 use Rattle.cert_format.proofs.Chains.{loses_both, taken_both}
 use Rattle.cert_format.proofs.Taken.{same_taken}
-use Rattle.cert_checker.specs.Checks.{Inputs, inputs, IsNextCheck}
+use Rattle.cert_checker.specs.Checks.{Inputs, inputs}
+use Rattle.cert_checker.proofs.NextChecks.{last_of, no_more, one_more}
 use Rattle.cert_checker.proofs.Losses.{keeps}
 use Rattle.cert_checker.proofs.walking.walk.Goals as goal
 
@@ -28,8 +29,7 @@ loop-preserved g c =
       header = i.header ∙ sym e.in_step.1;
       checked = λ start h requests records checked.
           let given = i.checked start h requests records checked in
-          let more = subst (λ m. IsNextCheck start h given.0 given.1 now c.check_next.new.checker (Ok m)) c.if-branch.true (e.checked start h given.0 given.1 given.2) in
-          (given.0 ++ more.0 ∷ [], given.1 ++ more.1 ∷ [], more.2);
+          one_more start h given.0 given.1 now c.check_next.new.checker _ (sym c.is_some.ensures ∙ c.if-is_some.true) (e.checked start h given.0 given.1 given.2);
       trace_source = loses_both (g.T.Source.left c.args.trace.now) (g.T.Source.left c.loop.trace) (g.T.Source.left c.check_next.new.trace) i.trace_source e.trace.0;
       trace_later = omega (arith, i.trace_later, e.trace.1);
       taken = taken_both c.args.cert.now.lines c.loop.cert.lines c.check_next.new.cert.lines (g.Q.Source.left c.args.certificate.now) (g.Q.Source.left c.loop.certificate) (g.Q.Source.left c.check_next.new.certificate) i.cert_source i.taken e.taken;
@@ -60,8 +60,8 @@ pub returns-clause-checked : goal.returns-clause-checked
 returns-clause-checked g c = λ start h requests records checked.
     let now : Inputs = inputs c.check_next.new.reader (g.T.Source.left c.check_next.new.trace) (g.T.Source.faults c.check_next.new.trace) c.check_next.new.cert (g.Q.Source.left c.check_next.new.certificate) (g.Q.Source.faults c.check_next.new.certificate) in
     let given = c.loop.invariant.checked start h requests records checked in
-    let checked_all = subst (λ m. IsNextCheck start h given.0 given.1 now c.check_next.new.checker (Ok m)) c.if-branch.false (c.in_ok-check_next.ensures.checked start h given.0 given.1 given.2) in
-    c.check_last.ensures.checked start c.check_next.new.reader (g.T.Source.left c.check_next.new.trace) (g.T.Source.faults c.check_next.new.trace) h given.0 given.1 checked_all
+    let checked_all = no_more start h given.0 given.1 now c.check_next.new.checker _ (sym c.is_some.ensures ∙ c.if-is_some.false) (c.in_ok-check_next.ensures.checked start h given.0 given.1 given.2) in
+    last_of start _ given.0 given.1 c.check_last.result (c.check_last.ensures.checked start c.check_next.new.reader (g.T.Source.left c.check_next.new.trace) (g.T.Source.faults c.check_next.new.trace) h given.0 given.1 checked_all)
 
 pub returns-clause-trace : goal.returns-clause-trace
 returns-clause-trace g c =

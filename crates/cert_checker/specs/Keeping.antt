@@ -1,0 +1,29 @@
+-- A check that keeps what it reads.
+use Rattle.std.specs.Prelude.{◌≡◌, List, Result, Ok, Err}
+use Rattle.cache_model.specs.declared.objects.Object.{Object}
+use Rattle.cache_model.specs.declared.certificates.Record.{Record}
+use Rattle.cert_checker.specs.declared.verdict.Verdict.{Verdict}
+use Rattle.cert_checker.specs.declared.walking.CheckFault.{CheckFault}
+use Rattle.cert_checker.specs.Checks.{Inputs, IsPassed, IsStop}
+
+-- a yes, with the requests and the records that it was said of
+pub record Checked : Type 0 where
+  pub verdict : Verdict
+  pub trace : List Object
+  pub records : List Record
+
+-- a yes, of the requests and the records that are kept
+pub record HasKept (start end : Inputs) (kept : Checked) : Type 0 where
+  pub passed : IsPassed start end kept.verdict
+  pub trace : kept.trace ≡ passed.requests
+  pub records : kept.records ≡ passed.records
+
+-- what was read and passed, or why the walk ended
+abbrev pub IsKeptEnd : Inputs → Inputs → Result Checked CheckFault → Type 0
+IsKeptEnd start end (Ok kept) = HasKept start end kept
+IsKeptEnd start end (Err why) = IsStop start end why
+
+-- the end of a walk over these requests and records: a yes of them, or why there is none
+abbrev pub IsEnd : Inputs → Inputs → List Object → List Record → Result Verdict CheckFault → Type 0
+IsEnd start end trace records (Ok verdict) = HasKept start end (record { verdict = verdict; trace = trace; records = records })
+IsEnd start end trace records (Err why) = IsStop start end why
