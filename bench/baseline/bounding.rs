@@ -3,10 +3,12 @@
 //!
 //! `bounding TRACE CERT CAPACITY` reads a webcache trace, numbers its objects by the HashMap of std with its own hasher,
 //! finds the eligible intervals, their unit, the least constant price over 2^48 and its bound, rounds a schedule in
-//! order of rank over a tree of loads, and writes the certificate of the objective object.
+//! order of rank over loads in levels, and writes the certificate of the objective object.
+mod levels;
 mod lines;
 mod webcache;
 
+use levels::{Answer, Loads, Rise};
 use lines::each_line;
 use std::collections::HashMap;
 use std::error::Error;
@@ -132,66 +134,30 @@ impl Constant<'_> {
     }
 }
 
-// The greatest load of each range of steps, with additions that wait at its nodes.
-struct Loads {
-    steps: usize,
-    most: Vec<u64>,
-    added: Vec<u64>,
-}
-
-impl Loads {
-    fn new(steps: u32) -> Self {
-        let steps = (steps as usize).next_power_of_two();
-        let nodes = vec![0; 2 * steps];
-        Loads {
-            steps,
-            most: nodes.clone(),
-            added: nodes,
-        }
-    }
-
-    fn most(&self, node: usize, (low, high): (usize, usize), from: usize, to: usize) -> u64 {
-        if to <= low || high <= from {
-            return 0;
-        }
-        if from <= low && high <= to {
-            return self.most[node];
-        }
-        let middle = (low + high) / 2;
-        let left = self.most(2 * node, (low, middle), from, to);
-        let right = self.most(2 * node + 1, (middle, high), from, to);
-        self.added[node] + left.max(right)
-    }
-
-    fn add(&mut self, node: usize, (low, high): (usize, usize), from: usize, to: usize, size: u64) {
-        if to <= low || high <= from {
-            return;
-        }
-        if from <= low && high <= to {
-            self.most[node] += size;
-            self.added[node] += size;
-            return;
-        }
-        let middle = (low + high) / 2;
-        self.add(2 * node, (low, middle), from, to, size);
-        self.add(2 * node + 1, (middle, high), from, to, size);
-        self.most[node] = self.added[node] + self.most[2 * node].max(self.most[2 * node + 1]);
-    }
-}
-
 // The requests that are kept: in order of rank each interval that fits.
 fn round(intervals: &[Interval], steps: u32, capacity: u64) -> Vec<bool> {
-    let mut order: Vec<u32> = (0..intervals.len() as u32).collect();
-    order.sort_unstable_by_key(|number| (intervals[*number as usize].rank(), *number));
+    let ranked = intervals.iter().enumerate();
+    let mut order: Vec<u128> = ranked
+        .map(|(number, it)| it.rank() << 32 | number as u128)
+        .collect();
+    order.sort_unstable();
     let mut loads = Loads::new(steps);
-    let all = (0, loads.steps);
+    let lowest = loads.lowest;
     let mut keeps = vec![false; steps as usize];
-    for number in order {
-        let it = &intervals[number as usize];
-        let (from, to) = (it.start as usize, it.end as usize);
-        if loads.most(1, all, from, to) + it.size <= capacity {
-            loads.add(1, all, from, to, it.size);
-            keeps[from] = true;
+    for key in order {
+        let it = &intervals[key as u32 as usize];
+        let (low, high) = (it.start as usize, it.end as usize - 1);
+        let room = capacity - it.size;
+        if let Answer::Fits = loads.look(lowest, (low, high), room) {
+            let rise = Rise {
+                low,
+                low_by: it.size,
+                high,
+                high_by: it.size,
+                between: it.size,
+            };
+            loads.raise(lowest, rise);
+            keeps[low] = true;
         }
     }
     keeps

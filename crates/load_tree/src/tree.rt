@@ -20,7 +20,7 @@ pub(crate) struct Shape {
     pub(crate) nodes: usize,
 }
 
-// How many steps a node of height 0 has at least, where there are that many.
+// How many steps a node of height 0 has at least, if there are that many.
 const LEAF: usize = 16;
 
 /// The tree for that many steps, whose nodes of height 0 have few steps each.
@@ -65,7 +65,7 @@ fn most_of(loads: &[u128], from: usize, to: usize) -> u128
 }
 
 /// Adds the amount to the loads from `from` to the one before `to`, and answers the greatest load of the whole tree.
-/// Where the range has no step nothing changes.
+/// If the range has no step nothing changes.
 pub(crate) fn add(
     nodes: &mut [Node],
     loads: &mut [u128],

@@ -1,4 +1,4 @@
--- Where all sizes are equal, weights are at most 1, and full flows alone are worth what all flows are.
+-- If all sizes are equal, weights are at most 1, and full flows alone are worth what all flows are.
 use Rattle.std.proofs.Common.{◌≡◌, ◌≢◌, ℕ, suc, ◌+◌, ◌*◌, ◌/◌, ◌<◌, ◌≤◌, ◌∙◌, sym, refl, ap, subst, Bool, true, ◌||◌, ◌==◌, cond, List, [], ◌∷◌, length, get_or, arith, ⊎_elim, All, sum_by, zip}
 use Rattle.std.specs.Prelude.{AllPairs}
 use Rattle.std.specs.List.{range_with_len, AllZip}

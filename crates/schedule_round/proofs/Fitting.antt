@@ -13,7 +13,7 @@ use Rattle.cache_model.specs.Rounding.{FitTogether, IsRounded, by_rank, by_start
 use Rattle.interval_maker.specs.Timelines.{Timeline, IsInterval, IsTimeline, no_interval}
 use Rattle.load_tree.specs.Ranges.{AddsOver}
 use Rattle.schedule_round.specs.declared.order.Ranked.{Ranked}
-use Rattle.schedule_round.specs.Ranks.{interval_at, IsRankOrder}
+use Rattle.schedule_round.specs.Ranks.{number_of, interval_at, IsRankOrder}
 use Rattle.schedule_round.specs.Taken.{IsTaken}
 use Rattle.schedule_round.proofs.Lists.{AllZip-from_get_or, get_or-AllZip, list_all-agree, list_all-at, list_all-from}
 use Rattle.schedule_round.proofs.Ranking.{counted}
@@ -21,7 +21,7 @@ use Rattle.schedule_round.proofs.Taking.{only_one, kept, others, taken_more}
 
 -- what stands past the last of the order
 abbrev no_ranked : Ranked
-no_ranked = record { rank = 0; number = 0 }
+no_ranked = record { key = 0 }
 
 -- ---- the order has no ties
 
@@ -77,37 +77,37 @@ load_beside-agree keeps new i t (j ∷ items) (f ∷ full) same =
 pub record IsRoundedTo (line : Timeline) (capacity : ℕ) (full : List Bool) (order : List Ranked) (k : ℕ) (keeps : List Bool) (loads : List ℕ) : Type 0 where
   pub taken : IsTaken line capacity keeps loads
   pub flags_kept : (j : ℕ) → j < length line.items → get_or full j false ≡ true → is_kept keeps (interval_at line.items j).start ≡ true
-  pub later : (m : ℕ) → k ≤ m → m < length order → is_kept keeps (interval_at line.items (get_or order m no_ranked).number).start ≡ false
+  pub later : (m : ℕ) → k ≤ m → m < length order → is_kept keeps (interval_at line.items (number_of (get_or order m no_ranked))).start ≡ false
   pub fitted : (m : ℕ) → m < k → m < length order
-      → is_kept keeps (interval_at line.items (get_or order m no_ranked).number).start ≡ fits_beside by_rank line.items capacity full keeps (interval_at line.items (get_or order m no_ranked).number)
+      → is_kept keeps (interval_at line.items (number_of (get_or order m no_ranked))).start ≡ fits_beside by_rank line.items capacity full keeps (interval_at line.items (number_of (get_or order m no_ranked)))
 
 module _ (line : Timeline) (capacity : ℕ) (full : List Bool) (order : List Ranked) (is_line : IsTimeline line) (fit : FitTogether line.items capacity full) (is_order : IsRankOrder line.items full order) where
   -- the interval at that place of the order
   abbrev placed : ℕ → Interval
-  placed m = interval_at line.items (get_or order m no_ranked).number
+  placed m = interval_at line.items (number_of (get_or order m no_ranked))
 
   -- what stands in the order has no flag
-  pub unflagged : (m : ℕ) → m < length order → get_or full (get_or order m no_ranked).number true ≡ false
+  pub unflagged : (m : ℕ) → m < length order → get_or full (number_of (get_or order m no_ranked)) true ≡ false
   unflagged m low =
-      let n : ℕ = (get_or order m no_ranked).number in
-      let one : 1 ≤ count_by (λ (r : Ranked). r.number == n) order =
-      omega (arith, ap {B = ℕ} (λ b. cond b 1 0) (eq-eqb n n refl), get_or-le-sum_by (λ (r : Ranked). cond (r.number == n) 1 0) order m no_ranked low) in
+      let n : ℕ = (number_of (get_or order m no_ranked)) in
+      let one : 1 ≤ count_by (λ (r : Ranked). number_of r == n) order =
+      omega (arith, ap {B = ℕ} (λ b. cond b 1 0) (eq-eqb n n refl), get_or-le-sum_by (λ (r : Ranked). cond (number_of r == n) 1 0) order m no_ranked low) in
       false_from_ne_true (get_or full n true) (λ flagged. omega (arith, is_order.once n, ap {B = ℕ} (λ b. cond b 0 1) flagged))
 
-  pub within : (m : ℕ) → m < length order → (get_or order m no_ranked).number < length line.items
+  pub within : (m : ℕ) → m < length order → (number_of (get_or order m no_ranked)) < length line.items
   within m low =
-      let n : ℕ = (get_or order m no_ranked).number in
+      let n : ℕ = (number_of (get_or order m no_ranked)) in
       ⊎_elim
       (λ (in_list : n < length line.items). in_list)
       (λ (past : length line.items ≤ n). absurd (both_ways (get_or full n true) (unflagged m low) (get_or_past full n true (omega (arith, fit.one_flag_each)))))
       (cases_lt n (length line.items))
 
   -- an interval without a flag has a place
-  place : (j : ℕ) → j < length line.items → get_or full j false ≡ false → (m : ℕ) × (m < length order) × ((get_or order m no_ranked).number ≡ j)
+  place : (j : ℕ) → j < length line.items → get_or full j false ≡ false → (m : ℕ) × (m < length order) × ((number_of (get_or order m no_ranked)) ≡ j)
   place j low off =
       let off_too : get_or full j true ≡ false = get_or_default full j true false (omega (arith, fit.one_flag_each)) ∙ off in
-      let found = counted (λ (r : Ranked). r.number == j) order no_ranked (omega (arith, is_order.once j, ap {B = ℕ} (λ b. cond b 0 1) off_too)) in
-      (found.0, found.1, eqb-true (get_or order found.0 no_ranked).number j found.2)
+      let found = counted (λ (r : Ranked). number_of r == j) order no_ranked (omega (arith, is_order.once j, ap {B = ℕ} (λ b. cond b 0 1) off_too)) in
+      (found.0, found.1, eqb-true (number_of (get_or order found.0 no_ranked)) j found.2)
 
   ahead : (l m : ℕ) → l < m → m < length order → by_rank (placed l) (placed m) ≡ true
   ahead l m before low = is_order.ascending l m no_ranked before low
@@ -115,7 +115,7 @@ module _ (line : Timeline) (capacity : ℕ) (full : List Bool) (order : List Ran
   -- no two places have intervals of one start
   apart : (l m : ℕ) → l < m → m < length order → (placed l).start ≢ (placed m).start
   apart l m before low same =
-      let number_same : (get_or order l no_ranked).number ≡ (get_or order m no_ranked).number = only_one line is_line (get_or order m no_ranked).number (within m low) (get_or order l no_ranked).number (within l (omega arith)) same in
+      let number_same : (number_of (get_or order l no_ranked)) ≡ (number_of (get_or order m no_ranked)) = only_one line is_line (number_of (get_or order m no_ranked)) (within m low) (number_of (get_or order l no_ranked)) (within l (omega arith)) same in
       both_ways (by_rank (placed l) (placed m)) (ap (λ n. by_rank (placed l) (interval_at line.items n)) (sym number_same) ∙ by_rank-itself (placed l)) (ahead l m before low)
 
   -- the flagged intervals alone
@@ -124,8 +124,8 @@ module _ (line : Timeline) (capacity : ℕ) (full : List Bool) (order : List Ran
     taken = taken;
     flags_kept = λ j low on. get_or-AllZip (λ (i : Interval) (f : Bool). is_kept keeps i.start ≡ f) no_interval false line.items full j flagged low ∙ on;
     later = λ m _ low.
-        get_or-AllZip (λ (i : Interval) (f : Bool). is_kept keeps i.start ≡ f) no_interval false line.items full (get_or order m no_ranked).number flagged (within m low)
-        ∙ get_or_default full (get_or order m no_ranked).number false true (omega (arith, within m low, fit.one_flag_each)) ∙ unflagged m low;
+        get_or-AllZip (λ (i : Interval) (f : Bool). is_kept keeps i.start ≡ f) no_interval false line.items full (number_of (get_or order m no_ranked)) flagged (within m low)
+        ∙ get_or_default full (number_of (get_or order m no_ranked)) false true (omega (arith, within m low, fit.one_flag_each)) ∙ unflagged m low;
     fitted = λ m early low. absurd (omega arith);
   }
 
@@ -156,7 +156,7 @@ module _ (line : Timeline) (capacity : ℕ) (full : List Bool) (order : List Ran
         (AllZip-from_get_or (λ (j : Interval) (flagged : Bool). (flagged || (by_rank j (placed k) && is_kept keeps j.start)) ≡ is_kept keeps j.start) no_interval false line.items full (sym fit.one_flag_each) taken_ahead)
 
     pub shaped : IsInterval line.steps (placed k)
-    shaped = is_line.intervals (get_or order k no_ranked).number no_interval (within k low)
+    shaped = is_line.intervals (number_of (get_or order k no_ranked)) no_interval (within k low)
 
     -- where it fits, there is room at each step
     room : fits_beside by_rank line.items capacity full keeps (placed k) ≡ true → (t : ℕ) → (placed k).start ≤ t → t < (placed k).end → taken_load line.items keeps t + (placed k).size ≤ capacity
@@ -195,10 +195,10 @@ module _ (line : Timeline) (capacity : ℕ) (full : List Bool) (order : List Ran
 
     module _ (new : List Bool) (is : new ≡ set keeps (placed k).start true) where
       now_kept : is_kept new (placed k).start ≡ true
-      now_kept = kept line is_line (get_or order k no_ranked).number (within k low) keeps new is so_far.taken.one_keep_each
+      now_kept = kept line is_line (number_of (get_or order k no_ranked)) (within k low) keeps new is so_far.taken.one_keep_each
 
       as_before : (r : ℕ) → r ≢ (placed k).start → is_kept new r ≡ is_kept keeps r
-      as_before = others line is_line (get_or order k no_ranked).number (within k low) keeps new is so_far.taken.one_keep_each
+      as_before = others line is_line (number_of (get_or order k no_ranked)) (within k low) keeps new is so_far.taken.one_keep_each
 
       -- of what is ahead of a place that was seen nothing is new
       same_ahead : (m : ℕ) → m ≤ k → (j : ℕ) → j < length line.items
@@ -207,7 +207,7 @@ module _ (line : Timeline) (capacity : ℕ) (full : List Bool) (order : List Ran
           let i : Interval = interval_at line.items j in
           ⊎_elim
           (λ (same : i.start ≡ (placed k).start).
-          let it_is : j ≡ (get_or order k no_ranked).number = only_one line is_line (get_or order k no_ranked).number (within k low) j in_line same in
+          let it_is : j ≡ (number_of (get_or order k no_ranked)) = only_one line is_line (number_of (get_or order k no_ranked)) (within k low) j in_line same in
           let behind : by_rank i (placed m) ≡ false =
           ap (λ n. by_rank (interval_at line.items n) (placed m)) it_is
           ∙ ⊎_elim
@@ -228,7 +228,7 @@ module _ (line : Timeline) (capacity : ℕ) (full : List Bool) (order : List Ran
       -- it fits, and is taken
       pub rounded_more : (raised : List ℕ) → fits_beside by_rank line.items capacity full keeps (placed k) ≡ true → AddsOver loads raised (placed k).start (placed k).end (placed k).size → IsRoundedTo line capacity full order (k + 1) new raised
       rounded_more raised on adds = record {
-        taken = taken_more line is_line (get_or order k no_ranked).number (within k low) keeps new is so_far.taken.one_keep_each capacity loads raised so_far.taken (so_far.later k (omega arith) low) (room on) adds;
+        taken = taken_more line is_line (number_of (get_or order k no_ranked)) (within k low) keeps new is so_far.taken.one_keep_each capacity loads raised so_far.taken (so_far.later k (omega arith) low) (room on) adds;
         flags_kept = λ j in_line flag.
             ⊎_elim
             (λ (same : (interval_at line.items j).start ≡ (placed k).start). ap (is_kept new) same ∙ now_kept)

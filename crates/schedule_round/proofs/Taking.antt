@@ -12,7 +12,7 @@ use Rattle.cache_model.specs.Schedules.{covers}
 use Rattle.cache_model.specs.Claim.{is_kept}
 use Rattle.cache_model.specs.Rounding.{FitTogether, taken_load}
 use Rattle.interval_maker.specs.Timelines.{Timeline, IsInterval, IsTimeline, no_interval}
-use Rattle.load_tree.specs.Ranges.{AddsOver, HasRoom}
+use Rattle.load_tree.specs.Ranges.{AddsOver, HasSmallRoom}
 use Rattle.schedule_round.specs.Ranks.{interval_at}
 use Rattle.schedule_round.specs.Taken.{IsTaken}
 use Rattle.schedule_round.proofs.Lists.{AllZip-from_get_or}
@@ -252,7 +252,7 @@ module _ (line : Timeline) (capacity : ℕ) (full : List Bool) (is_line : IsTime
           )
 
       -- and so the loads stay small
-      pub flagged_small : capacity < 2 ^ 64 → HasRoom loads next.start next.end next.size
+      pub flagged_small : capacity < 2 ^ 64 → HasSmallRoom loads next.start next.end next.size
       flagged_small few t from to =
           let shaped : IsInterval line.steps next = is_line.intervals k no_interval low in
           omega (arith, flagged_room t from to, so_far.taken.loads_are t (omega (arith, shaped.within)))

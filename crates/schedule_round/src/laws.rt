@@ -6,12 +6,12 @@ pub fn full_flags_fit()
     ensures { FullFlagsFit }
 {}
 
-/// Where all intervals have one size, no cost is rounded.
+/// If all intervals have one size, no cost is rounded.
 pub fn equal_sizes_are_whole()
     ensures { EqualSizesAreWhole }
 {}
 
-/// Where all eligible intervals have one size and flows are worth the bound of prices, rounding gives a best schedule.
+/// If all eligible intervals have one size and flows are worth the bound of prices, rounding gives a best schedule.
 pub fn equal_sizes_meet_the_bound()
     ensures { EqualSizesMeetTheBound }
 {}

@@ -53,7 +53,7 @@ pub fn round(
     let items = intervals.as_slice();
     let order = order_of(alloc, intervals, full)?;
     for ranked in &order {
-        let interval = &items[ranked.number as usize];
+        let interval = &items[ranked.number() as usize];
         if schedule.fits(interval) {
             schedule.take(interval);
         }

@@ -1,18 +1,18 @@
 //! A schedule that is being made.
 ghost use Rattle.std.specs.Prelude.{◌≡◌, ◌↔◌, ◌<◌, ◌≤◌, true, false, length, replicate, slice_set, IsTrue, IfOk};
-ghost use Rattle.load_tree.specs.Ranges.{AddsOver, HasRoom};
+ghost use Rattle.load_tree.specs.Ranges.{AddsOver, HasSmallRoom};
 ghost use Rattle.schedule_round.specs.Taken.{FitsOn};
 
 use bound_base::NoMemory;
 use interval_maker::Interval;
-use load_tree::Loads;
+use load_tree::SmallLoads;
 use std::alloc::Global;
 
 /// Which requests are kept so far, and what each step then holds of the capacity. Both are in bytes.
 #[derive(Debug, Drop)]
 pub(crate) struct Schedule {
     pub(crate) capacity: u64,
-    pub(crate) loads: Loads,
+    pub(crate) loads: SmallLoads,
     pub(crate) keeps: Vec<bool>,
 }
 
@@ -25,7 +25,7 @@ impl Schedule {
     {
         Ok(Schedule {
             capacity,
-            loads: Loads::new(alloc, steps)?,
+            loads: SmallLoads::new(alloc, steps)?,
             keeps: vec![in alloc; false; steps as usize]?,
         })
     }
@@ -36,15 +36,15 @@ impl Schedule {
         requires within { interval.now.end ≤ length self.now.loads }
         ensures { IsTrue result ↔ FitsOn self.now.loads self.now.capacity interval.now }
     {
-        let held = self.loads.max(interval.start, interval.end);
-        held + u128::from(interval.size) <= u128::from(self.capacity)
+        interval.size <= self.capacity
+            && self.loads.fits(interval.start, interval.end, self.capacity - interval.size)
     }
 
     /// Keeps the interval, which adds its size to the steps that it covers.
     pub(crate) fn take(&mut self, interval: &Interval)
         requires order { interval.now.start < interval.now.end }
         requires within { interval.now.end ≤ length self.old.loads }
-        requires room { HasRoom self.old.loads interval.now.start interval.now.end interval.now.size }
+        requires room { HasSmallRoom self.old.loads interval.now.start interval.now.end interval.now.size }
         requires start { interval.now.start < length self.old.keeps.items }
         ensures capacity { self.new.capacity ≡ self.old.capacity }
         ensures held { AddsOver self.old.loads self.new.loads

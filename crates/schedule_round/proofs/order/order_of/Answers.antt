@@ -1,4 +1,4 @@
-use Rattle.std.proofs.Common.{◌<◌, ◌∙◌, true, false, refl, arith, ap, length}
+use Rattle.std.proofs.Common.{◌<◌, ◌∙◌, true, false, arith, ap, length}
 use Rattle.std.proofs.lemmas.List.{get_or_default}
 use Rattle.schedule_round.proofs.Ranking.{collected_flagged, collected_next, rank_order}
 use Rattle.schedule_round.proofs.order.order_of.Goals as goal
@@ -13,7 +13,7 @@ loop-number-preserved c =
     let within : number < length full = omega (arith, c.loop-number-test.true, ap length c.as_slice-items.ensures.items, c.requires.flags) in
     elim c.if-not-full-number.branch [
       | then-not-full-number+in_ok-push w ↦
-          collected_next items full number before c.if-not-full-number.order.items (record { rank = w.rank.result; number = number }) (get_or_default full number true false within ∙ w.if-not-full-number.true) refl (rw c.as_slice-items.ensures.items at w.rank.ensures)
+          collected_next items full number before c.if-not-full-number.order.items w.new.result (get_or_default full number true false within ∙ w.if-not-full-number.true) w.new.ensures.number (w.new.ensures.rank ∙ (rw c.as_slice-items.ensures.items at w.rank.ensures.rank))
           (ap (λ v. v.items) w.order-is ∙ w.in_ok-push.ensures.items) c.loop-number.invariant
       | else-not-full-number w ↦
           collected_flagged items full number before c.if-not-full-number.order.items (get_or_default full number true false within ∙ w.if-not-full-number.false) (ap (λ v. v.items) w.order-is) c.loop-number.invariant
