@@ -19,6 +19,8 @@ mod made;
 #[cfg(test)]
 mod network;
 #[cfg(test)]
+mod refining;
+#[cfg(test)]
 mod rounding;
 #[cfg(test)]
 mod solver;

@@ -1,0 +1,13 @@
+pub mod TwoArcs
+pub mod Slices
+pub mod Exchange
+pub mod Settled
+pub mod SumsBeside
+pub mod Ranges
+pub mod Cutting
+pub mod ArcValues
+pub mod Choosing
+pub mod Solved
+pub mod Gatherings
+pub mod BlockPlaces
+pub mod AllSettled

@@ -1,0 +1,41 @@
+-- The blocks of a round, one after another, and the intervals that are open at each.
+use Rattle.std.specs.Prelude.{◌≡◌, ℕ, ◌+◌, ◌/◌, ◌<◌, ◌≤◌, nat_lt, min, List, filter, length, slice_index, take}
+use Rattle.cache_model.specs.declared.intervals.Interval.{Interval}
+use Rattle.cache_model.specs.Intervals.{bound_of}
+use Rattle.price_refine.specs.declared.block.Block.{Block}
+use Rattle.price_refine.specs.declared.gathering.Gathered.{Gathered}
+use Rattle.price_refine.specs.Blocks.{block_start}
+use Rattle.price_refine.specs.Parts.{IsSettled}
+
+-- where block k begins, or the end of all blocks if it has no step
+abbrev pub place_of : Block → ℕ → ℕ → ℕ
+place_of whole width k = min (block_start width k) whole.end
+
+-- block k: its end is where the next one begins
+abbrev pub numbered_block : Block → ℕ → ℕ → Block
+numbered_block whole width k = record whole { first = place_of whole width k; end = place_of whole width (k + 1) }
+
+-- those of the intervals met so far are kept, in order, that end after some place at or before this one
+pub record AreOpen (place : ℕ) (items : List Interval) (gathered : Gathered) : Type 0 where
+  pub since : ℕ
+  pub earlier : since ≤ place
+  pub kept : gathered.met.items ≡ filter (λ i. nat_lt since i.end) (take gathered.next items)
+
+-- the bound of the prices, in what the block is counted in
+abbrev pub bound_in : Block → List Interval → List ℕ → ℕ
+bound_in block items prices = bound_of items block.unit block.units block.denominator prices
+
+-- prices of as many steps, with the same last price and no greater bound
+pub record AreNoWorse (whole : Block) (items : List Interval) (old new : List ℕ) : Type 0 where
+  pub each_step : length new ≡ length old
+  pub last : slice_index new whole.end ≡ slice_index old whole.end
+  pub bound : bound_in whole items new ≤ bound_in whole items old
+
+-- if the bound has not fallen the prices stay, and the first n blocks are settled for them
+abbrev pub HasSettled : Block → ℕ → List Interval → ℕ → List ℕ → List ℕ → ℕ → Type 0
+HasSettled whole width items n old new fall =
+    fall ≡ 0 → (new ≡ old) × ((k : ℕ) → k < n → IsSettled items (numbered_block whole width k) old)
+
+-- so for all blocks that have a step
+abbrev pub IsRound : Block → ℕ → List Interval → List ℕ → List ℕ → ℕ → Type 0
+IsRound whole width items old new fall = HasSettled whole width items (whole.end / width + 2) old new fall
