@@ -7,10 +7,8 @@ ghost use Rattle.std.specs.Prelude.{◌≡◌, ◌⊎◌, map, string_bytes, IfE
 ghost use Rattle.bound_run.specs.Words.{plan};
 ghost use Rattle.bound_run.specs.declared.words.WordFault.{WordFault};
 
-use crate::messages::{
-    Devices, EXAMPLES, PURPOSE, Page, STANDARD_INPUT, STANDARD_OUTPUT, Seen, USAGE, VERSION,
-    advice_on, page_of,
-};
+use crate::messages::{Devices, STANDARD_INPUT, STANDARD_OUTPUT, Seen, advice_on};
+use crate::pages::{EXAMPLES, PURPOSE, Page, USAGE, VERSION, page_of};
 use bound_io::{FileSink, FileSource};
 use bound_run::{Status, paths_of, run};
 use std::alloc::Global;
@@ -19,6 +17,7 @@ use std::rt::{Env, Files};
 use std::{env, io};
 
 mod messages;
+mod pages;
 
 // The exit status where the system doesn't give the words of the command line.
 const NO_WORDS: u8 = 11;

@@ -1,4 +1,4 @@
-//! What the program says beside its reports: how it is called, and what to do about a run that did not end well.
+//! What the program says beside its reports: what to do about a run that did not end well.
 //!
 //! It is for the person at the terminal. The lines of the report, on which scripts rest, stand in bound_report.
 use bound_report::WordKind;
@@ -7,67 +7,11 @@ use std::alloc::{AllocError, Global};
 use std::io;
 use trace_lines::LineKind;
 
-/// The program and its version.
-pub const VERSION: &str = "bound_cli 0.2.0";
-
 /// What the standard input is called.
 pub const STANDARD_INPUT: &str = "standard input";
 
 /// What the standard output is called.
 pub const STANDARD_OUTPUT: &str = "standard output";
-
-/// The commands with their operands, a line each.
-pub const USAGE: [&str; 10] = [
-    "usage: bound_cli bounds TRACE CERT format=FORM capacity=BYTES [block=BYTES]",
-    "           [objective=OBJECTIVE] [mode=MODE] [window=STEPS] [denominator=NUMBER]",
-    "           [warmup=REQUESTS] [version=VERSION]",
-    "       bound_cli check TRACE CERT format=FORM [block=BYTES]",
-    "       bound_cli replay TRACE format=FORM capacity=BYTES policy=POLICY [block=BYTES] [warmup=REQUESTS]",
-    "       bound_cli curve TRACE format=FORM [block=BYTES]",
-    "       bound_cli demo [seed=NUMBER] [requests=NUMBER] [objects=NUMBER] [capacity=BYTES]",
-    "           [objective=OBJECTIVE] [mode=MODE] [window=STEPS] [denominator=NUMBER]",
-    "       bound_cli upgrade CERT MADE",
-    "       bound_cli help",
-];
-
-/// What the program is for.
-pub const PURPOSE: &str =
-    "bound_cli computes how well any cache could do on a trace of requests: an upper bound that no
-replacement policy can exceed, a schedule that reaches a score, and a certificate of both.
-";
-
-/// What stands for what, and five examples.
-pub const EXAMPLES: &str = "
-FORM is webcache, arc, msr or oracle, OBJECTIVE is object or bytes, MODE is flow, constant or infinite,
-POLICY is lru, fifo, clock, lfu or belady, VERSION is 1 or 2.
-A path - is the standard input or output. The report goes to the standard output.
-
-A demo draws a trace of its own and shows its bounds, that they are checked, and the hits of each policy.
-
-examples:
-  bound_cli demo
-  bound_cli bounds examples/build-files.webcache build.cert format=webcache capacity=8388608
-  bound_cli check examples/build-files.webcache build.cert format=webcache
-  bound_cli replay examples/build-files.webcache format=webcache capacity=8388608 policy=lru
-  bound_cli curve examples/database-blocks.msr format=msr block=8192
-
-docs/GUIDE.md goes from a trace to a decision; man -l docs/bound_cli.1 has every operand.";
-
-/// What is asked for in place of a run.
-#[derive(Clone, Copy)]
-pub enum Page {
-    Help,
-    Version,
-}
-
-/// The page that a first word asks for.
-pub fn page_of(word: &str) -> Option<Page> {
-    match word {
-        "help" | "--help" | "-h" => Some(Page::Help),
-        "--version" => Some(Page::Version),
-        _ => None,
-    }
-}
 
 // What an operand's value may be.
 fn values_of(name: &str) -> Option<&'static str> {
@@ -88,10 +32,19 @@ fn values_of(name: &str) -> Option<&'static str> {
     }
 }
 
+// What the value of an operand of a command may be.
+fn values_for(command: &str, name: &str) -> Option<&'static str> {
+    match (command, name) {
+        ("refine", "window") => Some("digits alone, from 1 to 33554432"),
+        _ => values_of(name),
+    }
+}
+
 // The operands of a command.
 fn operands_of(command: &str) -> &'static str {
     match command {
         "check" | "curve" => "format and block",
+        "refine" => "format, window and block",
         "replay" => "format, capacity, policy, block and warmup",
         "demo" => "seed, requests, objects, capacity, objective, mode, window and denominator",
         _ => "format, capacity, block, objective, mode, window, denominator, warmup and version",
@@ -140,6 +93,8 @@ fn is_given(words: &[String], name: &str) -> bool {
 fn first_missing(words: &[String]) -> &'static str {
     if !is_given(words, "format") {
         "format"
+    } else if word_at(words, 1) == "refine" {
+        "window"
     } else if !is_given(words, "capacity") {
         "capacity"
     } else {
@@ -152,9 +107,9 @@ fn path_at(words: &[String], place: u64) -> Option<&'static str> {
     match (word_at(words, 1), place) {
         ("demo", _) => None,
         ("upgrade", 2) => Some("certificate"),
-        ("upgrade", 3) => Some("new certificate"),
+        ("upgrade", 3) | ("refine", 4) => Some("new certificate"),
         (_, 2) => Some("trace"),
-        ("bounds" | "check", 3) => Some("certificate"),
+        ("bounds" | "check" | "refine", 3) => Some("certificate"),
         _ => None,
     }
 }
@@ -168,7 +123,7 @@ fn missing(alloc: Global, words: &[String], place: u64) -> Result<String, AllocE
         return format!(in alloc; "the path of the {path} is missing");
     }
     let name = first_missing(words);
-    let values = values_of(name).unwrap_or("");
+    let values = values_for(word_at(words, 1), name).unwrap_or("");
     format!(in alloc; "{name} is missing: {values}")
 }
 
@@ -177,7 +132,7 @@ fn unknown(alloc: Global, words: &[String], place: u64) -> Result<String, AllocE
     let word = word_at(words, place);
     if place == 1 {
         return format!(in alloc;
-            "{word}: no command; the commands are bounds, check, replay, curve, demo and upgrade"
+            "{word}: no command; the commands are bounds, check, replay, curve, demo, upgrade and refine"
         );
     }
     if word.as_bytes().starts_with(b"--") {
@@ -205,7 +160,7 @@ fn bad_value(alloc: Global, words: &[String], place: u64) -> Result<String, Allo
     if word.is_empty() {
         return String::from_str(alloc, "a path is empty");
     }
-    match values_of(name_of(word)) {
+    match values_for(word_at(words, 1), name_of(word)) {
         Some(values) if path_at(words, place).is_none() => format!(in alloc; "{word}: {values}"),
         _ => String::from_str(
             alloc,
@@ -299,7 +254,7 @@ fn start_advice(alloc: Global, command: &str, trace: Seen<'_>) -> Result<String,
     format!(in alloc; "{name}: its first line may be a heading; leave it out: {pipe}")
 }
 
-/// What to do about a status, where something is known to do.
+/// What to do about a status, if something is known to do.
 pub fn advice_on(
     alloc: Global,
     words: &[String],

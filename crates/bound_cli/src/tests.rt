@@ -17,6 +17,7 @@ mod faults;
 mod flow;
 mod modes;
 mod records;
+mod refinements;
 mod replays;
 mod traces;
 mod upgrades;

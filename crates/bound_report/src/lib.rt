@@ -1,5 +1,5 @@
 //! Texts for people: the report of bounds, what a check says of a valid certificate, the texts of a replay, of a
-//! curve and of a demo, and the line that tells why a run stopped.
+//! curve, of a demo and of a refinement, and the line that tells why a run stopped.
 //!
 //! The rules are "Report of bounds", "Verdict" and "Refusal" in docs/DEFINITIONS.md.
 #![tactic(auto)]
@@ -7,6 +7,7 @@
 mod curves;
 mod demo;
 mod facts;
+mod refinement;
 mod refusal;
 mod replays;
 mod report;
@@ -17,6 +18,7 @@ pub use curves::{CurveFacts, curve_text};
 pub use demo::{DemoFacts, PolicyReplays, demo_text};
 pub use facts::{BoundFacts, Mode, Window};
 pub use policy_model::PolicyName;
+pub use refinement::refined_text;
 pub use refusal::{LimitName, Refusal, RefusalText, WordKind, refusal_text};
 pub use replays::{ReplayFacts, push_warmup, replay_text};
 pub use report::{report_text, verdict_text};

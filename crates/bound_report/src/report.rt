@@ -106,8 +106,8 @@ fn unit_line(header: &Header) -> Line
     text
 }
 
-// A word and a value over the denominator.
-fn push_ratio(text: &mut Line, word: &[u8], value: u128, denominator: u64)
+/// A word and a value over the denominator.
+pub(crate) fn push_ratio(text: &mut Line, word: &[u8], value: u128, denominator: u64)
     requires { length text.old + length word.now ≤ 100 }
     ensures text { text.new ≡ text.old ++ ratio word.now value denominator }
     ensures short { length text.new ≤ length text.old + length word.now + 61 }
@@ -197,22 +197,33 @@ pub fn report_text(alloc: Global, facts: &BoundFacts) -> Result<Vec<u8>, NoMemor
     Ok(text)
 }
 
+/// Appends what a check says of a valid certificate, if the trace has this number of dropped lines.
+pub(crate) fn append_verdict(
+    text: &mut Vec<u8>,
+    verdict: &Verdict,
+    dropped: u64,
+) -> Result<(), NoMemory>
+    requires unit { 0 < verdict.now.header.unit }
+    requires denominator { 0 < verdict.now.header.denominator }
+    ensures { OnOk result (text.new.items ≡ text.old.items ++ verdict_text verdict.now dropped) }
+{
+    let header = &verdict.header;
+    append(text, &trace_line(header.requests, verdict.objects, dropped))?;
+    append(text, &capacity_line(header.capacity, header.objective))?;
+    append(text, &form_line(header.exact))?;
+    append(text, &unit_line(header))?;
+    append_value_lines(text, header)?;
+    text.extend_from_slice(b"valid\n")?;
+    Ok(())
+}
+
 /// What a check says of a valid certificate, if the trace has this number of dropped lines.
 pub fn verdict_text(alloc: Global, verdict: &Verdict, dropped: u64) -> Result<Vec<u8>, NoMemory>
     requires unit { 0 < verdict.now.header.unit }
     requires denominator { 0 < verdict.now.header.denominator }
     ensures { IfOk result (λ text. text.items ≡ verdict_text verdict.now dropped) }
 {
-    let header = &verdict.header;
     let mut text = Vec::new(alloc);
-    append(
-        &mut text,
-        &trace_line(header.requests, verdict.objects, dropped),
-    )?;
-    append(&mut text, &capacity_line(header.capacity, header.objective))?;
-    append(&mut text, &form_line(header.exact))?;
-    append(&mut text, &unit_line(header))?;
-    append_value_lines(&mut text, header)?;
-    text.extend_from_slice(b"valid\n")?;
+    append_verdict(&mut text, verdict, dropped)?;
     Ok(text)
 }

@@ -1,4 +1,4 @@
--- What is answered of good inputs, where no device fails.
+-- What is answered of good inputs, if no device fails.
 use Rattle.std.proofs.Common.{◌≡◌, ◌∙◌, ℕ, ◌+◌, ◌==◌, nat_lt, refl, sym, ap, subst, inl, inr, ◌⊎◌, Bool, true, false, cond, List, [], ◌∷◌, ◌++◌, map, length, Ok, Err, Some, None, IfSome, Result}
 use Rattle.std.specs.Prelude.{IsSome}
 use Rattle.std.specs.declared.option.Option.{Option}
@@ -35,10 +35,10 @@ use Rattle.bound_run.specs.declared.status.Status.TheVariants.{Done, Invalid, Wo
 use Rattle.bound_run.specs.Demos.{trace_drawn}
 use Rattle.bound_run.specs.Made.{RefusesDenominator}
 use Rattle.bound_run.specs.Inputs.{HasDenominator, IsGoodTrace}
-use Rattle.bound_run.specs.Run.{AnswersCurve, AnswersCurveOf, AnswersOf, Answers, AreGoodInputs, BoundsEnd, CheckEnds, CurveEnds, Completes, DemoEnds, Devices, NoneFails, ReplayEnds, RunEnds, TaskEnds, UpgradeEnds}
+use Rattle.bound_run.specs.Run.{AnswersCurve, AnswersCurveOf, AnswersOf, Answers, AreGoodInputs, BoundsEnd, CheckEnds, CurveEnds, Completes, DemoEnds, Devices, NoneFails, RefineEnds, ReplayEnds, RunEnds, TaskEnds, UpgradeEnds}
 use Rattle.bound_run.specs.Upgrades.{IsGoodCertificate}
 use Rattle.bound_run.specs.Statuses.{ending_of}
-use Rattle.bound_run.specs.Tasks.{Task, bounds, check, replay, curve, demo, upgrade, task_of}
+use Rattle.bound_run.specs.Tasks.{Task, bounds, check, replay, curve, demo, upgrade, refine, task_of}
 
 -- ---- the walk over a trace that isn't refused
 
@@ -63,7 +63,7 @@ of_choice : (b : Bool) (e : Option Event) → IsOfCert e → IsOfCert (cond b e 
 of_choice true e of = of
 of_choice false e of = tt
 
--- the first of two is none where neither is
+-- the first of two is none if neither is
 of_first : (e : Option Event) (others : List (Option Event)) → IsOfCert e → IsOfCert (first_some others) → IsOfCert (first_some (e ∷ others))
 of_first None others first rest = rest
 of_first (Some e) others first rest = first
@@ -170,6 +170,24 @@ module _ (format : Format) where
     check_complete MadeFault e = absurd e.0
     check_complete (Unequal first other) e = absurd e.0
 
+  -- a refinement answers as the check of its certificate
+  module _ (width : ℕ) (source cert report made : Device) (good : IsGoodTrace format source.before) (known_cert : IsSome cert.before)
+      (source_works : ¬ (HasFailed source)) (cert_works : ¬ (HasFailed cert)) (report_works : ¬ (HasFailed report)) (made_works : ¬ (HasFailed made)) where
+    refine_complete : (status : Status) → RefineEnds format width source cert report made (ending_of status) → AnswersOf format source.before cert.before status
+    refine_complete Done (written, text, refined, all, printed) = yes_at source.before cert.before refined.requests refined.dropped refined.header refined.records good known_cert refined.read.loaded.read refined.read.text refined.read.valid
+    refine_complete (Invalid line kind) e = no_at source.before cert.before line kind good known_cert e.0
+    refine_complete (BadLine line kind) e = absurd (not_refused_at source.before cert.before (trace.BadLine line kind) good known_cert e.0)
+    refine_complete (Limit Requests) e = absurd (not_refused_at source.before cert.before trace.TooManyRequests good known_cert e.0)
+    refine_complete (Limit TraceBytes) e = absurd (not_refused_at source.before cert.before trace.InputTooLong good known_cert e.0)
+    refine_complete (Limit Denominator) e = absurd e.0
+    refine_complete TraceFault e = absurd (source_works e.0)
+    refine_complete CertFault e = absurd (cert_works e.0)
+    refine_complete ReportFault (written, text, refined, all, failed) = absurd (report_works failed.0)
+    refine_complete MadeFault (written, text, refined, failed, line) = absurd (made_works failed.0)
+    refine_complete NoMemory e = free_at source.before cert.before
+    refine_complete (Words fault) e = absurd e.0
+    refine_complete (Unequal first other) e = absurd e.0
+
 -- ---- replays
 
 module _ (format : Format) (r : Replaying) (source report : Device) (good : IsGoodTrace format source.before)
@@ -275,6 +293,7 @@ module _ (d : Devices) (status : Status) (works : NoneFails d) where
   task_complete (curve format) e inputs = curve_complete format d.trace d.report inputs works.trace works.report status e.0
   task_complete upgrade e inputs = upgrade_complete d.cert d.report d.made inputs works.cert works.report works.made status e.0
   task_complete (check format) e inputs = check_complete format d.trace d.cert d.report inputs.0 inputs.1 works.trace works.cert works.report status e.0
+  task_complete (refine format width) e inputs = refine_complete format width d.trace d.cert d.report d.made inputs.0 inputs.1 works.trace works.cert works.report works.made status e.0
   task_complete (demo drawing asked) e inputs = demo_complete drawing asked d.report inputs works.report status e.0
 
 pub complete : (read : Result Plan WordFault) (d : Devices) (status : Status) → RunEnds read d status → Completes read d status

@@ -15,7 +15,7 @@ use Rattle.bound_run.specs.Demos.{trace_drawn}
 use Rattle.bound_run.specs.Headline.{AreTrueBounds, Headline, Shows}
 use Rattle.bound_run.specs.Run.{Devices, RunEnds, TaskEnds}
 use Rattle.bound_run.specs.Statuses.{done, ending_of}
-use Rattle.bound_run.specs.Tasks.{Task, bounds, check, replay, curve, demo, upgrade, task_of}
+use Rattle.bound_run.specs.Tasks.{Task, bounds, check, replay, curve, demo, upgrade, refine, task_of}
 
 -- a valid certificate has true bounds
 true_bounds : (trace : List Object) (h : Header) (records : List Record) → IsValid trace h records → BoundsEveryPolicy trace h → AreTrueBounds trace h records
@@ -99,6 +99,24 @@ shown (demo drawing asked) d ((text, shows, printed), trace, cert, made) =
       replayed = shows.replayed;
     }
 shown upgrade d ((cert, text, ready, certified, printed), source, untouched) = record { cert = cert; text = text; certified = certified; printed = printed; upgraded = ready }
+shown (refine format width) d ((cert, text, ready, certified, printed), trace, read) =
+    let texts = ready.texts in (
+      ready.requests,
+      ready.dropped,
+      ready.read.loaded,
+      record {
+        header = ready.header;
+        records = ready.records;
+        refined = texts.made;
+        refined_records = texts.refined;
+        read = ready.read.text;
+        valid = ready.read.valid;
+        certified = subst (λ t. Appends d.made.before d.made.after t) texts.cert_is certified;
+        printed = subst (λ t. Appends d.report.before d.report.after t) texts.report_is printed;
+        refinement = texts.refinement;
+        bounds = true_bounds ready.requests texts.made texts.refined texts.refinement.valid texts.refinement.bounds;
+      },
+    )
 
 pub headlined : (read : Result Plan WordFault) (d : Devices) (status : Status) → RunEnds read d status → status ≡ Done → Headline read d
 headlined (Ok plan) d status ends is = shown (task_of plan) d (subst (λ s. TaskEnds (task_of plan) d (ending_of s)) is ends)

@@ -1,10 +1,12 @@
 -- What a check answers of all that two sources had left.
-use Rattle.std.proofs.Common.{◌≡◌, ◌∙◌, ℕ, sym, ap, List, Some, None, IfSome}
+use Rattle.std.proofs.Common.{◌≡◌, ◌∙◌, ℕ, sym, ap, subst, List, length, Some, None, IfSome}
 use Rattle.std.specs.declared.option.Option.{Option}
 use Rattle.std.specs.Option.{unwrap_or}
 use Rattle.bound_io.specs.Devices.{device}
 use Rattle.cache_model.specs.declared.certificates.Header.{Header}
 use Rattle.cache_model.specs.declared.certificates.Record.{Record}
+use Rattle.cache_model.specs.Certificates.{IsValid}
+use Rattle.cache_model.specs.Objects.{objects_of}
 use Rattle.cache_model.specs.Texts.{cert_text}
 use Rattle.cache_model.proofs.Headline.{exact_is_least}
 use Rattle.trace_any.specs.declared.fault.TraceFault.TheVariants as trace
@@ -17,8 +19,10 @@ use Rattle.cert_checker.specs.declared.verdict.Verdict.{Verdict}
 use Rattle.cert_checker.specs.declared.walking.CheckFault.{CheckFault}
 use Rattle.cert_checker.specs.declared.walking.CheckFault.TheVariants as check
 use Rattle.cert_checker.specs.Checks.{Inputs, IsEvent, IsNear, IsPassed}
-use Rattle.bound_run.specs.Inputs.{IsAccepted}
-use Rattle.bound_run.specs.Parts.{RefusesCheck}
+use Rattle.cert_checker.specs.Keeping.{Checked, HasKept}
+use Rattle.bound_run.specs.Inputs.{IsAccepted, IsLoaded}
+use Rattle.bound_run.specs.Parts.{RefusesCheck, RefusesWalk}
+use Rattle.bound_run.specs.Refined.{IsKept}
 use Rattle.bound_run.specs.Statuses.{refusal_of_check}
 
 -- bytes that are read as a whole certificate are its text
@@ -57,13 +61,40 @@ module _ (format : Format) (start end : Inputs) (new : start.reader ≡ fresh fo
         nothing_left = passed.certificate_end;
       }
 
+  -- so is one of what is kept
+  pub kept_all : (kept : Checked) → HasKept start end kept
+      → IsKept format (device start.trace end.trace start.trace_faults end.trace_faults) (device start.certificate end.certificate start.certificate_faults end.certificate_faults) kept end.reader.dropped
+  kept_all kept has =
+      let passed = has.passed in
+      let loaded : IsLoaded format (device start.trace end.trace start.trace_faults end.trace_faults) passed.requests end.reader.dropped
+      = record { read = rw (same_format, same_limits) at passed.trace; nothing_left = passed.trace_end } in (
+        record {
+          loaded = subst (λ requests. IsLoaded format (device start.trace end.trace start.trace_faults end.trace_faults) requests end.reader.dropped) (sym has.trace) loaded;
+          valid = subst (λ requests. IsValid requests kept.verdict.header kept.records) (sym has.trace) (subst (λ records. IsValid passed.requests kept.verdict.header records) (sym has.records) passed.yes.valid);
+          text = subst (λ records. IfSome start.certificate (λ text. text ≡ cert_text kept.verdict.header records)) (sym has.records) (texts_of_whole start.certificate kept.verdict.header passed.records passed.certificate);
+          nothing_left = passed.certificate_end;
+        },
+        ap (λ n. record { header = kept.verdict.header; objects = n }) (passed.yes.objects ∙ ap (λ requests. length (objects_of requests)) (sym has.trace)),
+      )
+
   -- and a no is the first event of the walk over it
+  pub walk_refused : (fault : CheckFault) → IsEvent start end fault
+      → RefusesWalk format (device start.trace end.trace start.trace_faults end.trace_faults) (device start.certificate end.certificate start.certificate_faults end.certificate_faults) (refusal_of_check fault)
+  walk_refused (check.Invalid line kind) e = rw (same_format, same_limits) at e
+  walk_refused (check.Trace (trace.BadLine line kind)) e = rw (same_format, same_limits) at e
+  walk_refused (check.Trace trace.InputTooLong) e = rw (same_format, same_limits) at e
+  walk_refused (check.Trace trace.TooManyRequests) e = rw (same_format, same_limits) at e
+  walk_refused (check.Trace trace.ReadFault) e = e
+  walk_refused (check.Trace trace.NoMemory) e = absurd e
+  walk_refused check.CertReadFault e = e
+  walk_refused check.NoMemory e = tt
+
   pub refused : (fault : CheckFault) → IsEvent start end fault → IsNear start end fault
       → RefusesCheck format (device start.trace end.trace start.trace_faults end.trace_faults) (device start.certificate end.certificate start.certificate_faults end.certificate_faults) (refusal_of_check fault)
-  refused (check.Invalid line kind) e near = (rw (same_format, same_limits) at e, rw (same_format, same_limits) at near)
-  refused (check.Trace (trace.BadLine line kind)) e near = rw (same_format, same_limits) at e
-  refused (check.Trace trace.InputTooLong) e near = rw (same_format, same_limits) at e
-  refused (check.Trace trace.TooManyRequests) e near = rw (same_format, same_limits) at e
+  refused (check.Invalid line kind) e near = (walk_refused (check.Invalid line kind) e, rw (same_format, same_limits) at near)
+  refused (check.Trace (trace.BadLine line kind)) e near = walk_refused (check.Trace (trace.BadLine line kind)) e
+  refused (check.Trace trace.InputTooLong) e near = walk_refused (check.Trace trace.InputTooLong) e
+  refused (check.Trace trace.TooManyRequests) e near = walk_refused (check.Trace trace.TooManyRequests) e
   refused (check.Trace trace.ReadFault) e near = e
   refused (check.Trace trace.NoMemory) e near = absurd e
   refused check.CertReadFault e near = e

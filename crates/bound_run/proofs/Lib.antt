@@ -12,4 +12,5 @@ pub mod Bounded
 pub mod Replayed
 pub mod Demonstrated
 pub mod Upgraded
+pub mod Refining
 pub mod CurveShown

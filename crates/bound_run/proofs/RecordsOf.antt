@@ -93,7 +93,7 @@ module _ (prices : List ℕ) (keeps : List Bool) (intervals : List Interval) (fl
         ∙ flow_at-here (get_or intervals k no_interval).start (omega (arith, shaped.order, shaped.within))
         ∙ ap (amount_of flows) (starting_at_start (record { steps = length keeps; items = intervals }) k is_line here))
 
-    -- the records are in range, where no price and no flow is large
+    -- the records are in range, if no price and no flow is large
     pub records_in_range : (unit : ℕ) → length prices ≡ length keeps → sum prices ≤ 2 ^ 126 → AllZip (λ i f. f ≤ weight unit i) intervals flows → All IsRecordInRange rs
     records_in_range unit same paid small = λ k d low.
         let here : k < length keeps = omega (arith, length-records) in

@@ -33,7 +33,7 @@ use Rattle.bound_run.specs.Upgrades.{IsNearLineOf, IsRewritten, IsUpgraded, Refu
 use Rattle.bound_run.proofs.Judged.{texts_of_whole}
 use Rattle.bound_run.proofs.Records.{three_parts}
 
--- a reader of a certificate and its source, where nothing is said of a trace
+-- a reader of a certificate and its source, if nothing is said of a trace
 abbrev pub at_cert : lines.Reader → Option (List ℕ) → ℕ → Inputs
 at_cert cert left faults = inputs (requests.fresh Webcache full_limits) None 0 cert left faults
 

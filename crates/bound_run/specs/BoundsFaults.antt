@@ -6,7 +6,7 @@ use Rattle.bound_run.specs.declared.bounds.BoundsFault.{BoundsFault}
 use Rattle.bound_run.specs.declared.bounds.BoundsFault.TheVariants.{Denominator, NoMemory}
 use Rattle.bound_run.specs.Made.{RefusesDenominator}
 
--- the denominator is refused; want of memory is free
+-- the denominator is refused; out of memory says nothing
 abbrev pub FailsBounds : Asked → List Object → BoundsFault → Type 0
 FailsBounds asked trace Denominator = RefusesDenominator asked trace
 FailsBounds asked trace NoMemory = Unit {0}

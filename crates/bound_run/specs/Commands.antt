@@ -1,10 +1,12 @@
 -- The commands: their words, where their paths stand, and which operands each has.
 use Rattle.std.specs.Prelude.{ℕ, ◌+◌, List, drop, Bool, false, ◌||◌, if◌then◌else◌, codes, None, Some}
 use Rattle.std.specs.declared.option.Option.{Option}
+use Rattle.std.specs.Option.{is_some}
 use Rattle.std.specs.Str.{bytes_eq}
 use Rattle.bound_run.specs.declared.commands.Command.{Command}
 use Rattle.bound_run.specs.declared.commands.PathPlaces.{PathPlaces}
 use Rattle.bound_run.specs.declared.commands.Command.TheVariants as command
+use Rattle.bound_run.specs.Values.{is_value, width_of}
 
 -- the command that a word names
 abbrev pub command_named : List ℕ → Option Command
@@ -15,7 +17,8 @@ command_named word =
     else (if bytes_eq word (codes "curve") then Some command.Curve
     else (if bytes_eq word (codes "demo") then Some command.Demo
     else (if bytes_eq word (codes "upgrade") then Some command.Upgrade
-    else None)))))
+    else (if bytes_eq word (codes "refine") then Some command.Refine
+    else None))))))
 
 -- where the paths of a command stand among its words, of which the command is word 0
 abbrev pub places_of : Command → PathPlaces
@@ -25,6 +28,7 @@ places_of command.Replay = record { count = 1; trace = Some 1; cert = None; made
 places_of command.Curve = record { count = 1; trace = Some 1; cert = None; made = None }
 places_of command.Demo = record { count = 0; trace = None; cert = None; made = None }
 places_of command.Upgrade = record { count = 2; trace = None; cert = Some 1; made = Some 2 }
+places_of command.Refine = record { count = 3; trace = Some 1; cert = Some 2; made = Some 3 }
 
 -- the first operand is the word after the command and its paths
 abbrev pub operands_at : Command → ℕ
@@ -67,3 +71,9 @@ has_operand command.Replay name = names_trace name || names_replay name
 has_operand command.Curve name = names_trace name
 has_operand command.Demo name = names_demo name || names_bounds name
 has_operand command.Upgrade name = false
+has_operand command.Refine name = names_trace name || bytes_eq name (codes "window")
+
+-- whether an operand of the command may have this value: the window of a refinement is a number of steps
+abbrev pub takes_value : Command → List ℕ → List ℕ → Bool
+takes_value command.Refine name value = if bytes_eq name (codes "window") then is_some (width_of value) else is_value name value
+takes_value command name value = is_value name value

@@ -5,7 +5,7 @@ use Rattle.bound_io.specs.Devices.{Device}
 use Rattle.cache_model.specs.declared.objects.Object.{Object}
 use Rattle.cache_model.specs.declared.certificates.Header.{Header}
 use Rattle.cache_model.specs.declared.certificates.Record.{Record}
-use Rattle.cache_model.specs.Certificates.{IsCertificate, eligible_of, flow_of, keeps_of, upper_of}
+use Rattle.cache_model.specs.Certificates.{IsCertificate, IsValid, eligible_of, flow_of, keeps_of, upper_of}
 use Rattle.cache_model.specs.Claim.{IsAllowed, score, terms_of, BoundsEveryPolicy, contents_of}
 use Rattle.cache_model.specs.Texts.{cert_text}
 use Rattle.cache_model.specs.Units.{HasWholeCosts}
@@ -20,12 +20,13 @@ use Rattle.bound_run.specs.Curves.{IsCurveText}
 use Rattle.bound_run.specs.Inputs.{IsLoaded}
 use Rattle.bound_run.specs.Made.{bounds_report, is_unwindowed}
 use Rattle.bound_run.specs.Parts.{verdict_report}
+use Rattle.bound_run.specs.Refined.{IsRefinement, refined_report, verdict_on}
 use Rattle.bound_run.specs.Replays.{IsReplayText}
 use Rattle.bound_run.specs.Upgrades.{IsUpgraded}
 use Rattle.bound_run.specs.Run.{Devices}
-use Rattle.bound_run.specs.Tasks.{Task, bounds, check, replay, curve, demo, upgrade, task_of}
+use Rattle.bound_run.specs.Tasks.{Task, bounds, check, replay, curve, demo, upgrade, refine, task_of}
 
--- header and records are a certificate in range, with a record for each request, and its bounds are true of the trace: no allowed contents score more than the upper one, the keeps are allowed contents that scores the lower one, and in the form exact prices and flows have the upper one as their value
+-- header and records are a certificate in range, with a record for each request, and its bounds are true of the trace: no allowed contents score more than the upper one, the keeps are allowed contents with the lower one as their score, and in the form exact prices and flows have the upper one as their value
 pub record AreTrueBounds (trace : List Object) (h : Header) (records : List Record) : Type 0 where
   pub certificate : IsCertificate h records
   pub requests : h.requests ≡ length trace
@@ -34,7 +35,7 @@ pub record AreTrueBounds (trace : List Object) (h : Header) (records : List Reco
   pub lower : score (terms_of h) trace (contents_of trace (keeps_of records)) ≡ h.lower
   pub equal_values : IsTrue h.exact → (upper_of trace h records ≡ h.upper) × (flow_of trace h records ≡ h.upper)
 
--- bounds printed and certified true bounds at the capacity, for the objective and from the warm-up on that were asked for; with one window for all steps they are of the form exact where no cost is rounded, and where all sizes are equal, and then they are one number
+-- bounds printed and certified true bounds at the capacity, for the objective and from the warm-up on that were asked for. With one window for all steps they have the form exact if no cost is rounded, and if all sizes are equal; in that last case they are one number
 pub record ShowsBounds (asked : Asked) (trace : List Object) (dropped : ℕ) (report made : Device) : Type 0 where
   pub header : Header
   pub records : List Record
@@ -90,6 +91,19 @@ pub record ShowsUpgrade (source report made : Device) : Type 0 where
   pub printed : Appends report.before report.after text
   pub upgraded : IsUpgraded source cert text
 
+-- a refinement printed true bounds, whose upper one is no greater than that of the certificate that was read, and certified them
+pub record ShowsRefinement (width : ℕ) (trace : List Object) (dropped : ℕ) (cert report made : Device) : Type 0 where
+  pub header : Header
+  pub records : List Record
+  pub refined : Header
+  pub refined_records : List Record
+  pub read : IfSome cert.before (λ text. text ≡ cert_text header records)
+  pub valid : IsValid trace header records
+  pub certified : Appends made.before made.after (cert_text refined refined_records)
+  pub printed : Appends report.before report.after (refined_report header.upper (verdict_on trace refined) dropped)
+  pub refinement : IsRefinement width trace header records refined refined_records
+  pub bounds : AreTrueBounds trace refined refined_records
+
 -- all that the trace source had left was read, or a trace was drawn, and the numbers that a task printed are true of it
 abbrev pub Shows : Task → Devices → Type 0
 Shows (bounds format asked) d = (trace : List Object) × (dropped : ℕ) × IsLoaded format d.trace trace dropped × ShowsBounds asked trace dropped d.report d.made
@@ -98,6 +112,7 @@ Shows (replay format r) d = (trace : List Object) × (dropped : ℕ) × IsLoaded
 Shows (curve format) d = (trace : List Object) × (dropped : ℕ) × IsLoaded format d.trace trace dropped × ShowsCurve trace dropped d.report
 Shows (demo drawing asked) d = ShowsDemo drawing asked d.report
 Shows upgrade d = ShowsUpgrade d.cert d.report d.made
+Shows (refine format width) d = (trace : List Object) × (dropped : ℕ) × IsLoaded format d.trace trace dropped × ShowsRefinement width trace dropped d.cert d.report d.made
 
 -- Whatever trace is read and whatever the capacity, no allowed sequence of cache contents scores more than the printed
 -- upper bound, the certified schedule is allowed and scores exactly the lower bound, exact-form prices and flows have

@@ -21,12 +21,12 @@ use Rattle.bound_run.specs.Curves.{IsCurveText}
 use Rattle.bound_run.specs.Made.{AreTexts, RefusesDenominator}
 use Rattle.bound_run.specs.Replays.{IsReplayText}
 
--- all that the source had left was read, and is a trace of these requests and so many dropped lines, where the source tells what it has left
+-- all that the source had left was read, and is a trace of these requests and so many dropped lines, if its bytes are known
 pub record IsLoaded (format : Format) (source : Device) (requests : List Object) (dropped : ℕ) : Type 0 where
   pub read : IfSome source.before (λ bytes. IsWhole (reading format full_limits bytes) requests dropped)
   pub nothing_left : IfSome source.before (λ bytes. source.after ≡ Some [])
 
--- what the source had left is refused so, where the source tells it
+-- what the source had left is refused so, if its bytes are known
 abbrev pub IsRefused : Format → Device → FaultOfTrace → Type 0
 IsRefused format source fault = IfSome source.before (λ bytes. (reading format full_limits bytes).refused ≡ Some fault)
 
@@ -65,7 +65,7 @@ pub record IsPastDenominator (format : Format) (asked : Asked) (source : Device)
   pub loaded : IsLoaded format source requests dropped
   pub refused : RefusesDenominator asked requests
 
--- this is the first event of the walk over all that the two sources had left, where both tell it
+-- this is the first event of the walk over all that the two sources had left, if the bytes of both are known
 abbrev pub IsFirstEvent : Format → Device → Device → Event → Type 0
 IsFirstEvent format trace cert event =
     IfSome trace.before (λ bytes. IfSome cert.before (λ text. walk (reading format full_limits bytes) text ≡ Some event))

@@ -12,6 +12,7 @@ pub mod BoundsFaults
 pub mod Curves
 pub mod Upgrades
 pub mod Inputs
+pub mod Refined
 pub mod Demos
 pub mod Parts
 pub mod Run

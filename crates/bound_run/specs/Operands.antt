@@ -14,7 +14,7 @@ use Rattle.relaxation.specs.declared.denominators.DenominatorChoice.{Denominator
 use Rattle.trace_any.specs.declared.format.Format.{Format}
 use Rattle.policy_model.specs.declared.names.PolicyName.{PolicyName}
 use Rattle.cache_model.specs.declared.version.TheConstants.{CERT_VERSION}
-use Rattle.bound_run.specs.Values.{block_of, format_of, capacity_of, objective_of, window_of, mode_of, denominator_of, policy_of, warmup_of, version_of, seed_of, drawn_of, usual_denominator}
+use Rattle.bound_run.specs.Values.{block_of, format_of, capacity_of, objective_of, width_of, window_of, mode_of, denominator_of, policy_of, warmup_of, version_of, seed_of, drawn_of, usual_denominator}
 
 -- whether a word has a `=`
 abbrev pub has_equals : List ℕ → Bool
@@ -32,7 +32,7 @@ value_of word = after_first (λ b. b == 61) word
 abbrev pub value_given : List ℕ → List (List ℕ) → Option (List ℕ)
 value_given name operands = option_map value_of (find (λ word. bytes_eq (name_of word) name) operands)
 
--- the place of the operand of this name, where the first operand is at this place
+-- the place of the operand of this name, if the first operand is at this place
 abbrev pub place_given : ℕ → List ℕ → List (List ℕ) → Option ℕ
 place_given first name operands = position_from (λ word. bytes_eq (name_of word) name) first operands
 
@@ -56,6 +56,10 @@ objective_given operands = unwrap_or (option_and_then objective_of (value_given 
 abbrev pub window_given : List (List ℕ) → Window
 window_given operands = unwrap_or (option_and_then window_of (value_given (codes "window") operands)) Whole
 
+-- the steps of a block that the operands of a refinement give
+abbrev pub width_given : List (List ℕ) → Option ℕ
+width_given operands = option_and_then width_of (value_given (codes "window") operands)
+
 -- the mode that the operands give, and the flow where they give none
 abbrev pub mode_given : List (List ℕ) → Mode
 mode_given operands = unwrap_or (option_and_then (λ value. mode_of value (window_given operands)) (value_given (codes "mode") operands)) (Flow (window_given operands))
@@ -68,7 +72,7 @@ denominator_given mode operands = unwrap_or (option_and_then denominator_of (val
 abbrev pub policy_given : List (List ℕ) → Option PolicyName
 policy_given operands = option_and_then policy_of (value_given (codes "policy") operands)
 
--- the warm-up that the operands give, and 0 where they give none
+-- the warm-up that the operands give, and 0 if they give none
 abbrev pub warmup_given : List (List ℕ) → ℕ
 warmup_given operands = unwrap_or (option_and_then warmup_of (value_given (codes "warmup") operands)) 0
 
@@ -80,7 +84,7 @@ version_given operands = unwrap_or (option_and_then version_of (value_given (cod
 abbrev pub seed_given : List (List ℕ) → ℕ
 seed_given operands = unwrap_or (option_and_then seed_of (value_given (codes "seed") operands)) 1
 
--- the number of this name that the operands give, and the usual one where they give none
+-- the number of this name that the operands give, and the usual one if they give none
 abbrev pub drawn_given : List ℕ → ℕ → List (List ℕ) → ℕ
 drawn_given name usual operands = unwrap_or (option_and_then drawn_of (value_given name operands)) usual
 

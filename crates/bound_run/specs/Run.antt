@@ -21,10 +21,11 @@ use Rattle.bound_run.specs.declared.status.Status.TheVariants.{Done, Invalid, Wo
 use Rattle.bound_run.specs.Demos.{IsDemoText, RefusesDemo, trace_drawn}
 use Rattle.bound_run.specs.Made.{RefusesDenominator}
 use Rattle.bound_run.specs.Inputs.{HasDenominator, IsAccepted, IsCertified, IsGoodTrace, IsReady, IsReplayed, IsCurved}
-use Rattle.bound_run.specs.Parts.{RefusesBounds, RefusesCheck, RefusesCurve, RefusesLoading, verdict_report}
+use Rattle.bound_run.specs.Parts.{RefusesBounds, RefusesCheck, RefusesCurve, RefusesLoading, RefusesWalk, verdict_report}
+use Rattle.bound_run.specs.Refined.{IsRefined}
 use Rattle.bound_run.specs.Upgrades.{IsGoodCertificate, IsUpgraded, RefusesUpgrade}
 use Rattle.bound_run.specs.Statuses.{Ending, done, refused, unreported, ending_of}
-use Rattle.bound_run.specs.Tasks.{Task, bounds, check, replay, curve, demo, upgrade, task_of}
+use Rattle.bound_run.specs.Tasks.{Task, bounds, check, replay, curve, demo, upgrade, refine, task_of}
 
 -- what is seen of the four devices of a run
 pub record Devices : Type 0 where
@@ -37,7 +38,7 @@ pub record Devices : Type 0 where
 abbrev pub devices : Device → Device → Device → Device → Devices
 devices trace cert report made = record { trace = trace; cert = cert; report = report; made = made }
 
--- how a run ends that makes a certificate, and what the sinks got then, where these are ready to be written and this refuses them
+-- how a run ends that makes a certificate, and what the sinks got then: for which certificate and report it writes, and for which refusals it writes none
 abbrev pub MakesEnd : (List ℕ → List ℕ → Type 0) → (Refusal → Type 0) → Device → Device → Ending → Type 0
 MakesEnd AreReady Refuses report made done = (cert : List ℕ) × (text : List ℕ) × AreReady cert text × GetsAll made cert × GetsAll report text
 MakesEnd AreReady Refuses report made unreported = (cert : List ℕ) × (text : List ℕ) × AreReady cert text × GetsAll made cert × GetsLess report text
@@ -51,6 +52,10 @@ BoundsEnd format asked source report made ending = MakesEnd (IsReady format aske
 -- how an upgrade ends, and what the sinks got then
 abbrev pub UpgradeEnds : Device → Device → Device → Ending → Type 0
 UpgradeEnds source report made ending = MakesEnd (IsUpgraded source) (RefusesUpgrade source) report made ending
+
+-- how a refinement ends, and what the sinks got then
+abbrev pub RefineEnds : Format → ℕ → Device → Device → Device → Device → Ending → Type 0
+RefineEnds format width source cert report made ending = MakesEnd (IsRefined format width source cert) (RefusesWalk format source cert) report made ending
 
 -- how a check ends, and what the report got then
 abbrev pub CheckEnds : Format → Device → Device → Device → Ending → Type 0
@@ -85,6 +90,7 @@ TaskEnds (replay format r) d ending = ReplayEnds format r d.trace d.report endin
 TaskEnds (curve format) d ending = CurveEnds format d.trace d.report ending × LosesPrefix d.trace.before d.trace.after × IsUntouched d.cert × IsUntouched d.made
 TaskEnds (demo drawing asked) d ending = DemoEnds drawing asked d.report ending × IsUntouched d.trace × IsUntouched d.cert × IsUntouched d.made
 TaskEnds upgrade d ending = UpgradeEnds d.cert d.report d.made ending × LosesPrefix d.cert.before d.cert.after × IsUntouched d.trace
+TaskEnds (refine format width) d ending = RefineEnds format width d.trace d.cert d.report d.made ending × LosesPrefix d.trace.before d.trace.after × LosesPrefix d.cert.before d.cert.after
 
 -- how a run ends: the task of its plan does, or its words are refused and all but the report is left alone
 abbrev pub RunEnds : Result Plan WordFault → Devices → Status → Type 0
@@ -107,8 +113,9 @@ AreGoodInputs (replay format r) d = IsGoodTrace format d.trace.before
 AreGoodInputs (curve format) d = IsGoodTrace format d.trace.before
 AreGoodInputs (demo drawing asked) d = ¬ (RefusesDenominator asked (trace_drawn drawing))
 AreGoodInputs upgrade d = IsGoodCertificate d.cert.before
+AreGoodInputs (refine format width) d = IsGoodTrace format d.trace.before × IsSome d.cert.before
 
--- what a check answers of good inputs: Done of a valid certificate, and Invalid of every other
+-- what a check or a refinement answers of good inputs: Done of a valid certificate, and Invalid of every other
 abbrev pub AnswersOf : Format → Option (List ℕ) → Option (List ℕ) → Status → Type 0
 AnswersOf format (Some bytes) (Some text) Done = IsCertified format bytes text
 AnswersOf format (Some bytes) (Some text) (Invalid line kind) = ¬ (IsCertified format bytes text)
@@ -135,6 +142,7 @@ Answers (replay format r) d status = (status ≡ Done) ⊎ (status ≡ NoMemory)
 Answers (curve format) d status = AnswersCurveOf format d.trace.before status
 Answers (demo drawing asked) d status = (status ≡ Done) ⊎ (status ≡ NoMemory)
 Answers upgrade d status = (status ≡ Done) ⊎ (status ≡ NoMemory)
+Answers (refine format width) d status = AnswersOf format d.trace.before d.cert.before status
 
 -- good words, good inputs and no fault lead to the answer
 abbrev pub Completes : Result Plan WordFault → Devices → Status → Type 0

@@ -75,7 +75,7 @@ refusal_of_check (check.Trace fault) = refusal_of fault
 refusal_of_check check.CertReadFault = refusal.CertFault
 refusal_of_check check.NoMemory = refusal.NoMemory
 
--- the refusal that a want of bounds leads to
+-- the refusal that a fault of bounds leads to
 abbrev pub refusal_of_bounds : BoundsFault → Refusal
 refusal_of_bounds bounds.Denominator = refusal.Limit Denominator
 refusal_of_bounds bounds.NoMemory = refusal.NoMemory

@@ -1,15 +1,15 @@
 -- What a plan asks for.
-use Rattle.std.specs.Prelude.{◌^◌, ◌≤◌}
+use Rattle.std.specs.Prelude.{ℕ, ◌^◌, ◌≤◌}
 use Rattle.cache_model.specs.declared.version.TheConstants.{CERT_VERSION, SHORT_VERSION}
 use Rattle.trace_any.specs.declared.format.Format.{Format}
 use Rattle.trace_any.specs.Readings.{IsFormat}
 use Rattle.relaxation.specs.Denominators.{IsChoice}
 use Rattle.bound_run.specs.Asked.{Asked, Drawing, Replaying}
 use Rattle.bound_run.specs.declared.words.Plan.{Plan}
-use Rattle.bound_run.specs.declared.words.Plan.TheVariants.{Bounds, Check, Replay, Curve, Demo, Upgrade}
+use Rattle.bound_run.specs.declared.words.Plan.TheVariants.{Bounds, Check, Replay, Curve, Demo, Upgrade, Refine}
 use Rattle.bound_run.specs.Modes.{IsModeInRange}
 
--- bounds on a trace of this form, whether a certificate is valid for one, the hits of a policy on one, LRU's hits at every number of slots, bounds, their check and replays on a trace that is drawn, or a certificate in the second version
+-- bounds on a trace of this form; whether a certificate is valid for one; the hits of a policy on one; LRU's hits at every number of slots; bounds, their check and replays on a trace that is drawn; a certificate in the second version; a certificate for a trace of this form with prices that are settled in blocks of this number of steps
 pub data Task : Type 0 where
   bounds : Format → Asked → Task
   check : Format → Task
@@ -17,6 +17,7 @@ pub data Task : Type 0 where
   curve : Format → Task
   demo : Drawing → Asked → Task
   upgrade : Task
+  refine : Format → ℕ → Task
 
 -- the task of a plan
 abbrev pub task_of : Plan → Task
@@ -28,6 +29,7 @@ task_of (Curve format) = curve format
 task_of (Demo seed requests objects capacity objective mode denominator) =
     demo (record { seed = seed; requests = requests; objects = objects }) (record { capacity = capacity; objective = objective; mode = mode; denominator = denominator; warmup = 0; version = CERT_VERSION })
 task_of Upgrade = upgrade
+task_of (Refine format width) = refine format width
 
 -- each number, the form of the trace, the mode and the denominator are in their ranges
 abbrev pub IsTaskInRange : Task → Type 0
@@ -41,6 +43,7 @@ IsTaskInRange (demo drawing asked) =
     ((1 ≤ drawing.requests) × (drawing.requests ≤ 2 ^ 25)) × ((1 ≤ drawing.objects) × (drawing.objects ≤ 2 ^ 25))
     × ((1 ≤ asked.capacity) × (asked.capacity ≤ 2 ^ 56)) × IsModeInRange asked.mode × IsChoice asked.denominator
 IsTaskInRange upgrade = Unit {0}
+IsTaskInRange (refine format width) = IsFormat format × (1 ≤ width) × (width ≤ 2 ^ 25)
 
 -- the task of a plan is in its ranges
 abbrev pub IsPlanInRange : Plan → Type 0

@@ -15,7 +15,7 @@ use Rattle.bound_report.specs.Upgrades.{upgrade_text}
 use Rattle.bound_report.specs.declared.refusal.Refusal.{Refusal}
 use Rattle.bound_report.specs.declared.refusal.Refusal.TheVariants as refusal
 
--- all that the source had left was read: the text of a certificate, where the source tells it
+-- all that the source had left was read: the text of a certificate, if its bytes are known
 pub record IsRead (source : Device) (h : Header) (records : List Record) : Type 0 where
   pub certificate : IsCertificate h records
   pub text : IfSome source.before (λ bytes. bytes ≡ cert_text h records)
@@ -40,7 +40,7 @@ pub record IsUpgraded (source : Device) (cert report : List ℕ) : Type 0 where
   pub report_is : report ≡ upgrade_text header.requests
   pub same_traces : (trace : List Object) → IsValid trace header records ↔ IsValid trace (upgraded header) records
 
--- the source has lost at most the bytes through this line of a certificate and a buffer of bytes more, where they are known
+-- the source has lost at most the bytes through this line of a certificate and a buffer of bytes more, if they are known
 abbrev pub IsNearLineOf : ℕ → Device → Type 0
 IsNearLineOf line source = IfSome source.before (λ text. IfSome source.after (λ left. length text ≤ length left + bytes_through line text + 65536))
 

@@ -32,7 +32,7 @@ number_to most value = checked most (number_of (2 ^ 64) value)
 abbrev pub block_of : List ℕ → Option ℕ
 block_of value = number_to (2 ^ 48) value
 
--- the form of a trace that a value names, where a block has so many bytes
+-- the form of a trace that a value names, if a block has so many bytes
 abbrev pub format_of : List ℕ → ℕ → Option Format
 format_of value block =
     if bytes_eq value (codes "webcache") then Some Webcache
@@ -52,11 +52,15 @@ objective_of value =
     else (if bytes_eq value (codes "bytes") then Some Bytes
     else None)
 
--- the window that a value names: one for all steps, or a number of steps from 1 to 2^25
-abbrev pub window_of : List ℕ → Option Window
-window_of value = if bytes_eq value (codes "all") then Some Whole else option_map Steps (number_to (2 ^ 25) value)
+-- a window of a number of steps has 1 to 2^25 of them
+abbrev pub width_of : List ℕ → Option ℕ
+width_of value = number_to (2 ^ 25) value
 
--- the mode that a value names, where the mode flow has this window
+-- the window that a value names: one for all steps, or a number of steps
+abbrev pub window_of : List ℕ → Option Window
+window_of value = if bytes_eq value (codes "all") then Some Whole else option_map Steps (width_of value)
+
+-- the mode that a value names, if the mode flow has this window
 abbrev pub mode_of : List ℕ → Window → Option Mode
 mode_of value window =
     if bytes_eq value (codes "flow") then Some (Flow window)
@@ -107,7 +111,7 @@ seed_of value = named (number_of (2 ^ 64) value)
 abbrev pub drawn_of : List ℕ → Option ℕ
 drawn_of value = number_to (2 ^ 25) value
 
--- the denominator of a mode where none is given
+-- the denominator of a mode if none is given
 abbrev pub usual_denominator : Mode → DenominatorChoice
 usual_denominator (Flow window) = Auto
 usual_denominator Constant = Given (2 ^ 48)

@@ -4,16 +4,15 @@ use Rattle.std.specs.declared.option.Option.{Option}
 use Rattle.std.specs.Option.{is_some, option_map, option_or}
 use Rattle.std.specs.Str.{bytes_eq}
 use Rattle.bound_run.specs.declared.words.Plan.{Plan}
-use Rattle.bound_run.specs.declared.words.Plan.TheVariants.{Bounds, Check, Replay, Curve, Demo, Upgrade}
+use Rattle.bound_run.specs.declared.words.Plan.TheVariants.{Bounds, Check, Replay, Curve, Demo, Upgrade, Refine}
 use Rattle.bound_run.specs.declared.commands.Command.{Command}
 use Rattle.bound_run.specs.declared.commands.PathPlaces.{PathPlaces}
 use Rattle.bound_run.specs.declared.words.WordFault.{WordFault}
 use Rattle.bound_report.specs.declared.refusal.WordKind.{WordKind}
 use Rattle.bound_report.specs.declared.refusal.WordKind.TheVariants.{Missing, Unknown, Twice, BadValue}
 use Rattle.bound_run.specs.declared.commands.Command.TheVariants as command
-use Rattle.bound_run.specs.Commands.{command_named, places_of, operands_at, operands_of, has_operand}
-use Rattle.bound_run.specs.Values.{is_value}
-use Rattle.bound_run.specs.Operands.{has_equals, name_of, value_of, value_given, place_given, format_given, capacity_given, objective_given, mode_given, denominator_given, policy_given, warmup_given, version_given, seed_given, requests_given, objects_given, capacity_or_usual}
+use Rattle.bound_run.specs.Commands.{command_named, places_of, operands_at, operands_of, has_operand, takes_value}
+use Rattle.bound_run.specs.Operands.{has_equals, name_of, value_of, value_given, place_given, format_given, capacity_given, objective_given, mode_given, denominator_given, policy_given, warmup_given, version_given, seed_given, requests_given, objects_given, capacity_or_usual, width_given}
 
 -- go on with the value, or stop at the fault
 infixl 10 ◌>>=◌
@@ -30,7 +29,7 @@ abbrev pub known_command : Option Command → Result Command WordFault
 known_command None = Err (fault 1 Unknown)
 known_command (Some command) = Ok command
 
--- the first word has to be a command
+-- the first word must be a command
 abbrev pub command_of : Option (List ℕ) → Result Command WordFault
 command_of None = Err (fault 1 Missing)
 command_of (Some word) = known_command (command_named word)
@@ -50,7 +49,7 @@ abbrev pub operand_fault : Command → List (List ℕ) → List ℕ → Option W
 operand_fault command before word =
     if not (has_equals word && has_operand command (name_of word)) then Some Unknown
     else (if is_some (value_given (name_of word) before) then Some Twice
-    else (if is_value (name_of word) (value_of word) then None
+    else (if takes_value command (name_of word) (value_of word) then None
     else Some BadValue))
 
 -- the first of the words that is refused, the first of which stands at this place after these operands
@@ -91,19 +90,19 @@ abbrev pub passed : Option WordFault → Result (Unit {0}) WordFault
 passed None = Ok tt
 passed (Some e) = Err e
 
--- what has to be given is missing at the place after the last word
+-- what must be given is missing at the place after the last word
 abbrev pub required : {A : Type 0} → ℕ → Option A → Result A WordFault
 required end None = Err (fault end Missing)
 required end (Some x) = Ok x
 
--- the plan of bounds that accepted operands give, where the words end before this place
+-- the plan of bounds that accepted operands give, if the words end before this place
 abbrev pub bounds_plan : ℕ → List (List ℕ) → Result Plan WordFault
 bounds_plan end operands = do
   format ← required end (format_given operands)
   capacity ← required end (capacity_given operands)
   Ok (Bounds format capacity (objective_given operands) (mode_given operands) (denominator_given (mode_given operands) operands) (warmup_given operands) (version_given operands))
 
--- the plan of a replay that accepted operands give, where the words end before this place
+-- the plan of a replay that accepted operands give, if the words end before this place
 abbrev pub replay_plan : ℕ → List (List ℕ) → Result Plan WordFault
 replay_plan end operands = do
   format ← required end (format_given operands)
@@ -111,7 +110,7 @@ replay_plan end operands = do
   policy ← required end (policy_given operands)
   Ok (Replay format capacity policy (warmup_given operands))
 
--- the plan of a curve that accepted operands give, where the words end before this place
+-- the plan of a curve that accepted operands give, if the words end before this place
 abbrev pub curve_plan : ℕ → List (List ℕ) → Result Plan WordFault
 curve_plan end operands = do
   format ← required end (format_given operands)
@@ -133,14 +132,22 @@ abbrev pub inputs_fault : Option ℕ → Option ℕ → List (List ℕ) → Opti
 inputs_fault (Some trace) (Some cert) words = if is_dash (slice_get words trace) && is_dash (slice_get words cert) then Some (fault (cert + 1) BadValue) else None
 inputs_fault trace cert words = None
 
--- the plan of a check, where the operands are accepted
+-- the plan of a check, if the operands are accepted
 abbrev pub check_plan : PathPlaces → List (List ℕ) → List (List ℕ) → Result Plan WordFault
 check_plan places words operands = do
   format ← required (length words + 1) (format_given operands)
   apart ← passed (inputs_fault places.trace places.cert words)
   Ok (Check format)
 
--- the plan of a command, where the operands are accepted
+-- the plan of a refinement, if the operands are accepted
+abbrev pub refine_plan : PathPlaces → List (List ℕ) → List (List ℕ) → Result Plan WordFault
+refine_plan places words operands = do
+  format ← required (length words + 1) (format_given operands)
+  width ← required (length words + 1) (width_given operands)
+  apart ← passed (inputs_fault places.trace places.cert words)
+  Ok (Refine format width)
+
+-- the plan of a command, if the operands are accepted
 abbrev pub plan_of_command : Command → List (List ℕ) → List (List ℕ) → Result Plan WordFault
 plan_of_command command.Bounds words operands = bounds_plan (length words + 1) operands
 plan_of_command command.Check words operands = check_plan (places_of command.Check) words operands
@@ -148,6 +155,7 @@ plan_of_command command.Replay words operands = replay_plan (length words + 1) o
 plan_of_command command.Curve words operands = curve_plan (length words + 1) operands
 plan_of_command command.Demo words operands = Ok (demo_plan operands)
 plan_of_command command.Upgrade words operands = Ok Upgrade
+plan_of_command command.Refine words operands = refine_plan (places_of command.Refine) words operands
 
 -- what operands ask for that are the words of a command from this place on, or the first fault in them
 abbrev pub plan_of_operands : Command → ℕ → List (List ℕ) → List (List ℕ) → Result Plan WordFault
@@ -163,7 +171,7 @@ plan words = do
   named ← paths 1 (places_of asked).count words
   plan_of_operands asked (operands_at asked + 1) words (operands_of asked words)
 
--- the word, or a dash where there is none
+-- the word, or a dash if there is none
 abbrev pub word_or_dash : Option (List ℕ) → List ℕ
 word_or_dash (Some word) = word
 word_or_dash None = codes "-"
@@ -173,7 +181,7 @@ abbrev pub places_in : Option Command → PathPlaces
 places_in None = record { count = 0; trace = None; cert = None; made = None }
 places_in (Some command) = places_of command
 
--- the path at a word, or a dash where the command has no such path
+-- the path at a word, or a dash if the command has no such path
 abbrev pub path_at : Option ℕ → List (List ℕ) → List ℕ
 path_at None words = codes "-"
 path_at (Some at) words = word_or_dash (slice_get words at)

@@ -175,7 +175,7 @@ fn is_exact(mode: Mode, steps: u32, whole_costs: bool) -> bool
     is_unwindowed(mode, steps) && whole_costs
 }
 
-// The header, the prices and flows, and what the schedule keeps, where the intervals are those of the trace.
+// The header, the prices and flows, and what the schedule keeps, if the intervals are those of the trace.
 fn parts_of(
     alloc: Global,
     asked: &BoundsTask,
@@ -236,7 +236,7 @@ fn bounds_of(alloc: Global, asked: &BoundsTask, trace: &Trace) -> Result<Bounds,
     })
 }
 
-// The flow of the interval that starts at a request, and 0 where none does.
+// The flow of the interval that starts at a request, and 0 if none does.
 fn flow_from(bounds: &Bounds, t: u32) -> u64
     requires within { t < bounds.now.intervals.steps }
     requires each { HasEach bounds.now }

@@ -40,7 +40,7 @@ fn verdict_with<T: Source, Q: Source>(
     }
 }
 
-// What is said of a certificate that is valid for the trace, as both are read to their ends, where the reader of its
+// What is said of a certificate that is valid for the trace, as both are read to their ends, if the reader of its
 // records is new.
 fn verdict_by<T: Source, Q: Source>(
     alloc: Global,

@@ -1,8 +1,8 @@
 //! The commands: where their paths stand, and which operands each has.
 ghost use Rattle.std.specs.Prelude.{◌≡◌, ◌≤◌};
-ghost use Rattle.bound_run.specs.Commands.{command_named, has_operand, names_bounds, names_certificate, names_demo, names_replay, names_trace, operands_at, places_of};
+ghost use Rattle.bound_run.specs.Commands.{command_named, has_operand, names_bounds, names_certificate, names_demo, names_replay, names_trace, operands_at, places_of, takes_value};
 
-use crate::values::is;
+use crate::values::{is, is_value, width_of};
 
 /// What the first word asks for.
 #[derive(Clone, Copy)]
@@ -19,6 +19,8 @@ pub enum Command {
     Demo,
     /// A certificate in the second version of its text.
     Upgrade,
+    /// A certificate with prices that are settled, block by block.
+    Refine,
 }
 
 /// Where the paths of a command stand among its words, of which the command is word 0, and how many there are.
@@ -66,6 +68,12 @@ impl Command {
                 cert: Some(1),
                 made: Some(2),
             },
+            Command::Refine => PathPlaces {
+                count: 3,
+                trace: Some(1),
+                cert: Some(2),
+                made: Some(3),
+            },
         }
     }
 
@@ -94,6 +102,8 @@ pub(crate) fn command_named(word: &str) -> Option<Command>
         Some(Command::Demo)
     } else if is(word, "upgrade") {
         Some(Command::Upgrade)
+    } else if is(word, "refine") {
+        Some(Command::Refine)
     } else {
         None
     }
@@ -143,5 +153,16 @@ pub(crate) fn has_operand(command: Command, name: &str) -> bool
         Command::Replay => names_trace(name) || names_replay(name),
         Command::Demo => names_demo(name) || names_bounds(name),
         Command::Upgrade => false,
+        Command::Refine => names_trace(name) || is(name, "window"),
+    }
+}
+
+/// Whether an operand of a command may have this value. A refinement has a number of steps for its window.
+pub(crate) fn takes_value(command: Command, name: &str, value: &str) -> bool
+    ensures { result ≡ takes_value command name.now value.now }
+{
+    match command {
+        Command::Refine if is(name, "window") => width_of(value).is_some(),
+        _ => is_value(name, value),
     }
 }

@@ -5,12 +5,13 @@ ghost use Rattle.bound_report.specs.declared.facts.Mode.TheVariants.{Flow};
 ghost use Rattle.relaxation.specs.Denominators.{IsChoice};
 ghost use Rattle.trace_any.specs.Readings.{IsFormat};
 ghost use Rattle.bound_run.specs.Modes.{IsModeInRange};
-ghost use Rattle.bound_run.specs.Operands.{block_given, capacity_given, capacity_or_usual, denominator_given, drawn_given, format_given, has_equals, mode_given, name_of, objective_given, objects_given, place_given, policy_given, requests_given, seed_given, value_given, value_of, version_given, warmup_given, window_given};
+ghost use Rattle.bound_run.specs.Operands.{block_given, capacity_given, capacity_or_usual, denominator_given, drawn_given, format_given, has_equals, mode_given, name_of, objective_given, objects_given, place_given, policy_given, requests_given, seed_given, value_given, value_of, version_given, warmup_given, width_given, window_given};
 ghost use Rattle.cache_model.specs.declared.version.TheConstants.{CERT_VERSION, SHORT_VERSION};
 
 use crate::values::{
     USUAL_BLOCK, block_of, capacity_of, denominator_of, drawn_of, format_of, is, mode_of,
-    objective_of, policy_of, seed_of, usual_denominator, version_of, warmup_of, window_of,
+    objective_of, policy_of, seed_of, usual_denominator, version_of, warmup_of, width_of,
+    window_of,
 };
 use bound_report::{Mode, Window};
 use cache_model::CERT_VERSION;
@@ -64,7 +65,7 @@ pub(crate) fn value_given<'a>(name: &str, operands: &'a [String]) -> Option<&'a 
     Some(value_of(word.as_str()))
 }
 
-/// The place of the operand of a name, where the first operand is at a place.
+/// The place of the operand of a name, if the first operand is at a place.
 pub(crate) fn place_given(first: u64, name: &str, operands: &[String]) -> Option<u64>
     requires { first ≤ 10 }
     ensures { result ≡ place_given first name.now (map string_bytes operands.now) }
@@ -116,6 +117,14 @@ fn window_given(operands: &[String]) -> Window
         Some(value) => window_of(value).unwrap_or(Window::All),
         None => Window::All,
     }
+}
+
+/// The steps of a block of a refinement.
+pub(crate) fn width_given(operands: &[String]) -> Option<u32>
+    ensures value { result ≡ width_given (map string_bytes operands.now) }
+    ensures range { IfSome result (λ n. (1 ≤ n) × (n ≤ 2 ^ 25)) }
+{
+    width_of(value_given("window", operands)?)
 }
 
 pub(crate) fn mode_given(operands: &[String]) -> Mode
@@ -174,7 +183,7 @@ pub(crate) fn seed_given(operands: &[String]) -> u64
     }
 }
 
-// The number of requests or of objects that an operand gives, and the usual one where none does.
+// The number of requests or of objects that an operand gives, and the usual one if none does.
 fn drawn_given(name: &str, usual: u32, operands: &[String]) -> u32
     requires { (1 ≤ usual) × (usual ≤ 2 ^ 25) }
     ensures value { result ≡ drawn_given name.now usual (map string_bytes operands.now) }

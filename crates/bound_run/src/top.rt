@@ -1,11 +1,11 @@
 //! All that the program does, over any sources and sinks.
-ghost use Rattle.std.specs.Prelude.{◌≡◌, map, string_bytes, Result, Ok, IfOk};
+ghost use Rattle.std.specs.Prelude.{◌≡◌, ◌≤◌, map, string_bytes, Result, Ok, IfOk};
 ghost use Rattle.bound_io.specs.Devices.{seen};
 ghost use Rattle.bound_io.specs.Reading.{LosesPrefix};
 ghost use Rattle.trace_any.specs.Readings.{IsFormat};
 ghost use Rattle.bound_run.specs.Asked.{asked_by, drawing_by, replaying_by};
 ghost use Rattle.bound_run.specs.Headline.{Headline};
-ghost use Rattle.bound_run.specs.Run.{BoundsEnd, CheckEnds, Completes, CurveEnds, DemoEnds, ReplayEnds, RunEnds, UpgradeEnds, devices};
+ghost use Rattle.bound_run.specs.Run.{BoundsEnd, CheckEnds, Completes, CurveEnds, DemoEnds, RefineEnds, ReplayEnds, RunEnds, UpgradeEnds, devices};
 ghost use Rattle.bound_run.specs.Statuses.{ending_of};
 ghost use Rattle.bound_run.specs.Tasks.{IsPlanInRange};
 ghost use Rattle.bound_run.specs.Words.{plan};
@@ -13,6 +13,7 @@ ghost use Rattle.bound_run.specs.Words.{plan};
 use crate::checking::verdict_of;
 use crate::demos::demo_report;
 use crate::loading::{curve_all, prepare, replay_all};
+use crate::refined::refine_all;
 use crate::status::Status;
 use crate::tasks::{BoundsTask, DrawTask, ReplayTask};
 use crate::upgrades::upgrade_all;
@@ -136,6 +137,32 @@ fn run_upgrade<Q: Source, R: Sink, K: Sink>(
     }
 }
 
+// Reads the trace and the certificate, and writes the certificate with refined prices.
+fn run_refine<T: Source, Q: Source, R: Sink, K: Sink>(
+    alloc: Global,
+    format: Format,
+    width: u32,
+    trace: &mut T,
+    cert: &mut Q,
+    report: &mut R,
+    made: &mut K,
+) -> Status
+    requires format { IsFormat format }
+    requires width { 1 ≤ width }
+    ensures ends { RefineEnds format width
+        (seen T.left T.faults trace.old trace.new)
+        (seen Q.left Q.faults cert.old cert.new)
+        (seen R.written R.faults report.old report.new)
+        (seen K.written K.faults made.old made.new) (ending_of result) }
+    ensures trace_source { LosesPrefix (T.left trace.old) (T.left trace.new) }
+    ensures cert_source { LosesPrefix (Q.left cert.old) (Q.left cert.new) }
+{
+    match refine_all(alloc, format, width, trace, cert) {
+        Ok(refined) => write_out(report, made, &refined),
+        Err(refusal) => refuse(report, refusal),
+    }
+}
+
 // Does what the words ask for, or tells why they are refused.
 fn run_plan<T: Source, Q: Source, R: Sink, K: Sink>(
     alloc: Global,
@@ -214,13 +241,17 @@ fn run_plan<T: Source, Q: Source, R: Sink, K: Sink>(
             run_demo(alloc, drawing, &asked, report)
         }
         Plan::Upgrade => run_upgrade(alloc, cert, report, made),
+        Plan::Refine { format, width } => {
+            run_refine(alloc, format, width, trace, cert, report, made)
+        }
     }
 }
 
 /// Does all that the program does. It reads the words, and for bounds the trace, and writes the certificate and then
 /// the report; for a check it reads the trace and the certificate side by side, for a replay or a curve the trace, and
 /// writes the report; for a demo it reads nothing and writes the report; for an upgrade it reads the certificate, and
-/// writes it in the second version of its text and then the report.
+/// writes it in the second version of its text and then the report; for a refinement it reads the trace and the
+/// certificate, and writes the certificate with refined prices and then the report.
 /// The words are those after the program's name. All memory is taken before the first byte is written.
 pub fn run<T: Source, Q: Source, R: Sink, K: Sink>(
     alloc: Global,

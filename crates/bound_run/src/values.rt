@@ -5,7 +5,7 @@ ghost use Rattle.bound_report.specs.declared.facts.Mode.TheVariants.{Flow};
 ghost use Rattle.relaxation.specs.Denominators.{IsChoice};
 ghost use Rattle.trace_any.specs.Readings.{IsFormat};
 ghost use Rattle.bound_run.specs.Modes.{IsModeInRange};
-ghost use Rattle.bound_run.specs.Values.{block_of, capacity_of, denominator_of, drawn_of, format_of, is_value, mode_of, number_to, objective_of, policy_of, seed_of, usual_denominator, version_of, warmup_of, window_of};
+ghost use Rattle.bound_run.specs.Values.{block_of, capacity_of, denominator_of, drawn_of, format_of, is_value, mode_of, number_to, objective_of, policy_of, seed_of, usual_denominator, version_of, warmup_of, width_of, window_of};
 ghost use Rattle.cache_model.specs.declared.version.TheConstants.{CERT_VERSION, SHORT_VERSION};
 
 use bound_base::read_u64;
@@ -34,7 +34,7 @@ const MOST_DRAWN: u64 = 1 << 25;
 // The largest denominator.
 const MOST_DENOMINATOR: u64 = 1 << 48;
 
-/// The bytes of a block where no operand gives them.
+/// The bytes of a block if no operand gives them.
 pub(crate) const USUAL_BLOCK: u64 = 4096;
 
 /// Whether a word is this one.
@@ -69,7 +69,7 @@ pub(crate) fn block_of(value: &str) -> Option<u64>
     number_to(MOST_BLOCK, value)
 }
 
-/// The form that a value names, where a block has so many bytes.
+/// The form that a value names, if a block has so many bytes.
 pub(crate) fn format_of(value: &str, block: u64) -> Option<Format>
     requires block { (1 ≤ block) × (block ≤ 2 ^ 48) }
     ensures value { result ≡ format_of value.now block }
@@ -100,6 +100,17 @@ pub(crate) fn objective_of(value: &str) -> Option<Objective>
     }
 }
 
+/// How many steps a window has, if it is a number of them.
+pub(crate) fn width_of(value: &str) -> Option<u32>
+    ensures value { result ≡ width_of value.now }
+    ensures range { IfSome result (λ n. (1 ≤ n) × (n ≤ 2 ^ 25)) }
+{
+    match number_to(MOST_WINDOW, value) {
+        Some(width) => Some(width as u32),
+        None => None,
+    }
+}
+
 pub(crate) fn window_of(value: &str) -> Option<Window>
     ensures value { result ≡ window_of value.now }
     ensures in_range { IfSome result (λ window. IsModeInRange (Flow window)) }
@@ -107,14 +118,14 @@ pub(crate) fn window_of(value: &str) -> Option<Window>
     if is(value, "all") {
         Some(Window::All)
     } else {
-        match number_to(MOST_WINDOW, value) {
-            Some(width) => Some(Window::Steps(width as u32)),
+        match width_of(value) {
+            Some(width) => Some(Window::Steps(width)),
             None => None,
         }
     }
 }
 
-/// The mode that a value names, where the mode flow has this window.
+/// The mode that a value names, if the mode flow has this window.
 pub(crate) fn mode_of(value: &str, window: Window) -> Option<Mode>
     requires { IsModeInRange (Flow window) }
     ensures value { result ≡ mode_of value.now window }
@@ -205,7 +216,7 @@ pub(crate) fn drawn_of(value: &str) -> Option<u32>
     }
 }
 
-/// The denominator of a mode where none is given.
+/// The denominator of a mode if none is given.
 pub(crate) fn usual_denominator(mode: Mode) -> DenominatorChoice
     ensures value { result ≡ usual_denominator mode }
     ensures range { IsChoice result }

@@ -89,7 +89,7 @@ const WINDOWED: Row<'static> = Row {
     ..ONE_OBJECT
 };
 
-// The number that stands after a word of a line, or 0 where the line has no such word.
+// The number that stands after a word of a line, or 0 if the line has no such word.
 fn number_after(line: &str, word: &str) -> u64 {
     let Some((_, rest)) = line.split_once(word) else {
         return 0;

@@ -4,7 +4,7 @@ use bound_report::{Mode, PolicyName, Window, WordKind};
 use bound_run::{Paths, Plan, WordFault, paths_of, plan_of};
 use cache_rules::Objective;
 use plans::TAKEN;
-use refusals::REFUSED;
+use refusals::{REFUSED, REFUSED_REFINEMENTS};
 use relaxation::DenominatorChoice;
 use trace_any::Format;
 
@@ -30,15 +30,21 @@ fn check_refused(rt: &impl Abort, alloc: Global, texts: &str, fault: WordFault) 
     }
 }
 
-#[test]
-fn the_first_fault_of_the_words_is_named(rt: HostRuntime) {
-    for (place, kind, texts) in &REFUSED {
+// Words that are refused, by the place and the kind of their first fault.
+fn check_all_refused(rt: &impl Abort, alloc: Global, rows: &[(u64, WordKind, &str)]) {
+    for (place, kind, texts) in rows {
         let fault = WordFault {
             place: *place,
             kind: *kind,
         };
-        check_refused(&rt, rt.alloc(), texts, fault);
+        check_refused(rt, alloc, texts, fault);
     }
+}
+
+#[test]
+fn the_first_fault_of_the_words_is_named(rt: HostRuntime) {
+    check_all_refused(&rt, rt.alloc(), &REFUSED);
+    check_all_refused(&rt, rt.alloc(), &REFUSED_REFINEMENTS);
 }
 
 const OPERANDS: [&str; 4] = [
@@ -209,6 +215,33 @@ fn a_curve_takes_the_form_of_the_trace(rt: HostRuntime) {
     }
 }
 
+// Words of a refinement, and the form of the trace and the steps of a block that they name.
+const REFINEMENTS: [(&str, Format, u32); 4] = [
+    ("refine t c m format=webcache window=3", Format::Webcache, 3),
+    ("refine t c - window=1 format=oracle", Format::Oracle, 1),
+    (
+        "refine - c m block=8192 window=033554432 format=msr",
+        Format::Msr { block: 8192 },
+        1 << 25,
+    ),
+    (
+        "refine t - - format=msr window=2",
+        Format::Msr { block: 4096 },
+        2,
+    ),
+];
+
+#[test]
+fn a_refinement_takes_the_form_of_the_trace_and_a_width(rt: HostRuntime) {
+    for (text, format, width) in &REFINEMENTS {
+        let plan = Plan::Refine {
+            format: *format,
+            width: *width,
+        };
+        check_plan(&rt, rt.alloc(), text, Ok(plan));
+    }
+}
+
 // Words of a demo, and the seed, the requests, the objects and the capacity that they ask for.
 const DEMOS: [(&str, u64, u32, u32, u64); 5] = [
     ("demo", 1, 2000, 200, 65536),
@@ -267,7 +300,7 @@ const NO_PATHS: Paths<'static> = Paths {
 };
 
 // Words, and the paths of the trace, the certificate and what is made.
-const PATHS: [(&str, [&str; 3]); 10] = [
+const PATHS: [(&str, [&str; 3]); 12] = [
     ("bounds t c", ["t", "c", "c"]),
     ("check t c", ["t", "c", "-"]),
     ("check t", ["t", "-", "-"]),
@@ -275,6 +308,8 @@ const PATHS: [(&str, [&str; 3]); 10] = [
     ("replay t c", ["t", "-", "-"]),
     ("curve t c", ["t", "-", "-"]),
     ("upgrade c d", ["-", "c", "d"]),
+    ("refine t c m", ["t", "c", "m"]),
+    ("refine t c", ["t", "c", "-"]),
     ("demo t c", ["-"; 3]),
     ("", ["-"; 3]),
     (" t c", ["-"; 3]),

@@ -245,3 +245,42 @@ bounds t c format=webcache capacity=2 mode=infinite block=1",
         "bounds t c format=webcache capacity=2 mode=infinite mode=flow",
     ),
 ];
+
+// The same of the words of a refinement.
+pub(super) const REFUSED_REFINEMENTS: [(u64, WordKind, &str); 10] = [
+    (2, MISSING, "refine"),
+    (3, MISSING, "refine t"),
+    (3, BAD_VALUE, "refine - - m format=webcache window=3"),
+    (4, MISSING, "refine t c"),
+    (4, BAD_VALUE, "refine t c  format=webcache window=3"),
+    (
+        5,
+        MISSING,
+        "refine t c m\n\
+refine - - m",
+    ),
+    (
+        5,
+        UNKNOWN,
+        "refine t c m capacity=1\n\
+refine t c m mode=flow\n\
+refine t c m warmup=0\n\
+refine t c m block=512 format=arc window=3",
+    ),
+    (
+        5,
+        BAD_VALUE,
+        "refine t c m window=all\n\
+refine t c m window=0\n\
+refine t c m window=33554433\n\
+refine t c m window=x",
+    ),
+    (
+        6,
+        MISSING,
+        "refine t c m format=webcache\n\
+refine t c m window=3\n\
+refine - - m format=arc",
+    ),
+    (6, TWICE, "refine t c m window=3 window=all"),
+];

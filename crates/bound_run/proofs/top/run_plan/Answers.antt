@@ -21,3 +21,6 @@ returns-in-Curve g c = rw (c.in-Ok.is, c.in-Curve.is) (c.run_curve.ensures.ends,
 
 pub returns-in-Upgrade : goal.returns-in-Upgrade
 returns-in-Upgrade g c = rw (c.in-Ok.is, c.in-Upgrade.is) (c.run_upgrade.ensures.ends, c.run_upgrade.ensures.source, (refl, refl))
+
+pub returns-in-Refine : goal.returns-in-Refine
+returns-in-Refine g c = rw (c.in-Ok.is, c.in-Refine.is) (c.run_refine.ensures.ends, c.run_refine.ensures.trace_source, c.run_refine.ensures.cert_source)

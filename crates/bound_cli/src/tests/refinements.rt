@@ -1,0 +1,135 @@
+//! Refinements of certificates. The prices and the bounds were worked out by hand.
+use super::*;
+use bound_report::InvalidKind;
+use trace_lines::LineKind;
+
+const LOOSE_CERT: &[u8] =
+    b"cache-bound-certificate 1\nobjective object\ncapacity 2\nrequests 6\nunit 1\n\
+denominator 1\nform plain\nupper 3\nflow 0\nlower 2\nrecords\n0 1 0\n0 1 0\n0 0 0\n0 0 0\n0 0 0\n0 0 0\nend\n";
+
+// Three objects in turn, of which two fit: the last step before the second round is the dear one.
+const LOOSE: Row<'static> = Row {
+    shows: "one price brings the bound down to the greatest score",
+    words: "refine t c m format=webcache window=3",
+    trace: CYCLE_TRACE,
+    cert: LOOSE_CERT,
+    report: b"refined from 3/1 to 2/1\ntrace requests 6 objects 3 dropped 0\ncapacity 2 objective object\n\
+form plain\nunit 1 units 2 denominator 1\nupper 2/1 floor 2\nflow 0/1\nlower 2\nvalid\n",
+    made: b"cache-bound-certificate 1\nobjective object\ncapacity 2\nrequests 6\nunit 1\n\
+denominator 1\nform plain\nupper 2\nflow 0\nlower 2\nrecords\n0 1 0\n0 1 0\n1 0 0\n0 0 0\n0 0 0\n0 0 0\nend\n",
+    ..GOOD
+};
+
+const EXACT_CERT: &[u8] =
+    b"cache-bound-certificate 1\nobjective object\ncapacity 2\nrequests 6\nunit 1\n\
+denominator 1\nform exact\nupper 2\nflow 2\nlower 2\nrecords\n0 1 1\n0 1 1\n1 0 0\n0 0 0\n0 0 0\n0 0 0\nend\n";
+
+const REFINEMENTS: [Row<'static>; 7] = [
+    LOOSE,
+    Row {
+        shows: "blocks of one step",
+        words: "refine t c m window=1 format=webcache",
+        ..LOOSE
+    },
+    Row {
+        shows: "a block of more steps than there are",
+        words: "refine t c m format=webcache window=33554432",
+        ..LOOSE
+    },
+    Row {
+        shows: "an exact certificate stays as it is",
+        words: "refine t c m format=webcache window=2",
+        cert: EXACT_CERT,
+        report: b"refined from 2/1 to 2/1\ntrace requests 6 objects 3 dropped 0\ncapacity 2 objective object\n\
+form exact\nunit 1 units 2 denominator 1\nupper 2/1 floor 2\nflow 2/1\nlower 2\nvalid\n",
+        made: EXACT_CERT,
+        ..LOOSE
+    },
+    Row {
+        shows: "a warm-up and the second version stay, and a dropped line is counted",
+        trace: b"1 1 1\n2 2 1\n3 3 1\n3 9 0\n4 1 1\n5 2 1\n6 3 1\n",
+        cert: b"cache-bound-certificate 2\nobjective object\ncapacity 2\nrequests 6\nunit 1\n\
+denominator 1\nform plain\nupper 3\nflow 0\nlower 1\nwarmup 5\nrecords\n1 0 0\n0 0 0\n1 0\n0 0\n0 0\n0 0\nend\n",
+        report: b"refined from 3/1 to 1/1\ntrace requests 6 objects 3 dropped 1\ncapacity 2 objective object\n\
+form plain\nunit 1 units 2 denominator 1\nupper 1/1 floor 1\nflow 0/1\nlower 1\nvalid\nwarmup 5\n",
+        made: b"cache-bound-certificate 2\nobjective object\ncapacity 2\nrequests 6\nunit 1\n\
+denominator 1\nform plain\nupper 1\nflow 0\nlower 1\nwarmup 5\nrecords\n0 0\n0 0\n1 0\n0 0\n0 0\n0 0\nend\n",
+        ..LOOSE
+    },
+    Row {
+        shows: "no request at all",
+        trace: b"",
+        cert: b"cache-bound-certificate 1\nobjective object\ncapacity 10\nrequests 0\nunit 1\n\
+denominator 1\nform plain\nupper 0\nflow 0\nlower 0\nrecords\nend\n",
+        report: b"refined from 0/1 to 0/1\ntrace requests 0 objects 0 dropped 0\ncapacity 10 objective object\n\
+form plain\nunit 1 units 10 denominator 1\nupper 0/1 floor 0\nflow 0/1\nlower 0\nvalid\n",
+        made: b"cache-bound-certificate 1\nobjective object\ncapacity 10\nrequests 0\nunit 1\n\
+denominator 1\nform plain\nupper 0\nflow 0\nlower 0\nrecords\nend\n",
+        ..LOOSE
+    },
+    Row {
+        shows: "an upper bound that is not that of the prices",
+        cert: b"cache-bound-certificate 1\nobjective object\ncapacity 2\nrequests 6\nunit 1\n\
+denominator 1\nform exact\nupper 3\nflow 2\nlower 2\nrecords\n0 1 1\n0 1 1\n1 0 0\n0 0 0\n0 0 0\n0 0 0\nend\n",
+        status: Status::Invalid {
+            line: 18,
+            kind: InvalidKind::UpperDiffers {
+                written: 3,
+                counted: 2,
+            },
+        },
+        report: b"invalid line 18: upper differs 3 2\n",
+        made: b"",
+        ..LOOSE
+    },
+];
+
+#[test]
+fn refinements_lower_the_upper_bound_alone(rt: HostRuntime) {
+    check_all(&rt, rt.alloc(), &REFINEMENTS);
+}
+
+const REFUSED: [Row<'static>; 3] = [
+    Row {
+        shows: "a bad line of the trace",
+        trace: b"1 1 1\n2 x 1\n",
+        status: Status::BadLine {
+            line: 2,
+            kind: LineKind::BadNumber { word: 2 },
+        },
+        report: b"bad line 2: number in word 2\n",
+        made: b"",
+        ..LOOSE
+    },
+    Row {
+        shows: "the first read of the trace fails",
+        fails: Some((Device::Trace, 1)),
+        status: Status::TraceFault,
+        report: b"trace fault\n",
+        made: b"",
+        ..LOOSE
+    },
+    Row {
+        shows: "the first read of the certificate fails",
+        fails: Some((Device::Cert, 1)),
+        status: Status::CertFault,
+        report: b"certificate fault\n",
+        made: b"",
+        ..LOOSE
+    },
+];
+
+#[test]
+fn a_refinement_that_is_refused_makes_nothing(rt: HostRuntime) {
+    check_all(&rt, rt.alloc(), &REFUSED);
+}
+
+#[test]
+fn a_failed_write_of_the_certificate_is_a_made_fault(rt: HostRuntime) {
+    let failing = Row {
+        status: Status::MadeFault,
+        report: b"made fault\n",
+        ..LOOSE
+    };
+    check_made_writes(&rt, rt.alloc(), &failing);
+}

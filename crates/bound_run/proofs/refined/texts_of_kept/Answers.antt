@@ -1,0 +1,32 @@
+use Rattle.std.proofs.Common.{◌≡◌, ◌∙◌, ap}
+use Rattle.cache_model.specs.declared.certificates.Header.{Header}
+use Rattle.bound_report.specs.Refinements.{refined_text}
+use Rattle.bound_report.specs.Replays.{with_warmup}
+use Rattle.cert_checker.specs.declared.verdict.Verdict.{Verdict}
+use Rattle.bound_run.specs.Refined.{verdict_on, with_upper}
+use Rattle.bound_run.proofs.Refining.{certificate, refined_texts}
+use Rattle.bound_run.proofs.refined.texts_of_kept.Goals as goal
+
+pub cert_of-requires-clause-certificate : goal.cert_of-requires-clause-certificate
+cert_of-requires-clause-certificate c =
+    let kept = c.args.kept.now in
+    let made : c.with_upper-made.result.header ≡ with_upper kept.verdict.header c.in_ok-refined.refined.upper
+    = ap (λ (v : Verdict). v.header) c.with_upper-made.ensures ∙ ap (λ (v : Verdict). with_upper v.header c.upper.result) c.verdict.ensures ∙ ap (with_upper kept.verdict.header) c.upper.ensures in
+    rw (made, c.records.ensures, c.prices.ensures) (certificate c.args.width kept.trace kept.verdict.header kept.records c.requires.valid c.in_ok-refined.refined c.in_ok-refined.ensures.refined)
+
+pub returns : goal.returns
+returns c =
+    let kept = c.args.kept.now in
+    let to = c.in_ok-refined.refined in
+    let h = kept.verdict.header in
+    let whole : c.with_upper-made.result ≡ verdict_on kept.trace (with_upper h to.upper)
+    = c.with_upper-made.ensures
+    ∙ ap (λ (v : Verdict). record { header = with_upper v.header c.upper.result; objects = v.objects }) c.verdict.ensures
+    ∙ ap (λ n. record { header = with_upper h n; objects = kept.verdict.objects }) c.upper.ensures
+    ∙ ap (λ (v : Verdict). record { header = with_upper h to.upper; objects = v.objects }) c.requires.verdict in
+    let made : c.with_upper-made.result.header ≡ with_upper h to.upper = ap (λ (v : Verdict). v.header) whole in
+    refined_texts c.args.width kept.trace h kept.records c.requires.valid to c.in_ok-refined.ensures.refined c.args.dropped c.in_ok-cert.cert.items c.push_warmup.new.text.items
+    (rw (made, c.records.ensures, c.prices.ensures) at c.in_ok-cert.ensures)
+    (c.in_ok-push_warmup.ensures
+    ∙ ap (with_warmup c.with_upper-made.result.header.warmup) (c.in_ok-report.ensures ∙ ap (λ (v : Verdict). refined_text v.header.upper c.with_upper-made.result c.args.dropped) c.verdict-2.ensures)
+    ∙ ap (λ (v : Verdict). with_warmup v.header.warmup (refined_text h.upper v c.args.dropped)) whole)
