@@ -21,7 +21,7 @@ pub record IsBest (capacity : ℕ) (trace : List Object) (hits bytes : ℕ) : Ty
   pub most_hits : (other : List (List Object)) → IsAllowed capacity trace other → score (terms_from Hits capacity 0) trace other ≤ hits
   pub most_bytes : (other : List (List Object)) → IsAllowed capacity trace other → score (terms_from Bytes capacity 0) trace other ≤ bytes
 
--- a clash of sizes is the first, and otherwise there is one size and memory was wanting
+-- a clash of sizes is the first, and otherwise there is one size and memory ran out
 abbrev pub IsCause : ℕ → List Object → BestFault → Type 0
 IsCause capacity trace (Unequal clash) = IsClash trace capacity clash.first clash.other
 IsCause capacity trace NoMemory = HaveOneSize capacity trace

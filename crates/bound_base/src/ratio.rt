@@ -19,7 +19,7 @@ impl Ratio {
     }
 
     /// Whether this ratio is at most the other, by the products of each numerator and the other's denominator.
-    /// There is no answer where one of the two passes 128 bits.
+    /// There is no answer if one of the two passes 128 bits.
     pub fn at_most(self, other: Ratio) -> Option<bool>
         ensures limit { IsNone result
             ↔ ((2 ^ 128 ≤ self.num * other.den) ⊎ (2 ^ 128 ≤ other.num * self.den)) }

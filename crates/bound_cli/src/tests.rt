@@ -193,7 +193,7 @@ impl Row<'_> {
         MemSink::new(alloc, room, fails, 1).expect(rt, "memory")
     }
 
-    // Runs over memory, where a read gives so many bytes and a write takes one.
+    // Runs over memory, where a read gives this many bytes and a write takes one.
     fn run_at(&self, rt: &impl Abort, alloc: Global, step: usize) -> Ended
         requires { 1 ≤ step }
     {
@@ -211,7 +211,7 @@ fn check(rt: &impl Abort, alloc: Global, row: &Row<'_>) {
     check_at(rt, alloc, row, 1);
 }
 
-// Runs over memory, where a read gives so many bytes, and checks the status and what the sinks got.
+// Runs over memory, where a read gives this many bytes, and checks the status and what the sinks got.
 fn check_at(rt: &impl Abort, alloc: Global, row: &Row<'_>, step: usize)
     requires { 1 ≤ step }
 {

@@ -27,7 +27,7 @@ extent_known (Some bytes) (Some rest) held n kept text (inr (inr end)) short =
     let all : held ≡ bytes = rw (end, append-nil) at kept in
     rw (← all) (is_all held n text)
 
--- a text of so many held bytes has as many at least with what comes after them
+-- the first text of held bytes is no shorter with what comes after them
 pub too_long_known : (before left : Option (List ℕ)) (held : List ℕ) (n : ℕ) → Keeps before (stands_in held left) → n ≡ text_len held → 65535 < n → IfSome before (λ bytes. 65535 < text_len bytes)
 too_long_known None left held n kept text long = tt
 too_long_known (Some bytes) None held n kept text long = absurd kept

@@ -20,7 +20,7 @@ first_text bytes = take (text_len bytes) bytes
 abbrev pub first_line : List ℕ → List ℕ
 first_line bytes = take (text_len bytes + 1) bytes
 
--- the text of the first line has so many bytes, and the line with its LF, if it has one, so many
+-- how many bytes the text of the first line has, and how many the line with its LF, if it has one
 abbrev pub HasExtent : ℕ → ℕ → List ℕ → Type 0
 HasExtent text line bytes = (text ≡ text_len bytes) × (line ≡ length (first_line bytes))
 
@@ -28,6 +28,6 @@ HasExtent text line bytes = (text ≡ text_len bytes) × (line ≡ length (first
 abbrev pub after_line : List ℕ → List ℕ
 after_line bytes = drop (text_len bytes + 1) bytes
 
--- the bytes that are held, and then those that the source has left, if it tells them
+-- the bytes that are held, and then those that the source has left, if they are known
 abbrev pub stands_in : List ℕ → Option (List ℕ) → Option (List ℕ)
 stands_in held left = option_map (λ rest. held ++ rest) left

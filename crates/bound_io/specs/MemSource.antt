@@ -23,7 +23,7 @@ next_call source = source.next
 abbrev pub fails_next : MemSource → Bool
 fails_next source = list_any (λ call. call == next_call source) (failing_calls source)
 
--- how many bytes a call that does not fail gives into so much room
+-- how many bytes a call that does not fail gives into this much room
 abbrev pub given_into : MemSource → ℕ → ℕ
 given_into source room = min (min (length (bytes_left source)) room) (step_of source)
 

@@ -26,7 +26,7 @@ with_held at held = record at { held = held }
 abbrev pub with_fault : Position → LineFault → Position
 with_fault at fault = record at { fault = Some fault }
 
--- a line of so many bytes, and its text of so many, stands in the held bytes and passes no limit; it has none only if none is held
+-- a line of `line` bytes, with a text of `text` bytes, stands in the held bytes and passes no limit; it has none only if none is held
 pub record Fits (at : Position) (held : List ℕ) (text line : ℕ) : Type 0 where
   pub in_line : text ≤ line
   pub one_lf : line ≤ text + 1
@@ -35,7 +35,7 @@ pub record Fits (at : Position) (held : List ℕ) (text line : ℕ) : Type 0 whe
   pub within : at.consumed + line ≤ at.limit
   pub none : line ≡ 0 → length held ≡ 0
 
--- why the first line of the bytes that a reader stands in, if they are known, isn't given; and a failed read only if the count of faults rose
+-- why the first line of the bytes that a reader stands in, if they are known, isn't given; and a failed read only with a new fault
 abbrev pub IsRefused : Position → Option (List ℕ) → ℕ → ℕ → LineFault → Type 0
 IsRefused at known faults_before faults_after ReadFault = HasNewFault faults_before faults_after
 IsRefused at known faults_before faults_after (LineTooLong line) = (line ≡ at.line + 1) × IfSome known (λ bytes. 65535 < text_len bytes)
@@ -87,20 +87,20 @@ abbrev pub given_by : Result WholeLine LineFault → Result (Option (List ℕ)) 
 given_by (Ok line) = Ok (given line)
 given_by (Err fault) = Err fault
 
--- a piece of at most so many bytes stands in the held bytes and passes no limit; it has none only if none is held
+-- a piece of at most this many bytes stands in the held bytes and passes no limit; it has none only if none is held
 pub record FitsPiece (at : Position) (held : List ℕ) (count size : ℕ) : Type 0 where
   pub most : size ≤ count
   pub in_held : size ≤ length held
   pub within : at.consumed + size ≤ at.limit
   pub none : size ≡ 0 → 0 < count → length held ≡ 0
 
--- why the next piece of so many bytes, or of all that are left, isn't given: the bytes through it pass the limit; and a failed read only if the count of faults rose
+-- why the next piece of this many bytes, or of all that are left, isn't given: the bytes through it pass the limit; and a failed read only with a new fault
 abbrev pub IsPieceRefused : ℕ → Position → Option (List ℕ) → ℕ → ℕ → LineFault → Type 0
 IsPieceRefused count at known faults_before faults_after ReadFault = HasNewFault faults_before faults_after
 IsPieceRefused count at known faults_before faults_after (LineTooLong line) = ⊥
 IsPieceRefused count at known faults_before faults_after InputTooLong = IfSome known (λ bytes. at.limit < at.consumed + length (take count bytes))
 
--- one piece of so many bytes, or of all that were left, was given: it is gone from what the reader stands in, known before and after
+-- one piece of this many bytes, or of all that were left, was given: it is gone from what the reader stands in, known before and after
 pub record GivesPiece (count : ℕ) (old new : Position) (before after : Option (List ℕ)) : Type 0 where
   pub limit : new.limit ≡ old.limit
   pub line : new.line ≡ old.line + 1
@@ -110,7 +110,7 @@ pub record GivesPiece (count : ℕ) (old new : Position) (before after : Option 
   pub consumed : IfSome before (λ bytes. new.consumed ≡ old.consumed + length (take count bytes))
   pub rest : IfSome before (λ bytes. after ≡ Some (drop count bytes))
 
--- what a call that gives the next piece of so many bytes leaves; it gives no byte only if none is left
+-- what a call that gives the next piece of this many bytes leaves; it gives no byte only if none is left
 abbrev pub NextBytes : ℕ → Position → Position → Option (List ℕ) → Option (List ℕ) → Result (Bor (List ℕ)) LineFault → Type 0
 NextBytes count old new before after (Ok piece) = (piece.now ≡ [] → GivesNone old new before after) × (0 < length piece.now → GivesPiece count old new before after)
 NextBytes count old new before after (Err fault) = Stops old new before after fault

@@ -128,7 +128,7 @@ impl Buffer {
         }
     }
 
-    /// Reads on until so many bytes are held, or the source ends.
+    /// Reads on until this many bytes are held, or the source ends.
     pub fn hold<S: Source>(&mut self, source: &mut S, count: usize) -> Result<(), Failed>
         requires { count ≤ 65536 }
         ensures held { IfOk result (λ _. count ≤ length self.new ⊎ IsAtEnd (S.left source.new)) }

@@ -205,7 +205,7 @@ impl LineReader {
         }
     }
 
-    // How many bytes the next piece of so many has, once they stand in the buffer, or why none is given.
+    // How many bytes the next piece, of `count` at most, has once they stand in the buffer, or why none is given.
     fn look_for<S: Source>(&mut self, source: &mut S, count: usize) -> Result<usize, LineFault>
         requires { count ≤ 65536 }
         ensures size { IfOk result (λ n. IfSome (stands_in self.old.held (S.left source.old)) (λ bytes. n ≡ length (take count bytes))) }
@@ -250,7 +250,7 @@ impl LineReader {
         found
     }
 
-    /// The next `count` bytes, or fewer where the input ends before. They count as one line, even if none of them is an
+    /// The next `count` bytes, or fewer if the input ends before. They count as one line, even if none of them is an
     /// LF or many are; none at the end of the input count as no line. The bytes are lent until the next call.
     pub fn next_bytes<S: Source>(
         &mut self,

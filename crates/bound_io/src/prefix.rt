@@ -1,7 +1,7 @@
 //! Copying the prefix of some bytes.
 ghost use Rattle.std.specs.Prelude.{◌≡◌, length, min, take};
 
-// Copies the prefix of the bytes into the beginning of the buffer, at most so many, and says how many.
+// Copies the prefix of the bytes into the beginning of the buffer, at most this many, and says how many.
 pub(crate) fn copy_prefix(bytes: &[u8], buf: &mut [u8], most: usize) -> usize
     ensures count { result ≡ min (min (length bytes.now) (length buf.old)) most }
     ensures copied { take result buf.new ≡ take result bytes.now }

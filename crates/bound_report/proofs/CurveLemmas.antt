@@ -32,7 +32,7 @@ slots_more hits n =
     ∙ flat_map-append line (slots_lines hits n) (map (line_at hits) (filter (adds_hits hits) ((n + 1) ∷ [])))
     ∙ ap (λ xs. text_of (slots_lines hits n) ++ xs) (one_line hits (n + 1) (adds_hits hits (n + 1)))
 
--- after so many lines, the next one if its slots add hits
+-- after the lines so far, the next one if its slots add hits
 module _ (hits : ℕ → ℕ) (n : ℕ) (start before after : List ℕ) (so_far : before ≡ start ++ text_of (slots_lines hits n)) where
   next_by : (adds : Bool) → adds_hits hits (n + 1) ≡ adds → after ≡ before ++ cond adds (line (line_at hits (n + 1))) [] → after ≡ start ++ text_of (slots_lines hits (n + 1))
   next_by adds is more =

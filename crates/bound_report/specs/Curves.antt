@@ -9,7 +9,7 @@ use Rattle.bound_report.specs.declared.curves.CurveFacts.{CurveFacts}
 abbrev pub slots_line : ℕ → ℕ → List ℕ
 slots_line slots hits = entry (entry (codes "slots") slots ++ codes " hits") hits
 
--- whether so many slots have more hits than one slot less
+-- whether this many slots have more hits than one slot less
 abbrev pub adds_hits : (ℕ → ℕ) → ℕ → Bool
 adds_hits hits slots = nat_lt (hits (slots - 1)) (hits slots)
 

@@ -10,7 +10,7 @@ use Rattle.cache_model.specs.declared.certificates.Record.{Record}
 use Rattle.cache_model.specs.Texts.{line, text_of, header_lines, record_line, record_lines, cert_text}
 use Rattle.cache_model.proofs.RecordLines.{last_price, last_price-append, record_lines-append}
 
--- so many records, and then one more
+-- some records, and then one more
 module _ (records : List Record) (k : ℕ) (r d : Record) (within : k < length records) (is : r ≡ get_or records k d) where
   one_more : take (k + 1) records ≡ take k records ++ r ∷ []
   one_more = take_more records k d within ∙ ap (λ x. take k records ++ x ∷ []) (sym is)
@@ -29,7 +29,7 @@ module _ (records : List Record) (k : ℕ) (r d : Record) (within : k < length r
       ∙ ap (λ xs. text_of (record_lines version 0 (take k records)) ++ xs) (append-nil (line last))
       )
 
-  -- so many records were written, and then one more
+  -- some records were written, and then one more
   pub record_written : (version before : ℕ) (old mid new : Option (List ℕ)) → before ≡ last_price 0 (take k records)
       → Appends old mid (text_of (record_lines version 0 (take k records))) → Appends mid new (line (record_line version before r))
       → Appends old new (text_of (record_lines version 0 (take (k + 1) records)))

@@ -21,7 +21,7 @@ use Rattle.bound_run.specs.Curves.{IsCurveText}
 use Rattle.bound_run.specs.Made.{AreTexts, RefusesDenominator}
 use Rattle.bound_run.specs.Replays.{IsReplayText}
 
--- all that the source had left was read, and is a trace of these requests and so many dropped lines, if its bytes are known
+-- all that the source had left was read, and is a trace of these requests and this many dropped lines, if its bytes are known
 pub record IsLoaded (format : Format) (source : Device) (requests : List Object) (dropped : ℕ) : Type 0 where
   pub read : IfSome source.before (λ bytes. IsWhole (reading format full_limits bytes) requests dropped)
   pub nothing_left : IfSome source.before (λ bytes. source.after ≡ Some [])

@@ -32,7 +32,7 @@ number_to most value = checked most (number_of (2 ^ 64) value)
 abbrev pub block_of : List ℕ → Option ℕ
 block_of value = number_to (2 ^ 48) value
 
--- the form of a trace that a value names, if a block has so many bytes
+-- the form of a trace that a value names, if a block has this many bytes
 abbrev pub format_of : List ℕ → ℕ → Option Format
 format_of value block =
     if bytes_eq value (codes "webcache") then Some Webcache

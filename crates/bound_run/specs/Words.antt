@@ -39,7 +39,7 @@ abbrev pub path : ℕ → Option (List ℕ) → Result (Unit {0}) WordFault
 path place None = Err (fault place Missing)
 path place (Some word) = if length word == 0 then Err (fault place BadValue) else Ok tt
 
--- so many words from word `at` on are paths
+-- this many words from word `at` on are paths
 abbrev pub paths : ℕ → ℕ → List (List ℕ) → Result (Unit {0}) WordFault
 paths at zero words = Ok tt
 paths at (suc count) words = path (at + 1) (slice_get words at) >>= (λ named. paths (at + 1) count words)

@@ -60,7 +60,7 @@ fn at_one_price(alloc: Global, intervals: &Intervals, price: u128) -> Result<Rel
     })
 }
 
-/// How many steps a window has, if there are so many in all.
+/// How many steps a window has, if there are this many in all.
 pub fn width_of(window: Window, steps: u32) -> u32
     ensures { result ≡ width_of window steps }
 {

@@ -69,7 +69,7 @@ pub(crate) fn block_of(value: &str) -> Option<u64>
     number_to(MOST_BLOCK, value)
 }
 
-/// The form that a value names, if a block has so many bytes.
+/// The form that a value names, if a block has this many bytes.
 pub(crate) fn format_of(value: &str, block: u64) -> Option<Format>
     requires block { (1 ≤ block) × (block ≤ 2 ^ 48) }
     ensures value { result ≡ format_of value.now block }

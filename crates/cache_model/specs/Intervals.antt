@@ -8,7 +8,7 @@ use Rattle.cache_model.specs.declared.terms.Terms.{Terms}
 use Rattle.cache_model.specs.Claim.{same_object, gain_of, request_at}
 use Rattle.cache_model.specs.Objects.{numbers_of}
 
--- request a comes before request b, both are of one object that fits, no request between them is of it, and b is past the warm-up
+-- request a comes before request b, both are of one object that fits, no request between them is of it, and b is not within the warm-up
 abbrev pub is_eligible : Terms → List Object → ℕ → ℕ → Bool
 is_eligible terms trace a b =
     let x = request_at trace a in

@@ -17,7 +17,7 @@ use Rattle.cache_model.specs.Schedules.{load_at, IsFractionalSchedule, flow_valu
 use Rattle.cache_model.specs.Units.{weight, IsUnit, IsLeastWhole, IsLeastCommonMultiple, IsReducedWeight}
 use Rattle.cache_model.specs.Rounding.{IsRounded, IsMaximal, taken_load}
 
--- two requests of one object that fits, with no request of it between them, the later one past the warm-up
+-- two requests of one object that fits, with no request of it between them, the later one not within the warm-up
 pub record IsEligible (terms : Terms) (trace : List Object) (i : Interval) : Type 0 where
   pub next : IsNext trace i.start i.end
   pub fits : (request_at trace i.start).size ≤ terms.capacity
@@ -33,7 +33,7 @@ pub record EligibleIntervals (terms : Terms) (trace : List Object) : Type 0 wher
 abbrev pub IntervalsAreEligible : Type 0
 IntervalsAreEligible = (terms : Terms) (trace : List Object) → EligibleIntervals terms trace
 
--- where the contents of keeps fit, they are allowed contents
+-- if the contents of keeps fit, they are allowed contents
 abbrev pub KeepsAreAllowed : Type 0
 KeepsAreAllowed =
     (trace : List Object) (capacity : ℕ) (keeps : List Bool)
@@ -47,7 +47,7 @@ FlowsAreBelowPrices =
     → IsFractionalSchedule intervals unit units flows
     → e * flow_value intervals unit d flows ≤ d * bound_of intervals unit units e prices
 
--- where only starts of eligible intervals are kept, the sizes held after request t are those of the kept intervals over step t
+-- if only starts of eligible intervals are kept, the sizes held after request t are those of the kept intervals over step t
 abbrev pub ContentsWeighTheirIntervals : Type 0
 ContentsWeighTheirIntervals =
     (terms : Terms) (trace : List Object) (keeps : List Bool) (t : ℕ)

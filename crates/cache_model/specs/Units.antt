@@ -4,7 +4,7 @@ use Rattle.std.specs.Int.{IsGcd, div_ceil}
 use Prim.Native.Nat.{◌∣◌}
 use Rattle.cache_model.specs.declared.intervals.Interval.{Interval}
 
--- u is the greatest common divisor of the sizes, or 1 where there is none
+-- u is the greatest common divisor of the sizes, or 1 if there is none
 pub record IsUnit (intervals : List Interval) (u : ℕ) : Type 0 where
   pub one_if_none : intervals ≡ [] → u ≡ 1
   pub divides : All (λ i. u ∣ i.size) intervals

@@ -43,7 +43,7 @@ pub if_one : (a : Option (List ℕ)) (P Q : List ℕ → Type 0) → IfSome a P 
 if_one None P Q p f = tt
 if_one (Some x) P Q p f = f x p
 
--- a count that rose lately rose since before
+-- a fault that is new to the later state is new to the earlier one
 pub new_fault_since : (first before now : ℕ) → first ≤ before → HasNewFault before now → HasNewFault first now
 new_fault_since first before now earlier (inl higher) = inl (omega (arith, earlier, higher))
 new_fault_since first before now earlier (inr last) = inr last

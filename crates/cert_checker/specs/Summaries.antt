@@ -55,7 +55,7 @@ pub record StandsFor (h : Header) (trace : List Object) (records : List Record) 
   pub seen : (x : Object) → MatchOption (lookup (same_object x) s.entries) (IsNew trace x) (IsSeen trace records x)
   pub sums : AreSums h trace records s.sums
 
--- sums stay small: each request adds so much at most
+-- sums stay small: each request adds a limited amount
 pub record AreSmall (sums : Sums) : Type 0 where
   pub surpluses : sums.surpluses ≤ 2 ^ 96 * sums.steps
   pub values : sums.values ≤ 2 ^ 96 * sums.steps

@@ -15,7 +15,7 @@ use Rattle.cert_format.specs.declared.fault.CertFault.{CertFault}
 use Rattle.cert_format.specs.declared.fault.CertFault.TheVariants.{BadText, Truncated, Trailing, ReadFault}
 use Rattle.cert_format.specs.Readings.{after_lines, bytes_through}
 
--- the bytes that a reader stands in, if those that the source has left are known, and those of the lines so far, which have at most 64 bytes each
+-- the bytes that a reader stands in, if those that the source has left are known, and those of the lines so far, which have at most 64 bytes each on average
 abbrev pub known : Position → Option (List ℕ) → Option (List ℕ)
 known at left = if nat_le at.consumed (64 * at.line) then stands_in at.held left else None
 

@@ -8,7 +8,7 @@ use crate::tangents::{TOP_PRICE, Tangent, meeting, tangent_at};
 use cache_model::Interval;
 use interval_maker::Intervals;
 
-// The part that is searched first has one interval in so many.
+// The part that is searched first has one interval in this many.
 const PARTS: usize = 64;
 
 // Every eighth turn looks in the middle, so that the number of turns is bounded by the width alone.

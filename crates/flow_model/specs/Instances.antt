@@ -5,7 +5,7 @@ use Rattle.cache_model.specs.declared.intervals.Interval.{Interval}
 use Rattle.cache_model.specs.Units.{weight, cost}
 use Rattle.flow_model.specs.declared.arcs.OuterArc.{OuterArc}
 
--- a chain of steps, each with room for so many units, and the arcs over it
+-- a chain of steps, each with room for this many units, and the arcs over it
 pub record Instance : Type 0 where
   pub steps : ℕ
   pub units : ℕ

@@ -13,7 +13,7 @@ use Rattle.flow_model.specs.Windows.{window_instance}
 abbrev pub SchedulesAreBelowPrices : Type 0
 SchedulesAreBelowPrices = (instance : Instance) (flows prices : List ℕ) → IsSchedule instance flows → total_cost instance.arcs flows ≤ value_at instance prices
 
--- where all units are pushed and no edge with room has a positive reduced cost, the falls of the potential and the flows are a solution
+-- if all units are pushed and no edge with room has a positive reduced cost, the falls of the potential and the flows are a solution
 abbrev pub EqualValues : Type 0
 EqualValues =
     (instance : Instance) (flows : Flows) (potential : ℕ → ℕ) (prices : List ℕ)
@@ -48,7 +48,7 @@ RoundedIsNear =
     → (bound_of intervals unit units denominator prices ≤ total_cost (whole_instance intervals steps unit units denominator).arcs flows)
     × (bound_of intervals unit units denominator prices ≤ flow_value intervals unit denominator flows + sum flows)
 
--- where the windows have all steps, the value at prices is at most what the windows' values at their parts of the prices sum to
+-- if the windows have all steps, the value at prices is at most what the windows' values at their parts of the prices sum to
 abbrev pub WindowsAreAbove : Type 0
 WindowsAreAbove =
     (whole : Instance) (width windows : ℕ) (prices : List ℕ)

@@ -53,13 +53,13 @@ residual instance flows (InnerBack t) = slice_index flows.inner t
 residual instance flows (Outer i) = (arc_at instance.arcs i).weight - slice_index flows.outer i
 residual instance flows (OuterBack i) = slice_index flows.outer i
 
--- so many units were pushed from the first node to the last: over each step, beside the arcs and along them
+-- this many units were pushed from the first node to the last: over each step, beside the arcs and along them
 pub record IsBalanced (instance : Instance) (flows : Flows) (pushed : ℕ) : Type 0 where
   pub within_weights : AllZip (λ arc flow. flow ≤ arc.weight) instance.arcs flows.outer
   pub each_step : length flows.inner ≡ instance.steps
   pub balance : (t : ℕ) → t < instance.steps → slice_index flows.inner t + load_at instance.arcs flows.outer t ≡ pushed
 
--- where the edge has room, its reduced cost is not positive: its cost, with the potential of its head less that of its tail
+-- if the edge has room, its reduced cost is not positive: its cost, with the potential of its head less that of its tail
 abbrev pub IsRelaxed : Instance → Flows → (ℕ → ℕ) → Edge → Type 0
 IsRelaxed instance flows potential e =
     0 < residual instance flows e

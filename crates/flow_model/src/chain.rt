@@ -7,7 +7,7 @@ use bound_base::NoMemory;
 use std::alloc::Global;
 use std::marker::Model;
 
-/// A chain of steps with room for so many units over each, and arcs over it, whose flows earn their costs.
+/// A chain of steps with room for this many units over each, and arcs over it, whose flows earn their costs.
 #[derive(Debug, Drop)]
 pub struct Instance {
     steps: u32,

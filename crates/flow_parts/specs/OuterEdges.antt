@@ -6,7 +6,7 @@ use Rattle.flow_model.specs.declared.edges.Edge.TheVariants.{Outer, OuterBack}
 use Rattle.flow_model.specs.Instances.{Instance}
 use Rattle.flow_model.specs.Networks.{tail}
 
--- the edge of that number, if there are so many arcs: first come the arcs, and then their back edges
+-- the edge of that number, if there are this many arcs: first come the arcs, and then their back edges
 abbrev pub edge_of : ℕ → ℕ → Edge
 edge_of arcs number = if nat_lt number arcs then Outer number else OuterBack (number - arcs)
 
@@ -20,7 +20,7 @@ pub record Lists : Type 0 where
   pub first : List ℕ
   pub next : List ℕ
 
--- the list of each node has those of the first so many edges that lead out of it, the greater numbers first
+-- the list of each node has those of the first `n` edges that lead out of it, the greater numbers first
 pub record AreListed (instance : Instance) (lists : Lists) (count : ℕ) : Type 0 where
   pub each_node : length lists.first ≡ instance.steps + 1
   pub each_edge : count ≤ length lists.next

@@ -23,7 +23,7 @@ impl Model for OuterEdges {
     ghost view = { λ e. record { first = e.first.items; next = e.next.items } };
 }
 
-/// The edge of that number, if there are so many arcs.
+/// The edge of that number, if there are this many arcs.
 #[inline(always)]
 pub fn outer_edge(arcs: u32, number: u32) -> Edge
     ensures { result ≡ edge_of arcs number }

@@ -7,7 +7,7 @@ use Rattle.flow_network.specs.States.{State, IsState}
 use Rattle.flow_parts.specs.Queues.{Waiting, IsQueue}
 
 -- how far each node is by a walk that was found, the last edge of that walk, and the nodes that wait for their edges to be
--- looked at: some in a queue, and the first so many of a list, which come next
+-- looked at: some in a queue, and some at the front of a list, which come next
 pub record Found : Type 0 where
   pub distances : List ℕ
   pub parents : List Edge
@@ -20,7 +20,7 @@ pub record Rests (found : Found) (node : ℕ) : Type 0 where
   pub unqueued : slice_index found.waiting.places node ≡ 0
   pub unstacked : (p : ℕ) → p < found.depth → slice_index found.stack p ≢ node
 
--- a distance, a parent and a place for each node of so many steps
+-- a distance, a parent and a place for each node of this many steps
 pub record HasRoom (steps : ℕ) (found : Found) : Type 0 where
   pub distances : length found.distances ≡ steps + 1
   pub parents : length found.parents ≡ steps + 1

@@ -31,7 +31,7 @@ impl Model for DeadEnds {
 }
 
 impl DeadEnds {
-    /// A mark for each node of so many steps. It takes a byte for each.
+    /// A mark for each node of this many steps. It takes a byte for each.
     pub fn new(alloc: Global, steps: u32) -> Result<DeadEnds, NoMemory>
         ensures { IfOk result (λ marks. length marks ≡ steps + 1) }
     {

@@ -38,7 +38,7 @@ impl Model for Search {
 }
 
 impl Search {
-    /// Room for a search over so many steps. It takes 32 bytes for each.
+    /// Room for a search over this many steps. It takes 32 bytes for each.
     pub fn new(alloc: Global, steps: u32) -> Result<Search, NoMemory>
         requires { steps ≤ 2 ^ 25 }
         ensures { IfOk result (λ found. HasRoom steps found) }

@@ -117,7 +117,7 @@ pub flow_where-nothing : (test : OuterArc → Bool) (arcs : List OuterArc) (flow
 flow_where-nothing test [] flows = refl
 flow_where-nothing test (a ∷ arcs) flows = refl
 
--- the one after the first so many is set
+-- the sum through the one that is set
 pub first_sum-put : (xs : List ℕ) (k x : ℕ) → k < length xs → first_sum (set xs k x) (k + 1) ≡ first_sum xs k + x
 first_sum-put xs k x within = omega (arith, first_sum-next (set xs k x) k, get_or-set_same xs k x 0 within, ap sum (take-set-le k xs k x (omega arith)))
 
@@ -148,7 +148,7 @@ take_small [] (suc i) j = omega arith
 take_small (f ∷ flows) (suc i) zero = omega arith
 take_small (f ∷ flows) (suc i) (suc j) = take_small flows i j
 
--- what the first so many flows sum to is small
+-- the first `i` flows sum to little
 pub few_flow : (test : OuterArc → Bool) (arcs : List OuterArc) (flows : List ℕ) (i : ℕ) → length flows ≡ length arcs → ((j : ℕ) → j < length flows → get_or flows j 0 ≤ 2 ^ 48) → length arcs ≤ 2 ^ 26
     → flow_where test arcs (take i flows) ≤ 2 ^ 74
 few_flow test arcs flows i same small few =

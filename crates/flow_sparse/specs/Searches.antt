@@ -82,7 +82,7 @@ pub record Nears (state : State) (from : ℕ) (old new : Found) : Type 0 where
   pub each_distance : length new.distances ≡ length old.distances
   pub each_parent : length new.parents ≡ length old.parents
 
--- no node waits, and there is room for a search over so many steps
+-- no node waits, and there is room for a search over this many steps
 pub record IsIdle (steps : ℕ) (found : Found) : Type 0 where
   pub each_distance : steps + 1 ≤ length found.distances
   pub each_parent : steps + 1 ≤ length found.parents

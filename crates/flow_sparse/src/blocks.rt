@@ -10,7 +10,7 @@ use flow_model::{Instance, OuterArc};
 use flow_windows::Windows;
 use std::alloc::Global;
 
-/// At most so many blocks are settled first. With more of them most arcs of a long trace would be in many.
+/// At most this many blocks are settled first. With more of them most arcs of a long trace would be in many.
 const MOST_BLOCKS: u32 = 64;
 
 /// How many steps a block at least has. With fewer it would cost more to make than it saves.

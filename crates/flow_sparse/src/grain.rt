@@ -6,13 +6,13 @@ use bound_base::NoMemory;
 use flow_model::{Instance, OuterArc};
 use std::alloc::Global;
 
-/// About so many steps have a price, one of each grain of steps.
+/// About this many steps have a price, one of each grain of steps.
 const GRAINS: usize = 512;
 
-/// A grain has at least so many steps.
+/// A grain has at least this many steps.
 const FEWEST_STEPS: usize = 16;
 
-/// A grain has at most so many steps.
+/// A grain has at most this many steps.
 const MOST_STEPS: usize = 1024;
 
 // What one unit of the arc earns for each step, times 2^25, rounded down.

@@ -22,7 +22,7 @@ impl Network {
         contract(instance, nodes, &mut self.arcs);
     }
 
-    // Takes so many steps.
+    // Takes this many steps.
     fn set_steps(&mut self, count: u32)
         ensures { self.new ≡ record self.old { instance = record { steps = count; units = self.old.instance.units; arcs = self.old.instance.arcs } } }
     {
@@ -70,7 +70,7 @@ impl Network {
         );
     }
 
-    /// Takes room for so many open steps.
+    /// Takes room for this many open steps.
     pub fn make_room(&mut self, alloc: Global, count: u32) -> Result<(), NoMemory>
         requires { count ≤ 2 ^ 25 }
         ensures rest { IfOk result (λ done. self.new ≡ record self.old { flows = record { outer = self.old.flows.outer; inner = self.new.flows.inner }; potentials = self.new.potentials; over = self.new.over; under = self.new.under }) }
@@ -84,7 +84,7 @@ impl Network {
         Ok(())
     }
 
-    /// Lets so many steps be open, which are numbered: takes the arcs between the nodes, the potentials that the prices are
+    /// Lets this many steps be open, and numbers them: takes the arcs between the nodes, the potentials that the prices are
     /// the falls of, and what the loads leave over.
     pub fn open(
         &mut self,

@@ -39,7 +39,7 @@ impl Model for Search {
 }
 
 impl Search {
-    /// Room for searches over the nodes between so many open steps.
+    /// Room for searches over the nodes between this many open steps.
     pub fn new(alloc: Global, count: u32) -> Result<Search, NoMemory>
         requires { count ≤ 2 ^ 25 }
         ensures { IfOk result (IsIdle count) }

@@ -8,7 +8,7 @@ ghost use Rattle.flow_uniform.specs.Holdings.{IsHeld};
 use flow_model::Instance;
 use flow_parts::Heap;
 
-// Takes so much of the flow of the arc that is out of the heap. It is put back if it has flow left.
+// Takes this much of the flow of the arc that is out of the heap. It is put back if it has flow left.
 fn lower(
     instance: &Instance,
     number: u32,

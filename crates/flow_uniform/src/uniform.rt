@@ -31,7 +31,7 @@ fn is_uniform(arcs: &[OuterArc], cost: u128) -> bool
     true
 }
 
-/// The cost of all arcs that cost something, if they cost the same. It is 1 where no arc costs anything.
+/// The cost of all arcs that cost something, if they cost the same. It is 1 if no arc costs anything.
 pub fn common_cost(instance: &Instance) -> Option<u128>
     ensures some { IfSome result (λ cost. 0 < cost) }
     ensures uniform { IfSome result (λ cost. IsUniform cost instance.now.arcs) }

@@ -7,7 +7,7 @@ use Rattle.cache_model.proofs.Streams.{sum_by-range_last}
 use Rattle.flow_model.specs.declared.arcs.OuterArc.{OuterArc}
 use Rattle.flow_model.specs.Windows.{last_window, part_share, part_steps}
 
--- what so many steps of the arc cost
+-- what a number of steps of the arc cost
 abbrev pub share_at : OuterArc → ℕ → ℕ
 share_at arc steps = arc.cost * steps / (arc.end - arc.start)
 
@@ -24,7 +24,7 @@ pub record AreEnds (width : ℕ) (arc : OuterArc) (first last : ℕ) : Type 0 wh
 pub ends_of : (width : ℕ) (arc : OuterArc) → 0 < width → arc.start < arc.end → AreEnds width arc (arc.start / width) (last_window width arc)
 ends_of width arc some order = record { order = order; begins = omega arith; soon = omega arith; ends = omega arith }
 
--- so many windows before the first have no share
+-- windows before the first have no share
 none_before : (width : ℕ) (arc : OuterArc) (first last k : ℕ) → AreEnds width arc first last → k ≤ first → sum_by (shares width arc) (range_with_len 0 k) ≡ 0
 none_before width arc first last zero are low = refl
 none_before width arc first last (suc k) are low =

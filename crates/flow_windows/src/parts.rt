@@ -7,7 +7,7 @@ use bound_base::{NoMemory, floor_div};
 use flow_model::{Instance, OuterArc};
 use std::alloc::Global;
 
-// The cost of the arc, shared among its steps and rounded down, for so many of them.
+// The cost of the arc, shared among its steps and rounded down, for this many of them.
 fn share_of(arc: &OuterArc, steps: u64) -> u128
     requires order { arc.now.start < arc.now.end }
     requires cost { arc.now.cost ≤ 2 ^ 97 }
@@ -119,7 +119,7 @@ impl Window {
         }
     }
 
-    /// How many of so many steps stand in the window.
+    /// How many of this many steps stand in the window.
     pub(crate) fn steps_within(self, steps: u32) -> u32
         requires { self.width * self.number ≤ steps }
         ensures { result ≡ min steps (self.width * (self.number + 1)) - self.width * self.number }

@@ -25,7 +25,7 @@ impl Model for Starts {
 }
 
 impl Starts {
-    /// The lists for so many windows of that width. They take 4 bytes for each window and for each arc.
+    /// The lists for this many windows of that width. They take 4 bytes for each window and for each arc.
     pub(crate) fn new(
         alloc: Global,
         arcs: &[OuterArc],

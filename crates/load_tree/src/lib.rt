@@ -1,6 +1,7 @@
 //! The load of each step: how many bytes the schedule holds there.
 //!
-//! Rounding asks it whether an interval still fits at every step that it covers.
+//! Rounding asks `SmallLoads`, of loads below 2^64, whether an interval still fits at every step that it covers. `Loads` is
+//! for callers with greater loads, and tells maxima too.
 #![tactic(auto)]
 
 mod levels;

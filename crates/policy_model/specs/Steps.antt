@@ -5,7 +5,7 @@ use Rattle.policy_model.specs.declared.names.PolicyName.{PolicyName}
 use Rattle.policy_model.specs.declared.names.PolicyName.TheVariants.{Lru, Fifo, Clock, Lfu, Belady}
 use Rattle.policy_model.specs.States.{Entry, State, used, has_entry}
 
--- entries go one by one until so many bytes fit; this many turns are enough
+-- entries go one by one until this many bytes fit; `turns` turns are enough
 abbrev pub make_room : ℕ → (List Entry → List Entry) → ℕ → ℕ → List Entry → List Entry
 make_room zero remove capacity size entries = entries
 make_room (suc turns) remove capacity size entries =

@@ -42,7 +42,7 @@ fn upper_of(
     Ok(bound_of(intervals, whole.unit, whole.units, whole.denominator, &sums))
 }
 
-// No prices for so many steps.
+// No prices for this many steps.
 fn no_prices(alloc: Global, steps: u32) -> Result<Vec<u128>, NoMemory>
     ensures { IfOk result (λ r. r.items ≡ replicate steps 0) }
 {
@@ -171,7 +171,7 @@ fn settled_prices(
 }
 
 /// Prices that are settled for the blocks of a width, and give no greater bound than those that are given. There is one
-/// price for each step, over the denominator, for so many units of `unit` bytes.
+/// price for each step, over the denominator, for this many units of `unit` bytes.
 ///
 /// The blocks are settled in rounds, as long as a round lowers the bound by a 128th of it. If the last one lowered it at
 /// all, the steps but the last one are then settled as one block, which settles every block. It takes 48 bytes for each

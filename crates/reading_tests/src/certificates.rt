@@ -205,7 +205,7 @@ fn a_prefix_is_truncated_at_the_line_where_it_ends(rt: HostRuntime) {
     }
 }
 
-// A byte so many times, and what follows it.
+// A byte this many times, and what follows it.
 fn repeated(rt: &impl Abort, alloc: Global, byte: u8, count: usize, end: &[u8]) -> Vec<u8> {
     let mut text = vec![in alloc; byte; count].expect(rt, "memory");
     text.extend_from_slice(end).expect(rt, "memory");

@@ -107,7 +107,7 @@ fn gives_the_requests_of_records(rt: HostRuntime) {
     }
 }
 
-// What a load of the trace gives, where a read gives so many bytes: how many requests and objects there are, and how
+// What a load of the trace gives, where a read gives this many bytes: how many requests and objects there are, and how
 // many records were dropped.
 fn loaded_at(
     rt: &impl Abort,

@@ -262,7 +262,7 @@ fn gives(
     reader.next(alloc, source) == want
 }
 
-// A source of the trace, whose reads give so many bytes, and of which one fails, or none if its number is 0.
+// A source of the trace, whose reads give this many bytes, and of which one fails, or none if its number is 0.
 fn source_of(rt: &impl Abort, alloc: Global, trace: &[u8], failing: u64, step: usize) -> MemSource
     requires { 1 ≤ step }
 {
@@ -293,7 +293,7 @@ fn check_answers(
     same(step, reader.dropped(), row.dropped).expect(rt, "a row");
 }
 
-// The answers, where a read gives so many bytes.
+// The answers, where a read gives this many bytes.
 pub fn check_at(rt: &impl Abort, alloc: Global, row: &Row<'_>, step: usize)
     requires { 1 ≤ step }
 {

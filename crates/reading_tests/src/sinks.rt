@@ -15,7 +15,7 @@ fn write_each<K: Sink>(rt: &impl Abort, sink: &mut K, rows: &[Row]) {
     }
 }
 
-// A sink for so many bytes, which takes at most `step` of them a call and fails at one call, or at none if its
+// A sink for this many bytes, which takes at most `step` of them a call and fails at one call, or at none if its
 // number is 0.
 fn sink_of(rt: &impl Abort, alloc: Global, room: usize, failing: u64, step: usize) -> MemSink
     requires { 1 ≤ step }

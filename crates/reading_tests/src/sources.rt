@@ -11,7 +11,7 @@ use std::rt::Files;
 // What a read gives, and its answer.
 type Row = (&'static [u8], Result<usize, Failed>);
 
-// Reads into a buffer of so many bytes.
+// Reads into a buffer of this many bytes.
 fn read_each<S: Source>(rt: &impl Abort, source: &mut S, room: usize, rows: &[Row]) {
     holds(room, room <= 5).expect(rt, "a row");
     for (prefix, want) in rows {

@@ -26,7 +26,7 @@ fn arc_of(interval: &Interval, unit: u64, denominator: u64) -> OuterArc
     }
 }
 
-/// The instance of the intervals over the steps of their trace, with room for so many units. The arcs stand in the
+/// The instance of the intervals over the steps of their trace, with room for this many units. The arcs stand in the
 /// order of the intervals. Weights are sizes in units of `unit` bytes, and costs are over the denominator.
 /// It takes one pass, and 32 bytes for each interval.
 pub fn instance(

@@ -15,7 +15,7 @@ const MOST: u64 = 1 << 48;
 /// Which denominator is wanted.
 #[derive(Clone, Copy, Debug, PartialEq, Eq)]
 pub enum DenominatorChoice {
-    /// The least that rounds no cost, or 2^48 where that passes 2^48.
+    /// The least that rounds no cost, or 2^48 if that passes 2^48.
     Auto,
     /// The least that rounds no cost.
     Exact,
@@ -30,7 +30,7 @@ pub struct Denominator {
     pub exact: bool,
 }
 
-/// The least denominator that rounds no cost of the first so many intervals passes 2^48, and that of no fewer does.
+/// The least denominator that rounds no cost of the first `intervals` intervals passes 2^48, and that of no fewer does.
 #[derive(Clone, Copy, Debug, PartialEq, Eq)]
 pub struct DenominatorLimit {
     pub intervals: u32,

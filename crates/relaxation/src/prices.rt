@@ -58,7 +58,7 @@ impl Model for Sums {
     ghost invariant = { λ s. AreSums (rises_of s.sums.items) s.sums.items × (s.units * sum (rises_of s.sums.items) ≤ most_paid) };
 }
 
-// A list of one sum, 0, with room for so many more.
+// A list of one sum, 0, with room for this many more.
 fn room_for(alloc: Global, steps: usize) -> Result<Vec<u128>, NoMemory>
     requires { steps ≤ 2 ^ 25 }
     ensures first { IfOk result (λ sums. sums.items ≡ 0 ∷ []) }
@@ -80,7 +80,7 @@ fn with_price(sum: u128, price: u128, limit: u128) -> Option<u128>
 }
 
 impl Sums {
-    /// The sums of the prices, one for each step, for so many units. It takes one pass.
+    /// The sums of the prices, one for each step, for this many units. It takes one pass.
     pub fn new(alloc: Global, prices: &[u128], units: u64) -> Result<Sums, PriceFault>
         requires few { length prices.now ≤ 2 ^ 25 }
         requires units { 1 ≤ units }

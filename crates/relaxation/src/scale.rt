@@ -1,7 +1,8 @@
 //! What the bounds of a trace are counted in.
 ghost use Rattle.std.specs.Prelude.{◌≤◌, ◌^◌};
 
-/// A unit of so many bytes, how many units the cache holds, and the denominator over which prices and values are whole.
+/// A unit of this many bytes, how many units the cache holds, and the denominator over which prices and values are
+/// whole.
 #[derive(Clone, Copy)]
 pub struct Scale {
     pub unit: u64,

@@ -18,7 +18,7 @@ fn divisor_of(intervals: &[Interval]) -> u64
     divisor
 }
 
-/// The greatest common divisor of the sizes of the intervals, in bytes, and 1 where there is none.
+/// The greatest common divisor of the sizes of the intervals, in bytes, and 1 if there is none.
 pub fn unit_of(intervals: &Intervals) -> u64
     ensures unit { IsUnit intervals.now.items result }
     ensures positive { 1 ≤ result }

@@ -15,7 +15,7 @@ pub record IsSound (capacity : ℕ) (members : List Member) : Type 0 where
 abbrev pub StateFits : Option State → List Member → ℕ → Type 0
 StateFits known_state members capacity = IfSome known_state (λ s. (members_of s.entries ≡ members) × (s.capacity ≡ capacity))
 
--- a state that was told before is known after, one step of its rule later
+-- a state that was known before is known after, one step of its rule later
 abbrev pub StepsBy : Option State → Option State → ℕ → ℕ → Option ℕ → Type 0
 StepsBy before after object size next = IfSome before (λ s. after ≡ Some (policy_step s object size next).after)
 

@@ -116,7 +116,7 @@ fn put(
     }
 }
 
-// Gives up the least used entries until so many bytes fit, and says how many bytes are still used.
+// Gives up the least used entries until this many bytes fit, and says how many bytes are still used.
 fn free_least_used(
     entries: &mut BTreeMap<u32, Counted>,
     order: &mut BTreeSet<((u64, u64), u32)>,

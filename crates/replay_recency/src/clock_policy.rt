@@ -89,7 +89,7 @@ fn turn(queue: &mut VecDeque<(u32, u64)>, marks: &mut HashMap<u32, bool>) -> u64
     size
 }
 
-// Turns the hand until so many bytes fit, and says how many are still used.
+// Turns the hand until this many bytes fit, and says how many are still used.
 fn free_by_hand(
     queue: &mut VecDeque<(u32, u64)>,
     marks: &mut HashMap<u32, bool>,

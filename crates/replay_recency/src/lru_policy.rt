@@ -39,7 +39,7 @@ impl Model for Lru {
     ghost invariant = { λ p. IsLru p.capacity p.used p.entries.cap p.entries.entries };
 }
 
-// Gives up the entries that were used longest ago, until so many bytes fit, and says how many are still used.
+// Gives up the entries that were used longest ago, until this many bytes fit, and says how many are still used.
 pub(crate) fn free_oldest(
     entries: &mut LruCache<u32, u64>,
     in_use: u64,

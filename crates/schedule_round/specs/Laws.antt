@@ -1,4 +1,4 @@
--- The intervals with full flows, and what rounding comes to where all sizes are equal.
+-- The intervals with full flows, and what rounding comes to if all sizes are equal.
 use Rattle.std.specs.Prelude.{◌≡◌, ℕ, ◌*◌, ◌/◌, ◌<◌, ◌≤◌, Bool, ◌==◌, List, length, map, zip, All}
 use Prim.Native.Nat.{◌∣◌}
 use Rattle.cache_model.specs.declared.objects.Object.{Object}
@@ -22,7 +22,7 @@ FullFlagsFit =
     → IsFractionalSchedule intervals unit (capacity / unit) flows
     → FitTogether intervals capacity (full_flags unit intervals flows)
 
--- where all intervals have one size no cost is rounded, whatever the denominator
+-- if all intervals have one size, no cost is rounded, whatever the denominator
 abbrev pub EqualSizesAreWhole : Type 0
 EqualSizesAreWhole =
     (intervals : List Interval) (size unit denominator : ℕ)
@@ -31,12 +31,12 @@ EqualSizesAreWhole =
     → IsUnit intervals unit
     → HasWholeCosts intervals unit denominator
 
--- the keeps score the whole bound, over the denominator, and no policy scores more than they do
+-- the keeps score the whole bound, over the denominator; if that is above 0, no allowed contents score more than they do
 pub record IsBestSchedule (terms : Terms) (trace : List Object) (denominator bound : ℕ) (keeps : List Bool) : Type 0 where
   pub equal : bound ≡ denominator * score terms trace (contents_of trace keeps)
   pub best : 0 < denominator → (contents : List (List Object)) → IsAllowed terms.capacity trace contents → score terms trace contents ≤ score terms trace (contents_of trace keeps)
 
--- where all eligible intervals have one size and flows are worth the bound of prices, the keeps that are rounded from the full flows are a best schedule
+-- if all eligible intervals have one size and flows are worth the bound of prices, the keeps that are rounded from the full flows are a best schedule
 abbrev pub EqualSizesMeetTheBound : Type 0
 EqualSizesMeetTheBound =
     (terms : Terms) (trace : List Object) (size unit denominator : ℕ) (prices flows : List ℕ) (ahead : Interval → Interval → Bool) (keeps : List Bool)

@@ -278,7 +278,7 @@ tree-none places sums few none =
 pub length-marks_of : (places : ℕ) (sums : List ℕ) → length sums ≡ 2 * places → length (marks_of places sums) ≡ places
 length-marks_of places sums long = omega (arith, length-map (drop places sums) (λ leaf. eqb leaf 1), length-drop places sums, long)
 
--- the marks among so many leaves are their sum
+-- the marks among this many leaves are their sum
 pub count-leaves : (sums : List ℕ) (node n : ℕ) → node + n ≤ length sums → ((i : ℕ) → node ≤ i → i < node + n → sum_at sums i ≤ 1)
     → count_by (λ on. on) (take n (map (λ leaf. eqb leaf 1) (drop node sums))) ≡ sum_from sums node n
 count-leaves sums node zero within leaves = refl

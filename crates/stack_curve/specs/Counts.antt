@@ -23,7 +23,7 @@ hits_before trace slots t = count_by (λ u. is_within slots (stack_distance trac
 abbrev pub sum_to : List ℕ → ℕ → ℕ
 sum_to counts k = sum_by (λ count. count) (take (k + 1) counts)
 
--- of the first t requests so many have each stack distance
+-- how many of the first t requests have each stack distance
 pub record AreCounts (trace : List Object) (t : ℕ) (counts : List ℕ) : Type 0 where
   pub places : length counts ≡ length (objects_of trace) + 1
   pub sums : (k : ℕ) → k < length counts → sum_to counts k ≡ hits_before trace k t

@@ -32,21 +32,21 @@ pub record IsClash (trace : List Object) (first other : ℕ) : Type 0 where
   pub first_is : first ≡ size_at trace 0
   pub other_is : IsFirstOther trace first other
 
--- a clash is of two sizes, and otherwise there is one size and memory was wanting
+-- a clash is of two sizes, and otherwise there is one size and memory ran out
 abbrev pub IsCause : List Object → CurveFault → Type 0
 IsCause trace (Unequal first other) = IsClash trace first other
 IsCause trace NoMemory = HaveSize (first_size trace) trace
 
--- a curve: the size of all objects, and the hits at each number of slots up to the last that adds any
+-- a curve: the size of all objects, and the hits at numbers of slots from 0 on; with more slots they are the last one's
 pub record Points : Type 0 where
   pub size : ℕ
   pub hits : List ℕ
 
--- the hits at so many slots
+-- the hits at this many slots
 abbrev pub hits_with : Points → ℕ → ℕ
 hits_with points slots = slice_index_or points.hits (min slots (length points.hits - 1)) 0
 
--- the hits at this capacity, in bytes: as many slots as objects fit
+-- the hits at this capacity, in bytes: those of as many slots as objects fit, and none if the size is 0
 abbrev pub hits_within : Points → ℕ → ℕ
 hits_within points capacity = if points.size == 0 then 0 else hits_with points (capacity / points.size)
 

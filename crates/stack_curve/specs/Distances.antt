@@ -24,11 +24,11 @@ stack_distance trace t =
     let x = request_at trace t in
     if list_any (same_object x) (earlier trace t) then Some (different (x ∷ since x (earlier trace t))) else None
 
--- whether there is a distance, of at most so many slots
+-- whether there is a distance, of at most this many slots
 abbrev pub is_within : ℕ → Option ℕ → Bool
 is_within slots None = false
 is_within slots (Some distance) = nat_le distance slots
 
--- how many requests have a stack distance of at most so many slots
+-- how many requests have a stack distance of at most this many slots
 abbrev pub curve_hits : List Object → ℕ → ℕ
 curve_hits trace slots = count_by (λ t. is_within slots (stack_distance trace t)) (numbers_of trace)

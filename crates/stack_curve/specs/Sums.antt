@@ -5,7 +5,7 @@ use Rattle.std.specs.Prelude.{◌≡◌, ℕ, zero, suc, ◌+◌, ◌*◌, ◌<�
 abbrev pub sum_at : List ℕ → ℕ → ℕ
 sum_at sums node = slice_index_or sums node 0
 
--- the sums at so many nodes, from this node on, summed
+-- the sums at this many nodes, from this node on, summed
 abbrev pub sum_from : List ℕ → ℕ → ℕ → ℕ
 sum_from sums node zero = 0
 sum_from sums node (suc n) = sum_at sums node + sum_from sums (node + 1) n

@@ -30,7 +30,7 @@ impl Curve {
         self.size
     }
 
-    // The hits at so many slots.
+    // The hits at this many slots.
     fn at(&self, slots: u64) -> u64
         ensures { result ≡ hits_with self.now slots }
     {
@@ -38,7 +38,7 @@ impl Curve {
         u64::from(self.hits[slots.min(most as u64) as usize])
     }
 
-    /// LRU's hits in a cache of so many slots.
+    /// LRU's hits in a cache of this many slots.
     pub fn hits(&self, slots: u32) -> u64
         ensures { result ≡ hits_with self.now slots }
     {

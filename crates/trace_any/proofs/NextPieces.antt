@@ -46,7 +46,7 @@ pub next_size-le : (records : Bool) (bytes : List ℕ) → next_size records byt
 next_size-le true bytes = omega (arith, length-take 24 bytes)
 next_size-le false bytes = omega (arith, length-take (text_len bytes + 1) bytes)
 
--- as many bytes as there are of so many from the front
+-- this many bytes from the front, or all that there are
 drop_taken : (n : ℕ) (bytes : List ℕ) → drop (length (take n bytes)) bytes ≡ drop n bytes
 drop_taken n bytes = by (cases_lt n (length bytes))
   where

@@ -37,7 +37,7 @@ stays format limits r ((text, size) ∷ lines) stop = ap (λ s. fold (read_line 
 pub read_on-stopped : (format : Format) (limits : Limits) (r : Reading) (fault : TraceFault) (bytes : List ℕ) → read_on format limits (stopped r fault) bytes ≡ stopped r fault
 read_on-stopped format limits r fault bytes = stays format limits (stopped r fault) (pieces_of format bytes) refl
 
--- room for so many requests, and these bytes
+-- room for this many requests, and these bytes
 abbrev pub room : ℕ → ℕ → Limits
 room requests bytes = record { requests = requests; bytes = bytes }
 

@@ -7,7 +7,7 @@ use Rattle.trace_any.specs.declared.format.Limits.{Limits}
 use Rattle.trace_any.specs.Readings.{Reading, pieces_of, nothing_read, read_line, reading}
 use Rattle.trace_any.specs.Readers.{Reader, after, bytes_after, room_left, with_ahead}
 
--- the first lines of some bytes, so many or all that there are: the text of each, and how many bytes it has; a record counts as a line, and is its text
+-- the first `count` lines of some bytes, or all that there are: the text of each, and how many bytes it has; a record counts as a line, and is its text
 abbrev pub first_lines : Format → ℕ → List ℕ → List (List ℕ × ℕ)
 first_lines format count bytes = take count (pieces_of format bytes)
 
@@ -19,7 +19,7 @@ bytes_of lines = sum_by (λ line. line.1) lines
 abbrev pub reading_of_first : Format → Limits → ℕ → List ℕ → Reading
 reading_of_first format limits count bytes = fold (read_line format limits) nothing_read (first_lines format count bytes)
 
--- what a source lost for so many requests of a trace, if this is left: at most the first lines that have them, however few, and a buffer of bytes; or all, if the trace has fewer requests
+-- what a source lost for this many requests of a trace, if this is left: at most the fewest first lines that have them, and a buffer of bytes; or all, if the trace has fewer requests
 pub record HasLostFor (format : Format) (limits : Limits) (count : ℕ) (bytes left : List ℕ) : Type 0 where
   pub near : count ≤ length (reading format limits bytes).requests → (lines : ℕ) → count ≤ length (reading_of_first format limits lines bytes).requests → length bytes ≤ length left + bytes_of (first_lines format lines bytes) + 65536
   pub all : length (reading format limits bytes).requests < count → left ≡ []

@@ -112,7 +112,7 @@ abbrev pub with_named : List Volume → Option Volume → List Volume
 with_named volumes None = volumes
 with_named volumes (Some v) = with_volume volumes v
 
--- a line asks for nothing and is dropped, or for some blocks of its volume, which is with_named
+-- a line asks for nothing and is dropped, or for some blocks of its volume, which is numbered if it is new
 abbrev pub spanned : ℕ → Reading → Option Volume → Span → Reading
 spanned most r volume Nothing = record r { dropped = r.dropped + 1 }
 spanned most r volume (One id size) = requested most (record r { volumes = with_named r.volumes volume }) (number_of r.volumes volume) id 1 size
@@ -124,7 +124,7 @@ with_line most r (Ok None) = r
 with_line most r (Ok (Some what)) = spanned most r what.volume what.span
 with_line most r (Err kind) = stopped r (BadLine r.lines kind)
 
--- one more line or record, of a text and so many bytes, if the reading has not stopped
+-- one more line or record, of a text and its number of bytes, if the reading has not stopped
 abbrev pub read_line : Format → Limits → Reading → List ℕ × ℕ → Reading
 read_line format limits r (text, size) =
     let now : Reading = record r { lines = r.lines + 1; bytes = r.bytes + size } in

@@ -8,7 +8,7 @@ use Rattle.trace_lines.specs.declared.line.Span.TheVariants.{Nothing, Blocks}
 use Rattle.trace_lines.specs.declared.line.LineKind.{LineKind}
 use Rattle.trace_lines.specs.declared.line.LineKind.TheVariants.{TooFewWords, BadNumber, BadRange}
 
--- the blocks from the first on, or nothing if there is none; the last has to be below 2^64
+-- the blocks from the first on, or nothing if there is none; the last must be below 2^64
 abbrev pub blocks_of : ℕ → ℕ → Result Span LineKind
 blocks_of first count = if count == 0 then Ok Nothing else (if nat_lt (2 ^ 64) (first + count) then Err BadRange else Ok (Blocks first count 512))
 

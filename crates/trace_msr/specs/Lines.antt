@@ -26,7 +26,7 @@ answer_of (Err kind) = Err kind
 abbrev pub is_action : List ℕ → Bool
 is_action text = str_eq_ignore_ascii_case text (codes "Read") || str_eq_ignore_ascii_case text (codes "Write")
 
--- each block of `block` bytes that the bytes from the offset on touch, or nothing if there is no byte; the last byte has to be below 2^64
+-- each block of `block` bytes that the bytes from the offset on touch, or nothing if there is no byte; the last byte must be below 2^64
 abbrev pub blocks_of : ℕ → ℕ → ℕ → Result Span LineKind
 blocks_of block offset size =
     if size == 0 then Ok Nothing

@@ -8,7 +8,7 @@ abbrev pub little_endian : List ℕ → ℕ
 little_endian [] = 0
 little_endian (byte ∷ more) = byte + 256 * little_endian more
 
--- so many bytes of a record after the first so many, as a number
+-- the number in `count` bytes of a record, from byte `place` on
 abbrev pub number_after : ℕ → ℕ → List ℕ → ℕ
 number_after place count bytes = little_endian (take count (drop place bytes))
 

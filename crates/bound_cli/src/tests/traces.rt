@@ -173,7 +173,7 @@ fn block_traces_are_read_or_refused_at_their_line(rt: HostRuntime) {
     }
 }
 
-// A line of one request, whose text has so many bytes.
+// A line of one request, whose text has this many bytes.
 fn padded(rt: &impl Abort, alloc: Global, bytes: usize) -> Vec<u8> {
     let mut text = b"1 7 4".to_vec(alloc).expect(rt, "memory");
     for _ in text.len()..bytes {
@@ -183,7 +183,7 @@ fn padded(rt: &impl Abort, alloc: Global, bytes: usize) -> Vec<u8> {
     text
 }
 
-// A run over a trace of one line with so many bytes of text, read in steps.
+// A run over a trace of one line with this many bytes of text, read in steps.
 fn check_long(rt: &impl Abort, alloc: Global, bytes: usize, step: usize, status: Status)
     requires { 1 ≤ step }
 {

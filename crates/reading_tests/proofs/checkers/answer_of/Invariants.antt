@@ -1,4 +1,4 @@
--- so many steps were taken, of as many as there are requests
+-- steps were taken, at most one for each request
 use Rattle.std.proofs.Common.{◌≡◌, length}
 use Rattle.reading_tests.proofs.checkers.answer_of.Given as goal
 
