@@ -63,6 +63,7 @@ impl Volumes {
     }
 
     /// The number of a volume, from 1. A new one takes memory; a known one is looked up without any.
+    #[inline(never)]
     pub fn number(&mut self, alloc: Global, host: &[u8], disk: u64) -> Result<u32, NoMemory>
         requires few { length self.old ≤ 2 ^ 25 }
         ensures number { IfOk result (λ n. n ≡ volume_number self.old (record { host = host.now; disk = disk })) }

@@ -40,6 +40,7 @@ fn blocks(first: u64, count: u64) -> Result<Span, LineKind>
 
 /// What the line asks for, or why it is refused. The text is without its end of line, and without a CR there. Takes
 /// time in the bytes up to the end of the second word.
+#[inline(never)]
 pub fn parse(line: &[u8]) -> Result<Span, LineKind>
     ensures span { result ≡ line_span line.now }
     ensures range { IfOk result (λ s. IsSpan s) }

@@ -59,7 +59,7 @@ skip_case p byte text true is later = rw (parts-cons_yes p byte text is, is, one
 skip_case p byte text false is later = rw (is, is) refl
 
 -- the bytes at the beginning that pass stand in no part
-parts-skip : (p : ℕ → Bool) (text : List ℕ) → parts p text ≡ parts p (drop (position_or_len (other p) text) text)
+pub parts-skip : (p : ℕ → Bool) (text : List ℕ) → parts p text ≡ parts p (drop (position_or_len (other p) text) text)
 parts-skip p [] = refl
 parts-skip p (byte ∷ text) = skip_case p byte text (p byte) refl (parts-skip p text)
 
@@ -88,6 +88,13 @@ parts-first p text k is some =
           let long : 0 < length text = omega arith in
           rw (take_all k text past, drop_all k text past) (parts-whole p text long (omega (arith, is)))
     ]
+
+-- some bytes that do not pass, at the beginning, are a part if one that passes follows them or none at all
+pub parts-leading : (p : ℕ → Bool) (text : List ℕ) (k : ℕ) → 0 < k → k ≤ length text → ((i : ℕ) → i < k → p (get_or text i 0) ≡ false) → (k < length text → p (get_or text k 0) ≡ true)
+    → parts p text ≡ take k text ∷ parts p (drop k text)
+parts-leading p text k some within none ends =
+    let is = position_or_len_is p text k 0 within none ends in
+    parts-first p text k (sym is) some
 
 -- a text whose first byte does not pass has a byte before the first that does
 prefix_len-pos : (p : ℕ → Bool) (text : List ℕ) → 0 < length text → p (get_or text 0 0) ≡ false → 0 < position_or_len p text

@@ -1,5 +1,5 @@
 //! Words, which stand apart by spaces and tabs.
-ghost use Rattle.std.specs.Prelude.{◌≡◌, ◌∷◌, [], ◌-◌, ◌<◌, ◌≤◌, ◌++◌, not, length, position, slice_get, MatchOption, IfSome};
+ghost use Rattle.std.specs.Prelude.{◌≡◌, ◌∷◌, [], ◌-◌, ◌<◌, ◌≤◌, ◌++◌, ◌==◌, ◌||◌, not, length, position, slice_get, slice_index_or, MatchOption, IfSome};
 ghost use Rattle.std.specs.Option.{option_copied};
 ghost use Rattle.trace_lines.specs.Lines as lines;
 ghost use Rattle.trace_lines.specs.Lines.{EndsIn, is_gap, words};
@@ -22,6 +22,25 @@ fn first_gap(text: &[u8]) -> Option<usize>
     ensures { result ≡ position is_gap text.now }
 {
     text.iter().position(|byte| is_gap_byte(*byte))
+}
+
+/// The text from its first word on. Takes time in the gaps before it.
+pub fn skip_gaps(line: &[u8]) -> &[u8]
+    ensures { words result.now ≡ words line.now }
+{
+    let start = word_start(line).unwrap_or(line.len());
+    let (_, text) = line.split_at(start);
+    text
+}
+
+/// Whether a word that stands right before these bytes ends there.
+pub fn ends_word(after: &[u8]) -> bool
+    ensures { result ≡ (length after.now == 0 || is_gap (slice_index_or after.now 0 0)) }
+{
+    match after.first() {
+        Some(byte) => is_gap_byte(*byte),
+        None => true,
+    }
 }
 
 /// The first word and what stands after it, or None if there is no word. Takes time in the length of the word

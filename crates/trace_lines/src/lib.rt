@@ -9,6 +9,6 @@ mod last;
 mod line;
 
 pub use commas::{field, first_field};
-pub use gaps::{first_word, is_blank, word};
+pub use gaps::{ends_word, first_word, is_blank, skip_gaps, word};
 pub use last::trim_cr;
 pub use line::{LineKind, Span};

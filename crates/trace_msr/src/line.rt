@@ -36,6 +36,7 @@ fn is_action(text: &[u8]) -> bool
 
 /// What the line asks for in blocks of `block` bytes, and of which disk, or why it is refused. The text is without
 /// its end of line, and without a CR there. Takes time in the length of the line.
+#[inline(never)]
 pub fn parse(line: &[u8], block: u64) -> Result<MsrLine<'_>, LineKind>
     requires { (1 ≤ block) × (block ≤ 2 ^ 48) }
     ensures parts { answer_of result ≡ line_parts block line.now }

@@ -4,5 +4,6 @@
 #![tactic(auto)]
 
 mod line;
+mod number;
 
 pub use line::parse;

@@ -10,10 +10,9 @@ use Rattle.trace_webcache.specs.Lines.{line_span, span_of}
 use Rattle.trace_webcache.proofs.line.parse.Goals as goal
 
 -- what a line of three words asks for, if the second and the third are numbers
-span_is : (line a b : List ℕ) (id size : ℕ) → 3 ≤ length (words line) → a ≡ slice_index_or (words line) 1 [] → b ≡ slice_index_or (words line) 2 []
-    → number_of (2 ^ 64) a ≡ Ok id → number_of (2 ^ 64) b ≡ Ok size → line_span line ≡ span_of (Ok id) (Ok size)
-span_is line a b id size enough a_is b_is id_is size_is =
-    rw (le-ltb (length (words line)) 3 enough, ← a_is, ← b_is, id_is, size_is) refl
+span_is : (line : List ℕ) (id size : ℕ) → 3 ≤ length (words line) → number_of (2 ^ 64) (slice_index_or (words line) 1 []) ≡ Ok id → number_of (2 ^ 64) (slice_index_or (words line) 2 []) ≡ Ok size
+    → line_span line ≡ span_of (Ok id) (Ok size)
+span_is line id size enough id_is size_is = rw (le-ltb (length (words line)) 3 enough, id_is, size_is) refl
 
 -- a size within the range is a request
 one_span : (id size : ℕ) → size ≤ 2 ^ 48 → (size ≡ 0 → ⊥) → span_of (Ok id) (Ok size) ≡ Ok (One id size)
@@ -32,20 +31,20 @@ large_span id size large = rw (lt-ltb (2 ^ 48) size large) refl
 pub returns-else-size-eq0-clause-span : goal.returns-else-size-eq0-clause-span
 returns-else-size-eq0-clause-span c =
     sym
-    (span_is c.args.line.now c.in-Some.id.now c.in-Some.size.now c.in-Ok.id c.in-Ok-read_u64.size (c.in-Some.ensures.enough.0 refl) c.in-Some.ensures.id c.in-Some.ensures.size (sym c.read_u64.ensures ∙ c.in-Ok.is) (sym c.read_u64-2.ensures ∙ c.in-Ok-read_u64.is)
-    ∙ one_span c.in-Ok.id c.in-Ok-read_u64.size c.if-size-gt-MOST_SIZE.false c.if-size-eq0.false)
+    (span_is c.args.line.now c.in-Ok.id c.in-Ok-size.size (c.in-Some.ensures.enough.0 refl) (sym c.in-Some.ensures.id ∙ c.in-Ok.is) (sym c.in-Some.ensures.size ∙ c.in-Ok-size.is)
+    ∙ one_span c.in-Ok.id c.in-Ok-size.size c.if-size-gt-MOST_SIZE.false c.if-size-eq0.false)
 
 pub returns-then-size-eq0-clause-span : goal.returns-then-size-eq0-clause-span
 returns-then-size-eq0-clause-span c =
     sym
-    (span_is c.args.line.now c.in-Some.id.now c.in-Some.size.now c.in-Ok.id c.in-Ok-read_u64.size (c.in-Some.ensures.enough.0 refl) c.in-Some.ensures.id c.in-Some.ensures.size (sym c.read_u64.ensures ∙ c.in-Ok.is) (sym c.read_u64-2.ensures ∙ c.in-Ok-read_u64.is)
-    ∙ no_span c.in-Ok.id c.in-Ok-read_u64.size c.if-size-eq0.true)
+    (span_is c.args.line.now c.in-Ok.id c.in-Ok-size.size (c.in-Some.ensures.enough.0 refl) (sym c.in-Some.ensures.id ∙ c.in-Ok.is) (sym c.in-Some.ensures.size ∙ c.in-Ok-size.is)
+    ∙ no_span c.in-Ok.id c.in-Ok-size.size c.if-size-eq0.true)
 
 pub returns-then-size-gt-MOST_SIZE-clause-span : goal.returns-then-size-gt-MOST_SIZE-clause-span
 returns-then-size-gt-MOST_SIZE-clause-span c =
     sym
-    (span_is c.args.line.now c.in-Some.id.now c.in-Some.size.now c.in-Ok.id c.in-Ok-read_u64.size (c.in-Some.ensures.enough.0 refl) c.in-Some.ensures.id c.in-Some.ensures.size (sym c.read_u64.ensures ∙ c.in-Ok.is) (sym c.read_u64-2.ensures ∙ c.in-Ok-read_u64.is)
-    ∙ large_span c.in-Ok.id c.in-Ok-read_u64.size c.if-size-gt-MOST_SIZE.true)
+    (span_is c.args.line.now c.in-Ok.id c.in-Ok-size.size (c.in-Some.ensures.enough.0 refl) (sym c.in-Some.ensures.id ∙ c.in-Ok.is) (sym c.in-Some.ensures.size ∙ c.in-Ok-size.is)
+    ∙ large_span c.in-Ok.id c.in-Ok-size.size c.if-size-gt-MOST_SIZE.true)
 
 pub returns-else-size-eq0-clause-range : goal.returns-else-size-eq0-clause-range
 returns-else-size-eq0-clause-range c = (omega (arith, c.if-size-eq0.false), c.if-size-gt-MOST_SIZE.false)

@@ -1,0 +1,66 @@
+-- Words of digits.
+use Rattle.std.proofs.Common.{◌≡◌, ℕ, ◌+◌, ◌-◌, ◌*◌, ◌^◌, ◌<◌, ◌≤◌, ◌==◌, ◌∙◌, List, [], ◌∷◌, ◌++◌, Bool, true, false, length, take, drop, get_or, refl, sym, ap, Ok, arith, get_or-drop, length-drop, add-zero}
+use Rattle.std.specs.Prelude.{nat_le, ◌||◌}
+use Rattle.std.specs.Char.{is_ascii_digit}
+use Rattle.std.specs.List.{list_all, position_or_len}
+use Rattle.std.proofs.lemmas.Bool.{true≢false, and_parts, leb-true, lt-ltb, le-ltb}
+use Rattle.std.proofs.lemmas.Bool.Decides.{nat_tests}
+use Rattle.std.proofs.lemmas.List.{get_or-take, length-take-le}
+use Rattle.std.proofs.lemmas.List.Folds.{list_all_at}
+use Rattle.std.proofs.lemmas.List.Sums.{position_or_len_is}
+use Rattle.bound_base.specs.Digits.{is_no_digit, number_of, value_after}
+use Rattle.trace_lines.specs.Lines.{is_gap, words}
+use Rattle.trace_lines.proofs.Cuts.{parts-leading}
+
+-- the codes of the digits
+pub digit_range : (byte : ℕ) → is_ascii_digit byte ≡ true → (48 ≤ byte) × (byte ≤ 57)
+digit_range byte digit =
+    let ends = and_parts (nat_le 48 byte) (nat_le byte 57) digit in
+    (leb-true 48 byte ends.0, leb-true byte 57 ends.1)
+
+-- one more digit
+pub value_after-append : (n : ℕ) (digits : List ℕ) (digit : ℕ) → value_after n (digits ++ digit ∷ []) ≡ 10 * value_after n digits + (digit - 48)
+value_after-append n [] digit = refl
+value_after-append n (first ∷ digits) digit = value_after-append (10 * n + (first - 48)) digits digit
+
+-- each of some digits is one
+each : (word : List ℕ) (i : ℕ) → list_all is_ascii_digit word ≡ true → i < length word → is_ascii_digit (get_or word i 0) ≡ true
+each word i digits within = by (is_ascii_digit (get_or word i 0)) refl
+  where
+    by : (b : Bool) → is_ascii_digit (get_or word i 0) ≡ b → is_ascii_digit (get_or word i 0) ≡ true
+    by true is = is
+    by false is = absurd (true≢false (sym digits ∙ list_all_at is_ascii_digit word i 0 within is))
+
+-- digits whose number is below the limit are read
+read_digits : (limit : ℕ) (word : List ℕ) → 0 < length word → list_all is_ascii_digit word ≡ true → value_after 0 word < limit → number_of limit word ≡ Ok (value_after 0 word)
+read_digits limit word some digits below =
+    let long : (length word == 0) ≡ false = grind (arith, nat_tests) in
+    let none : position_or_len is_no_digit word ≡ length word = position_or_len_is is_no_digit word (length word) 0 (omega arith) (λ i within. rw (each word i digits within) refl) (λ past. absurd (omega arith)) in
+    rw (long, none, le-ltb (length word) (length word) (omega arith), lt-ltb (value_after 0 word) limit below) refl
+
+-- a digit is no gap
+no_gap : (byte : ℕ) → is_ascii_digit byte ≡ true → is_gap byte ≡ false
+no_gap byte digit =
+    let range = digit_range byte digit in
+    let no_space : (byte == 32) ≡ false = grind (arith, nat_tests, range) in
+    let no_tab : (byte == 9) ≡ false = grind (arith, nat_tests, range) in
+    rw (no_space, no_tab) refl
+
+-- what a test for the end of a word says of the byte that stands there
+gap_at : (rest : List ℕ) → (length rest == 0 || is_gap (get_or rest 0 0)) ≡ true → 0 < length rest → is_gap (get_or rest 0 0) ≡ true
+gap_at rest ends some =
+    let no : (length rest == 0) ≡ false = grind (arith, nat_tests) in
+    rw no at ends
+
+-- the first word, if it begins with digits and ends after them
+pub word_read : (line text rest : List ℕ) (len value : ℕ) → words text ≡ words line → rest ≡ drop len text → len ≤ length text → 0 < len → list_all is_ascii_digit (take len text) ≡ true
+    → value ≡ value_after 0 (take len text) → value < 2 ^ 64 → (length rest == 0 || is_gap (get_or rest 0 0)) ≡ true
+    → (word : List ℕ) × (words line ≡ word ∷ words rest) × (Ok value ≡ number_of (2 ^ 64) word)
+word_read line text rest len value same rest_is within some digits is below ends =
+    let word = take len text in
+    let size : length word ≡ len = omega (arith, length-take-le len text within) in
+    let inside : (i : ℕ) → i < len → is_gap (get_or text i 0) ≡ false = (λ i low. rw (sym (get_or-take len text i 0 low)) (no_gap (get_or word i 0) (each word i digits (omega (arith, size, low))))) in
+    let after : len < length text → is_gap (get_or text len 0) ≡ true =
+        (λ more. rw (sym (ap (λ n. get_or text n 0) (add-zero len)), sym (get_or-drop len text 0 0), sym rest_is) (gap_at rest ends (omega (arith, ap length rest_is, length-drop len text, more)))) in
+    let cut : words text ≡ word ∷ words (drop len text) = parts-leading is_gap text len some within inside after in
+    (word, sym same ∙ rw rest_is cut, rw is (sym (read_digits (2 ^ 64) word (omega (arith, size, some)) digits (omega (arith, is, below)))))

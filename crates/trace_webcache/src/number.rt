@@ -1,0 +1,55 @@
+//! Words that are numbers.
+ghost use Rattle.std.specs.Prelude.{◌≡◌, ◌∷◌, [], ◌≤◌, ◌^◌, List, ℕ, true, length, take, IfSome, MatchOption};
+ghost use Rattle.std.specs.Char.{is_ascii_digit};
+ghost use Rattle.std.specs.List.{list_all};
+ghost use Rattle.bound_base.specs.Digits.{number_of, value_after};
+ghost use Rattle.trace_lines.specs.Lines.{words};
+
+use bound_base::{NumFault, read_u64};
+use trace_lines::{ends_word, first_word, skip_gaps};
+
+// From here on one more digit may not fit 64 bits.
+const LARGE: u64 = 1_000_000_000_000_000_000;
+
+// The number that the digits at the beginning write, and how many they are. It stops at a large number.
+fn leading_digits(text: &[u8]) -> (u64, usize)
+    ensures len { result.1 ≤ length text.now }
+    ensures digits { list_all is_ascii_digit (take result.1 text.now) ≡ true }
+    ensures value { result.0 ≡ value_after 0 (take result.1 text.now) }
+{
+    let mut value: u64 = 0;
+    let mut len = 0;
+    for byte in text {
+        if !byte.is_ascii_digit() || value >= LARGE {
+            return (value, len);
+        }
+        value = value * 10 + u64::from(*byte - b'0');
+        len += 1;
+    }
+    (value, len)
+}
+
+// The number that the first word is, whatever the word.
+#[inline(never)]
+fn any_number(line: &[u8]) -> Option<(Result<u64, NumFault>, &[u8])>
+    ensures { MatchOption result (words line.now ≡ []) (λ found. (word : List ℕ) × (words line.now ≡ word ∷ words found.1.now) × (found.0 ≡ number_of (2 ^ 64) word)) }
+{
+    let (word, rest) = first_word(line)?;
+    Some((read_u64(word), rest))
+}
+
+/// The number that the first word is, or why it is none, and what stands after the word; None if there is no word.
+///
+/// It goes once over a word of few digits, and up to four times over any other.
+#[inline(always)]
+pub(crate) fn first_number(line: &[u8]) -> Option<(Result<u64, NumFault>, &[u8])>
+    ensures { MatchOption result (words line.now ≡ []) (λ found. (word : List ℕ) × (words line.now ≡ word ∷ words found.1.now) × (found.0 ≡ number_of (2 ^ 64) word)) }
+{
+    let text = skip_gaps(line);
+    let (value, len) = leading_digits(text);
+    let (_, rest) = text.split_at(len);
+    if len > 0 && ends_word(rest) {
+        return Some((Ok(value), rest));
+    }
+    any_number(line)
+}
