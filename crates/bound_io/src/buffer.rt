@@ -91,6 +91,7 @@ impl Buffer {
     }
 
     // Reads once, and says how many bytes came.
+    #[inline(never)]
     fn fill<S: Source>(&mut self, source: &mut S) -> Result<usize, Failed>
         requires room { length self.old < 65536 }
         ensures bytes { ReadsOn (S.left source.old) (S.left source.new) self.old self.new result }

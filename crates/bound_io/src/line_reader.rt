@@ -139,6 +139,7 @@ impl LineReader {
     }
 
     // The extent of the first line, or the fault that ended the reading, which is kept.
+    #[inline(always)]
     fn find_line<S: Source>(&mut self, source: &mut S) -> Result<Extent, LineFault>
         ensures extent { IfOk result (λ e. IfSome (stands_in self.old.held (S.left source.old)) (HasExtent e.text e.line)) }
         ensures within { IfOk result (λ e. Fits self.old self.new.held e.text e.line) }
@@ -163,6 +164,7 @@ impl LineReader {
     }
 
     /// The next line, which says whether it ends in LF. The text is lent until the next call.
+    #[inline(always)]
     pub fn next_whole_line<S: Source>(&mut self, source: &mut S) -> Result<WholeLine<'_>, LineFault>
         ensures line { IfOk result (λ line. IfSome (stands_in self.old.held (S.left source.old)) (IsLine line)) }
         ensures short { IfOk result (λ line. IfSome (given line) (λ text. length text ≤ 65535)) }
@@ -188,6 +190,7 @@ impl LineReader {
     }
 
     /// The text of the next line, or None at the end. The text is lent until the next call.
+    #[inline(always)]
     pub fn next_line<S: Source>(&mut self, source: &mut S) -> Result<Option<&[u8]>, LineFault>
         ensures text { IfOk result (λ found. IfSome found (λ text. IfSome (stands_in self.old.held (S.left source.old)) (λ bytes. (text.now ≡ first_text bytes) × (0 < length bytes)))) }
         ensures end { IfOk result (λ found. IfNone found (IsAtEnd (stands_in self.old.held (S.left source.old)))) }
@@ -246,7 +249,9 @@ impl LineReader {
             return Err(fault);
         }
         let found = self.look_for(source, count);
-        self.fault = found.err();
+        if let Err(reason) = found {
+            self.fault = Some(reason);
+        }
         found
     }
 

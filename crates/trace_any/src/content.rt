@@ -52,6 +52,7 @@ fn whole_record(bytes: &[u8]) -> Result<Span, LineKind>
 }
 
 // What a line with a word or a record asks for.
+#[inline(always)]
 fn content_named(format: Format, text: &[u8]) -> Result<LineContent<'_>, LineKind>
     requires format { IsFormat format }
     requires records { has_records format ≡ true → length text.now ≤ 24 }
@@ -68,6 +69,7 @@ fn content_named(format: Format, text: &[u8]) -> Result<LineContent<'_>, LineKin
 }
 
 /// What a record asks for, or the text of a line, if it has a word.
+#[inline(always)]
 pub fn content_of(format: Format, text: &[u8]) -> Result<Option<LineContent<'_>>, LineKind>
     requires format { IsFormat format }
     requires records { has_records format ≡ true → length text.now ≤ 24 }
