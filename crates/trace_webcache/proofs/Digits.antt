@@ -61,6 +61,6 @@ word_read line text rest len value same rest_is within some digits is below ends
     let size : length word ≡ len = omega (arith, length-take-le len text within) in
     let inside : (i : ℕ) → i < len → is_gap (get_or text i 0) ≡ false = (λ i low. rw (sym (get_or-take len text i 0 low)) (no_gap (get_or word i 0) (each word i digits (omega (arith, size, low))))) in
     let after : len < length text → is_gap (get_or text len 0) ≡ true =
-        (λ more. rw (sym (ap (λ n. get_or text n 0) (add-zero len)), sym (get_or-drop len text 0 0), sym rest_is) (gap_at rest ends (omega (arith, ap length rest_is, length-drop len text, more)))) in
+    (λ more. rw (sym (ap (λ n. get_or text n 0) (add-zero len)), sym (get_or-drop len text 0 0), sym rest_is) (gap_at rest ends (omega (arith, ap length rest_is, length-drop len text, more)))) in
     let cut : words text ≡ word ∷ words (drop len text) = parts-leading is_gap text len some within inside after in
     (word, sym same ∙ rw rest_is cut, rw is (sym (read_digits (2 ^ 64) word (omega (arith, size, some)) digits (omega (arith, is, below)))))

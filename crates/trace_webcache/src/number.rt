@@ -1,5 +1,5 @@
 //! Words that are numbers.
-ghost use Rattle.std.specs.Prelude.{◌≡◌, ◌∷◌, [], ◌≤◌, ◌^◌, List, ℕ, true, length, take, IfSome, MatchOption};
+ghost use Rattle.std.specs.Prelude.{◌≡◌, ◌∷◌, [], ◌≤◌, ◌^◌, List, ℕ, true, length, take, MatchOption};
 ghost use Rattle.std.specs.Char.{is_ascii_digit};
 ghost use Rattle.std.specs.List.{list_all};
 ghost use Rattle.bound_base.specs.Digits.{number_of, value_after};
@@ -8,10 +8,10 @@ ghost use Rattle.trace_lines.specs.Lines.{words};
 use bound_base::{NumFault, read_u64};
 use trace_lines::{ends_word, first_word, skip_gaps};
 
-// From here on one more digit may not fit 64 bits.
+// A number from here on takes no further digit, so that each one that is taken fits 64 bits.
 const LARGE: u64 = 1_000_000_000_000_000_000;
 
-// The number that the digits at the beginning write, and how many they are. It stops at a large number.
+// The number that the digits at the beginning write, and how many they are. A large number ends before its last ones.
 fn leading_digits(text: &[u8]) -> (u64, usize)
     ensures len { result.1 ≤ length text.now }
     ensures digits { list_all is_ascii_digit (take result.1 text.now) ≡ true }

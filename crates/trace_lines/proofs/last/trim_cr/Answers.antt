@@ -1,4 +1,4 @@
-use Rattle.std.proofs.Common.{◌≡◌, ◌∙◌, ◌-◌, ◌++◌, ◌∷◌, [], ℕ, List, length, refl, sym, arith}
+use Rattle.std.proofs.Common.{◌≡◌, ◌-◌, ◌++◌, ◌∷◌, [], ℕ, List, length, refl, arith}
 use Rattle.std.proofs.lemmas.List.{get_or_push, length-append, take_at}
 use Rattle.trace_lines.specs.Lines.{without_cr}
 use Rattle.trace_lines.proofs.last.trim_cr.Goals as goal

@@ -1,6 +1,5 @@
 use Rattle.std.proofs.lemmas.Grind.{common_steps}
-use Rattle.std.proofs.Common.{◌≡◌, ◌∙◌, ap, [], ◌++◌, append-nil, arith, inl, inr}
-use Rattle.std.proofs.lemmas.List.{nil_from_length}
+use Rattle.std.proofs.Common.{◌∙◌, arith}
 use Rattle.bound_io.proofs.KnownLemmas.{keeps_more, keeps_then, loses_then}
 use Rattle.bound_io.proofs.buffer.Buffer.hold.Goals as goal
 
