@@ -25,8 +25,8 @@ range_last f a (suc n) =
     omega (arith, sum_by-cons f a (range_with_len (a + 1) (suc n)), sum_by-cons f a (range_with_len (a + 1) n), range_last f (a + 1) n, ap f e)
 
 -- the sum of a part of a part
-inner : (xs : List ℕ) (a b s e : ℕ) → a ≤ s → s ≤ e → e ≤ b → sum (slice_range (slice_range xs a b) (s - a) (e - a)) + sum (take s xs) ≡ sum (take e xs)
-inner xs a b s e low order high =
+pub sum_inner : (xs : List ℕ) (a b s e : ℕ) → a ≤ s → s ≤ e → e ≤ b → sum (slice_range (slice_range xs a b) (s - a) (e - a)) + sum (take s xs) ≡ sum (take e xs)
+sum_inner xs a b s e low order high =
     let ys : List ℕ = slice_range xs a b in
     let start : (k : ℕ) → k ≤ b - a → sum (take k ys) + sum (take a xs) ≡ sum (take (a + k) xs) = λ k h.
     let same : (a + k) - a ≡ k = omega arith in
@@ -68,7 +68,7 @@ module _ (width : ℕ) (some : 0 < width) (prices : List ℕ) where
       omega (
         arith,
         ap (λ t. cond t (price_over (slice k) (part_of width k arc)) 0) (lt-ltb 0 (part_steps width k arc) h),
-        inner prices a b (max arc.start a) (min arc.end b) (omega arith) (omega arith) (omega arith),
+        sum_inner prices a b (max arc.start a) (min arc.end b) (omega arith) (omega arith) (omega arith),
         ap (λ n. sum (take n prices)) from,
         ap (λ n. sum (take n prices)) to,
       ))

@@ -12,10 +12,11 @@ use Rattle.cache_model.specs.Units.{weight}
 use Rattle.flow_model.specs.declared.arcs.OuterArc.{OuterArc}
 use Rattle.flow_model.specs.Instances.{surplus, price_over, value_at}
 use Rattle.flow_model.proofs.Sums.{sum-slice_range}
+use Rattle.flow_model.proofs.Windows.{sum_inner}
 use Rattle.price_refine.specs.declared.block.Block.{Block}
 use Rattle.price_refine.specs.Blocks.{AgreeOutside}
 use Rattle.price_refine.specs.Parts.{arcs_of, block_instance, cut_arc, meets, price_outside, worth_above}
-use Rattle.price_refine.proofs.Slices.{same_after, same_before, sum_cut, sum_inner, sum_none}
+use Rattle.price_refine.proofs.Slices.{same_after, same_before, sum_cut, sum_none}
 use Rattle.price_refine.proofs.TwoArcs.{arcs_earn}
 
 -- an interval covers a step and has a weight
@@ -61,6 +62,7 @@ price_split block i prices some order starts ends =
       front prices i.start a,
       back prices i.end b,
       sum_inner prices a b s e (omega arith) (omega arith) (omega arith),
+      sum-slice_range prices s e (omega arith),
     )
 
 module _ (block : Block) (some : block.first < block.end) (base : List ℕ) where

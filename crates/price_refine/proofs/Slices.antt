@@ -1,6 +1,6 @@
 -- Prices that agree outside of a block, and the sums of their slices.
 use Rattle.std.proofs.Common.{◌≡◌, ◌∙◌, ℕ, ◌+◌, ◌-◌, ◌<◌, ◌≤◌, ap, sym, arith, List, length, get_or, take, drop, sum, slice_range, length-take, length-drop}
-use Rattle.std.proofs.lemmas.List.{ext_get_or, get_or-take, get_or-drop, take-take}
+use Rattle.std.proofs.lemmas.List.{ext_get_or, get_or-take, get_or-drop}
 use Rattle.flow_model.proofs.Sums.{sum-slice_range}
 use Rattle.price_refine.specs.Blocks.{AgreeOutside}
 
@@ -28,22 +28,3 @@ sum_cut xs a b c first second = omega (arith, sum-slice_range xs a b first, sum-
 -- a slice that ends no later than it starts
 pub sum_none : (xs : List ℕ) (a b : ℕ) → b ≤ a → sum (slice_range xs a b) ≡ 0
 sum_none xs a b none = let e : b - a ≡ 0 = omega arith in ap (λ k. sum (take k (drop a xs))) e
-
--- the sum of a part of a part
-pub sum_inner : (xs : List ℕ) (a b s e : ℕ) → a ≤ s → s ≤ e → e ≤ b → sum (slice_range (slice_range xs a b) (s - a) (e - a)) ≡ sum (slice_range xs s e)
-sum_inner xs a b s e low order high =
-    let ys : List ℕ = slice_range xs a b in
-    let start : (k : ℕ) → k ≤ b - a → sum (take k ys) + sum (take a xs) ≡ sum (take (a + k) xs) = λ k h.
-    let same : (a + k) - a ≡ k = omega arith in
-    omega (arith, ap sum (take-take k (b - a) (drop a xs) h), ap (λ n. sum (take n (drop a xs))) same, sum-slice_range xs a (a + k) (omega arith)) in
-    let at_s : a + (s - a) ≡ s = omega arith in
-    let at_e : a + (e - a) ≡ e = omega arith in
-    omega (
-      arith,
-      sum-slice_range ys (s - a) (e - a) (omega arith),
-      sum-slice_range xs s e order,
-      start (s - a) (omega arith),
-      start (e - a) (omega arith),
-      ap (λ n. sum (take n xs)) at_s,
-      ap (λ n. sum (take n xs)) at_e,
-    )
