@@ -12,8 +12,8 @@ use Prim.Native.Nat.{◌∣◌}
 use Rattle.relaxation.proofs.Whole.{timeline_weights}
 use Rattle.price_refine.specs.declared.block.Block.{Block}
 use Rattle.price_refine.specs.Blocks.{AgreeOutside, AreSettled, block_end, block_start}
-use Rattle.price_refine.specs.Parts.{AreCounted, IsSettled}
-use Rattle.price_refine.specs.Rounds.{AreNoWorse, IsRound, bound_in, numbered_block, place_of}
+use Rattle.price_refine.specs.Parts.{AreCounted, IsSettled, bound_in}
+use Rattle.price_refine.specs.Rounds.{AreNoWorse, IsRound, numbered_block, place_of}
 use Rattle.price_refine.proofs.BlockPlaces.{agree_everywhere}
 use Rattle.std.specs.Prelude.{suc, zero}
 
@@ -38,10 +38,9 @@ AreAllSettled whole width items prices = AreSettled items whole.unit whole.units
 -- after a round in which the bound has not fallen
 pub all_settled_round : (whole : Block) (width : ℕ) (items : List Interval) (old new : List ℕ) → 1 ≤ width → whole.end + 1 ≡ length new → IsRound whole width items old new 0 → AreAllSettled whole width items new
 all_settled_round whole width items old new some last round k others agree =
-    let done = round refl in
     ⊎_elim
     (λ (early : k < whole.end / width + 2).
-    let settled : IsSettled items (numbered_block whole width k) new = subst (IsSettled items (numbered_block whole width k)) (sym done.0) (done.1 k early) in
+    let settled : IsSettled items (numbered_block whole width k) new = subst (IsSettled items (numbered_block whole width k)) (sym (round.stays refl)) (round.settled refl k early) in
     settled others (agree_wider (block_start width k) (block_end (length new) width k) (place_of whole width k) (place_of whole width (k + 1)) new others (omega arith) (omega arith) agree))
     (λ (late : whole.end / width + 2 ≤ k).
     let far = late-start whole width k some late in

@@ -10,10 +10,10 @@ use Rattle.cache_model.specs.Units.{weight}
 use Rattle.interval_maker.specs.Timelines.{IsInterval}
 use Rattle.price_refine.specs.declared.block.Block.{Block}
 use Rattle.price_refine.specs.Blocks.{AgreeOutside}
-use Rattle.price_refine.specs.Parts.{AreCounted, IsSettled, IsSettling}
-use Rattle.price_refine.specs.Rounds.{AreNoWorse, HasSettled, bound_in, numbered_block, place_of}
+use Rattle.price_refine.specs.Parts.{AreCounted, IsSettled, IsSettling, bound_in}
+use Rattle.price_refine.specs.Rounds.{AreNoWorse, HasSettled, numbered_block, place_of}
 use Rattle.price_refine.proofs.Gatherings.{ends_after}
-use Rattle.price_refine.proofs.Settled.{agree_self, agree_turned}
+use Rattle.price_refine.proofs.Settled.{agree_self}
 
 -- the first block begins at step 0
 pub place_first : (whole : Block) (width : ℕ) → place_of whole width 0 ≡ 0
@@ -45,6 +45,7 @@ pub settled_none : (block : Block) (items : List Interval) (prices : List ℕ) �
 settled_none block items prices none = record {
   agree = agree_self block.first block.end prices;
   settled = λ others agree. omega (arith, ap (bound_in block items) (agree_everywhere block.first block.end prices others none agree));
+  falls = omega arith;
   stays = λ zero. refl;
 }
 
@@ -64,24 +65,25 @@ worse_none whole items prices = record { each_step = refl; last = refl; bound = 
 
 pub worse_more : (whole block : Block) (items : List Interval) (old now new : List ℕ) (fall : ℕ) → AreNoWorse whole items old now → IsSettling items block now new fall → block.end ≤ whole.end
     → ((prices : List ℕ) → bound_in block items prices ≡ bound_in whole items prices) → AreNoWorse whole items old new
-worse_more whole block items old now new fall before settling within same =
-    let lower = settling.settled now (agree_turned block.first block.end now new settling.agree) in
-    record {
-      each_step = settling.agree.steps ∙ before.each_step;
-      last = settling.agree.after whole.end within ∙ before.last;
-      bound = omega (arith, lower, before.bound, same now, same new);
-    }
+worse_more whole block items old now new fall before settling within same = record {
+  each_step = settling.agree.steps ∙ before.each_step;
+  last = settling.agree.after whole.end within ∙ before.last;
+  bound = omega (arith, settling.falls, before.bound, same now, same new);
+}
 
 -- nothing is settled at first, and one more block after each
-pub settled_first : (whole : Block) (width : ℕ) (items : List Interval) (prices : List ℕ) (fall : ℕ) → HasSettled whole width items 0 prices prices fall
-settled_first whole width items prices fall = λ none. (refl, λ k low. absurd (omega arith))
+pub settled_first : (whole : Block) (width : ℕ) (items : List Interval) (prices : List ℕ) → HasSettled whole width items 0 prices prices 0
+settled_first whole width items prices = record { falls = omega arith; stays = λ none. refl; settled = λ none k low. absurd (omega arith) }
 
-pub settled_more : (whole : Block) (width n : ℕ) (items : List Interval) (old now new : List ℕ) (fall fallen total : ℕ) → HasSettled whole width items n old now fall
-    → IsSettling items (numbered_block whole width n) now new fallen → (total ≡ 0 → (fall ≡ 0) × (fallen ≡ 0)) → HasSettled whole width items (n + 1) old new total
-settled_more whole width n items old now new fall fallen total before settling both = λ none.
-    let zero = both none in
-    let stays = before zero.0 in
-    let same : new ≡ old = settling.stays zero.1 ∙ stays.0 in
-    let Settled : ℕ → Type 0 = λ k. IsSettled items (numbered_block whole width k) old in
-    let here : Settled n = subst (IsSettled items (numbered_block whole width n)) same settling.settled in
-    (same, below_more Settled n stays.1 here)
+pub settled_more : (whole : Block) (width n : ℕ) (items : List Interval) (old now new : List ℕ) (fall fallen : ℕ) → HasSettled whole width items n old now fall
+    → IsSettling items (numbered_block whole width n) now new fallen → HasSettled whole width items (n + 1) old new (fall + fallen)
+settled_more whole width n items old now new fall fallen before settling =
+    let same : fall + fallen ≡ 0 → new ≡ old = λ none. settling.stays (omega (arith, none)) ∙ before.stays (omega (arith, none)) in
+    record {
+      falls = omega (arith, before.falls, settling.falls);
+      stays = same;
+      settled = λ none.
+          let Settled : ℕ → Type 0 = λ k. IsSettled items (numbered_block whole width k) old in
+          let here : Settled n = subst (IsSettled items (numbered_block whole width n)) (same none) settling.settled in
+          below_more Settled n (before.settled (omega (arith, none))) here;
+    }

@@ -1,5 +1,5 @@
 -- A block whose instance has least prices is settled.
-use Rattle.std.proofs.Common.{◌≡◌, ◌∙◌, ℕ, ◌-◌, ◌<◌, ◌≤◌, sym, refl, arith, List, length, drop, length-take, length-drop, All}
+use Rattle.std.proofs.Common.{◌≡◌, ◌∙◌, ℕ, ◌-◌, ◌<◌, ◌≤◌, refl, arith, List, length, drop, length-take, length-drop, All}
 use Rattle.cache_model.specs.declared.intervals.Interval.{Interval}
 use Rattle.flow_model.specs.Instances.{IsLeast, value_at}
 use Rattle.price_refine.specs.declared.block.Block.{Block}
@@ -10,9 +10,6 @@ use Rattle.price_refine.proofs.Exchange.{IsSized, exchange, prices_of}
 -- prices agree with themselves, and agreeing is passed on
 pub agree_self : (first end : ℕ) (prices : List ℕ) → AgreeOutside first end prices prices
 agree_self first end prices = record { steps = refl; before = λ t low. refl; after = λ t high. refl }
-
-pub agree_turned : (first end : ℕ) (prices others : List ℕ) → AgreeOutside first end prices others → AgreeOutside first end others prices
-agree_turned first end prices others agree = record { steps = sym agree.steps; before = λ t low. sym (agree.before t low); after = λ t high. sym (agree.after t high) }
 
 pub agree_through : (first end : ℕ) (prices others more : List ℕ) → AgreeOutside first end prices others → AgreeOutside first end others more → AgreeOutside first end prices more
 agree_through first end prices others more agree then = record {

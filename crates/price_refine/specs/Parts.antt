@@ -71,11 +71,15 @@ pub record AreCounted (steps unit : ℕ) (items : List Interval) : Type 0 where
   pub intervals : All (IsInterval steps) items
   pub weights : All (λ i. 1 ≤ weight unit i) items
 
+-- the bound of the prices, in what the block is counted in
+abbrev pub bound_in : Block → List Interval → List ℕ → ℕ
+bound_in block items prices = bound_of items block.unit block.units block.denominator prices
+
 -- no other prices of the block's steps give a smaller bound
 abbrev pub IsSettled : List Interval → Block → List ℕ → Type 0
 IsSettled intervals block prices =
     (others : List ℕ) → AgreeOutside block.first block.end prices others
-    → bound_of intervals block.unit block.units block.denominator prices ≤ bound_of intervals block.unit block.units block.denominator others
+    → bound_in block intervals prices ≤ bound_in block intervals others
 
 -- only prices of the block change: they become those that were found, if these are better
 pub record IsChoice (block : Block) (old found : List ℕ) (is_better : Bool) (new : List ℕ) : Type 0 where
@@ -83,8 +87,9 @@ pub record IsChoice (block : Block) (old found : List ℕ) (is_better : Bool) (n
   pub taken : is_better ≡ true → slice_range new block.first block.end ≡ found
   pub stays : is_better ≡ false → new ≡ old
 
--- only prices of the block change, after which it is settled; they stay if the bound does not fall
+-- only prices of the block change, after which it is settled; the bound is smaller by the fall, and the prices stay if it does not fall
 pub record IsSettling (intervals : List Interval) (block : Block) (old new : List ℕ) (fall : ℕ) : Type 0 where
   pub agree : AgreeOutside block.first block.end old new
   pub settled : IsSettled intervals block new
+  pub falls : bound_in block intervals new + fall ≡ bound_in block intervals old
   pub stays : fall ≡ 0 → new ≡ old

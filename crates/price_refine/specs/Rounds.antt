@@ -1,11 +1,10 @@
 -- The blocks of a round, one after another, and the intervals that are open at each.
 use Rattle.std.specs.Prelude.{◌≡◌, ℕ, ◌+◌, ◌/◌, ◌<◌, ◌≤◌, nat_lt, min, List, filter, length, slice_index, take}
 use Rattle.cache_model.specs.declared.intervals.Interval.{Interval}
-use Rattle.cache_model.specs.Intervals.{bound_of}
 use Rattle.price_refine.specs.declared.block.Block.{Block}
 use Rattle.price_refine.specs.declared.gathering.Gathered.{Gathered}
 use Rattle.price_refine.specs.Blocks.{block_start}
-use Rattle.price_refine.specs.Parts.{IsSettled}
+use Rattle.price_refine.specs.Parts.{IsSettled, bound_in}
 
 -- where block k begins, or the end of all blocks if it has no step
 abbrev pub place_of : Block → ℕ → ℕ → ℕ
@@ -21,21 +20,18 @@ pub record AreOpen (place : ℕ) (items : List Interval) (gathered : Gathered) :
   pub earlier : since ≤ place
   pub kept : gathered.met.items ≡ filter (λ i. nat_lt since i.end) (take gathered.next items)
 
--- the bound of the prices, in what the block is counted in
-abbrev pub bound_in : Block → List Interval → List ℕ → ℕ
-bound_in block items prices = bound_of items block.unit block.units block.denominator prices
-
 -- prices of as many steps, with the same last price and no greater bound
 pub record AreNoWorse (whole : Block) (items : List Interval) (old new : List ℕ) : Type 0 where
   pub each_step : length new ≡ length old
   pub last : slice_index new whole.end ≡ slice_index old whole.end
   pub bound : bound_in whole items new ≤ bound_in whole items old
 
--- if the bound has not fallen the prices stay, and the first n blocks are settled for them
-abbrev pub HasSettled : Block → ℕ → List Interval → ℕ → List ℕ → List ℕ → ℕ → Type 0
-HasSettled whole width items n old new fall =
-    fall ≡ 0 → (new ≡ old) × ((k : ℕ) → k < n → IsSettled items (numbered_block whole width k) old)
+-- the bound is smaller by the fall; if it has not fallen the prices stay, and the first n blocks are settled for them
+pub record HasSettled (whole : Block) (width : ℕ) (items : List Interval) (n : ℕ) (old new : List ℕ) (fall : ℕ) : Type 0 where
+  pub falls : bound_in whole items new + fall ≡ bound_in whole items old
+  pub stays : fall ≡ 0 → new ≡ old
+  pub settled : fall ≡ 0 → (k : ℕ) → k < n → IsSettled items (numbered_block whole width k) old
 
--- so for all blocks that have a step
+-- the same of all blocks that have a step
 abbrev pub IsRound : Block → ℕ → List Interval → List ℕ → List ℕ → ℕ → Type 0
 IsRound whole width items old new fall = HasSettled whole width items (whole.end / width + 2) old new fall

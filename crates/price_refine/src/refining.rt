@@ -3,8 +3,8 @@ ghost use Rattle.std.specs.Prelude.{◌≡◌, ◌+◌, ◌≤◌, ◌<◌, ◌*
 ghost use Prim.Native.Nat.{◌∣◌};
 ghost use Rattle.cache_model.specs.Intervals.{bound_of};
 ghost use Rattle.price_refine.specs.Blocks.{AreSettled};
-ghost use Rattle.price_refine.specs.Parts.{AreCounted, AreSumsBeside, IsBlock};
-ghost use Rattle.price_refine.specs.Rounds.{AreNoWorse, bound_in};
+ghost use Rattle.price_refine.specs.Parts.{AreCounted, AreSumsBeside, IsBlock, bound_in};
+ghost use Rattle.price_refine.specs.Rounds.{AreNoWorse};
 
 use crate::block::Block;
 use crate::pricing::{Pricing, sums_of};

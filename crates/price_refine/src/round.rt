@@ -1,7 +1,7 @@
 //! A round over the blocks, in order.
 ghost use Rattle.std.specs.Prelude.{◌≡◌, ℕ, List, ◌+◌, ◌-◌, ◌*◌, ◌/◌, ◌<◌, ◌≤◌, ◌^◌, AllPairs, IfOk, length, min, sum};
-ghost use Rattle.price_refine.specs.Parts.{AreCounted, AreSumsBeside, IsBlock, IsSettling};
-ghost use Rattle.price_refine.specs.Rounds.{AreNoWorse, AreOpen, IsRound, bound_in, numbered_block, place_of};
+ghost use Rattle.price_refine.specs.Parts.{AreCounted, AreSumsBeside, IsBlock, IsSettling, bound_in};
+ghost use Rattle.price_refine.specs.Rounds.{AreNoWorse, AreOpen, IsRound, numbered_block, place_of};
 
 use crate::block::Block;
 use crate::gathering::{Gathered, gather};
@@ -88,7 +88,7 @@ pub(crate) fn settle_round(
     for number in 0..whole.end / width + 2 {
         let block = numbered_block(whole, width, number);
         let fallen = settle_next(alloc, items, block, &mut gathered, pricing)?;
-        fall = fall.saturating_add(fallen);
+        fall += fallen;
     }
     Ok(fall)
 }

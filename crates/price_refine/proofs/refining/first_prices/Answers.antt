@@ -1,5 +1,5 @@
 use Rattle.std.proofs.Common.{◌≡◌, rules, arith, ap}
-use Rattle.price_refine.specs.Rounds.{bound_in}
+use Rattle.price_refine.specs.Parts.{bound_in}
 use Rattle.price_refine.proofs.AllSettled.{zeros-bound}
 use Rattle.price_refine.proofs.refining.first_prices.Goals as goal
 

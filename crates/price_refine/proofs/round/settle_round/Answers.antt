@@ -11,7 +11,7 @@ loop-number-init c =
     let prices = c.args.pricing.now.prices.items in
     record {
       no_worse = worse_none c.args.whole c.args.items.now prices;
-      settled = settled_first c.args.whole c.args.width c.args.items.now prices 0;
+      settled = settled_first c.args.whole c.args.width c.args.items.now prices;
       open_at = record { since = 0; earlier = omega arith; kept = c.new.ensures.items };
       sums = beside_last c.args.whole.end (place_of c.args.whole c.args.width 0) (place_of c.args.whole c.args.width 0) prices c.args.pricing.now.sums.items c.requires.sums (omega (arith, c.requires.last));
     }
@@ -30,8 +30,7 @@ loop-number-preserved c =
     let settling : IsSettling items (numbered_block whole width n) now new fallen = subst (λ (b : Block). IsSettling items b now new fallen) is c.in_ok-fallen.ensures.settled in
     record {
       no_worse = worse_more whole (numbered_block whole width n) items old now new fallen c.loop-number.invariant.no_worse settling (place-le whole width (n + 1)) (λ prices. refl);
-      settled = settled_more whole width n items old now new c.loop-number.fall fallen c.saturating_add-fall.result c.loop-number.invariant.settled settling
-          (λ none. (omega (arith, none, c.saturating_add-fall.ensures), omega (arith, none, c.saturating_add-fall.ensures)));
+      settled = settled_more whole width n items old now new c.loop-number.fall fallen c.loop-number.invariant.settled settling;
       open_at = subst (λ (b : Block). AreOpen b.end items c.settle_next.new.gathered) is c.in_ok-fallen.ensures.«open»;
       sums = subst (λ (b : Block). AreSumsBeside b.end b.end new c.settle_next.new.pricing.sums.items) is c.in_ok-fallen.ensures.sums;
     }
