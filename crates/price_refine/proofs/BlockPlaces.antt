@@ -9,9 +9,10 @@ use Rattle.cache_model.specs.declared.intervals.Interval.{Interval}
 use Rattle.cache_model.specs.Units.{weight}
 use Rattle.interval_maker.specs.Timelines.{IsInterval}
 use Rattle.price_refine.specs.declared.block.Block.{Block}
+use Rattle.price_refine.specs.declared.pricing.Pricing.{Pricing}
 use Rattle.price_refine.specs.Blocks.{AgreeOutside}
-use Rattle.price_refine.specs.Parts.{AreCounted, IsSettled, IsSettling, bound_in}
-use Rattle.price_refine.specs.Rounds.{AreNoWorse, HasSettled, numbered_block, place_of}
+use Rattle.price_refine.specs.Parts.{AreCounted, AreSumsBeside, IsBlock, IsSettled, IsSettling, bound_in}
+use Rattle.price_refine.specs.Rounds.{AreNoWorse, CanSettle, HasSettled, numbered_block, place_of}
 use Rattle.price_refine.proofs.Gatherings.{ends_after}
 use Rattle.price_refine.proofs.Settled.{agree_self}
 
@@ -87,3 +88,17 @@ settled_more whole width n items old now new fall fallen before settling =
           let here : Settled n = subst (IsSettled items (numbered_block whole width n)) (same none) settling.settled in
           below_more Settled n (before.settled (omega (arith, none))) here;
     }
+
+-- prices that are no worse can be settled too, with their sums
+pub still_ready : (whole : Block) (width : ℕ) (items : List Interval) (old new : Pricing) → CanSettle whole width items old → AreNoWorse whole items old.prices.items new.prices.items
+    → AreSumsBeside whole.end whole.end new.prices.items new.sums.items → CanSettle whole width items new
+still_ready whole width items old new ready no_worse are = record {
+  block = subst (λ n. IsBlock n whole) (sym no_worse.each_step) ready.block;
+  from_first = ready.from_first;
+  to_last = ready.to_last ∙ sym no_worse.each_step;
+  some_width = ready.some_width;
+  counted = subst (λ n. AreCounted n whole.unit items) (sym no_worse.each_step) ready.counted;
+  in_order = ready.in_order;
+  small_bound = omega (arith, no_worse.bound, ready.small_bound);
+  sums = are;
+}

@@ -3,8 +3,8 @@ ghost use Rattle.std.specs.Prelude.{◌≡◌, ◌+◌, ◌≤◌, ◌<◌, ◌*
 ghost use Prim.Native.Nat.{◌∣◌};
 ghost use Rattle.cache_model.specs.Intervals.{bound_of};
 ghost use Rattle.price_refine.specs.Blocks.{AreSettled};
-ghost use Rattle.price_refine.specs.Parts.{AreCounted, AreSumsBeside, IsBlock, bound_in};
-ghost use Rattle.price_refine.specs.Rounds.{AreNoWorse};
+ghost use Rattle.price_refine.specs.Parts.{bound_in};
+ghost use Rattle.price_refine.specs.Rounds.{AreNoWorse, CanSettle};
 
 use crate::block::Block;
 use crate::pricing::{Pricing, sums_of};
@@ -83,17 +83,10 @@ fn settle_rounds(
     first_bound: u128,
     pricing: &mut Pricing,
 ) -> Result<bool, NoMemory>
-    requires whole { IsBlock (length pricing.old.prices.items) whole }
-    requires first { whole.first ≡ 0 }
-    requires last { whole.end + 1 ≡ length pricing.old.prices.items }
-    requires width { 1 ≤ width }
-    requires counted { AreCounted (length pricing.old.prices.items) whole.unit items.now }
-    requires starts { AllPairs (λ i j. i.start < j.start) items.now }
-    requires bound { bound_in whole items.now pricing.old.prices.items ≤ 2 ^ 126 }
-    requires sums { AreSumsBeside whole.end whole.end pricing.old.prices.items pricing.old.sums.items }
+    requires { CanSettle whole width items.now pricing.old }
     ensures no_worse { IfOk result (λ done. AreNoWorse whole items.now pricing.old.prices.items pricing.new.prices.items) }
     ensures settled { IfOk result (λ done. IsTrue done → AreSettled items.now whole.unit whole.units whole.denominator width pricing.new.prices.items) }
-    ensures sums { IfOk result (λ done. AreSumsBeside whole.end whole.end pricing.new.prices.items pricing.new.sums.items) }
+    ensures ready { IfOk result (λ done. CanSettle whole width items.now pricing.new) }
 {
     if whole.end <= width / 2 {
         return Ok(false);
@@ -121,14 +114,7 @@ fn settle_all(
     bound: u128,
     pricing: &mut Pricing,
 ) -> Result<(), NoMemory>
-    requires whole { IsBlock (length pricing.old.prices.items) whole }
-    requires first { whole.first ≡ 0 }
-    requires last { whole.end + 1 ≡ length pricing.old.prices.items }
-    requires width { 1 ≤ width }
-    requires counted { AreCounted (length pricing.old.prices.items) whole.unit items.now }
-    requires starts { AllPairs (λ i j. i.start < j.start) items.now }
-    requires bound { bound_in whole items.now pricing.old.prices.items ≤ 2 ^ 126 }
-    requires sums { AreSumsBeside whole.end whole.end pricing.old.prices.items pricing.old.sums.items }
+    requires { CanSettle whole width items.now pricing.old }
     ensures no_worse { IfOk result (λ done. AreNoWorse whole items.now pricing.old.prices.items pricing.new.prices.items) }
     ensures settled { IfOk result (λ done. AreSettled items.now whole.unit whole.units whole.denominator width pricing.new.prices.items) }
 {

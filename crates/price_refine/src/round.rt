@@ -1,7 +1,7 @@
 //! A round over the blocks, in order.
 ghost use Rattle.std.specs.Prelude.{◌≡◌, ℕ, List, ◌+◌, ◌-◌, ◌*◌, ◌/◌, ◌<◌, ◌≤◌, ◌^◌, AllPairs, IfOk, length, min, sum};
-ghost use Rattle.price_refine.specs.Parts.{AreCounted, AreSumsBeside, IsBlock, IsSettling, bound_in};
-ghost use Rattle.price_refine.specs.Rounds.{AreNoWorse, AreOpen, IsRound, numbered_block, place_of};
+ghost use Rattle.price_refine.specs.Parts.{AreCounted, AreSumsBeside, IsBlock, IsSettling};
+ghost use Rattle.price_refine.specs.Rounds.{AreNoWorse, AreOpen, CanSettle, IsRound, numbered_block, place_of};
 
 use crate::block::Block;
 use crate::gathering::{Gathered, gather};
@@ -68,17 +68,10 @@ pub(crate) fn settle_round(
     width: u32,
     pricing: &mut Pricing,
 ) -> Result<u128, NoMemory>
-    requires whole { IsBlock (length pricing.old.prices.items) whole }
-    requires first { whole.first ≡ 0 }
-    requires last { whole.end + 1 ≡ length pricing.old.prices.items }
-    requires width { 1 ≤ width }
-    requires counted { AreCounted (length pricing.old.prices.items) whole.unit items.now }
-    requires starts { AllPairs (λ i j. i.start < j.start) items.now }
-    requires bound { bound_in whole items.now pricing.old.prices.items ≤ 2 ^ 126 }
-    requires sums { AreSumsBeside whole.end whole.end pricing.old.prices.items pricing.old.sums.items }
+    requires { CanSettle whole width items.now pricing.old }
     ensures no_worse { IfOk result (λ fall. AreNoWorse whole items.now pricing.old.prices.items pricing.new.prices.items) }
     ensures settled { IfOk result (λ fall. IsRound whole width items.now pricing.old.prices.items pricing.new.prices.items fall) }
-    ensures sums { IfOk result (λ fall. AreSumsBeside whole.end whole.end pricing.new.prices.items pricing.new.sums.items) }
+    ensures ready { IfOk result (λ fall. CanSettle whole width items.now pricing.new) }
 {
     let mut gathered = Gathered {
         met: Vec::new(alloc),

@@ -2,7 +2,7 @@ use Rattle.std.proofs.Common.{◌≡◌, ◌+◌, ◌/◌, arith, refl, subst}
 use Rattle.price_refine.specs.declared.block.Block.{Block}
 use Rattle.price_refine.specs.Parts.{AreSumsBeside, IsSettling}
 use Rattle.price_refine.specs.Rounds.{AreOpen, HasSettled, numbered_block, place_of}
-use Rattle.price_refine.proofs.BlockPlaces.{place-le, place_last, worse_none, worse_more, settled_first, settled_more}
+use Rattle.price_refine.proofs.BlockPlaces.{place-le, place_last, still_ready, worse_none, worse_more, settled_first, settled_more}
 use Rattle.price_refine.proofs.SumsBeside.{beside_last}
 use Rattle.price_refine.proofs.round.settle_round.Goals as goal
 
@@ -13,7 +13,7 @@ loop-number-init c =
       no_worse = worse_none c.args.whole c.args.items.now prices;
       settled = settled_first c.args.whole c.args.width c.args.items.now prices;
       open_at = record { since = 0; earlier = omega arith; kept = c.new.ensures.items };
-      sums = beside_last c.args.whole.end (place_of c.args.whole c.args.width 0) (place_of c.args.whole c.args.width 0) prices c.args.pricing.now.sums.items c.requires.sums (omega (arith, c.requires.last));
+      sums = beside_last c.args.whole.end (place_of c.args.whole c.args.width 0) (place_of c.args.whole c.args.width 0) prices c.args.pricing.now.sums.items c.requires.sums (omega (arith, c.requires.to_last));
     }
 
 pub loop-number-preserved : goal.loop-number-preserved
@@ -40,8 +40,9 @@ returns-clause-settled c =
     let all : c.loop-number.number ≡ c.args.whole.end / c.args.width + 2 = omega (arith, c.loop-number-test.false, c.loop-number.auto) in
     subst (λ n. HasSettled c.args.whole c.args.width c.args.items.now n c.args.pricing.now.prices.items c.loop-number.pricing.prices.items c.loop-number.fall) all c.loop-number.invariant.settled
 
-pub returns-clause-sums : goal.returns-clause-sums
-returns-clause-sums c =
+pub returns-clause-ready : goal.returns-clause-ready
+returns-clause-ready c =
     let all : c.loop-number.number ≡ c.args.whole.end / c.args.width + 2 = omega (arith, c.loop-number-test.false, c.loop-number.auto) in
-    let last : place_of c.args.whole c.args.width c.loop-number.number ≡ c.args.whole.end = rw all (place_last c.args.whole c.args.width c.requires.width) in
-    subst (λ n. AreSumsBeside n n c.loop-number.pricing.prices.items c.loop-number.pricing.sums.items) last c.loop-number.invariant.sums
+    let last : place_of c.args.whole c.args.width c.loop-number.number ≡ c.args.whole.end = rw all (place_last c.args.whole c.args.width c.requires.some_width) in
+    still_ready c.args.whole c.args.width c.args.items.now c.args.pricing.now c.loop-number.pricing c.requires c.loop-number.invariant.no_worse
+    (subst (λ n. AreSumsBeside n n c.loop-number.pricing.prices.items c.loop-number.pricing.sums.items) last c.loop-number.invariant.sums)
