@@ -49,90 +49,103 @@ fn no_prices(alloc: Global, steps: u32) -> Result<Vec<u128>, NoMemory>
     Ok(vec![in alloc; 0; steps as usize]?)
 }
 
-// The prices to begin with: those that are given, or none if their bound is smaller.
+// The prices to begin with, and their bound: those that are given, or none if their bound is smaller.
 fn first_prices(
     alloc: Global,
     intervals: &Intervals,
     whole: Block,
     prices: &[u128],
-) -> Result<Vec<u128>, NoMemory>
+) -> Result<Refined, NoMemory>
     requires unit { 1 ≤ whole.unit }
     requires units { 1 ≤ whole.units }
     requires denominator { whole.denominator ≤ 2 ^ 48 }
     requires each_step { length prices.now ≡ intervals.now.steps }
     requires last { slice_index_or prices.now whole.end 0 ≡ 0 }
     requires paid { whole.units * sum prices.now ≤ 2 ^ 126 }
-    ensures no_worse { IfOk result (λ r. AreNoWorse whole intervals.now.items prices.now r.items) }
-    ensures bound { IfOk result (λ r. bound_in whole intervals.now.items r.items ≤ 2 ^ 126) }
+    ensures no_worse { IfOk result (λ r. AreNoWorse whole intervals.now.items prices.now r.prices) }
+    ensures upper { IfOk result (λ r. r.upper ≡ bound_in whole intervals.now.items r.prices) }
+    ensures small { IfOk result (λ r. r.upper ≤ 2 ^ 126) }
 {
     let none = no_prices(alloc, intervals.steps())?;
     let without = upper_of(alloc, intervals, whole, &none)?;
-    if without < upper_of(alloc, intervals, whole, prices)? {
-        return Ok(none);
+    let upper = upper_of(alloc, intervals, whole, prices)?;
+    if without < upper {
+        return Ok(Refined {
+            prices: none,
+            upper: without,
+        });
     }
-    Ok(prices.to_vec(alloc)?)
+    let prices = prices.to_vec(alloc)?;
+    Ok(Refined { prices, upper })
 }
 
 // Goes through the blocks in rounds, until one lowers the bound by less than a part of it. If one block has all
-// steps there are none. The result is whether the last round has not lowered the bound, so that all blocks are settled.
+// steps there are none. The bound is kept beside the prices. The result is whether the last round has not lowered it, so
+// that all blocks are settled.
 fn settle_rounds(
+    alloc: Global,
+    items: &[Interval],
+    whole: Block,
+    width: u32,
+    bound: &mut u128,
+    pricing: &mut Pricing,
+) -> Result<bool, NoMemory>
+    requires ready { CanSettle whole width items.now pricing.old }
+    requires bound { bound.old ≡ bound_in whole items.now pricing.old.prices.items }
+    ensures no_worse { IfOk result (λ done. AreNoWorse whole items.now pricing.old.prices.items pricing.new.prices.items) }
+    ensures settled { IfOk result (λ done. IsTrue done → AreSettled items.now whole.unit whole.units whole.denominator width pricing.new.prices.items) }
+    ensures ready { IfOk result (λ done. CanSettle whole width items.now pricing.new) }
+    ensures bound { IfOk result (λ done. bound.new ≡ bound_in whole items.now pricing.new.prices.items) }
+{
+    if whole.end <= width / 2 {
+        return Ok(false);
+    }
+    for _round in 0..ROUNDS {
+        let least = *bound / LEAST_PART;
+        let fall = settle_round(alloc, items, whole, width, pricing)?;
+        *bound -= fall;
+        if fall == 0 {
+            return Ok(true);
+        }
+        if fall < least {
+            return Ok(false);
+        }
+    }
+    Ok(false)
+}
+
+// Settles all blocks: in rounds, or else by taking all steps but the last as one block. The result is the bound of the
+// prices, from that of those before.
+fn settle_all(
     alloc: Global,
     items: &[Interval],
     whole: Block,
     width: u32,
     first_bound: u128,
     pricing: &mut Pricing,
-) -> Result<bool, NoMemory>
-    requires { CanSettle whole width items.now pricing.old }
-    ensures no_worse { IfOk result (λ done. AreNoWorse whole items.now pricing.old.prices.items pricing.new.prices.items) }
-    ensures settled { IfOk result (λ done. IsTrue done → AreSettled items.now whole.unit whole.units whole.denominator width pricing.new.prices.items) }
-    ensures ready { IfOk result (λ done. CanSettle whole width items.now pricing.new) }
+) -> Result<u128, NoMemory>
+    requires ready { CanSettle whole width items.now pricing.old }
+    requires bound { first_bound ≡ bound_in whole items.now pricing.old.prices.items }
+    ensures no_worse { IfOk result (λ bound. AreNoWorse whole items.now pricing.old.prices.items pricing.new.prices.items) }
+    ensures bound { IfOk result (λ bound. bound ≡ bound_in whole items.now pricing.new.prices.items) }
+    ensures settled { IfOk result (λ bound. AreSettled items.now whole.unit whole.units whole.denominator width pricing.new.prices.items) }
 {
-    if whole.end <= width / 2 {
-        return Ok(false);
-    }
     let mut bound = first_bound;
-    for _round in 0..ROUNDS {
-        let fall = settle_round(alloc, items, whole, width, pricing)?;
-        if fall == 0 {
-            return Ok(true);
-        }
-        if fall < bound / LEAST_PART {
-            return Ok(false);
-        }
-        bound = bound.saturating_sub(fall);
+    if settle_rounds(alloc, items, whole, width, &mut bound, pricing)? {
+        return Ok(bound);
     }
-    Ok(false)
+    let fall = settle(alloc, items, whole, pricing)?;
+    Ok(bound - fall)
 }
 
-// Settles all blocks: in rounds, or else by taking all steps but the last as one block.
-fn settle_all(
-    alloc: Global,
-    items: &[Interval],
-    whole: Block,
-    width: u32,
-    bound: u128,
-    pricing: &mut Pricing,
-) -> Result<(), NoMemory>
-    requires { CanSettle whole width items.now pricing.old }
-    ensures no_worse { IfOk result (λ done. AreNoWorse whole items.now pricing.old.prices.items pricing.new.prices.items) }
-    ensures settled { IfOk result (λ done. AreSettled items.now whole.unit whole.units whole.denominator width pricing.new.prices.items) }
-{
-    if settle_rounds(alloc, items, whole, width, bound, pricing)? {
-        return Ok(());
-    }
-    settle(alloc, items, whole, pricing)?;
-    Ok(())
-}
-
-// The prices after all blocks are settled.
+// The prices after all blocks are settled, and their bound.
 fn settled_prices(
     alloc: Global,
     intervals: &Intervals,
     whole: Block,
     width: u32,
-    prices: Vec<u128>,
-) -> Result<Vec<u128>, NoMemory>
+    given: Refined,
+) -> Result<Refined, NoMemory>
     requires unit { 1 ≤ whole.unit }
     requires divides { All (λ i. whole.unit ∣ i.size) intervals.now.items }
     requires units { (1 ≤ whole.units) × (whole.units ≤ 2 ^ 56) }
@@ -140,20 +153,23 @@ fn settled_prices(
     requires width { 1 ≤ width }
     requires first { whole.first ≡ 0 }
     requires last { whole.end ≡ intervals.now.steps - 1 }
-    requires each_step { length prices.items ≡ intervals.now.steps }
-    requires bound { bound_in whole intervals.now.items prices.items ≤ 2 ^ 126 }
-    ensures no_worse { IfOk result (λ r. AreNoWorse whole intervals.now.items prices.items r.items) }
-    ensures settled { IfOk result (λ r. AreSettled intervals.now.items whole.unit whole.units whole.denominator width r.items) }
+    requires each_step { length given.prices ≡ intervals.now.steps }
+    requires upper { given.upper ≡ bound_in whole intervals.now.items given.prices }
+    requires small { given.upper ≤ 2 ^ 126 }
+    ensures no_worse { IfOk result (λ r. AreNoWorse whole intervals.now.items given.prices r.prices) }
+    ensures upper { IfOk result (λ r. r.upper ≡ bound_in whole intervals.now.items r.prices) }
+    ensures settled { IfOk result (λ r. AreSettled intervals.now.items whole.unit whole.units whole.denominator width r.prices) }
 {
     if intervals.steps() < 2 {
-        return Ok(prices);
+        return Ok(given);
     }
     let items = intervals.as_slice();
-    let bound = upper_of(alloc, intervals, whole, &prices)?;
+    let Refined { prices, upper } = given;
     let sums = sums_of(alloc, &prices)?;
     let mut pricing = Pricing { prices, sums };
-    settle_all(alloc, items, whole, width, bound, &mut pricing)?;
-    Ok(pricing.prices)
+    let upper = settle_all(alloc, items, whole, width, upper, &mut pricing)?;
+    let prices = pricing.prices;
+    Ok(Refined { prices, upper })
 }
 
 /// Prices that are settled for the blocks of a width, and give no greater bound than those that are given. There is one
@@ -195,7 +211,5 @@ pub fn refine(
         end: intervals.steps().saturating_sub(1),
     };
     let first = first_prices(alloc, intervals, whole, prices)?;
-    let prices = settled_prices(alloc, intervals, whole, width, first)?;
-    let upper = upper_of(alloc, intervals, whole, &prices)?;
-    Ok(Refined { prices, upper })
+    settled_prices(alloc, intervals, whole, width, first)
 }

@@ -1,24 +1,28 @@
-use Rattle.std.proofs.Common.{subst}
+use Rattle.std.proofs.Common.{arith, subst}
 use Rattle.price_refine.specs.Rounds.{IsRound}
 use Rattle.price_refine.proofs.AllSettled.{all_settled_round, worse_through}
 use Rattle.price_refine.proofs.BlockPlaces.{worse_none}
 use Rattle.price_refine.proofs.refining.settle_rounds.Goals as goal
 
 pub loop-round-init : goal.loop-round-init
-loop-round-init c = record { no_worse = worse_none c.args.whole c.args.items.now c.args.pricing.now.prices.items; ready = c.requires }
+loop-round-init c = record { no_worse = worse_none c.args.whole c.args.items.now c.args.pricing.now.prices.items; ready = c.requires.ready; bound = c.requires.bound }
 
 pub loop-round-preserved : goal.loop-round-preserved
 loop-round-preserved c = record {
   no_worse = worse_through c.args.whole c.args.items.now c.args.pricing.now.prices.items c.loop-round.pricing.prices.items c.settle_round.new.pricing.prices.items c.loop-round.invariant.no_worse c.in_ok-fall.ensures.no_worse;
   ready = c.in_ok-fall.ensures.ready;
+  bound = omega (arith, c.loop-round.invariant.bound, c.in_ok-fall.ensures.settled.falls);
 }
+
+pub overflow_sub-bound : goal.overflow_sub-bound
+overflow_sub-bound c = omega (arith, c.loop-round.invariant.bound, c.in_ok-fall.ensures.settled.falls)
 
 pub returns-then-fall-eq0-clause-no_worse : goal.returns-then-fall-eq0-clause-no_worse
 returns-then-fall-eq0-clause-no_worse c =
     worse_through c.args.whole c.args.items.now c.args.pricing.now.prices.items c.loop-round.pricing.prices.items c.settle_round.new.pricing.prices.items c.loop-round.invariant.no_worse c.in_ok-fall.ensures.no_worse
 
-pub returns-then-fall-bound-clause-no_worse : goal.returns-then-fall-bound-clause-no_worse
-returns-then-fall-bound-clause-no_worse c =
+pub returns-then-fall-least-clause-no_worse : goal.returns-then-fall-least-clause-no_worse
+returns-then-fall-least-clause-no_worse c =
     worse_through c.args.whole c.args.items.now c.args.pricing.now.prices.items c.loop-round.pricing.prices.items c.settle_round.new.pricing.prices.items c.loop-round.invariant.no_worse c.in_ok-fall.ensures.no_worse
 
 pub returns-then-fall-eq0-clause-settled : goal.returns-then-fall-eq0-clause-settled
