@@ -57,7 +57,7 @@ pub all_settled_none : (whole : Block) (width : ℕ) (items : List Interval) (ne
 all_settled_none whole width items new short k others agree =
     omega (arith, ap (bound_in whole items) (agree_everywhere (block_start width k) (block_end (length new) width k) new others (omega arith) agree))
 
--- the intervals of a timeline start in order
+-- prices of 0 sum to 0
 pub sum-zeros : (n : ℕ) → sum (replicate n 0) ≡ 0
 sum-zeros zero = refl
 sum-zeros (suc n) = omega (arith, sum_by-cons (λ (m : ℕ). m) 0 (replicate n 0), sum-zeros n)
