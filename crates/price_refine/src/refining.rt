@@ -80,8 +80,8 @@ fn first_prices(
 }
 
 // Goes through the blocks in rounds, until one lowers the bound by less than a part of it. If one block has all
-// steps there are none. The bound is kept beside the prices. The result is whether the last round has not lowered it, so
-// that all blocks are settled.
+// steps there are none. The bound is that of the prices, before and after. The result is whether the last round has not
+// lowered it, so that all blocks are settled.
 fn settle_rounds(
     alloc: Global,
     items: &[Interval],
@@ -115,7 +115,7 @@ fn settle_rounds(
 }
 
 // Settles all blocks: in rounds, or else by taking all steps but the last as one block. The result is the bound of the
-// prices, from that of those before.
+// new prices, which is that of the old ones less what each block has lowered it by.
 fn settle_all(
     alloc: Global,
     items: &[Interval],
