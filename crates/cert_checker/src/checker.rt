@@ -7,6 +7,7 @@ ghost use Rattle.cache_model.specs.Certificates.{IsHeaderInRange, IsRecordInRang
 ghost use Rattle.cache_model.specs.Objects.{objects_of};
 
 use crate::end_check::check_end;
+use crate::entries::{find, put};
 use crate::invalid::InvalidKind;
 use crate::record_check::check_record;
 use crate::rules::units;
@@ -17,7 +18,7 @@ use bound_base::NoMemory;
 use cache_model::Object;
 use cert_format::{Header, Record};
 use indexmap::IndexMap;
-use std::alloc::{AllocFailed, Global};
+use std::alloc::Global;
 use std::marker::Model;
 
 /// Why a step is not taken. The checker stays as it was.
@@ -29,13 +30,13 @@ pub enum StepFault {
     NoMemory,
 }
 
-impl<T: Drop> From<AllocFailed<T>> for StepFault {
+impl From<NoMemory> for StepFault {
     ghost use Rattle.std.specs.Prelude.{◌≡◌};
     ghost use Rattle.cert_checker.specs.declared.checker.StepFault.TheVariants.{NoMemory as WantOfMemory};
 
     ghost from_gives = { λ _ f. f ≡ WantOfMemory };
 
-    fn from(_: AllocFailed<T>) -> Self {
+    fn from(_: NoMemory) -> Self {
         StepFault::NoMemory
     }
 }
@@ -103,7 +104,7 @@ impl Checker {
     }
 
     /// The next request and its record. There were fewer steps than the header says. It takes constant time on average,
-    /// with two look-ups by hash.
+    /// with one look-up by hash, or two if the object is new.
     pub fn step(&mut self, _alloc: Global, object: Object, entry: Record) -> Result<(), StepFault>
         requires fewer { self.old.sums.steps < self.old.header.requests }
         requires size { (1 ≤ object.size) × (object.size ≤ 2 ^ 48) }
@@ -113,11 +114,11 @@ impl Checker {
         ensures kept { OnErr result (self.new ≡ self.old) }
         ensures only_if_new { IfErr result (λ fault. fault ≡ WantOfMemory → lookup (same_object object) self.old.entries ≡ None) }
     {
-        let before = self.seen.get(&object).copied();
+        let (place, before) = find(&self.seen, &object);
         let now = figures(&self.header, &self.sums, &object, &entry, before);
         check_record(&self.header, &object, &entry, &now)?;
         let added = added(&self.header, &object, &self.sums, before);
-        self.seen.insert(object, seen_of(&self.sums, &entry))?;
+        put(&mut self.seen, place, object, seen_of(&self.sums, &entry))?;
         self.sums = sums_with(&self.sums, &now, &added);
         Ok(())
     }

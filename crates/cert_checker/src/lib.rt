@@ -6,6 +6,7 @@
 
 mod checker;
 mod end_check;
+mod entries;
 mod invalid;
 mod keeping;
 mod laws;

@@ -84,6 +84,19 @@ fn surplus(worth: u128, weight: u64, price: u128) -> u128
     }
 }
 
+// The value of a flow, which is at most the weight. If there is none, nothing is divided.
+fn flow_value(worth: u128, weight: u64, flow: u64) -> u128
+    requires weight { 1 ≤ weight }
+    requires flow { flow ≤ weight }
+    ensures { result ≡ worth / weight * flow }
+{
+    if flow == 0 {
+        0
+    } else {
+        worth / weight as u128 * flow as u128
+    }
+}
+
 // What the interval that ends at a request of the object gains.
 fn kept_gain(header: &Header, object: &Object, keep: bool) -> u64
     ensures { result ≡ (if keep then gain_of header.now.objective object.now else 0) }
@@ -116,7 +129,7 @@ fn added_by_interval(header: &Header, object: &Object, prices: u128, seen: &Seen
     let weight = object.size / header.unit;
     Added {
         surplus: surplus(worth, weight, prices - seen.price_before),
-        value: worth / weight as u128 * seen.flow as u128,
+        value: flow_value(worth, weight, seen.flow),
         gain,
     }
 }
