@@ -27,3 +27,8 @@ IsKeptEnd start end (Err why) = IsStop start end why
 abbrev pub IsEnd : Inputs → Inputs → List Object → List Record → Result Verdict CheckFault → Type 0
 IsEnd start end trace records (Ok verdict) = HasKept start end (record { verdict = verdict; trace = trace; records = records })
 IsEnd start end trace records (Err why) = IsStop start end why
+
+-- the end of a check: a yes of the requests and the records that a keeper has, or why there is none
+abbrev pub IsCheckEnd : (List Object → List Record → Type 0) → Inputs → Inputs → Result Verdict CheckFault → Type 0
+IsCheckEnd has start end (Ok verdict) = (trace : List Object) × (records : List Record) × has trace records × IsEnd start end trace records (Ok verdict)
+IsCheckEnd has start end (Err why) = IsStop start end why

@@ -1,20 +1,18 @@
 //! A check that keeps what it reads.
-ghost use Rattle.std.specs.Prelude.{◌≡◌, ◌≤◌, ◌<◌, ◌^◌, ◌++◌, ◌∷◌, [], IfOk, IfErr, OnOk, length};
+ghost use Rattle.std.specs.Prelude.{◌≡◌, ◌≤◌, IfOk, IfErr, length};
 ghost use Rattle.bound_io.specs.Reading.{LosesPrefix};
-ghost use Rattle.cache_model.specs.declared.certificates.Header.{Header as Head};
 ghost use Rattle.cert_format.specs.Readers.{fresh};
-ghost use Rattle.cert_checker.specs.Checks.{HasChecked, Inputs, IsEvent, IsFresh, IsInStep, KeepsAnswer, inputs};
-ghost use Rattle.cert_checker.specs.Keeping.{HasKept, IsKeptEnd};
-ghost use Rattle.cert_checker.specs.Summaries.{IsSized};
+ghost use Rattle.cert_checker.specs.Checks.{IsEvent, IsFresh, KeepsAnswer, inputs};
+ghost use Rattle.cert_checker.specs.Keeping.{HasKept};
 
-use crate::checker::Checker;
+use crate::keeper::Keeper;
 use crate::verdict::Verdict;
-use crate::walking::{CheckFault, check_last, check_next};
+use crate::walking::{CheckFault, check_with};
 use bound_base::NoMemory;
 use bound_io::Source;
 use cache_model::Object;
 use cache_rules::{Builder, Trace};
-use cert_format::{CertReader, Header, Record};
+use cert_format::{CertReader, Record};
 use std::alloc::Global;
 use std::marker::Model;
 use trace_any::RequestReader;
@@ -58,65 +56,29 @@ impl Kept {
     }
 }
 
-// Keeps a request and its record.
-fn keep(
-    requests: &mut Builder,
-    records: &mut Vec<Record>,
-    object: Object,
-    entry: Record,
-) -> Result<(), NoMemory>
-    requires few { length requests.old < 2 ^ 25 }
-    requires size { IsSized object }
-    ensures requests { OnOk result (requests.new ≡ requests.old ++ object ∷ []) }
-    ensures records { OnOk result (records.new.items ≡ records.old.items ++ entry ∷ []) }
-{
-    requests.push(object)?;
-    records.push(entry)?;
-    Ok(())
+// Keeps all.
+#[derive(Drop)]
+struct Lists {
+    requests: Builder,
+    records: Vec<Record>,
 }
 
-// The walk of a checker that was given nothing, to its end.
-fn walk_and_keep<T: Source, Q: Source>(
-    alloc: Global,
-    reader: &mut RequestReader,
-    trace: &mut T,
-    cert: &mut CertReader,
-    certificate: &mut Q,
-    header: &Header,
-    checker: &mut Checker,
-) -> Result<Kept, CheckFault>
-    requires header { header.now ≡ checker.old.header }
-    requires first { checker.old.sums.steps ≡ 0 }
-    requires ahead { length reader.old.lines.held ≤ 65536 }
-    requires in_step { IsInStep (inputs reader.old (T.left trace.old) (T.faults trace.old) cert.old (Q.left certificate.old) (Q.faults certificate.old)) checker.old }
-    ensures checked { (start : Inputs) (h : Head) → HasChecked start h [] [] (inputs reader.old (T.left trace.old) (T.faults trace.old) cert.old (Q.left certificate.old) (Q.faults certificate.old)) checker.old → IsKeptEnd start (inputs reader.new (T.left trace.new) (T.faults trace.new) cert.new (Q.left certificate.new) (Q.faults certificate.new)) result }
-    ensures trace { LosesPrefix (T.left trace.old) (T.left trace.new) × (T.faults trace.old ≤ T.faults trace.new) × (length reader.new.lines.held ≤ 65536) }
-    ensures kept { KeepsAnswer reader.new.fault cert.new.fault result }
-    ensures cert { LosesPrefix (Q.left certificate.old) (Q.left certificate.new) × (Q.faults certificate.old ≤ Q.faults certificate.new) }
-{
-    let mut requests = Builder::new(alloc)?;
-    let mut records = Vec::new(alloc);
-    while let Some((object, entry)) = check_next(
-        alloc,
-        reader,
-        trace,
-        cert,
-        certificate,
-        header,
-        checker,
-    )? {
-        keep(&mut requests, &mut records, object, entry)?;
+impl Keeper for Lists {
+    ghost use Rattle.std.specs.Prelude.{◌≡◌};
+
+    ghost has = { λ lists requests records. (lists.requests ≡ requests) × (lists.records.items ≡ records) };
+
+    fn keep(&mut self, object: Object, entry: Record) -> Result<(), NoMemory> {
+        self.requests.push(object)?;
+        self.records.push(entry)?;
+        Ok(())
     }
-    Ok(Kept {
-        verdict: check_last(cert, certificate, header, checker)?,
-        trace: requests.finish(),
-        records,
-    })
 }
 
 /// The check of `check_streams` that keeps the trace and the records.
 ///
-/// It takes 32 bytes and the entry of the trace for each request besides.
+/// Besides it takes, for each request, what a `Trace` takes and at most 64 bytes of the list of records, which grows by
+/// doubling: 96 while it is moved.
 pub fn check_and_keep<T: Source, Q: Source>(
     alloc: Global,
     reader: &mut RequestReader,
@@ -135,15 +97,14 @@ pub fn check_and_keep<T: Source, Q: Source>(
     ensures cert_source { LosesPrefix (Q.left certificate.old) (Q.left certificate.new) }
     ensures cert_later { Q.faults certificate.old ≤ Q.faults certificate.new }
 {
-    let header = cert.header(certificate)?;
-    let mut checker = Checker::new(alloc, header)?;
-    walk_and_keep(
-        alloc,
-        reader,
-        trace,
-        cert,
-        certificate,
-        &header,
-        &mut checker,
-    )
+    let mut lists = Lists {
+        requests: Builder::new(alloc)?,
+        records: Vec::new(alloc),
+    };
+    let verdict = check_with(alloc, reader, trace, cert, certificate, &mut lists)?;
+    Ok(Kept {
+        verdict,
+        trace: lists.requests.finish(),
+        records: lists.records,
+    })
 }

@@ -8,6 +8,7 @@ mod checker;
 mod end_check;
 mod entries;
 mod invalid;
+mod keeper;
 mod keeping;
 mod laws;
 mod record_check;

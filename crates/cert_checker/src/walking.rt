@@ -1,5 +1,5 @@
 //! The check of a certificate against a trace, both read as streams.
-ghost use Rattle.std.specs.Prelude.{◌≡◌, ◌≤◌, ◌<◌, ◌+◌, ◌^◌, ℕ, List, IfOk, IfErr, IfSome, None, OnOk, length};
+ghost use Rattle.std.specs.Prelude.{◌≡◌, ◌≤◌, ◌<◌, ◌+◌, ◌^◌, [], ℕ, List, IfOk, IfErr, IfSome, None, OnOk, length};
 ghost use Rattle.std.specs.declared.option.Option.{Option};
 ghost use Rattle.bound_io.specs.Reading.{LosesPrefix};
 ghost use Rattle.trace_any.specs.Readers.{Reader};
@@ -11,13 +11,14 @@ ghost use Rattle.cert_checker.specs.declared.invalid.InvalidKind.TheVariants.{Re
 ghost use Rattle.cert_format.specs.Lines.{IsTaken};
 ghost use Rattle.cert_format.specs.Readers.{fresh};
 ghost use Rattle.cert_checker.specs.declared.walking.CheckFault.TheVariants.{Invalid};
-ghost use Rattle.cert_checker.specs.Checks.{HasChecked, HasCheckedAll, Inputs, IsLastCheck, IsEvent, IsFresh, IsInStep, IsNear, IsPassed, IsSteppedAt, IsNextCheck, KeepsAnswer, inputs};
-ghost use Rattle.cert_checker.specs.Keeping.{IsEnd};
+ghost use Rattle.cert_checker.specs.Checks.{HasChecked, HasCheckedAll, Inputs, IsEvent, IsFresh, IsInStep, IsNear, IsPassed, IsSteppedAt, IsNextCheck, KeepsAnswer, inputs};
+ghost use Rattle.cert_checker.specs.Keeping.{IsCheckEnd, IsEnd};
 ghost use Rattle.cert_checker.specs.Summaries.{IsSized};
 ghost use Rattle.cert_checker.specs.Walks.{text_kind};
 
 use crate::checker::{Checker, StepFault};
 use crate::invalid::InvalidKind;
+use crate::keeper::Keeper;
 use crate::verdict::Verdict;
 use bound_base::NoMemory;
 use bound_io::Source;
@@ -140,7 +141,7 @@ fn step(
 }
 
 // Reads and checks the next request and its record, and answers them, if there was one.
-pub(crate) fn check_next<T: Source, Q: Source>(
+fn check_next<T: Source, Q: Source>(
     alloc: Global,
     reader: &mut RequestReader,
     trace: &mut T,
@@ -173,7 +174,7 @@ pub(crate) fn check_next<T: Source, Q: Source>(
 }
 
 // Reads and checks the end, after the last request of the trace.
-pub(crate) fn check_last<Q: Source>(
+fn check_last<Q: Source>(
     cert: &mut CertReader,
     certificate: &mut Q,
     header: &Header,
@@ -199,26 +200,50 @@ pub(crate) fn check_last<Q: Source>(
     }
 }
 
-// The walk from where the checker stands, to its end.
-fn walk<T: Source, Q: Source>(
+/// The check of `check_streams`, which gives a keeper each request that passes, and its record.
+pub(crate) fn check_with<T: Source, Q: Source, K: Keeper>(
     alloc: Global,
     reader: &mut RequestReader,
     trace: &mut T,
     cert: &mut CertReader,
     certificate: &mut Q,
-    header: &Header,
-    checker: &mut Checker,
+    keeper: &mut K,
 ) -> Result<Verdict, CheckFault>
-    requires header { header.now ≡ checker.old.header }
-    requires in_step { IsInStep (inputs reader.old (T.left trace.old) (T.faults trace.old) cert.old (Q.left certificate.old) (Q.faults certificate.old)) checker.old }
-    ensures checked { (start : Inputs) (h : Head) (requests : List Requested) (records : List Entry) → HasChecked start h requests records (inputs reader.old (T.left trace.old) (T.faults trace.old) cert.old (Q.left certificate.old) (Q.faults certificate.old)) checker.old → IsLastCheck start (inputs reader.new (T.left trace.new) (T.faults trace.new) cert.new (Q.left certificate.new) (Q.faults certificate.new)) result }
-    ensures trace { LosesPrefix (T.left trace.old) (T.left trace.new) × (T.faults trace.old ≤ T.faults trace.new) × (length reader.new.lines.held ≤ 65536) }
+    requires fresh_reader { IsFresh reader.old }
+    requires fresh_cert { cert.old ≡ fresh }
+    requires nothing { K.has keeper.old [] [] }
+    ensures checked { IsCheckEnd (K.has keeper.new) (inputs reader.old (T.left trace.old) (T.faults trace.old) cert.old (Q.left certificate.old) (Q.faults certificate.old)) (inputs reader.new (T.left trace.new) (T.faults trace.new) cert.new (Q.left certificate.new) (Q.faults certificate.new)) result }
     ensures taken { IsTaken cert.old.lines cert.new.lines (Q.left certificate.old) (Q.left certificate.new) }
     ensures kept { KeepsAnswer reader.new.fault cert.new.fault result }
+    ensures trace { LosesPrefix (T.left trace.old) (T.left trace.new) × (T.faults trace.old ≤ T.faults trace.new) × (length reader.new.lines.held ≤ 65536) }
     ensures cert { LosesPrefix (Q.left certificate.old) (Q.left certificate.new) × (Q.faults certificate.old ≤ Q.faults certificate.new) }
 {
-    while check_next(alloc, reader, trace, cert, certificate, header, checker)?.is_some() {}
-    check_last(cert, certificate, header, checker)
+    let header = cert.header(certificate)?;
+    let mut checker = Checker::new(alloc, header)?;
+    while let Some((object, entry)) = check_next(
+        alloc,
+        reader,
+        trace,
+        cert,
+        certificate,
+        &header,
+        &mut checker,
+    )? {
+        keeper.keep(object, entry)?;
+    }
+    check_last(cert, certificate, &header, &checker)
+}
+
+// A keeper that keeps nothing.
+#[derive(Drop)]
+struct Nothing;
+
+impl Keeper for Nothing {
+    ghost has = { λ _ _ _. Unit {0} };
+
+    fn keep(&mut self, _object: Object, _entry: Record) -> Result<(), NoMemory> {
+        Ok(())
+    }
 }
 
 /// Whether the certificate of one source is valid for the trace of the other, and else the first thing that fails, as
@@ -244,15 +269,5 @@ pub fn check_streams<T: Source, Q: Source>(
     ensures cert_source { LosesPrefix (Q.left certificate.old) (Q.left certificate.new) }
     ensures cert_later { Q.faults certificate.old ≤ Q.faults certificate.new }
 {
-    let header = cert.header(certificate)?;
-    let mut checker = Checker::new(alloc, header)?;
-    walk(
-        alloc,
-        reader,
-        trace,
-        cert,
-        certificate,
-        &header,
-        &mut checker,
-    )
+    check_with(alloc, reader, trace, cert, certificate, &mut Nothing)
 }

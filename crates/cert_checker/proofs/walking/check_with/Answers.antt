@@ -1,0 +1,175 @@
+use Rattle.std.proofs.Common.{◌≡◌, ◌∙◌, sym, ap, refl, subst, arith, [], ◌∷◌, ◌++◌, length, None}
+use Rattle.std.proofs.lemmas.Bool.{false≢true}
+use Rattle.std.proofs.lemmas.Result.{err_from_is_err_and}
+use Rattle.cache_model.specs.declared.certificates.Header.{Header}
+use Rattle.cache_model.specs.Texts.{header_len}
+use Rattle.cert_format.proofs.Chains.{loses_both, taken_both}
+use Rattle.cert_checker.specs.Checks.{Inputs, inputs}
+use Rattle.cert_checker.specs.Summaries.{StandsFor}
+use Rattle.cert_checker.proofs.Ends.{stop_header, opens}
+use Rattle.cert_checker.proofs.KeptFaults.{kept_text}
+use Rattle.cert_checker.proofs.Losses.{keeps}
+use Rattle.cert_checker.proofs.NextChecks.{check_end}
+use Rattle.cert_checker.proofs.walking.check_with.Goals as goal
+
+pub returns-in_err-header-clause-checked : goal.returns-in_err-header-clause-checked
+returns-in_err-header-clause-checked g c =
+    let start : Inputs = inputs c.args.reader.now (g.T.Source.left c.args.trace.now) (g.T.Source.faults c.args.trace.now) c.args.cert.now (g.Q.Source.left c.args.certificate.now) (g.Q.Source.faults c.args.certificate.now) in
+    let end : Inputs = inputs c.args.reader.now (g.T.Source.left c.args.trace.now) (g.T.Source.faults c.args.trace.now) c.header.new.self (g.Q.Source.left c.header.new.source) (g.Q.Source.faults c.header.new.source) in
+    let p = err_from_is_err_and c.from_residual.result c.from_residual.ensures.1 in
+    let none : c.args.cert.now.fault ≡ None = ap (λ r. r.fault) c.requires.fresh_cert in
+    let e = c.in_err-header.ensures in
+    rw (p.1, p.2) (stop_header start c.requires.fresh_reader c.requires.fresh_cert end e.past c.in_err-header.field-0.0 refl (e.read none) (e.within none) e.ahead)
+
+pub returns-in_err-header-clause-taken : goal.returns-in_err-header-clause-taken
+returns-in_err-header-clause-taken g c = c.in_err-header.ensures.taken
+
+pub returns-in_err-header-clause-kept : goal.returns-in_err-header-clause-kept
+returns-in_err-header-clause-kept g c =
+    let p = err_from_is_err_and c.from_residual.result c.from_residual.ensures.1 in
+    let none : c.args.cert.now.fault ≡ None = ap (λ r. r.fault) c.requires.fresh_cert in
+    rw (p.1, p.2) (kept_text c.in_err-header.field-0.0 _ _ (ap (λ r. r.fault) c.requires.fresh_reader) (c.in_err-header.ensures.fault none))
+
+pub returns-in_err-header-clause-trace : goal.returns-in_err-header-clause-trace
+returns-in_err-header-clause-trace g c = (keeps (g.T.Source.left c.args.trace.now), omega arith, omega (arith, ap (λ r. length r.lines.held) c.requires.fresh_reader))
+
+pub returns-in_err-header-clause-cert : goal.returns-in_err-header-clause-cert
+returns-in_err-header-clause-cert g c = (c.in_err-header.ensures.source, c.in_err-header.ensures.later)
+
+pub returns-in_err-checker : goal.returns-in_err-checker
+returns-in_err-checker g c = absurd (false≢true c.in_err-checker.ensures.succeeds)
+
+pub loop-checker-init : goal.loop-checker-init
+loop-checker-init g c =
+    let start : Inputs = inputs c.args.reader.now (g.T.Source.left c.args.trace.now) (g.T.Source.faults c.args.trace.now) c.args.cert.now (g.Q.Source.left c.args.certificate.now) (g.Q.Source.faults c.args.certificate.now) in
+    let middle : Inputs = inputs c.args.reader.now (g.T.Source.left c.args.trace.now) (g.T.Source.faults c.args.trace.now) c.header.new.self (g.Q.Source.left c.header.new.source) (g.Q.Source.faults c.header.new.source) in
+    let none : c.args.cert.now.fault ≡ None = ap (λ r. r.fault) c.requires.fresh_cert in
+    let e = c.in_ok-header.ensures in
+    let read = e.read none in
+    let st = c.in_ok-checker.ensures.nothing in
+    record {
+      in_step = record {
+        trace_fault = ap (λ r. r.fault) c.requires.fresh_reader;
+        cert_fault = e.fault none;
+        stage = read.0;
+        line = omega (arith, read.4, st.sums.steps, ap header_len st.header);
+        left = omega (arith, read.1, st.sums.steps, ap (λ (k : Header). k.requests) st.header);
+        held = e.ahead;
+        some = ([], [], subst (λ k. StandsFor k [] [] c.in_ok-checker.checker) (sym st.header) st);
+      };
+      header = sym st.header;
+      kept = ([], [], c.requires.nothing, opens start c.requires.fresh_reader c.requires.fresh_cert middle e.past c.in_ok-header.header c.in_ok-checker.checker read refl refl st (record { trace = omega arith; certificate = e.later }));
+      trace_source = keeps (g.T.Source.left c.args.trace.now);
+      trace_later = omega arith;
+      taken = e.taken;
+      cert_source = e.source;
+      cert_later = e.later;
+    }
+
+pub loop-checker-preserved : goal.loop-checker-preserved
+loop-checker-preserved g c =
+    let start : Inputs = inputs c.args.reader.now (g.T.Source.left c.args.trace.now) (g.T.Source.faults c.args.trace.now) c.args.cert.now (g.Q.Source.left c.args.certificate.now) (g.Q.Source.faults c.args.certificate.now) in
+    let i = c.loop-checker.invariant in
+    let e = c.in_ok-object.ensures in
+    record {
+      in_step = e.in_step.0;
+      header = i.header ∙ sym e.in_step.1;
+      kept =
+          let more = rw c.in-Some.is at (e.checked start c.in_ok-header.header i.kept.0 i.kept.1 i.kept.3) in
+          (i.kept.0 ++ c.in-Some.object ∷ [], i.kept.1 ++ c.in-Some.entry ∷ [], c.in_ok-keep.ensures i.kept.0 i.kept.1 i.kept.2, more);
+      trace_source = loses_both (g.T.Source.left c.args.trace.now) (g.T.Source.left c.loop-checker.trace) (g.T.Source.left c.check_next.new.trace) i.trace_source e.trace.0;
+      trace_later = omega (arith, i.trace_later, e.trace.1);
+      taken = taken_both c.args.cert.now.lines c.loop-checker.cert.lines c.check_next.new.cert.lines (g.Q.Source.left c.args.certificate.now) (g.Q.Source.left c.loop-checker.certificate) (g.Q.Source.left c.check_next.new.certificate) i.cert_source i.taken e.taken;
+      cert_source = loses_both (g.Q.Source.left c.args.certificate.now) (g.Q.Source.left c.loop-checker.certificate) (g.Q.Source.left c.check_next.new.certificate) i.cert_source e.cert.0;
+      cert_later = omega (arith, i.cert_later, e.cert.1);
+    }
+
+pub keep-requires-clause-few : goal.keep-requires-clause-few
+keep-requires-clause-few g c =
+    let i = c.loop-checker.invariant in
+    let e = c.in_ok-object.ensures in
+    let fewer = rw c.in-Some.is at e.fewer in
+    let stands = i.kept.3.stands in
+    (i.kept.0, i.kept.1, i.kept.2, omega (arith, stands.sums.steps, i.in_step.left, e.in_step.0.left, fewer, i.in_step.some.2.input.header_in_range.requests))
+
+pub keep-requires-clause-size : goal.keep-requires-clause-size
+keep-requires-clause-size g c = rw c.in-Some.is at c.in_ok-object.ensures.size
+
+pub returns-in_err-object-clause-trace : goal.returns-in_err-object-clause-trace
+returns-in_err-object-clause-trace g c =
+    let i = c.loop-checker.invariant in
+    let e = c.check_next.ensures in
+    (loses_both (g.T.Source.left c.args.trace.now) (g.T.Source.left c.loop-checker.trace) (g.T.Source.left c.check_next.new.trace) i.trace_source e.trace.0, omega (arith, i.trace_later, e.trace.1), e.trace.2)
+
+pub returns-in_err-object-clause-cert : goal.returns-in_err-object-clause-cert
+returns-in_err-object-clause-cert g c =
+    let i = c.loop-checker.invariant in
+    let e = c.check_next.ensures in
+    (loses_both (g.Q.Source.left c.args.certificate.now) (g.Q.Source.left c.loop-checker.certificate) (g.Q.Source.left c.check_next.new.certificate) i.cert_source e.cert.0, omega (arith, i.cert_later, e.cert.1))
+
+pub returns-in_err-object-clause-taken : goal.returns-in_err-object-clause-taken
+returns-in_err-object-clause-taken g c =
+    let i = c.loop-checker.invariant in
+    let e = c.check_next.ensures in
+    taken_both c.args.cert.now.lines c.loop-checker.cert.lines c.check_next.new.cert.lines (g.Q.Source.left c.args.certificate.now) (g.Q.Source.left c.loop-checker.certificate) (g.Q.Source.left c.check_next.new.certificate) i.cert_source i.taken e.taken
+
+pub returns-in_err-keep-clause-trace : goal.returns-in_err-keep-clause-trace
+returns-in_err-keep-clause-trace g c =
+    let i = c.loop-checker.invariant in
+    let e = c.check_next.ensures in
+    (loses_both (g.T.Source.left c.args.trace.now) (g.T.Source.left c.loop-checker.trace) (g.T.Source.left c.check_next.new.trace) i.trace_source e.trace.0, omega (arith, i.trace_later, e.trace.1), e.trace.2)
+
+pub returns-in_err-keep-clause-cert : goal.returns-in_err-keep-clause-cert
+returns-in_err-keep-clause-cert g c =
+    let i = c.loop-checker.invariant in
+    let e = c.check_next.ensures in
+    (loses_both (g.Q.Source.left c.args.certificate.now) (g.Q.Source.left c.loop-checker.certificate) (g.Q.Source.left c.check_next.new.certificate) i.cert_source e.cert.0, omega (arith, i.cert_later, e.cert.1))
+
+pub returns-in_err-keep-clause-taken : goal.returns-in_err-keep-clause-taken
+returns-in_err-keep-clause-taken g c =
+    let i = c.loop-checker.invariant in
+    let e = c.check_next.ensures in
+    taken_both c.args.cert.now.lines c.loop-checker.cert.lines c.check_next.new.cert.lines (g.Q.Source.left c.args.certificate.now) (g.Q.Source.left c.loop-checker.certificate) (g.Q.Source.left c.check_next.new.certificate) i.cert_source i.taken e.taken
+
+pub returns-in_err-object-clause-checked : goal.returns-in_err-object-clause-checked
+returns-in_err-object-clause-checked g c =
+    let start : Inputs = inputs c.args.reader.now (g.T.Source.left c.args.trace.now) (g.T.Source.faults c.args.trace.now) c.args.cert.now (g.Q.Source.left c.args.certificate.now) (g.Q.Source.faults c.args.certificate.now) in
+    let p = err_from_is_err_and c.from_residual-in_err-object.result c.from_residual-in_err-object.ensures.1 in
+    let i = c.loop-checker.invariant in
+    rw (p.1, p.2) (c.in_err-object.ensures.checked start c.in_ok-header.header i.kept.0 i.kept.1 i.kept.3)
+
+pub returns-in_err-object-clause-kept : goal.returns-in_err-object-clause-kept
+returns-in_err-object-clause-kept g c =
+    let p = err_from_is_err_and c.from_residual-in_err-object.result c.from_residual-in_err-object.ensures.1 in
+    rw (p.1, p.2) c.in_err-object.ensures.kept
+
+pub returns-clause-trace : goal.returns-clause-trace
+returns-clause-trace g c =
+    let i = c.loop-checker.invariant in
+    let e = c.check_next.ensures in
+    (loses_both (g.T.Source.left c.args.trace.now) (g.T.Source.left c.loop-checker.trace) (g.T.Source.left c.check_next.new.trace) i.trace_source e.trace.0, omega (arith, i.trace_later, e.trace.1), e.trace.2)
+
+pub returns-clause-cert : goal.returns-clause-cert
+returns-clause-cert g c =
+    let i = c.loop-checker.invariant in
+    let e = c.check_next.ensures in
+    (loses_both (g.Q.Source.left c.args.certificate.now) (g.Q.Source.left c.check_next.new.certificate) (g.Q.Source.left c.check_last.new.certificate) (loses_both (g.Q.Source.left c.args.certificate.now) (g.Q.Source.left c.loop-checker.certificate) (g.Q.Source.left c.check_next.new.certificate) i.cert_source e.cert.0) c.check_last.ensures.source, omega (arith, i.cert_later, e.cert.1, c.check_last.ensures.later))
+
+pub returns-clause-taken : goal.returns-clause-taken
+returns-clause-taken g c =
+    let i = c.loop-checker.invariant in
+    let e = c.check_next.ensures in
+    taken_both c.args.cert.now.lines c.check_next.new.cert.lines c.check_last.new.cert.lines (g.Q.Source.left c.args.certificate.now) (g.Q.Source.left c.check_next.new.certificate) (g.Q.Source.left c.check_last.new.certificate) (loses_both (g.Q.Source.left c.args.certificate.now) (g.Q.Source.left c.loop-checker.certificate) (g.Q.Source.left c.check_next.new.certificate) i.cert_source e.cert.0)
+    (taken_both c.args.cert.now.lines c.loop-checker.cert.lines c.check_next.new.cert.lines (g.Q.Source.left c.args.certificate.now) (g.Q.Source.left c.loop-checker.certificate) (g.Q.Source.left c.check_next.new.certificate) i.cert_source i.taken e.taken) c.check_last.ensures.taken
+
+pub returns-clause-kept : goal.returns-clause-kept
+returns-clause-kept g c = rw (c.in_ok-object.ensures.kept.0) c.check_last.ensures.kept
+
+pub returns-clause-checked : goal.returns-clause-checked
+returns-clause-checked g c =
+    let start : Inputs = inputs c.args.reader.now (g.T.Source.left c.args.trace.now) (g.T.Source.faults c.args.trace.now) c.args.cert.now (g.Q.Source.left c.args.certificate.now) (g.Q.Source.faults c.args.certificate.now) in
+    let i = c.loop-checker.invariant in
+    let all = rw c.in_default.is at (c.in_ok-object.ensures.checked start c.in_ok-header.header i.kept.0 i.kept.1 i.kept.3) in
+    let end : Inputs = inputs c.check_next.new.reader (g.T.Source.left c.check_next.new.trace) (g.T.Source.faults c.check_next.new.trace) c.check_last.new.cert (g.Q.Source.left c.check_last.new.certificate) (g.Q.Source.faults c.check_last.new.certificate) in
+    check_end (g.K.Keeper.has c.loop-checker.keeper) start end i.kept.0 i.kept.1 i.kept.2 c.check_last.result
+    (c.check_last.ensures.checked start c.check_next.new.reader (g.T.Source.left c.check_next.new.trace) (g.T.Source.faults c.check_next.new.trace) c.in_ok-header.header i.kept.0 i.kept.1 all)

@@ -1,0 +1,27 @@
+use Rattle.std.proofs.Common.{◌≡◌, ◌≤◌, List}
+use Rattle.bound_io.specs.Reading.{LosesPrefix}
+use Rattle.cache_model.specs.declared.objects.Object.{Object}
+use Rattle.cache_model.specs.declared.certificates.Record.{Record}
+use Rattle.cert_format.specs.Lines.{IsTaken}
+use Rattle.cert_checker.specs.Checks.{HasChecked, Inputs, IsInStep, inputs}
+use Rattle.cert_checker.proofs.walking.check_with.Given as goal
+
+-- the requests and the records that the keeper has were read and passed
+abbrev pub invariant-loop-checker : goal.invariant-loop-checker
+invariant-loop-checker g l =
+    let start : Inputs = inputs l.fn.reader (g.T.Source.left l.fn.trace) (g.T.Source.faults l.fn.trace) l.fn.cert (g.Q.Source.left l.fn.certificate) (g.Q.Source.faults l.fn.certificate) in
+    let now : Inputs = inputs l.reader (g.T.Source.left l.trace) (g.T.Source.faults l.trace) l.cert (g.Q.Source.left l.certificate) (g.Q.Source.faults l.certificate) in
+    record {
+      in_step : IsInStep now l.checker;
+      header : l.header ≡ l.checker.header;
+      kept : (requests : List Object) × (records : List Record) × g.K.Keeper.has l.keeper requests records × HasChecked start l.header requests records now l.checker;
+      trace_source : LosesPrefix (g.T.Source.left l.fn.trace) (g.T.Source.left l.trace);
+      trace_later : g.T.Source.faults l.fn.trace ≤ g.T.Source.faults l.trace;
+      taken : IsTaken l.fn.cert.lines l.cert.lines (g.Q.Source.left l.fn.certificate) (g.Q.Source.left l.certificate);
+      cert_source : LosesPrefix (g.Q.Source.left l.fn.certificate) (g.Q.Source.left l.certificate);
+      cert_later : g.Q.Source.faults l.fn.certificate ≤ g.Q.Source.faults l.certificate;
+    }
+
+-- each check but the last reads a record
+abbrev pub decreases-loop-checker : goal.decreases-loop-checker
+decreases-loop-checker g l = l.cert.left
