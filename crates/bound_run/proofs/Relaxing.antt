@@ -12,7 +12,7 @@ use Rattle.cache_model.specs.declared.intervals.Interval.{Interval}
 use Rattle.bound_report.specs.declared.facts.Mode.TheVariants.{Flow}
 use Rattle.bound_report.specs.declared.facts.Window.{Window}
 use Rattle.cache_model.specs.Intervals.{bound_of, surplus as interval_surplus}
-use Rattle.cache_model.specs.Schedules.{covers, load_at, IsFractionalSchedule}
+use Rattle.cache_model.specs.Schedules.{covers, flow_value, load_at, IsFractionalSchedule}
 use Rattle.cache_model.specs.Units.{weight}
 use Rattle.flow_model.specs.declared.arcs.OuterArc.{OuterArc}
 use Rattle.flow_model.specs.Instances.{Instance, IsInstance, arc_of, surplus, whole_instance}
@@ -119,13 +119,19 @@ no_flows unit units intervals = record { within_weights = weights intervals; wit
     loads t [] = refl
     loads t (i ∷ xs) = omega (arith, sum_by-cons (λ (p : Interval × ℕ). cond (covers t p.0) p.1 0) (i, 0) (zip xs (replicate (length xs) 0)), nothing (covers t i) 0 refl, loads t xs)
 
+-- no flow at all is worth nothing
+pub no_value : (unit denominator : ℕ) (intervals : List Interval) → flow_value intervals unit denominator (replicate (length intervals) 0) ≡ 0
+no_value unit denominator [] = refl
+no_value unit denominator (i ∷ xs) =
+    omega (arith, sum_by-cons (λ (p : Interval × ℕ). (denominator * p.0.gain / weight unit p.0) * p.1) (i, 0) (zip xs (replicate (length xs) 0)), no_value unit denominator xs)
+
 -- the arcs with full flows are those of the flagged intervals
 pub full_of-arcs : (unit denominator : ℕ) (intervals : List Interval) (flows : List ℕ) → full_of (map (arc_of unit denominator) intervals) flows ≡ full_flags unit intervals flows
 full_of-arcs unit denominator [] flows = refl
 full_of-arcs unit denominator (i ∷ intervals) [] = refl
 full_of-arcs unit denominator (i ∷ intervals) (f ∷ flows) = ap (λ flags. (f == weight unit i) ∷ flags) (full_of-arcs unit denominator intervals flows)
 
--- where no interval has flow none is flagged
+-- if no interval has flow, none is flagged
 pub full_flags-no_flows : (line : Timeline) (unit : ℕ) → IsTimeline line → 1 ≤ unit → All (λ i. unit ∣ i.size) line.items
     → full_flags unit line.items (replicate (length line.items) 0) ≡ replicate (length line.items) false
 full_flags-no_flows line unit is_line positive divides = none line.items (timeline_weights line unit is_line positive divides)

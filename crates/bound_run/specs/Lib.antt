@@ -6,6 +6,7 @@ pub mod Values
 pub mod Operands
 pub mod Words
 pub mod Statuses
+pub mod Held
 pub mod Made
 pub mod Records
 pub mod BoundsFaults

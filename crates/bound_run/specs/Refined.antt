@@ -4,7 +4,7 @@ use Rattle.bound_io.specs.Devices.{Device}
 use Rattle.cache_model.specs.declared.objects.Object.{Object}
 use Rattle.cache_model.specs.declared.certificates.Header.{Header}
 use Rattle.cache_model.specs.declared.certificates.Record.{Record}
-use Rattle.cache_model.specs.Certificates.{eligible_of, prices_of, units_of, IsValid}
+use Rattle.cache_model.specs.Certificates.{eligible_of, units_of, IsValid}
 use Rattle.cache_model.specs.Claim.{BoundsEveryPolicy}
 use Rattle.cache_model.specs.Intervals.{bound_of}
 use Rattle.cache_model.specs.Objects.{objects_of}

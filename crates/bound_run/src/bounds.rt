@@ -1,7 +1,6 @@
 //! The bounds of a trace, and their texts.
-ghost use Rattle.std.specs.Prelude.{◌≡◌, ◌≤◌, ◌<◌, ◌*◌, ◌^◌, length, slice_index_or, sum, All, IfOk, IfErr, IsTrue, OnOk, ◌↔◌, ◌&&◌};
+ghost use Rattle.std.specs.Prelude.{◌≡◌, ◌≤◌, ◌<◌, ◌^◌, length, All, IfOk, IfErr, IsTrue, OnOk, ◌↔◌, ◌&&◌};
 ghost use Rattle.std.specs.Io.KnownBytes.{Appends};
-ghost use Rattle.cache_model.specs.Intervals.{bound_of};
 ghost use Rattle.cache_model.specs.Certificates.{eligible_of, IsCertificate};
 ghost use Rattle.cache_model.specs.Units.{HasWholeCosts, IsUnit};
 ghost use Rattle.cache_model.specs.Claim.{IsAllowed, score, contents_of};
@@ -10,7 +9,6 @@ ghost use Rattle.cache_model.specs.Texts.{cert_text};
 ghost use Rattle.interval_maker.specs.Timelines.{IsTimeline, starting_at, timeline_of};
 ghost use Rattle.relaxation.specs.Denominators.{IsChosen};
 ghost use Rattle.relaxation.specs.Faults.{amount_of};
-ghost use Rattle.relaxation.specs.Prices.{most_paid};
 ghost use Rattle.bound_run.specs.Asked.{asked_by};
 ghost use Rattle.bound_run.specs.BoundsFaults.{FailsBounds};
 ghost use Rattle.bound_run.specs.Made.{AreTexts, IsMade, is_unwindowed, record_of, records_of, terms_asked};
@@ -25,7 +23,7 @@ use cache_model::{Header, Record, Terms};
 use cache_rules::{Trace, score_of_fitting};
 use cert_format::{write_end, write_header, write_record};
 use interval_maker::{Intervals, make};
-use relaxation::{Denominator, Scale, Sums, bound_of, denominator_for, unit_of, value_of_schedule};
+use relaxation::{Denominator, Scale, denominator_for, unit_of};
 use schedule_round::{Keeps, round};
 use std::alloc::Global;
 
@@ -97,23 +95,6 @@ impl BoundsTask {
             warmup: self.warmup,
         }
     }
-}
-
-// The bound of prices.
-fn upper_of(
-    alloc: Global,
-    intervals: &Intervals,
-    scale: Scale,
-    prices: &[u128],
-) -> Result<u128, NoMemory>
-    requires few { length prices.now ≤ 2 ^ 25 }
-    requires each { length prices.now ≡ intervals.now.steps }
-    requires paid { scale.units * sum prices.now ≤ most_paid }
-    ensures bound { IfOk result (λ u. u ≡ bound_of intervals.now.items scale.unit scale.units scale.denominator prices.now) }
-    ensures small { IfOk result (λ u. u < 2 ^ 127) }
-{
-    let sums = Sums::within_limit(alloc, prices, scale.units)?;
-    Ok(bound_of(intervals, scale.unit, scale.units, scale.denominator, &sums))
 }
 
 // The schedule that is rounded from the flagged intervals.
@@ -199,8 +180,6 @@ fn parts_of(
         denominator: denominator.value,
     };
     let relaxed = relax(alloc, asked, intervals, scale)?;
-    let upper = upper_of(alloc, intervals, scale, relaxed.solution.prices())?;
-    let flow = value_of_schedule(intervals, unit, denominator.value, relaxed.solution.flows());
     let schedule = schedule_of(alloc, asked, trace, intervals, &relaxed.full)?;
     let requests = trace.len();
     let header = Header {
@@ -210,8 +189,8 @@ fn parts_of(
         unit,
         denominator: denominator.value,
         exact: is_exact(asked.mode, requests, denominator.exact),
-        upper,
-        flow,
+        upper: relaxed.upper,
+        flow: relaxed.flow,
         lower: schedule.lower,
         warmup: asked.warmup,
         version: asked.version,
@@ -243,7 +222,7 @@ fn flow_from(bounds: &Bounds, t: u32) -> u64
     ensures { result ≡ amount_of bounds.now.relaxed.solution.flows (starting_at bounds.now.intervals.items t) }
 {
     match bounds.intervals.starting(t) {
-        Some(number) => bounds.relaxed.solution.flows()[number as usize],
+        Some(number) => bounds.relaxed.solution.flow_of(number),
         None => 0,
     }
 }
@@ -255,7 +234,7 @@ fn record_at(bounds: &Bounds, t: u32) -> Record
     ensures { result ≡ record_of bounds.now.relaxed.solution.prices bounds.now.keeps bounds.now.intervals.items bounds.now.relaxed.solution.flows t }
 {
     Record {
-        price: bounds.relaxed.solution.prices()[t as usize],
+        price: bounds.relaxed.solution.price_at(t),
         keep: bounds.keeps.as_slice()[t as usize],
         flow: flow_from(bounds, t),
     }

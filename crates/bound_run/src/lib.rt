@@ -12,6 +12,7 @@ mod loading;
 mod operands;
 mod paths;
 mod plans;
+mod prices;
 mod refined;
 mod relaxed;
 mod replays;

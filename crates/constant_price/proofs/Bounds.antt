@@ -95,12 +95,27 @@ pub least-within : (line : Timeline) (unit units d price : ℕ) → IsTimeline l
 least-within line unit units d price h least =
     omega (arith, least.no_smaller_bound 0, constant_bound-is line unit units d 0 h)
 
--- the least bound is within the surplus of no price
-pub constant_bound-within : (line : Timeline) (unit units d price : ℕ) → d ≤ 2 ^ 48 → IsTimeline line → IsLeastConstant line unit units d price → constant_bound line unit units d price ≤ 2 ^ 121
-constant_bound-within line unit units d price small h least =
+-- the surplus of a price is small
+pub surplus-small : (line : Timeline) (unit d price : ℕ) → d ≤ 2 ^ 48 → IsTimeline line → surplus_of unit d price line.items ≤ 2 ^ 121
+surplus-small line unit d price small h =
     let each : All (λ i. d * i.gain ≤ 2 ^ 96) line.items = All-weaker (IsInterval line.steps) (λ i. d * i.gain ≤ 2 ^ 96) (λ i is. gain_within line.steps d i small is) line.items h.intervals in
     let most : length line.items * 2 ^ 96 ≤ 2 ^ 25 * 2 ^ 96 = mul-le (length line.items) (2 ^ 96) (2 ^ 25) (2 ^ 96) (omega (arith, h.few_intervals, h.few_steps)) (omega arith) in
-    omega (arith, least-within line unit units d price h least, surplus_of-within unit d 0 (2 ^ 96) line.items each, most)
+    omega (arith, surplus_of-within unit d price (2 ^ 96) line.items each, most)
+
+-- the least bound is within the surplus of no price
+pub constant_bound-within : (line : Timeline) (unit units d price : ℕ) → d ≤ 2 ^ 48 → IsTimeline line → IsLeastConstant line unit units d price → constant_bound line unit units d price ≤ 2 ^ 121
+constant_bound-within line unit units d price small h least = omega (arith, least-within line unit units d price h least, surplus-small line unit d 0 small h)
+
+-- a bound from its two parts, if the units times all prices are small
+pub bound_found : (line : Timeline) (unit units d price : ℕ) (items : List Interval) (part surplus : ℕ) → d ≤ 2 ^ 48 → IsTimeline line → units * sum (constant_prices price line.steps) ≤ 2 ^ 121 → items ≡ line.items
+    → part ≡ units * ((line.steps - 1) * price) → surplus ≡ surplus_of unit d price items
+    → (part + surplus ≡ constant_bound line unit units d price) × (part + surplus ≤ 2 ^ 122)
+bound_found line unit units d price items part surplus small h paid same part_is surplus_is =
+    let surplus_of_line : surplus ≡ surplus_of unit d price line.items = surplus_is ∙ ap (surplus_of unit d price) same in
+    let part_of_sum : part ≡ units * sum (constant_prices price line.steps) = part_is ∙ ap (λ n. units * n) (sym (sum-constant_prices price line.steps)) in (
+      omega (arith, part_is, surplus_of_line, constant_bound-is line unit units d price h),
+      omega (arith, part_of_sum, paid, surplus_of_line, surplus-small line unit d price small h),
+    )
 
 -- and so are the units times all prices
 pub sum-within : (line : Timeline) (unit units d price : ℕ) → d ≤ 2 ^ 48 → IsTimeline line → IsLeastConstant line unit units d price → units * sum (constant_prices price line.steps) ≤ 2 ^ 121

@@ -1,4 +1,4 @@
-use Rattle.std.proofs.Common.{◌∙◌, ◌/◌, refl, arith, sym, ap, length}
+use Rattle.std.proofs.Common.{◌∙◌, ◌/◌, refl, arith, sym, ap}
 use Rattle.std.proofs.Math.Nat.{div-le_self}
 use Rattle.std.proofs.lemmas.Result.{err_from_is_err_and}
 use Rattle.schedule_round.proofs.Flags.{full_flags_fit}
@@ -27,7 +27,7 @@ pub returns-clause-made : goal.returns-clause-made
 returns-clause-made c =
     rw c.is_exact.ensures
     (made_of (asked_by c.args.asked.now) c.args.trace.now c.args.intervals.now c.len-requests.result c.unit_of-unit.result (c.args.asked.now.capacity / c.unit_of-unit.result) c.in_ok-denominator.denominator.value c.in_ok-denominator.denominator.exact
-    c.in_ok-upper.upper c.value_of_schedule-flow.result c.in_ok-schedule.schedule.lower c.in_ok-relaxed.relaxed.price c.in_ok-relaxed.relaxed.solution.prices c.in_ok-relaxed.relaxed.solution.flows c.in_ok-schedule.schedule.keeps
+    c.in_ok-relaxed.relaxed.upper c.in_ok-relaxed.relaxed.flow c.in_ok-schedule.schedule.lower c.in_ok-relaxed.relaxed.price c.in_ok-relaxed.relaxed.solution.prices c.in_ok-relaxed.relaxed.solution.flows c.in_ok-schedule.schedule.keeps
     c.requires.intervals c.len-requests.ensures.requests refl (record {
       capacity = c.args.asked.now.capacity_in_range;
       warmup = c.args.asked.now.warmup_in_range;
@@ -48,10 +48,10 @@ returns-clause-made c =
       paid = c.in_ok-relaxed.ensures.paid;
       last = c.in_ok-relaxed.ensures.last;
       schedule = c.in_ok-relaxed.ensures.schedule;
-      bound = rw c.prices.ensures at c.in_ok-upper.ensures.bound;
-      small = c.in_ok-upper.ensures.small;
-      value = rw c.flows.ensures at c.value_of_schedule-flow.ensures.value;
-      small_value = omega (arith, c.value_of_schedule-flow.ensures.small);
+      bound = c.in_ok-relaxed.ensures.bound;
+      small = c.in_ok-relaxed.ensures.small;
+      value = c.in_ok-relaxed.ensures.value;
+      small_value = omega (arith, c.in_ok-relaxed.ensures.small_value);
       rounded = rw (c.deref.ensures.value, c.in_ok-relaxed.ensures.full) at c.in_ok-schedule.ensures.rounded;
       maximal = c.in_ok-schedule.ensures.maximal;
       allowed = c.in_ok-schedule.ensures.allowed;
@@ -86,7 +86,7 @@ returns-in_err-denominator-clause-refused c =
     rw (p.1, p.2) c.in_err-denominator.ensures.refused
 
 pub relax-requires : goal.relax-requires
-relax-requires c = record { divides = c.unit_of-unit.ensures.unit.divides }
+relax-requires c = record { timeline = c.requires.timeline; divides = c.unit_of-unit.ensures.unit.divides }
 
 pub returns-in_err-relaxed-clause-made : goal.returns-in_err-relaxed-clause-made
 returns-in_err-relaxed-clause-made c = rw (err_from_is_err_and c.from_residual-in_err-relaxed.result c.from_residual-in_err-relaxed.ensures.1).1 tt
@@ -95,32 +95,6 @@ pub returns-in_err-relaxed-clause-refused : goal.returns-in_err-relaxed-clause-r
 returns-in_err-relaxed-clause-refused c =
     let p = err_from_is_err_and c.from_residual-in_err-relaxed.result c.from_residual-in_err-relaxed.ensures.1 in
     rw (p.1, p.2) tt
-
-pub upper_of-requires-clause-few : goal.upper_of-requires-clause-few
-upper_of-requires-clause-few c = omega (arith, c.requires.timeline.few_steps, c.in_ok-relaxed.ensures.each, ap length c.prices.ensures)
-
-pub upper_of-requires-clause-each : goal.upper_of-requires-clause-each
-upper_of-requires-clause-each c = rw c.prices.ensures c.in_ok-relaxed.ensures.each
-
-pub upper_of-requires-clause-paid : goal.upper_of-requires-clause-paid
-upper_of-requires-clause-paid c = rw c.prices.ensures c.in_ok-relaxed.ensures.paid
-
-pub returns-in_err-upper-clause-refused : goal.returns-in_err-upper-clause-refused
-returns-in_err-upper-clause-refused c =
-    let p = err_from_is_err_and c.from_residual-in_err-upper.result c.from_residual-in_err-upper.ensures.1 in
-    rw (p.1, p.2) tt
-
-pub value_of_schedule-flow-requires-clause-unit : goal.value_of_schedule-flow-requires-clause-unit
-value_of_schedule-flow-requires-clause-unit c = c.unit_of-unit.ensures.positive
-
-pub value_of_schedule-flow-requires-clause-divides : goal.value_of_schedule-flow-requires-clause-divides
-value_of_schedule-flow-requires-clause-divides c = c.unit_of-unit.ensures.unit.divides
-
-pub value_of_schedule-flow-requires-clause-denominator : goal.value_of_schedule-flow-requires-clause-denominator
-value_of_schedule-flow-requires-clause-denominator c = c.in_ok-denominator.ensures.range.1
-
-pub value_of_schedule-flow-requires-clause-schedule : goal.value_of_schedule-flow-requires-clause-schedule
-value_of_schedule-flow-requires-clause-schedule c = (c.args.asked.now.capacity / c.unit_of-unit.result, rw c.flows.ensures c.in_ok-relaxed.ensures.schedule)
 
 pub schedule_of-requires-clause-intervals : goal.schedule_of-requires-clause-intervals
 schedule_of-requires-clause-intervals c = c.requires.intervals
@@ -139,9 +113,6 @@ returns-clause-intervals c = ap (λ l. l.items) c.requires.intervals
 pub returns-clause-refused : goal.returns-clause-refused
 returns-clause-refused c = tt
 
-pub returns-in_err-upper-clause-made : goal.returns-in_err-upper-clause-made
-returns-in_err-upper-clause-made c = rw (err_from_is_err_and c.from_residual-in_err-upper.result c.from_residual-in_err-upper.ensures.1).1 tt
-
 pub returns-in_err-schedule-clause-made : goal.returns-in_err-schedule-clause-made
 returns-in_err-schedule-clause-made c = rw (err_from_is_err_and c.from_residual-in_err-schedule.result c.from_residual-in_err-schedule.ensures.1).1 tt
 
@@ -156,12 +127,6 @@ returns-in_err-relaxed-clause-intervals c = rw (err_from_is_err_and c.from_resid
 
 pub returns-in_err-relaxed-clause-each : goal.returns-in_err-relaxed-clause-each
 returns-in_err-relaxed-clause-each c = rw (err_from_is_err_and c.from_residual-in_err-relaxed.result c.from_residual-in_err-relaxed.ensures.1).1 tt
-
-pub returns-in_err-upper-clause-intervals : goal.returns-in_err-upper-clause-intervals
-returns-in_err-upper-clause-intervals c = rw (err_from_is_err_and c.from_residual-in_err-upper.result c.from_residual-in_err-upper.ensures.1).1 tt
-
-pub returns-in_err-upper-clause-each : goal.returns-in_err-upper-clause-each
-returns-in_err-upper-clause-each c = rw (err_from_is_err_and c.from_residual-in_err-upper.result c.from_residual-in_err-upper.ensures.1).1 tt
 
 pub returns-in_err-schedule-clause-intervals : goal.returns-in_err-schedule-clause-intervals
 returns-in_err-schedule-clause-intervals c = rw (err_from_is_err_and c.from_residual-in_err-schedule.result c.from_residual-in_err-schedule.ensures.1).1 tt

@@ -1,5 +1,4 @@
 use Rattle.std.proofs.Common.{◌≡◌, ◌∙◌, ap}
-use Rattle.cache_model.specs.declared.certificates.Header.{Header}
 use Rattle.bound_report.specs.Refinements.{refined_text}
 use Rattle.bound_report.specs.Replays.{with_warmup}
 use Rattle.cert_checker.specs.declared.verdict.Verdict.{Verdict}

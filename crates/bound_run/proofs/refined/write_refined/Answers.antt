@@ -1,4 +1,4 @@
-use Rattle.std.proofs.Common.{◌≡◌, ◌∙◌, ◌<◌, ap, arith, subst, sym, get_or, length}
+use Rattle.std.proofs.Common.{◌∙◌, ◌<◌, ap, arith, subst, sym, length}
 use Rattle.std.proofs.lemmas.List.Elements.{All-get_or}
 use Rattle.cache_model.specs.Certificates.{IsRecordInRange}
 use Rattle.bound_run.specs.Refined.{with_prices}
