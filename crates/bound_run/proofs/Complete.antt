@@ -175,7 +175,7 @@ module _ (format : Format) where
       (source_works : ¬ (HasFailed source)) (cert_works : ¬ (HasFailed cert)) (report_works : ¬ (HasFailed report)) (made_works : ¬ (HasFailed made)) where
     refine_complete : (status : Status) → RefineEnds format width source cert report made (ending_of status) → AnswersOf format source.before cert.before status
     refine_complete Done (written, text, refined, all, printed) = yes_at source.before cert.before refined.requests refined.dropped refined.header refined.records good known_cert refined.read.loaded.read refined.read.text refined.read.valid
-    refine_complete (Invalid line kind) e = no_at source.before cert.before line kind good known_cert e.0
+    refine_complete (Invalid line kind) e = no_at source.before cert.before line kind good known_cert e.0.0
     refine_complete (BadLine line kind) e = absurd (not_refused_at source.before cert.before (trace.BadLine line kind) good known_cert e.0)
     refine_complete (Limit Requests) e = absurd (not_refused_at source.before cert.before trace.TooManyRequests good known_cert e.0)
     refine_complete (Limit TraceBytes) e = absurd (not_refused_at source.before cert.before trace.InputTooLong good known_cert e.0)

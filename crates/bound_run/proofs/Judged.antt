@@ -21,7 +21,7 @@ use Rattle.cert_checker.specs.declared.walking.CheckFault.TheVariants as check
 use Rattle.cert_checker.specs.Checks.{Inputs, IsEvent, IsNear, IsPassed}
 use Rattle.cert_checker.specs.Keeping.{Checked, HasKept}
 use Rattle.bound_run.specs.Inputs.{IsAccepted, IsLoaded}
-use Rattle.bound_run.specs.Parts.{RefusesCheck, RefusesWalk}
+use Rattle.bound_run.specs.Parts.{RefusesCheck}
 use Rattle.bound_run.specs.Refined.{IsKept}
 use Rattle.bound_run.specs.Statuses.{refusal_of_check}
 
@@ -77,24 +77,13 @@ module _ (format : Format) (start end : Inputs) (new : start.reader ≡ fresh fo
         ap (λ n. record { header = kept.verdict.header; objects = n }) (passed.yes.objects ∙ ap (λ requests. length (objects_of requests)) (sym has.trace)),
       )
 
-  -- and a no is the first event of the walk over it
-  pub walk_refused : (fault : CheckFault) → IsEvent start end fault
-      → RefusesWalk format (device start.trace end.trace start.trace_faults end.trace_faults) (device start.certificate end.certificate start.certificate_faults end.certificate_faults) (refusal_of_check fault)
-  walk_refused (check.Invalid line kind) e = rw (same_format, same_limits) at e
-  walk_refused (check.Trace (trace.BadLine line kind)) e = rw (same_format, same_limits) at e
-  walk_refused (check.Trace trace.InputTooLong) e = rw (same_format, same_limits) at e
-  walk_refused (check.Trace trace.TooManyRequests) e = rw (same_format, same_limits) at e
-  walk_refused (check.Trace trace.ReadFault) e = e
-  walk_refused (check.Trace trace.NoMemory) e = absurd e
-  walk_refused check.CertReadFault e = e
-  walk_refused check.NoMemory e = tt
-
+  -- and a no is the first event of the walk over it, with little read beyond its line
   pub refused : (fault : CheckFault) → IsEvent start end fault → IsNear start end fault
       → RefusesCheck format (device start.trace end.trace start.trace_faults end.trace_faults) (device start.certificate end.certificate start.certificate_faults end.certificate_faults) (refusal_of_check fault)
-  refused (check.Invalid line kind) e near = (walk_refused (check.Invalid line kind) e, rw (same_format, same_limits) at near)
-  refused (check.Trace (trace.BadLine line kind)) e near = walk_refused (check.Trace (trace.BadLine line kind)) e
-  refused (check.Trace trace.InputTooLong) e near = walk_refused (check.Trace trace.InputTooLong) e
-  refused (check.Trace trace.TooManyRequests) e near = walk_refused (check.Trace trace.TooManyRequests) e
+  refused (check.Invalid line kind) e near = (rw (same_format, same_limits) at e, rw (same_format, same_limits) at near)
+  refused (check.Trace (trace.BadLine line kind)) e near = rw (same_format, same_limits) at e
+  refused (check.Trace trace.InputTooLong) e near = rw (same_format, same_limits) at e
+  refused (check.Trace trace.TooManyRequests) e near = rw (same_format, same_limits) at e
   refused (check.Trace trace.ReadFault) e near = e
   refused (check.Trace trace.NoMemory) e near = absurd e
   refused check.CertReadFault e near = e

@@ -1,6 +1,6 @@
 -- A valid certificate with refined prices.
-use Rattle.std.proofs.Common.{◌≡◌, ◌∙◌, ℕ, ◌+◌, ◌-◌, ◌*◌, ◌/◌, ◌<◌, ◌≤◌, ◌^◌, sym, ap, subst, refl, arith, zero, suc, Bool, List, [], ◌∷◌, length, map, get_or, sum, All, Ok, Err, IfOk}
-use Rattle.std.specs.Prelude.{IsTrue, Result}
+use Rattle.std.proofs.Common.{◌≡◌, ◌∙◌, ℕ, ◌-◌, ◌*◌, ◌<◌, ◌≤◌, ◌^◌, sym, ap, subst, refl, arith, zero, suc, List, [], ◌∷◌, length, map, get_or, sum, All, Ok, Err, IfOk}
+use Rattle.std.specs.Prelude.{Result}
 use Rattle.std.proofs.lemmas.List.Elements.{All-cons, All-head, All-nil, All-tail}
 use Rattle.std.proofs.lemmas.List.Sums.{sum_by-cons}
 use Rattle.std.proofs.Math.Nat.{le_of_mul-le-mul_left, mul-le-mul_right}
@@ -9,7 +9,7 @@ use Rattle.cache_model.specs.declared.objects.Object.{Object}
 use Rattle.cache_model.specs.declared.intervals.Interval.{Interval}
 use Rattle.cache_model.specs.declared.certificates.Header.{Header}
 use Rattle.cache_model.specs.declared.certificates.Record.{Record}
-use Rattle.cache_model.specs.Certificates.{IsCertificate, IsHeaderInRange, IsRecordInRange, IsValid, eligible_of, flow_of, flows_of, keeps_of, prices_of, units_of}
+use Rattle.cache_model.specs.Certificates.{IsCertificate, IsRecordInRange, IsValid, eligible_of, flow_of, flows_of, keeps_of, prices_of, units_of}
 use Rattle.cache_model.specs.Claim.{score, terms_of, contents_of, IsAllowed}
 use Rattle.cache_model.specs.Intervals.{bound_of}
 use Rattle.cache_model.specs.Schedules.{IsFractionalSchedule, flow_value}
@@ -21,7 +21,7 @@ use Rattle.trace_any.specs.declared.format.Format.{Format}
 use Rattle.interval_maker.specs.Timelines.{Timeline, timeline_of}
 use Rattle.price_refine.specs.Blocks.{AreSettled}
 use Rattle.bound_report.specs.declared.refusal.Refusal.TheVariants as refusal
-use Rattle.bound_run.specs.Parts.{RefusesWalk}
+use Rattle.bound_run.specs.Parts.{RefusesCheck}
 use Rattle.bound_run.specs.Refined.{AreRefinedTexts, IsRefinable, IsRefined, IsRefinement, RefinesPrices, refined_report, verdict_on, with_price, with_prices, with_upper}
 use Rattle.bound_run.proofs.MadeOf.{some_units}
 
@@ -189,5 +189,5 @@ refined_all format width source cert requests dropped h records written report r
     record { requests = requests; dropped = dropped; header = h; records = records; read = read; texts = texts }
 
 -- want of memory is free
-pub memory_refuses : (format : Format) (source cert : Device) → RefusesWalk format source cert refusal.NoMemory
+pub memory_refuses : (format : Format) (source cert : Device) → RefusesCheck format source cert refusal.NoMemory
 memory_refuses format source cert = tt

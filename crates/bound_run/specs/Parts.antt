@@ -41,16 +41,11 @@ abbrev pub RefusesCurve : Format → Device → Refusal → Type 0
 RefusesCurve format source (refusal.Unequal first other) = IsUnequal format source first other
 RefusesCurve format source r = RefusesLoading format source r
 
--- why a certificate is not accepted: the first event of the walk over both inputs, or a failed read of the certificate
-abbrev pub RefusesWalk : Format → Device → Device → Refusal → Type 0
-RefusesWalk format source cert (refusal.Invalid line kind) = IsFirstEvent format source cert (walk.Invalid line kind)
-RefusesWalk format source cert refusal.CertFault = HasFailed cert
-RefusesWalk format source cert r = RefusesReading (λ fault. IsFirstEvent format source cert (walk.Refused fault)) source r
-
--- why a check is no yes; of both inputs little was read beyond a line that fails
+-- why a certificate is not accepted: the first event of the walk over both inputs, of which little was read beyond a line that fails, or a failed read of the certificate
 abbrev pub RefusesCheck : Format → Device → Device → Refusal → Type 0
-RefusesCheck format source cert (refusal.Invalid line kind) = RefusesWalk format source cert (refusal.Invalid line kind) × IsNearLine format full_limits line source cert
-RefusesCheck format source cert r = RefusesWalk format source cert r
+RefusesCheck format source cert (refusal.Invalid line kind) = IsFirstEvent format source cert (walk.Invalid line kind) × IsNearLine format full_limits line source cert
+RefusesCheck format source cert refusal.CertFault = HasFailed cert
+RefusesCheck format source cert r = RefusesReading (λ fault. IsFirstEvent format source cert (walk.Refused fault)) source r
 
 -- the report of a yes: its lines, and the warm-up if there is one
 abbrev pub verdict_report : Verdict → ℕ → List ℕ

@@ -21,7 +21,7 @@ use Rattle.bound_run.specs.declared.status.Status.TheVariants.{Done, Invalid, Wo
 use Rattle.bound_run.specs.Demos.{IsDemoText, RefusesDemo, trace_drawn}
 use Rattle.bound_run.specs.Made.{RefusesDenominator}
 use Rattle.bound_run.specs.Inputs.{HasDenominator, IsAccepted, IsCertified, IsGoodTrace, IsReady, IsReplayed, IsCurved}
-use Rattle.bound_run.specs.Parts.{RefusesBounds, RefusesCheck, RefusesCurve, RefusesLoading, RefusesWalk, verdict_report}
+use Rattle.bound_run.specs.Parts.{RefusesBounds, RefusesCheck, RefusesCurve, RefusesLoading, verdict_report}
 use Rattle.bound_run.specs.Refined.{IsRefined}
 use Rattle.bound_run.specs.Upgrades.{IsGoodCertificate, IsUpgraded, RefusesUpgrade}
 use Rattle.bound_run.specs.Statuses.{Ending, done, refused, unreported, ending_of}
@@ -55,7 +55,7 @@ UpgradeEnds source report made ending = MakesEnd (IsUpgraded source) (RefusesUpg
 
 -- how a refinement ends, and what the sinks got then
 abbrev pub RefineEnds : Format → ℕ → Device → Device → Device → Device → Ending → Type 0
-RefineEnds format width source cert report made ending = MakesEnd (IsRefined format width source cert) (RefusesWalk format source cert) report made ending
+RefineEnds format width source cert report made ending = MakesEnd (IsRefined format width source cert) (RefusesCheck format source cert) report made ending
 
 -- how a check ends, and what the report got then
 abbrev pub CheckEnds : Format → Device → Device → Device → Ending → Type 0

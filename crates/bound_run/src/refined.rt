@@ -8,7 +8,7 @@ ghost use Rattle.cache_model.specs.Texts.{cert_text};
 ghost use Rattle.cert_format.specs.Readers.{fresh as first_record};
 ghost use Rattle.trace_any.specs.Readers.{fresh as first_request};
 ghost use Rattle.trace_any.specs.Readings.{IsFormat, full_limits};
-ghost use Rattle.bound_run.specs.Parts.{RefusesWalk};
+ghost use Rattle.bound_run.specs.Parts.{RefusesCheck};
 ghost use Rattle.bound_run.specs.Refined.{AreRefinedTexts, IsKept, IsRefined, RefinesPrices, verdict_on, with_price, with_prices, with_upper};
 
 use crate::bounds::Texts;
@@ -143,7 +143,7 @@ fn keep_with<T: Source, Q: Source>(
     requires requests { requests.old ≡ first_request requests.old.format full_limits }
     requires records { records.old ≡ first_record }
     ensures kept { IfOk result (λ k. IsKept requests.old.format (seen T.left T.faults trace.old trace.new) (seen Q.left Q.faults cert.old cert.new) k.0 k.1) }
-    ensures refused { IfErr result (RefusesWalk requests.old.format (seen T.left T.faults trace.old trace.new) (seen Q.left Q.faults cert.old cert.new)) }
+    ensures refused { IfErr result (RefusesCheck requests.old.format (seen T.left T.faults trace.old trace.new) (seen Q.left Q.faults cert.old cert.new)) }
     ensures trace_source { LosesPrefix (T.left trace.old) (T.left trace.new) }
     ensures cert_source { LosesPrefix (Q.left cert.old) (Q.left cert.new) }
 {
@@ -164,7 +164,7 @@ fn keep_by<T: Source, Q: Source>(
     requires format { IsFormat format }
     requires records { records.old ≡ first_record }
     ensures kept { IfOk result (λ k. IsKept format (seen T.left T.faults trace.old trace.new) (seen Q.left Q.faults cert.old cert.new) k.0 k.1) }
-    ensures refused { IfErr result (RefusesWalk format (seen T.left T.faults trace.old trace.new) (seen Q.left Q.faults cert.old cert.new)) }
+    ensures refused { IfErr result (RefusesCheck format (seen T.left T.faults trace.old trace.new) (seen Q.left Q.faults cert.old cert.new)) }
     ensures trace_source { LosesPrefix (T.left trace.old) (T.left trace.new) }
     ensures cert_source { LosesPrefix (Q.left cert.old) (Q.left cert.new) }
 {
@@ -181,7 +181,7 @@ fn keep_all<T: Source, Q: Source>(
 ) -> Result<(Kept, u64), Refusal>
     requires { IsFormat format }
     ensures kept { IfOk result (λ k. IsKept format (seen T.left T.faults trace.old trace.new) (seen Q.left Q.faults cert.old cert.new) k.0 k.1) }
-    ensures refused { IfErr result (RefusesWalk format (seen T.left T.faults trace.old trace.new) (seen Q.left Q.faults cert.old cert.new)) }
+    ensures refused { IfErr result (RefusesCheck format (seen T.left T.faults trace.old trace.new) (seen Q.left Q.faults cert.old cert.new)) }
     ensures trace_source { LosesPrefix (T.left trace.old) (T.left trace.new) }
     ensures cert_source { LosesPrefix (Q.left cert.old) (Q.left cert.new) }
 {
@@ -201,7 +201,7 @@ pub(crate) fn refine_all<T: Source, Q: Source>(
     requires format { IsFormat format }
     requires width { 1 ≤ width }
     ensures refined { IfOk result (λ texts. IsRefined format width (seen T.left T.faults trace.old trace.new) (seen Q.left Q.faults cert.old cert.new) texts.cert.items texts.report.items) }
-    ensures refused { IfErr result (RefusesWalk format (seen T.left T.faults trace.old trace.new) (seen Q.left Q.faults cert.old cert.new)) }
+    ensures refused { IfErr result (RefusesCheck format (seen T.left T.faults trace.old trace.new) (seen Q.left Q.faults cert.old cert.new)) }
     ensures trace_source { LosesPrefix (T.left trace.old) (T.left trace.new) }
     ensures cert_source { LosesPrefix (Q.left cert.old) (Q.left cert.new) }
 {

@@ -227,8 +227,3 @@ abbrev pub IsNextCheck : Inputs → Header → List Object → List Record → I
 IsNextCheck start h trace records now checker (Ok (Some p)) = HasChecked start h (trace ++ p.0 ∷ []) (records ++ p.1 ∷ []) now checker
 IsNextCheck start h trace records now checker (Ok None) = HasCheckedAll start h trace records now checker
 IsNextCheck start h trace records now checker (Err why) = IsStop start now why
-
--- the last check: a yes, or why it is none
-abbrev pub IsLastCheck : Inputs → Inputs → Result Verdict CheckFault → Type 0
-IsLastCheck start end (Ok verdict) = IsPassed start end verdict
-IsLastCheck start end (Err why) = IsStop start end why

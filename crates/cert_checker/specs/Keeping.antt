@@ -18,11 +18,6 @@ pub record HasKept (start end : Inputs) (kept : Checked) : Type 0 where
   pub trace : kept.trace ≡ passed.requests
   pub records : kept.records ≡ passed.records
 
--- what was read and passed, or why the walk ended
-abbrev pub IsKeptEnd : Inputs → Inputs → Result Checked CheckFault → Type 0
-IsKeptEnd start end (Ok kept) = HasKept start end kept
-IsKeptEnd start end (Err why) = IsStop start end why
-
 -- the end of a walk over these requests and records: a yes of them, or why there is none
 abbrev pub IsEnd : Inputs → Inputs → List Object → List Record → Result Verdict CheckFault → Type 0
 IsEnd start end trace records (Ok verdict) = HasKept start end (record { verdict = verdict; trace = trace; records = records })

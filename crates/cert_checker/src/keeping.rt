@@ -2,7 +2,7 @@
 ghost use Rattle.std.specs.Prelude.{◌≡◌, ◌≤◌, IfOk, IfErr, length};
 ghost use Rattle.bound_io.specs.Reading.{LosesPrefix};
 ghost use Rattle.cert_format.specs.Readers.{fresh};
-ghost use Rattle.cert_checker.specs.Checks.{IsEvent, IsFresh, KeepsAnswer, inputs};
+ghost use Rattle.cert_checker.specs.Checks.{IsEvent, IsFresh, IsNear, KeepsAnswer, inputs};
 ghost use Rattle.cert_checker.specs.Keeping.{HasKept};
 
 use crate::keeper::Keeper;
@@ -90,6 +90,7 @@ pub fn check_and_keep<T: Source, Q: Source>(
     requires fresh_cert { cert.old ≡ fresh }
     ensures yes { IfOk result (HasKept (inputs reader.old (T.left trace.old) (T.faults trace.old) cert.old (Q.left certificate.old) (Q.faults certificate.old)) (inputs reader.new (T.left trace.new) (T.faults trace.new) cert.new (Q.left certificate.new) (Q.faults certificate.new))) }
     ensures event { IfErr result (IsEvent (inputs reader.old (T.left trace.old) (T.faults trace.old) cert.old (Q.left certificate.old) (Q.faults certificate.old)) (inputs reader.new (T.left trace.new) (T.faults trace.new) cert.new (Q.left certificate.new) (Q.faults certificate.new))) }
+    ensures near { IfErr result (IsNear (inputs reader.old (T.left trace.old) (T.faults trace.old) cert.old (Q.left certificate.old) (Q.faults certificate.old)) (inputs reader.new (T.left trace.new) (T.faults trace.new) cert.new (Q.left certificate.new) (Q.faults certificate.new))) }
     ensures kept { KeepsAnswer reader.new.fault cert.new.fault result }
     ensures trace_source { LosesPrefix (T.left trace.old) (T.left trace.new) }
     ensures trace_later { T.faults trace.old ≤ T.faults trace.new }

@@ -121,6 +121,7 @@ fn records_read(header: &Header, cert: &CertReader) -> u64
 }
 
 // The step of the checker with the record of this line.
+#[inline(always)]
 fn step(
     alloc: Global,
     checker: &mut Checker,
@@ -141,6 +142,7 @@ fn step(
 }
 
 // Reads and checks the next request and its record, and answers them, if there was one.
+#[inline(always)]
 fn check_next<T: Source, Q: Source>(
     alloc: Global,
     reader: &mut RequestReader,

@@ -197,6 +197,7 @@ fn short_record(keep: &[u8], flow: &[u8], before: u128) -> Result<Record, TextKi
 }
 
 /// The record of a line, after one of the price `before`.
+#[inline(always)]
 pub fn record(text: &[u8], version: u8, before: u128) -> Result<Record, TextKind>
     ensures { result ≡ value_unless (line_fault (record_slots version before text.now) text.now) (record_in version before text.now) }
 {

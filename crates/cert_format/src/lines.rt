@@ -126,6 +126,7 @@ pub fn read_warmup<S: Source>(lines: &mut LineReader, source: &mut S) -> Result<
 }
 
 /// Reads the line of a record, after one of the price `before`.
+#[inline(always)]
 pub fn read_record<S: Source>(
     lines: &mut LineReader,
     source: &mut S,

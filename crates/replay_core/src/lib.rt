@@ -10,5 +10,4 @@ mod replaying;
 
 pub use counts::Replay;
 pub use policy::{Outcome, Policy};
-pub use policy_model::PolicyName;
 pub use replaying::replay;
