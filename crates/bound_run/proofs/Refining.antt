@@ -188,6 +188,6 @@ pub refined_all : (format : Format) (width : ℕ) (source cert : Device) (reques
 refined_all format width source cert requests dropped h records written report read texts =
     record { requests = requests; dropped = dropped; header = h; records = records; read = read; texts = texts }
 
--- want of memory is free
+-- running out of memory is free
 pub memory_refuses : (format : Format) (source cert : Device) → RefusesCheck format source cert refusal.NoMemory
 memory_refuses format source cert = tt

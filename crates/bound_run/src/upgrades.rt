@@ -26,7 +26,7 @@ fn upgraded(header: &Header) -> Header
     changed
 }
 
-// A sink in memory fails only for want of memory.
+// A sink in memory fails only if memory runs out.
 fn grown(written: Result<(), Failed>) -> Result<(), NoMemory>
     ensures { OnOk result (written ≡ Ok tt) }
 {

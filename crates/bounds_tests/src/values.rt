@@ -45,7 +45,7 @@ const SUMS: [(&[u128], u64, Option<u32>); 5] = [
     (&[], 1 << 56, None),
 ];
 
-// The step at which the sum passes its limit. Want of memory is at the last number.
+// The step at which the sum passes its limit. u32::MAX if memory runs out.
 fn limit_step(rt: &impl Abort, alloc: Global, prices: &[u128], units: u64) -> Option<u32> {
     holds(units, prices.len() <= 3 && units >= 1).expect(rt, "a row");
     match Sums::new(alloc, prices, units) {

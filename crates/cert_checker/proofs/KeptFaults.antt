@@ -38,7 +38,7 @@ kept_text f reader cert none kept = subst (λ r. Answered r cert (of_text f)) (s
 pub kept_none : (why : CheckFault) (reader : Option TraceFault) (cert : Option CertFault) → reader ≡ None → cert ≡ None → IsKept None None why → Answered reader cert why
 kept_none why reader cert first other is = subst (λ r. Answered r cert why) (sym first) (subst (λ c. Answered None c why) (sym other) (is, tt, tt))
 
--- a rule that fails, or want of memory
+-- a rule that fails, or no memory
 pub kept_rule : (line : ℕ) (failed : Option InvalidKind) (why : CheckFault) → IsFailing line failed why → IsKept None None why
 kept_rule line failed (fault.Invalid n kind) fails = tt
 kept_rule line failed (fault.Trace f) fails = absurd fails

@@ -9,9 +9,10 @@ use Rattle.std.proofs.lemmas.List.Folds.{list_all-append}
 use Rattle.std.proofs.lemmas.Fmt.{decimal_digit, decimal_by_steps_wide, decimal_is_IsNumeral_wide, length-decimal-le_wide}
 use Rattle.std.proofs.lemmas.Str.Parse.{IsNumeralModel, IsDigitsTest, FoldsDigits, numerals_by_fold}
 use Rattle.bound_base.specs.Digits.{value_after}
+use Rattle.bound_base.proofs.Decimal.{digit_range, value_after-append}
+use Rattle.bound_base.proofs.Value.{value_after_at_least}
 use Rattle.cache_model.specs.Texts.{keep_digit}
 use Rattle.cert_format.specs.Grammar.{is_canonical, number_in}
-use Rattle.cert_format.proofs.Numbers.{digit_range}
 
 -- the digit of a keep
 pub keep_text : (keep : Bool) → decimal (keep_digit keep) ≡ (48 + keep_digit keep) ∷ []
@@ -66,18 +67,9 @@ lacks-digits byte (d ∷ ds) low digits =
     let parts = and_parts (is_ascii_digit d) (list_all is_ascii_digit ds) digits in
     or_from (d == byte) (list_any (λ b. b == byte) ds) (ne_eqb d byte (λ same. omega (arith, digit_range d parts.0, same, low))) (lacks-digits byte ds low parts.1)
 
--- the number of digits with one digit more
-pub value_after-append : (n : ℕ) (ds : List ℕ) (d : ℕ) → value_after n (ds ++ d ∷ []) ≡ 10 * value_after n ds + (d - 48)
-value_after-append n [] d = refl
-value_after-append n (x ∷ ds) d = value_after-append (10 * n + (x - 48)) ds d
-
-value_after-least : (n : ℕ) (ds : List ℕ) → n ≤ value_after n ds
-value_after-least n [] = omega arith
-value_after-least n (d ∷ ds) = omega (arith, value_after-least (10 * n + (d - 48)) ds)
-
 -- a number of several digits without a leading 0 is 10 at least
 two_digits : (x y : ℕ) (ds : List ℕ) → 48 < x → 10 ≤ number_in (x ∷ y ∷ ds)
-two_digits x y ds above = omega (arith, value_after-least (10 * (10 * 0 + (x - 48)) + (y - 48)) ds)
+two_digits x y ds above = omega (arith, value_after_at_least (10 * (10 * 0 + (x - 48)) + (y - 48)) ds)
 
 -- what a canonical text has
 canonical_parts : (word : List ℕ) → is_canonical word ≡ true → (list_all is_ascii_digit word ≡ true) × (0 < length word) × (1 < length word → 48 < get_or word 0 0)

@@ -8,6 +8,7 @@ use Rattle.std.proofs.lemmas.List.Folds.{list_all_at}
 use Rattle.std.proofs.lemmas.List.Quantifiers.{position-Some}
 use Rattle.std.proofs.lemmas.List.{nil_from_length}
 use Rattle.bound_base.specs.Digits.{is_no_digit, number_of, checked_value, value_below, value_after}
+use Rattle.bound_base.proofs.Decimal.{digit_range}
 use Rattle.bound_base.specs.declared.digits.NumFault.{NumFault}
 use Rattle.bound_base.specs.declared.digits.NumFault.TheVariants.{Empty, NotDigit, TooLarge}
 use Rattle.cert_format.specs.declared.fault.TextKind.TheVariants.{Number, Range}
@@ -57,11 +58,6 @@ says limit word = cond_both (length word == 0) (Err Empty) (checked_value limit 
   where
     above : (n : ℕ) → (n == 0) ≡ false → 0 < n
     above n other = omega (arith, eqb-false n 0 other)
-
-pub digit_range : (x : ℕ) → is_ascii_digit x ≡ true → (48 ≤ x) × (x ≤ 57)
-digit_range x digit =
-    let ends = and_parts (nat_le 48 x) (nat_le x 57) digit in
-    (leb-true 48 x ends.0, leb-true x 57 ends.1)
 
 -- the number of a word by its digits, its first one and its value
 pub leading_zero : (low high : ℕ) (word : List ℕ) → 1 < length word → get_or word 0 0 ≡ 48 → number_fault (Within low high) word ≡ Some Number
@@ -121,10 +117,3 @@ refused low high limit word TooLarge is below first =
     some : (word : List ℕ) → 0 < number_in word → 0 < length word
     some [] above = absurd (omega (arith, above))
     some (x ∷ xs) above = omega arith
-
--- digits whose number is below the limit are read
-pub of_digits : (limit : ℕ) (word : List ℕ) (r : Result ℕ NumFault) → Says limit word r → list_all is_ascii_digit word ≡ true → 0 < length word → number_in word < limit → r ≡ Ok (number_in word)
-of_digits limit word (Ok value) said digits some below = ap Ok said.2
-of_digits limit word (Err Empty) said digits some below = absurd (omega (arith, ap length said, some))
-of_digits limit word (Err (NotDigit place)) said digits some below = absurd (true≢false (sym digits ∙ said))
-of_digits limit word (Err TooLarge) said digits some below = absurd (omega (arith, said.1, below))

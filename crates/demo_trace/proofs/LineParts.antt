@@ -9,11 +9,11 @@ use Rattle.std.proofs.lemmas.List.Folds.{list_all_at}
 use Rattle.std.proofs.lemmas.List.Elements.{All-nil, All-cons, All-append, All-same}
 use Rattle.std.proofs.lemmas.List.Splits.{slice_split_at, slice_split_none}
 use Rattle.bound_base.specs.Digits.{number_of}
+use Rattle.bound_base.proofs.Decimal.{digit_range, read_digits}
 use Rattle.bound_io.specs.Lines.{is_lf}
 use Rattle.cache_model.specs.declared.objects.Object.{Object}
 use Rattle.cache_model.specs.Texts.{entry}
 use Rattle.cert_format.proofs.Decimals.{digits-decimal, some-decimal, number_in-decimal, length-decimal}
-use Rattle.cert_format.proofs.Numbers.{digit_range, says, of_digits}
 use Rattle.trace_lines.specs.Lines.{is_gap, words, without_cr, is_blank}
 use Rattle.trace_lines.specs.declared.line.Span.TheVariants.{One}
 use Rattle.trace_webcache.specs.Lines.{line_span}
@@ -61,7 +61,7 @@ number_read : (n : ℕ) → n < 2 ^ 64 → number_of (2 ^ 64) (decimal n) ≡ Ok
 number_read n low =
     let few = small n low in
     let value = number_in-decimal n few in
-    of_digits (2 ^ 64) (decimal n) (number_of (2 ^ 64) (decimal n)) (says (2 ^ 64) (decimal n)) (digits-decimal n few) (some-decimal n few) (omega (arith, value, low)) ∙ ap Ok value
+    read_digits (2 ^ 64) (decimal n) (some-decimal n few) (digits-decimal n few) (omega (arith, value, low)) ∙ ap Ok value
 
 -- the span of a line of this form
 span_read : (line : List ℕ) (a b d : List ℕ) (id size : ℕ) → words line ≡ a ∷ b ∷ d ∷ [] → number_of (2 ^ 64) b ≡ Ok id → number_of (2 ^ 64) d ≡ Ok size → 1 ≤ size → size ≤ 2 ^ 48 → line_span line ≡ Ok (One id size)

@@ -92,7 +92,7 @@ pub record IsOver (r : Reading) (dropped : ℕ) (refused : Option TraceFault) : 
 abbrev pub known : Reader → Option (List ℕ) → Option (List ℕ)
 known r left = stands_in r.lines.held left
 
--- why the next request is not given: what is to come is a refusal, or the source has a new fault; want of memory is free
+-- why the next request is not given: what is to come is a refusal, or the source has a new fault; running out of memory is free
 abbrev pub IsStopped : Reader → Reader → Option (List ℕ) → ℕ → ℕ → TraceFault → Type 0
 IsStopped old new before faults_before faults_after (BadLine line kind) = IfSome before (λ bytes. IsOver (to_come old bytes) new.dropped (Some (BadLine line kind)))
 IsStopped old new before faults_before faults_after InputTooLong = IfSome before (λ bytes. IsOver (to_come old bytes) new.dropped (Some InputTooLong))
@@ -155,7 +155,7 @@ pub record IsWhole (r : Reading) (trace : List Object) (dropped : ℕ) : Type 0 
   pub dropped_lines : r.dropped ≡ dropped
   pub stop : r.refused ≡ None
 
--- why no trace is loaded: the reading of what is to come is refused so, or the source has a new fault; want of memory is free
+-- why no trace is loaded: the reading of what is to come is refused so, or the source has a new fault; running out of memory is free
 abbrev pub IsNotLoaded : Reader → Option (List ℕ) → ℕ → ℕ → TraceFault → Type 0
 IsNotLoaded old before faults_before faults_after (BadLine line kind) = IfSome before (λ bytes. (to_come old bytes).refused ≡ Some (BadLine line kind))
 IsNotLoaded old before faults_before faults_after InputTooLong = IfSome before (λ bytes. (to_come old bytes).refused ≡ Some InputTooLong)

@@ -1,5 +1,6 @@
 //! Words, which stand apart by spaces and tabs.
-ghost use Rattle.std.specs.Prelude.{◌≡◌, ◌∷◌, [], ◌-◌, ◌<◌, ◌≤◌, ◌++◌, ◌==◌, ◌||◌, not, length, position, slice_get, slice_index_or, MatchOption, IfSome};
+ghost use Rattle.std.specs.Prelude.{◌≡◌, ◌∷◌, [], ◌-◌, ◌<◌, ◌≤◌, ◌++◌, ◌==◌, ◌||◌, not, drop, length, position, slice_get, slice_index_or, MatchOption, IfSome};
+ghost use Rattle.std.specs.List.{position_or_len};
 ghost use Rattle.std.specs.Option.{option_copied};
 ghost use Rattle.trace_lines.specs.Lines as lines;
 ghost use Rattle.trace_lines.specs.Lines.{EndsIn, is_gap, words};
@@ -26,7 +27,8 @@ fn first_gap(text: &[u8]) -> Option<usize>
 
 /// The text from its first word on. Takes time in the gaps before it.
 pub fn skip_gaps(line: &[u8]) -> &[u8]
-    ensures { words result.now ≡ words line.now }
+    ensures words { words result.now ≡ words line.now }
+    ensures from { result.now ≡ drop (position_or_len (λ byte. not (is_gap byte)) line.now) line.now }
 {
     let start = word_start(line).unwrap_or(line.len());
     let (_, text) = line.split_at(start);

@@ -8,35 +8,10 @@ use Rattle.std.proofs.lemmas.Bool.Decides.{nat_tests}
 use Rattle.std.proofs.lemmas.List.{get_or-take, length-take-le}
 use Rattle.std.proofs.lemmas.List.Folds.{list_all_at}
 use Rattle.std.proofs.lemmas.List.Sums.{position_or_len_is}
-use Rattle.bound_base.specs.Digits.{is_no_digit, number_of, value_after}
+use Rattle.bound_base.specs.Digits.{number_of, value_after}
+use Rattle.bound_base.proofs.Decimal.{digit_range, each_digit, read_digits}
 use Rattle.trace_lines.specs.Lines.{is_gap, words}
 use Rattle.trace_lines.proofs.Cuts.{parts-leading}
-
--- the codes of the digits
-pub digit_range : (byte : ℕ) → is_ascii_digit byte ≡ true → (48 ≤ byte) × (byte ≤ 57)
-digit_range byte digit =
-    let ends = and_parts (nat_le 48 byte) (nat_le byte 57) digit in
-    (leb-true 48 byte ends.0, leb-true byte 57 ends.1)
-
--- one more digit
-pub value_after-append : (n : ℕ) (digits : List ℕ) (digit : ℕ) → value_after n (digits ++ digit ∷ []) ≡ 10 * value_after n digits + (digit - 48)
-value_after-append n [] digit = refl
-value_after-append n (first ∷ digits) digit = value_after-append (10 * n + (first - 48)) digits digit
-
--- each of some digits is one
-each : (word : List ℕ) (i : ℕ) → list_all is_ascii_digit word ≡ true → i < length word → is_ascii_digit (get_or word i 0) ≡ true
-each word i digits within = by (is_ascii_digit (get_or word i 0)) refl
-  where
-    by : (b : Bool) → is_ascii_digit (get_or word i 0) ≡ b → is_ascii_digit (get_or word i 0) ≡ true
-    by true is = is
-    by false is = absurd (true≢false (sym digits ∙ list_all_at is_ascii_digit word i 0 within is))
-
--- digits whose number is below the limit are read
-read_digits : (limit : ℕ) (word : List ℕ) → 0 < length word → list_all is_ascii_digit word ≡ true → value_after 0 word < limit → number_of limit word ≡ Ok (value_after 0 word)
-read_digits limit word some digits below =
-    let long : (length word == 0) ≡ false = grind (arith, nat_tests) in
-    let none : position_or_len is_no_digit word ≡ length word = position_or_len_is is_no_digit word (length word) 0 (omega arith) (λ i within. rw (each word i digits within) refl) (λ past. absurd (omega arith)) in
-    rw (long, none, le-ltb (length word) (length word) (omega arith), lt-ltb (value_after 0 word) limit below) refl
 
 -- a digit is no gap
 no_gap : (byte : ℕ) → is_ascii_digit byte ≡ true → is_gap byte ≡ false
@@ -59,7 +34,7 @@ pub word_read : (line text rest : List ℕ) (len value : ℕ) → words text ≡
 word_read line text rest len value same rest_is within some digits is below ends =
     let word = take len text in
     let size : length word ≡ len = omega (arith, length-take-le len text within) in
-    let inside : (i : ℕ) → i < len → is_gap (get_or text i 0) ≡ false = (λ i low. rw (sym (get_or-take len text i 0 low)) (no_gap (get_or word i 0) (each word i digits (omega (arith, size, low))))) in
+    let inside : (i : ℕ) → i < len → is_gap (get_or text i 0) ≡ false = (λ i low. rw (sym (get_or-take len text i 0 low)) (no_gap (get_or word i 0) (each_digit word i digits (omega (arith, size, low))))) in
     let after : len < length text → is_gap (get_or text len 0) ≡ true =
     (λ more. rw (sym (ap (λ n. get_or text n 0) (add-zero len)), sym (get_or-drop len text 0 0), sym rest_is) (gap_at rest ends (omega (arith, ap length rest_is, length-drop len text, more)))) in
     let cut : words text ≡ word ∷ words (drop len text) = parts-leading is_gap text len some within inside after in

@@ -5,29 +5,8 @@ ghost use Rattle.std.specs.List.{list_all};
 ghost use Rattle.bound_base.specs.Digits.{number_of, value_after};
 ghost use Rattle.trace_lines.specs.Lines.{words};
 
-use bound_base::{NumFault, read_u64};
+use bound_base::{NumFault, leading_digits, read_u64};
 use trace_lines::{ends_word, first_word, skip_gaps};
-
-// A number from here on takes no further digit, so that each one that is taken fits 64 bits.
-const LARGE: u64 = 1_000_000_000_000_000_000;
-
-// The number that the digits at the beginning write, and how many they are. A large number ends before its last ones.
-fn leading_digits(text: &[u8]) -> (u64, usize)
-    ensures len { result.1 ≤ length text.now }
-    ensures digits { list_all is_ascii_digit (take result.1 text.now) ≡ true }
-    ensures value { result.0 ≡ value_after 0 (take result.1 text.now) }
-{
-    let mut value: u64 = 0;
-    let mut len = 0;
-    for byte in text {
-        if !byte.is_ascii_digit() || value >= LARGE {
-            return (value, len);
-        }
-        value = value * 10 + u64::from(*byte - b'0');
-        len += 1;
-    }
-    (value, len)
-}
 
 // The number that the first word is, whatever the word.
 #[inline(never)]

@@ -17,7 +17,7 @@ returns-in_err-value c =
       | else-word-gt1-via-else-word-gt1 w ↦ (λ long. absurd (omega arith))
     ] in
     let p = err_from_is_err_and c.from_residual.result c.from_residual.ensures.1 in
-    let is : number_of (2 ^ 128) c.args.word.now ≡ Err c.in_err-value.field-0.0 = sym c.value.ensures ∙ c.in_err-value.was in
+    let is : number_of (2 ^ 128) c.args.word.now ≡ Err c.in_err-value.field-0.0 = sym c.read_u128.ensures ∙ c.in_err-value.was in
     rw (p.1, p.2) (sym (ap (λ o. value_unless o (number_in c.args.word.now)) (refused c.args.low c.args.high (2 ^ 128) c.args.word.now c.in_err-value.field-0.0 is (omega arith) first)))
 
 pub returns-then-value-low : goal.returns-then-value-low
@@ -26,7 +26,7 @@ returns-then-value-low c =
       | else-word-gt1-via-then-word-gt1+else-word-eq48 w ↦ (λ long. w.if-word-eq48.false)
       | else-word-gt1-via-else-word-gt1 w ↦ (λ long. absurd (omega arith))
     ] in
-    let said = rw (sym c.value.ensures ∙ c.in_ok-value.was) at (says (2 ^ 128) c.args.word.now) in
+    let said = rw (sym c.read_u128.ensures ∙ c.in_ok-value.was) at (says (2 ^ 128) c.args.word.now) in
     elim c.then-value-low.branch [
       | then-value-low-via-then-value-low w ↦ sym (ap (λ o. value_unless o (number_in c.args.word.now)) (below_range c.args.low c.args.high c.args.word.now said.0 said.1 first (omega arith)))
       | then-value-low-via-else-value-low+then-high-value w ↦ sym (ap (λ o. value_unless o (number_in c.args.word.now)) (above_range c.args.low c.args.high c.args.word.now said.0 said.1 first (omega arith)))
@@ -38,5 +38,5 @@ returns c =
       | else-word-gt1-via-then-word-gt1+else-word-eq48 w ↦ (λ long. w.if-word-eq48.false)
       | else-word-gt1-via-else-word-gt1 w ↦ (λ long. absurd (omega arith))
     ] in
-    let said = rw (sym c.value.ensures ∙ c.in_ok-value.was) at (says (2 ^ 128) c.args.word.now) in
+    let said = rw (sym c.read_u128.ensures ∙ c.in_ok-value.was) at (says (2 ^ 128) c.args.word.now) in
     ap Ok said.2 ∙ sym (ap (λ o. value_unless o (number_in c.args.word.now)) (in_range c.args.low c.args.high c.args.word.now said.0 said.1 first (omega arith) (omega arith)))

@@ -2,7 +2,7 @@ use Rattle.std.proofs.Common.{◌≡◌, true, take}
 use Rattle.std.specs.Char.{is_ascii_digit}
 use Rattle.std.specs.List.{list_all}
 use Rattle.bound_base.specs.Digits.{value_after}
-use Rattle.trace_webcache.proofs.number.leading_digits.Given as goal
+use Rattle.bound_base.proofs.digits.leading_digits.Given as goal
 
 -- the bytes so far are digits, of which this is the number
 abbrev pub invariant-loop-byte : goal.invariant-loop-byte

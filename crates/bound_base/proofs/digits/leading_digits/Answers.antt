@@ -5,8 +5,8 @@ use Rattle.std.specs.List.{list_all}
 use Rattle.std.proofs.lemmas.List.{take_more}
 use Rattle.std.proofs.lemmas.List.Folds.{list_all_more}
 use Rattle.bound_base.specs.Digits.{value_after}
-use Rattle.trace_webcache.proofs.Digits.{value_after-append}
-use Rattle.trace_webcache.proofs.number.leading_digits.Goals as goal
+use Rattle.bound_base.proofs.Decimal.{value_after-append}
+use Rattle.bound_base.proofs.digits.leading_digits.Goals as goal
 
 pub loop-byte-preserved : goal.loop-byte-preserved
 loop-byte-preserved c =
