@@ -1,13 +1,10 @@
 -- Words of digits.
-use Rattle.std.proofs.Common.{◌≡◌, ℕ, ◌+◌, ◌-◌, ◌*◌, ◌^◌, ◌<◌, ◌≤◌, ◌==◌, ◌∙◌, List, [], ◌∷◌, ◌++◌, Bool, true, false, length, take, drop, get_or, refl, sym, ap, Ok, arith, get_or-drop, length-drop, add-zero}
-use Rattle.std.specs.Prelude.{nat_le, ◌||◌}
+use Rattle.std.proofs.Common.{◌≡◌, ℕ, ◌^◌, ◌<◌, ◌≤◌, ◌==◌, ◌∙◌, List, ◌∷◌, true, false, length, take, drop, get_or, refl, sym, ap, Ok, arith, get_or-drop, length-drop, add-zero}
+use Rattle.std.specs.Prelude.{◌||◌}
 use Rattle.std.specs.Char.{is_ascii_digit}
-use Rattle.std.specs.List.{list_all, position_or_len}
-use Rattle.std.proofs.lemmas.Bool.{true≢false, and_parts, leb-true, lt-ltb, le-ltb}
+use Rattle.std.specs.List.{list_all}
 use Rattle.std.proofs.lemmas.Bool.Decides.{nat_tests}
 use Rattle.std.proofs.lemmas.List.{get_or-take, length-take-le}
-use Rattle.std.proofs.lemmas.List.Folds.{list_all_at}
-use Rattle.std.proofs.lemmas.List.Sums.{position_or_len_is}
 use Rattle.bound_base.specs.Digits.{number_of, value_after}
 use Rattle.bound_base.proofs.Decimal.{digit_range, each_digit, read_digits}
 use Rattle.trace_lines.specs.Lines.{is_gap, words}
