@@ -8,6 +8,7 @@ pub mod Words
 pub mod Statuses
 pub mod Held
 pub mod Made
+pub mod Relaxations
 pub mod Records
 pub mod BoundsFaults
 pub mod Curves

@@ -1,15 +1,16 @@
 //! Prices of the steps and flows of the intervals, by the mode that is asked for.
-ghost use Rattle.std.specs.Prelude.{◌≡◌, ◌≤◌, ◌<◌, ◌*◌, ◌-◌, ◌^◌, All, IfOk, false, length, replicate, slice_index_or, sum};
+ghost use Rattle.std.specs.Prelude.{◌≡◌, ◌≤◌, ◌<◌, ◌*◌, ◌-◌, ◌^◌, All, IfOk, length, replicate, slice_index_or, sum};
 ghost use Prim.Native.Nat.{◌∣◌};
 ghost use Rattle.cache_model.specs.Intervals.{bound_of};
-ghost use Rattle.cache_model.specs.Schedules.{IsFractionalSchedule, flow_value};
-ghost use Rattle.constant_price.specs.Constants.{constant_bound, constant_prices};
+ghost use Rattle.cache_model.specs.Schedules.{IsFractionalSchedule};
+ghost use Rattle.constant_price.specs.Constants.{constant_prices};
 ghost use Rattle.bound_report.specs.declared.facts.Mode.TheVariants.{Flow};
 ghost use Rattle.interval_maker.specs.Timelines.{IsTimeline};
 ghost use Rattle.relaxation.specs.Prices.{most_paid};
 ghost use Rattle.schedule_round.specs.Laws.{full_flags};
 ghost use Rattle.bound_run.specs.Made.{IsOfMode, width_of};
 ghost use Rattle.bound_run.specs.Modes.{IsModeInRange};
+ghost use Rattle.bound_run.specs.Relaxations.{IsRelaxed};
 
 use crate::prices::PricesAndFlows;
 use crate::tasks::BoundsTask;
@@ -41,15 +42,14 @@ fn at_one_price(
     scale: Scale,
     price: u128,
 ) -> Result<Relaxed, NoMemory>
+    requires timeline { IsTimeline intervals.now }
+    requires divides { All (λ i. scale.unit ∣ i.size) intervals.now.items }
     requires price { price ≤ 2 ^ 96 }
-    requires paid { scale.units * sum (constant_prices price intervals.now.steps) ≤ 2 ^ 121 }
+    requires paid { scale.units * sum (constant_prices price intervals.now.steps) ≤ most_paid }
     ensures prices { IfOk result (λ r. r.solution.prices ≡ constant_prices price intervals.now.steps) }
     ensures flows { IfOk result (λ r. r.solution.flows ≡ replicate (length intervals.now.items) 0) }
-    ensures full { IfOk result (λ r. r.full.items ≡ replicate (length intervals.now.items) false) }
     ensures price { IfOk result (λ r. r.price ≡ price) }
-    ensures bound { IfOk result (λ r. r.upper ≡ constant_bound intervals.now scale.unit scale.units scale.denominator price) }
-    ensures small { IfOk result (λ r. r.upper < 2 ^ 127) }
-    ensures value { IfOk result (λ r. r.flow ≡ 0) }
+    ensures relaxed { IfOk result (IsRelaxed intervals.now scale.unit scale.units scale.denominator) }
 {
     let Scale {
         unit,
@@ -118,7 +118,7 @@ fn by_windows(
     Ok(found.into_parts())
 }
 
-// The same, with what they are worth.
+// The prices and flows of windows, with what they are worth.
 fn by_flow(
     alloc: Global,
     window: Window,
@@ -129,15 +129,7 @@ fn by_flow(
     requires timeline { IsTimeline intervals.now }
     requires divides { All (λ i. scale.unit ∣ i.size) intervals.now.items }
     ensures of_mode { IfOk result (λ r. IsOfMode (Flow window) intervals.now scale.unit scale.units scale.denominator r.solution.prices r.solution.flows r.price) }
-    ensures each { IfOk result (λ r. length r.solution.prices ≡ intervals.now.steps) }
-    ensures paid { IfOk result (λ r. scale.units * sum r.solution.prices ≤ most_paid) }
-    ensures last { IfOk result (λ r. slice_index_or r.solution.prices (intervals.now.steps - 1) 0 ≡ 0) }
-    ensures schedule { IfOk result (λ r. IsFractionalSchedule intervals.now.items scale.unit scale.units r.solution.flows) }
-    ensures full { IfOk result (λ r. r.full.items ≡ full_flags scale.unit intervals.now.items r.solution.flows) }
-    ensures bound { IfOk result (λ r. r.upper ≡ bound_of intervals.now.items scale.unit scale.units scale.denominator r.solution.prices) }
-    ensures small { IfOk result (λ r. r.upper < 2 ^ 127) }
-    ensures value { IfOk result (λ r. r.flow ≡ flow_value intervals.now.items scale.unit scale.denominator r.solution.flows) }
-    ensures small_value { IfOk result (λ r. r.flow ≤ 2 ^ 121) }
+    ensures relaxed { IfOk result (IsRelaxed intervals.now scale.unit scale.units scale.denominator) }
 {
     let (solution, full) = by_windows(alloc, window, intervals, scale)?;
     let upper = upper_of(alloc, intervals, scale, solution.prices())?;
@@ -161,15 +153,7 @@ pub fn relax(
     requires timeline { IsTimeline intervals.now }
     requires divides { All (λ i. scale.unit ∣ i.size) intervals.now.items }
     ensures of_mode { IfOk result (λ r. IsOfMode asked.now.mode intervals.now scale.unit scale.units scale.denominator r.solution.prices r.solution.flows r.price) }
-    ensures each { IfOk result (λ r. length r.solution.prices ≡ intervals.now.steps) }
-    ensures paid { IfOk result (λ r. scale.units * sum r.solution.prices ≤ most_paid) }
-    ensures last { IfOk result (λ r. slice_index_or r.solution.prices (intervals.now.steps - 1) 0 ≡ 0) }
-    ensures schedule { IfOk result (λ r. IsFractionalSchedule intervals.now.items scale.unit scale.units r.solution.flows) }
-    ensures full { IfOk result (λ r. r.full.items ≡ full_flags scale.unit intervals.now.items r.solution.flows) }
-    ensures bound { IfOk result (λ r. r.upper ≡ bound_of intervals.now.items scale.unit scale.units scale.denominator r.solution.prices) }
-    ensures small { IfOk result (λ r. r.upper < 2 ^ 127) }
-    ensures value { IfOk result (λ r. r.flow ≡ flow_value intervals.now.items scale.unit scale.denominator r.solution.flows) }
-    ensures small_value { IfOk result (λ r. r.flow ≤ 2 ^ 121) }
+    ensures relaxed { IfOk result (IsRelaxed intervals.now scale.unit scale.units scale.denominator) }
 {
     let Scale {
         unit,

@@ -32,9 +32,9 @@ pub enum StepFault {
 
 impl From<NoMemory> for StepFault {
     ghost use Rattle.std.specs.Prelude.{◌≡◌};
-    ghost use Rattle.cert_checker.specs.declared.checker.StepFault.TheVariants.{NoMemory as WantOfMemory};
+    ghost use Rattle.cert_checker.specs.declared.checker.StepFault.TheVariants.{NoMemory as OutOfMemory};
 
-    ghost from_gives = { λ _ f. f ≡ WantOfMemory };
+    ghost from_gives = { λ _ f. f ≡ OutOfMemory };
 
     fn from(_: NoMemory) -> Self {
         StepFault::NoMemory
@@ -84,7 +84,7 @@ const NOTHING: Sums = Sums {
 impl Checker {
     ghost use Rattle.std.specs.Map.{lookup};
     ghost use Rattle.cache_model.specs.Claim.{same_object};
-    ghost use Rattle.cert_checker.specs.declared.checker.StepFault.TheVariants.{NoMemory as WantOfMemory};
+    ghost use Rattle.cert_checker.specs.declared.checker.StepFault.TheVariants.{NoMemory as OutOfMemory};
     ghost use Rattle.cert_checker.specs.Answers.{IsFinished, IsStepped};
     ghost use Rattle.cert_checker.specs.Rules.{counted_of, first_unused};
     ghost use Rattle.cert_checker.specs.Summaries.{StandsFor};
@@ -112,7 +112,7 @@ impl Checker {
         ensures stepped { (h : Head) (trace : List Requested) (records : List Entry) → StandsFor h trace records self.old → IsStepped h trace records object entry self.new result }
         ensures counts { OnOk result ((self.new.header ≡ self.old.header) × (self.new.sums.steps ≡ self.old.sums.steps + 1)) }
         ensures kept { OnErr result (self.new ≡ self.old) }
-        ensures only_if_new { IfErr result (λ fault. fault ≡ WantOfMemory → lookup (same_object object) self.old.entries ≡ None) }
+        ensures only_if_new { IfErr result (λ fault. fault ≡ OutOfMemory → lookup (same_object object) self.old.entries ≡ None) }
     {
         let (place, before) = find(&self.seen, &object);
         let now = figures(&self.header, &self.sums, &object, &entry, before);

@@ -10,7 +10,7 @@ use cert_format::Record;
 
 /// Takes the requests that pass, each with its record.
 pub trait Keeper {
-    /// It was given these requests and records, and no others.
+    /// These requests and records may be all that it was given: exactly if it keeps them.
     ghost has: { Self → List Requested → List Entry → Type 0 };
 
     /// Takes the next request and its record.

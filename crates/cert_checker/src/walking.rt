@@ -47,9 +47,9 @@ pub enum CheckFault {
 
 impl From<NoMemory> for CheckFault {
     ghost use Rattle.std.specs.Prelude.{◌≡◌};
-    ghost use Rattle.cert_checker.specs.declared.walking.CheckFault.TheVariants.{NoMemory as WantOfMemory};
+    ghost use Rattle.cert_checker.specs.declared.walking.CheckFault.TheVariants.{NoMemory as OutOfMemory};
 
-    ghost from_gives = { λ _ f. f ≡ WantOfMemory };
+    ghost from_gives = { λ _ f. f ≡ OutOfMemory };
 
     fn from(_: NoMemory) -> Self {
         CheckFault::NoMemory

@@ -1,5 +1,5 @@
 //! The intervals that meet a block, carried from block to block.
-ghost use Rattle.std.specs.Prelude.{◌≡◌, ◌<◌, ◌≤◌, AllPairs, IfOk, filter, nat_lt};
+ghost use Rattle.std.specs.Prelude.{◌≡◌, ◌<◌, ◌≤◌, AllPairs, IfOk, filter, nat_lt, take};
 ghost use Rattle.price_refine.specs.Parts.{meets};
 ghost use Rattle.price_refine.specs.Rounds.{AreOpen};
 
@@ -31,6 +31,7 @@ pub(crate) fn gather(
     requires open { AreOpen block.first items.now gathered.old }
     requires order { AllPairs (λ i j. i.start < j.start) items.now }
     requires blocks { block.first ≤ block.end }
+    ensures ended { IfOk result (λ done. gathered.new.met.items ≡ filter (λ i. nat_lt block.first i.end) (take gathered.new.next items.now)) }
     ensures met { IfOk result (λ done. filter (meets block) items.now ≡ filter (meets block) gathered.new.met.items) }
     ensures open { IfOk result (λ done. AreOpen block.end items.now gathered.new) }
 {

@@ -27,9 +27,9 @@ pub enum TraceFault {
 
 impl From<NoMemory> for TraceFault {
     ghost use Rattle.std.specs.Prelude.{◌≡◌};
-    ghost use Rattle.trace_any.specs.declared.fault.TraceFault.TheVariants.{NoMemory as WantOfMemory};
+    ghost use Rattle.trace_any.specs.declared.fault.TraceFault.TheVariants.{NoMemory as OutOfMemory};
 
-    ghost from_gives = { λ _ f. f ≡ WantOfMemory };
+    ghost from_gives = { λ _ f. f ≡ OutOfMemory };
 
     fn from(_: NoMemory) -> Self {
         TraceFault::NoMemory

@@ -20,8 +20,8 @@ invariant_of-scale c = record {
 
 pub schedule_of-requires-clause-flags : goal.schedule_of-requires-clause-flags
 schedule_of-requires-clause-flags c =
-    rw (c.deref.ensures.value, c.in_ok-relaxed.ensures.full)
-    (full_flags_fit c.args.intervals.now.items c.args.asked.now.capacity c.unit_of-unit.result c.in_ok-relaxed.relaxed.solution.flows c.unit_of-unit.ensures.unit.divides c.in_ok-relaxed.ensures.schedule)
+    rw (c.deref.ensures.value, c.in_ok-relaxed.ensures.relaxed.full)
+    (full_flags_fit c.args.intervals.now.items c.args.asked.now.capacity c.unit_of-unit.result c.in_ok-relaxed.relaxed.solution.flows c.unit_of-unit.ensures.unit.divides c.in_ok-relaxed.ensures.relaxed.schedule)
 
 pub returns-clause-made : goal.returns-clause-made
 returns-clause-made c =
@@ -44,15 +44,15 @@ returns-clause-made c =
       whole = c.in_ok-denominator.ensures.exact.0;
       whole_back = c.in_ok-denominator.ensures.exact.1;
       of_mode = c.in_ok-relaxed.ensures.of_mode;
-      each = c.in_ok-relaxed.ensures.each;
-      paid = c.in_ok-relaxed.ensures.paid;
-      last = c.in_ok-relaxed.ensures.last;
-      schedule = c.in_ok-relaxed.ensures.schedule;
-      bound = c.in_ok-relaxed.ensures.bound;
-      small = c.in_ok-relaxed.ensures.small;
-      value = c.in_ok-relaxed.ensures.value;
-      small_value = omega (arith, c.in_ok-relaxed.ensures.small_value);
-      rounded = rw (c.deref.ensures.value, c.in_ok-relaxed.ensures.full) at c.in_ok-schedule.ensures.rounded;
+      each = c.in_ok-relaxed.ensures.relaxed.each;
+      paid = c.in_ok-relaxed.ensures.relaxed.paid;
+      last = c.in_ok-relaxed.ensures.relaxed.last;
+      schedule = c.in_ok-relaxed.ensures.relaxed.schedule;
+      bound = c.in_ok-relaxed.ensures.relaxed.bound;
+      small = c.in_ok-relaxed.ensures.relaxed.small;
+      value = c.in_ok-relaxed.ensures.relaxed.value;
+      small_value = omega (arith, c.in_ok-relaxed.ensures.relaxed.small_value);
+      rounded = rw (c.deref.ensures.value, c.in_ok-relaxed.ensures.relaxed.full) at c.in_ok-schedule.ensures.rounded;
       maximal = c.in_ok-schedule.ensures.maximal;
       allowed = c.in_ok-schedule.ensures.allowed;
       scored = c.in_ok-schedule.ensures.lower;
@@ -60,9 +60,9 @@ returns-clause-made c =
 
 pub returns-clause-each : goal.returns-clause-each
 returns-clause-each c = record {
-  prices = c.in_ok-relaxed.ensures.each;
+  prices = c.in_ok-relaxed.ensures.relaxed.each;
   keeps = c.in_ok-schedule.ensures.rounded.one_keep_each ∙ sym (ap (λ l. l.steps) c.requires.intervals);
-  flows = flows_each c.unit_of-unit.result c.args.intervals.now.items c.in_ok-relaxed.relaxed.solution.flows c.in_ok-relaxed.ensures.schedule.within_weights;
+  flows = flows_each c.unit_of-unit.result c.args.intervals.now.items c.in_ok-relaxed.relaxed.solution.flows c.in_ok-relaxed.ensures.relaxed.schedule.within_weights;
 }
 
 pub denominator_of-requires-clause-intervals : goal.denominator_of-requires-clause-intervals
