@@ -5,9 +5,9 @@ use Rattle.cache_model.specs.declared.objects.Object.{Object}
 use Rattle.policy_model.specs.States.{Member, State, has_member, has_entry, start_of}
 use Rattle.policy_model.specs.Steps.{policy_step}
 use Rattle.policy_model.specs.Asks.{ask_at}
-use Rattle.policy_model.specs.Runs.{Run, run_step}
+use Rattle.policy_model.specs.Runs.{Run, run_step, policy_run}
 use Rattle.policy_model.proofs.Replays.{run_to, run_to-more, run_to-all, has_entry-members}
-use Rattle.replay_core.specs.Laws.{StateFits, StepsBy, IsFresh, IsRunOf}
+use Rattle.replay_core.specs.Laws.{StateFits, StepsBy, IsFresh, IsRunOf, IsStateAfter}
 
 -- after t requests the state told is that of the run, and so are the hits and bytes
 abbrev pub IsRunTo : Option State → Option State → ℕ → List Object → ℕ → ℕ → ℕ → Type 0
@@ -47,11 +47,19 @@ run-more (Some s) now after warmup trace t k size next members room hits bytes m
           ∙ ap (λ n. r.bytes + cond (nat_le warmup t && has_entry r.state.entries (ask_at trace t).object) n 0) (sym of_size) ∙ ap (λ (u : Run). u.bytes) (sym one),
     )
 
--- the whole trace
+-- the run over the whole trace
+whole : (s : State) (warmup : ℕ) (trace : List Object) (t : ℕ) → t ≡ length trace → s ≡ start_of s.name s.capacity → run_to warmup s trace t ≡ policy_run s.name trace s.capacity warmup
+whole s warmup trace t end fresh =
+    ap (run_to warmup s trace) end ∙ ap (λ u. run_to warmup u trace (length trace)) fresh ∙ run_to-all warmup (start_of s.name s.capacity) trace (length trace) refl
+
+-- the hits and bytes of the whole trace
 pub run-all : (first now : Option State) (warmup : ℕ) (trace : List Object) (t hits bytes : ℕ) → t ≡ length trace → IsFresh first → IsRunTo first now warmup trace t hits bytes → IsRunOf first trace warmup hits bytes
 run-all None now warmup trace t hits bytes end fresh run = tt
 run-all (Some s) now warmup trace t hits bytes end fresh run =
-    let all : run_to warmup s trace t ≡ run_to warmup s trace (length trace) = ap (run_to warmup s trace) end in
-    let whole : run_to warmup s trace (length trace) ≡ run_to warmup (start_of s.name s.capacity) trace (length trace) = ap (λ u. run_to warmup u trace (length trace)) fresh in
-    let e = all ∙ whole ∙ run_to-all warmup (start_of s.name s.capacity) trace (length trace) refl in
+    let e = whole s warmup trace t end fresh in
     (run.1 ∙ ap (λ (u : Run). u.hits) e, run.2 ∙ ap (λ (u : Run). u.bytes) e)
+
+-- the state after the whole trace
+pub state-all : (first now : Option State) (warmup : ℕ) (trace : List Object) (t hits bytes : ℕ) → t ≡ length trace → IsFresh first → IsRunTo first now warmup trace t hits bytes → IsStateAfter first now trace warmup
+state-all None now warmup trace t hits bytes end fresh run = tt
+state-all (Some s) now warmup trace t hits bytes end fresh run = run.0 ∙ ap (λ (u : Run). Some u.state) (whole s warmup trace t end fresh)

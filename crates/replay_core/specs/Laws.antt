@@ -27,3 +27,7 @@ IsFresh known_state = IfSome known_state (λ s. s ≡ start_of s.name s.capacity
 abbrev pub IsRunOf : Option State → List Object → ℕ → ℕ → ℕ → Type 0
 IsRunOf known_state trace warmup hits bytes =
     IfSome known_state (λ s. (hits ≡ (policy_run s.name trace s.capacity warmup).hits) × (bytes ≡ (policy_run s.name trace s.capacity warmup).bytes))
+
+-- a state that is known is then that of its rule's run
+abbrev pub IsStateAfter : Option State → Option State → List Object → ℕ → Type 0
+IsStateAfter before after trace warmup = IfSome before (λ s. after ≡ Some (policy_run s.name trace s.capacity warmup).state)

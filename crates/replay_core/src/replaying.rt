@@ -1,8 +1,8 @@
 //! The replay of a trace through a policy.
-ghost use Rattle.std.specs.Prelude.{◌≡◌, ◌≤◌, ◌&&◌, nat_le, [], length, IfOk};
+ghost use Rattle.std.specs.Prelude.{◌≡◌, ◌≤◌, ◌&&◌, nat_le, [], length, IfOk, OnOk};
 ghost use Rattle.cache_model.specs.Objects.{objects_of};
 ghost use Rattle.policy_model.specs.Runs.{AreScores};
-ghost use Rattle.replay_core.specs.Laws.{IsFresh, IsRunOf};
+ghost use Rattle.replay_core.specs.Laws.{IsFresh, IsRunOf, IsStateAfter};
 ghost use Rattle.replay_core.specs.Outcomes.{is_hit};
 
 use crate::counts::Replay;
@@ -32,6 +32,7 @@ pub fn replay<P: Policy>(
     requires fresh { IsFresh (P.known_state policy.old) }
     ensures played { IfOk result (λ r. AreScores (P.room policy.old) warmup trace.now r.hits r.bytes) }
     ensures run { IfOk result (λ r. IsRunOf (P.known_state policy.old) trace.now warmup r.hits r.bytes) }
+    ensures state { OnOk result (IsStateAfter (P.known_state policy.old) (P.known_state policy.new) trace.now warmup) }
 {
     let mut hits = 0;
     let mut bytes = 0;

@@ -9,7 +9,7 @@ use Rattle.policy_model.proofs.Replays.{IsAsked, played-all, played-none, played
 use Rattle.replay_core.specs.Outcomes.{is_hit}
 use Rattle.replay_core.specs.Laws.{IsSound}
 use Rattle.policy_model.specs.States.{has_member, members_size}
-use Rattle.replay_core.proofs.KnownRuns.{run-none, run-more, run-all}
+use Rattle.replay_core.proofs.KnownRuns.{run-none, run-more, run-all, state-all}
 use Rattle.replay_core.proofs.replaying.replay.Goals as goal
 use Rattle.replay_core.proofs.replaying.replay.Goals.{then-counts, else-counts}
 
@@ -73,6 +73,11 @@ loop-t-preserved g c =
 pub returns-clause-run : goal.returns-clause-run
 returns-clause-run g c =
     run-all (g.P.Policy.known_state c.args.policy.now) (g.P.Policy.known_state c.loop-t.policy) c.args.warmup c.args.trace.now c.loop-t.t c.loop-t.hits c.loop-t.bytes
+    (omega arith) c.requires.fresh c.loop-t.invariant.run
+
+pub returns-clause-state : goal.returns-clause-state
+returns-clause-state g c =
+    state-all (g.P.Policy.known_state c.args.policy.now) (g.P.Policy.known_state c.loop-t.policy) c.args.warmup c.args.trace.now c.loop-t.t c.loop-t.hits c.loop-t.bytes
     (omega arith) c.requires.fresh c.loop-t.invariant.run
 
 pub returns-clause-played : goal.returns-clause-played
