@@ -1,6 +1,6 @@
 -- Where the text of a line ends, and what a buffer shows.
-use Rattle.std.proofs.Common.{◌≡◌, ℕ, ◌+◌, ◌-◌, ◌≤◌, ◌<◌, List, ◌++◌, Option, None, Some, length, take, drop, refl, arith, length-drop, length-take, length-append, ◌∙◌, sym, Vec, Global, [], ap, append-nil}
-use Rattle.std.proofs.lemmas.List.{take-append-le, take-append-drop, drop-drop, drop-take, drop_all, with_items_is, length-take-le}
+use Rattle.std.proofs.Common.{◌≡◌, ℕ, ◌+◌, ◌-◌, ◌≤◌, ◌<◌, List, ◌++◌, Option, None, Some, length, take, drop, min, refl, arith, length-drop, length-take, length-append, ◌∙◌, sym, Vec, Global, [], ap, append-nil}
+use Rattle.std.proofs.lemmas.List.{take-append-le, take-append-drop, drop-drop, drop-take, drop_all, with_items_is, length-take-le, take_min}
 use Rattle.std.proofs.Math.Seq.{take-append-add, drop-append_seam}
 use Rattle.std.proofs.lemmas.List.Folds.{length-prefix_len, prefix_len-append}
 use Rattle.std.proofs.lemmas.List.Sums.{prefix_len-le-length, position_or_len_is}
@@ -43,6 +43,14 @@ shows_prefix bytes start end text within =
     let count : start + text - start ≡ text = omega arith in
     let prefix = take-append-le text (take (end - start) (drop start bytes)) (drop (end - start) (drop start bytes)) within in
     rw count (rw (take-append-drop) at prefix)
+
+-- what is kept of some bytes once those of a piece were put behind them, as many as there is room for
+pub kept_more : (old buf post piece : List ℕ) (len count room : ℕ) → len ≤ length old → count ≤ length buf → take count buf ≡ take count piece → count ≡ min room (length piece)
+    → take (len + count) (take len old ++ (buf ++ post)) ≡ take (len + room) (take len old ++ piece)
+kept_more old buf post piece len count room within some copied is =
+    let more : take (len + room) (take len old ++ piece) ≡ take len old ++ take room piece = rw (length-take-le len old within) at (take-append-add (take len old) piece room) in
+    let same : take count piece ≡ take room piece = rw is (take_min room piece) in
+    prefix_more old buf post len count within some ∙ (ap (λ l. take len old ++ l) (copied ∙ same) ∙ sym more)
 
 -- what a buffer shows from a later place on
 pub shows_rest : (bytes : List ℕ) (start end line : ℕ) → line ≤ length (take (end - start) (drop start bytes)) → take (end - (start + line)) (drop (start + line) bytes) ≡ drop line (take (end - start) (drop start bytes))

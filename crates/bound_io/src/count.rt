@@ -1,5 +1,5 @@
 //! Counting faults.
-ghost use Rattle.std.specs.Prelude.{◌≡◌, ◌≤◌, ◌<◌, length, IfOk, OnOk};
+ghost use Rattle.std.specs.Prelude.{◌≡◌, ◌≤◌, ◌<◌, Some, length, IfOk, IsSome, MatchResult, OnOk, OnErr};
 ghost use Rattle.std.specs.Io.{ReadsAtMost};
 ghost use Rattle.std.specs.Io.KnownBytes.{ReadConsumes, WriteAppends};
 ghost use Rattle.std.specs.Result.{result_ok};
@@ -7,7 +7,7 @@ ghost use Rattle.bound_io.specs.Causes.{HasCause, count_after};
 
 use crate::device::Failed;
 use std::io;
-use std::io::{Read, Write};
+use std::io::{ErrorKind, Read, Write};
 
 // The answer of the system, if there is one, and else a fault that is counted.
 pub(crate) fn count_fault(answer: Option<usize>, faults: &mut u64) -> Result<usize, Failed>
@@ -26,7 +26,8 @@ pub(crate) fn count_fault(answer: Option<usize>, faults: &mut u64) -> Result<usi
 
 // The answer of the system, of which the reason is kept where it is an error.
 fn keep_reason(answer: io::Result<usize>, reason: &mut Option<io::Error>) -> Option<usize>
-    ensures { result ≡ result_ok answer }
+    ensures value { result ≡ result_ok answer }
+    ensures reason { MatchResult answer (λ _. reason.new ≡ reason.old) (λ error. reason.new ≡ Some error) }
 {
     match answer {
         Ok(count) => Some(count),
@@ -48,13 +49,15 @@ pub(crate) fn read_once<R: Read>(
     ensures bytes { ReadConsumes (R.remaining input.old) (R.remaining input.new) result buf.new }
     ensures cause { HasCause faults.old faults.new result }
     ensures none_failed { OnOk result (faults.new ≡ faults.old) }
+    ensures reason { OnErr result (IsSome reason.new) }
+    ensures no_reason { OnOk result (reason.new ≡ reason.old) }
 {
     let answer = input.read(buf);
     count_fault(keep_reason(answer, reason), faults)
 }
 
 // Writes once, where a write that fails is a fault, and one that takes none of a piece that has some; and keeps the
-// system's reason.
+// reason.
 pub(crate) fn write_once<W: Write>(
     output: &mut W,
     bytes: &[u8],
@@ -66,14 +69,15 @@ pub(crate) fn write_once<W: Write>(
     ensures bytes { WriteAppends (W.contents output.old) (W.contents output.new) result bytes.now }
     ensures cause { HasCause faults.old faults.new result }
     ensures none_failed { OnOk result (faults.new ≡ faults.old) }
+    ensures reason { OnErr result (IsSome reason.new) }
+    ensures no_reason { OnOk result (reason.new ≡ reason.old) }
 {
     let answer = match output.write(bytes) {
-        Ok(count) if count > 0 || bytes.is_empty() => Some(count),
-        Ok(_) => None,
-        Err(error) => {
-            *reason = Some(error);
-            None
-        }
+        Ok(0) if !bytes.is_empty() => Err(io::Error::new(
+            ErrorKind::WriteZero,
+            "no byte was taken",
+        )),
+        answer => answer,
     };
-    count_fault(answer, faults)
+    count_fault(keep_reason(answer, reason), faults)
 }

@@ -1,7 +1,8 @@
 //! The first bytes that were read from a source.
-ghost use Rattle.std.specs.Prelude.{◌≤◌, length};
+ghost use Rattle.std.specs.Prelude.{◌≡◌, ◌≤◌, ◌++◌, List, ℕ, [], length, take};
 
 use crate::prefix::copy_prefix;
+use std::marker::Model;
 
 // How many bytes are kept.
 const KEPT: usize = 64;
@@ -10,12 +11,21 @@ const KEPT: usize = 64;
 pub(crate) struct Start {
     bytes: [u8; KEPT],
     len: usize,
-    ghost within: { len ≤ 64 },
+}
+
+impl Model for Start {
+    ghost Value = { List ℕ };
+
+    ghost view = { λ s. take s.len s.bytes };
+
+    ghost invariant = { λ s. s.len ≤ 64 };
 }
 
 impl Start {
     // Nothing was read yet.
-    pub(crate) fn new() -> Start {
+    pub(crate) fn new() -> Start
+        ensures { result ≡ [] }
+    {
         Start {
             bytes: [0; KEPT],
             len: 0,
@@ -23,7 +33,9 @@ impl Start {
     }
 
     // Keeps what still has room of a piece that was read.
-    pub(crate) fn keep(&mut self, piece: &[u8]) {
+    pub(crate) fn keep(&mut self, piece: &[u8])
+        ensures { self.new ≡ take 64 (self.old ++ piece.now) }
+    {
         let room = &mut self.bytes[self.len..];
         let count = copy_prefix(piece, room, KEPT);
         self.len += count;
@@ -31,7 +43,8 @@ impl Start {
 
     // The bytes that are kept.
     pub(crate) fn as_slice(&self) -> &[u8]
-        ensures { length result.now ≤ 64 }
+        ensures bytes { result.now ≡ self.now }
+        ensures short { length result.now ≤ 64 }
     {
         &self.bytes[..self.len]
     }
