@@ -23,9 +23,9 @@ pub enum BestFault {
 
 impl From<NoMemory> for BestFault {
     ghost use Rattle.std.specs.Prelude.{◌≡◌};
-    ghost use Rattle.belady_laws.specs.declared.best.BestFault.TheVariants.{NoMemory as WantOfMemory};
+    ghost use Rattle.belady_laws.specs.declared.best.BestFault.TheVariants.{NoMemory as OutOfMemory};
 
-    ghost from_gives = { λ _ fault. fault ≡ WantOfMemory };
+    ghost from_gives = { λ _ fault. fault ≡ OutOfMemory };
 
     fn from(_: NoMemory) -> Self {
         BestFault::NoMemory

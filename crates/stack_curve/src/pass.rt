@@ -22,9 +22,9 @@ pub enum CurveFault {
 
 impl From<NoMemory> for CurveFault {
     ghost use Rattle.std.specs.Prelude.{◌≡◌};
-    ghost use Rattle.stack_curve.specs.declared.pass.CurveFault.TheVariants.{NoMemory as WantOfMemory};
+    ghost use Rattle.stack_curve.specs.declared.pass.CurveFault.TheVariants.{NoMemory as OutOfMemory};
 
-    ghost from_gives = { λ _ fault. fault ≡ WantOfMemory };
+    ghost from_gives = { λ _ fault. fault ≡ OutOfMemory };
 
     fn from(_: NoMemory) -> Self {
         CurveFault::NoMemory
