@@ -125,6 +125,7 @@ impl Progress {
         ensures no_fault { OnOk result (self.new.lines.fault ≡ None) }
         ensures within { (self.new.lines.consumed ≤ self.new.limits.bytes) × (length self.new.lines.held ≤ 65536) }
         ensures few { (self.new.given ≤ self.new.limits.requests) × (self.new.limits.requests ≤ 2 ^ 25) }
+        ensures forgets_none { self.old.dropped ≤ self.new.dropped }
         ensures taken { LineTaken self.old self.new (known self.old (S.left source.old)) (known self.new (S.left source.new)) (S.faults source.old) (S.faults source.new) result }
         ensures lines { IfOk result (λ more. more ≡ true → IfSome (known self.old (S.left source.old)) (GoesNoFurther (λ s. s) self.old self.new)) }
         ensures source { LosesPrefix (S.left source.old) (S.left source.new) }
@@ -192,6 +193,7 @@ impl Progress {
         ensures size { IfOk result (λ found. IfSome found (λ x. (1 ≤ x.size) × (x.size ≤ 2 ^ 48))) }
         ensures few { (self.new.given ≤ self.new.limits.requests) × (self.new.limits.requests ≤ 2 ^ 25) }
         ensures ahead { length self.new.lines.held ≤ 65536 }
+        ensures forgets_none { self.old.dropped ≤ self.new.dropped }
         ensures next { NextRequest self.old self.new (known self.old (S.left source.old)) (known self.new (S.left source.new)) (S.faults source.old) (S.faults source.new) result }
         ensures lines { IfOk result (λ found. IfSome found (λ x. IfSome (known self.old (S.left source.old)) (GoesNoFurther (onto x) self.old self.new))) }
         ensures source { LosesPrefix (S.left source.old) (S.left source.new) }

@@ -70,6 +70,7 @@ impl RequestReader {
         ensures next { self.old.fault ≡ None → NextRequest self.old self.new (known self.old (S.left source.old)) (known self.new (S.left source.new)) (S.faults source.old) (S.faults source.new) result }
         ensures lines { self.old.fault ≡ None → IfOk result (λ found. IfSome found (λ x. IfSome (known self.old (S.left source.old)) (GoesNoFurther (onto x) self.old self.new))) }
         ensures fault { self.old.fault ≡ None → self.new.fault ≡ err_of result }
+        ensures forgets_none { self.old.dropped ≤ self.new.dropped }
         ensures again { IfSome self.old.fault (λ fault. (result ≡ Err fault) × (self.new ≡ self.old) × (S.left source.new ≡ S.left source.old) × (S.faults source.new ≡ S.faults source.old)) }
         ensures size { IfOk result (λ found. IfSome found (λ x. (1 ≤ x.size) × (x.size ≤ 2 ^ 48))) }
         ensures few { (self.new.limits ≡ self.old.limits) × (self.new.given ≤ self.new.limits.requests) × (self.new.limits.requests ≤ 2 ^ 25) }

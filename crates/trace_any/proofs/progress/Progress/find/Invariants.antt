@@ -1,4 +1,4 @@
-use Rattle.std.proofs.Common.{◌≡◌, ◌-◌, None, IfSome}
+use Rattle.std.proofs.Common.{◌≡◌, ◌-◌, ◌≤◌, None, IfSome}
 use Rattle.bound_io.specs.Reading.{LosesPrefix}
 use Rattle.trace_any.specs.FirstLines.{GoesNoFurther}
 use Rattle.trace_any.specs.Readers.{GoesOn, known}
@@ -10,6 +10,7 @@ invariant-loop-self g l = record {
   limits : l.self.limits ≡ l.initial.self.limits;
   given : l.self.given ≡ l.initial.self.given;
   no_fault : l.self.lines.fault ≡ None;
+  forgets_none : l.initial.self.dropped ≤ l.self.dropped;
   goes_on : IfSome (known l.initial.self (g.S.Source.left l.initial.source)) (λ bytes. GoesOn (λ r. r) l.initial.self l.self bytes (known l.self (g.S.Source.left l.source)));
   lines : IfSome (known l.initial.self (g.S.Source.left l.initial.source)) (GoesNoFurther (λ s. s) l.initial.self l.self);
   source : LosesPrefix (g.S.Source.left l.initial.source) (g.S.Source.left l.source);
