@@ -1,9 +1,9 @@
 //! Prices of the steps and flows of the intervals, by the mode that is asked for.
-ghost use Rattle.std.specs.Prelude.{◌≡◌, ◌≤◌, ◌<◌, ◌*◌, ◌-◌, ◌^◌, All, IfOk, length, replicate, slice_index_or, sum};
+ghost use Rattle.std.specs.Prelude.{◌≡◌, ◌≤◌, ◌<◌, ◌*◌, ◌-◌, ◌^◌, All, IfOk, false, length, replicate, slice_index_or, sum};
 ghost use Prim.Native.Nat.{◌∣◌};
 ghost use Rattle.cache_model.specs.Intervals.{bound_of};
 ghost use Rattle.cache_model.specs.Schedules.{IsFractionalSchedule};
-ghost use Rattle.constant_price.specs.Constants.{constant_prices};
+ghost use Rattle.constant_price.specs.Constants.{constant_bound, constant_prices};
 ghost use Rattle.bound_report.specs.declared.facts.Mode.TheVariants.{Flow};
 ghost use Rattle.interval_maker.specs.Timelines.{IsTimeline};
 ghost use Rattle.relaxation.specs.Prices.{most_paid};
@@ -42,14 +42,15 @@ fn at_one_price(
     scale: Scale,
     price: u128,
 ) -> Result<Relaxed, NoMemory>
-    requires timeline { IsTimeline intervals.now }
-    requires divides { All (λ i. scale.unit ∣ i.size) intervals.now.items }
     requires price { price ≤ 2 ^ 96 }
-    requires paid { scale.units * sum (constant_prices price intervals.now.steps) ≤ most_paid }
+    requires paid { scale.units * sum (constant_prices price intervals.now.steps) ≤ 2 ^ 121 }
     ensures prices { IfOk result (λ r. r.solution.prices ≡ constant_prices price intervals.now.steps) }
     ensures flows { IfOk result (λ r. r.solution.flows ≡ replicate (length intervals.now.items) 0) }
+    ensures full { IfOk result (λ r. r.full.items ≡ replicate (length intervals.now.items) false) }
     ensures price { IfOk result (λ r. r.price ≡ price) }
-    ensures relaxed { IfOk result (IsRelaxed intervals.now scale.unit scale.units scale.denominator) }
+    ensures bound { IfOk result (λ r. r.upper ≡ constant_bound intervals.now scale.unit scale.units scale.denominator price) }
+    ensures small { IfOk result (λ r. r.upper < 2 ^ 127) }
+    ensures value { IfOk result (λ r. r.flow ≡ 0) }
 {
     let Scale {
         unit,

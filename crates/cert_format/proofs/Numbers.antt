@@ -1,9 +1,9 @@
 -- Numbers without leading zeros.
-use Rattle.std.proofs.Common.{◌≡◌, ◌≢◌, ℕ, suc, ◌+◌, ◌≤◌, ◌<◌, ◌∙◌, sym, refl, ap, Bool, true, false, not, cond, ◌&&◌, List, [], ◌∷◌, length, get_or, arith, ◌==◌, Some, None, Ok, Err, Option, Result, inl, inr, ◌⊎◌}
+use Rattle.std.proofs.Common.{◌≡◌, ◌≢◌, ℕ, suc, ◌+◌, ◌≤◌, ◌<◌, ◌∙◌, refl, ap, Bool, true, false, not, cond, ◌&&◌, List, [], ◌∷◌, length, get_or, arith, ◌==◌, Some, None, Ok, Err, Option, Result, inl, inr, ◌⊎◌}
 use Rattle.std.specs.Prelude.{if◌then◌else◌, position, nat_le, nat_lt}
 use Rattle.std.specs.List.{list_all, position_or_len}
 use Rattle.std.specs.Char.{is_ascii_digit}
-use Rattle.std.proofs.lemmas.Bool.{true≢false, and_from, and_left, and_right, leb-true, and_parts, or_right, or_from, cases_lt, lt-ltb, le-ltb, le-leb, lt-leb, ltb-false, eqb-true, eqb-false, ne_eqb, cond_both, not-true}
+use Rattle.std.proofs.lemmas.Bool.{and_from, and_left, and_right, and_parts, or_right, or_from, cases_lt, lt-ltb, le-ltb, le-leb, lt-leb, ltb-false, eqb-true, eqb-false, ne_eqb, cond_both, not-true}
 use Rattle.std.proofs.lemmas.List.Folds.{list_all_at}
 use Rattle.std.proofs.lemmas.List.Quantifiers.{position-Some}
 use Rattle.std.proofs.lemmas.List.{nil_from_length}

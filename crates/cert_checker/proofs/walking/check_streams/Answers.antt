@@ -1,4 +1,4 @@
-use Rattle.std.proofs.Common.{◌≡◌, ℕ, ◌+◌, ◌≤◌, ap, arith, List, [], length, Option, None, Some, Result, Ok, Err, IfOk, IfErr, IfSome}
+use Rattle.std.proofs.Common.{List, Result, Ok, Err, IfOk}
 use Rattle.cache_model.specs.declared.objects.Object.{Object}
 use Rattle.cache_model.specs.declared.certificates.Record.{Record}
 use Rattle.cert_checker.specs.declared.verdict.Verdict.{Verdict}
