@@ -1,5 +1,5 @@
 //! The text of a replay.
-ghost use Rattle.std.specs.Prelude.{◌≡◌, ◌≤◌, length, IfOk, OnOk};
+ghost use Rattle.std.specs.Prelude.{◌≡◌, ◌<◌, ◌≤◌, length, IfOk, OnErr, OnOk};
 ghost use Rattle.cache_model.specs.Texts.{line};
 ghost use Rattle.bound_report.specs.Replays.{hits_line, policy_line, policy_word, replay_text, with_warmup};
 
@@ -71,7 +71,9 @@ pub fn replay_text(alloc: Global, facts: &ReplayFacts) -> Result<Vec<u8>, NoMemo
 
 /// Appends the last line of a report whose hits count from a warm-up on, if there is one.
 pub fn push_warmup(text: &mut Vec<u8>, warmup: u32) -> Result<(), NoMemory>
-    ensures { OnOk result (text.new.items ≡ with_warmup warmup text.old.items) }
+    ensures text { OnOk result (text.new.items ≡ with_warmup warmup text.old.items) }
+    ensures kept { OnErr result (text.new.items ≡ text.old.items) }
+    ensures none_needed { OnErr result (0 < warmup) }
 {
     if warmup == 0 {
         return Ok(());

@@ -1,5 +1,5 @@
 //! The texts of a report of bounds and of a check's yes.
-ghost use Rattle.std.specs.Prelude.{◌≡◌, ◌<◌, ◌≤◌, ◌+◌, ◌++◌, codes, length, OnOk, IfOk};
+ghost use Rattle.std.specs.Prelude.{◌≡◌, ◌<◌, ◌≤◌, ◌+◌, ◌++◌, codes, length, OnErr, OnOk, IfOk};
 ghost use Rattle.bound_report.specs.Reports.{capacity_line, flow_line, mode_line, ratio, report_text, trace_line, unit_line, upper_line, value_lines, window_word};
 ghost use Rattle.bound_report.specs.Verdicts.{verdict_text};
 ghost use Rattle.cache_model.specs.Texts.{entry, form_word, line, objective_word, text_of};
@@ -157,7 +157,8 @@ fn form_line(exact: bool) -> Line
 
 /// Appends a line.
 pub(crate) fn append(text: &mut Vec<u8>, line: &Line) -> Result<(), NoMemory>
-    ensures { OnOk result (text.new.items ≡ text.old.items ++ line.now) }
+    ensures text { OnOk result (text.new.items ≡ text.old.items ++ line.now) }
+    ensures kept { OnErr result (text.new.items ≡ text.old.items) }
 {
     text.extend_from_slice(line.as_bytes())?;
     Ok(())

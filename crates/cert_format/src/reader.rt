@@ -1,5 +1,5 @@
 //! A reader of certificates.
-ghost use Rattle.std.specs.Prelude.{◌≡◌, ◌≢◌, ◌+◌, ◌^◌, ◌<◌, ◌≤◌, IfOk, IfErr, IfSome, OnOk, length, None, Err};
+ghost use Rattle.std.specs.Prelude.{◌≡◌, ◌≢◌, ◌+◌, ◌^◌, ◌<◌, ◌≤◌, IfOk, IfErr, IfSome, OnErr, OnOk, length, None, Err};
 ghost use Rattle.bound_io.specs.Devices.{IsUntouched, seen};
 ghost use Rattle.bound_io.specs.Reading.{LosesPrefix};
 ghost use Rattle.cache_model.specs.Certificates.{IsHeaderInRange, IsRecordInRange};
@@ -124,6 +124,7 @@ impl CertReader {
         ensures range { IfOk result IsHeaderInRange }
         ensures fault { self.old.fault ≡ None → self.new.fault ≡ err_of result }
         ensures again { IfSome self.old.fault (λ fault. (result ≡ Err fault) × (self.new ≡ self.old) × IsUntouched (seen Q.left Q.faults source.old source.new)) }
+        ensures left { OnErr result (self.new.left ≡ self.old.left) }
         ensures within { self.old.fault ≡ None → IfErr result (IsWithin self.new.lines.line) }
         ensures past { IfSome (known self.old.lines (Q.left source.old)) (IsPast self.old.lines self.new.lines) }
         ensures taken { IsTaken self.old.lines self.new.lines (Q.left source.old) (Q.left source.new) }
@@ -154,6 +155,7 @@ impl CertReader {
         ensures range { IfOk result IsRecordInRange }
         ensures fault { self.old.fault ≡ None → self.new.fault ≡ err_of result }
         ensures again { IfSome self.old.fault (λ fault. (result ≡ Err fault) × (self.new ≡ self.old) × IsUntouched (seen Q.left Q.faults source.old source.new)) }
+        ensures left { OnErr result (self.new.left ≡ self.old.left) }
         ensures within { self.old.fault ≡ None → IfErr result (IsWithin self.new.lines.line) }
         ensures past { IfSome (known self.old.lines (Q.left source.old)) (IsPast self.old.lines self.new.lines) }
         ensures taken { IsTaken self.old.lines self.new.lines (Q.left source.old) (Q.left source.new) }
@@ -182,6 +184,7 @@ impl CertReader {
         ensures read { self.old.fault ≡ None → EndRead self.old self.new (seen Q.left Q.faults source.old source.new) result }
         ensures fault { self.old.fault ≡ None → self.new.fault ≡ err_of result }
         ensures again { IfSome self.old.fault (λ fault. (result ≡ Err fault) × (self.new ≡ self.old) × IsUntouched (seen Q.left Q.faults source.old source.new)) }
+        ensures left { OnErr result (self.new.left ≡ self.old.left) }
         ensures within { self.old.fault ≡ None → IfErr result (IsWithin self.new.lines.line) }
         ensures past { IfSome (known self.old.lines (Q.left source.old)) (IsPast self.old.lines self.new.lines) }
         ensures taken { IsTaken self.old.lines self.new.lines (Q.left source.old) (Q.left source.new) }

@@ -1,5 +1,5 @@
 //! Writing a certificate.
-ghost use Rattle.std.specs.Prelude.{codes, ◌≤◌, OnErr, OnOk};
+ghost use Rattle.std.specs.Prelude.{◌≡◌, codes, ◌≤◌, OnErr, OnOk};
 ghost use Rattle.std.specs.Io.KnownBytes.{Appends};
 ghost use Rattle.bound_io.specs.Causes.{HasCause};
 ghost use Rattle.bound_io.specs.Writing.{AppendsProperPrefix};
@@ -17,6 +17,7 @@ pub fn write_header<K: Sink>(sink: &mut K, header: &Header) -> Result<(), Failed
     ensures all { OnOk result (Appends (K.written sink.old) (K.written sink.new) (text_of (header_lines header.now))) }
     ensures prefix { OnErr result (AppendsProperPrefix (K.written sink.old) (K.written sink.new) (text_of (header_lines header.now))) }
     ensures cause { HasCause (K.faults sink.old) (K.faults sink.new) result }
+    ensures none_failed { OnOk result (K.faults sink.new ≡ K.faults sink.old) }
 {
     write_all(sink, header_text(header).as_bytes())
 }
@@ -33,6 +34,7 @@ pub fn write_record<K: Sink>(
     ensures all { OnOk result (Appends (K.written sink.old) (K.written sink.new) (line (record_line version before entry.now))) }
     ensures prefix { OnErr result (AppendsProperPrefix (K.written sink.old) (K.written sink.new) (line (record_line version before entry.now))) }
     ensures cause { HasCause (K.faults sink.old) (K.faults sink.new) result }
+    ensures none_failed { OnOk result (K.faults sink.new ≡ K.faults sink.old) }
 {
     write_all(sink, record_text(version, before, entry).as_bytes())
 }
@@ -42,6 +44,7 @@ pub fn write_end<K: Sink>(sink: &mut K) -> Result<(), Failed>
     ensures all { OnOk result (Appends (K.written sink.old) (K.written sink.new) (line (codes "end"))) }
     ensures prefix { OnErr result (AppendsProperPrefix (K.written sink.old) (K.written sink.new) (line (codes "end"))) }
     ensures cause { HasCause (K.faults sink.old) (K.faults sink.new) result }
+    ensures none_failed { OnOk result (K.faults sink.new ≡ K.faults sink.old) }
 {
     write_all(sink, b"end\n")
 }

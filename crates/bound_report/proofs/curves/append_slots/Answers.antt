@@ -13,7 +13,7 @@ loop-fewer-preserved c =
     elim c.if-hits.branch [
       | then-hits+in_ok-append w ↦ line_appended hits n c.args.text.now.items c.loop-fewer.text.items c.if-hits.text.items c.loop-fewer.invariant
           (omega (arith, w.if-hits.true, c.hits-hits.ensures, c.hits.ensures))
-          (ap (λ v. v.items) w.text-is ∙ w.in_ok-append.ensures ∙ ap (λ l. c.loop-fewer.text.items ++ l) (w.slots_line.ensures ∙ ap (λ h. line (slots_line (n + 1) h)) c.hits-hits.ensures))
+          (ap (λ v. v.items) w.text-is ∙ w.in_ok-append.ensures.text ∙ ap (λ l. c.loop-fewer.text.items ++ l) (w.slots_line.ensures ∙ ap (λ h. line (slots_line (n + 1) h)) c.hits-hits.ensures))
       | else-hits w ↦ no_line hits n c.args.text.now.items c.loop-fewer.text.items c.if-hits.text.items c.loop-fewer.invariant
           (omega (arith, w.if-hits.false, c.hits-hits.ensures, c.hits.ensures)) (ap (λ v. v.items) w.text-is)
     ]

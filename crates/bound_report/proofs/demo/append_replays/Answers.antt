@@ -18,8 +18,8 @@ returns c =
     let t4 = c.append-4.new.text.items in
     five_pieces text (line (replay_line Lru r.lru)) (line (replay_line Fifo r.fifo)) (line (replay_line Clock r.clock)) (line (replay_line Lfu r.lfu)) (line (replay_line Belady r.belady))
     t1 t2 t3 t4 c.append-5.new.text.items
-    (c.in_ok-append.ensures ∙ ap (λ l. text ++ l) c.replay_line.ensures)
-    (c.in_ok-append-2.ensures ∙ ap (λ l. t1 ++ l) c.replay_line-2.ensures)
-    (c.in_ok-append-3.ensures ∙ ap (λ l. t2 ++ l) c.replay_line-3.ensures)
-    (c.in_ok-append-4.ensures ∙ ap (λ l. t3 ++ l) c.replay_line-4.ensures)
-    (c.in_ok-append-5.ensures ∙ ap (λ l. t4 ++ l) c.replay_line-5.ensures)
+    (c.in_ok-append.ensures.text ∙ ap (λ l. text ++ l) c.replay_line.ensures)
+    (c.in_ok-append-2.ensures.text ∙ ap (λ l. t1 ++ l) c.replay_line-2.ensures)
+    (c.in_ok-append-3.ensures.text ∙ ap (λ l. t2 ++ l) c.replay_line-3.ensures)
+    (c.in_ok-append-4.ensures.text ∙ ap (λ l. t3 ++ l) c.replay_line-4.ensures)
+    (c.in_ok-append-5.ensures.text ∙ ap (λ l. t4 ++ l) c.replay_line-5.ensures)

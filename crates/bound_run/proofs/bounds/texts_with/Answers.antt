@@ -26,5 +26,5 @@ returns c = record {
   records = records_in c.args.bounds.now;
   made = c.requires.made;
   cert_is = c.in_ok-cert.ensures;
-  report_is = c.in_ok-push_warmup.ensures ∙ ap (with_warmup c.args.bounds.now.header.warmup) (rw (c.objects.ensures.different, c.as_slice.ensures.items, c.requires.intervals) at c.in_ok-report.ensures);
+  report_is = c.in_ok-push_warmup.ensures.text ∙ ap (with_warmup c.args.bounds.now.header.warmup) (rw (c.objects.ensures.different, c.as_slice.ensures.items, c.requires.intervals) at c.in_ok-report.ensures);
 }

@@ -14,7 +14,7 @@ returns-in_ok-push_warmup-in-Ok-clause-yes_text g c =
       verdict = c.in-Ok.verdict;
       dropped = c.check_streams.new.reader.dropped;
       accepted = accepted c.args.requests.now.format start end c.requires.requests c.in-Ok.verdict c.in-Ok.ensures.yes;
-      text_is = c.in_ok-push_warmup-in-Ok.ensures ∙ ap (with_warmup c.in-Ok.verdict.header.warmup) (c.in_ok-text-in-Ok.ensures ∙ ap (verdict_text c.in-Ok.verdict) c.dropped.ensures);
+      text_is = c.in_ok-push_warmup-in-Ok.ensures.text ∙ ap (with_warmup c.in-Ok.verdict.header.warmup) (c.in_ok-text-in-Ok.ensures ∙ ap (verdict_text c.in-Ok.verdict) c.dropped.ensures);
     }
 
 pub returns-in-Err-clause-refused : goal.returns-in-Err-clause-refused

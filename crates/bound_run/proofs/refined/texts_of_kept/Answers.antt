@@ -26,6 +26,6 @@ returns c =
     let made : c.with_upper-made.result.header ≡ with_upper h to.upper = ap (λ (v : Verdict). v.header) whole in
     refined_texts c.args.width kept.trace h kept.records c.requires.valid to c.in_ok-refined.ensures.refined c.args.dropped c.in_ok-cert.cert.items c.push_warmup.new.text.items
     (rw (made, c.records.ensures, c.prices.ensures) at c.in_ok-cert.ensures)
-    (c.in_ok-push_warmup.ensures
+    (c.in_ok-push_warmup.ensures.text
     ∙ ap (with_warmup c.with_upper-made.result.header.warmup) (c.in_ok-report.ensures ∙ ap (λ (v : Verdict). refined_text v.header.upper c.with_upper-made.result c.args.dropped) c.verdict-2.ensures)
     ∙ ap (λ (v : Verdict). with_warmup v.header.warmup (refined_text h.upper v c.args.dropped)) whole)
