@@ -29,6 +29,8 @@ mod oracle_records;
 #[cfg(test)]
 mod pieces;
 #[cfg(test)]
+mod places;
+#[cfg(test)]
 mod requests;
 #[cfg(test)]
 mod scores;

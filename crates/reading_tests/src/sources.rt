@@ -70,7 +70,9 @@ fn write_file<R: Files + Print + Abort>(
     pieces: &[&[u8]],
 ) -> Result<(), Failed> {
     let mut sink = FileSink::new(rt, alloc, path).expect(rt, "memory");
-    write_pieces(&mut sink, pieces)
+    let written = write_pieces(&mut sink, pieces);
+    holds(path, sink.finish(written.is_ok()).is_ok()).expect(rt, "a row");
+    written
 }
 
 fn read_file<R: Files + Input + Abort>(rt: &R, alloc: Global, path: &str) -> Result<usize, Failed> {
