@@ -52,6 +52,14 @@ inputs reader trace trace_faults cert certificate certificate_faults = record {
   certificate_faults = certificate_faults;
 }
 
+-- the inputs as they are seen: what a source has left by the one function and its faults by the other, of the trace and then of the certificate
+abbrev pub seen_inputs : {T Q : Type 0} → (T → Option (List ℕ)) → (T → ℕ) → (Q → Option (List ℕ)) → (Q → ℕ) → requests.Reader → T → lines.Reader → Q → Inputs
+seen_inputs left faults cert_left cert_faults reader trace cert certificate = inputs reader (left trace) (faults trace) cert (cert_left certificate) (cert_faults certificate)
+
+-- the inputs of which the certificate alone is seen: the reader of the trace, what its source has left and its faults are still to be given
+abbrev pub seen_cert : {Q : Type 0} → (Q → Option (List ℕ)) → (Q → ℕ) → lines.Reader → Q → requests.Reader → Option (List ℕ) → ℕ → Inputs
+seen_cert left faults cert certificate reader trace trace_faults = inputs reader trace trace_faults cert (left certificate) (faults certificate)
+
 -- no call of the reader was made
 abbrev pub IsFresh : requests.Reader → Type 0
 IsFresh reader = reader ≡ requests.fresh reader.format reader.limits
@@ -178,6 +186,10 @@ pub record IsInStep (now : Inputs) (checker : Summary) : Type 0 where
   pub held : length now.cert.lines.held ≤ 65536
   pub some : (trace : List Object) × (records : List Record) × StandsFor checker.header trace records checker
 
+-- the same, with some reader of a trace and its source
+abbrev pub IsInSomeStep : (requests.Reader → Option (List ℕ) → ℕ → Inputs) → Summary → Type 0
+IsInSomeStep now checker = (reader : requests.Reader) × (trace : Option (List ℕ)) × (faults : ℕ) × IsInStep (now reader trace faults) checker
+
 -- the counts of faults have not fallen
 pub record IsLater (start now : Inputs) : Type 0 where
   pub trace : start.trace_faults ≤ now.trace_faults
@@ -227,3 +239,7 @@ abbrev pub IsNextCheck : Inputs → Header → List Object → List Record → I
 IsNextCheck start h trace records now checker (Ok (Some p)) = HasChecked start h (trace ++ p.0 ∷ []) (records ++ p.1 ∷ []) now checker
 IsNextCheck start h trace records now checker (Ok None) = HasCheckedAll start h trace records now checker
 IsNextCheck start h trace records now checker (Err why) = IsStop start now why
+
+-- whatever was read and passed before, the next check goes on from there
+abbrev pub ChecksNext : Inputs → Summary → Inputs → Summary → Result (Option (Object × Record)) CheckFault → Type 0
+ChecksNext old before new after result = (start : Inputs) (h : Header) (trace : List Object) (records : List Record) → HasChecked start h trace records old before → IsNextCheck start h trace records new after result

@@ -1,10 +1,14 @@
 -- A check that keeps what it reads.
-use Rattle.std.specs.Prelude.{◌≡◌, List, Result, Ok, Err}
+use Rattle.std.specs.Prelude.{◌≡◌, ℕ, List, Result, Ok, Err}
+use Rattle.std.specs.declared.option.Option.{Option}
 use Rattle.cache_model.specs.declared.objects.Object.{Object}
+use Rattle.cache_model.specs.declared.certificates.Header.{Header}
 use Rattle.cache_model.specs.declared.certificates.Record.{Record}
+use Rattle.trace_any.specs.Readers as requests
 use Rattle.cert_checker.specs.declared.verdict.Verdict.{Verdict}
 use Rattle.cert_checker.specs.declared.walking.CheckFault.{CheckFault}
-use Rattle.cert_checker.specs.Checks.{Inputs, IsPassed, IsStop}
+use Rattle.cert_checker.specs.Checks.{HasCheckedAll, Inputs, IsPassed, IsStop}
+use Rattle.cert_checker.specs.Summaries.{Summary}
 
 -- a yes, with the requests and the records that it was said of
 pub record Checked : Type 0 where
@@ -22,6 +26,11 @@ pub record HasKept (start end : Inputs) (kept : Checked) : Type 0 where
 abbrev pub IsEnd : Inputs → Inputs → List Object → List Record → Result Verdict CheckFault → Type 0
 IsEnd start end trace records (Ok verdict) = HasKept start end (record { verdict = verdict; trace = trace; records = records })
 IsEnd start end trace records (Err why) = IsStop start end why
+
+-- whatever was read and passed before, and whatever the trace was read from, the walk ends there
+abbrev pub ChecksLast : (requests.Reader → Option (List ℕ) → ℕ → Inputs) → Summary → (requests.Reader → Option (List ℕ) → ℕ → Inputs) → Result Verdict CheckFault → Type 0
+ChecksLast old checker new result = (start : Inputs) (reader : requests.Reader) (left : Option (List ℕ)) (faults : ℕ) (h : Header) (trace : List Object) (records : List Record)
+    → HasCheckedAll start h trace records (old reader left faults) checker → IsEnd start (new reader left faults) trace records result
 
 -- the end of a check: a yes of the requests and the records that a keeper has, or why there is none
 abbrev pub IsCheckEnd : (List Object → List Record → Type 0) → Inputs → Inputs → Result Verdict CheckFault → Type 0

@@ -6,3 +6,4 @@ pub mod Answers
 pub mod Laws
 pub mod Checks
 pub mod Keeping
+pub mod Whole

@@ -55,6 +55,10 @@ pub record StandsFor (h : Header) (trace : List Object) (records : List Record) 
   pub seen : (x : Object) → MatchOption (lookup (same_object x) s.entries) (IsNew trace x) (IsSeen trace records x)
   pub sums : AreSums h trace records s.sums
 
+-- it holds of each header, requests and records that the summary stands for
+abbrev pub HoldsOfAll : Summary → (Header → List Object → List Record → Type 0) → Type 0
+HoldsOfAll s holds = (h : Header) (trace : List Object) (records : List Record) → StandsFor h trace records s → holds h trace records
+
 -- sums stay small: each request adds a limited amount
 pub record AreSmall (sums : Sums) : Type 0 where
   pub surpluses : sums.surpluses ≤ 2 ^ 96 * sums.steps

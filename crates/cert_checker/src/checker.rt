@@ -1,8 +1,5 @@
 //! A checker, which is given the requests and the records one by one.
-ghost use Rattle.std.specs.Prelude.{◌≡◌, ◌≤◌, ◌<◌, ◌+◌, ◌^◌, [], List, length, None, IfErr, IfOk, IsOk, OnErr, OnOk};
-ghost use Rattle.cache_model.specs.declared.objects.Object.{Object as Requested};
-ghost use Rattle.cache_model.specs.declared.certificates.Header.{Header as Head};
-ghost use Rattle.cache_model.specs.declared.certificates.Record.{Record as Entry};
+ghost use Rattle.std.specs.Prelude.{◌≡◌, ◌≤◌, ◌<◌, ◌+◌, ◌^◌, [], length, None, IfErr, IfOk, IsOk, OnErr, OnOk};
 ghost use Rattle.cache_model.specs.Certificates.{IsHeaderInRange, IsRecordInRange};
 ghost use Rattle.cache_model.specs.Objects.{objects_of};
 
@@ -87,7 +84,7 @@ impl Checker {
     ghost use Rattle.cert_checker.specs.declared.checker.StepFault.TheVariants.{NoMemory as OutOfMemory};
     ghost use Rattle.cert_checker.specs.Answers.{IsFinished, IsStepped};
     ghost use Rattle.cert_checker.specs.Rules.{counted_of, first_unused};
-    ghost use Rattle.cert_checker.specs.Summaries.{StandsFor};
+    ghost use Rattle.cert_checker.specs.Summaries.{HoldsOfAll, StandsFor};
 
     /// A checker that was given nothing. It takes memory with the first request, and so it is never refused here.
     pub fn new(alloc: Global, header: Header) -> Result<Self, NoMemory>
@@ -109,7 +106,7 @@ impl Checker {
         requires fewer { self.old.sums.steps < self.old.header.requests }
         requires size { (1 ≤ object.size) × (object.size ≤ 2 ^ 48) }
         requires range { IsRecordInRange entry }
-        ensures stepped { (h : Head) (trace : List Requested) (records : List Entry) → StandsFor h trace records self.old → IsStepped h trace records object entry self.new result }
+        ensures stepped { HoldsOfAll self.old (λ h trace records. IsStepped h trace records object entry self.new result) }
         ensures counts { OnOk result ((self.new.header ≡ self.old.header) × (self.new.sums.steps ≡ self.old.sums.steps + 1)) }
         ensures kept { OnErr result (self.new ≡ self.old) }
         ensures only_if_new { IfErr result (λ fault. fault ≡ OutOfMemory → lookup (same_object object) self.old.entries ≡ None) }
@@ -125,7 +122,7 @@ impl Checker {
 
     // The first request that is the latest of its object and has a flow.
     fn first_unused(&self) -> Option<u32>
-        ensures { (h : Head) (trace : List Requested) (records : List Entry) → StandsFor h trace records self.now → result ≡ first_unused trace records }
+        ensures { HoldsOfAll self.now (λ h trace records. result ≡ first_unused trace records) }
     {
         self.seen
             .values()
@@ -136,7 +133,7 @@ impl Checker {
 
     // The bound of the prices, the value of the flows and the score of the keeps.
     fn counted(&self) -> Counted
-        ensures { (h : Head) (trace : List Requested) (records : List Entry) → StandsFor h trace records self.now → result ≡ counted_of h trace records }
+        ensures { HoldsOfAll self.now (λ h trace records. result ≡ counted_of h trace records) }
     {
         Counted {
             upper: units(&self.header) as u128 * self.sums.prices + self.sums.surpluses,
@@ -148,7 +145,7 @@ impl Checker {
     /// What `finish` says, of a checker that is kept.
     pub(crate) fn verdict(&self) -> Result<Verdict, InvalidKind>
         requires all { self.now.sums.steps ≡ self.now.header.requests }
-        ensures { (h : Head) (trace : List Requested) (records : List Entry) → StandsFor h trace records self.now → IsFinished h trace records result }
+        ensures { HoldsOfAll self.now (λ h trace records. IsFinished h trace records result) }
     {
         check_end(&self.header, self.first_unused(), &self.counted())?;
         Ok(Verdict {
@@ -160,14 +157,14 @@ impl Checker {
     /// The rules of the end. There were as many steps as the header says.
     pub fn finish(self) -> Result<Verdict, InvalidKind>
         requires all { self.sums.steps ≡ self.header.requests }
-        ensures { (h : Head) (trace : List Requested) (records : List Entry) → StandsFor h trace records self → IsFinished h trace records result }
+        ensures { HoldsOfAll self (λ h trace records. IsFinished h trace records result) }
     {
         self.verdict()
     }
 
     /// How many different objects were requested.
     pub fn entries(&self) -> u32
-        ensures objects { (h : Head) (trace : List Requested) (records : List Entry) → StandsFor h trace records self.now → result ≡ length (objects_of trace) }
+        ensures objects { HoldsOfAll self.now (λ h trace records. result ≡ length (objects_of trace)) }
     {
         self.seen.len() as u32
     }

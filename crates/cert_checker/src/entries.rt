@@ -32,7 +32,8 @@ pub fn put(
     requires place { place ≡ position (same_object object) (keys_of entries.old.entries) }
     requires distinct { IsDistinct same_object (keys_of entries.old.entries) }
     ensures entries { OnOk result (entries.new.entries ≡ insert_entry same_object entries.old.entries object seen) }
-    ensures looked_up { OnOk result ((y : Requested) → lookup (same_object y) entries.new.entries ≡ (if same_object object y then Some seen else lookup (same_object y) entries.old.entries)) }
+    ensures looked_up { OnOk result ((y : Requested) → lookup (same_object y) entries.new.entries
+        ≡ (if same_object object y then Some seen else lookup (same_object y) entries.old.entries)) }
     ensures distinct { OnOk result (IsDistinct same_object (keys_of entries.new.entries)) }
     ensures err { OnErr result (entries.new.entries ≡ entries.old.entries) }
     ensures err_only_if_new { OnErr result (lookup (same_object object) entries.old.entries ≡ None) }

@@ -17,5 +17,6 @@ pub trait Keeper {
     fn keep(&mut self, object: Object, entry: Record) -> Result<(), NoMemory>
         requires few { (requests : List Requested) × (records : List Entry) × has self.old requests records × (length requests < 2 ^ 25) }
         requires size { IsSized object }
-        ensures { OnOk result ((requests : List Requested) (records : List Entry) → has self.old requests records → has self.new (requests ++ object ∷ []) (records ++ entry ∷ [])) };
+        ensures { OnOk result ((requests : List Requested) (records : List Entry) → has self.old requests records
+            → has self.new (requests ++ object ∷ []) (records ++ entry ∷ [])) };
 }

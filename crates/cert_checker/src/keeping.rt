@@ -1,13 +1,17 @@
 //! A check that keeps what it reads.
 ghost use Rattle.std.specs.Prelude.{◌≡◌, ◌≤◌, IfOk, IfErr, length};
+ghost use Rattle.bound_io.specs.Devices.{seen};
 ghost use Rattle.bound_io.specs.Reading.{LosesPrefix};
 ghost use Rattle.cert_format.specs.Readers.{fresh};
-ghost use Rattle.cert_checker.specs.Checks.{IsEvent, IsFresh, IsNear, KeepsAnswer, inputs};
+ghost use Rattle.cert_checker.specs.Checks.{IsEvent, IsFresh, IsNear, KeepsAnswer, seen_inputs};
 ghost use Rattle.cert_checker.specs.Keeping.{HasKept};
+ghost use Rattle.cert_checker.specs.Whole.{Fails, Keeps};
+ghost use Rattle.trace_any.specs.Readings.{IsFormat};
 
 use crate::keeper::Keeper;
 use crate::verdict::Verdict;
 use crate::walking::{CheckFault, check_with};
+use crate::whole::check_new;
 use bound_base::NoMemory;
 use bound_io::Source;
 use cache_model::Object;
@@ -15,7 +19,7 @@ use cache_rules::{Builder, Trace};
 use cert_format::{CertReader, Record};
 use std::alloc::Global;
 use std::marker::Model;
-use trace_any::RequestReader;
+use trace_any::{Format, RequestReader};
 
 /// A yes, with the requests of the trace and the records of the certificate.
 #[derive(Debug, Drop)]
@@ -88,9 +92,15 @@ pub fn check_and_keep<T: Source, Q: Source>(
 ) -> Result<Kept, CheckFault>
     requires fresh_reader { IsFresh reader.old }
     requires fresh_cert { cert.old ≡ fresh }
-    ensures yes { IfOk result (HasKept (inputs reader.old (T.left trace.old) (T.faults trace.old) cert.old (Q.left certificate.old) (Q.faults certificate.old)) (inputs reader.new (T.left trace.new) (T.faults trace.new) cert.new (Q.left certificate.new) (Q.faults certificate.new))) }
-    ensures event { IfErr result (IsEvent (inputs reader.old (T.left trace.old) (T.faults trace.old) cert.old (Q.left certificate.old) (Q.faults certificate.old)) (inputs reader.new (T.left trace.new) (T.faults trace.new) cert.new (Q.left certificate.new) (Q.faults certificate.new))) }
-    ensures near { IfErr result (IsNear (inputs reader.old (T.left trace.old) (T.faults trace.old) cert.old (Q.left certificate.old) (Q.faults certificate.old)) (inputs reader.new (T.left trace.new) (T.faults trace.new) cert.new (Q.left certificate.new) (Q.faults certificate.new))) }
+    ensures yes { IfOk result (HasKept
+        (seen_inputs T.left T.faults Q.left Q.faults reader.old trace.old cert.old certificate.old)
+        (seen_inputs T.left T.faults Q.left Q.faults reader.new trace.new cert.new certificate.new)) }
+    ensures event { IfErr result (IsEvent
+        (seen_inputs T.left T.faults Q.left Q.faults reader.old trace.old cert.old certificate.old)
+        (seen_inputs T.left T.faults Q.left Q.faults reader.new trace.new cert.new certificate.new)) }
+    ensures near { IfErr result (IsNear
+        (seen_inputs T.left T.faults Q.left Q.faults reader.old trace.old cert.old certificate.old)
+        (seen_inputs T.left T.faults Q.left Q.faults reader.new trace.new cert.new certificate.new)) }
     ensures kept { KeepsAnswer reader.new.fault cert.new.fault result }
     ensures trace_source { LosesPrefix (T.left trace.old) (T.left trace.new) }
     ensures trace_later { T.faults trace.old ≤ T.faults trace.new }
@@ -108,4 +118,32 @@ pub fn check_and_keep<T: Source, Q: Source>(
         trace: lists.requests.finish(),
         records: lists.records,
     })
+}
+
+/// The check of `check_all` that keeps the trace and the records, as `check_and_keep` does.
+pub fn keep_all<T: Source, Q: Source>(
+    alloc: Global,
+    format: Format,
+    trace: &mut T,
+    certificate: &mut Q,
+) -> Result<(Kept, u64), CheckFault>
+    requires { IsFormat format }
+    ensures yes { IfOk result (λ p. Keeps format
+        (seen T.left T.faults trace.old trace.new) (seen Q.left Q.faults certificate.old certificate.new) p.0 p.1) }
+    ensures no { IfErr result (Fails format
+        (seen T.left T.faults trace.old trace.new) (seen Q.left Q.faults certificate.old certificate.new)) }
+    ensures trace_source { LosesPrefix (T.left trace.old) (T.left trace.new) }
+    ensures cert_source { LosesPrefix (Q.left certificate.old) (Q.left certificate.new) }
+{
+    let mut lists = Lists {
+        requests: Builder::new(alloc)?,
+        records: Vec::new(alloc),
+    };
+    let (verdict, dropped) = check_new(alloc, format, trace, certificate, &mut lists)?;
+    let kept = Kept {
+        verdict,
+        trace: lists.requests.finish(),
+        records: lists.records,
+    };
+    Ok((kept, dropped))
 }

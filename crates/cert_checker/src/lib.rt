@@ -17,11 +17,13 @@ mod stepping;
 mod summary;
 mod verdict;
 mod walking;
+mod whole;
 
 pub use cert_format::{Header, Record};
 pub use checker::{Checker, StepFault};
 pub use invalid::InvalidKind;
-pub use keeping::{Kept, check_and_keep};
+pub use keeping::{Kept, check_and_keep, keep_all};
 pub use laws::{faultless_is_valid, passing_is_valid};
 pub use verdict::Verdict;
 pub use walking::{CheckFault, check_streams};
+pub use whole::check_all;

@@ -157,7 +157,8 @@ pub fn added(header: &Header, object: &Object, sums: &Sums, before: Option<Seen>
     requires size { object.now.size ≤ 2 ^ 48 }
     requires prices { IfSome before (λ seen. seen.price_before ≤ sums.now.prices) }
     requires flow { IfSome before (λ seen. seen.flow ≤ weight_in header.now object.now) }
-    requires weight { header.now.warmup ≤ sums.now.steps → IfSome before (λ seen. object.now.size ≤ header.now.capacity → 1 ≤ object.now.size / header.now.unit) }
+    requires weight { header.now.warmup ≤ sums.now.steps
+        → IfSome before (λ seen. object.now.size ≤ header.now.capacity → 1 ≤ object.now.size / header.now.unit) }
     ensures sums { result ≡ added header.now object.now sums.now.steps sums.now.prices before }
     ensures small { (result.surplus ≤ 2 ^ 96) × (result.value ≤ 2 ^ 96) × (result.gain ≤ 2 ^ 48) }
 {

@@ -1,18 +1,13 @@
 //! The check of a certificate against a trace, both read as streams.
-ghost use Rattle.std.specs.Prelude.{◌≡◌, ◌≤◌, ◌<◌, ◌+◌, ◌^◌, [], ℕ, List, IfOk, IfErr, IfSome, None, OnOk, length};
-ghost use Rattle.std.specs.declared.option.Option.{Option};
+ghost use Rattle.std.specs.Prelude.{◌≡◌, ◌≤◌, ◌<◌, ◌+◌, ◌^◌, [], IfOk, IfErr, IfSome, None, OnOk, length};
 ghost use Rattle.bound_io.specs.Reading.{LosesPrefix};
-ghost use Rattle.trace_any.specs.Readers.{Reader};
-ghost use Rattle.cache_model.specs.declared.objects.Object.{Object as Requested};
-ghost use Rattle.cache_model.specs.declared.certificates.Header.{Header as Head};
-ghost use Rattle.cache_model.specs.declared.certificates.Record.{Record as Entry};
 ghost use Rattle.cache_model.specs.Certificates.{IsRecordInRange};
 ghost use Rattle.cert_checker.specs.declared.invalid.InvalidKind.TheVariants.{RequestCount};
 ghost use Rattle.cert_format.specs.Lines.{IsTaken};
 ghost use Rattle.cert_format.specs.Readers.{fresh};
 ghost use Rattle.cert_checker.specs.declared.walking.CheckFault.TheVariants.{Invalid};
-ghost use Rattle.cert_checker.specs.Checks.{HasChecked, HasCheckedAll, Inputs, IsEvent, IsFresh, IsInStep, IsNear, IsPassed, IsSteppedAt, IsNextCheck, KeepsAnswer, inputs};
-ghost use Rattle.cert_checker.specs.Keeping.{IsCheckEnd, IsEnd};
+ghost use Rattle.cert_checker.specs.Checks.{ChecksNext, IsEvent, IsFresh, IsInSomeStep, IsInStep, IsNear, IsPassed, IsSteppedAt, KeepsAnswer, seen_cert, seen_inputs};
+ghost use Rattle.cert_checker.specs.Keeping.{ChecksLast, IsCheckEnd};
 ghost use Rattle.cert_checker.specs.Summaries.{IsSized};
 ghost use Rattle.cert_checker.specs.Walks.{text_kind};
 
@@ -153,15 +148,20 @@ fn check_next<T: Source, Q: Source>(
     checker: &mut Checker,
 ) -> Result<Option<(Object, Record)>, CheckFault>
     requires header { header.now ≡ checker.old.header }
-    requires in_step { IsInStep (inputs reader.old (T.left trace.old) (T.faults trace.old) cert.old (Q.left certificate.old) (Q.faults certificate.old)) checker.old }
-    ensures in_step { OnOk result (IsInStep (inputs reader.new (T.left trace.new) (T.faults trace.new) cert.new (Q.left certificate.new) (Q.faults certificate.new)) checker.new × (checker.new.header ≡ checker.old.header)) }
+    requires in_step { IsInStep (seen_inputs T.left T.faults Q.left Q.faults reader.old trace.old cert.old certificate.old) checker.old }
+    ensures in_step { OnOk result (IsInStep (seen_inputs T.left T.faults Q.left Q.faults reader.new trace.new cert.new certificate.new) checker.new
+        × (checker.new.header ≡ checker.old.header)) }
     ensures fewer { IfOk result (λ next. IfSome next (λ _. cert.new.left + 1 ≡ cert.old.left)) }
     ensures size { IfOk result (λ next. IfSome next (λ p. IsSized p.0)) }
-    ensures checked { (start : Inputs) (h : Head) (requests : List Requested) (records : List Entry) → HasChecked start h requests records (inputs reader.old (T.left trace.old) (T.faults trace.old) cert.old (Q.left certificate.old) (Q.faults certificate.old)) checker.old → IsNextCheck start h requests records (inputs reader.new (T.left trace.new) (T.faults trace.new) cert.new (Q.left certificate.new) (Q.faults certificate.new)) checker.new result }
-    ensures trace { LosesPrefix (T.left trace.old) (T.left trace.new) × (T.faults trace.old ≤ T.faults trace.new) × (length reader.new.lines.held ≤ 65536) }
+    ensures checked { ChecksNext
+        (seen_inputs T.left T.faults Q.left Q.faults reader.old trace.old cert.old certificate.old) checker.old
+        (seen_inputs T.left T.faults Q.left Q.faults reader.new trace.new cert.new certificate.new) checker.new result }
+    ensures trace { LosesPrefix (T.left trace.old) (T.left trace.new) × (T.faults trace.old ≤ T.faults trace.new)
+        × (length reader.new.lines.held ≤ 65536) }
     ensures taken { IsTaken cert.old.lines cert.new.lines (Q.left certificate.old) (Q.left certificate.new) }
     ensures kept { KeepsAnswer reader.new.fault cert.new.fault result }
-    ensures cert { LosesPrefix (Q.left certificate.old) (Q.left certificate.new) × (Q.faults certificate.old ≤ Q.faults certificate.new) × (length cert.new.lines.held ≤ 65536) }
+    ensures cert { LosesPrefix (Q.left certificate.old) (Q.left certificate.new) × (Q.faults certificate.old ≤ Q.faults certificate.new)
+        × (length cert.new.lines.held ≤ 65536) }
 {
     let Some(object) = reader.next(alloc, trace)? else {
         return Ok(None);
@@ -183,8 +183,10 @@ fn check_last<Q: Source>(
     checker: &Checker,
 ) -> Result<Verdict, CheckFault>
     requires header { header.now ≡ checker.now.header }
-    requires in_step { (reader : Reader) × (left : Option (List ℕ)) × (faults : ℕ) × IsInStep (inputs reader left faults cert.old (Q.left certificate.old) (Q.faults certificate.old)) checker.now }
-    ensures checked { (start : Inputs) (reader : Reader) (left : Option (List ℕ)) (faults : ℕ) (h : Head) (requests : List Requested) (records : List Entry) → HasCheckedAll start h requests records (inputs reader left faults cert.old (Q.left certificate.old) (Q.faults certificate.old)) checker.now → IsEnd start (inputs reader left faults cert.new (Q.left certificate.new) (Q.faults certificate.new)) requests records result }
+    requires in_step { IsInSomeStep (seen_cert Q.left Q.faults cert.old certificate.old) checker.now }
+    ensures checked { ChecksLast
+        (seen_cert Q.left Q.faults cert.old certificate.old) checker.now
+        (seen_cert Q.left Q.faults cert.new certificate.new) result }
     ensures taken { IsTaken cert.old.lines cert.new.lines (Q.left certificate.old) (Q.left certificate.new) }
     ensures kept { KeepsAnswer None cert.new.fault result }
     ensures source { LosesPrefix (Q.left certificate.old) (Q.left certificate.new) }
@@ -214,10 +216,13 @@ pub(crate) fn check_with<T: Source, Q: Source, K: Keeper>(
     requires fresh_reader { IsFresh reader.old }
     requires fresh_cert { cert.old ≡ fresh }
     requires nothing { K.has keeper.old [] [] }
-    ensures checked { IsCheckEnd (K.has keeper.new) (inputs reader.old (T.left trace.old) (T.faults trace.old) cert.old (Q.left certificate.old) (Q.faults certificate.old)) (inputs reader.new (T.left trace.new) (T.faults trace.new) cert.new (Q.left certificate.new) (Q.faults certificate.new)) result }
+    ensures checked { IsCheckEnd (K.has keeper.new)
+        (seen_inputs T.left T.faults Q.left Q.faults reader.old trace.old cert.old certificate.old)
+        (seen_inputs T.left T.faults Q.left Q.faults reader.new trace.new cert.new certificate.new) result }
     ensures taken { IsTaken cert.old.lines cert.new.lines (Q.left certificate.old) (Q.left certificate.new) }
     ensures kept { KeepsAnswer reader.new.fault cert.new.fault result }
-    ensures trace { LosesPrefix (T.left trace.old) (T.left trace.new) × (T.faults trace.old ≤ T.faults trace.new) × (length reader.new.lines.held ≤ 65536) }
+    ensures trace { LosesPrefix (T.left trace.old) (T.left trace.new) × (T.faults trace.old ≤ T.faults trace.new)
+        × (length reader.new.lines.held ≤ 65536) }
     ensures cert { LosesPrefix (Q.left certificate.old) (Q.left certificate.new) × (Q.faults certificate.old ≤ Q.faults certificate.new) }
 {
     let header = cert.header(certificate)?;
@@ -238,7 +243,7 @@ pub(crate) fn check_with<T: Source, Q: Source, K: Keeper>(
 
 // A keeper that keeps nothing.
 #[derive(Drop)]
-struct Nothing;
+pub(crate) struct Nothing;
 
 impl Keeper for Nothing {
     ghost has = { λ _ _ _. Unit {0} };
@@ -261,9 +266,15 @@ pub fn check_streams<T: Source, Q: Source>(
 ) -> Result<Verdict, CheckFault>
     requires fresh_reader { IsFresh reader.old }
     requires fresh_cert { cert.old ≡ fresh }
-    ensures yes { IfOk result (IsPassed (inputs reader.old (T.left trace.old) (T.faults trace.old) cert.old (Q.left certificate.old) (Q.faults certificate.old)) (inputs reader.new (T.left trace.new) (T.faults trace.new) cert.new (Q.left certificate.new) (Q.faults certificate.new))) }
-    ensures event { IfErr result (IsEvent (inputs reader.old (T.left trace.old) (T.faults trace.old) cert.old (Q.left certificate.old) (Q.faults certificate.old)) (inputs reader.new (T.left trace.new) (T.faults trace.new) cert.new (Q.left certificate.new) (Q.faults certificate.new))) }
-    ensures near { IfErr result (IsNear (inputs reader.old (T.left trace.old) (T.faults trace.old) cert.old (Q.left certificate.old) (Q.faults certificate.old)) (inputs reader.new (T.left trace.new) (T.faults trace.new) cert.new (Q.left certificate.new) (Q.faults certificate.new))) }
+    ensures yes { IfOk result (IsPassed
+        (seen_inputs T.left T.faults Q.left Q.faults reader.old trace.old cert.old certificate.old)
+        (seen_inputs T.left T.faults Q.left Q.faults reader.new trace.new cert.new certificate.new)) }
+    ensures event { IfErr result (IsEvent
+        (seen_inputs T.left T.faults Q.left Q.faults reader.old trace.old cert.old certificate.old)
+        (seen_inputs T.left T.faults Q.left Q.faults reader.new trace.new cert.new certificate.new)) }
+    ensures near { IfErr result (IsNear
+        (seen_inputs T.left T.faults Q.left Q.faults reader.old trace.old cert.old certificate.old)
+        (seen_inputs T.left T.faults Q.left Q.faults reader.new trace.new cert.new certificate.new)) }
     ensures kept { KeepsAnswer reader.new.fault cert.new.fault result }
     ensures trace_source { LosesPrefix (T.left trace.old) (T.left trace.new) }
     ensures trace_later { T.faults trace.old ≤ T.faults trace.new }

@@ -14,4 +14,5 @@ pub mod Taken
 pub mod Chains
 pub mod HeaderParts
 pub mod Going
+pub mod Written
 mod Appended

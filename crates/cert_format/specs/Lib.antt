@@ -5,4 +5,5 @@ pub mod Lines
 pub mod Parts
 pub mod Finish
 pub mod Readers
+pub mod Writers
 pub mod Laws

@@ -5,7 +5,7 @@ use Rattle.cache_model.specs.declared.certificates.Header.{Header}
 use Rattle.cache_model.specs.Texts.{header_len, line, record_line}
 use Rattle.cert_checker.specs.declared.invalid.InvalidKind.TheVariants.{RequestCount}
 use Rattle.cert_checker.specs.declared.walking.CheckFault.TheVariants.{Invalid}
-use Rattle.cert_checker.specs.Checks.{Inputs, inputs, IsFailing}
+use Rattle.cert_checker.specs.Checks.{Inputs, seen_inputs, IsFailing}
 use Rattle.cert_checker.specs.Rules.{record_fault}
 use Rattle.cert_checker.specs.Summaries.{StandsFor}
 use Rattle.cert_format.proofs.Taken.{same_taken}
@@ -16,22 +16,22 @@ use Rattle.cert_checker.proofs.walking.check_next.Goals as goal
 
 pub returns-in_err-object-clause-checked : goal.returns-in_err-object-clause-checked
 returns-in_err-object-clause-checked g c =
-    let now : Inputs = inputs c.args.reader.now (g.T.Source.left c.args.trace.now) (g.T.Source.faults c.args.trace.now) c.args.cert.now (g.Q.Source.left c.args.certificate.now) (g.Q.Source.faults c.args.certificate.now) in
-    let end : Inputs = inputs c.next.new.self (g.T.Source.left c.next.new.source) (g.T.Source.faults c.next.new.source) c.args.cert.now (g.Q.Source.left c.args.certificate.now) (g.Q.Source.faults c.args.certificate.now) in
+    let now : Inputs = seen_inputs g.T.Source.left g.T.Source.faults g.Q.Source.left g.Q.Source.faults c.args.reader.now c.args.trace.now c.args.cert.now c.args.certificate.now in
+    let end : Inputs = seen_inputs g.T.Source.left g.T.Source.faults g.Q.Source.left g.Q.Source.faults c.next.new.self c.next.new.source c.args.cert.now c.args.certificate.now in
     let p = err_from_is_err_and c.from_residual.result c.from_residual.ensures.1 in
     rw (p.1, p.2) (λ start h given records checked. stop_trace start h given records now c.args.checker.now checked end c.in_err-object.field-0.0 (c.in_err-object.ensures.next c.requires.in_step.trace_fault))
 
 pub returns-in_default-clause-checked : goal.returns-in_default-clause-checked
 returns-in_default-clause-checked g c = λ start h given records checked.
-    let now : Inputs = inputs c.args.reader.now (g.T.Source.left c.args.trace.now) (g.T.Source.faults c.args.trace.now) c.args.cert.now (g.Q.Source.left c.args.certificate.now) (g.Q.Source.faults c.args.certificate.now) in
-    let end : Inputs = inputs c.next.new.self (g.T.Source.left c.next.new.source) (g.T.Source.faults c.next.new.source) c.args.cert.now (g.Q.Source.left c.args.certificate.now) (g.Q.Source.faults c.args.certificate.now) in
+    let now : Inputs = seen_inputs g.T.Source.left g.T.Source.faults g.Q.Source.left g.Q.Source.faults c.args.reader.now c.args.trace.now c.args.cert.now c.args.certificate.now in
+    let end : Inputs = seen_inputs g.T.Source.left g.T.Source.faults g.Q.Source.left g.Q.Source.faults c.next.new.self c.next.new.source c.args.cert.now c.args.certificate.now in
     end_trace start h given records now c.args.checker.now checked end (rw c.in_default.is at c.in_ok-object.ensures.next c.requires.in_step.trace_fault) refl refl
     (record { trace = omega (arith, checked.later.trace, c.in_ok-object.ensures.later); certificate = checked.later.certificate })
 
 pub returns-then-read-header-clause-checked : goal.returns-then-read-header-clause-checked
 returns-then-read-header-clause-checked g c = λ start h given records checked.
-    let now : Inputs = inputs c.args.reader.now (g.T.Source.left c.args.trace.now) (g.T.Source.faults c.args.trace.now) c.args.cert.now (g.Q.Source.left c.args.certificate.now) (g.Q.Source.faults c.args.certificate.now) in
-    let end : Inputs = inputs c.next.new.self (g.T.Source.left c.next.new.source) (g.T.Source.faults c.next.new.source) c.args.cert.now (g.Q.Source.left c.args.certificate.now) (g.Q.Source.faults c.args.certificate.now) in
+    let now : Inputs = seen_inputs g.T.Source.left g.T.Source.faults g.Q.Source.left g.Q.Source.faults c.args.reader.now c.args.trace.now c.args.cert.now c.args.certificate.now in
+    let end : Inputs = seen_inputs g.T.Source.left g.T.Source.faults g.Q.Source.left g.Q.Source.faults c.next.new.self c.next.new.source c.args.cert.now c.args.certificate.now in
     let next = rw c.in-Some.is at c.in_ok-object.ensures.next c.requires.in_step.trace_fault in
     let near = rw c.in-Some.is at c.in_ok-object.ensures.lines c.requires.in_step.trace_fault in
     let many = checked.stands.sums.steps in
@@ -47,8 +47,8 @@ returns-then-read-header-clause-checked g c = λ start h given records checked.
 
 pub returns-in_err-entry-clause-checked : goal.returns-in_err-entry-clause-checked
 returns-in_err-entry-clause-checked g c =
-    let now : Inputs = inputs c.args.reader.now (g.T.Source.left c.args.trace.now) (g.T.Source.faults c.args.trace.now) c.args.cert.now (g.Q.Source.left c.args.certificate.now) (g.Q.Source.faults c.args.certificate.now) in
-    let end : Inputs = inputs c.next.new.self (g.T.Source.left c.next.new.source) (g.T.Source.faults c.next.new.source) c.next_record.new.self (g.Q.Source.left c.next_record.new.source) (g.Q.Source.faults c.next_record.new.source) in
+    let now : Inputs = seen_inputs g.T.Source.left g.T.Source.faults g.Q.Source.left g.Q.Source.faults c.args.reader.now c.args.trace.now c.args.cert.now c.args.certificate.now in
+    let end : Inputs = seen_inputs g.T.Source.left g.T.Source.faults g.Q.Source.left g.Q.Source.faults c.next.new.self c.next.new.source c.next_record.new.self c.next_record.new.source in
     let p = err_from_is_err_and c.from_residual-in_err-entry.result c.from_residual-in_err-entry.ensures.1 in
     rw (p.1, p.2) (λ start h given records checked.
     let next = rw c.in-Some.is at c.in_ok-object.ensures.next c.requires.in_step.trace_fault in
@@ -60,8 +60,8 @@ returns-in_err-entry-clause-checked g c =
 
 pub returns-in_err-step-clause-checked : goal.returns-in_err-step-clause-checked
 returns-in_err-step-clause-checked g c =
-    let now : Inputs = inputs c.args.reader.now (g.T.Source.left c.args.trace.now) (g.T.Source.faults c.args.trace.now) c.args.cert.now (g.Q.Source.left c.args.certificate.now) (g.Q.Source.faults c.args.certificate.now) in
-    let end : Inputs = inputs c.next.new.self (g.T.Source.left c.next.new.source) (g.T.Source.faults c.next.new.source) c.next_record.new.self (g.Q.Source.left c.next_record.new.source) (g.Q.Source.faults c.next_record.new.source) in
+    let now : Inputs = seen_inputs g.T.Source.left g.T.Source.faults g.Q.Source.left g.Q.Source.faults c.args.reader.now c.args.trace.now c.args.cert.now c.args.certificate.now in
+    let end : Inputs = seen_inputs g.T.Source.left g.T.Source.faults g.Q.Source.left g.Q.Source.faults c.next.new.self c.next.new.source c.next_record.new.self c.next_record.new.source in
     let p = err_from_is_err_and c.from_residual-in_err-step.result c.from_residual-in_err-step.ensures.1 in
     rw (p.1, p.2) (λ start h given records checked.
     let next = rw c.in-Some.is at c.in_ok-object.ensures.next c.requires.in_step.trace_fault in
@@ -76,8 +76,8 @@ returns-in_err-step-clause-checked g c =
 
 pub returns-clause-checked : goal.returns-clause-checked
 returns-clause-checked g c = λ start h given records checked.
-    let now : Inputs = inputs c.args.reader.now (g.T.Source.left c.args.trace.now) (g.T.Source.faults c.args.trace.now) c.args.cert.now (g.Q.Source.left c.args.certificate.now) (g.Q.Source.faults c.args.certificate.now) in
-    let end : Inputs = inputs c.next.new.self (g.T.Source.left c.next.new.source) (g.T.Source.faults c.next.new.source) c.next_record.new.self (g.Q.Source.left c.next_record.new.source) (g.Q.Source.faults c.next_record.new.source) in
+    let now : Inputs = seen_inputs g.T.Source.left g.T.Source.faults g.Q.Source.left g.Q.Source.faults c.args.reader.now c.args.trace.now c.args.cert.now c.args.certificate.now in
+    let end : Inputs = seen_inputs g.T.Source.left g.T.Source.faults g.Q.Source.left g.Q.Source.faults c.next.new.self c.next.new.source c.next_record.new.self c.next_record.new.source in
     let next = rw c.in-Some.is at c.in_ok-object.ensures.next c.requires.in_step.trace_fault in
     let near = rw c.in-Some.is at c.in_ok-object.ensures.lines c.requires.in_step.trace_fault in
     let e = c.in_ok-entry.ensures in

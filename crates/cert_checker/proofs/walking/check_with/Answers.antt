@@ -4,7 +4,7 @@ use Rattle.std.proofs.lemmas.Result.{err_from_is_err_and}
 use Rattle.cache_model.specs.declared.certificates.Header.{Header}
 use Rattle.cache_model.specs.Texts.{header_len}
 use Rattle.cert_format.proofs.Chains.{loses_both, taken_both}
-use Rattle.cert_checker.specs.Checks.{Inputs, inputs}
+use Rattle.cert_checker.specs.Checks.{Inputs, seen_inputs}
 use Rattle.cert_checker.specs.Summaries.{StandsFor}
 use Rattle.cert_checker.proofs.Ends.{stop_header, opens}
 use Rattle.cert_checker.proofs.KeptFaults.{kept_text}
@@ -14,8 +14,8 @@ use Rattle.cert_checker.proofs.walking.check_with.Goals as goal
 
 pub returns-in_err-header-clause-checked : goal.returns-in_err-header-clause-checked
 returns-in_err-header-clause-checked g c =
-    let start : Inputs = inputs c.args.reader.now (g.T.Source.left c.args.trace.now) (g.T.Source.faults c.args.trace.now) c.args.cert.now (g.Q.Source.left c.args.certificate.now) (g.Q.Source.faults c.args.certificate.now) in
-    let end : Inputs = inputs c.args.reader.now (g.T.Source.left c.args.trace.now) (g.T.Source.faults c.args.trace.now) c.header.new.self (g.Q.Source.left c.header.new.source) (g.Q.Source.faults c.header.new.source) in
+    let start : Inputs = seen_inputs g.T.Source.left g.T.Source.faults g.Q.Source.left g.Q.Source.faults c.args.reader.now c.args.trace.now c.args.cert.now c.args.certificate.now in
+    let end : Inputs = seen_inputs g.T.Source.left g.T.Source.faults g.Q.Source.left g.Q.Source.faults c.args.reader.now c.args.trace.now c.header.new.self c.header.new.source in
     let p = err_from_is_err_and c.from_residual.result c.from_residual.ensures.1 in
     let none : c.args.cert.now.fault ≡ None = ap (λ r. r.fault) c.requires.fresh_cert in
     let e = c.in_err-header.ensures in
@@ -41,8 +41,8 @@ returns-in_err-checker g c = absurd (false≢true c.in_err-checker.ensures.succe
 
 pub loop-checker-init : goal.loop-checker-init
 loop-checker-init g c =
-    let start : Inputs = inputs c.args.reader.now (g.T.Source.left c.args.trace.now) (g.T.Source.faults c.args.trace.now) c.args.cert.now (g.Q.Source.left c.args.certificate.now) (g.Q.Source.faults c.args.certificate.now) in
-    let middle : Inputs = inputs c.args.reader.now (g.T.Source.left c.args.trace.now) (g.T.Source.faults c.args.trace.now) c.header.new.self (g.Q.Source.left c.header.new.source) (g.Q.Source.faults c.header.new.source) in
+    let start : Inputs = seen_inputs g.T.Source.left g.T.Source.faults g.Q.Source.left g.Q.Source.faults c.args.reader.now c.args.trace.now c.args.cert.now c.args.certificate.now in
+    let middle : Inputs = seen_inputs g.T.Source.left g.T.Source.faults g.Q.Source.left g.Q.Source.faults c.args.reader.now c.args.trace.now c.header.new.self c.header.new.source in
     let none : c.args.cert.now.fault ≡ None = ap (λ r. r.fault) c.requires.fresh_cert in
     let e = c.in_ok-header.ensures in
     let read = e.read none in
@@ -68,7 +68,7 @@ loop-checker-init g c =
 
 pub loop-checker-preserved : goal.loop-checker-preserved
 loop-checker-preserved g c =
-    let start : Inputs = inputs c.args.reader.now (g.T.Source.left c.args.trace.now) (g.T.Source.faults c.args.trace.now) c.args.cert.now (g.Q.Source.left c.args.certificate.now) (g.Q.Source.faults c.args.certificate.now) in
+    let start : Inputs = seen_inputs g.T.Source.left g.T.Source.faults g.Q.Source.left g.Q.Source.faults c.args.reader.now c.args.trace.now c.args.cert.now c.args.certificate.now in
     let i = c.loop-checker.invariant in
     let e = c.in_ok-object.ensures in
     record {
@@ -133,7 +133,7 @@ returns-in_err-keep-clause-taken g c =
 
 pub returns-in_err-object-clause-checked : goal.returns-in_err-object-clause-checked
 returns-in_err-object-clause-checked g c =
-    let start : Inputs = inputs c.args.reader.now (g.T.Source.left c.args.trace.now) (g.T.Source.faults c.args.trace.now) c.args.cert.now (g.Q.Source.left c.args.certificate.now) (g.Q.Source.faults c.args.certificate.now) in
+    let start : Inputs = seen_inputs g.T.Source.left g.T.Source.faults g.Q.Source.left g.Q.Source.faults c.args.reader.now c.args.trace.now c.args.cert.now c.args.certificate.now in
     let p = err_from_is_err_and c.from_residual-in_err-object.result c.from_residual-in_err-object.ensures.1 in
     let i = c.loop-checker.invariant in
     rw (p.1, p.2) (c.in_err-object.ensures.checked start c.in_ok-header.header i.kept.0 i.kept.1 i.kept.3)
@@ -167,9 +167,9 @@ returns-clause-kept g c = rw (c.in_ok-object.ensures.kept.0) c.check_last.ensure
 
 pub returns-clause-checked : goal.returns-clause-checked
 returns-clause-checked g c =
-    let start : Inputs = inputs c.args.reader.now (g.T.Source.left c.args.trace.now) (g.T.Source.faults c.args.trace.now) c.args.cert.now (g.Q.Source.left c.args.certificate.now) (g.Q.Source.faults c.args.certificate.now) in
+    let start : Inputs = seen_inputs g.T.Source.left g.T.Source.faults g.Q.Source.left g.Q.Source.faults c.args.reader.now c.args.trace.now c.args.cert.now c.args.certificate.now in
     let i = c.loop-checker.invariant in
     let all = rw c.in_default.is at (c.in_ok-object.ensures.checked start c.in_ok-header.header i.kept.0 i.kept.1 i.kept.3) in
-    let end : Inputs = inputs c.check_next.new.reader (g.T.Source.left c.check_next.new.trace) (g.T.Source.faults c.check_next.new.trace) c.check_last.new.cert (g.Q.Source.left c.check_last.new.certificate) (g.Q.Source.faults c.check_last.new.certificate) in
+    let end : Inputs = seen_inputs g.T.Source.left g.T.Source.faults g.Q.Source.left g.Q.Source.faults c.check_next.new.reader c.check_next.new.trace c.check_last.new.cert c.check_last.new.certificate in
     check_end (g.K.Keeper.has c.loop-checker.keeper) start end i.kept.0 i.kept.1 i.kept.2 c.check_last.result
     (c.check_last.ensures.checked start c.check_next.new.reader (g.T.Source.left c.check_next.new.trace) (g.T.Source.faults c.check_next.new.trace) c.in_ok-header.header i.kept.0 i.kept.1 all)

@@ -3,14 +3,14 @@ use Rattle.bound_io.specs.Reading.{LosesPrefix}
 use Rattle.cache_model.specs.declared.objects.Object.{Object}
 use Rattle.cache_model.specs.declared.certificates.Record.{Record}
 use Rattle.cert_format.specs.Lines.{IsTaken}
-use Rattle.cert_checker.specs.Checks.{HasChecked, Inputs, IsInStep, inputs}
+use Rattle.cert_checker.specs.Checks.{HasChecked, Inputs, IsInStep, seen_inputs}
 use Rattle.cert_checker.proofs.walking.check_with.Given as goal
 
 -- the requests and the records that the keeper has were read and passed
 abbrev pub invariant-loop-checker : goal.invariant-loop-checker
 invariant-loop-checker g l =
-    let start : Inputs = inputs l.fn.reader (g.T.Source.left l.fn.trace) (g.T.Source.faults l.fn.trace) l.fn.cert (g.Q.Source.left l.fn.certificate) (g.Q.Source.faults l.fn.certificate) in
-    let now : Inputs = inputs l.reader (g.T.Source.left l.trace) (g.T.Source.faults l.trace) l.cert (g.Q.Source.left l.certificate) (g.Q.Source.faults l.certificate) in
+    let start : Inputs = seen_inputs g.T.Source.left g.T.Source.faults g.Q.Source.left g.Q.Source.faults l.fn.reader l.fn.trace l.fn.cert l.fn.certificate in
+    let now : Inputs = seen_inputs g.T.Source.left g.T.Source.faults g.Q.Source.left g.Q.Source.faults l.reader l.trace l.cert l.certificate in
     record {
       in_step : IsInStep now l.checker;
       header : l.header ≡ l.checker.header;
