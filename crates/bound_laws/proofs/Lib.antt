@@ -1,0 +1,3 @@
+pub mod Smaller
+pub mod Fetching
+mod Rows
