@@ -27,18 +27,22 @@ use Rattle.cert_checker.specs.Rules.{found, first_some, record_fault, end_fault}
 use Rattle.cert_checker.specs.Walks.{Event, at_line, events_at, last_events, refusal_event, text_event, walk, walk_under}
 use Rattle.cert_checker.specs.Walks as walks
 use Rattle.cert_checker.proofs.Walked.{passing_is_valid_lem}
-use Rattle.bound_run.specs.Asked.{Asked, Drawing, Replaying}
-use Rattle.bound_run.specs.declared.words.Plan.{Plan}
-use Rattle.bound_run.specs.declared.words.WordFault.{WordFault}
+use Rattle.bound_words.specs.declared.settings.BoundSettings.{BoundSettings}
+use Rattle.bound_words.specs.declared.settings.DrawSettings.{DrawSettings}
+use Rattle.bound_words.specs.declared.settings.ReplaySettings.{ReplaySettings}
+use Rattle.bound_words.specs.declared.words.Plan.{Plan}
+use Rattle.bound_words.specs.declared.words.WordFault.{WordFault}
 use Rattle.bound_run.specs.declared.status.Status.{Status}
 use Rattle.bound_run.specs.declared.status.Status.TheVariants.{Done, Invalid, Words, BadLine, Limit, TraceFault, CertFault, ReportFault, MadeFault, NoMemory, Unequal}
 use Rattle.bound_run.specs.Demos.{trace_drawn}
-use Rattle.bound_run.specs.Made.{RefusesDenominator}
-use Rattle.bound_run.specs.Inputs.{HasDenominator, IsGoodTrace}
-use Rattle.bound_run.specs.Run.{AnswersCurve, AnswersCurveOf, AnswersOf, Answers, AreGoodInputs, BoundsEnd, CheckEnds, CurveEnds, Completes, DemoEnds, Devices, NoneFails, RefineEnds, ReplayEnds, RunEnds, TaskEnds, UpgradeEnds}
+use Rattle.bound_run.specs.BoundsMade.{RefusesDenominator}
+use Rattle.bound_run.specs.Readings.{HasDenominator, IsGoodTrace}
+use Rattle.bound_run.specs.Run.{AnswersCurve, AnswersCurveOf, AnswersOf, Answers, AreGoodInputs, BoundsEnd, CheckEnds, CurveEnds, Completes, DemoEnds, Devices, NoneFails, RefineEnds, ReplayEnds, RunEnds, CommandEnds, UpgradeEnds}
 use Rattle.bound_run.specs.Upgrades.{IsGoodCertificate}
 use Rattle.bound_run.specs.Statuses.{ending_of}
-use Rattle.bound_run.specs.Tasks.{Task, bounds, check, replay, curve, demo, upgrade, refine, task_of}
+use Rattle.bound_words.specs.declared.settings.Settings.{Settings}
+use Rattle.bound_words.specs.declared.settings.Settings.TheVariants.{Bounds, Check, Replay, Curve, Demo, Upgrade, Refine}
+use Rattle.bound_words.specs.Settings.{settings_of}
 
 -- ---- the walk over a trace that isn't refused
 
@@ -99,7 +103,7 @@ some_is_not_none x o is none = false≢true (ap is_some (sym none ∙ is))
 
 -- ---- bounds
 
-module _ (format : Format) (asked : Asked) (source report made : Device) (good : IsGoodTrace format source.before) (denominator : HasDenominator format asked source.before)
+module _ (format : Format) (asked : BoundSettings) (source report made : Device) (good : IsGoodTrace format source.before) (denominator : HasDenominator format asked source.before)
     (source_works : ¬ (HasFailed source)) (report_works : ¬ (HasFailed report)) (made_works : ¬ (HasFailed made)) where
   not_refused : (before : Option (List ℕ)) (fault : FaultOfTrace) → IsGoodTrace format before → IfSome before (λ bytes. (reading format full_limits bytes).refused ≡ Some fault) → ⊥
   not_refused None fault known_trace why = known_trace
@@ -190,7 +194,7 @@ module _ (format : Format) where
 
 -- ---- replays
 
-module _ (format : Format) (r : Replaying) (source report : Device) (good : IsGoodTrace format source.before)
+module _ (format : Format) (r : ReplaySettings) (source report : Device) (good : IsGoodTrace format source.before)
     (source_works : ¬ (HasFailed source)) (report_works : ¬ (HasFailed report)) where
   loading_works : (before : Option (List ℕ)) (fault : FaultOfTrace) → IsGoodTrace format before → IfSome before (λ bytes. (reading format full_limits bytes).refused ≡ Some fault) → ⊥
   loading_works None fault known_trace why = known_trace
@@ -246,7 +250,7 @@ module _ (format : Format) (source report : Device) (good : IsGoodTrace format s
 
 -- ---- demos
 
-module _ (drawing : Drawing) (asked : Asked) (report : Device) (denominator : ¬ (RefusesDenominator asked (trace_drawn drawing))) (report_works : ¬ (HasFailed report)) where
+module _ (drawing : DrawSettings) (asked : BoundSettings) (report : Device) (denominator : ¬ (RefusesDenominator asked (trace_drawn drawing))) (report_works : ¬ (HasFailed report)) where
   demo_complete : (status : Status) → DemoEnds drawing asked report (ending_of status) → (status ≡ Done) ⊎ (status ≡ NoMemory)
   demo_complete Done e = inl refl
   demo_complete NoMemory e = inr refl
@@ -285,17 +289,17 @@ module _ (source report made : Device) (good : IsGoodCertificate source.before) 
 
 -- ---- a whole run
 
--- a task whose inputs are good ends in its answer
+-- a command whose inputs are good ends in its answer
 module _ (d : Devices) (status : Status) (works : NoneFails d) where
-  task_complete : (task : Task) → TaskEnds task d (ending_of status) → AreGoodInputs task d → Answers task d status
-  task_complete (bounds format asked) e inputs = bounds_complete format asked d.trace d.report d.made inputs.0 inputs.1 works.trace works.report works.made status e.0
-  task_complete (replay format r) e inputs = replay_complete format r d.trace d.report inputs works.trace works.report status e.0
-  task_complete (curve format) e inputs = curve_complete format d.trace d.report inputs works.trace works.report status e.0
-  task_complete upgrade e inputs = upgrade_complete d.cert d.report d.made inputs works.cert works.report works.made status e.0
-  task_complete (check format) e inputs = check_complete format d.trace d.cert d.report inputs.0 inputs.1 works.trace works.cert works.report status e.0
-  task_complete (refine format width) e inputs = refine_complete format width d.trace d.cert d.report d.made inputs.0 inputs.1 works.trace works.cert works.report works.made status e.0
-  task_complete (demo drawing asked) e inputs = demo_complete drawing asked d.report inputs works.report status e.0
+  command_complete : (settings : Settings) → CommandEnds settings d (ending_of status) → AreGoodInputs settings d → Answers settings d status
+  command_complete (Bounds format asked) e inputs = bounds_complete format asked d.trace d.report d.made inputs.0 inputs.1 works.trace works.report works.made status e.0
+  command_complete (Replay format r) e inputs = replay_complete format r d.trace d.report inputs works.trace works.report status e.0
+  command_complete (Curve format) e inputs = curve_complete format d.trace d.report inputs works.trace works.report status e.0
+  command_complete Upgrade e inputs = upgrade_complete d.cert d.report d.made inputs works.cert works.report works.made status e.0
+  command_complete (Check format) e inputs = check_complete format d.trace d.cert d.report inputs.0 inputs.1 works.trace works.cert works.report status e.0
+  command_complete (Refine format width) e inputs = refine_complete format width d.trace d.cert d.report d.made inputs.0 inputs.1 works.trace works.cert works.report works.made status e.0
+  command_complete (Demo drawing asked) e inputs = demo_complete drawing asked d.report inputs works.report status e.0
 
 pub complete : (read : Result Plan WordFault) (d : Devices) (status : Status) → RunEnds read d status → Completes read d status
-complete (Ok plan) d status ends = λ good works. task_complete d status works (task_of plan) ends good
+complete (Ok plan) d status ends = λ good works. command_complete d status works (settings_of plan) ends good
 complete (Err fault) d status ends = tt

@@ -19,11 +19,13 @@ use Rattle.bound_report.specs.Demos.{demo_text}
 use Rattle.bound_report.specs.declared.refusal.LimitName.TheVariants.{Requests, TraceBytes, Denominator}
 use Rattle.bound_report.specs.declared.refusal.Refusal.{Refusal}
 use Rattle.bound_report.specs.declared.refusal.Refusal.TheVariants as refusal
-use Rattle.bound_run.specs.Asked.{Asked, Drawing}
+use Rattle.bound_words.specs.declared.settings.BoundSettings.{BoundSettings}
+use Rattle.bound_words.specs.declared.settings.DrawSettings.{DrawSettings}
 use Rattle.bound_run.specs.Demos.{AreReplays, IsDemoText, demo_facts, trace_drawn}
-use Rattle.bound_run.specs.Inputs.{IsCertified}
-use Rattle.bound_run.specs.Made.{AreTexts, IsMade, bounds_report}
-use Rattle.bound_run.specs.Parts.{RefusesCheck}
+use Rattle.bound_run.specs.Readings.{IsCertified}
+use Rattle.bound_run.specs.BoundsMade.{AreTexts, IsMade}
+use Rattle.bound_run.specs.Refusals.{RefusesCheck}
+use Rattle.bound_run.specs.Reports.{bounds_report}
 
 -- a count of faults that stays at 0 has no new one
 no_fault : HasNewFault 0 0 → ⊥
@@ -52,19 +54,19 @@ module _ (lines text : List ℕ) (lines_after text_after : Option (List ℕ)) (g
   only_memory refusal.NoMemory e = refl
 
 -- the text of a demo, from its parts
-pub shown_by : (drawing : Drawing) (asked : Asked) (trace : List Object) (cert report text : List ℕ) (replays : PolicyReplays) → trace ≡ trace_drawn drawing
-    → AreTexts asked trace 0 cert report → AreReplays asked.capacity trace replays → text ≡ demo_text (demo_facts drawing asked) report replays → IsDemoText drawing asked text
+pub shown_by : (drawing : DrawSettings) (asked : BoundSettings) (trace : List Object) (cert report text : List ℕ) (replays : PolicyReplays) → trace ≡ trace_drawn drawing
+    → AreTexts asked trace 0 cert report → AreReplays asked.terms.capacity trace replays → text ≡ demo_text (demo_facts drawing asked) report replays → IsDemoText drawing asked text
 shown_by drawing asked trace cert report text replays drawn texts replayed is = record {
   price = texts.price;
   header = texts.header;
   records = texts.records;
   made = subst (λ xs. IsMade asked xs texts.price texts.header texts.records) drawn texts.made;
   replays = replays;
-  replayed = subst (λ xs. AreReplays asked.capacity xs replays) drawn replayed;
+  replayed = subst (λ xs. AreReplays asked.terms.capacity xs replays) drawn replayed;
   text_is = is ∙ (ap (λ r. demo_text (demo_facts drawing asked) r replays) texts.report_is ∙ ap (λ xs. demo_text (demo_facts drawing asked) (bounds_report asked xs 0 texts.price texts.header) replays) drawn);
 }
 
 -- what is made of a trace is certified by its lines
-pub certified_by_texts : (asked : Asked) (requests : List Object) (lines cert report : List ℕ) → reading Webcache full_limits lines ≡ read_whole requests → AreTexts asked requests 0 cert report → IsCertified Webcache lines cert
+pub certified_by_texts : (asked : BoundSettings) (requests : List Object) (lines cert report : List ℕ) → reading Webcache full_limits lines ≡ read_whole requests → AreTexts asked requests 0 cert report → IsCertified Webcache lines cert
 certified_by_texts asked requests lines cert report read texts =
     record { header = texts.header; records = texts.records; text_is = texts.cert_is; valid = subst (λ xs. IsValid xs texts.header texts.records) (sym (ap (λ r. r.requests) read)) texts.made.valid }

@@ -7,15 +7,17 @@ use Rattle.cache_model.specs.declared.certificates.Header.{Header}
 use Rattle.cache_model.specs.declared.certificates.Record.{Record}
 use Rattle.cache_model.specs.Claim.{BoundsEveryPolicy}
 use Rattle.cache_model.specs.Certificates.{IsValid}
-use Rattle.bound_run.specs.declared.words.Plan.{Plan}
-use Rattle.bound_run.specs.declared.words.WordFault.{WordFault}
+use Rattle.bound_words.specs.declared.words.Plan.{Plan}
+use Rattle.bound_words.specs.declared.words.WordFault.{WordFault}
 use Rattle.bound_run.specs.declared.status.Status.{Status}
 use Rattle.bound_run.specs.declared.status.Status.TheVariants.{Done, Words}
 use Rattle.bound_run.specs.Demos.{trace_drawn}
 use Rattle.bound_run.specs.Headline.{AreTrueBounds, Headline, Shows}
-use Rattle.bound_run.specs.Run.{Devices, RunEnds, TaskEnds}
+use Rattle.bound_run.specs.Run.{Devices, RunEnds, CommandEnds}
 use Rattle.bound_run.specs.Statuses.{done, ending_of}
-use Rattle.bound_run.specs.Tasks.{Task, bounds, check, replay, curve, demo, upgrade, refine, task_of}
+use Rattle.bound_words.specs.declared.settings.Settings.{Settings}
+use Rattle.bound_words.specs.declared.settings.Settings.TheVariants.{Bounds, Check, Replay, Curve, Demo, Upgrade, Refine}
+use Rattle.bound_words.specs.Settings.{settings_of}
 
 -- a valid certificate has true bounds
 true_bounds : (trace : List Object) (h : Header) (records : List Record) → IsValid trace h records → BoundsEveryPolicy trace h → AreTrueBounds trace h records
@@ -32,9 +34,9 @@ true_bounds trace h records valid above = record {
 not_done : (fault : WordFault) → Done ≡ Words fault → ⊥
 not_done fault is = cc
 
--- each task that ends well has shown what it printed
-shown : (task : Task) (d : Devices) → TaskEnds task d done → Shows task d
-shown (bounds format asked) d ((cert, text, ready, certified, printed), source, untouched) =
+-- each command that ends well has shown what it printed
+shown : (settings : Settings) (d : Devices) → CommandEnds settings d done → Shows settings d
+shown (Bounds format asked) d ((cert, text, ready, certified, printed), source, untouched) =
     let made = ready.texts.made in (
       ready.requests,
       ready.dropped,
@@ -45,9 +47,7 @@ shown (bounds format asked) d ((cert, text, ready, certified, printed), source, 
         price = ready.texts.price;
         printed = subst (λ t. Appends d.report.before d.report.after t) ready.texts.report_is printed;
         certified = subst (λ t. Appends d.made.before d.made.after t) ready.texts.cert_is certified;
-        capacity = ap (λ t. t.capacity) made.terms;
-        objective = ap (λ t. t.objective) made.terms;
-        warmup = ap (λ t. t.warmup) made.terms;
+        terms = made.terms;
         bounds = true_bounds ready.requests ready.texts.header ready.texts.records made.valid made.bounds;
         exact = made.form;
         equal_sizes = λ size unwindowed same. (
@@ -56,7 +56,7 @@ shown (bounds format asked) d ((cert, text, ready, certified, printed), source, 
         );
       },
     )
-shown (check format) d ((verdict, dropped, accepted, printed), trace, cert, untouched) = (
+shown (Check format) d ((verdict, dropped, accepted, printed), trace, cert, untouched) = (
   accepted.requests,
   dropped,
   accepted.loaded,
@@ -68,19 +68,19 @@ shown (check format) d ((verdict, dropped, accepted, printed), trace, cert, unto
     bounds = true_bounds accepted.requests verdict.header accepted.records accepted.valid accepted.bounds;
   },
 )
-shown (replay format r) d ((text, replayed, printed), source, cert, made) = (
+shown (Replay format r) d ((text, replayed, printed), source, cert, made) = (
   replayed.requests,
   replayed.dropped,
   replayed.loaded,
   record { text = text; printed = printed; replay = replayed.report },
 )
-shown (curve format) d ((text, curved, printed), source, cert, made) = (
+shown (Curve format) d ((text, curved, printed), source, cert, made) = (
   curved.requests,
   curved.dropped,
   curved.loaded,
   record { text = text; printed = printed; curve = curved.report },
 )
-shown (demo drawing asked) d ((text, shows, printed), trace, cert, made) =
+shown (Demo drawing asked) d ((text, shows, printed), trace, cert, made) =
     let is = shows.made in
     record {
       header = shows.header;
@@ -88,8 +88,7 @@ shown (demo drawing asked) d ((text, shows, printed), trace, cert, made) =
       price = shows.price;
       replays = shows.replays;
       printed = subst (λ t. Appends d.report.before d.report.after t) shows.text_is printed;
-      capacity = ap (λ t. t.capacity) is.terms;
-      objective = ap (λ t. t.objective) is.terms;
+      terms = is.terms;
       bounds = true_bounds (trace_drawn drawing) shows.header shows.records is.valid is.bounds;
       exact = is.form;
       equal_sizes = λ size unwindowed same. (
@@ -98,8 +97,8 @@ shown (demo drawing asked) d ((text, shows, printed), trace, cert, made) =
       );
       replayed = shows.replayed;
     }
-shown upgrade d ((cert, text, ready, certified, printed), source, untouched) = record { cert = cert; text = text; certified = certified; printed = printed; upgraded = ready }
-shown (refine format width) d ((cert, text, ready, certified, printed), trace, read) =
+shown Upgrade d ((cert, text, ready, certified, printed), source, untouched) = record { cert = cert; text = text; certified = certified; printed = printed; upgraded = ready }
+shown (Refine format width) d ((cert, text, ready, certified, printed), trace, read) =
     let texts = ready.texts in (
       ready.requests,
       ready.dropped,
@@ -119,5 +118,5 @@ shown (refine format width) d ((cert, text, ready, certified, printed), trace, r
     )
 
 pub headlined : (read : Result Plan WordFault) (d : Devices) (status : Status) → RunEnds read d status → status ≡ Done → Headline read d
-headlined (Ok plan) d status ends is = shown (task_of plan) d (subst (λ s. TaskEnds (task_of plan) d (ending_of s)) is ends)
+headlined (Ok plan) d status ends is = shown (settings_of plan) d (subst (λ s. CommandEnds (settings_of plan) d (ending_of s)) is ends)
 headlined (Err fault) d status ends is = not_done fault (sym is ∙ ends.0)

@@ -20,8 +20,8 @@ use Rattle.cert_checker.specs.declared.walking.CheckFault.{CheckFault}
 use Rattle.cert_checker.specs.declared.walking.CheckFault.TheVariants as check
 use Rattle.cert_checker.specs.Checks.{Inputs, IsEvent, IsNear, IsPassed}
 use Rattle.cert_checker.specs.Keeping.{Checked, HasKept}
-use Rattle.bound_run.specs.Inputs.{IsAccepted, IsLoaded}
-use Rattle.bound_run.specs.Parts.{RefusesCheck}
+use Rattle.bound_run.specs.Readings.{IsAccepted, IsLoaded}
+use Rattle.bound_run.specs.Refusals.{RefusesCheck}
 use Rattle.bound_run.specs.Refined.{IsKept}
 use Rattle.bound_run.specs.Statuses.{refusal_of_check}
 

@@ -1,14 +1,11 @@
 pub mod Outcomes
 pub mod Complete
 pub mod Judged
-pub mod Records
 pub mod RecordsOf
 pub mod Relaxing
+pub mod HeaderRanges
 pub mod MadeOf
-pub mod GivenByName
-pub mod WordRows
 pub mod Headlined
-pub mod Bounded
 pub mod Replayed
 pub mod Demonstrated
 pub mod Upgraded

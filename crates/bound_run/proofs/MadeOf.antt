@@ -14,7 +14,6 @@ use Rattle.cache_model.specs.declared.certificates.Record.{Record}
 use Rattle.bound_report.specs.declared.facts.Mode.{Mode}
 use Rattle.bound_report.specs.declared.facts.Mode.TheVariants.{Flow, Constant, Infinite}
 use Rattle.cache_model.specs.Intervals.{bound_of}
-use Rattle.cache_model.specs.declared.version.TheConstants.{CERT_VERSION, SHORT_VERSION}
 use Rattle.cache_model.specs.Units.{IsUnit, HasWholeCosts, weight}
 use Rattle.cache_model.specs.Certificates.{IsHeaderInRange, IsValid, flows_of, keeps_of, prices_of, upper_of}
 use Rattle.cache_model.specs.Claim.{IsAllowed, score, BoundsEveryPolicy, contents_of}
@@ -32,10 +31,11 @@ use Rattle.relaxation.specs.Prices.{most_paid}
 use Rattle.relaxation.proofs.Whole.{timeline_weights}
 use Rattle.schedule_round.specs.Laws.{IsBestSchedule, full_flags}
 use Rattle.schedule_round.proofs.EqualSizes.{best_schedule, equal_sizes_whole}
-use Rattle.bound_run.specs.Asked.{Asked}
+use Rattle.bound_words.specs.declared.settings.BoundSettings.{BoundSettings}
 use Rattle.window_bounds.specs.Solutions.{prices_in}
-use Rattle.bound_run.specs.Made.{HasLeastWindows, IsBelowWindows, IsMade, IsNear, IsOfMode, is_unwindowed, records_of, terms_asked, width_of}
-use Rattle.bound_run.specs.Modes.{IsModeInRange}
+use Rattle.bound_run.specs.BoundsMade.{HasLeastWindows, IsBelowWindows, IsMade, IsNear, IsOfMode, is_unwindowed, records_of, width_of}
+use Rattle.bound_words.specs.Ranges.{AreBoundSettingsInRange, IsModeInRange}
+use Rattle.bound_run.proofs.HeaderRanges.{header_in_range, header_with}
 use Rattle.bound_run.proofs.RecordsOf.{length-records, prices_of-records, keeps_of-records, flow_at-unused, flows_of-records, records_in_range}
 use Rattle.bound_run.proofs.Relaxing.{below_windows, flows_each, width_positive}
 
@@ -56,17 +56,14 @@ pub some_units : (capacity unit : ℕ) → 1 ≤ unit → unit ≤ capacity → 
 some_units capacity unit positive within = le-div 1 capacity unit positive (omega arith)
 
 -- what is found of a trace, by its intervals
-pub record IsFound (asked : Asked) (trace : List Object) (line : Timeline) (unit units d : ℕ) (whole_costs : Bool) (upper flow lower price : ℕ) (prices flows : List ℕ) (keeps : List Bool) : Type 0 where
-  pub capacity : (1 ≤ asked.capacity) × (asked.capacity ≤ 2 ^ 56)
-  pub warmup : asked.warmup ≤ 2 ^ 25
-  pub version : (CERT_VERSION ≤ asked.version) × (asked.version ≤ SHORT_VERSION)
-  pub mode : IsModeInRange asked.mode
+pub record IsFound (asked : BoundSettings) (trace : List Object) (line : Timeline) (unit units d : ℕ) (whole_costs : Bool) (upper flow lower price : ℕ) (prices flows : List ℕ) (keeps : List Bool) : Type 0 where
+  pub in_range : AreBoundSettingsInRange asked
   pub few : length trace ≤ 2 ^ 25
   pub is_line : IsTimeline line
-  pub fit : All (λ i. i.size ≤ asked.capacity) line.items
+  pub fit : All (λ i. i.size ≤ asked.terms.capacity) line.items
   pub unit_is : IsUnit line.items unit
   pub positive : 1 ≤ unit
-  pub units_are : units ≡ asked.capacity / unit
+  pub units_are : units ≡ asked.terms.capacity / unit
   pub chosen : IsChosen asked.denominator line.items unit d
   pub range : (1 ≤ d) × (d ≤ 2 ^ 48)
   pub whole : IsTrue whole_costs → HasWholeCosts line.items unit d
@@ -80,15 +77,10 @@ pub record IsFound (asked : Asked) (trace : List Object) (line : Timeline) (unit
   pub small : upper < 2 ^ 127
   pub value : flow ≡ flow_value line.items unit d flows
   pub small_value : flow < 2 ^ 127
-  pub rounded : IsRounded by_rank line.items asked.capacity (length trace) (full_flags unit line.items flows) keeps
-  pub maximal : IsMaximal line.items asked.capacity keeps
-  pub allowed : IsAllowed asked.capacity trace (contents_of trace keeps)
-  pub scored : lower ≡ score (terms_asked asked) trace (contents_of trace keeps)
-
--- the header of these numbers
-abbrev pub header_with : Asked → ℕ → ℕ → ℕ → Bool → ℕ → ℕ → ℕ → Header
-header_with asked requests unit d exact upper flow lower =
-    record { objective = asked.objective; capacity = asked.capacity; requests = requests; unit = unit; denominator = d; exact = exact; upper = upper; flow = flow; lower = lower; warmup = asked.warmup; version = asked.version }
+  pub rounded : IsRounded by_rank line.items asked.terms.capacity (length trace) (full_flags unit line.items flows) keeps
+  pub maximal : IsMaximal line.items asked.terms.capacity keeps
+  pub allowed : IsAllowed asked.terms.capacity trace (contents_of trace keeps)
+  pub scored : lower ≡ score asked.terms trace (contents_of trace keeps)
 
 -- with one window the prices and flows are a solution of the whole
 solved : (mode : Mode) (line : Timeline) (unit units d price : ℕ) (prices flows : List ℕ) → IsOfMode mode line unit units d prices flows price → IsTrue (is_unwindowed mode line.steps)
@@ -97,12 +89,12 @@ solved (Flow window) line unit units d price prices flows (zero, are, one) wide 
 solved Constant line unit units d price prices flows of wide = cc
 solved Infinite line unit units d price prices flows of wide = cc
 
-module _ (asked : Asked) (trace : List Object) (unit d : ℕ) (whole_costs : Bool) (upper flow lower price : ℕ) (prices flows : List ℕ) (keeps : List Bool) where
+module _ (asked : BoundSettings) (trace : List Object) (unit d : ℕ) (whole_costs : Bool) (upper flow lower price : ℕ) (prices flows : List ℕ) (keeps : List Bool) where
   abbrev line : Timeline
-  line = timeline_of (terms_asked asked) trace
+  line = timeline_of asked.terms trace
 
   abbrev units : ℕ
-  units = asked.capacity / unit
+  units = asked.terms.capacity / unit
 
   abbrev exact : Bool
   exact = is_unwindowed asked.mode (length trace) && whole_costs
@@ -135,11 +127,11 @@ module _ (asked : Asked) (trace : List Object) (unit d : ℕ) (whole_costs : Boo
     counted : length rs ≡ length trace
     counted = length-records prices keeps line.items flows ∙ many
 
-    within : unit ≤ asked.capacity
-    within = unit-le_capacity line asked.capacity unit found.capacity.0 found.is_line found.fit found.unit_is
+    within : unit ≤ asked.terms.capacity
+    within = unit-le_capacity line asked.terms.capacity unit found.in_range.capacity.0 found.is_line found.fit found.unit_is
 
     some : 1 ≤ units
-    some = some_units asked.capacity unit found.positive within
+    some = some_units asked.terms.capacity unit found.positive within
 
     weights : All (λ i. 1 ≤ weight unit i) line.items
     weights = timeline_weights line unit found.is_line found.positive found.unit_is.divides
@@ -154,17 +146,9 @@ module _ (asked : Asked) (trace : List Object) (unit d : ℕ) (whole_costs : Boo
     scored_once n m once = omega (arith, mul-le-mul_right m once)
 
     ranged : IsHeaderInRange h
-    ranged = record {
-      capacity = found.capacity;
-      requests = found.few;
-      unit = (found.positive, within);
-      denominator = found.range;
-      upper = found.small;
-      flow = found.small_value;
-      warmup = found.warmup;
-      version = found.version;
-      lower = omega (arith, found.scored, found.small, bounds.no_policy_scores_more (contents_of trace keeps) found.allowed, scored_once d (score (terms_asked asked) trace (contents_of trace keeps)) found.range.0);
-    }
+    ranged =
+        header_in_range asked (length trace) unit d exact upper flow lower found.in_range found.few (found.positive, within) found.range found.small found.small_value
+        (omega (arith, found.scored, found.small, bounds.no_policy_scores_more (contents_of trace keeps) found.allowed, scored_once d (score asked.terms trace (contents_of trace keeps)) found.range.0))
 
     once : (p : ℕ) → p ≤ units * p
     once p = omega (arith, mul-le-mul_right p some)
@@ -187,8 +171,8 @@ module _ (asked : Asked) (trace : List Object) (unit d : ℕ) (whole_costs : Boo
       sum_limit = subst (λ ps. units * sum ps ≤ 2 ^ 126) (sym priced) found.paid;
       last_price = subst (λ ps. get_or ps (length trace - 1) 0 ≡ 0) (sym priced) found.last;
       unit = found.unit_is.divides;
-      keeps = subst (λ ks. IsAllowed asked.capacity trace (contents_of trace ks)) (sym kept) found.allowed;
-      lower = found.scored ∙ ap (λ ks. score (terms_asked asked) trace (contents_of trace ks)) (sym kept);
+      keeps = subst (λ ks. IsAllowed asked.terms.capacity trace (contents_of trace ks)) (sym kept) found.allowed;
+      lower = found.scored ∙ ap (λ ks. score asked.terms trace (contents_of trace ks)) (sym kept);
       unused_flows = flow_at-unused prices keeps line.items flows;
       flows = subst (IsFractionalSchedule line.items unit units) (sym flowing) found.schedule;
       flow = found.value ∙ ap (flow_value line.items unit d) (sym flowing);
@@ -203,7 +187,7 @@ module _ (asked : Asked) (trace : List Object) (unit d : ℕ) (whole_costs : Boo
         (below_windows line unit units d (width_of window line.steps) prices flows found.is_line found.positive found.unit_is.divides some (omega (arith, units_small)) found.range.1 (width_positive window line.steps fits) are)
       where
         units_small : units ≤ 2 ^ 56
-        units_small = omega (arith, div-le_self asked.capacity unit, found.capacity.1)
+        units_small = omega (arith, div-le_self asked.terms.capacity unit, found.in_range.capacity.1)
     below Constant fits of = tt
     below Infinite fits of = tt
 
@@ -224,11 +208,11 @@ module _ (asked : Asked) (trace : List Object) (unit d : ℕ) (whole_costs : Boo
         (λ (empty : length line.items ≤ 0). λ k e low. absurd (omega arith))
         (cases_lt 0 (length line.items))
 
-    best : (size : ℕ) → IsTrue (is_unwindowed asked.mode (length trace)) → All (λ i. i.size ≡ size) line.items → IsBestSchedule (terms_asked asked) trace d upper keeps
+    best : (size : ℕ) → IsTrue (is_unwindowed asked.mode (length trace)) → All (λ i. i.size ≡ size) line.items → IsBestSchedule asked.terms trace d upper keeps
     best size wide same =
         let values = (exact_values line.items line.steps unit units d prices flows weights (whole_of_equal size same) (solved asked.mode line unit units d price prices flows found.of_mode wide)).0 in
-        subst (λ u. IsBestSchedule (terms_asked asked) trace d u keeps) (sym found.bound)
-        (best_schedule (terms_asked asked) trace size unit d prices flows by_rank keeps same found.unit_is found.each found.schedule values found.rounded found.allowed)
+        subst (λ u. IsBestSchedule asked.terms trace d u keeps) (sym found.bound)
+        (best_schedule asked.terms trace size unit d prices flows by_rank keeps same found.unit_is found.each found.schedule values found.rounded found.allowed)
 
     near : IsTrue (is_unwindowed asked.mode (length trace)) → IsNear trace h flows
     near wide =
@@ -248,24 +232,24 @@ module _ (asked : Asked) (trace : List Object) (unit d : ℕ) (whole_costs : Boo
       );
       of_mode = subst (λ ps. IsOfMode asked.mode line unit units d ps (flows_of line.items rs) price) (sym priced) (subst (λ fs. IsOfMode asked.mode line unit units d prices fs price) (sym flowing) found.of_mode);
       least_windows = subst (HasLeastWindows asked.mode line unit units d) (sym priced) (least_in_each asked.mode found.of_mode);
-      below_windows = subst (λ ps. IsBelowWindows asked.mode line unit units d ps upper) (sym priced) (below asked.mode found.mode found.of_mode);
-      rounded = subst (λ fs. IsRounded by_rank line.items asked.capacity (length trace) (full_flags unit line.items fs) (keeps_of rs)) (sym flowing)
-          (subst (IsRounded by_rank line.items asked.capacity (length trace) (full_flags unit line.items flows)) (sym kept) found.rounded);
-      maximal = subst (IsMaximal line.items asked.capacity) (sym kept) found.maximal;
+      below_windows = subst (λ ps. IsBelowWindows asked.mode line unit units d ps upper) (sym priced) (below asked.mode found.in_range.mode found.of_mode);
+      rounded = subst (λ fs. IsRounded by_rank line.items asked.terms.capacity (length trace) (full_flags unit line.items fs) (keeps_of rs)) (sym flowing)
+          (subst (IsRounded by_rank line.items asked.terms.capacity (length trace) (full_flags unit line.items flows)) (sym kept) found.rounded);
+      maximal = subst (IsMaximal line.items asked.terms.capacity) (sym kept) found.maximal;
       bounds = bounds;
       least = exact_is_least trace h rs valid;
       near = λ wide. subst (IsNear trace h) (sym flowing) (near wide);
       exact_if_equal = λ size wide same. and_from (is_unwindowed asked.mode (length trace)) whole_costs wide (found.whole_back (whole_of_equal size same));
-      equal_sizes = λ size wide same. subst (IsBestSchedule (terms_asked asked) trace d upper) (sym kept) (best size wide same);
+      equal_sizes = λ size wide same. subst (IsBestSchedule asked.terms trace d upper) (sym kept) (best size wide same);
     }
 
 -- what is found makes the certificate
-pub made_of : (asked : Asked) (trace : List Object) (found_line : Timeline) (requests unit units d : ℕ) (whole_costs : Bool) (upper flow lower price : ℕ) (prices flows : List ℕ) (keeps : List Bool)
-    → found_line ≡ timeline_of (terms_asked asked) trace → requests ≡ length trace → units ≡ asked.capacity / unit → IsFound asked trace found_line unit units d whole_costs upper flow lower price prices flows keeps
+pub made_of : (asked : BoundSettings) (trace : List Object) (found_line : Timeline) (requests unit units d : ℕ) (whole_costs : Bool) (upper flow lower price : ℕ) (prices flows : List ℕ) (keeps : List Bool)
+    → found_line ≡ timeline_of asked.terms trace → requests ≡ length trace → units ≡ asked.terms.capacity / unit → IsFound asked trace found_line unit units d whole_costs upper flow lower price prices flows keeps
     → IsMade asked trace price (header_with asked requests unit d (is_unwindowed asked.mode requests && whole_costs) upper flow lower) (records_of prices keeps found_line.items flows)
 made_of asked trace found_line requests unit units d whole_costs upper flow lower price prices flows keeps is many units_are found =
     let at_line = subst (λ l. IsFound asked trace l unit units d whole_costs upper flow lower price prices flows keeps) is found in
-    let at_units = subst (λ n. IsFound asked trace (timeline_of (terms_asked asked) trace) unit n d whole_costs upper flow lower price prices flows keeps) units_are at_line in
+    let at_units = subst (λ n. IsFound asked trace (timeline_of asked.terms trace) unit n d whole_costs upper flow lower price prices flows keeps) units_are at_line in
     let made = made_at asked trace unit d whole_costs upper flow lower price prices flows keeps at_units in
     subst (λ l. IsMade asked trace price (header_with asked requests unit d (is_unwindowed asked.mode requests && whole_costs) upper flow lower) (records_of prices keeps l.items flows)) (sym is)
-    (subst (λ n. IsMade asked trace price (header_with asked n unit d (is_unwindowed asked.mode n && whole_costs) upper flow lower) (records_of prices keeps (timeline_of (terms_asked asked) trace).items flows)) (sym many) made)
+    (subst (λ n. IsMade asked trace price (header_with asked n unit d (is_unwindowed asked.mode n && whole_costs) upper flow lower) (records_of prices keeps (timeline_of asked.terms trace).items flows)) (sym many) made)

@@ -13,23 +13,26 @@ use Rattle.trace_any.specs.declared.format.Format.{Format}
 use Rattle.trace_any.specs.Readings.{full_limits}
 use Rattle.trace_any.specs.Readers.{IsNotLoaded, IsWhole, fresh, to_come, known}
 use Rattle.trace_any.proofs.Coming.{fresh_to_come}
-use Rattle.bound_run.specs.Asked.{Asked, Drawing, Replaying}
+use Rattle.bound_words.specs.declared.settings.BoundSettings.{BoundSettings}
+use Rattle.bound_words.specs.declared.settings.DrawSettings.{DrawSettings}
+use Rattle.bound_words.specs.declared.settings.ReplaySettings.{ReplaySettings}
 use Rattle.bound_run.specs.declared.bounds.BoundsFault.{BoundsFault}
 use Rattle.bound_run.specs.declared.bounds.BoundsFault.TheVariants as bounds
 use Rattle.bound_run.specs.BoundsFaults.{FailsBounds}
 use Rattle.stack_curve.specs.declared.pass.CurveFault.{CurveFault}
 use Rattle.stack_curve.specs.declared.pass.CurveFault.TheVariants as curve
 use Rattle.stack_curve.specs.Curves.{IsCause}
-use Rattle.bound_run.specs.Made.{AreTexts}
+use Rattle.bound_run.specs.BoundsMade.{AreTexts}
 use Rattle.bound_report.specs.declared.refusal.LimitName.TheVariants.{Denominator}
 use Rattle.bound_report.specs.declared.refusal.Refusal.{Refusal}
 use Rattle.bound_report.specs.declared.refusal.Refusal.TheVariants as refusal
 use Rattle.bound_report.specs.Refusals.{refusal_line}
 use Rattle.bound_run.specs.Statuses.{Ending, done, refused, unreported, ending_of, refusal_of, refusal_of_bounds, refusal_of_curve, status_of}
-use Rattle.bound_run.specs.Demos.{IsDemoText, RefusesDemo, trace_drawn}
-use Rattle.bound_run.specs.Inputs.{IsLoaded, IsReady, IsRefused, IsReplayed, IsCurved}
+use Rattle.bound_run.specs.Demos.{IsDemoText, trace_drawn}
+use Rattle.bound_run.specs.Refusals.{RefusesDemo, RefusesBounds, RefusesCurve, RefusesLoading}
+use Rattle.bound_run.specs.Readings.{IsLoaded, IsReady, IsRefused, IsReplayed, IsCurved, IsVerdictText}
 use Rattle.bound_run.specs.Run.{CheckEnds, CurveEnds, DemoEnds, MakesEnd, ReplayEnds}
-use Rattle.bound_run.specs.Parts.{IsVerdictText, RefusesBounds, RefusesCurve, RefusesLoading, WritesOut, WritesReport}
+use Rattle.bound_run.specs.Writings.{WritesOut, WritesReport}
 
 -- where nothing is left to stand in, the source has nothing left
 left_nothing : (held : List ℕ) (left : Option (List ℕ)) → stands_in held left ≡ Some [] → left ≡ Some []
@@ -67,18 +70,18 @@ not_loaded format before after faults_before faults_after trace.NoMemory why = t
 -- ---- bounds
 
 -- the bounds of a trace, once it is loaded
-pub ready_of : (format : Format) (asked : Asked) (d : Device) (requests : List Object) (dropped : ℕ) (cert report : List ℕ)
+pub ready_of : (format : Format) (asked : BoundSettings) (d : Device) (requests : List Object) (dropped : ℕ) (cert report : List ℕ)
     → IsLoaded format d requests dropped → AreTexts asked requests dropped cert report → IsReady format asked d cert report
 ready_of format asked d requests dropped cert report loaded texts = record { requests = requests; dropped = dropped; loaded = loaded; texts = texts }
 
 -- what refuses the bounds of a trace that is loaded
-pub refused_of : (format : Format) (asked : Asked) (d : Device) (requests : List Object) (dropped : ℕ) (fault : BoundsFault)
+pub refused_of : (format : Format) (asked : BoundSettings) (d : Device) (requests : List Object) (dropped : ℕ) (fault : BoundsFault)
     → IsLoaded format d requests dropped → FailsBounds asked requests fault → RefusesBounds format asked d (refusal_of_bounds fault)
 refused_of format asked d requests dropped bounds.Denominator loaded why = record { requests = requests; dropped = dropped; loaded = loaded; refused = why }
 refused_of format asked d requests dropped bounds.NoMemory loaded why = tt
 
 -- what refuses the trace refuses its bounds
-pub loading_refuses : (format : Format) (asked : Asked) (d : Device) (why : Refusal) → RefusesLoading format d why → RefusesBounds format asked d why
+pub loading_refuses : (format : Format) (asked : BoundSettings) (d : Device) (why : Refusal) → RefusesLoading format d why → RefusesBounds format asked d why
 loading_refuses format asked d (refusal.Limit Denominator) e = absurd e
 loading_refuses format asked d why e = e
 
@@ -118,7 +121,7 @@ module _ (format : Format) (source cert report : Device) where
 
 -- ---- replays
 
-module _ (format : Format) (r : Replaying) (source report : Device) where
+module _ (format : Format) (r : ReplaySettings) (source report : Device) where
   -- a replay that was reported, or failed to be
   pub replay_written : (text : List ℕ) (ending : Ending) → IsReplayed format r source text → WritesReport report text ending → ReplayEnds format r source report ending
   replay_written text done replayed all = (text, replayed, all)
@@ -146,7 +149,7 @@ module _ (format : Format) (source report : Device) where
 
 -- ---- demos
 
-module _ (drawing : Drawing) (asked : Asked) (report : Device) where
+module _ (drawing : DrawSettings) (asked : BoundSettings) (report : Device) where
   -- a demo that was reported, or failed to be
   pub demo_written : (text : List ℕ) (ending : Ending) → IsDemoText drawing asked text → WritesReport report text ending → DemoEnds drawing asked report ending
   demo_written text done shows all = (text, shows, all)
@@ -154,6 +157,6 @@ module _ (drawing : Drawing) (asked : Asked) (report : Device) where
   demo_written text (refused why) shows written = absurd written
 
 -- what refuses the bounds of the trace refuses the demo
-pub demo_refused : (drawing : Drawing) (asked : Asked) (fault : BoundsFault) → FailsBounds asked (trace_drawn drawing) fault → RefusesDemo drawing asked (refusal_of_bounds fault)
+pub demo_refused : (drawing : DrawSettings) (asked : BoundSettings) (fault : BoundsFault) → FailsBounds asked (trace_drawn drawing) fault → RefusesDemo drawing asked (refusal_of_bounds fault)
 demo_refused drawing asked bounds.Denominator why = why
 demo_refused drawing asked bounds.NoMemory why = tt

@@ -16,7 +16,7 @@ use Rattle.interval_maker.specs.Timelines.{IsInterval, IsTimeline, starting_at, 
 use Rattle.interval_maker.proofs.Places.{position_none}
 use Rattle.relaxation.specs.Faults.{amount_of}
 use Rattle.relaxation.proofs.Loads.{starting_at_start}
-use Rattle.bound_run.specs.Made.{record_of, records_of}
+use Rattle.bound_run.specs.BoundsMade.{record_of, records_of}
 
 -- a record past the end
 pub none : Record

@@ -21,8 +21,10 @@ use Rattle.trace_any.specs.declared.format.Format.{Format}
 use Rattle.interval_maker.specs.Timelines.{Timeline, timeline_of}
 use Rattle.price_refine.specs.Blocks.{AreSettled}
 use Rattle.bound_report.specs.declared.refusal.Refusal.TheVariants as refusal
-use Rattle.bound_run.specs.Parts.{RefusesCheck}
-use Rattle.bound_run.specs.Refined.{AreRefinedTexts, IsRefinable, IsRefined, IsRefinement, RefinesPrices, refined_report, verdict_on, with_price, with_prices, with_upper}
+use Rattle.bound_run.specs.Refusals.{RefusesCheck}
+use Rattle.bound_run.specs.Refined.{AreRefinedTexts, IsRefinable, IsRefined, IsRefinement, RefinesPrices, verdict_on, with_price, with_prices, with_upper}
+use Rattle.bound_run.specs.Reports.{refined_report}
+use Rattle.bound_run.proofs.HeaderRanges.{still_in_range}
 use Rattle.bound_run.proofs.MadeOf.{some_units}
 
 -- ---- the records
@@ -124,17 +126,7 @@ module _ (width : ℕ) (trace : List Object) (h : Header) (records : List Record
   certificate =
       let range = valid.certificate.header in
       record {
-        header = record {
-          capacity = range.capacity;
-          requests = range.requests;
-          unit = range.unit;
-          denominator = range.denominator;
-          upper = omega (arith, refines.not_greater, range.upper);
-          flow = range.flow;
-          lower = range.lower;
-          warmup = range.warmup;
-          version = range.version;
-        };
+        header = still_in_range h to.upper h.version range (omega (arith, refines.not_greater, range.upper)) range.version;
         count = length-with_prices records to.prices each ∙ valid.certificate.count;
         each = in_range records to.prices valid.certificate.each small;
       }

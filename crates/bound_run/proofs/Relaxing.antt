@@ -25,8 +25,8 @@ use Rattle.schedule_round.specs.Laws.{full_flags}
 use Rattle.window_bounds.specs.Solutions.{AreSolutions, full_of, value_of_windows}
 use Rattle.window_bounds.proofs.Results.{above_of}
 use Rattle.bound_report.specs.declared.facts.Window.TheVariants.{Steps, All as Whole}
-use Rattle.bound_run.specs.Made.{width_of}
-use Rattle.bound_run.specs.Modes.{IsModeInRange}
+use Rattle.bound_run.specs.BoundsMade.{width_of}
+use Rattle.bound_words.specs.Ranges.{IsModeInRange}
 
 -- the whole weight at its cost, rounded up, is at most the gain and the weight
 ceil_below : (n w : ℕ) → 0 < w → w * (n / w + min 1 (n % w)) ≤ n + w

@@ -29,9 +29,11 @@ use Rattle.cert_checker.specs.Walks.{text_event}
 use Rattle.cert_checker.proofs.Stops.{if_one, near_line, new_fault_since, one_record, through}
 use Rattle.bound_report.specs.Upgrades.{upgrade_text}
 use Rattle.bound_run.specs.Statuses.{refusal_of_check}
-use Rattle.bound_run.specs.Upgrades.{IsNearLineOf, IsRewritten, IsUpgraded, RefusesUpgrade, upgraded}
+use Rattle.bound_run.specs.Upgrades.{IsNearLineOf, IsRewritten, IsUpgraded, upgraded}
+use Rattle.bound_run.specs.Refusals.{RefusesUpgrade}
+use Rattle.bound_run.proofs.HeaderRanges.{still_in_range}
 use Rattle.bound_run.proofs.Judged.{texts_of_whole}
-use Rattle.bound_run.proofs.Records.{three_parts}
+use Rattle.cert_format.proofs.Written.{three_parts}
 
 -- a reader of a certificate and its source, if nothing is said of a trace
 abbrev pub at_cert : lines.Reader → Option (List ℕ) → ℕ → Inputs
@@ -188,17 +190,7 @@ as_valid trace h version records range valid = record {
 
 -- a header in range is in range in the second version
 upgraded_in_range : (h : Header) → IsHeaderInRange h → IsHeaderInRange (upgraded h)
-upgraded_in_range h range = record {
-  capacity = range.capacity;
-  requests = range.requests;
-  unit = range.unit;
-  denominator = range.denominator;
-  upper = range.upper;
-  flow = range.flow;
-  lower = range.lower;
-  warmup = range.warmup;
-  version = (omega arith, omega arith);
-}
+upgraded_in_range h range = still_in_range h h.upper SHORT_VERSION range range.upper (omega arith, omega arith)
 
 -- what was rewritten is the upgrade of all that was read
 pub upgraded_of : (source : Device) (h : Header) (written report : List ℕ) → IsRewritten source h written → report ≡ upgrade_text h.requests → IsUpgraded source written report

@@ -7,16 +7,15 @@ use Rattle.policy_model.specs.declared.names.PolicyName.TheVariants.{Lru, Fifo, 
 use Rattle.demo_trace.specs.Requests.{demo_requests}
 use Rattle.bound_report.specs.declared.demo.DemoFacts.{DemoFacts}
 use Rattle.bound_report.specs.declared.demo.PolicyReplays.{PolicyReplays}
-use Rattle.bound_report.specs.declared.refusal.LimitName.TheVariants.{Denominator}
-use Rattle.bound_report.specs.declared.refusal.Refusal.{Refusal}
-use Rattle.bound_report.specs.declared.refusal.Refusal.TheVariants.{Limit, NoMemory}
 use Rattle.bound_report.specs.Demos.{demo_text}
-use Rattle.bound_run.specs.Asked.{Asked, Drawing}
-use Rattle.bound_run.specs.Made.{IsMade, RefusesDenominator, bounds_report}
+use Rattle.bound_words.specs.declared.settings.BoundSettings.{BoundSettings}
+use Rattle.bound_words.specs.declared.settings.DrawSettings.{DrawSettings}
+use Rattle.bound_run.specs.BoundsMade.{IsMade}
+use Rattle.bound_run.specs.Reports.{bounds_report}
 use Rattle.bound_run.specs.Replays.{IsReplay}
 
 -- the trace that is drawn
-abbrev pub trace_drawn : Drawing → List Object
+abbrev pub trace_drawn : DrawSettings → List Object
 trace_drawn drawing = demo_requests drawing.seed drawing.requests drawing.objects
 
 -- the replays of a trace by each policy, all of whose requests count
@@ -28,21 +27,15 @@ pub record AreReplays (capacity : ℕ) (trace : List Object) (replays : PolicyRe
   pub belady : IsReplay Belady capacity 0 trace replays.belady
 
 -- what is asked of a demo, as its report states it
-abbrev pub demo_facts : Drawing → Asked → DemoFacts
-demo_facts drawing asked = record { seed = drawing.seed; requests = drawing.requests; objects = drawing.objects; capacity = asked.capacity }
+abbrev pub demo_facts : DrawSettings → BoundSettings → DemoFacts
+demo_facts drawing asked = record { seed = drawing.seed; requests = drawing.requests; objects = drawing.objects; capacity = asked.terms.capacity }
 
 -- the text is the report of a demo: the bounds of a certificate that is made of the trace, that a check finds it valid, and the replays
-pub record IsDemoText (drawing : Drawing) (asked : Asked) (text : List ℕ) : Type 0 where
+pub record IsDemoText (drawing : DrawSettings) (asked : BoundSettings) (text : List ℕ) : Type 0 where
   pub price : ℕ
   pub header : Header
   pub records : List Record
   pub made : IsMade asked (trace_drawn drawing) price header records
   pub replays : PolicyReplays
-  pub replayed : AreReplays asked.capacity (trace_drawn drawing) replays
+  pub replayed : AreReplays asked.terms.capacity (trace_drawn drawing) replays
   pub text_is : text ≡ demo_text (demo_facts drawing asked) (bounds_report asked (trace_drawn drawing) 0 price header) replays
-
--- why there is no demo: the denominator that is asked for passes its limit, or memory ran out
-abbrev pub RefusesDemo : Drawing → Asked → Refusal → Type 0
-RefusesDemo drawing asked (Limit Denominator) = RefusesDenominator asked (trace_drawn drawing)
-RefusesDemo drawing asked NoMemory = Unit {0}
-RefusesDemo drawing asked other = ⊥

@@ -10,21 +10,25 @@ use Rattle.cache_model.specs.Claim.{IsAllowed, score, terms_of, BoundsEveryPolic
 use Rattle.cache_model.specs.Texts.{cert_text}
 use Rattle.cache_model.specs.Units.{HasWholeCosts}
 use Rattle.cert_checker.specs.declared.verdict.Verdict.{Verdict}
-use Rattle.bound_run.specs.Asked.{Asked, Drawing, Replaying}
-use Rattle.bound_run.specs.declared.words.Plan.{Plan}
-use Rattle.bound_run.specs.declared.words.WordFault.{WordFault}
+use Rattle.bound_words.specs.declared.settings.BoundSettings.{BoundSettings}
+use Rattle.bound_words.specs.declared.settings.DrawSettings.{DrawSettings}
+use Rattle.bound_words.specs.declared.settings.ReplaySettings.{ReplaySettings}
+use Rattle.bound_words.specs.declared.words.Plan.{Plan}
+use Rattle.bound_words.specs.declared.words.WordFault.{WordFault}
 use Rattle.bound_report.specs.declared.demo.PolicyReplays.{PolicyReplays}
 use Rattle.bound_report.specs.Demos.{demo_text}
 use Rattle.bound_run.specs.Demos.{AreReplays, demo_facts, trace_drawn}
 use Rattle.bound_run.specs.Curves.{IsCurveText}
-use Rattle.bound_run.specs.Inputs.{IsLoaded}
-use Rattle.bound_run.specs.Made.{bounds_report, is_unwindowed}
-use Rattle.bound_run.specs.Parts.{verdict_report}
-use Rattle.bound_run.specs.Refined.{IsRefinement, refined_report, verdict_on}
+use Rattle.bound_run.specs.Readings.{IsLoaded}
+use Rattle.bound_run.specs.BoundsMade.{is_unwindowed}
+use Rattle.bound_run.specs.Refined.{IsRefinement, verdict_on}
 use Rattle.bound_run.specs.Replays.{IsReplayText}
+use Rattle.bound_run.specs.Reports.{bounds_report, refined_report, verdict_report}
 use Rattle.bound_run.specs.Upgrades.{IsUpgraded}
 use Rattle.bound_run.specs.Run.{Devices}
-use Rattle.bound_run.specs.Tasks.{Task, bounds, check, replay, curve, demo, upgrade, refine, task_of}
+use Rattle.bound_words.specs.declared.settings.Settings.{Settings}
+use Rattle.bound_words.specs.declared.settings.Settings.TheVariants.{Bounds, Check, Replay, Curve, Demo, Upgrade, Refine}
+use Rattle.bound_words.specs.Settings.{settings_of}
 
 -- header and records are a certificate in range, with a record for each request, and its bounds are true of the trace: no allowed contents score more than the upper one, the keeps are allowed contents with the lower one as their score, and in the form exact prices and flows have the upper one as their value
 pub record AreTrueBounds (trace : List Object) (h : Header) (records : List Record) : Type 0 where
@@ -36,15 +40,13 @@ pub record AreTrueBounds (trace : List Object) (h : Header) (records : List Reco
   pub equal_values : IsTrue h.exact → (upper_of trace h records ≡ h.upper) × (flow_of trace h records ≡ h.upper)
 
 -- bounds printed and certified true bounds at the capacity, for the objective and from the warm-up on that were asked for. With one window for all steps they have the form exact if no cost is rounded, and if all sizes are equal; in that last case they are one number
-pub record ShowsBounds (asked : Asked) (trace : List Object) (dropped : ℕ) (report made : Device) : Type 0 where
+pub record ShowsBounds (asked : BoundSettings) (trace : List Object) (dropped : ℕ) (report made : Device) : Type 0 where
   pub header : Header
   pub records : List Record
   pub price : ℕ
   pub printed : Appends report.before report.after (bounds_report asked trace dropped price header)
   pub certified : Appends made.before made.after (cert_text header records)
-  pub capacity : header.capacity ≡ asked.capacity
-  pub objective : header.objective ≡ asked.objective
-  pub warmup : header.warmup ≡ asked.warmup
+  pub terms : terms_of header ≡ asked.terms
   pub bounds : AreTrueBounds trace header records
   pub exact : IsTrue header.exact ↔ (IsTrue (is_unwindowed asked.mode (length trace)) × HasWholeCosts (eligible_of trace header) header.unit header.denominator)
   pub equal_sizes : (size : ℕ) → IsTrue (is_unwindowed asked.mode (length trace)) → All (λ i. i.size ≡ size) (eligible_of trace header) → IsTrue header.exact × (header.upper ≡ header.denominator * header.lower)
@@ -58,7 +60,7 @@ pub record ShowsCheck (trace : List Object) (dropped : ℕ) (cert report : Devic
   pub bounds : AreTrueBounds trace verdict.header records
 
 -- a replay printed the hits of its rule's run, which no valid certificate of its capacity and no longer warm-up is below
-pub record ShowsReplay (r : Replaying) (trace : List Object) (dropped : ℕ) (report : Device) : Type 0 where
+pub record ShowsReplay (r : ReplaySettings) (trace : List Object) (dropped : ℕ) (report : Device) : Type 0 where
   pub text : List ℕ
   pub printed : Appends report.before report.after text
   pub replay : IsReplayText r trace dropped text
@@ -70,18 +72,17 @@ pub record ShowsCurve (trace : List Object) (dropped : ℕ) (report : Device) : 
   pub curve : IsCurveText trace dropped text
 
 -- a demo printed true bounds of the trace that it drew, and the hits of each rule's run on it, which no valid certificate is below
-pub record ShowsDemo (drawing : Drawing) (asked : Asked) (report : Device) : Type 0 where
+pub record ShowsDemo (drawing : DrawSettings) (asked : BoundSettings) (report : Device) : Type 0 where
   pub header : Header
   pub records : List Record
   pub price : ℕ
   pub replays : PolicyReplays
   pub printed : Appends report.before report.after (demo_text (demo_facts drawing asked) (bounds_report asked (trace_drawn drawing) 0 price header) replays)
-  pub capacity : header.capacity ≡ asked.capacity
-  pub objective : header.objective ≡ asked.objective
+  pub terms : terms_of header ≡ asked.terms
   pub bounds : AreTrueBounds (trace_drawn drawing) header records
   pub exact : IsTrue header.exact ↔ (IsTrue (is_unwindowed asked.mode (length (trace_drawn drawing))) × HasWholeCosts (eligible_of (trace_drawn drawing) header) header.unit header.denominator)
   pub equal_sizes : (size : ℕ) → IsTrue (is_unwindowed asked.mode (length (trace_drawn drawing))) → All (λ i. i.size ≡ size) (eligible_of (trace_drawn drawing) header) → IsTrue header.exact × (header.upper ≡ header.denominator * header.lower)
-  pub replayed : AreReplays asked.capacity (trace_drawn drawing) replays
+  pub replayed : AreReplays asked.terms.capacity (trace_drawn drawing) replays
 
 -- an upgrade wrote the certificate that it read in the second version
 pub record ShowsUpgrade (source report made : Device) : Type 0 where
@@ -104,20 +105,20 @@ pub record ShowsRefinement (width : ℕ) (trace : List Object) (dropped : ℕ) (
   pub refinement : IsRefinement width trace header records refined refined_records
   pub bounds : AreTrueBounds trace refined refined_records
 
--- all that the trace source had left was read, or a trace was drawn, and the numbers that a task printed are true of it
-abbrev pub Shows : Task → Devices → Type 0
-Shows (bounds format asked) d = (trace : List Object) × (dropped : ℕ) × IsLoaded format d.trace trace dropped × ShowsBounds asked trace dropped d.report d.made
-Shows (check format) d = (trace : List Object) × (dropped : ℕ) × IsLoaded format d.trace trace dropped × ShowsCheck trace dropped d.cert d.report
-Shows (replay format r) d = (trace : List Object) × (dropped : ℕ) × IsLoaded format d.trace trace dropped × ShowsReplay r trace dropped d.report
-Shows (curve format) d = (trace : List Object) × (dropped : ℕ) × IsLoaded format d.trace trace dropped × ShowsCurve trace dropped d.report
-Shows (demo drawing asked) d = ShowsDemo drawing asked d.report
-Shows upgrade d = ShowsUpgrade d.cert d.report d.made
-Shows (refine format width) d = (trace : List Object) × (dropped : ℕ) × IsLoaded format d.trace trace dropped × ShowsRefinement width trace dropped d.cert d.report d.made
+-- all that the trace source had left was read, or a trace was drawn, and the numbers that were printed are true of it
+abbrev pub Shows : Settings → Devices → Type 0
+Shows (Bounds format asked) d = (trace : List Object) × (dropped : ℕ) × IsLoaded format d.trace trace dropped × ShowsBounds asked trace dropped d.report d.made
+Shows (Check format) d = (trace : List Object) × (dropped : ℕ) × IsLoaded format d.trace trace dropped × ShowsCheck trace dropped d.cert d.report
+Shows (Replay format r) d = (trace : List Object) × (dropped : ℕ) × IsLoaded format d.trace trace dropped × ShowsReplay r trace dropped d.report
+Shows (Curve format) d = (trace : List Object) × (dropped : ℕ) × IsLoaded format d.trace trace dropped × ShowsCurve trace dropped d.report
+Shows (Demo drawing asked) d = ShowsDemo drawing asked d.report
+Shows Upgrade d = ShowsUpgrade d.cert d.report d.made
+Shows (Refine format width) d = (trace : List Object) × (dropped : ℕ) × IsLoaded format d.trace trace dropped × ShowsRefinement width trace dropped d.cert d.report d.made
 
 -- Whatever trace is read and whatever the capacity, no allowed sequence of cache contents scores more than the printed
 -- upper bound, the certified schedule is allowed and scores exactly the lower bound, exact-form prices and flows have
 -- equal value, equal sizes make both bounds one under an unwindowed flow, and the checker's yes on any file implies the
 -- bounds it prints.
 abbrev pub Headline : Result Plan WordFault → Devices → Type 0
-Headline (Ok plan) d = Shows (task_of plan) d
+Headline (Ok plan) d = Shows (settings_of plan) d
 Headline (Err fault) d = ⊥

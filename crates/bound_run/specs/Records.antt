@@ -2,7 +2,7 @@
 use Rattle.std.specs.Prelude.{◌≡◌, List, length}
 use Rattle.cache_model.specs.declared.certificates.Record.{Record}
 use Rattle.bound_run.specs.declared.bounds.Bounds.{Bounds}
-use Rattle.bound_run.specs.Made.{records_of}
+use Rattle.bound_run.specs.BoundsMade.{records_of}
 
 -- a record for each request, of its parts
 abbrev pub records_in : Bounds → List Record

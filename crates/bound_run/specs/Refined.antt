@@ -9,14 +9,13 @@ use Rattle.cache_model.specs.Claim.{BoundsEveryPolicy}
 use Rattle.cache_model.specs.Intervals.{bound_of}
 use Rattle.cache_model.specs.Objects.{objects_of}
 use Rattle.cache_model.specs.Texts.{cert_text}
-use Rattle.bound_report.specs.Refinements.{refined_text}
-use Rattle.bound_report.specs.Replays.{with_warmup}
 use Rattle.cert_checker.specs.declared.verdict.Verdict.{Verdict}
 use Rattle.cert_checker.specs.Keeping.{Checked}
 use Rattle.price_refine.specs.Blocks.{AreSettled}
 use Rattle.price_refine.specs.Refinements.{Refinement}
 use Rattle.trace_any.specs.declared.format.Format.{Format}
-use Rattle.bound_run.specs.Inputs.{IsLoaded}
+use Rattle.bound_run.specs.Readings.{IsLoaded}
+use Rattle.bound_run.specs.Reports.{refined_report}
 
 -- the header with another upper bound
 abbrev pub with_upper : Header → ℕ → Header
@@ -54,10 +53,6 @@ pub record IsRefinement (width : ℕ) (trace : List Object) (h : Header) (record
 abbrev pub verdict_on : List Object → Header → Verdict
 verdict_on trace h = record { header = h; objects = length (objects_of trace) }
 
--- the report of a refinement: the bound that was read, a yes of the certificate that is written, and the warm-up if there is one
-abbrev pub refined_report : ℕ → Verdict → ℕ → List ℕ
-refined_report read_upper verdict dropped = with_warmup verdict.header.warmup (refined_text read_upper verdict dropped)
-
 -- the certificate and the report are the texts of a refinement of the certificate that was read
 pub record AreRefinedTexts (width : ℕ) (trace : List Object) (dropped : ℕ) (h : Header) (records : List Record) (cert report : List ℕ) : Type 0 where
   pub made : Header
@@ -67,9 +62,10 @@ pub record AreRefinedTexts (width : ℕ) (trace : List Object) (dropped : ℕ) (
   pub report_is : report ≡ refined_report h.upper (verdict_on trace made) dropped
 
 -- all that the two sources had left was read, a trace and the text of a valid certificate of it, if their bytes are known
-pub record IsRefinable (format : Format) (source cert : Device) (requests : List Object) (dropped : ℕ) (h : Header) (records : List Record) : Type 0 where
-  pub loaded : IsLoaded format source requests dropped
-  pub valid : IsValid requests h records
+pub record IsRefinable (format : Format) (source cert : Device) (trace : List Object) (dropped : ℕ)
+    (h : Header) (records : List Record) : Type 0 where
+  pub loaded : IsLoaded format source trace dropped
+  pub valid : IsValid trace h records
   pub text : IfSome cert.before (λ text. text ≡ cert_text h records)
   pub nothing_left : IfSome cert.before (λ text. cert.after ≡ Some [])
 
@@ -84,4 +80,5 @@ pub record IsRefined (format : Format) (width : ℕ) (source cert : Device) (mad
 
 -- a check has kept a certificate that can be refined, and the lines of the trace that were dropped
 abbrev pub IsKept : Format → Device → Device → Checked → ℕ → Type 0
-IsKept format source cert kept dropped = IsRefinable format source cert kept.trace dropped kept.verdict.header kept.records × (kept.verdict ≡ verdict_on kept.trace kept.verdict.header)
+IsKept format source cert kept dropped =
+    IsRefinable format source cert kept.trace dropped kept.verdict.header kept.records × (kept.verdict ≡ verdict_on kept.trace kept.verdict.header)

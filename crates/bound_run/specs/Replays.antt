@@ -15,7 +15,7 @@ use Rattle.belady_laws.specs.Best.{IsBest}
 use Rattle.replay_core.specs.declared.counts.Replay.{Replay}
 use Rattle.bound_report.specs.declared.replays.ReplayFacts.{ReplayFacts}
 use Rattle.bound_report.specs.Replays.{replay_text, with_warmup}
-use Rattle.bound_run.specs.Asked.{Replaying}
+use Rattle.bound_words.specs.declared.settings.ReplaySettings.{ReplaySettings}
 
 -- what a replay earns by an objective
 abbrev pub earned_by : Objective → ℕ → ℕ → ℕ
@@ -30,7 +30,8 @@ pub record IsUnder (h : Header) (earned : ℕ) : Type 0 where
 -- each certificate that is valid for the trace, of this capacity and no longer warm-up, bounds the hits, or the bytes, by its objective
 abbrev pub IsWithinBounds : ℕ → ℕ → List Object → ℕ → ℕ → Type 0
 IsWithinBounds capacity warmup trace hits bytes =
-    (h : Header) (records : List Record) → IsValid trace h records → h.capacity ≡ capacity → h.warmup ≤ warmup → IsUnder h (earned_by h.objective hits bytes)
+    (h : Header) (records : List Record) → IsValid trace h records → h.capacity ≡ capacity → h.warmup ≤ warmup
+    → IsUnder h (earned_by h.objective hits bytes)
 
 -- the counts are those of the rule's run; no valid certificate is below them; and those of Belady's rule are the greatest scores if all that fits has one size and every request counts
 pub record IsReplay (policy : PolicyName) (capacity warmup : ℕ) (trace : List Object) (replay : Replay) : Type 0 where
@@ -40,12 +41,13 @@ pub record IsReplay (policy : PolicyName) (capacity warmup : ℕ) (trace : List 
   pub best : policy ≡ Belady → warmup ≡ 0 → HaveOneSize capacity trace → IsBest capacity trace replay.hits replay.bytes
 
 -- what the report of a replay states
-abbrev pub replay_facts : Replaying → List Object → ℕ → Replay → ReplayFacts
+abbrev pub replay_facts : ReplaySettings → List Object → ℕ → Replay → ReplayFacts
 replay_facts r trace dropped replay =
-    record { requests = length trace; objects = length (objects_of trace); dropped = dropped; policy = r.policy; capacity = r.capacity; replay = replay }
+    let objects = length (objects_of trace) in
+    record { requests = length trace; objects = objects; dropped = dropped; policy = r.policy; capacity = r.capacity; replay = replay }
 
 -- the text is the report of the replay that is asked for
-pub record IsReplayText (r : Replaying) (trace : List Object) (dropped : ℕ) (text : List ℕ) : Type 0 where
+pub record IsReplayText (r : ReplaySettings) (trace : List Object) (dropped : ℕ) (text : List ℕ) : Type 0 where
   pub replay : Replay
   pub is_replay : IsReplay r.policy r.capacity r.warmup trace replay
   pub text_is : text ≡ with_warmup r.warmup (replay_text (replay_facts r trace dropped replay))

@@ -13,19 +13,24 @@ use Rattle.bound_report.specs.declared.refusal.Refusal.TheVariants.{MadeFault}
 use Rattle.bound_report.specs.declared.refusal.Refusal.TheVariants as refusal
 use Rattle.bound_report.specs.Refusals.{refusal_line}
 use Rattle.cert_checker.specs.declared.verdict.Verdict.{Verdict}
-use Rattle.bound_run.specs.Asked.{Asked, Drawing, Replaying}
-use Rattle.bound_run.specs.declared.words.Plan.{Plan}
-use Rattle.bound_run.specs.declared.words.WordFault.{WordFault}
+use Rattle.bound_words.specs.declared.settings.BoundSettings.{BoundSettings}
+use Rattle.bound_words.specs.declared.settings.DrawSettings.{DrawSettings}
+use Rattle.bound_words.specs.declared.settings.ReplaySettings.{ReplaySettings}
+use Rattle.bound_words.specs.declared.words.Plan.{Plan}
+use Rattle.bound_words.specs.declared.words.WordFault.{WordFault}
 use Rattle.bound_run.specs.declared.status.Status.{Status}
 use Rattle.bound_run.specs.declared.status.Status.TheVariants.{Done, Invalid, Words, NoMemory, Unequal}
-use Rattle.bound_run.specs.Demos.{IsDemoText, RefusesDemo, trace_drawn}
-use Rattle.bound_run.specs.Made.{RefusesDenominator}
-use Rattle.bound_run.specs.Inputs.{HasDenominator, IsAccepted, IsCertified, IsGoodTrace, IsReady, IsReplayed, IsCurved}
-use Rattle.bound_run.specs.Parts.{RefusesBounds, RefusesCheck, RefusesCurve, RefusesLoading, verdict_report}
+use Rattle.bound_run.specs.Demos.{IsDemoText, trace_drawn}
+use Rattle.bound_run.specs.Refusals.{RefusesDemo, RefusesBounds, RefusesCheck, RefusesCurve, RefusesLoading, RefusesUpgrade}
+use Rattle.bound_run.specs.BoundsMade.{RefusesDenominator}
+use Rattle.bound_run.specs.Readings.{HasDenominator, IsAccepted, IsCertified, IsGoodTrace, IsReady, IsReplayed, IsCurved}
+use Rattle.bound_run.specs.Reports.{verdict_report}
 use Rattle.bound_run.specs.Refined.{IsRefined}
-use Rattle.bound_run.specs.Upgrades.{IsGoodCertificate, IsUpgraded, RefusesUpgrade}
+use Rattle.bound_run.specs.Upgrades.{IsGoodCertificate, IsUpgraded}
 use Rattle.bound_run.specs.Statuses.{Ending, done, refused, unreported, ending_of}
-use Rattle.bound_run.specs.Tasks.{Task, bounds, check, replay, curve, demo, upgrade, refine, task_of}
+use Rattle.bound_words.specs.declared.settings.Settings.{Settings}
+use Rattle.bound_words.specs.declared.settings.Settings.TheVariants.{Bounds, Check, Replay, Curve, Demo, Upgrade, Refine}
+use Rattle.bound_words.specs.Settings.{settings_of}
 
 -- what is seen of the four devices of a run
 pub record Devices : Type 0 where
@@ -42,11 +47,12 @@ devices trace cert report made = record { trace = trace; cert = cert; report = r
 abbrev pub MakesEnd : (List ℕ → List ℕ → Type 0) → (Refusal → Type 0) → Device → Device → Ending → Type 0
 MakesEnd AreReady Refuses report made done = (cert : List ℕ) × (text : List ℕ) × AreReady cert text × GetsAll made cert × GetsAll report text
 MakesEnd AreReady Refuses report made unreported = (cert : List ℕ) × (text : List ℕ) × AreReady cert text × GetsAll made cert × GetsLess report text
-MakesEnd AreReady Refuses report made (refused MadeFault) = (cert : List ℕ) × (text : List ℕ) × AreReady cert text × GetsLess made cert × Gets report (refusal_line MadeFault)
+MakesEnd AreReady Refuses report made (refused MadeFault) =
+    (cert : List ℕ) × (text : List ℕ) × AreReady cert text × GetsLess made cert × Gets report (refusal_line MadeFault)
 MakesEnd AreReady Refuses report made (refused r) = Refuses r × Gets report (refusal_line r) × IsUntouched made
 
 -- how bounds end, and what the sinks got then
-abbrev pub BoundsEnd : Format → Asked → Device → Device → Device → Ending → Type 0
+abbrev pub BoundsEnd : Format → BoundSettings → Device → Device → Device → Ending → Type 0
 BoundsEnd format asked source report made ending = MakesEnd (IsReady format asked source) (RefusesBounds format asked source) report made ending
 
 -- how an upgrade ends, and what the sinks got then
@@ -55,16 +61,19 @@ UpgradeEnds source report made ending = MakesEnd (IsUpgraded source) (RefusesUpg
 
 -- how a refinement ends, and what the sinks got then
 abbrev pub RefineEnds : Format → ℕ → Device → Device → Device → Device → Ending → Type 0
-RefineEnds format width source cert report made ending = MakesEnd (IsRefined format width source cert) (RefusesCheck format source cert) report made ending
+RefineEnds format width source cert report made ending =
+    MakesEnd (IsRefined format width source cert) (RefusesCheck format source cert) report made ending
 
 -- how a check ends, and what the report got then
 abbrev pub CheckEnds : Format → Device → Device → Device → Ending → Type 0
-CheckEnds format source cert report done = (verdict : Verdict) × (dropped : ℕ) × IsAccepted format source cert verdict dropped × GetsAll report (verdict_report verdict dropped)
-CheckEnds format source cert report unreported = (verdict : Verdict) × (dropped : ℕ) × IsAccepted format source cert verdict dropped × GetsLess report (verdict_report verdict dropped)
+CheckEnds format source cert report done =
+    (verdict : Verdict) × (dropped : ℕ) × IsAccepted format source cert verdict dropped × GetsAll report (verdict_report verdict dropped)
+CheckEnds format source cert report unreported =
+    (verdict : Verdict) × (dropped : ℕ) × IsAccepted format source cert verdict dropped × GetsLess report (verdict_report verdict dropped)
 CheckEnds format source cert report (refused r) = RefusesCheck format source cert r × Gets report (refusal_line r)
 
 -- how a replay ends, and what the report got then
-abbrev pub ReplayEnds : Format → Replaying → Device → Device → Ending → Type 0
+abbrev pub ReplayEnds : Format → ReplaySettings → Device → Device → Ending → Type 0
 ReplayEnds format r source report done = (text : List ℕ) × IsReplayed format r source text × GetsAll report text
 ReplayEnds format r source report unreported = (text : List ℕ) × IsReplayed format r source text × GetsLess report text
 ReplayEnds format r source report (refused why) = RefusesLoading format source why × Gets report (refusal_line why)
@@ -76,27 +85,31 @@ CurveEnds format source report unreported = (text : List ℕ) × IsCurved format
 CurveEnds format source report (refused why) = RefusesCurve format source why × Gets report (refusal_line why)
 
 -- how a demo ends, and what the report got then
-abbrev pub DemoEnds : Drawing → Asked → Device → Ending → Type 0
+abbrev pub DemoEnds : DrawSettings → BoundSettings → Device → Ending → Type 0
 DemoEnds drawing asked report done = (text : List ℕ) × IsDemoText drawing asked text × GetsAll report text
 DemoEnds drawing asked report unreported = (text : List ℕ) × IsDemoText drawing asked text × GetsLess report text
 DemoEnds drawing asked report (refused why) = RefusesDemo drawing asked why × Gets report (refusal_line why)
 
--- how a task ends: what it doesn't need is left alone, and what it reads loses no more than a prefix
-abbrev pub TaskEnds : Task → Devices → Ending → Type 0
-TaskEnds (bounds format asked) d ending = BoundsEnd format asked d.trace d.report d.made ending × LosesPrefix d.trace.before d.trace.after × IsUntouched d.cert
-TaskEnds (check format) d ending =
-    CheckEnds format d.trace d.cert d.report ending × LosesPrefix d.trace.before d.trace.after × LosesPrefix d.cert.before d.cert.after × IsUntouched d.made
-TaskEnds (replay format r) d ending = ReplayEnds format r d.trace d.report ending × LosesPrefix d.trace.before d.trace.after × IsUntouched d.cert × IsUntouched d.made
-TaskEnds (curve format) d ending = CurveEnds format d.trace d.report ending × LosesPrefix d.trace.before d.trace.after × IsUntouched d.cert × IsUntouched d.made
-TaskEnds (demo drawing asked) d ending = DemoEnds drawing asked d.report ending × IsUntouched d.trace × IsUntouched d.cert × IsUntouched d.made
-TaskEnds upgrade d ending = UpgradeEnds d.cert d.report d.made ending × LosesPrefix d.cert.before d.cert.after × IsUntouched d.trace
-TaskEnds (refine format width) d ending = RefineEnds format width d.trace d.cert d.report d.made ending × LosesPrefix d.trace.before d.trace.after × LosesPrefix d.cert.before d.cert.after
+-- the source has lost no more than a prefix
+abbrev pub IsReadFrom : Device → Type 0
+IsReadFrom source = LosesPrefix source.before source.after
 
--- how a run ends: the task of its plan does, or its words are refused and all but the report is left alone
+-- how a command ends: what it doesn't need is left alone, and what it reads loses no more than a prefix
+abbrev pub CommandEnds : Settings → Devices → Ending → Type 0
+CommandEnds (Bounds format asked) d ending = BoundsEnd format asked d.trace d.report d.made ending × IsReadFrom d.trace × IsUntouched d.cert
+CommandEnds (Check format) d ending = CheckEnds format d.trace d.cert d.report ending × IsReadFrom d.trace × IsReadFrom d.cert × IsUntouched d.made
+CommandEnds (Replay format r) d ending = ReplayEnds format r d.trace d.report ending × IsReadFrom d.trace × IsUntouched d.cert × IsUntouched d.made
+CommandEnds (Curve format) d ending = CurveEnds format d.trace d.report ending × IsReadFrom d.trace × IsUntouched d.cert × IsUntouched d.made
+CommandEnds (Demo drawing asked) d ending = DemoEnds drawing asked d.report ending × IsUntouched d.trace × IsUntouched d.cert × IsUntouched d.made
+CommandEnds Upgrade d ending = UpgradeEnds d.cert d.report d.made ending × IsReadFrom d.cert × IsUntouched d.trace
+CommandEnds (Refine format width) d ending = RefineEnds format width d.trace d.cert d.report d.made ending × IsReadFrom d.trace × IsReadFrom d.cert
+
+-- how a run ends: the command of its plan does, or its words are refused and all but the report is left alone
 abbrev pub RunEnds : Result Plan WordFault → Devices → Status → Type 0
-RunEnds (Ok plan) d status = TaskEnds (task_of plan) d (ending_of status)
+RunEnds (Ok plan) d status = CommandEnds (settings_of plan) d (ending_of status)
 RunEnds (Err fault) d status =
-    (status ≡ Words fault) × Gets d.report (refusal_line (refusal.Words fault.place fault.kind)) × IsUntouched d.trace × IsUntouched d.cert × IsUntouched d.made
+    (status ≡ Words fault) × Gets d.report (refusal_line (refusal.Words fault.place fault.kind))
+    × IsUntouched d.trace × IsUntouched d.cert × IsUntouched d.made
 
 -- no call of a device failed
 pub record NoneFails (d : Devices) : Type 0 where
@@ -106,14 +119,14 @@ pub record NoneFails (d : Devices) : Type 0 where
   pub made : ¬ (HasFailed d.made)
 
 -- the inputs are known, and nothing of them is refused before the certificate is looked at
-abbrev pub AreGoodInputs : Task → Devices → Type 0
-AreGoodInputs (bounds format asked) d = IsGoodTrace format d.trace.before × HasDenominator format asked d.trace.before
-AreGoodInputs (check format) d = IsGoodTrace format d.trace.before × IsSome d.cert.before
-AreGoodInputs (replay format r) d = IsGoodTrace format d.trace.before
-AreGoodInputs (curve format) d = IsGoodTrace format d.trace.before
-AreGoodInputs (demo drawing asked) d = ¬ (RefusesDenominator asked (trace_drawn drawing))
-AreGoodInputs upgrade d = IsGoodCertificate d.cert.before
-AreGoodInputs (refine format width) d = IsGoodTrace format d.trace.before × IsSome d.cert.before
+abbrev pub AreGoodInputs : Settings → Devices → Type 0
+AreGoodInputs (Bounds format asked) d = IsGoodTrace format d.trace.before × HasDenominator format asked d.trace.before
+AreGoodInputs (Check format) d = IsGoodTrace format d.trace.before × IsSome d.cert.before
+AreGoodInputs (Replay format r) d = IsGoodTrace format d.trace.before
+AreGoodInputs (Curve format) d = IsGoodTrace format d.trace.before
+AreGoodInputs (Demo drawing asked) d = ¬ (RefusesDenominator asked (trace_drawn drawing))
+AreGoodInputs Upgrade d = IsGoodCertificate d.cert.before
+AreGoodInputs (Refine format width) d = IsGoodTrace format d.trace.before × IsSome d.cert.before
 
 -- what a check or a refinement answers of good inputs: Done of a valid certificate, and Invalid of every other
 abbrev pub AnswersOf : Format → Option (List ℕ) → Option (List ℕ) → Status → Type 0
@@ -135,16 +148,16 @@ AnswersCurveOf format (Some bytes) status = AnswersCurve (reading format full_li
 AnswersCurveOf format None status = ⊥
 
 -- what is answered of good inputs, unless memory ran out
-abbrev pub Answers : Task → Devices → Status → Type 0
-Answers (bounds format asked) d status = (status ≡ Done) ⊎ (status ≡ NoMemory)
-Answers (check format) d status = AnswersOf format d.trace.before d.cert.before status
-Answers (replay format r) d status = (status ≡ Done) ⊎ (status ≡ NoMemory)
-Answers (curve format) d status = AnswersCurveOf format d.trace.before status
-Answers (demo drawing asked) d status = (status ≡ Done) ⊎ (status ≡ NoMemory)
-Answers upgrade d status = (status ≡ Done) ⊎ (status ≡ NoMemory)
-Answers (refine format width) d status = AnswersOf format d.trace.before d.cert.before status
+abbrev pub Answers : Settings → Devices → Status → Type 0
+Answers (Bounds format asked) d status = (status ≡ Done) ⊎ (status ≡ NoMemory)
+Answers (Check format) d status = AnswersOf format d.trace.before d.cert.before status
+Answers (Replay format r) d status = (status ≡ Done) ⊎ (status ≡ NoMemory)
+Answers (Curve format) d status = AnswersCurveOf format d.trace.before status
+Answers (Demo drawing asked) d status = (status ≡ Done) ⊎ (status ≡ NoMemory)
+Answers Upgrade d status = (status ≡ Done) ⊎ (status ≡ NoMemory)
+Answers (Refine format width) d status = AnswersOf format d.trace.before d.cert.before status
 
 -- good words, good inputs and no fault lead to the answer
 abbrev pub Completes : Result Plan WordFault → Devices → Status → Type 0
-Completes (Ok plan) d status = AreGoodInputs (task_of plan) d → NoneFails d → Answers (task_of plan) d status
+Completes (Ok plan) d status = AreGoodInputs (settings_of plan) d → NoneFails d → Answers (settings_of plan) d status
 Completes (Err fault) d status = Unit {0}

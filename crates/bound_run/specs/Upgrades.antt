@@ -1,7 +1,7 @@
 -- What an upgrade makes of a certificate.
 use Rattle.std.specs.Prelude.{◌≡◌, ◌↔◌, ℕ, ◌+◌, ◌≤◌, List, [], length, None, Some, IfSome}
 use Rattle.std.specs.declared.option.Option.{Option}
-use Rattle.bound_io.specs.Devices.{Device, HasFailed}
+use Rattle.bound_io.specs.Devices.{Device}
 use Rattle.cache_model.specs.declared.objects.Object.{Object}
 use Rattle.cache_model.specs.declared.certificates.Header.{Header}
 use Rattle.cache_model.specs.declared.certificates.Record.{Record}
@@ -9,11 +9,7 @@ use Rattle.cache_model.specs.declared.version.TheConstants.{SHORT_VERSION}
 use Rattle.cache_model.specs.Certificates.{IsCertificate, IsValid}
 use Rattle.cache_model.specs.Texts.{cert_text}
 use Rattle.cert_format.specs.Readings.{bytes_through, reading}
-use Rattle.cert_checker.specs.Walks.{text_event}
-use Rattle.cert_checker.specs.Walks as walk
 use Rattle.bound_report.specs.Upgrades.{upgrade_text}
-use Rattle.bound_report.specs.declared.refusal.Refusal.{Refusal}
-use Rattle.bound_report.specs.declared.refusal.Refusal.TheVariants as refusal
 
 -- all that the source had left was read: the text of a certificate, if its bytes are known
 pub record IsRead (source : Device) (h : Header) (records : List Record) : Type 0 where
@@ -43,13 +39,6 @@ pub record IsUpgraded (source : Device) (cert report : List ℕ) : Type 0 where
 -- the source has lost at most the bytes through this line of a certificate and a buffer of bytes more, if they are known
 abbrev pub IsNearLineOf : ℕ → Device → Type 0
 IsNearLineOf line source = IfSome source.before (λ text. IfSome source.after (λ left. length text ≤ length left + bytes_through line text + 65536))
-
--- why a certificate is not upgraded: its first fault, of which little was read beyond its line, a failed read, or no memory
-abbrev pub RefusesUpgrade : Device → Refusal → Type 0
-RefusesUpgrade source (refusal.Invalid line kind) = IfSome source.before (λ bytes. text_event (reading bytes).fault ≡ Some (walk.Invalid line kind)) × IsNearLineOf line source
-RefusesUpgrade source refusal.CertFault = HasFailed source
-RefusesUpgrade source refusal.NoMemory = Unit {0}
-RefusesUpgrade source other = ⊥
 
 -- the bytes are known, and are the text of a certificate
 abbrev pub IsGoodCertificate : Option (List ℕ) → Type 0

@@ -1,46 +1,37 @@
 //! The bounds of a trace, and their texts.
-ghost use Rattle.std.specs.Prelude.{◌≡◌, ◌≤◌, ◌<◌, ◌^◌, length, All, IfOk, IfErr, IsTrue, OnOk, ◌↔◌, ◌&&◌};
-ghost use Rattle.std.specs.Io.KnownBytes.{Appends};
-ghost use Rattle.cache_model.specs.Certificates.{eligible_of, IsCertificate};
+ghost use Rattle.std.specs.Prelude.{◌≡◌, ◌≤◌, ◌<◌, ◌^◌, length, All, IfOk, IfErr, IsTrue, ◌↔◌, ◌&&◌};
+ghost use Rattle.cache_model.specs.Certificates.{eligible_of};
 ghost use Rattle.cache_model.specs.Units.{HasWholeCosts, IsUnit};
 ghost use Rattle.cache_model.specs.Claim.{IsAllowed, score, contents_of};
 ghost use Rattle.cache_model.specs.Rounding.{FitTogether, IsMaximal, IsRounded, by_rank};
-ghost use Rattle.cache_model.specs.Texts.{cert_text};
 ghost use Rattle.interval_maker.specs.Timelines.{IsTimeline, starting_at, timeline_of};
 ghost use Rattle.relaxation.specs.Denominators.{IsChosen};
 ghost use Rattle.relaxation.specs.Faults.{amount_of};
-ghost use Rattle.bound_run.specs.Asked.{asked_by};
 ghost use Rattle.bound_run.specs.BoundsFaults.{FailsBounds};
-ghost use Rattle.bound_run.specs.Made.{AreTexts, IsMade, is_unwindowed, record_of, records_of, terms_asked};
+ghost use Rattle.bound_run.specs.BoundsMade.{AreTexts, IsMade, is_unwindowed, records_of};
 ghost use Rattle.bound_run.specs.Records.{HasEach, records_in};
 
 use crate::relaxed::{Relaxed, relax, width_of};
-use crate::tasks::BoundsTask;
+use crate::reports::bounds_report;
+use crate::writing::Texts;
 use bound_base::NoMemory;
-use bound_io::{Failed, GrowSink, Sink};
-use bound_report::{BoundFacts, LimitName, Mode, Refusal, push_warmup, report_text};
+use bound_report::{BoundFacts, Mode};
+use bound_words::BoundSettings;
 use cache_model::{Header, Record, Terms};
 use cache_rules::{Trace, score_of_fitting};
-use cert_format::{write_end, write_header, write_record};
-use interval_maker::{Intervals, make};
+use cert_format::{Records, cert_of};
+use interval_maker::Intervals;
 use relaxation::{Denominator, Scale, denominator_for, unit_of};
-use schedule_round::{Keeps, round};
+use schedule_round::Keeps;
 use std::alloc::Global;
 
 /// Why there are no bounds.
 #[derive(Clone, Copy)]
-pub enum BoundsFault {
+pub(crate) enum BoundsFault {
     /// The least denominator that rounds no cost passes 2^48, and no other may be taken.
     Denominator,
     /// There was not enough memory.
     NoMemory,
-}
-
-/// The certificate and the report.
-#[derive(Drop)]
-pub struct Texts {
-    pub cert: Vec<u8>,
-    pub report: Vec<u8>,
 }
 
 // What a schedule keeps, and its score.
@@ -70,68 +61,54 @@ impl From<NoMemory> for BoundsFault {
     }
 }
 
-impl From<BoundsFault> for Refusal {
-    ghost use Rattle.std.specs.Prelude.{◌≡◌};
-    ghost use Rattle.bound_run.specs.Statuses.{refusal_of_bounds};
-
-    ghost from_gives = { λ f r. r ≡ refusal_of_bounds f };
-
-    fn from(fault: BoundsFault) -> Self {
-        match fault {
-            BoundsFault::Denominator => Refusal::Limit(LimitName::Denominator),
-            BoundsFault::NoMemory => Refusal::NoMemory,
-        }
-    }
-}
-
-impl BoundsTask {
-    // What the objective, the capacity and the warm-up are.
-    fn terms(&self) -> Terms
-        ensures { result ≡ terms_asked (asked_by self.now) }
-    {
-        Terms {
-            objective: self.objective,
-            capacity: self.capacity,
-            warmup: self.warmup,
-        }
-    }
+/// The eligible intervals of a trace.
+pub(crate) fn intervals_of(
+    alloc: Global,
+    terms: Terms,
+    trace: &Trace,
+) -> Result<Intervals, NoMemory>
+    ensures intervals { IfOk result (λ made. made ≡ timeline_of terms trace.now) }
+    ensures timeline { IfOk result IsTimeline }
+    ensures fit { IfOk result (λ made. All (λ i. i.size ≤ terms.capacity) made.items) }
+{
+    interval_maker::make(alloc, trace, terms.capacity, terms.objective, terms.warmup)
 }
 
 // The schedule that is rounded from the flagged intervals.
 fn schedule_of(
     alloc: Global,
-    asked: &BoundsTask,
+    terms: Terms,
     trace: &Trace,
     intervals: &Intervals,
     full: &[bool],
 ) -> Result<Schedule, NoMemory>
-    requires intervals { intervals.now ≡ timeline_of (terms_asked (asked_by asked.now)) trace.now }
-    requires fit { All (λ i. i.size ≤ asked.now.capacity) intervals.now.items }
-    requires flags { FitTogether intervals.now.items asked.now.capacity full.now }
-    ensures rounded { IfOk result (λ s. IsRounded by_rank intervals.now.items asked.now.capacity (length trace.now) full.now s.keeps) }
-    ensures maximal { IfOk result (λ s. IsMaximal intervals.now.items asked.now.capacity s.keeps) }
-    ensures allowed { IfOk result (λ s. IsAllowed asked.now.capacity trace.now (contents_of trace.now s.keeps)) }
-    ensures lower { IfOk result (λ s. s.lower ≡ score (terms_asked (asked_by asked.now)) trace.now (contents_of trace.now s.keeps)) }
+    requires intervals { intervals.now ≡ timeline_of terms trace.now }
+    requires fit { All (λ i. i.size ≤ terms.capacity) intervals.now.items }
+    requires flags { FitTogether intervals.now.items terms.capacity full.now }
+    ensures rounded { IfOk result (λ s. IsRounded by_rank intervals.now.items terms.capacity (length trace.now) full.now s.keeps) }
+    ensures maximal { IfOk result (λ s. IsMaximal intervals.now.items terms.capacity s.keeps) }
+    ensures allowed { IfOk result (λ s. IsAllowed terms.capacity trace.now (contents_of trace.now s.keeps)) }
+    ensures lower { IfOk result (λ s. s.lower ≡ score terms trace.now (contents_of trace.now s.keeps)) }
 {
-    let keeps = round(alloc, intervals, asked.capacity, full)?;
-    let lower = score_of_fitting(trace, asked.terms(), keeps.as_slice());
+    let keeps = schedule_round::round(alloc, intervals, terms.capacity, full)?;
+    let lower = score_of_fitting(trace, terms, keeps.as_slice());
     Ok(Schedule { keeps, lower })
 }
 
 // The denominator that is asked for.
 fn denominator_of(
-    asked: &BoundsTask,
+    asked: &BoundSettings,
     trace: &Trace,
     intervals: &Intervals,
     unit: u64,
 ) -> Result<Denominator, BoundsFault>
-    requires intervals { intervals.now ≡ timeline_of (terms_asked (asked_by asked.now)) trace.now }
+    requires intervals { intervals.now ≡ timeline_of asked.now.terms trace.now }
     requires unit { IsUnit intervals.now.items unit }
     requires positive { 1 ≤ unit }
     ensures chosen { IfOk result (λ d. IsChosen asked.now.denominator intervals.now.items unit d.value) }
     ensures range { IfOk result (λ d. (1 ≤ d.value) × (d.value ≤ 2 ^ 48)) }
     ensures exact { IfOk result (λ d. IsTrue d.exact ↔ HasWholeCosts intervals.now.items unit d.value) }
-    ensures refused { IfErr result (FailsBounds (asked_by asked.now) trace.now) }
+    ensures refused { IfErr result (FailsBounds asked.now trace.now) }
 {
     match denominator_for(intervals, unit, asked.denominator) {
         Ok(denominator) => Ok(denominator),
@@ -159,20 +136,22 @@ fn is_exact(mode: Mode, steps: u32, whole_costs: bool) -> bool
 // The header, the prices and flows, and what the schedule keeps, if the intervals are those of the trace.
 fn parts_of(
     alloc: Global,
-    asked: &BoundsTask,
+    asked: &BoundSettings,
     trace: &Trace,
     intervals: &Intervals,
 ) -> Result<(Header, Relaxed, Keeps), BoundsFault>
-    requires intervals { intervals.now ≡ timeline_of (terms_asked (asked_by asked.now)) trace.now }
+    requires intervals { intervals.now ≡ timeline_of asked.now.terms trace.now }
     requires timeline { IsTimeline intervals.now }
-    requires fit { All (λ i. i.size ≤ asked.now.capacity) intervals.now.items }
-    ensures made { IfOk result (λ p. IsMade (asked_by asked.now) trace.now p.1.price p.0 (records_of p.1.solution.prices p.2 intervals.now.items p.1.solution.flows)) }
+    requires fit { All (λ i. i.size ≤ asked.now.terms.capacity) intervals.now.items }
+    ensures made { IfOk result (λ p. IsMade asked.now trace.now p.1.price p.0
+        (records_of p.1.solution.prices p.2 intervals.now.items p.1.solution.flows)) }
     ensures intervals { IfOk result (λ p. intervals.now.items ≡ eligible_of trace.now p.0) }
     ensures each { IfOk result (λ p. HasEach (record { header = p.0; relaxed = p.1; keeps = p.2; intervals = intervals.now })) }
-    ensures refused { IfErr result (FailsBounds (asked_by asked.now) trace.now) }
+    ensures refused { IfErr result (FailsBounds asked.now trace.now) }
 {
+    let terms = asked.terms;
     let unit = unit_of(intervals);
-    let units = asked.capacity / unit;
+    let units = terms.capacity / unit;
     let denominator = denominator_of(asked, trace, intervals, unit)?;
     let scale = Scale {
         unit,
@@ -180,11 +159,11 @@ fn parts_of(
         denominator: denominator.value,
     };
     let relaxed = relax(alloc, asked, intervals, scale)?;
-    let schedule = schedule_of(alloc, asked, trace, intervals, &relaxed.full)?;
+    let schedule = schedule_of(alloc, terms, trace, intervals, &relaxed.full)?;
     let requests = trace.len();
     let header = Header {
-        objective: asked.objective,
-        capacity: asked.capacity,
+        objective: terms.objective,
+        capacity: terms.capacity,
         requests,
         unit,
         denominator: denominator.value,
@@ -192,20 +171,20 @@ fn parts_of(
         upper: relaxed.upper,
         flow: relaxed.flow,
         lower: schedule.lower,
-        warmup: asked.warmup,
+        warmup: terms.warmup,
         version: asked.version,
     };
     Ok((header, relaxed, schedule.keeps))
 }
 
 // The certificate of a trace, in parts.
-fn bounds_of(alloc: Global, asked: &BoundsTask, trace: &Trace) -> Result<Bounds, BoundsFault>
-    ensures made { IfOk result (λ b. IsMade (asked_by asked.now) trace.now b.relaxed.price b.header (records_in b)) }
+fn bounds_of(alloc: Global, asked: &BoundSettings, trace: &Trace) -> Result<Bounds, BoundsFault>
+    ensures made { IfOk result (λ b. IsMade asked.now trace.now b.relaxed.price b.header (records_in b)) }
     ensures intervals { IfOk result (λ b. b.intervals.items ≡ eligible_of trace.now b.header) }
     ensures each { IfOk result HasEach }
-    ensures refused { IfErr result (FailsBounds (asked_by asked.now) trace.now) }
+    ensures refused { IfErr result (FailsBounds asked.now trace.now) }
 {
-    let intervals = make(alloc, trace, asked.capacity, asked.objective, asked.warmup)?;
+    let intervals = intervals_of(alloc, asked.terms, trace)?;
     let (header, relaxed, keeps) = parts_of(alloc, asked, trace, &intervals)?;
     Ok(Bounds {
         header,
@@ -227,61 +206,34 @@ fn flow_from(bounds: &Bounds, t: u32) -> u64
     }
 }
 
-// The record of a request.
-fn record_at(bounds: &Bounds, t: u32) -> Record
-    requires within { t < bounds.now.intervals.steps }
-    requires each { HasEach bounds.now }
-    ensures { result ≡ record_of bounds.now.relaxed.solution.prices bounds.now.keeps bounds.now.intervals.items bounds.now.relaxed.solution.flows t }
-{
-    Record {
-        price: bounds.relaxed.solution.price_at(t),
-        keep: bounds.keeps.as_slice()[t as usize],
-        flow: flow_from(bounds, t),
-    }
-}
+impl Records for Bounds {
+    ghost use Rattle.bound_run.specs.Records.{HasEach, records_in};
 
-// Writes the certificate.
-fn write_cert<K: Sink>(sink: &mut K, bounds: &Bounds) -> Result<(), Failed>
-    requires certificate { IsCertificate bounds.now.header (records_in bounds.now) }
-    requires each { HasEach bounds.now }
-    ensures { OnOk result (Appends (K.written sink.old) (K.written sink.new) (cert_text bounds.now.header (records_in bounds.now))) }
-{
-    write_header(sink, &bounds.header)?;
-    let mut before = 0;
-    for t in 0..bounds.intervals.steps() {
-        let record = record_at(bounds, t);
-        write_record(sink, bounds.header.version, before, &record)?;
-        before = record.price;
-    }
-    write_end(sink)?;
-    Ok(())
-}
+    ghost list = { λ b. records_in b };
 
-// The text of the certificate.
-fn cert_of(alloc: Global, bounds: &Bounds) -> Result<Vec<u8>, NoMemory>
-    requires certificate { IsCertificate bounds.now.header (records_in bounds.now) }
-    requires each { HasEach bounds.now }
-    ensures { IfOk result (λ text. text.items ≡ cert_text bounds.now.header (records_in bounds.now)) }
-{
-    let mut sink = GrowSink::new(alloc);
-    match write_cert(&mut sink, bounds) {
-        Ok(()) => Ok(sink.into_bytes()),
-        Err(Failed) => Err(NoMemory),
+    ghost is_sound = { λ b. HasEach b };
+
+    fn record_at(&self, t: u32) -> Record {
+        Record {
+            price: self.relaxed.solution.price_at(t),
+            keep: self.keeps.as_slice()[t as usize],
+            flow: flow_from(self, t),
+        }
     }
 }
 
 // The texts of a certificate that is made of the trace.
 fn texts_with(
     alloc: Global,
-    asked: &BoundsTask,
+    asked: &BoundSettings,
     trace: &Trace,
     dropped: u64,
     bounds: &Bounds,
 ) -> Result<Texts, NoMemory>
-    requires made { IsMade (asked_by asked.now) trace.now bounds.now.relaxed.price bounds.now.header (records_in bounds.now) }
+    requires made { IsMade asked.now trace.now bounds.now.relaxed.price bounds.now.header (records_in bounds.now) }
     requires intervals { bounds.now.intervals.items ≡ eligible_of trace.now bounds.now.header }
     requires each { HasEach bounds.now }
-    ensures { IfOk result (λ texts. AreTexts (asked_by asked.now) trace.now dropped texts.cert.items texts.report.items) }
+    ensures { IfOk result (λ texts. AreTexts asked.now trace.now dropped texts.cert.items texts.report.items) }
 {
     let facts = BoundFacts {
         header: bounds.header,
@@ -291,22 +243,22 @@ fn texts_with(
         price: bounds.relaxed.price,
         intervals: bounds.intervals.as_slice().len() as u32,
     };
-    let cert = cert_of(alloc, bounds)?;
-    let mut report = report_text(alloc, &facts)?;
-    push_warmup(&mut report, bounds.header.warmup)?;
+    let cert = cert_of(alloc, &bounds.header, bounds)?;
+    let report = bounds_report(alloc, &facts)?;
     Ok(Texts { cert, report })
 }
 
 /// The certificate and the report of a trace as asked for, with the number of lines of the trace that were dropped.
-pub fn texts_of(
+pub(crate) fn texts_of(
     alloc: Global,
-    asked: &BoundsTask,
+    asked: &BoundSettings,
     trace: &Trace,
     dropped: u64,
 ) -> Result<Texts, BoundsFault>
-    ensures texts { IfOk result (λ texts. AreTexts (asked_by asked.now) trace.now dropped texts.cert.items texts.report.items) }
-    ensures refused { IfErr result (FailsBounds (asked_by asked.now) trace.now) }
+    ensures texts { IfOk result (λ texts. AreTexts asked.now trace.now dropped texts.cert.items texts.report.items) }
+    ensures refused { IfErr result (FailsBounds asked.now trace.now) }
 {
+    // Dropped here, for the proof.
     let texts = {
         let bounds = bounds_of(alloc, asked, trace)?;
         texts_with(alloc, asked, trace, dropped, &bounds)

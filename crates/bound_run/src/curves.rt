@@ -1,5 +1,5 @@
 //! The curve of a trace, and its report.
-ghost use Rattle.std.specs.Prelude.{◌≡◌, IfOk, IfErr};
+ghost use Rattle.std.specs.Prelude.{IfOk, IfErr};
 ghost use Rattle.stack_curve.specs.Curves.{IsCause};
 ghost use Rattle.bound_run.specs.Curves.{IsCurveText};
 

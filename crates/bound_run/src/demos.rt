@@ -2,18 +2,18 @@
 ghost use Rattle.std.specs.Prelude.{◌≡◌, None, IfOk, IfErr};
 ghost use Rattle.trace_any.specs.Readings.{full_limits, reading};
 ghost use Rattle.trace_any.specs.declared.format.Format.TheVariants.{Webcache};
-ghost use Rattle.bound_run.specs.Asked.{asked_by, drawing_by};
-ghost use Rattle.bound_run.specs.Demos.{AreReplays, IsDemoText, RefusesDemo};
-ghost use Rattle.bound_run.specs.Inputs.{IsCertified};
+ghost use Rattle.bound_run.specs.Demos.{AreReplays, IsDemoText};
+ghost use Rattle.bound_run.specs.Refusals.{RefusesDemo};
+ghost use Rattle.bound_run.specs.Readings.{IsCertified};
 ghost use Rattle.bound_run.specs.Replays.{IsReplay};
 
-use crate::bounds::{Texts, texts_of};
+use crate::bounds::texts_of;
 use crate::checking::verdict_of;
 use crate::replays::replay_by;
-use crate::tasks::{BoundsTask, DrawTask, ReplayTask};
 use bound_base::NoMemory;
 use bound_io::CalmSource;
 use bound_report::{DemoFacts, PolicyReplays, Refusal, demo_text};
+use bound_words::{BoundSettings, DrawSettings, ReplaySettings};
 use cache_rules::Trace;
 use demo_trace::{demo_trace, webcache_text};
 use policy_model::PolicyName;
@@ -41,21 +41,24 @@ fn replay_whole(
     alloc: Global,
     trace: &Trace,
     policy: PolicyName,
-    asked: &BoundsTask,
+    asked: &BoundSettings,
 ) -> Result<Replay, NoMemory>
-    ensures { IfOk result (IsReplay policy asked.now.capacity 0 trace.now) }
+    ensures { IfOk result (IsReplay policy asked.now.terms.capacity 0 trace.now) }
 {
-    let r = ReplayTask {
-        policy,
-        capacity: asked.capacity,
-        warmup: 0,
-    };
-    replay_by(alloc, trace, r)
+    replay_by(
+        alloc,
+        trace,
+        ReplaySettings::new(policy, asked.terms.capacity, 0),
+    )
 }
 
 // The replay of each policy.
-fn replays_of(alloc: Global, trace: &Trace, asked: &BoundsTask) -> Result<PolicyReplays, NoMemory>
-    ensures { IfOk result (AreReplays asked.now.capacity trace.now) }
+fn replays_of(
+    alloc: Global,
+    trace: &Trace,
+    asked: &BoundSettings,
+) -> Result<PolicyReplays, NoMemory>
+    ensures { IfOk result (AreReplays asked.now.terms.capacity trace.now) }
 {
     Ok(PolicyReplays {
         lru: replay_whole(alloc, trace, PolicyName::Lru, asked)?,
@@ -68,9 +71,13 @@ fn replays_of(alloc: Global, trace: &Trace, asked: &BoundsTask) -> Result<Policy
 
 /// The report of a demo. Its certificate stays in memory, and is checked against the lines of the trace before anything
 /// is reported.
-pub fn demo_report(alloc: Global, drawing: DrawTask, asked: &BoundsTask) -> Result<Vec<u8>, Refusal>
-    ensures shown { IfOk result (λ text. IsDemoText (drawing_by drawing) (asked_by asked.now) text.items) }
-    ensures refused { IfErr result (RefusesDemo (drawing_by drawing) (asked_by asked.now)) }
+pub(crate) fn demo_report(
+    alloc: Global,
+    drawing: DrawSettings,
+    asked: &BoundSettings,
+) -> Result<Vec<u8>, Refusal>
+    ensures shown { IfOk result (λ text. IsDemoText drawing asked.now text.items) }
+    ensures refused { IfErr result (RefusesDemo drawing asked.now) }
 {
     let trace = demo_trace(alloc, drawing.seed, drawing.requests, drawing.objects)?;
     let texts = texts_of(alloc, asked, &trace, 0)?;
@@ -81,7 +88,7 @@ pub fn demo_report(alloc: Global, drawing: DrawTask, asked: &BoundsTask) -> Resu
         seed: drawing.seed,
         requests: drawing.requests,
         objects: drawing.objects,
-        capacity: asked.capacity,
+        capacity: asked.terms.capacity,
     };
     Ok(demo_text(alloc, &facts, &texts.report, &replays)?)
 }

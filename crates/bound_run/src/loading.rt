@@ -3,17 +3,17 @@ ghost use Rattle.std.specs.Prelude.{IfOk, IfErr};
 ghost use Rattle.bound_io.specs.Devices.{seen};
 ghost use Rattle.bound_io.specs.Reading.{LosesPrefix};
 ghost use Rattle.trace_any.specs.Readings.{IsFormat};
-ghost use Rattle.bound_run.specs.Asked.{asked_by, replaying_by};
-ghost use Rattle.bound_run.specs.Inputs.{IsCurved, IsLoaded, IsReady, IsReplayed};
-ghost use Rattle.bound_run.specs.Parts.{RefusesBounds, RefusesCurve, RefusesLoading};
+ghost use Rattle.bound_run.specs.Readings.{IsCurved, IsLoaded, IsReady, IsReplayed};
+ghost use Rattle.bound_run.specs.Refusals.{RefusesBounds, RefusesCurve, RefusesLoading};
 
-use crate::bounds::{Texts, texts_of};
+use crate::bounds::texts_of;
 use crate::curves::curve_report;
 use crate::replays::replay_report;
 use crate::status::{refusal_of, refusal_of_curve};
-use crate::tasks::{BoundsTask, ReplayTask};
+use crate::writing::Texts;
 use bound_io::Source;
 use bound_report::Refusal;
+use bound_words::{BoundSettings, ReplaySettings};
 use cache_rules::Trace;
 use std::alloc::Global;
 use trace_any::{Format, Limits, RequestReader, load};
@@ -29,6 +29,7 @@ fn load_all<T: Source>(
     ensures refused { IfErr result (RefusesLoading format (seen T.left T.faults trace.old trace.new)) }
     ensures source { LosesPrefix (T.left trace.old) (T.left trace.new) }
 {
+    // Dropped here, for the proof.
     let read = {
         let mut reader = RequestReader::new(alloc, format, Limits::full())?;
         load(alloc, &mut reader, trace)
@@ -43,14 +44,15 @@ fn load_all<T: Source>(
 pub(crate) fn prepare<T: Source>(
     alloc: Global,
     format: Format,
-    asked: &BoundsTask,
+    asked: &BoundSettings,
     trace: &mut T,
 ) -> Result<Texts, Refusal>
     requires format { IsFormat format }
-    ensures ready { IfOk result (λ texts. IsReady format (asked_by asked.now) (seen T.left T.faults trace.old trace.new) texts.cert.items texts.report.items) }
-    ensures refused { IfErr result (RefusesBounds format (asked_by asked.now) (seen T.left T.faults trace.old trace.new)) }
+    ensures ready { IfOk result (λ texts. IsReady format asked.now (seen T.left T.faults trace.old trace.new) texts.cert.items texts.report.items) }
+    ensures refused { IfErr result (RefusesBounds format asked.now (seen T.left T.faults trace.old trace.new)) }
     ensures source { LosesPrefix (T.left trace.old) (T.left trace.new) }
 {
+    // Dropped here, for the proof.
     let texts = {
         let (requests, dropped) = load_all(alloc, format, trace)?;
         texts_of(alloc, asked, &requests, dropped)
@@ -62,14 +64,15 @@ pub(crate) fn prepare<T: Source>(
 pub(crate) fn replay_all<T: Source>(
     alloc: Global,
     format: Format,
-    r: ReplayTask,
+    r: ReplaySettings,
     trace: &mut T,
 ) -> Result<Vec<u8>, Refusal>
     requires format { IsFormat format }
-    ensures replayed { IfOk result (λ text. IsReplayed format (replaying_by r) (seen T.left T.faults trace.old trace.new) text.items) }
+    ensures replayed { IfOk result (λ text. IsReplayed format r (seen T.left T.faults trace.old trace.new) text.items) }
     ensures refused { IfErr result (RefusesLoading format (seen T.left T.faults trace.old trace.new)) }
     ensures source { LosesPrefix (T.left trace.old) (T.left trace.new) }
 {
+    // Dropped here, for the proof.
     let text = {
         let (requests, dropped) = load_all(alloc, format, trace)?;
         replay_report(alloc, r, &requests, dropped)
@@ -88,6 +91,7 @@ pub(crate) fn curve_all<T: Source>(
     ensures refused { IfErr result (RefusesCurve format (seen T.left T.faults trace.old trace.new)) }
     ensures source { LosesPrefix (T.left trace.old) (T.left trace.new) }
 {
+    // Dropped here, for the proof.
     let text = {
         let (requests, dropped) = load_all(alloc, format, trace)?;
         curve_report(alloc, &requests, dropped)

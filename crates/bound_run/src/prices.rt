@@ -20,13 +20,13 @@ enum Held {
 
 /// A price of each step and a flow of each interval. One price and no flow take no memory.
 #[derive(Drop)]
-pub struct PricesAndFlows {
+pub(crate) struct PricesAndFlows {
     held: Held,
 }
 
 impl Model for PricesAndFlows {
     ghost use Rattle.flow_model.specs.Solutions.{Answer};
-    ghost use Rattle.bound_run.specs.Held.{held_answer};
+    ghost use Rattle.bound_run.specs.HeldPrices.{held_answer};
 
     ghost Value = { Answer };
 
@@ -35,7 +35,7 @@ impl Model for PricesAndFlows {
 
 impl PricesAndFlows {
     /// Those of a solution.
-    pub fn of_solution(solution: Solution) -> Self
+    pub(crate) fn of_solution(solution: Solution) -> Self
         ensures { result ≡ solution }
     {
         PricesAndFlows {
@@ -44,7 +44,7 @@ impl PricesAndFlows {
     }
 
     /// One price on each step but the last, 0 there, and no flow in any interval.
-    pub fn one_price(price: u128, steps: u32, intervals: u32) -> Self
+    pub(crate) fn one_price(price: u128, steps: u32, intervals: u32) -> Self
         ensures { result ≡ record { prices = constant_prices price steps; flows = replicate intervals 0 } }
     {
         PricesAndFlows {
@@ -57,7 +57,7 @@ impl PricesAndFlows {
     }
 
     /// The price of a step.
-    pub fn price_at(&self, step: u32) -> u128
+    pub(crate) fn price_at(&self, step: u32) -> u128
         requires { step < length self.now.prices }
         ensures { result ≡ slice_index_or self.now.prices step 0 }
     {
@@ -69,7 +69,7 @@ impl PricesAndFlows {
     }
 
     /// The flow of the interval of a number.
-    pub fn flow_of(&self, interval: u32) -> u64
+    pub(crate) fn flow_of(&self, interval: u32) -> u64
         requires { interval < length self.now.flows }
         ensures { result ≡ slice_index self.now.flows interval }
     {

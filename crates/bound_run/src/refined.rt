@@ -1,28 +1,37 @@
 //! A certificate whose prices are refined: it is checked, its prices are settled block by block, and it is written again.
-ghost use Rattle.std.specs.Prelude.{◌≡◌, ◌≤◌, ◌^◌, length, IfOk, IfErr, OnOk};
-ghost use Rattle.std.specs.Io.KnownBytes.{Appends};
+ghost use Rattle.std.specs.Prelude.{◌≡◌, ◌≤◌, IfOk, IfErr};
 ghost use Rattle.bound_io.specs.Devices.{seen};
 ghost use Rattle.bound_io.specs.Reading.{LosesPrefix};
-ghost use Rattle.cache_model.specs.Certificates.{IsCertificate, IsValid, prices_of};
-ghost use Rattle.cache_model.specs.Texts.{cert_text};
-ghost use Rattle.cert_format.specs.Readers.{fresh as first_record};
-ghost use Rattle.trace_any.specs.Readers.{fresh as first_request};
-ghost use Rattle.trace_any.specs.Readings.{IsFormat, full_limits};
-ghost use Rattle.bound_run.specs.Parts.{RefusesCheck};
-ghost use Rattle.bound_run.specs.Refined.{AreRefinedTexts, IsKept, IsRefined, RefinesPrices, verdict_on, with_price, with_prices, with_upper};
+ghost use Rattle.cache_model.specs.Claim.{terms_of};
+ghost use Rattle.cache_model.specs.Certificates.{IsValid, prices_of};
+ghost use Rattle.trace_any.specs.Readings.{IsFormat};
+ghost use Rattle.bound_run.specs.Refusals.{RefusesCheck};
+ghost use Rattle.bound_run.specs.Refined.{AreRefinedTexts, IsKept, IsRefined, RefinesPrices, verdict_on, with_price, with_upper};
 
-use crate::bounds::Texts;
+use crate::bounds::intervals_of;
+use crate::reports::refined_report;
 use crate::status::refusal_of_check;
+use crate::writing::Texts;
 use bound_base::NoMemory;
-use bound_io::{Failed, GrowSink, Sink, Source};
-use bound_report::{Refusal, push_warmup, refined_text};
-use cache_model::{Header, Record};
-use cert_checker::{Kept, Verdict, check_and_keep};
-use cert_format::{CertReader, write_end, write_header, write_record};
-use interval_maker::make;
+use bound_io::Source;
+use bound_report::Refusal;
+use cache_model::{Header, Record, Terms};
+use cert_checker::{Kept, Verdict, keep_all};
+use cert_format::{Records, cert_of};
 use price_refine::{Refined, refine};
 use std::alloc::Global;
-use trace_any::{Format, Limits, RequestReader};
+use trace_any::Format;
+
+// The terms of a certificate.
+fn terms_of(header: &Header) -> Terms
+    ensures { result ≡ terms_of header.now }
+{
+    Terms {
+        objective: header.objective,
+        capacity: header.capacity,
+        warmup: header.warmup,
+    }
+}
 
 // The price of each step.
 fn prices_of(alloc: Global, records: &[Record]) -> Result<Vec<u128>, NoMemory>
@@ -38,13 +47,7 @@ fn refine_kept(alloc: Global, kept: &Kept, width: u32) -> Result<Refined, NoMemo
     ensures refined { IfOk result (RefinesPrices width kept.now.trace kept.now.verdict.header) }
 {
     let header = &kept.verdict().header;
-    let intervals = make(
-        alloc,
-        kept.trace(),
-        header.capacity,
-        header.objective,
-        header.warmup,
-    )?;
+    let intervals = intervals_of(alloc, terms_of(header), kept.trace())?;
     let prices = prices_of(alloc, kept.records())?;
     refine(
         alloc,
@@ -68,43 +71,23 @@ fn with_price(entry: &Record, price: u128) -> Record
     }
 }
 
-// Writes the certificate of these records with other prices.
-fn write_refined<K: Sink>(
-    sink: &mut K,
-    header: &Header,
-    records: &[Record],
-    prices: &[u128],
-) -> Result<(), Failed>
-    requires each_step { length prices.now ≡ length records.now }
-    requires certificate { IsCertificate header.now (with_prices records.now prices.now) }
-    ensures { OnOk result (Appends (K.written sink.old) (K.written sink.new) (cert_text header.now (with_prices records.now prices.now))) }
-{
-    write_header(sink, header)?;
-    let mut before = 0;
-    for (t, price) in prices.iter().enumerate() {
-        let record = with_price(&records[t], *price);
-        write_record(sink, header.version, before, &record)?;
-        before = *price;
-    }
-    write_end(sink)?;
-    Ok(())
+// The records of a certificate with other prices.
+#[derive(Drop)]
+struct Repriced<'a> {
+    records: &'a [Record],
+    prices: &'a [u128],
 }
 
-// The text of the certificate of these records with other prices.
-fn cert_of(
-    alloc: Global,
-    header: &Header,
-    records: &[Record],
-    prices: &[u128],
-) -> Result<Vec<u8>, NoMemory>
-    requires each_step { length prices.now ≡ length records.now }
-    requires certificate { IsCertificate header.now (with_prices records.now prices.now) }
-    ensures { IfOk result (λ text. text.items ≡ cert_text header.now (with_prices records.now prices.now)) }
-{
-    let mut sink = GrowSink::new(alloc);
-    match write_refined(&mut sink, header, records, prices) {
-        Ok(()) => Ok(sink.into_bytes()),
-        Err(Failed) => Err(NoMemory),
+impl<'a> Records for Repriced<'a> {
+    ghost use Rattle.std.specs.Prelude.{◌≡◌, length};
+    ghost use Rattle.bound_run.specs.Refined.{with_prices};
+
+    ghost list = { λ r. with_prices r.records.now r.prices.now };
+
+    ghost is_sound = { λ r. length r.prices.now ≡ length r.records.now };
+
+    fn record_at(&self, t: u32) -> Record {
+        with_price(&self.records[t as usize], self.prices[t as usize])
     }
 }
 
@@ -122,71 +105,39 @@ fn texts_of_kept(alloc: Global, kept: &Kept, dropped: u64, width: u32) -> Result
     requires valid { IsValid kept.now.trace kept.now.verdict.header kept.now.records }
     requires verdict { kept.now.verdict ≡ verdict_on kept.now.trace kept.now.verdict.header }
     requires width { 1 ≤ width }
-    ensures { IfOk result (λ texts. AreRefinedTexts width kept.now.trace dropped kept.now.verdict.header kept.now.records texts.cert.items texts.report.items) }
+    ensures { IfOk result (λ texts. AreRefinedTexts width kept.now.trace dropped
+        kept.now.verdict.header kept.now.records texts.cert.items texts.report.items) }
 {
     let refined = refine_kept(alloc, kept, width)?;
     let made = with_upper(kept.verdict(), refined.upper());
-    let cert = cert_of(alloc, &made.header, kept.records(), refined.prices())?;
-    let mut report = refined_text(alloc, kept.verdict().header.upper, &made, dropped)?;
-    push_warmup(&mut report, made.header.warmup)?;
+    let records = Repriced {
+        records: kept.records(),
+        prices: refined.prices(),
+    };
+    let cert = cert_of(alloc, &made.header, &records)?;
+    let report = refined_report(alloc, kept.verdict().header.upper, &made, dropped)?;
     Ok(Texts { cert, report })
 }
 
-// Checks the certificate against the trace, and keeps both, as they are read to their ends. Neither was begun before.
-fn keep_with<T: Source, Q: Source>(
-    alloc: Global,
-    requests: &mut RequestReader,
-    trace: &mut T,
-    records: &mut CertReader,
-    cert: &mut Q,
-) -> Result<(Kept, u64), Refusal>
-    requires requests { requests.old ≡ first_request requests.old.format full_limits }
-    requires records { records.old ≡ first_record }
-    ensures kept { IfOk result (λ k. IsKept requests.old.format (seen T.left T.faults trace.old trace.new) (seen Q.left Q.faults cert.old cert.new) k.0 k.1) }
-    ensures refused { IfErr result (RefusesCheck requests.old.format (seen T.left T.faults trace.old trace.new) (seen Q.left Q.faults cert.old cert.new)) }
-    ensures trace_source { LosesPrefix (T.left trace.old) (T.left trace.new) }
-    ensures cert_source { LosesPrefix (Q.left cert.old) (Q.left cert.new) }
-{
-    match check_and_keep(alloc, requests, trace, records, cert) {
-        Ok(kept) => Ok((kept, requests.dropped())),
-        Err(fault) => Err(refusal_of_check(fault)),
-    }
-}
-
-// The same, if the reader of the records is new.
-fn keep_by<T: Source, Q: Source>(
-    alloc: Global,
-    format: Format,
-    trace: &mut T,
-    records: &mut CertReader,
-    cert: &mut Q,
-) -> Result<(Kept, u64), Refusal>
-    requires format { IsFormat format }
-    requires records { records.old ≡ first_record }
-    ensures kept { IfOk result (λ k. IsKept format (seen T.left T.faults trace.old trace.new) (seen Q.left Q.faults cert.old cert.new) k.0 k.1) }
-    ensures refused { IfErr result (RefusesCheck format (seen T.left T.faults trace.old trace.new) (seen Q.left Q.faults cert.old cert.new)) }
-    ensures trace_source { LosesPrefix (T.left trace.old) (T.left trace.new) }
-    ensures cert_source { LosesPrefix (Q.left cert.old) (Q.left cert.new) }
-{
-    let mut requests = RequestReader::new(alloc, format, Limits::full())?;
-    keep_with(alloc, &mut requests, trace, records, cert)
-}
-
-// The same, of all that the sources have left.
-fn keep_all<T: Source, Q: Source>(
+// Checks the certificate against the trace, and keeps both, as they are read to their ends.
+fn keep_read<T: Source, Q: Source>(
     alloc: Global,
     format: Format,
     trace: &mut T,
     cert: &mut Q,
 ) -> Result<(Kept, u64), Refusal>
     requires { IsFormat format }
-    ensures kept { IfOk result (λ k. IsKept format (seen T.left T.faults trace.old trace.new) (seen Q.left Q.faults cert.old cert.new) k.0 k.1) }
-    ensures refused { IfErr result (RefusesCheck format (seen T.left T.faults trace.old trace.new) (seen Q.left Q.faults cert.old cert.new)) }
+    ensures kept { IfOk result (λ k. IsKept format
+        (seen T.left T.faults trace.old trace.new) (seen Q.left Q.faults cert.old cert.new) k.0 k.1) }
+    ensures refused { IfErr result (RefusesCheck format
+        (seen T.left T.faults trace.old trace.new) (seen Q.left Q.faults cert.old cert.new)) }
     ensures trace_source { LosesPrefix (T.left trace.old) (T.left trace.new) }
     ensures cert_source { LosesPrefix (Q.left cert.old) (Q.left cert.new) }
 {
-    let mut records = CertReader::new(alloc)?;
-    keep_by(alloc, format, trace, &mut records, cert)
+    match keep_all(alloc, format, trace, cert) {
+        Ok(found) => Ok(found),
+        Err(fault) => Err(refusal_of_check(fault)),
+    }
 }
 
 /// The certificate and the report of a refinement of all that the sources have left, with blocks of this number of
@@ -200,13 +151,16 @@ pub(crate) fn refine_all<T: Source, Q: Source>(
 ) -> Result<Texts, Refusal>
     requires format { IsFormat format }
     requires width { 1 ≤ width }
-    ensures refined { IfOk result (λ texts. IsRefined format width (seen T.left T.faults trace.old trace.new) (seen Q.left Q.faults cert.old cert.new) texts.cert.items texts.report.items) }
-    ensures refused { IfErr result (RefusesCheck format (seen T.left T.faults trace.old trace.new) (seen Q.left Q.faults cert.old cert.new)) }
+    ensures refined { IfOk result (λ texts. IsRefined format width
+        (seen T.left T.faults trace.old trace.new) (seen Q.left Q.faults cert.old cert.new) texts.cert.items texts.report.items) }
+    ensures refused { IfErr result (RefusesCheck format
+        (seen T.left T.faults trace.old trace.new) (seen Q.left Q.faults cert.old cert.new)) }
     ensures trace_source { LosesPrefix (T.left trace.old) (T.left trace.new) }
     ensures cert_source { LosesPrefix (Q.left cert.old) (Q.left cert.new) }
 {
+    // Dropped here, for the proof.
     let texts = {
-        let (kept, dropped) = keep_all(alloc, format, trace, cert)?;
+        let (kept, dropped) = keep_read(alloc, format, trace, cert)?;
         texts_of_kept(alloc, &kept, dropped, width)
     };
     Ok(texts?)

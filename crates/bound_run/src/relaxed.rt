@@ -8,15 +8,15 @@ ghost use Rattle.bound_report.specs.declared.facts.Mode.TheVariants.{Flow};
 ghost use Rattle.interval_maker.specs.Timelines.{IsTimeline};
 ghost use Rattle.relaxation.specs.Prices.{most_paid};
 ghost use Rattle.schedule_round.specs.Laws.{full_flags};
-ghost use Rattle.bound_run.specs.Made.{IsOfMode, width_of};
-ghost use Rattle.bound_run.specs.Modes.{IsModeInRange};
+ghost use Rattle.bound_run.specs.BoundsMade.{IsOfMode, width_of};
+ghost use Rattle.bound_words.specs.Ranges.{IsModeInRange};
 ghost use Rattle.bound_run.specs.Relaxations.{IsRelaxed};
 
 use crate::prices::PricesAndFlows;
-use crate::tasks::BoundsTask;
 use bound_base::NoMemory;
 use bound_report::{Mode, Window};
-use constant_price::{bound_at, least};
+use bound_words::BoundSettings;
+use constant_price::bound_at;
 use flow_model::Solution;
 use interval_maker::Intervals;
 use relaxation::{Scale, Sums, bound_of, instance, value_of_schedule};
@@ -27,7 +27,7 @@ use window_bounds::solve_windows;
 /// For each interval it is said whether its flow is its whole weight, and the price of all steps but the last is named
 /// if they have one.
 #[derive(Drop)]
-pub struct Relaxed {
+pub(crate) struct Relaxed {
     pub solution: PricesAndFlows,
     pub full: Vec<bool>,
     pub price: u128,
@@ -86,7 +86,7 @@ fn upper_of(
 }
 
 /// How many steps a window has, if there are this many in all.
-pub fn width_of(window: Window, steps: u32) -> u32
+pub(crate) fn width_of(window: Window, steps: u32) -> u32
     ensures { result ≡ width_of window steps }
 {
     match window {
@@ -111,6 +111,7 @@ fn by_windows(
     ensures schedule { IfOk result (λ r. IsFractionalSchedule intervals.now.items scale.unit scale.units r.0.flows) }
     ensures full { IfOk result (λ r. r.1.items ≡ full_flags scale.unit intervals.now.items r.0.flows) }
 {
+    // Dropped here, for the proof.
     let solved = {
         let whole = instance(alloc, intervals, scale.unit, scale.units, scale.denominator)?;
         solve_windows(alloc, &whole, width_of(window, intervals.steps()))
@@ -129,7 +130,8 @@ fn by_flow(
     requires mode { IsModeInRange (Flow window) }
     requires timeline { IsTimeline intervals.now }
     requires divides { All (λ i. scale.unit ∣ i.size) intervals.now.items }
-    ensures of_mode { IfOk result (λ r. IsOfMode (Flow window) intervals.now scale.unit scale.units scale.denominator r.solution.prices r.solution.flows r.price) }
+    ensures of_mode { IfOk result (λ r. IsOfMode (Flow window) intervals.now scale.unit scale.units scale.denominator
+        r.solution.prices r.solution.flows r.price) }
     ensures relaxed { IfOk result (IsRelaxed intervals.now scale.unit scale.units scale.denominator) }
 {
     let (solution, full) = by_windows(alloc, window, intervals, scale)?;
@@ -145,15 +147,16 @@ fn by_flow(
 }
 
 /// The prices and flows of a mode, which flows are full, and what prices and flows are worth.
-pub fn relax(
+pub(crate) fn relax(
     alloc: Global,
-    asked: &BoundsTask,
+    asked: &BoundSettings,
     intervals: &Intervals,
     scale: Scale,
 ) -> Result<Relaxed, NoMemory>
     requires timeline { IsTimeline intervals.now }
     requires divides { All (λ i. scale.unit ∣ i.size) intervals.now.items }
-    ensures of_mode { IfOk result (λ r. IsOfMode asked.now.mode intervals.now scale.unit scale.units scale.denominator r.solution.prices r.solution.flows r.price) }
+    ensures of_mode { IfOk result (λ r. IsOfMode asked.now.mode intervals.now scale.unit scale.units scale.denominator
+        r.solution.prices r.solution.flows r.price) }
     ensures relaxed { IfOk result (IsRelaxed intervals.now scale.unit scale.units scale.denominator) }
 {
     let Scale {
@@ -164,7 +167,7 @@ pub fn relax(
     match asked.mode {
         Mode::Flow { window } => by_flow(alloc, window, intervals, scale),
         Mode::Constant => {
-            let price = least(intervals, unit, units, denominator);
+            let price = constant_price::least(intervals, unit, units, denominator);
             at_one_price(alloc, intervals, scale, price)
         }
         Mode::Infinite => at_one_price(alloc, intervals, scale, 0),

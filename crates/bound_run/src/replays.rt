@@ -4,13 +4,12 @@ ghost use Rattle.cache_model.specs.Objects.{objects_of};
 ghost use Rattle.policy_laws.specs.Laws.{HaveOneSize};
 ghost use Rattle.policy_model.specs.Runs.{AreScores};
 ghost use Rattle.replay_core.specs.Laws.{IsFresh, IsRunOf};
-ghost use Rattle.bound_run.specs.Asked.{replaying_by};
 ghost use Rattle.bound_run.specs.Replays.{IsReplay, IsReplayText, IsWithinBounds};
 
-use crate::tasks::ReplayTask;
 use belady_laws::{best_replay, size_clash};
 use bound_base::NoMemory;
 use bound_report::{ReplayFacts, push_warmup, replay_text};
+use bound_words::ReplaySettings;
 use cache_rules::Trace;
 use policy_model::PolicyName;
 use replay_core::{Policy, Replay, replay};
@@ -36,28 +35,28 @@ pub fn bounded_replay<P: Policy>(
     replay(alloc, trace, warmup, policy)
 }
 
-fn replay_lru(alloc: Global, trace: &Trace, r: ReplayTask) -> Result<Replay, NoMemory>
+fn replay_lru(alloc: Global, trace: &Trace, r: ReplaySettings) -> Result<Replay, NoMemory>
     ensures { IfOk result (IsReplay PolicyName.Lru r.capacity r.warmup trace.now) }
 {
     let mut policy = Lru::new(alloc, r.capacity, trace.objects())?;
     bounded_replay(alloc, trace, r.warmup, &mut policy)
 }
 
-fn replay_fifo(alloc: Global, trace: &Trace, r: ReplayTask) -> Result<Replay, NoMemory>
+fn replay_fifo(alloc: Global, trace: &Trace, r: ReplaySettings) -> Result<Replay, NoMemory>
     ensures { IfOk result (IsReplay PolicyName.Fifo r.capacity r.warmup trace.now) }
 {
     let mut policy = Fifo::new(alloc, r.capacity, trace.objects())?;
     bounded_replay(alloc, trace, r.warmup, &mut policy)
 }
 
-fn replay_clock(alloc: Global, trace: &Trace, r: ReplayTask) -> Result<Replay, NoMemory>
+fn replay_clock(alloc: Global, trace: &Trace, r: ReplaySettings) -> Result<Replay, NoMemory>
     ensures { IfOk result (IsReplay PolicyName.Clock r.capacity r.warmup trace.now) }
 {
     let mut policy = Clock::new(alloc, r.capacity, trace.objects())?;
     bounded_replay(alloc, trace, r.warmup, &mut policy)
 }
 
-fn replay_lfu(alloc: Global, trace: &Trace, r: ReplayTask) -> Result<Replay, NoMemory>
+fn replay_lfu(alloc: Global, trace: &Trace, r: ReplaySettings) -> Result<Replay, NoMemory>
     ensures { IfOk result (IsReplay PolicyName.Lfu r.capacity r.warmup trace.now) }
 {
     let mut policy = Lfu::new(alloc, r.capacity, trace.objects())?;
@@ -76,7 +75,7 @@ fn replay_best(alloc: Global, trace: &Trace, capacity: u64) -> Result<Replay, No
     }
 }
 
-fn replay_farthest(alloc: Global, trace: &Trace, r: ReplayTask) -> Result<Replay, NoMemory>
+fn replay_farthest(alloc: Global, trace: &Trace, r: ReplaySettings) -> Result<Replay, NoMemory>
     ensures { IfOk result (IsReplay PolicyName.Belady r.capacity r.warmup trace.now) }
 {
     let mut policy = Belady::new(alloc, r.capacity, trace.objects())?;
@@ -85,7 +84,7 @@ fn replay_farthest(alloc: Global, trace: &Trace, r: ReplayTask) -> Result<Replay
 
 // Belady's rule gives up what is asked for farthest in the future. If every request counts and all that fits has one
 // size, that is best.
-fn replay_belady(alloc: Global, trace: &Trace, r: ReplayTask) -> Result<Replay, NoMemory>
+fn replay_belady(alloc: Global, trace: &Trace, r: ReplaySettings) -> Result<Replay, NoMemory>
     ensures { IfOk result (IsReplay PolicyName.Belady r.capacity r.warmup trace.now) }
 {
     match size_clash(trace, r.capacity) {
@@ -95,7 +94,7 @@ fn replay_belady(alloc: Global, trace: &Trace, r: ReplayTask) -> Result<Replay, 
 }
 
 /// The replay of a policy.
-pub(crate) fn replay_by(alloc: Global, trace: &Trace, r: ReplayTask) -> Result<Replay, NoMemory>
+pub(crate) fn replay_by(alloc: Global, trace: &Trace, r: ReplaySettings) -> Result<Replay, NoMemory>
     ensures { IfOk result (IsReplay r.policy r.capacity r.warmup trace.now) }
 {
     match r.policy {
@@ -108,13 +107,13 @@ pub(crate) fn replay_by(alloc: Global, trace: &Trace, r: ReplayTask) -> Result<R
 }
 
 /// The report of the replay of a trace, with the number of its lines that were dropped.
-pub fn replay_report(
+pub(crate) fn replay_report(
     alloc: Global,
-    r: ReplayTask,
+    r: ReplaySettings,
     trace: &Trace,
     dropped: u64,
 ) -> Result<Vec<u8>, NoMemory>
-    ensures { IfOk result (λ text. IsReplayText (replaying_by r) trace.now dropped text.items) }
+    ensures { IfOk result (λ text. IsReplayText r trace.now dropped text.items) }
 {
     let replay = replay_by(alloc, trace, r)?;
     let facts = ReplayFacts {

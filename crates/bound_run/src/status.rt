@@ -2,8 +2,9 @@
 ghost use Rattle.std.specs.Prelude.{◌≡◌};
 ghost use Rattle.bound_run.specs.Statuses.{code_of, refusal_of, refusal_of_check, refusal_of_curve};
 
-use crate::words::WordFault;
+use crate::bounds::BoundsFault;
 use bound_report::{InvalidKind, LimitName, Refusal};
+use bound_words::WordFault;
 use cert_checker::CheckFault;
 use stack_curve::CurveFault;
 use trace_any::TraceFault;
@@ -79,8 +80,22 @@ impl From<Refusal> for Status {
     }
 }
 
+impl From<BoundsFault> for Refusal {
+    ghost use Rattle.std.specs.Prelude.{◌≡◌};
+    ghost use Rattle.bound_run.specs.Statuses.{refusal_of_bounds};
+
+    ghost from_gives = { λ f r. r ≡ refusal_of_bounds f };
+
+    fn from(fault: BoundsFault) -> Self {
+        match fault {
+            BoundsFault::Denominator => Refusal::Limit(LimitName::Denominator),
+            BoundsFault::NoMemory => Refusal::NoMemory,
+        }
+    }
+}
+
 /// The refusal that a fault of the trace leads to.
-pub fn refusal_of(fault: TraceFault) -> Refusal
+pub(crate) fn refusal_of(fault: TraceFault) -> Refusal
     ensures { result ≡ refusal_of fault }
 {
     match fault {
@@ -93,7 +108,7 @@ pub fn refusal_of(fault: TraceFault) -> Refusal
 }
 
 /// The refusal that a fault of a check leads to.
-pub fn refusal_of_check(fault: CheckFault) -> Refusal
+pub(crate) fn refusal_of_check(fault: CheckFault) -> Refusal
     ensures { result ≡ refusal_of_check fault }
 {
     match fault {
@@ -105,7 +120,7 @@ pub fn refusal_of_check(fault: CheckFault) -> Refusal
 }
 
 /// The refusal that a fault of a curve leads to.
-pub fn refusal_of_curve(fault: CurveFault) -> Refusal
+pub(crate) fn refusal_of_curve(fault: CurveFault) -> Refusal
     ensures { result ≡ refusal_of_curve fault }
 {
     match fault {

@@ -3,25 +3,24 @@ ghost use Rattle.std.specs.Prelude.{◌≡◌, ◌≤◌, map, string_bytes, Res
 ghost use Rattle.bound_io.specs.Devices.{seen};
 ghost use Rattle.bound_io.specs.Reading.{LosesPrefix};
 ghost use Rattle.trace_any.specs.Readings.{IsFormat};
-ghost use Rattle.bound_run.specs.Asked.{asked_by, drawing_by, replaying_by};
 ghost use Rattle.bound_run.specs.Headline.{Headline};
 ghost use Rattle.bound_run.specs.Run.{BoundsEnd, CheckEnds, Completes, CurveEnds, DemoEnds, RefineEnds, ReplayEnds, RunEnds, UpgradeEnds, devices};
 ghost use Rattle.bound_run.specs.Statuses.{ending_of};
-ghost use Rattle.bound_run.specs.Tasks.{IsPlanInRange};
-ghost use Rattle.bound_run.specs.Words.{plan};
+ghost use Rattle.bound_words.specs.Settings.{IsPlanInRange};
+ghost use Rattle.bound_words.specs.Words.{plan};
 
 use crate::checking::verdict_of;
 use crate::demos::demo_report;
 use crate::loading::{curve_all, prepare, replay_all};
 use crate::refined::refine_all;
 use crate::status::Status;
-use crate::tasks::{BoundsTask, DrawTask, ReplayTask};
 use crate::upgrades::upgrade_all;
-use crate::words::{Plan, WordFault, plan_of};
 use crate::writing::{refuse, write_out, write_report};
 use bound_io::{Sink, Source};
 use bound_report::Refusal;
-use cache_model::CERT_VERSION;
+use bound_words::{
+    BoundSettings, DrawSettings, Plan, ReplaySettings, Settings, WordFault, plan_of, settings_of,
+};
 use std::alloc::Global;
 use trace_any::Format;
 
@@ -29,13 +28,13 @@ use trace_any::Format;
 fn run_bounds<T: Source, R: Sink, K: Sink>(
     alloc: Global,
     format: Format,
-    asked: &BoundsTask,
+    asked: &BoundSettings,
     trace: &mut T,
     report: &mut R,
     made: &mut K,
 ) -> Status
     requires format { IsFormat format }
-    ensures ends { BoundsEnd format (asked_by asked.now)
+    ensures ends { BoundsEnd format asked.now
         (seen T.left T.faults trace.old trace.new)
         (seen R.written R.faults report.old report.new)
         (seen K.written K.faults made.old made.new) (ending_of result) }
@@ -73,17 +72,17 @@ fn run_check<T: Source, Q: Source, R: Sink>(
 fn run_replay<T: Source, R: Sink>(
     alloc: Global,
     format: Format,
-    r: ReplayTask,
+    asked: ReplaySettings,
     trace: &mut T,
     report: &mut R,
 ) -> Status
     requires format { IsFormat format }
-    ensures ends { ReplayEnds format (replaying_by r)
+    ensures ends { ReplayEnds format asked
         (seen T.left T.faults trace.old trace.new)
         (seen R.written R.faults report.old report.new) (ending_of result) }
     ensures source { LosesPrefix (T.left trace.old) (T.left trace.new) }
 {
-    match replay_all(alloc, format, r, trace) {
+    match replay_all(alloc, format, asked, trace) {
         Ok(replayed) => write_report(report, &replayed),
         Err(refusal) => refuse(report, refusal),
     }
@@ -109,8 +108,13 @@ fn run_curve<T: Source, R: Sink>(
 }
 
 // Writes the report of a demo.
-fn run_demo<R: Sink>(alloc: Global, drawing: DrawTask, asked: &BoundsTask, report: &mut R) -> Status
-    ensures { DemoEnds (drawing_by drawing) (asked_by asked.now) (seen R.written R.faults report.old report.new) (ending_of result) }
+fn run_demo<R: Sink>(
+    alloc: Global,
+    drawing: DrawSettings,
+    asked: &BoundSettings,
+    report: &mut R,
+) -> Status
+    ensures { DemoEnds drawing asked.now (seen R.written R.faults report.old report.new) (ending_of result) }
 {
     match demo_report(alloc, drawing, asked) {
         Ok(shown) => write_report(report, &shown),
@@ -181,67 +185,14 @@ fn run_plan<T: Source, Q: Source, R: Sink, K: Sink>(
         Ok(plan) => plan,
         Err(WordFault { place, kind }) => return refuse(report, Refusal::Words { place, kind }),
     };
-    match plan {
-        Plan::Bounds {
-            format,
-            capacity,
-            objective,
-            mode,
-            denominator,
-            warmup,
-            version,
-        } => {
-            let asked = BoundsTask {
-                capacity,
-                objective,
-                mode,
-                denominator,
-                warmup,
-                version,
-            };
-            run_bounds(alloc, format, &asked, trace, report, made)
-        }
-        Plan::Check { format } => run_check(alloc, format, trace, cert, report),
-        Plan::Replay {
-            format,
-            capacity,
-            policy,
-            warmup,
-        } => {
-            let r = ReplayTask {
-                policy,
-                capacity,
-                warmup,
-            };
-            run_replay(alloc, format, r, trace, report)
-        }
-        Plan::Curve { format } => run_curve(alloc, format, trace, report),
-        Plan::Demo {
-            seed,
-            requests,
-            objects,
-            capacity,
-            objective,
-            mode,
-            denominator,
-        } => {
-            let drawing = DrawTask {
-                seed,
-                requests,
-                objects,
-            };
-            let asked = BoundsTask {
-                capacity,
-                objective,
-                mode,
-                denominator,
-                warmup: 0,
-                version: CERT_VERSION,
-            };
-            run_demo(alloc, drawing, &asked, report)
-        }
-        Plan::Upgrade => run_upgrade(alloc, cert, report, made),
-        Plan::Refine { format, width } => {
+    match settings_of(plan) {
+        Settings::Bounds(format, asked) => run_bounds(alloc, format, &asked, trace, report, made),
+        Settings::Check(format) => run_check(alloc, format, trace, cert, report),
+        Settings::Replay(format, asked) => run_replay(alloc, format, asked, trace, report),
+        Settings::Curve(format) => run_curve(alloc, format, trace, report),
+        Settings::Demo(drawing, asked) => run_demo(alloc, drawing, &asked, report),
+        Settings::Upgrade => run_upgrade(alloc, cert, report, made),
+        Settings::Refine(format, width) => {
             run_refine(alloc, format, width, trace, cert, report, made)
         }
     }

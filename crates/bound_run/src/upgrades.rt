@@ -1,20 +1,21 @@
 //! A certificate that is read, and written again in the second version of its text.
-ghost use Rattle.std.specs.Prelude.{◌≡◌, [], IfOk, IfErr, OnOk};
+ghost use Rattle.std.specs.Prelude.{◌≡◌, [], IfOk, IfErr};
 ghost use Rattle.bound_io.specs.Devices.{seen};
 ghost use Rattle.bound_io.specs.GrowSink.{bytes_written};
 ghost use Rattle.bound_io.specs.Reading.{LosesPrefix};
 ghost use Rattle.cert_format.specs.Readers.{fresh};
 ghost use Rattle.bound_run.specs.Statuses.{refusal_of_check};
-ghost use Rattle.bound_run.specs.Upgrades.{IsRewritten, IsUpgraded, RefusesUpgrade, upgraded};
+ghost use Rattle.bound_run.specs.Upgrades.{IsRewritten, IsUpgraded, upgraded};
+ghost use Rattle.bound_run.specs.Refusals.{RefusesUpgrade};
 
-use crate::bounds::Texts;
 use crate::status::refusal_of_check;
+use crate::writing::Texts;
 use bound_base::NoMemory;
 use bound_io::{Failed, GrowSink, Source};
 use bound_report::{Refusal, upgrade_text};
 use cache_model::{Header, SHORT_VERSION};
 use cert_checker::CheckFault;
-use cert_format::{CertReader, write_end, write_header, write_record};
+use cert_format::{CertReader, CertWriter};
 use std::alloc::Global;
 
 // The header, in the second version.
@@ -27,11 +28,11 @@ fn upgraded(header: &Header) -> Header
 }
 
 // A sink in memory fails only if memory runs out.
-fn grown(written: Result<(), Failed>) -> Result<(), NoMemory>
-    ensures { OnOk result (written ≡ Ok tt) }
+fn grown<T>(written: Result<T, Failed>) -> Result<T, NoMemory>
+    ensures { IfOk result (λ value. written ≡ Ok value) }
 {
     match written {
-        Ok(()) => Ok(()),
+        Ok(value) => Ok(value),
         Err(Failed) => Err(NoMemory),
     }
 }
@@ -49,15 +50,13 @@ fn rewrite<Q: Source>(
     ensures source { LosesPrefix (Q.left source.old) (Q.left source.new) }
 {
     let header = reader.header(source)?;
-    grown(write_header(sink, &upgraded(&header)))?;
-    let mut before = 0;
+    let mut writer = grown(CertWriter::begin(sink, &upgraded(&header)))?;
     for _ in 0..header.requests {
         let entry = reader.next_record(source)?;
-        grown(write_record(sink, SHORT_VERSION, before, &entry))?;
-        before = entry.price;
+        grown(writer.push(sink, &entry))?;
     }
     reader.finish_text(source)?;
-    grown(write_end(sink))?;
+    grown(writer.end(sink))?;
     Ok(header)
 }
 
@@ -68,6 +67,7 @@ pub(crate) fn upgrade_all<Q: Source>(alloc: Global, cert: &mut Q) -> Result<Text
     ensures source { LosesPrefix (Q.left cert.old) (Q.left cert.new) }
 {
     let mut sink = GrowSink::new(alloc);
+    // Dropped here, for the proof.
     let rewritten = {
         let mut reader = CertReader::new(alloc)?;
         rewrite(&mut reader, cert, &mut sink)

@@ -2,13 +2,19 @@
 ghost use Rattle.std.specs.Prelude.{◌≡◌};
 ghost use Rattle.bound_io.specs.Devices.{Gets, seen};
 ghost use Rattle.bound_report.specs.Refusals.{refusal_line};
-ghost use Rattle.bound_run.specs.Parts.{WritesOut, WritesReport};
+ghost use Rattle.bound_run.specs.Writings.{WritesOut, WritesReport};
 ghost use Rattle.bound_run.specs.Statuses.{ending_of, status_of};
 
-use crate::bounds::Texts;
 use crate::status::Status;
 use bound_io::{Sink, write_all};
 use bound_report::{Refusal, refusal_text};
+
+/// The certificate and the report.
+#[derive(Drop)]
+pub(crate) struct Texts {
+    pub cert: Vec<u8>,
+    pub report: Vec<u8>,
+}
 
 /// Writes the line that tells why the run stopped, as far as the report takes it.
 pub(crate) fn refuse<R: Sink>(report: &mut R, refusal: Refusal) -> Status

@@ -4,46 +4,44 @@ use Rattle.std.proofs.lemmas.Result.{err_from_is_err_and}
 use Rattle.schedule_round.proofs.Flags.{full_flags_fit}
 use Rattle.bound_run.proofs.MadeOf.{made_of, some_units, unit-le_capacity}
 use Rattle.bound_run.proofs.Relaxing.{flows_each}
-use Rattle.bound_run.specs.Asked.{asked_by}
 use Rattle.bound_run.proofs.bounds.parts_of.Goals as goal
 
 pub invariant_of-scale : goal.invariant_of-scale
 invariant_of-scale c = record {
   some_unit = c.unit_of-unit.ensures.positive;
-  units_in_range = (
-    some_units c.args.asked.now.capacity c.unit_of-unit.result c.unit_of-unit.ensures.positive
-        (unit-le_capacity c.args.intervals.now c.args.asked.now.capacity c.unit_of-unit.result c.args.asked.now.capacity_in_range.0 c.requires.timeline c.requires.fit c.unit_of-unit.ensures.unit),
-    omega (arith, div-le_self c.args.asked.now.capacity c.unit_of-unit.result, c.args.asked.now.capacity_in_range.1),
-  );
+  units_in_range =
+      let capacity = c.asked.inside.terms.capacity in
+      let fit = rw (← c.asked.view_is) at c.requires.fit in (
+        some_units capacity c.unit_of-unit.result c.unit_of-unit.ensures.positive
+            (unit-le_capacity c.args.intervals.now capacity c.unit_of-unit.result c.asked.invariant.capacity.0 c.requires.timeline fit c.unit_of-unit.ensures.unit),
+        omega (arith, div-le_self capacity c.unit_of-unit.result, c.asked.invariant.capacity.1),
+      );
   denominator_in_range = c.in_ok-denominator.ensures.range;
 }
 
 pub schedule_of-requires-clause-flags : goal.schedule_of-requires-clause-flags
 schedule_of-requires-clause-flags c =
     rw (c.deref.ensures.value, c.in_ok-relaxed.ensures.relaxed.full)
-    (full_flags_fit c.args.intervals.now.items c.args.asked.now.capacity c.unit_of-unit.result c.in_ok-relaxed.relaxed.solution.flows c.unit_of-unit.ensures.unit.divides c.in_ok-relaxed.ensures.relaxed.schedule)
+    (full_flags_fit c.args.intervals.now.items c.asked.inside.terms.capacity c.unit_of-unit.result c.in_ok-relaxed.relaxed.solution.flows c.unit_of-unit.ensures.unit.divides c.in_ok-relaxed.ensures.relaxed.schedule)
 
 pub returns-clause-made : goal.returns-clause-made
 returns-clause-made c =
-    rw c.is_exact.ensures
-    (made_of (asked_by c.args.asked.now) c.args.trace.now c.args.intervals.now c.len-requests.result c.unit_of-unit.result (c.args.asked.now.capacity / c.unit_of-unit.result) c.in_ok-denominator.denominator.value c.in_ok-denominator.denominator.exact
+    rw (c.is_exact.ensures, ← c.asked.view_is)
+    (made_of c.asked.inside c.args.trace.now c.args.intervals.now c.len-requests.result c.unit_of-unit.result (c.asked.inside.terms.capacity / c.unit_of-unit.result) c.in_ok-denominator.denominator.value c.in_ok-denominator.denominator.exact
     c.in_ok-relaxed.relaxed.upper c.in_ok-relaxed.relaxed.flow c.in_ok-schedule.schedule.lower c.in_ok-relaxed.relaxed.price c.in_ok-relaxed.relaxed.solution.prices c.in_ok-relaxed.relaxed.solution.flows c.in_ok-schedule.schedule.keeps
-    c.requires.intervals c.len-requests.ensures.requests refl (record {
-      capacity = c.args.asked.now.capacity_in_range;
-      warmup = c.args.asked.now.warmup_in_range;
-      version = c.args.asked.now.version_in_range;
-      mode = c.args.asked.now.mode_in_range;
+    (rw (← c.asked.view_is) at c.requires.intervals) c.len-requests.ensures.requests refl (record {
+      in_range = c.asked.invariant;
       few = omega (arith, c.len-requests.ensures.requests, c.len-requests.ensures.most);
       is_line = c.requires.timeline;
-      fit = c.requires.fit;
+      fit = rw (← c.asked.view_is) at c.requires.fit;
       unit_is = c.unit_of-unit.ensures.unit;
       positive = c.unit_of-unit.ensures.positive;
       units_are = refl;
-      chosen = c.in_ok-denominator.ensures.chosen;
+      chosen = rw (← c.asked.view_is) at c.in_ok-denominator.ensures.chosen;
       range = c.in_ok-denominator.ensures.range;
       whole = c.in_ok-denominator.ensures.exact.0;
       whole_back = c.in_ok-denominator.ensures.exact.1;
-      of_mode = c.in_ok-relaxed.ensures.of_mode;
+      of_mode = rw (← c.asked.view_is) at c.in_ok-relaxed.ensures.of_mode;
       each = c.in_ok-relaxed.ensures.relaxed.each;
       paid = c.in_ok-relaxed.ensures.relaxed.paid;
       last = c.in_ok-relaxed.ensures.relaxed.last;
@@ -97,10 +95,10 @@ returns-in_err-relaxed-clause-refused c =
     rw (p.1, p.2) tt
 
 pub schedule_of-requires-clause-intervals : goal.schedule_of-requires-clause-intervals
-schedule_of-requires-clause-intervals c = c.requires.intervals
+schedule_of-requires-clause-intervals c = rw (← c.asked.view_is) at c.requires.intervals
 
 pub schedule_of-requires-clause-fit : goal.schedule_of-requires-clause-fit
-schedule_of-requires-clause-fit c = c.requires.fit
+schedule_of-requires-clause-fit c = rw (← c.asked.view_is) at c.requires.fit
 
 pub returns-in_err-schedule-clause-refused : goal.returns-in_err-schedule-clause-refused
 returns-in_err-schedule-clause-refused c =
@@ -108,7 +106,7 @@ returns-in_err-schedule-clause-refused c =
     rw (p.1, p.2) tt
 
 pub returns-clause-intervals : goal.returns-clause-intervals
-returns-clause-intervals c = ap (λ l. l.items) c.requires.intervals
+returns-clause-intervals c = ap (λ l. l.items) (rw (← c.asked.view_is) at c.requires.intervals)
 
 pub returns-clause-refused : goal.returns-clause-refused
 returns-clause-refused c = tt

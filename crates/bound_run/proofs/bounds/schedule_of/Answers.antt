@@ -6,8 +6,6 @@ use Rattle.cache_model.specs.Intervals.{eligible_intervals}
 use Rattle.cache_model.specs.Keeps.{load_after}
 use Rattle.cache_model.specs.Rounding.{IsRounded, by_rank, taken_load}
 use Rattle.cache_model.proofs.Rounding.{held-load}
-use Rattle.bound_run.specs.Made.{terms_asked}
-use Rattle.bound_run.specs.Asked.{asked_by}
 use Rattle.bound_run.proofs.bounds.schedule_of.Goals as goal
 
 -- contents that weigh what their intervals do are within the capacity after each request
@@ -20,8 +18,8 @@ loads_fit terms trace full keeps taken fits t within = omega (arith, held-load t
 pub score_of_fitting-lower-requires : goal.score_of_fitting-lower-requires
 score_of_fitting-lower-requires c = record {
   one_keep_each = rw c.as_slice.ensures (c.in_ok-keeps.ensures.rounded.one_keep_each ∙ ap (λ l. l.steps) c.requires.intervals);
-  fits = rw (c.terms.ensures, c.as_slice.ensures)
-      (loads_fit (terms_asked (asked_by c.args.asked.now)) c.args.trace.now c.args.full.now c.in_ok-keeps.keeps
+  fits = rw c.as_slice.ensures
+      (loads_fit c.args.terms c.args.trace.now c.args.full.now c.in_ok-keeps.keeps
       (rw c.requires.intervals at c.in_ok-keeps.ensures.rounded) (λ t. rw c.requires.intervals at (c.in_ok-keeps.ensures.fits t)));
 }
 
@@ -29,7 +27,7 @@ pub returns-clause-rounded : goal.returns-clause-rounded
 returns-clause-rounded c = rw (ap (λ l. l.steps) c.requires.intervals) at c.in_ok-keeps.ensures.rounded
 
 pub returns-clause-allowed : goal.returns-clause-allowed
-returns-clause-allowed c = rw (c.terms.ensures, c.as_slice.ensures) at c.score_of_fitting-lower.ensures.allowed
+returns-clause-allowed c = rw c.as_slice.ensures at c.score_of_fitting-lower.ensures.allowed
 
 pub returns-clause-lower : goal.returns-clause-lower
-returns-clause-lower c = rw (c.terms.ensures, c.as_slice.ensures) at c.score_of_fitting-lower.ensures.score
+returns-clause-lower c = rw c.as_slice.ensures at c.score_of_fitting-lower.ensures.score

@@ -1,17 +1,15 @@
-use Rattle.std.proofs.Common.{◌∙◌, ap}
 use Rattle.std.proofs.lemmas.Result.{err_from_is_err_and}
-use Rattle.bound_report.specs.Replays.{with_warmup}
 use Rattle.bound_run.specs.Records.{records_in}
 use Rattle.bound_run.proofs.bounds.texts_with.Goals as goal
 
 pub cert_of-requires-clause-certificate : goal.cert_of-requires-clause-certificate
 cert_of-requires-clause-certificate c = c.requires.made.valid.certificate
 
-pub cert_of-requires-clause-each : goal.cert_of-requires-clause-each
-cert_of-requires-clause-each c = c.requires.each
+pub cert_of-requires-clause-sound : goal.cert_of-requires-clause-sound
+cert_of-requires-clause-sound c = c.requires.each
 
-pub report_text-requires : goal.report_text-requires
-report_text-requires c = record { unit = c.requires.made.valid.certificate.header.unit.0; denominator = c.requires.made.valid.certificate.header.denominator.0 }
+pub bounds_report-requires : goal.bounds_report-requires
+bounds_report-requires c = record { unit = c.requires.made.valid.certificate.header.unit.0; denominator = c.requires.made.valid.certificate.header.denominator.0 }
 
 pub returns-in_err-cert : goal.returns-in_err-cert
 returns-in_err-cert c = rw (err_from_is_err_and c.from_residual.result c.from_residual.ensures.1).1 tt
@@ -26,5 +24,5 @@ returns c = record {
   records = records_in c.args.bounds.now;
   made = c.requires.made;
   cert_is = c.in_ok-cert.ensures;
-  report_is = c.in_ok-push_warmup.ensures.text ∙ ap (with_warmup c.args.bounds.now.header.warmup) (rw (c.objects.ensures.different, c.as_slice.ensures.items, c.requires.intervals) at c.in_ok-report.ensures);
+  report_is = rw (c.asked.view_is, c.objects.ensures.different, c.as_slice.ensures.items, c.requires.intervals) at c.in_ok-report.ensures;
 }

@@ -2,7 +2,7 @@ use Rattle.std.proofs.Common.{◌∙◌, Some, ap, subst, sym}
 use Rattle.bound_io.specs.CalmSource.{bytes_left}
 use Rattle.trace_any.specs.declared.format.Format.TheVariants.{Webcache}
 use Rattle.trace_any.specs.Readings.{full_limits, reading}
-use Rattle.bound_run.specs.Inputs.{IsCertified}
+use Rattle.bound_run.specs.Readings.{IsCertified}
 use Rattle.bound_run.proofs.Demonstrated.{only_memory}
 use Rattle.bound_run.proofs.demos.check_made.Goals as goal
 

@@ -1,6 +1,5 @@
 use Rattle.std.proofs.Common.{◌∙◌, ap}
 use Rattle.bound_report.specs.Demos.{demo_text}
-use Rattle.bound_run.specs.Asked.{asked_by, drawing_by}
 use Rattle.bound_run.specs.Demos.{demo_facts}
 use Rattle.bound_run.proofs.Demonstrated.{certified_by_texts, shown_by}
 use Rattle.bound_run.proofs.demos.demo_report.Goals as goal
@@ -10,11 +9,11 @@ check_made-requires c =
     let read = c.in_ok-lines.ensures.read c.in_ok-trace.ensures.writable in
     record {
       trace = ap (λ r. r.refused) read;
-      certified = certified_by_texts (asked_by c.args.asked.now) c.in_ok-trace.trace c.in_ok-lines.lines.items c.in_ok-texts.texts.cert.items c.in_ok-texts.texts.report.items read c.in_ok-texts.ensures.texts;
+      certified = certified_by_texts c.args.asked.now c.in_ok-trace.trace c.in_ok-lines.lines.items c.in_ok-texts.texts.cert.items c.in_ok-texts.texts.report.items read c.in_ok-texts.ensures.texts;
     }
 
 pub returns-clause-shown : goal.returns-clause-shown
 returns-clause-shown c =
-    shown_by (drawing_by c.args.drawing) (asked_by c.args.asked.now) c.in_ok-trace.trace c.in_ok-texts.texts.cert.items c.in_ok-texts.texts.report.items c.in_ok-demo_text.field-0.items c.in_ok-replays.replays
-    c.in_ok-trace.ensures.requests c.in_ok-texts.ensures.texts c.in_ok-replays.ensures
-    (c.in_ok-demo_text.ensures ∙ ap (λ r. demo_text (demo_facts (drawing_by c.args.drawing) (asked_by c.args.asked.now)) r c.in_ok-replays.replays) c.deref.ensures.value)
+    shown_by c.args.drawing c.args.asked.now c.in_ok-trace.trace c.in_ok-texts.texts.cert.items c.in_ok-texts.texts.report.items c.in_ok-demo_text.field-0.items c.in_ok-replays.replays
+    (rw c.drawing.view_is at c.in_ok-trace.ensures.requests) c.in_ok-texts.ensures.texts c.in_ok-replays.ensures
+    ((rw (c.drawing.view_is, c.asked.view_is) at c.in_ok-demo_text.ensures) ∙ ap (λ r. demo_text (demo_facts c.args.drawing c.args.asked.now) r c.in_ok-replays.replays) c.deref.ensures.value)

@@ -1,8 +1,7 @@
 use Rattle.std.proofs.Common.{◌≡◌, ◌∙◌, ap}
-use Rattle.bound_report.specs.Refinements.{refined_text}
-use Rattle.bound_report.specs.Replays.{with_warmup}
 use Rattle.cert_checker.specs.declared.verdict.Verdict.{Verdict}
 use Rattle.bound_run.specs.Refined.{verdict_on, with_upper}
+use Rattle.bound_run.specs.Reports.{refined_report}
 use Rattle.bound_run.proofs.Refining.{certificate, refined_texts}
 use Rattle.bound_run.proofs.refined.texts_of_kept.Goals as goal
 
@@ -24,8 +23,8 @@ returns c =
     ∙ ap (λ n. record { header = with_upper h n; objects = kept.verdict.objects }) c.upper.ensures
     ∙ ap (λ (v : Verdict). record { header = with_upper h to.upper; objects = v.objects }) c.requires.verdict in
     let made : c.with_upper-made.result.header ≡ with_upper h to.upper = ap (λ (v : Verdict). v.header) whole in
-    refined_texts c.args.width kept.trace h kept.records c.requires.valid to c.in_ok-refined.ensures.refined c.args.dropped c.in_ok-cert.cert.items c.push_warmup.new.text.items
+    refined_texts c.args.width kept.trace h kept.records c.requires.valid to c.in_ok-refined.ensures.refined c.args.dropped c.in_ok-cert.cert.items c.in_ok-report.report.items
     (rw (made, c.records.ensures, c.prices.ensures) at c.in_ok-cert.ensures)
-    (c.in_ok-push_warmup.ensures.text
-    ∙ ap (with_warmup c.with_upper-made.result.header.warmup) (c.in_ok-report.ensures ∙ ap (λ (v : Verdict). refined_text v.header.upper c.with_upper-made.result c.args.dropped) c.verdict-2.ensures)
-    ∙ ap (λ (v : Verdict). with_warmup v.header.warmup (refined_text h.upper v c.args.dropped)) whole)
+    (c.in_ok-report.ensures
+    ∙ ap (λ (v : Verdict). refined_report v.header.upper c.with_upper-made.result c.args.dropped) c.verdict-2.ensures
+    ∙ ap (λ (v : Verdict). refined_report h.upper v c.args.dropped) whole)

@@ -7,7 +7,7 @@ use Rattle.constant_price.proofs.Bounds.{sum-constant_prices}
 use Rattle.constant_price.proofs.Prices.{length-constant_prices, constant_prices-last}
 use Rattle.relaxation.specs.Prices.{most_paid}
 use Rattle.bound_run.specs.declared.relaxed.Relaxed.{Relaxed}
-use Rattle.bound_run.specs.Made.{IsOfMode}
+use Rattle.bound_run.specs.BoundsMade.{IsOfMode}
 use Rattle.bound_run.specs.Relaxations.{IsRelaxed}
 use Rattle.bound_run.proofs.Relaxing.{all_zero, full_flags-no_flows, no_flows, no_value}
 use Rattle.bound_run.proofs.relaxed.relax.Goals as goal
@@ -27,12 +27,12 @@ of_infinite line unit units denominator (Err e) priced none is = tt
 
 pub returns-in-Constant-clause-of_mode : goal.returns-in-Constant-clause-of_mode
 returns-in-Constant-clause-of_mode c =
-    rw c.in-Constant.is
+    rw (← c.asked.view_is, c.in-Constant.is)
     (of_constant c.args.intervals.now c.args.scale.unit c.args.scale.units c.args.scale.denominator c.least-price.result c.at_one_price.result c.least-price.ensures.least c.at_one_price.ensures.prices c.at_one_price.ensures.flows c.at_one_price.ensures.price)
 
 pub returns-in-Infinite-clause-of_mode : goal.returns-in-Infinite-clause-of_mode
 returns-in-Infinite-clause-of_mode c =
-    rw c.in-Infinite.is
+    rw (← c.asked.view_is, c.in-Infinite.is)
     (of_infinite c.args.intervals.now c.args.scale.unit c.args.scale.units c.args.scale.denominator c.at_one_price-in-Infinite.result c.at_one_price-in-Infinite.ensures.prices c.at_one_price-in-Infinite.ensures.flows c.at_one_price-in-Infinite.ensures.price)
 
 -- one price and no flow, with what they are worth

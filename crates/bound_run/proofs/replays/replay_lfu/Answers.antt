@@ -4,5 +4,6 @@ use Rattle.bound_run.proofs.replays.replay_lfu.Goals as goal
 
 pub returns : goal.returns
 returns c =
-    replayed Lfu c.args.r.capacity c.objects.result c.args.r.warmup c.args.trace.now c.bounded_replay.result c.in_ok-policy.policy c.in_ok-policy.ensures.nothing
-    c.bounded_replay.ensures.scores c.bounded_replay.ensures.run
+    rw (← c.r.view_is)
+    (replayed Lfu _ c.objects.result _ c.args.trace.now c.bounded_replay.result c.in_ok-policy.policy c.in_ok-policy.ensures.nothing
+    c.bounded_replay.ensures.scores c.bounded_replay.ensures.run)

@@ -1,5 +1,5 @@
 use Rattle.std.proofs.Common.{map, string_bytes}
-use Rattle.bound_run.specs.Words.{plan}
+use Rattle.bound_words.specs.Words.{plan}
 use Rattle.bound_run.proofs.Complete.{complete}
 use Rattle.bound_run.proofs.Headlined.{headlined}
 use Rattle.bound_run.proofs.top.run.Goals as goal

@@ -1,6 +1,6 @@
 use Rattle.std.proofs.Common.{refl}
 use Rattle.bound_io.specs.Devices.{device}
-use Rattle.bound_run.specs.Parts.{RefusesCheck}
+use Rattle.bound_run.specs.Refusals.{RefusesCheck}
 use Rattle.bound_run.specs.Refined.{IsRefined}
 use Rattle.bound_run.specs.Statuses.{ending_of}
 use Rattle.bound_run.proofs.Outcomes.{makes_refused, makes_written, ending_of-status_of}

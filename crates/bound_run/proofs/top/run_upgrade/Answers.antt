@@ -1,7 +1,8 @@
 use Rattle.std.proofs.Common.{refl}
 use Rattle.bound_io.specs.Devices.{device}
 use Rattle.bound_run.specs.Statuses.{ending_of}
-use Rattle.bound_run.specs.Upgrades.{IsUpgraded, RefusesUpgrade}
+use Rattle.bound_run.specs.Upgrades.{IsUpgraded}
+use Rattle.bound_run.specs.Refusals.{RefusesUpgrade}
 use Rattle.bound_run.proofs.Outcomes.{makes_refused, makes_written, ending_of-status_of}
 use Rattle.bound_run.proofs.top.run_upgrade.Goals as goal
 

@@ -1,6 +1,0 @@
-use Rattle.std.proofs.Common.{◌≡◌, ◌+◌, [], map, take, drop, string_bytes}
-use Rattle.bound_run.specs.Words.{operands_fault}
-use Rattle.bound_run.proofs.words.check_operands.Given as goal
-
-abbrev pub invariant-loop-at : goal.invariant-loop-at
-invariant-loop-at l = operands_fault l.command l.first [] (map string_bytes l.operands) ≡ operands_fault l.command (l.first + l.at) (take l.at (map string_bytes l.operands)) (drop l.at (map string_bytes l.operands))

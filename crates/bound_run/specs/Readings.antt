@@ -1,0 +1,109 @@
+-- What comes of reading the inputs of a run: the trace, and the certificate of a check.
+use Rattle.std.specs.Prelude.{◌≡◌, ℕ, IsTrue, List, [], length, Some, None, IfSome}
+use Rattle.std.specs.declared.option.Option.{Option}
+use Rattle.bound_io.specs.Devices.{Device}
+use Rattle.cache_model.specs.declared.objects.Object.{Object}
+use Rattle.cache_model.specs.declared.certificates.Header.{Header}
+use Rattle.cache_model.specs.declared.certificates.Record.{Record}
+use Rattle.cache_model.specs.Claim.{BoundsEveryPolicy}
+use Rattle.cache_model.specs.Certificates.{IsLeastOverAll, IsValid}
+use Rattle.cache_model.specs.Objects.{objects_of}
+use Rattle.cache_model.specs.Texts.{cert_text}
+use Rattle.trace_any.specs.declared.fault.TraceFault.{TraceFault as FaultOfTrace}
+use Rattle.trace_any.specs.declared.format.Format.{Format}
+use Rattle.trace_any.specs.Readings.{reading, full_limits}
+use Rattle.trace_any.specs.Readers.{IsWhole}
+use Rattle.cert_checker.specs.declared.verdict.Verdict.{Verdict}
+use Rattle.cert_checker.specs.Walks.{Event, walk}
+use Rattle.bound_words.specs.declared.settings.BoundSettings.{BoundSettings}
+use Rattle.bound_words.specs.declared.settings.ReplaySettings.{ReplaySettings}
+use Rattle.stack_curve.specs.Curves.{IsClash}
+use Rattle.bound_run.specs.Curves.{IsCurveText}
+use Rattle.bound_run.specs.BoundsMade.{AreTexts, RefusesDenominator}
+use Rattle.bound_run.specs.Replays.{IsReplayText}
+use Rattle.bound_run.specs.Reports.{verdict_report}
+
+-- all that the source had left was read, and is a trace of these requests and this many dropped lines, if its bytes are known
+pub record IsLoaded (format : Format) (source : Device) (requests : List Object) (dropped : ℕ) : Type 0 where
+  pub read : IfSome source.before (λ bytes. IsWhole (reading format full_limits bytes) requests dropped)
+  pub nothing_left : IfSome source.before (λ bytes. source.after ≡ Some [])
+
+-- what the source had left is refused so, if its bytes are known
+abbrev pub IsRefused : Format → Device → FaultOfTrace → Type 0
+IsRefused format source fault = IfSome source.before (λ bytes. (reading format full_limits bytes).refused ≡ Some fault)
+
+-- the certificate and the report of all that the source had left
+pub record IsReady (format : Format) (asked : BoundSettings) (source : Device) (cert report : List ℕ) : Type 0 where
+  pub requests : List Object
+  pub dropped : ℕ
+  pub loaded : IsLoaded format source requests dropped
+  pub texts : AreTexts asked requests dropped cert report
+
+-- the report of the replay of all that the source had left
+pub record IsReplayed (format : Format) (r : ReplaySettings) (source : Device) (text : List ℕ) : Type 0 where
+  pub requests : List Object
+  pub dropped : ℕ
+  pub loaded : IsLoaded format source requests dropped
+  pub report : IsReplayText r requests dropped text
+
+-- the report of the curve of all that the source had left
+pub record IsCurved (format : Format) (source : Device) (text : List ℕ) : Type 0 where
+  pub requests : List Object
+  pub dropped : ℕ
+  pub loaded : IsLoaded format source requests dropped
+  pub report : IsCurveText requests dropped text
+
+-- all that the source had left was read, and two objects of it differ in size
+pub record IsUnequal (format : Format) (source : Device) (first other : ℕ) : Type 0 where
+  pub requests : List Object
+  pub dropped : ℕ
+  pub loaded : IsLoaded format source requests dropped
+  pub clash : IsClash requests first other
+
+-- all that the source had left was read, and the denominator that is asked for passes its limit
+pub record IsPastDenominator (format : Format) (asked : BoundSettings) (source : Device) : Type 0 where
+  pub requests : List Object
+  pub dropped : ℕ
+  pub loaded : IsLoaded format source requests dropped
+  pub refused : RefusesDenominator asked requests
+
+-- this is the first event of the walk over all that the two sources had left, if the bytes of both are known
+abbrev pub IsFirstEvent : Format → Device → Device → Event → Type 0
+IsFirstEvent format trace cert event =
+    IfSome trace.before (λ bytes. IfSome cert.before (λ text. walk (reading format full_limits bytes) text ≡ Some event))
+
+-- a yes: all that the sources had left is a trace and the text of a valid certificate of it, so no policy scores more than its upper bound, and in the form exact no prices have a smaller one
+pub record IsAccepted (format : Format) (trace cert : Device) (verdict : Verdict) (dropped : ℕ) : Type 0 where
+  pub requests : List Object
+  pub records : List Record
+  pub loaded : IsLoaded format trace requests dropped
+  pub objects : verdict.objects ≡ length (objects_of requests)
+  pub valid : IsValid requests verdict.header records
+  pub bounds : BoundsEveryPolicy requests verdict.header
+  pub least : IsTrue verdict.header.exact → IsLeastOverAll requests verdict.header records
+  pub text : IfSome cert.before (λ text. text ≡ cert_text verdict.header records)
+  pub nothing_left : IfSome cert.before (λ text. cert.after ≡ Some [])
+
+-- the text of a yes
+pub record IsVerdictText (format : Format) (source cert : Device) (text : List ℕ) : Type 0 where
+  pub verdict : Verdict
+  pub dropped : ℕ
+  pub accepted : IsAccepted format source cert verdict dropped
+  pub text_is : text ≡ verdict_report verdict dropped
+
+-- the bytes are the text of a certificate that is valid for the trace
+pub record IsCertified (format : Format) (bytes text : List ℕ) : Type 0 where
+  pub header : Header
+  pub records : List Record
+  pub text_is : text ≡ cert_text header records
+  pub valid : IsValid (reading format full_limits bytes).requests header records
+
+-- the bytes are known, and are a trace within the limits
+abbrev pub IsGoodTrace : Format → Option (List ℕ) → Type 0
+IsGoodTrace format None = ⊥
+IsGoodTrace format (Some bytes) = (reading format full_limits bytes).refused ≡ None
+
+-- the trace has no denominator that is refused
+abbrev pub HasDenominator : Format → BoundSettings → Option (List ℕ) → Type 0
+HasDenominator format asked None = ⊥
+HasDenominator format asked (Some bytes) = ¬ (RefusesDenominator asked (reading format full_limits bytes).requests)

@@ -1,0 +1,4 @@
+pub mod GivenByName
+pub mod NamesLemmas
+pub mod Needed
+pub mod WordRows

@@ -1,0 +1,173 @@
+-- The words of the command line, at small rows, computed.
+use Rattle.std.proofs.Common.{◌≡◌, ℕ, List, [], ◌∷◌, codes, Ok, Err, refl}
+use Rattle.cache_model.specs.declared.objects.Objective.TheVariants.{Object as Hits, Bytes}
+use Rattle.bound_report.specs.declared.facts.Mode.TheVariants.{Constant, Flow, Infinite}
+use Rattle.bound_report.specs.declared.facts.Window.TheVariants.{All as Whole}
+use Rattle.relaxation.specs.declared.denominators.DenominatorChoice.TheVariants.{Auto, Exact, Given}
+use Rattle.trace_any.specs.declared.format.Format.TheVariants.{Webcache, Arc, Msr, Oracle}
+use Rattle.bound_words.specs.declared.words.Plan.TheVariants.{Bounds, Check, Curve, Demo, Upgrade}
+use Rattle.bound_report.specs.declared.refusal.WordKind.TheVariants.{Missing, Unknown, Twice, BadValue}
+use Rattle.bound_words.specs.Words.{fault, plan}
+
+-- the command, its two paths and these operands
+abbrev bounds_with : List (List ℕ) → List (List ℕ)
+bounds_with operands = codes "bounds" ∷ codes "t" ∷ codes "c" ∷ operands
+
+-- three operands, and the objective where it isn't given
+all_required : plan (bounds_with (codes "format=webcache" ∷ codes "capacity=10" ∷ codes "mode=infinite" ∷ [])) ≡ Ok (Bounds Webcache 10 Hits Infinite (Given 1) 0 1)
+unfolding plan
+all_required = refl
+
+-- another order, another objective, and another form of the trace
+another_order : plan (bounds_with (codes "objective=bytes" ∷ codes "mode=infinite" ∷ codes "capacity=010" ∷ codes "format=arc" ∷ [])) ≡ Ok (Bounds Arc 10 Bytes Infinite (Given 1) 0 1)
+unfolding plan
+another_order = refl
+
+-- the usual denominator of mode constant, and one that is chosen
+usual_denominator : plan (bounds_with (codes "format=arc" ∷ codes "capacity=1" ∷ codes "mode=constant" ∷ [])) ≡ Ok (Bounds Arc 1 Hits Constant (Given 281474976710656) 0 1)
+unfolding plan
+usual_denominator = refl
+
+chosen_denominator : plan (bounds_with (codes "denominator=exact" ∷ codes "format=arc" ∷ codes "capacity=1" ∷ codes "mode=constant" ∷ [])) ≡ Ok (Bounds Arc 1 Hits Constant Exact 0 1)
+unfolding plan
+chosen_denominator = refl
+
+-- a window, which there is not yet
+no_window : plan (bounds_with (codes "format=webcache" ∷ codes "capacity=2" ∷ codes "window=3" ∷ codes "mode=constant" ∷ [])) ≡ Err (fault 6 Unknown)
+unfolding plan
+no_window = refl
+
+-- a name that stood before, though its value is none of the operand's
+twice_first : plan (bounds_with (codes "capacity=2" ∷ codes "capacity=x" ∷ [])) ≡ Err (fault 5 Twice)
+unfolding plan
+twice_first = refl
+
+-- the first `=` ends the name
+two_equals : plan (bounds_with (codes "format==webcache" ∷ codes "=x" ∷ [])) ≡ Err (fault 4 BadValue)
+unfolding plan
+two_equals = refl
+
+-- a block before its form of the trace
+block_first : plan (bounds_with (codes "block=8192" ∷ codes "format=msr" ∷ codes "capacity=1" ∷ codes "mode=infinite" ∷ [])) ≡ Ok (Bounds (Msr 8192) 1 Hits Infinite (Given 1) 0 1)
+unfolding plan
+block_first = refl
+
+-- the block where it isn't given
+usual_block : plan (bounds_with (codes "format=msr" ∷ codes "capacity=1" ∷ codes "mode=infinite" ∷ [])) ≡ Ok (Bounds (Msr 4096) 1 Hits Infinite (Given 1) 0 1)
+unfolding plan
+usual_block = refl
+
+-- a block beside a form that takes none, though an operand is missing
+block_unknown : plan (bounds_with (codes "mode=infinite" ∷ codes "block=512" ∷ codes "format=webcache" ∷ [])) ≡ Err (fault 5 Unknown)
+unfolding plan
+block_unknown = refl
+
+-- a later word that is refused by itself comes before such a block
+block_later : plan (bounds_with (codes "block=512" ∷ codes "format=webcache" ∷ codes "x=1" ∷ [])) ≡ Err (fault 6 Unknown)
+unfolding plan
+block_later = refl
+
+-- a block with no form of the trace passes
+block_alone : plan (bounds_with (codes "block=512" ∷ codes "capacity=2" ∷ [])) ≡ Err (fault 6 Missing)
+unfolding plan
+block_alone = refl
+
+-- the command and its paths come before the operands
+no_path : plan (codes "bounds" ∷ codes "t" ∷ []) ≡ Err (fault 3 Missing)
+unfolding plan
+no_path = refl
+
+-- a check takes the form of the trace and no more
+a_check : plan (codes "check" ∷ codes "t" ∷ codes "-" ∷ codes "format=msr" ∷ codes "block=512" ∷ []) ≡ Ok (Check (Msr 512))
+unfolding plan
+a_check = refl
+
+no_capacity : plan (codes "check" ∷ codes "t" ∷ codes "c" ∷ codes "format=arc" ∷ codes "capacity=2" ∷ []) ≡ Err (fault 5 Unknown)
+unfolding plan
+no_capacity = refl
+
+-- standard input is one of the two, and that comes last
+both_dashes : plan (codes "check" ∷ codes "-" ∷ codes "-" ∷ codes "format=arc" ∷ []) ≡ Err (fault 3 BadValue)
+unfolding plan
+both_dashes = refl
+
+form_first : plan (codes "check" ∷ codes "-" ∷ codes "-" ∷ []) ≡ Err (fault 4 Missing)
+unfolding plan
+form_first = refl
+
+-- a demo needs no operand
+usual_demo : plan (codes "demo" ∷ []) ≡ Ok (Demo 1 2000 200 65536 Hits (Flow Whole) Auto)
+unfolding plan
+usual_demo = refl
+
+chosen_demo : plan (codes "demo" ∷ codes "seed=0" ∷ codes "objects=1" ∷ codes "mode=infinite" ∷ codes "capacity=1" ∷ codes "requests=33554432" ∷ codes "objective=bytes" ∷ [])
+    ≡ Ok (Demo 0 33554432 1 1 Bytes Infinite (Given 1))
+unfolding plan
+chosen_demo = refl
+
+-- it reads no trace, and has no warm-up
+no_form : plan (codes "demo" ∷ codes "format=webcache" ∷ []) ≡ Err (fault 2 Unknown)
+unfolding plan
+no_form = refl
+
+-- a window beside another mode
+demo_window : plan (codes "demo" ∷ codes "seed=1" ∷ codes "window=3" ∷ codes "mode=constant" ∷ []) ≡ Err (fault 3 Unknown)
+unfolding plan
+demo_window = refl
+
+-- the largest seed is below 2^64, and no request is no demo
+large_seed : plan (codes "demo" ∷ codes "seed=18446744073709551616" ∷ []) ≡ Err (fault 2 BadValue)
+unfolding plan
+large_seed = refl
+
+no_request : plan (codes "demo" ∷ codes "requests=0" ∷ []) ≡ Err (fault 2 BadValue)
+unfolding plan
+no_request = refl
+
+-- a curve takes the form of the trace and no more
+a_curve : plan (codes "curve" ∷ codes "t" ∷ codes "format=msr" ∷ []) ≡ Ok (Curve (Msr 4096))
+unfolding plan
+a_curve = refl
+
+curve_without_form : plan (codes "curve" ∷ codes "-" ∷ []) ≡ Err (fault 3 Missing)
+unfolding plan
+curve_without_form = refl
+
+curve_at_no_capacity : plan (codes "curve" ∷ codes "t" ∷ codes "format=arc" ∷ codes "capacity=2" ∷ []) ≡ Err (fault 4 Unknown)
+unfolding plan
+curve_at_no_capacity = refl
+
+-- a warm-up and a version of a certificate
+with_warmup : plan (bounds_with (codes "version=2" ∷ codes "format=arc" ∷ codes "warmup=7" ∷ codes "capacity=1" ∷ codes "mode=infinite" ∷ [])) ≡ Ok (Bounds Arc 1 Hits Infinite (Given 1) 7 2)
+unfolding plan
+with_warmup = refl
+
+third_version : plan (bounds_with (codes "version=3" ∷ [])) ≡ Err (fault 4 BadValue)
+unfolding plan
+third_version = refl
+
+long_warmup : plan (bounds_with (codes "warmup=33554433" ∷ [])) ≡ Err (fault 4 BadValue)
+unfolding plan
+long_warmup = refl
+
+-- an upgrade has two paths and no operand
+an_upgrade : plan (codes "upgrade" ∷ codes "c" ∷ codes "-" ∷ []) ≡ Ok Upgrade
+unfolding plan
+an_upgrade = refl
+
+upgrade_without_made : plan (codes "upgrade" ∷ codes "c" ∷ []) ≡ Err (fault 3 Missing)
+unfolding plan
+upgrade_without_made = refl
+
+upgrade_of_a_form : plan (codes "upgrade" ∷ codes "c" ∷ codes "d" ∷ codes "format=arc" ∷ []) ≡ Err (fault 4 Unknown)
+unfolding plan
+upgrade_of_a_form = refl
+
+-- records have no block
+oracle_records : plan (codes "check" ∷ codes "t" ∷ codes "c" ∷ codes "format=oracle" ∷ []) ≡ Ok (Check Oracle)
+unfolding plan
+oracle_records = refl
+
+oracle_block : plan (codes "check" ∷ codes "t" ∷ codes "c" ∷ codes "format=oracle" ∷ codes "block=24" ∷ []) ≡ Err (fault 5 Unknown)
+unfolding plan
+oracle_block = refl

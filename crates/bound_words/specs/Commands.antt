@@ -1,0 +1,69 @@
+-- The commands: their words, their paths and the names of their operands.
+use Rattle.std.specs.Prelude.{ℕ, ◌+◌, List, [], ◌∷◌, ◌++◌, drop, Bool, if◌then◌else◌, codes, None, Some}
+use Rattle.std.specs.declared.option.Option.{Option}
+use Rattle.std.specs.List.{list_any}
+use Rattle.std.specs.Str.{bytes_eq}
+use Rattle.bound_words.specs.declared.commands.Command.{Command}
+use Rattle.bound_words.specs.declared.commands.PathPlaces.{PathPlaces}
+use Rattle.bound_words.specs.declared.commands.Command.TheVariants as command
+
+-- the command that a word names
+abbrev pub command_named : List ℕ → Option Command
+command_named word =
+    if bytes_eq word (codes "bounds") then Some command.Bounds
+    else (if bytes_eq word (codes "check") then Some command.Check
+    else (if bytes_eq word (codes "replay") then Some command.Replay
+    else (if bytes_eq word (codes "curve") then Some command.Curve
+    else (if bytes_eq word (codes "demo") then Some command.Demo
+    else (if bytes_eq word (codes "upgrade") then Some command.Upgrade
+    else (if bytes_eq word (codes "refine") then Some command.Refine
+    else None))))))
+
+-- where the paths of a command stand among its words, of which the command is word 0
+abbrev pub places_of : Command → PathPlaces
+places_of command.Bounds = record { count = 2; trace = Some 1; cert = Some 2; made = Some 2 }
+places_of command.Check = record { count = 2; trace = Some 1; cert = Some 2; made = None }
+places_of command.Replay = record { count = 1; trace = Some 1; cert = None; made = None }
+places_of command.Curve = record { count = 1; trace = Some 1; cert = None; made = None }
+places_of command.Demo = record { count = 0; trace = None; cert = None; made = None }
+places_of command.Upgrade = record { count = 2; trace = None; cert = Some 1; made = Some 2 }
+places_of command.Refine = record { count = 3; trace = Some 1; cert = Some 2; made = Some 3 }
+
+-- the first operand is the word after the command and its paths
+abbrev pub operands_at : Command → ℕ
+operands_at command = (places_of command).count + 1
+
+-- the operands that the command needs
+abbrev pub needed_names : Command → List (List ℕ)
+needed_names command.Bounds = codes "format" ∷ codes "capacity" ∷ []
+needed_names command.Check = codes "format" ∷ []
+needed_names command.Replay = codes "format" ∷ codes "capacity" ∷ codes "policy" ∷ []
+needed_names command.Curve = codes "format" ∷ []
+needed_names command.Demo = []
+needed_names command.Upgrade = []
+needed_names command.Refine = codes "format" ∷ codes "window" ∷ []
+
+-- the operands that the command has beside them
+abbrev pub other_names : Command → List (List ℕ)
+other_names command.Bounds =
+    codes "block" ∷ codes "objective" ∷ codes "mode" ∷ codes "window" ∷ codes "denominator" ∷ codes "warmup" ∷ codes "version" ∷ []
+other_names command.Check = codes "block" ∷ []
+other_names command.Replay = codes "block" ∷ codes "warmup" ∷ []
+other_names command.Curve = codes "block" ∷ []
+other_names command.Demo =
+    codes "seed" ∷ codes "requests" ∷ codes "objects" ∷ codes "capacity"
+    ∷ codes "objective" ∷ codes "mode" ∷ codes "window" ∷ codes "denominator" ∷ []
+other_names command.Upgrade = []
+other_names command.Refine = codes "block" ∷ []
+
+-- the operands of the command by their names, those that it needs first
+abbrev pub operand_names : Command → List (List ℕ)
+operand_names asked = needed_names asked ++ other_names asked
+
+-- whether the command has an operand of this name
+abbrev pub has_operand : Command → List ℕ → Bool
+has_operand asked name = list_any (bytes_eq name) (operand_names asked)
+
+-- the operands of a command
+abbrev pub operands_of : Command → List (List ℕ) → List (List ℕ)
+operands_of command words = drop (operands_at command) words

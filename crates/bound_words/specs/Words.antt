@@ -1,0 +1,216 @@
+-- The words of the command line.
+use Rattle.std.specs.Prelude.{ℕ, zero, suc, ◌+◌, List, [], ◌∷◌, ◌++◌, length, ◌==◌, nat_lt, Bool, false, not, ◌&&◌, if◌then◌else◌, codes, slice_get, option_and_then, IsTrue, IfSome, Result, Ok, Err, None, Some}
+use Rattle.std.specs.declared.option.Option.{Option}
+use Rattle.std.specs.Option.{is_some, option_map, option_or}
+use Rattle.std.specs.List.{list_all}
+use Rattle.std.specs.Str.{bytes_eq}
+use Rattle.bound_words.specs.declared.words.Plan.{Plan}
+use Rattle.bound_words.specs.declared.words.Plan.TheVariants.{Bounds, Check, Replay, Curve, Demo, Upgrade, Refine}
+use Rattle.bound_words.specs.declared.commands.Command.{Command}
+use Rattle.bound_words.specs.declared.commands.PathPlaces.{PathPlaces}
+use Rattle.bound_words.specs.declared.words.WordFault.{WordFault}
+use Rattle.bound_report.specs.declared.refusal.WordKind.{WordKind}
+use Rattle.bound_report.specs.declared.refusal.WordKind.TheVariants.{Missing, Unknown, Twice, BadValue}
+use Rattle.bound_words.specs.declared.commands.Command.TheVariants as command
+use Rattle.bound_words.specs.Commands.{command_named, has_operand, needed_names, places_of, operands_at, operands_of}
+use Rattle.bound_words.specs.Named.{has_equals, name_of, value_of, value_given, place_given}
+use Rattle.bound_words.specs.Operands.{takes_value, format_given, capacity_given, objective_given, mode_given, denominator_given, policy_given, warmup_given, version_given, seed_given, requests_given, objects_given, capacity_or_usual, width_given}
+
+-- go on with the value, or stop at the fault
+infixl 10 ◌>>=◌
+abbrev pub ◌>>=◌ : {A B : Type 0} → Result A WordFault → (A → Result B WordFault) → Result B WordFault
+(Ok x) >>= f = f x
+(Err e) >>= f = Err e
+
+-- a fault at a place
+abbrev pub fault : ℕ → WordKind → WordFault
+fault place kind = record { place = place; kind = kind }
+
+-- a command that is none is unknown
+abbrev pub known_command : Option Command → Result Command WordFault
+known_command None = Err (fault 1 Unknown)
+known_command (Some command) = Ok command
+
+-- the first word must be a command
+abbrev pub command_of : Option (List ℕ) → Result Command WordFault
+command_of None = Err (fault 1 Missing)
+command_of (Some word) = known_command (command_named word)
+
+-- a path is any word but the empty one
+abbrev pub path : ℕ → Option (List ℕ) → Result (Unit {0}) WordFault
+path place None = Err (fault place Missing)
+path place (Some word) = if length word == 0 then Err (fault place BadValue) else Ok tt
+
+-- this many words from word `at` on are paths
+abbrev pub paths : ℕ → ℕ → List (List ℕ) → Result (Unit {0}) WordFault
+paths at zero words = Ok tt
+paths at (suc count) words = path (at + 1) (slice_get words at) >>= (λ named. paths (at + 1) count words)
+
+-- why a word of a command is refused that stands after these operands: it is none of the command's, it repeats one, or its value is none of the operand's
+abbrev pub operand_fault : Command → List (List ℕ) → List ℕ → Option WordKind
+operand_fault command before word =
+    if not (has_equals word && has_operand command (name_of word)) then Some Unknown
+    else (if is_some (value_given (name_of word) before) then Some Twice
+    else (if takes_value command (name_of word) (value_of word) then None
+    else Some BadValue))
+
+-- the first of the words that is refused, the first of which stands at this place after these operands
+abbrev pub operands_fault : Command → ℕ → List (List ℕ) → List (List ℕ) → Option WordFault
+operands_fault command place before [] = None
+operands_fault command place before (word ∷ words) =
+    option_or (option_map (fault place) (operand_fault command before word)) (operands_fault command (place + 1) (before ++ word ∷ []) words)
+
+-- the operand of this name, if it is given, is unknown
+abbrev pub unknown_operand : ℕ → List ℕ → List (List ℕ) → Option WordFault
+unknown_operand first name operands = option_map (λ place. fault place Unknown) (place_given first name operands)
+
+-- whether a form of the trace is given that takes no block
+abbrev pub takes_no_block : Option (List ℕ) → Bool
+takes_no_block None = false
+takes_no_block (Some format) = not (bytes_eq format (codes "msr"))
+
+-- a block is unknown beside a form of the trace that takes none
+abbrev pub block_fault : ℕ → List (List ℕ) → Option WordFault
+block_fault first operands = if takes_no_block (value_given (codes "format") operands) then unknown_operand first (codes "block") operands else None
+
+-- whether a mode is given that takes no window
+abbrev pub takes_no_window : Option (List ℕ) → Bool
+takes_no_window None = false
+takes_no_window (Some mode) = not (bytes_eq mode (codes "flow"))
+
+-- a window is unknown beside a mode that takes none
+abbrev pub window_fault : ℕ → List (List ℕ) → Option WordFault
+window_fault first operands = if takes_no_window (value_given (codes "mode") operands) then unknown_operand first (codes "window") operands else None
+
+-- the fault at the lesser place
+abbrev pub earlier : Option WordFault → Option WordFault → Option WordFault
+earlier None second = second
+earlier (Some first) None = Some first
+earlier (Some first) (Some second) = if nat_lt second.place first.place then Some second else Some first
+
+-- no fault lets the words pass
+abbrev pub passed : Option WordFault → Result (Unit {0}) WordFault
+passed None = Ok tt
+passed (Some e) = Err e
+
+-- what must be given is missing at the place after the last word
+abbrev pub required : {A : Type 0} → ℕ → Option A → Result A WordFault
+required end None = Err (fault end Missing)
+required end (Some x) = Ok x
+
+-- the plan of bounds that accepted operands give, if the words end before this place
+abbrev pub bounds_plan : ℕ → List (List ℕ) → Result Plan WordFault
+bounds_plan end operands = do
+  format ← required end (format_given operands)
+  capacity ← required end (capacity_given operands)
+  Ok (Bounds format capacity (objective_given operands) (mode_given operands) (denominator_given (mode_given operands) operands)
+      (warmup_given operands) (version_given operands))
+
+-- the plan of a replay that accepted operands give, if the words end before this place
+abbrev pub replay_plan : ℕ → List (List ℕ) → Result Plan WordFault
+replay_plan end operands = do
+  format ← required end (format_given operands)
+  capacity ← required end (capacity_given operands)
+  policy ← required end (policy_given operands)
+  Ok (Replay format capacity policy (warmup_given operands))
+
+-- the plan of a curve that accepted operands give, if the words end before this place
+abbrev pub curve_plan : ℕ → List (List ℕ) → Result Plan WordFault
+curve_plan end operands = do
+  format ← required end (format_given operands)
+  Ok (Curve format)
+
+-- the plan of a demo that accepted operands give, none of which is required
+abbrev pub demo_plan : List (List ℕ) → Plan
+demo_plan operands =
+    Demo (seed_given operands) (requests_given operands) (objects_given operands) (capacity_or_usual operands)
+    (objective_given operands) (mode_given operands) (denominator_given (mode_given operands) operands)
+
+-- whether a path is that of standard input
+abbrev pub is_dash : Option (List ℕ) → Bool
+is_dash None = false
+is_dash (Some word) = bytes_eq word (codes "-")
+
+-- trace and certificate, which stand at these words, can't both be standard input
+abbrev pub inputs_fault : Option ℕ → Option ℕ → List (List ℕ) → Option WordFault
+inputs_fault (Some trace) (Some cert) words =
+    if is_dash (slice_get words trace) && is_dash (slice_get words cert) then Some (fault (cert + 1) BadValue) else None
+inputs_fault trace cert words = None
+
+-- the plan of a check, if the operands are accepted
+abbrev pub check_plan : PathPlaces → List (List ℕ) → List (List ℕ) → Result Plan WordFault
+check_plan places words operands = do
+  format ← required (length words + 1) (format_given operands)
+  apart ← passed (inputs_fault places.trace places.cert words)
+  Ok (Check format)
+
+-- the plan of a refinement, if the operands are accepted
+abbrev pub refine_plan : PathPlaces → List (List ℕ) → List (List ℕ) → Result Plan WordFault
+refine_plan places words operands = do
+  format ← required (length words + 1) (format_given operands)
+  width ← required (length words + 1) (width_given operands)
+  apart ← passed (inputs_fault places.trace places.cert words)
+  Ok (Refine format width)
+
+-- the plan of a command, if the operands are accepted
+abbrev pub plan_of_command : Command → List (List ℕ) → List (List ℕ) → Result Plan WordFault
+plan_of_command command.Bounds words operands = bounds_plan (length words + 1) operands
+plan_of_command command.Check words operands = check_plan (places_of command.Check) words operands
+plan_of_command command.Replay words operands = replay_plan (length words + 1) operands
+plan_of_command command.Curve words operands = curve_plan (length words + 1) operands
+plan_of_command command.Demo words operands = Ok (demo_plan operands)
+plan_of_command command.Upgrade words operands = Ok Upgrade
+plan_of_command command.Refine words operands = refine_plan (places_of command.Refine) words operands
+
+-- what operands ask for that are the words of a command from this place on, or the first fault in them
+abbrev pub plan_of_operands : Command → ℕ → List (List ℕ) → List (List ℕ) → Result Plan WordFault
+plan_of_operands asked first words operands = do
+  accepted ← passed (operands_fault asked first [] operands)
+  fitting ← passed (earlier (block_fault first operands) (window_fault first operands))
+  plan_of_command asked words operands
+
+-- what the words ask for, or the first fault in them
+unfoldable pub plan : List (List ℕ) → Result Plan WordFault
+plan words = do
+  asked ← command_of (slice_get words 0)
+  named ← paths 1 (places_of asked).count words
+  plan_of_operands asked (operands_at asked + 1) words (operands_of asked words)
+
+-- whether these operands give each one that the command needs
+abbrev pub has_needed : Command → List (List ℕ) → Bool
+has_needed asked operands = list_all (λ name. is_some (value_given name operands)) (needed_names asked)
+
+-- if the words begin with a command, they give each operand that it needs
+abbrev pub HasNeeded : List (List ℕ) → Type 0
+HasNeeded words = IfSome (option_and_then command_named (slice_get words 0)) (λ asked. IsTrue (has_needed asked (operands_of asked words)))
+
+-- the word, or a dash if there is none
+abbrev pub word_or_dash : Option (List ℕ) → List ℕ
+word_or_dash (Some word) = word
+word_or_dash None = codes "-"
+
+-- where the paths stand, if the words begin with a command
+abbrev pub places_in : Option Command → PathPlaces
+places_in None = record { count = 0; trace = None; cert = None; made = None }
+places_in (Some command) = places_of command
+
+-- the path at a word, or a dash if the command has no such path
+abbrev pub path_at : Option ℕ → List (List ℕ) → List ℕ
+path_at None words = codes "-"
+path_at (Some at) words = word_or_dash (slice_get words at)
+
+-- where the paths of the words stand
+abbrev pub places_named : List (List ℕ) → PathPlaces
+places_named words = places_in (command_named (word_or_dash (slice_get words 0)))
+
+-- the path of the trace
+abbrev pub trace_path : List (List ℕ) → List ℕ
+trace_path words = path_at (places_named words).trace words
+
+-- the path of the certificate that is read
+abbrev pub cert_path : List (List ℕ) → List ℕ
+cert_path words = path_at (places_named words).cert words
+
+-- the path of the certificate that is made
+abbrev pub made_path : List (List ℕ) → List ℕ
+made_path words = path_at (places_named words).made words

@@ -1,0 +1,209 @@
+//! The commands: their words, their paths and the names of their operands.
+ghost use Rattle.std.specs.Prelude.{◌≡◌, ◌≤◌, length, map, Some};
+ghost use Rattle.std.specs.List.{list_any};
+ghost use Rattle.std.specs.Str.{bytes_eq};
+ghost use Rattle.bound_words.specs.Commands.{command_named, has_operand, needed_names, operand_names, operands_at, places_of};
+
+use crate::values::is;
+
+/// What the first word asks for.
+#[derive(Clone, Copy, Debug, PartialEq, Eq)]
+pub enum Command {
+    /// Bounds on the best score on a trace, and their certificate.
+    Bounds,
+    /// Whether a certificate is valid for a trace.
+    Check,
+    /// The hits of a policy on a trace.
+    Replay,
+    /// LRU's hits on a trace at every number of slots.
+    Curve,
+    /// Bounds, their check and replays on a trace that is made.
+    Demo,
+    /// A certificate in the second version of its text.
+    Upgrade,
+    /// A certificate with prices that are settled, block by block.
+    Refine,
+}
+
+/// Where the paths of a command stand among its words, of which the command is word 0, and how many there are.
+#[derive(Clone, Copy)]
+pub(crate) struct PathPlaces {
+    pub count: usize,
+    pub trace: Option<usize>,
+    pub cert: Option<usize>,
+    pub made: Option<usize>,
+}
+
+impl Command {
+    /// Each command, in the order of the help.
+    pub const ALL: [Command; 7] = [
+        Command::Bounds,
+        Command::Check,
+        Command::Replay,
+        Command::Curve,
+        Command::Demo,
+        Command::Upgrade,
+        Command::Refine,
+    ];
+
+    /// Its word.
+    pub fn word(self) -> &'static str
+        ensures { command_named result.now ≡ Some self }
+    {
+        match self {
+            Command::Bounds => "bounds",
+            Command::Check => "check",
+            Command::Replay => "replay",
+            Command::Curve => "curve",
+            Command::Demo => "demo",
+            Command::Upgrade => "upgrade",
+            Command::Refine => "refine",
+        }
+    }
+
+    /// What each of its paths is called, in their order.
+    pub fn paths(self) -> &'static [&'static str]
+        ensures { length result.now ≡ (places_of self).count }
+    {
+        match self {
+            Command::Bounds | Command::Check => &["trace", "certificate"],
+            Command::Replay | Command::Curve => &["trace"],
+            Command::Demo => &[],
+            Command::Upgrade => &["certificate", "new certificate"],
+            Command::Refine => &["trace", "certificate", "new certificate"],
+        }
+    }
+
+    /// The names of its operands, those that it needs first.
+    pub fn operands(self) -> &'static [&'static str]
+        ensures { map (λ name. name.now) result.now ≡ operand_names self }
+    {
+        match self {
+            Command::Bounds => &[
+                "format",
+                "capacity",
+                "block",
+                "objective",
+                "mode",
+                "window",
+                "denominator",
+                "warmup",
+                "version",
+            ],
+            Command::Check | Command::Curve => &["format", "block"],
+            Command::Replay => &["format", "capacity", "policy", "block", "warmup"],
+            Command::Demo => &[
+                "seed",
+                "requests",
+                "objects",
+                "capacity",
+                "objective",
+                "mode",
+                "window",
+                "denominator",
+            ],
+            Command::Upgrade => &[],
+            Command::Refine => &["format", "window", "block"],
+        }
+    }
+
+    /// How many of its operands it needs.
+    pub fn needed(self) -> usize
+        ensures { result ≡ length (needed_names self) }
+    {
+        match self {
+            Command::Bounds | Command::Refine => 2,
+            Command::Check | Command::Curve => 1,
+            Command::Replay => 3,
+            Command::Demo | Command::Upgrade => 0,
+        }
+    }
+
+    /// Where its paths stand. The certificate of bounds is made, and has the path of one that is read as well.
+    pub(crate) fn places(self) -> PathPlaces
+        ensures { result ≡ places_of self }
+    {
+        match self {
+            Command::Bounds => PathPlaces {
+                count: 2,
+                trace: Some(1),
+                cert: Some(2),
+                made: Some(2),
+            },
+            Command::Check => PathPlaces {
+                count: 2,
+                trace: Some(1),
+                cert: Some(2),
+                made: None,
+            },
+            Command::Replay | Command::Curve => PathPlaces {
+                count: 1,
+                trace: Some(1),
+                cert: None,
+                made: None,
+            },
+            Command::Demo => PathPlaces {
+                count: 0,
+                trace: None,
+                cert: None,
+                made: None,
+            },
+            Command::Upgrade => PathPlaces {
+                count: 2,
+                trace: None,
+                cert: Some(1),
+                made: Some(2),
+            },
+            Command::Refine => PathPlaces {
+                count: 3,
+                trace: Some(1),
+                cert: Some(2),
+                made: Some(3),
+            },
+        }
+    }
+
+    /// Which word is the first operand.
+    pub(crate) fn operands_at(self) -> usize
+        ensures value { result ≡ operands_at self }
+        ensures few { result ≤ 9 }
+    {
+        self.places().count + 1
+    }
+}
+
+fn is_among(names: &[&str], name: &str) -> bool
+    ensures { result ≡ list_any (λ known. bytes_eq name.now known.now) names.now }
+{
+    names.iter().any(|known| is(name, known))
+}
+
+/// Whether a command has an operand of this name.
+pub(crate) fn has_operand(command: Command, name: &str) -> bool
+    ensures { result ≡ has_operand command name.now }
+{
+    is_among(command.operands(), name)
+}
+
+/// The command that a word names.
+pub fn command_named(word: &str) -> Option<Command>
+    ensures { result ≡ command_named word.now }
+{
+    if is(word, "bounds") {
+        Some(Command::Bounds)
+    } else if is(word, "check") {
+        Some(Command::Check)
+    } else if is(word, "replay") {
+        Some(Command::Replay)
+    } else if is(word, "curve") {
+        Some(Command::Curve)
+    } else if is(word, "demo") {
+        Some(Command::Demo)
+    } else if is(word, "upgrade") {
+        Some(Command::Upgrade)
+    } else if is(word, "refine") {
+        Some(Command::Refine)
+    } else {
+        None
+    }
+}

@@ -1,0 +1,230 @@
+//! The values of operands.
+ghost use Rattle.std.specs.Prelude.{◌≡◌, ◌≤◌, ◌^◌, IfSome};
+ghost use Rattle.std.specs.Str.{bytes_eq};
+ghost use Rattle.bound_report.specs.declared.facts.Mode.TheVariants.{Flow};
+ghost use Rattle.relaxation.specs.Denominators.{IsChoice};
+ghost use Rattle.trace_any.specs.Readings.{IsFormat};
+ghost use Rattle.bound_words.specs.Ranges.{IsModeInRange};
+ghost use Rattle.bound_words.specs.Values.{block_of, capacity_of, count_of, denominator_of, drawn_of, format_of, mode_of, number_to, objective_of, policy_of, seed_of, usual_denominator, version_of, width_of, window_of};
+ghost use Rattle.cache_model.specs.declared.version.TheConstants.{CERT_VERSION, SHORT_VERSION};
+
+use bound_base::read_u64;
+use bound_report::{Mode, Window};
+use cache_model::SHORT_VERSION;
+use cache_rules::Objective;
+use policy_model::PolicyName;
+use relaxation::DenominatorChoice;
+use trace_any::Format;
+
+// The largest capacity, in bytes.
+const MOST_CAPACITY: u64 = 1 << 56;
+
+// The largest block, in bytes.
+const MOST_BLOCK: u64 = 1 << 48;
+
+// The most steps of a window.
+const MOST_WINDOW: u64 = 1 << 25;
+
+// The most requests of a trace.
+const MOST_REQUESTS: u64 = 1 << 25;
+
+// The most requests of a demo, and the most objects.
+const MOST_DRAWN: u64 = 1 << 25;
+
+// The largest denominator.
+const MOST_DENOMINATOR: u64 = 1 << 48;
+
+/// The bytes of a block if no operand gives them.
+pub(crate) const USUAL_BLOCK: u64 = 4096;
+
+/// Whether a word is this one.
+pub(crate) fn is(word: &str, other: &str) -> bool
+    ensures { result ≡ bytes_eq word.now other.now }
+{
+    word == other
+}
+
+// A number from 1 to the most that is allowed.
+fn number_to(most: u64, value: &str) -> Option<u64>
+    ensures value { result ≡ number_to most value.now }
+    ensures range { IfSome result (λ n. (1 ≤ n) × (n ≤ most)) }
+{
+    match read_u64(value.as_bytes()) {
+        Ok(number) if number >= 1 && number <= most => Some(number),
+        _ => None,
+    }
+}
+
+pub(crate) fn capacity_of(value: &str) -> Option<u64>
+    ensures value { result ≡ capacity_of value.now }
+    ensures range { IfSome result (λ n. (1 ≤ n) × (n ≤ 2 ^ 56)) }
+{
+    number_to(MOST_CAPACITY, value)
+}
+
+pub(crate) fn block_of(value: &str) -> Option<u64>
+    ensures value { result ≡ block_of value.now }
+    ensures range { IfSome result (λ n. (1 ≤ n) × (n ≤ 2 ^ 48)) }
+{
+    number_to(MOST_BLOCK, value)
+}
+
+/// The form that a value names, if a block has this many bytes.
+pub(crate) fn format_of(value: &str, block: u64) -> Option<Format>
+    requires block { (1 ≤ block) × (block ≤ 2 ^ 48) }
+    ensures value { result ≡ format_of value.now block }
+    ensures range { IfSome result IsFormat }
+{
+    if is(value, "webcache") {
+        Some(Format::Webcache)
+    } else if is(value, "arc") {
+        Some(Format::Arc)
+    } else if is(value, "msr") {
+        Some(Format::Msr { block })
+    } else if is(value, "oracle") {
+        Some(Format::Oracle)
+    } else {
+        None
+    }
+}
+
+pub(crate) fn objective_of(value: &str) -> Option<Objective>
+    ensures { result ≡ objective_of value.now }
+{
+    if is(value, "object") {
+        Some(Objective::Object)
+    } else if is(value, "bytes") {
+        Some(Objective::Bytes)
+    } else {
+        None
+    }
+}
+
+/// How many steps a window has, if it is a number of them.
+pub(crate) fn width_of(value: &str) -> Option<u32>
+    ensures value { result ≡ width_of value.now }
+    ensures range { IfSome result (λ n. (1 ≤ n) × (n ≤ 2 ^ 25)) }
+{
+    match number_to(MOST_WINDOW, value) {
+        Some(width) => Some(width as u32),
+        None => None,
+    }
+}
+
+pub(crate) fn window_of(value: &str) -> Option<Window>
+    ensures value { result ≡ window_of value.now }
+    ensures in_range { IfSome result (λ window. IsModeInRange (Flow window)) }
+{
+    if is(value, "all") {
+        Some(Window::All)
+    } else {
+        match width_of(value) {
+            Some(width) => Some(Window::Steps(width)),
+            None => None,
+        }
+    }
+}
+
+/// The mode that a value names, if the mode flow has this window.
+pub(crate) fn mode_of(value: &str, window: Window) -> Option<Mode>
+    requires { IsModeInRange (Flow window) }
+    ensures value { result ≡ mode_of value.now window }
+    ensures in_range { IfSome result IsModeInRange }
+{
+    if is(value, "flow") {
+        Some(Mode::Flow { window })
+    } else if is(value, "constant") {
+        Some(Mode::Constant)
+    } else if is(value, "infinite") {
+        Some(Mode::Infinite)
+    } else {
+        None
+    }
+}
+
+pub(crate) fn denominator_of(value: &str) -> Option<DenominatorChoice>
+    ensures value { result ≡ denominator_of value.now }
+    ensures range { IfSome result IsChoice }
+{
+    if is(value, "auto") {
+        Some(DenominatorChoice::Auto)
+    } else if is(value, "exact") {
+        Some(DenominatorChoice::Exact)
+    } else {
+        match number_to(MOST_DENOMINATOR, value) {
+            Some(number) => Some(DenominatorChoice::Given(number)),
+            None => None,
+        }
+    }
+}
+
+pub(crate) fn policy_of(value: &str) -> Option<PolicyName>
+    ensures { result ≡ policy_of value.now }
+{
+    if is(value, "lru") {
+        Some(PolicyName::Lru)
+    } else if is(value, "fifo") {
+        Some(PolicyName::Fifo)
+    } else if is(value, "clock") {
+        Some(PolicyName::Clock)
+    } else if is(value, "lfu") {
+        Some(PolicyName::Lfu)
+    } else if is(value, "belady") {
+        Some(PolicyName::Belady)
+    } else {
+        None
+    }
+}
+
+/// A number of requests, which may be 0.
+pub(crate) fn count_of(value: &str) -> Option<u32>
+    ensures value { result ≡ count_of value.now }
+    ensures range { IfSome result (λ n. n ≤ 2 ^ 25) }
+{
+    match read_u64(value.as_bytes()) {
+        Ok(number) if number <= MOST_REQUESTS => Some(number as u32),
+        _ => None,
+    }
+}
+
+pub(crate) fn version_of(value: &str) -> Option<u8>
+    ensures value { result ≡ version_of value.now }
+    ensures range { IfSome result (λ n. (CERT_VERSION ≤ n) × (n ≤ SHORT_VERSION)) }
+{
+    match number_to(u64::from(SHORT_VERSION), value) {
+        Some(number) => Some(number as u8),
+        None => None,
+    }
+}
+
+pub(crate) fn seed_of(value: &str) -> Option<u64>
+    ensures { result ≡ seed_of value.now }
+{
+    match read_u64(value.as_bytes()) {
+        Ok(seed) => Some(seed),
+        Err(_) => None,
+    }
+}
+
+/// How many requests or objects a demo has.
+pub(crate) fn drawn_of(value: &str) -> Option<u32>
+    ensures value { result ≡ drawn_of value.now }
+    ensures range { IfSome result (λ n. (1 ≤ n) × (n ≤ 2 ^ 25)) }
+{
+    match number_to(MOST_DRAWN, value) {
+        Some(number) => Some(number as u32),
+        None => None,
+    }
+}
+
+/// The denominator of a mode if none is given.
+pub(crate) fn usual_denominator(mode: Mode) -> DenominatorChoice
+    ensures value { result ≡ usual_denominator mode }
+    ensures range { IsChoice result }
+{
+    match mode {
+        Mode::Flow { .. } => DenominatorChoice::Auto,
+        Mode::Constant => DenominatorChoice::Given(MOST_DENOMINATOR),
+        Mode::Infinite => DenominatorChoice::Given(1),
+    }
+}

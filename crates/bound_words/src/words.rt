@@ -1,0 +1,236 @@
+//! The words of the command line.
+ghost use Rattle.std.specs.Prelude.{◌≡◌, ◌≤◌, [], map, slice_get, string_bytes, IfOk};
+ghost use Rattle.std.specs.Option.{option_copied};
+ghost use Rattle.bound_words.specs.Settings.{IsPlanInRange};
+ghost use Rattle.bound_words.specs.Commands.{operands_of, places_of};
+ghost use Rattle.bound_words.specs.Words.{HasNeeded, block_fault, command_of, earlier, operand_fault, operands_fault, passed, path, paths, plan, plan_of_operands, unknown_operand, window_fault};
+
+use crate::commands::{Command, command_named, has_operand};
+use crate::named::{has_equals, name_of, place_given, value_given, value_of};
+use crate::operands::takes_value;
+use crate::plans::plan_of_command;
+use crate::values::is;
+use bound_report::{Mode, WordKind};
+use cache_rules::Objective;
+use policy_model::PolicyName;
+use relaxation::DenominatorChoice;
+use trace_any::Format;
+
+/// The first word that is refused. Places count from 1, the command being at place 1.
+#[derive(Clone, Copy, Debug, PartialEq, Eq)]
+pub struct WordFault {
+    pub place: u64,
+    pub kind: WordKind,
+}
+
+/// What the words ask for.
+#[derive(Clone, Copy, Debug, PartialEq, Eq)]
+pub enum Plan {
+    /// Bounds on the best score from request `warmup` on, at a capacity in bytes, and their certificate.
+    Bounds {
+        format: Format,
+        capacity: u64,
+        objective: Objective,
+        mode: Mode,
+        denominator: DenominatorChoice,
+        warmup: u32,
+        version: u8,
+    },
+    /// Whether a certificate is valid for a trace of this form.
+    Check {
+        format: Format,
+    },
+    /// The hits of a policy on a trace of this form, at a capacity in bytes, from request `warmup` on.
+    Replay {
+        format: Format,
+        capacity: u64,
+        policy: PolicyName,
+        warmup: u32,
+    },
+    /// LRU's hits at every number of slots on a trace of this form.
+    Curve {
+        format: Format,
+    },
+    /// Bounds, their check and replays, at a capacity in bytes, on a trace that is drawn from a seed.
+    Demo {
+        seed: u64,
+        requests: u32,
+        objects: u32,
+        capacity: u64,
+        objective: Objective,
+        mode: Mode,
+        denominator: DenominatorChoice,
+    },
+    /// A certificate in the second version of its text.
+    Upgrade,
+    /// A certificate for a trace of this form with prices that are settled in blocks of this number of steps.
+    Refine {
+        format: Format,
+        width: u32,
+    },
+}
+
+pub(crate) fn refuse<T: Drop>(place: u64, kind: WordKind) -> Result<T, WordFault>
+    ensures { result ≡ Err (record { place = place; kind = kind }) }
+{
+    Err(WordFault { place, kind })
+}
+
+pub(crate) fn word_at(words: &[String], at: usize) -> Option<&str>
+    ensures { option_copied result ≡ slice_get (map string_bytes words.now) at }
+{
+    let word = words.get(at)?;
+    Some(word.as_str())
+}
+
+fn command_of(word: Option<&str>) -> Result<Command, WordFault>
+    ensures { result ≡ command_of (option_copied word.entry) }
+{
+    match word {
+        None => refuse(1, WordKind::Missing),
+        Some(word) => match command_named(word) {
+            Some(command) => Ok(command),
+            None => refuse(1, WordKind::Unknown),
+        },
+    }
+}
+
+fn expect_path(place: u64, word: Option<&str>) -> Result<(), WordFault>
+    ensures { result ≡ path place (option_copied word.entry) }
+{
+    match word {
+        None => refuse(place, WordKind::Missing),
+        Some(word) if word.is_empty() => refuse(place, WordKind::BadValue),
+        Some(_) => Ok(()),
+    }
+}
+
+// Why a word is refused that stands after these operands.
+fn operand_fault(command: Command, before: &[String], word: &str) -> Option<WordKind>
+    ensures { result ≡ operand_fault command (map string_bytes before.now) word.now }
+{
+    let name = name_of(word);
+    if !(has_equals(word) && has_operand(command, name)) {
+        return Some(WordKind::Unknown);
+    }
+    if value_given(name, before).is_some() {
+        return Some(WordKind::Twice);
+    }
+    if !takes_value(command, name, value_of(word)) {
+        return Some(WordKind::BadValue);
+    }
+    None
+}
+
+// Looks at the paths of a command, which are the words after it.
+fn check_paths(command: Command, words: &[String]) -> Result<(), WordFault>
+    ensures { result ≡ paths 1 (places_of command).count (map string_bytes words.now) }
+{
+    for at in 0..command.places().count {
+        expect_path(at as u64 + 2, word_at(words, at + 1))?;
+    }
+    Ok(())
+}
+
+fn operands_of(command: Command, words: &[String]) -> &[String]
+    ensures { map string_bytes result.now ≡ operands_of command (map string_bytes words.now) }
+{
+    words.get(command.operands_at()..).unwrap_or(&[])
+}
+
+// Looks at the operands from left to right, of which the first is at a place. Names come from a fixed set, so few are
+// looked at.
+fn check_operands(command: Command, first: u64, operands: &[String]) -> Result<(), WordFault>
+    requires { first ≤ 10 }
+    ensures { result ≡ passed (operands_fault command first [] (map string_bytes operands.now)) }
+{
+    for (at, word) in operands.iter().enumerate() {
+        if let Some(kind) = operand_fault(command, &operands[..at], word.as_str()) {
+            return refuse(at as u64 + first, kind);
+        }
+    }
+    Ok(())
+}
+
+// An operand that may not stand there, if it is given.
+fn unknown_operand(first: u64, name: &str, operands: &[String]) -> Option<WordFault>
+    requires { first ≤ 10 }
+    ensures { result ≡ unknown_operand first name.now (map string_bytes operands.now) }
+{
+    let place = place_given(first, name, operands)?;
+    Some(WordFault {
+        place,
+        kind: WordKind::Unknown,
+    })
+}
+
+// A block may stand only if the trace isn't of another form than msr.
+fn block_fault(first: u64, operands: &[String]) -> Option<WordFault>
+    requires { first ≤ 10 }
+    ensures { result ≡ block_fault first (map string_bytes operands.now) }
+{
+    match value_given("format", operands) {
+        Some(format) if !is(format, "msr") => unknown_operand(first, "block", operands),
+        _ => None,
+    }
+}
+
+// A window may stand only if the mode isn't another one than flow.
+fn window_fault(first: u64, operands: &[String]) -> Option<WordFault>
+    requires { first ≤ 10 }
+    ensures { result ≡ window_fault first (map string_bytes operands.now) }
+{
+    match value_given("mode", operands) {
+        Some(mode) if !is(mode, "flow") => unknown_operand(first, "window", operands),
+        _ => None,
+    }
+}
+
+// The fault at the lesser place.
+fn earlier(first: Option<WordFault>, second: Option<WordFault>) -> Option<WordFault>
+    ensures { result ≡ earlier first second }
+{
+    match (first, second) {
+        (Some(a), Some(b)) if b.place < a.place => Some(b),
+        (Some(a), _) => Some(a),
+        (None, other) => other,
+    }
+}
+
+pub(crate) fn passed(fault: Option<WordFault>) -> Result<(), WordFault>
+    ensures { result ≡ passed fault }
+{
+    match fault {
+        None => Ok(()),
+        Some(fault) => Err(fault),
+    }
+}
+
+// What the operands of a command ask for, or the first fault in them.
+fn plan_of_operands(
+    command: Command,
+    first: u64,
+    words: &[String],
+    operands: &[String],
+) -> Result<Plan, WordFault>
+    requires { first ≤ 10 }
+    ensures plan { result ≡ plan_of_operands command first (map string_bytes words.now) (map string_bytes operands.now) }
+    ensures range { IfOk result IsPlanInRange }
+{
+    check_operands(command, first, operands)?;
+    passed(earlier(block_fault(first, operands), window_fault(first, operands)))?;
+    plan_of_command(command, words, operands)
+}
+
+/// What the words ask for, or the first fault in them. The words are those after the program's name.
+#[tactic(auto, unfolding(crate::specs::Words::plan))]
+pub fn plan_of(words: &[String]) -> Result<Plan, WordFault>
+    ensures plan { result ≡ plan (map string_bytes words.now) }
+    ensures range { IfOk result IsPlanInRange }
+    ensures needed { IfOk result (λ plan. HasNeeded (map string_bytes words.now)) }
+{
+    let command = command_of(word_at(words, 0))?;
+    check_paths(command, words)?;
+    let first = command.operands_at() as u64 + 1;
+    plan_of_operands(command, first, words, operands_of(command, words))
+}
