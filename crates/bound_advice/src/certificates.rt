@@ -1,0 +1,17 @@
+//! What may be the matter with a certificate.
+use cert_checker::InvalidKind;
+
+/// What to look at if a certificate isn't valid for a trace, if something is known to look at.
+pub(crate) fn certificate_advice(kind: InvalidKind) -> Option<&'static str> {
+    match kind {
+        InvalidKind::RequestCount { .. }
+        | InvalidKind::UnitNotDivisor { .. }
+        | InvalidKind::FlowAboveWeight { .. }
+        | InvalidKind::Unused { .. }
+        | InvalidKind::LowerDiffers { .. } => {
+            Some("is it the certificate of this trace, in this form and with this block?")
+        }
+        InvalidKind::Truncated => Some("it ends too early; copy it again"),
+        _ => None,
+    }
+}

@@ -1,0 +1,72 @@
+//! The pages that the program prints in place of a run: how it is called, and its version.
+
+/// The program and its version.
+pub const VERSION: &str = "bound_cli 0.2.0";
+
+/// What the program is for.
+pub const PURPOSE: &str =
+    "bound_cli computes how well any cache could do on a trace of requests: an upper bound that no
+replacement policy can exceed, a schedule that reaches the lower bound, and a certificate of both.
+";
+
+/// What stands for what, and five examples.
+pub const EXAMPLES: &str = "
+FORM is webcache, arc, msr or oracle, OBJECTIVE is object or bytes, MODE is flow, constant or infinite,
+POLICY is lru, fifo, clock, lfu or belady, VERSION is 1 or 2.
+A path - is the standard input or output. The report goes to the standard output.
+
+A demo draws a trace of its own and shows its bounds, that they are checked, and the hits of each policy.
+
+examples:
+  bound_cli demo
+  bound_cli bounds examples/build-files.webcache build.cert format=webcache capacity=8388608
+  bound_cli check examples/build-files.webcache build.cert format=webcache
+  bound_cli replay examples/build-files.webcache format=webcache capacity=8388608 policy=lru
+  bound_cli curve examples/database-blocks.msr format=msr block=8192
+
+docs/GUIDE.md goes from a trace to a decision; man -l docs/bound_cli.1 has every operand.";
+
+/// The commands in the order of the help.
+pub const COMMANDS: [&str; 8] = [
+    "bounds", "check", "replay", "curve", "demo", "upgrade", "refine", "help",
+];
+
+/// How a command is called, a line each; of no command one line on where to look.
+pub fn usage_of(command: &str) -> &'static [&'static str] {
+    match command {
+        "bounds" => &[
+            "bound_cli bounds TRACE CERT format=FORM capacity=BYTES [block=BYTES]",
+            "    [objective=OBJECTIVE] [mode=MODE] [window=STEPS] [denominator=NUMBER]",
+            "    [warmup=REQUESTS] [version=VERSION]",
+        ],
+        "check" => &["bound_cli check TRACE CERT format=FORM [block=BYTES]"],
+        "replay" => &[
+            "bound_cli replay TRACE format=FORM capacity=BYTES policy=POLICY [block=BYTES] [warmup=REQUESTS]",
+        ],
+        "curve" => &["bound_cli curve TRACE format=FORM [block=BYTES]"],
+        "demo" => &[
+            "bound_cli demo [seed=NUMBER] [requests=NUMBER] [objects=NUMBER] [capacity=BYTES]",
+            "    [objective=OBJECTIVE] [mode=MODE] [window=STEPS] [denominator=NUMBER]",
+        ],
+        "upgrade" => &["bound_cli upgrade CERT MADE"],
+        "refine" => { &["bound_cli refine TRACE CERT MADE format=FORM window=STEPS [block=BYTES]"] }
+        "help" => &["bound_cli help"],
+        _ => &["bound_cli COMMAND ..; bound_cli help has the commands and their words"],
+    }
+}
+
+/// What is asked for in place of a run.
+#[derive(Clone, Copy, Debug, PartialEq, Eq)]
+pub enum Page {
+    Help,
+    Version,
+}
+
+/// The page that a first word asks for.
+pub fn page_of(word: &str) -> Option<Page> {
+    match word {
+        "help" | "--help" | "-h" => Some(Page::Help),
+        "--version" => Some(Page::Version),
+        _ => None,
+    }
+}

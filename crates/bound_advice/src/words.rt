@@ -1,0 +1,269 @@
+//! What is wrong with a word of the command line, and what may stand there.
+use crate::sizes::size_of;
+use bound_report::WordKind;
+use bound_words::{Command, command_named};
+use std::alloc::{AllocError, Global};
+
+// What an operand's value may be.
+fn values_of(name: &str) -> Option<&'static str> {
+    match name {
+        "format" => Some("webcache, arc, msr or oracle"),
+        "block" => Some("digits alone, from 1 to 281474976710656"),
+        "capacity" => Some("digits alone, from 1 to 72057594037927936"),
+        "objective" => Some("object or bytes"),
+        "mode" => Some("flow, constant or infinite"),
+        "window" => Some("all, or digits alone, from 1 to 33554432"),
+        "denominator" => Some("auto, exact, or digits alone, from 1 to 281474976710656"),
+        "policy" => Some("lru, fifo, clock, lfu or belady"),
+        "warmup" => Some("digits alone, from 0 to 33554432"),
+        "version" => Some("1 or 2"),
+        "seed" => Some("digits alone, from 0 to 18446744073709551615"),
+        "requests" | "objects" => Some("digits alone, from 1 to 33554432"),
+        _ => None,
+    }
+}
+
+// Names with commas between, and a word before the last.
+fn listed(alloc: Global, names: &[&str], before_last: &str) -> Result<String, AllocError> {
+    let mut list = String::new(alloc);
+    for (at, name) in names.iter().enumerate() {
+        let gap = if at == 0 {
+            ""
+        } else if at + 1 == names.len() {
+            before_last
+        } else {
+            ", "
+        };
+        list.push_str(gap)?;
+        list.push_str(name)?;
+    }
+    Ok(list)
+}
+
+// The commands, with a word before the last.
+fn commands_listed(alloc: Global, before_last: &str) -> Result<String, AllocError> {
+    let mut names = Vec::new(alloc);
+    for command in Command::ALL {
+        names.push(command.word())?;
+    }
+    listed(alloc, &names, before_last)
+}
+
+/// The words of a command line: the command first.
+#[derive(Clone, Copy)]
+pub(crate) struct Words<'a> {
+    words: &'a [String],
+}
+
+impl<'a> Words<'a> {
+    pub(crate) fn new(words: &'a [String]) -> Self {
+        Words { words }
+    }
+
+    // The word at a place, counted from 1.
+    fn at(&self, place: u64) -> &'a str {
+        match self.words.get(place.saturating_sub(1) as usize) {
+            Some(word) => word.as_str(),
+            None => "",
+        }
+    }
+
+    /// The command.
+    pub(crate) fn command(&self) -> &'a str {
+        self.at(1)
+    }
+
+    // What the paths of the command are called, in their order.
+    fn paths(&self) -> &'static [&'static str] {
+        match command_named(self.command()) {
+            Some(command) => command.paths(),
+            None => &[],
+        }
+    }
+
+    // The names of the operands that the command has, those that it needs first.
+    fn operand_names(&self) -> &'static [&'static str] {
+        match command_named(self.command()) {
+            Some(command) => command.operands(),
+            None => &[],
+        }
+    }
+
+    // The words behind the command and its paths.
+    fn operands(&self) -> &'a [String] {
+        let first = self.paths().len() + 1;
+        self.words.get(first..).unwrap_or(&[])
+    }
+
+    /// The value of an operand, or nothing if it isn't given.
+    pub(crate) fn value_of(&self, name: &str) -> Option<&'a str> {
+        let parts = self
+            .operands()
+            .iter()
+            .filter_map(|word| word.as_str().split_once('='));
+        let mut values = parts.filter(|(found, _)| *found == name);
+        values.next().map(|(_, value)| value)
+    }
+
+    // The first operand that the command needs and that isn't given.
+    fn first_missing(&self) -> Option<&'static str> {
+        let command = command_named(self.command())?;
+        let needed = command.operands().iter().take(command.needed());
+        needed.copied().find(|name| self.value_of(name).is_none())
+    }
+
+    // What the path at a place is called.
+    fn path_at(&self, place: u64) -> Option<&'static str> {
+        let at = place.checked_sub(2)?;
+        self.paths().get(at as usize).copied()
+    }
+
+    // The first place of a path where an operand stands.
+    fn operand_as_path(&self) -> Option<u64> {
+        let paths = self.words.iter().skip(1).take(self.paths().len());
+        let at = paths.map(|word| word.as_str()).position(is_operand)?;
+        Some(at as u64 + 2)
+    }
+}
+
+// Whether a word is an operand of some command.
+fn is_operand(word: &str) -> bool {
+    match word.split_once('=') {
+        Some((name, _)) => values_of(name).is_some(),
+        None => false,
+    }
+}
+
+// The name of an operand: what stands before the `=`.
+fn name_of(word: &str) -> &str {
+    match word.split_once('=') {
+        Some((name, _)) => name,
+        None => word,
+    }
+}
+
+// What the value of an operand of a command may be.
+fn values_for(command: &str, name: &str) -> Option<&'static str> {
+    match (command, name) {
+        ("refine", "window") => Some("digits alone, from 1 to 33554432"),
+        _ => values_of(name),
+    }
+}
+
+// What is missing at a place: the command, a path, or an operand after the last word.
+fn missing(alloc: Global, words: Words<'_>, place: u64) -> Result<String, AllocError> {
+    if place == 1 {
+        let commands = commands_listed(alloc, " or ")?;
+        let commands = commands.as_str();
+        return format!(in alloc; "a command is missing: {commands}");
+    }
+    if let Some(path) = words.path_at(place) {
+        return format!(in alloc; "the path of the {path} is missing");
+    }
+    let name = words.first_missing().unwrap_or("format");
+    let values = values_for(words.command(), name).unwrap_or("");
+    format!(in alloc; "{name} is missing: {values}")
+}
+
+// Why an operand may not stand beside the others.
+fn unsuited(alloc: Global, words: Words<'_>, word: &str) -> Result<String, AllocError> {
+    let command = words.command();
+    let names = words.operand_names();
+    match name_of(word) {
+        "block" if names.contains(&"block") => {
+            format!(in alloc; "{word}: a block goes with format=msr alone")
+        }
+        "window" if command == "bounds" || command == "demo" => {
+            format!(in alloc; "{word}: a window goes with mode=flow alone")
+        }
+        _ if command == "upgrade" => format!(in alloc; "{word}: an upgrade has no operands"),
+        _ => {
+            let operands = listed(alloc, names, " and ")?;
+            let operands = operands.as_str();
+            format!(in alloc; "{word}: no operand of {command}, which are {operands}")
+        }
+    }
+}
+
+// Why a word stands for nothing.
+fn unknown(alloc: Global, words: Words<'_>, place: u64) -> Result<String, AllocError> {
+    let word = words.at(place);
+    if place == 1 {
+        let commands = commands_listed(alloc, " and ")?;
+        let commands = commands.as_str();
+        return format!(in alloc; "{word}: no command; the commands are {commands}");
+    }
+    if word.starts_with('-') && word != "-" {
+        return format!(in alloc; "{word}: operands have no dashes, as format=webcache");
+    }
+    if !word.contains('=') && words.operand_names().contains(&word) {
+        return format!(in alloc; "{word}: its value follows after = without a space, as {word}=..");
+    }
+    unsuited(alloc, words, word)
+}
+
+// The most bytes that an operand may have, if it has a number of bytes.
+fn most_of(name: &str) -> u64 {
+    match name {
+        "capacity" => 72_057_594_037_927_936,
+        "block" => 281_474_976_710_656,
+        _ => 0,
+    }
+}
+
+// Why a value may not stand there.
+fn bad_value(alloc: Global, words: Words<'_>, place: u64) -> Result<String, AllocError> {
+    let word = words.at(place);
+    if word.is_empty() {
+        return String::from_str(alloc, "a path is empty");
+    }
+    if words.path_at(place).is_some() {
+        return String::from_str(
+            alloc,
+            "trace and certificate can't both be the standard input",
+        );
+    }
+    let (name, value) = word.split_once('=').unwrap_or((word, ""));
+    let values = values_for(words.command(), name).unwrap_or("");
+    match size_of(value) {
+        Some(size) if size >= 1 && size <= most_of(name) => {
+            format!(in alloc; "{word}: {values}, as {name}={size}")
+        }
+        _ => format!(in alloc; "{word}: {values}"),
+    }
+}
+
+// That an operand stands at the place of a path.
+fn path_forgotten(alloc: Global, words: Words<'_>) -> Result<String, AllocError> {
+    let place = words.operand_as_path().unwrap_or(2);
+    let path = words.path_at(place).unwrap_or("trace");
+    let word = words.at(place);
+    let none = if path == "certificate" && words.command() == "bounds" {
+        "; /dev/null stands for none"
+    } else {
+        ""
+    };
+    format!(in alloc; "the path of the {path} is missing before {word}{none}")
+}
+
+/// What is wrong with a word of the command line, and what may stand there.
+pub(crate) fn word_advice(
+    alloc: Global,
+    words: Words<'_>,
+    place: u64,
+    kind: WordKind,
+) -> Result<String, AllocError> {
+    match kind {
+        WordKind::Missing | WordKind::Unknown if words.operand_as_path().is_some() => {
+            path_forgotten(alloc, words)
+        }
+        WordKind::Missing => missing(alloc, words, place),
+        WordKind::Unknown => unknown(alloc, words, place),
+        WordKind::Twice => {
+            let word = words.at(place);
+            let name = name_of(word);
+            format!(in alloc; "{word}: {name} is given twice")
+        }
+        WordKind::BadValue => bad_value(alloc, words, place),
+    }
+}
