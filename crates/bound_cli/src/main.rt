@@ -4,83 +4,86 @@
 #![tactic(auto)]
 
 ghost use Rattle.std.specs.Prelude.{◌≡◌, ◌⊎◌, map, string_bytes, IfErr};
-ghost use Rattle.bound_run.specs.Words.{plan};
-ghost use Rattle.bound_run.specs.declared.words.WordFault.{WordFault};
+ghost use Rattle.bound_words.specs.Words.{plan};
 
-use crate::messages::{Devices, STANDARD_INPUT, STANDARD_OUTPUT, Seen, advice_on};
-use crate::pages::{EXAMPLES, PURPOSE, Page, USAGE, VERSION, page_of};
+use crate::saying::{say_oddities, say_refusal, say_report_fault, say_unplaced};
+use crate::streams::{fill_closed, spared_files};
+use bound_advice::{
+    COMMANDS, Devices, EXAMPLES, PURPOSE, Page, Seen, Told, VERSION, Watched, page_of, usage_of,
+};
 use bound_io::{FileSink, FileSource};
 use bound_run::{Status, paths_of, run};
 use std::alloc::Global;
+use std::io::ErrorKind;
 use std::process::ExitCode;
 use std::rt::{Env, Files};
 use std::{env, io};
 
-mod messages;
-mod pages;
+mod saying;
+mod streams;
 
-// The exit status where the system doesn't give the words of the command line.
-const NO_WORDS: u8 = 11;
+// The exit status where the system doesn't give what a run begins with: the words of the command line, or the standard
+// streams.
+const NO_START: u8 = 11;
 
-// What a path is called in a message.
-fn name_of<'a>(path: &'a str, standard: &'a str) -> &'a str {
-    if path == "-" { standard } else { path }
+/// What the standard input is called.
+const STANDARD_INPUT: &str = "standard input";
+
+/// What the standard output is called.
+const STANDARD_OUTPUT: &str = "standard output";
+
+// The first word.
+fn command_of(words: &[String]) -> &str {
+    words.first().map_or("", |word| word.as_str())
 }
 
 // What is known of a source for a message.
-fn seen_source<'a, R: Files + Input>(path: &'a str, source: &'a FileSource<'_, R>) -> Seen<'a> {
+fn seen_source<'a, R: Files + Input>(path: &'a str, source: &FileSource<'_, R>) -> Seen<'a> {
     Seen {
-        name: name_of(path, STANDARD_INPUT),
+        path,
+        standard: STANDARD_INPUT,
         reason: source.reason(),
-        start: source.start(),
     }
 }
 
 // What is known of a sink for a message.
-fn seen_sink<'a, R: Files + Print>(path: &'a str, sink: &FileSink<'_, R>) -> Seen<'a> {
+fn seen_sink<'a, R: Files + Print>(sink: &'a FileSink<'_, R>) -> Seen<'a> {
     Seen {
-        name: name_of(path, STANDARD_OUTPUT),
+        path: sink.blamed(),
+        standard: STANDARD_OUTPUT,
         reason: sink.reason(),
-        start: &[],
     }
 }
 
-// Says on the standard error what can be done about a status. That this fails changes nothing.
-fn advise<R: Eprint>(
-    rt: &R,
-    alloc: Global,
+// The line of the trace that is refused, if one is.
+fn refused_line<'a, R: Files + Input>(
+    trace: &'a Watched<FileSource<'_, R>>,
     words: &[String],
-    devices: Devices<'_>,
     status: Status,
-) {
-    if let Ok(Some(text)) = advice_on(alloc, words, devices, status) {
-        let _ = eprintln!(rt; "bound_cli: {text}");
-    }
-    if let Status::Words(_) = status {
-        for line in USAGE {
-            let _ = eprintln!(rt; "bound_cli: {line}");
-        }
+) -> Option<&'a [u8]> {
+    match status {
+        Status::BadLine { .. } => trace.refused_line(words),
+        _ => None,
     }
 }
 
-// Ends the writing of the certificate. That it can't take the place of an old one is a fault of its sink.
+// Ends the writing of the certificate. That it can't take its place is a fault of its sink.
 fn settle<R: Files + Print + Eprint>(
     rt: &R,
+    alloc: Global,
     made: FileSink<'_, R>,
     path: &str,
     status: Status,
 ) -> Status
-    ensures { (fault : WordFault) → status ≡ Status.Words fault → result ≡ status }
+    ensures { (result ≡ status) ⊎ (((status ≡ Status.Done) ⊎ (status ≡ Status.ReportFault)) × (result ≡ Status.MadeFault)) }
 {
     let is_whole = matches!(status, Status::Done | Status::ReportFault);
     match made.finish(is_whole) {
-        Err(reason) if is_whole => {
-            let _ = eprintln!(rt;
-                "bound_cli: {path}: {reason}; the new certificate stands in {path}.part"
-            );
-            Status::MadeFault
+        Ok(()) => status,
+        Err(unplaced) => {
+            say_unplaced(rt, alloc, path, &unplaced, is_whole);
+            if is_whole { Status::MadeFault } else { status }
         }
-        _ => status,
     }
 }
 
@@ -89,34 +92,55 @@ fn run_files<R: Files + Input + Print + Eprint>(rt: &R, alloc: Global, words: &[
     ensures { IfErr (plan (map string_bytes words.now)) (λ fault. (result ≡ Status.Words fault) ⊎ (result ≡ Status.NoMemory)) }
 {
     let paths = paths_of(words);
-    let Ok(mut trace) = FileSource::new(rt, alloc, paths.trace) else {
+    let Ok(trace) = FileSource::new(rt, alloc, paths.trace) else {
+        return Status::NoMemory;
+    };
+    let Ok(mut trace) = Watched::new(alloc, trace) else {
         return Status::NoMemory;
     };
     let Ok(mut cert) = FileSource::new(rt, alloc, paths.cert) else {
         return Status::NoMemory;
     };
-    let Ok(mut report) = FileSink::new(rt, alloc, "-") else {
+    let Ok(report) = FileSink::new(rt, alloc, "-") else {
         return Status::NoMemory;
     };
     let Ok(mut made) = FileSink::new(rt, alloc, paths.made) else {
         return Status::NoMemory;
     };
+    let mut report = Told::new(report);
+    made.spare(spared_files(rt, command_of(words), paths));
     let status = run(alloc, words, &mut trace, &mut cert, &mut report, &mut made);
     let devices = Devices {
-        trace: seen_source(paths.trace, &trace),
+        trace: seen_source(paths.trace, trace.source()),
         cert: seen_source(paths.cert, &cert),
-        report: seen_sink("-", &report),
-        made: seen_sink(paths.made, &made),
+        made: seen_sink(&made),
+        start: trace.source().start(),
+        line: refused_line(&trace, words, status),
     };
-    advise(rt, alloc, words, devices, status);
-    settle(rt, made, paths.made, status)
+    match status {
+        Status::Done => say_oddities(rt, alloc, words, devices, report.start()),
+        Status::ReportFault => say_report_fault(rt, alloc, seen_sink(report.sink())),
+        _ => say_refusal(rt, alloc, words, devices, status),
+    }
+    settle(rt, alloc, made, paths.made, status)
+}
+
+// How a command is called.
+fn print_usage<R: Print>(rt: &R, start: &str, command: &str) -> io::Result<()> {
+    let mut start = start;
+    for line in usage_of(command) {
+        println!(rt; "{start}{line}")?;
+        start = "       ";
+    }
+    Ok(())
 }
 
 // How the program is called.
 fn print_help<R: Print>(rt: &R) -> io::Result<()> {
     println!(rt; "{PURPOSE}")?;
-    for line in USAGE {
-        println!(rt; "{line}")?;
+    for (at, command) in COMMANDS.iter().enumerate() {
+        let start = if at == 0 { "usage: " } else { "       " };
+        print_usage(rt, start, command)?;
     }
     println!(rt; "{EXAMPLES}")
 }
@@ -136,10 +160,12 @@ fn print_page<R: Print>(rt: &R, page: Page) -> u8 {
 // The exit status of a run with the words after the program's name.
 fn run_words<R: Files + Input + Print + Eprint + Env + AllocGlobal>(rt: &R) -> u8 {
     let alloc = rt.alloc();
-    let Ok(words) = env::args(rt) else {
-        return NO_WORDS;
+    let words = match env::args(rt) {
+        Ok(words) => words.skip(1).collect(alloc),
+        Err(error) if error.kind() == ErrorKind::OutOfMemory => return Status::NoMemory.code(),
+        Err(_) => return NO_START,
     };
-    let words: Result<Vec<String>, _> = words.skip(1).collect(alloc);
+    let words: Result<Vec<String>, _> = words;
     let Ok(words) = words else {
         return Status::NoMemory.code();
     };
@@ -150,6 +176,10 @@ fn run_words<R: Files + Input + Print + Eprint + Env + AllocGlobal>(rt: &R) -> u
 }
 
 fn main(rt: HostRuntime) -> ExitCode {
+    if let Err(error) = fill_closed(&rt) {
+        let _ = eprintln!(&rt; "bound_cli: a closed standard stream: {error}");
+        return ExitCode::from(NO_START);
+    }
     ExitCode::from(run_words(&rt))
 }
 
