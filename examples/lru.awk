@@ -1,9 +1,11 @@
-# Replays least recently used on a webcache trace, by the rules of play of the bounds: awk -v capacity=BYTES -f lru.awk.
+# Replays least recently used on a webcache trace, by the rules of play of the bounds: awk -v capacity=BYTES -f lru.awk <TRACE.
 # An object is an id and a size. One that is larger than the capacity is never kept.
+function plain(number) { sub(/^0+/, "", number); return number == "" ? "0" : number }
 BEGIN { oldest = 1 }
+{ sub(/\r$/, "") }
 NF == 0 || $3 + 0 == 0 || $3 + 0 > capacity + 0 { next }
 {
-    object = $2 " " $3
+    object = plain($2) " " plain($3)
     if (object in latest) { hits++; bytes += $3 } else held += $3
     latest[object] = ++uses
     used[uses] = object

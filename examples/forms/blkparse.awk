@@ -1,6 +1,7 @@
 # The text of blkparse to arc: each queued read or write of one device. Both count blocks of 512 bytes.
 # The device is that of the first line, or another: awk -v device=8,16 -f blkparse.awk.
 function is_right() { return NF >= 7 && $1 ~ /^[0-9]+,[0-9]+$/ && $4 ~ /^[0-9]+\.[0-9]+$/ }
+{ sub(/\r$/, "") }
 FNR == 1 && !is_right() {
     print "blkparse.awk: line 1 must be: device (as 8,0) cpu sequence time process action kind .." > "/dev/stderr"
     exit 1

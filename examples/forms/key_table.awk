@@ -1,19 +1,46 @@
-# A table with a heading, of time, key and size with commas between them, to webcache. A key has no comma.
-function is_right() { return NF == 3 && $1 ~ /^[^ \t]+$/ && $2 != "" && $3 ~ /^[0-9]+$/ }
-BEGIN { FS = "," }
-{ sub(/\r$/, "") }
-FNR == 1 && (NF != 3 || is_right()) {
-    print "key_table.awk: line 1 must be a heading of three columns: time,key,size" > "/dev/stderr"
-    exit 1
+# A table with commas between its columns and a heading, to webcache. The columns of time, key and size are found by their
+# names, in any order, among others, in letters of either case: those in BEGIN below. Where they are called otherwise, give
+# their numbers: awk -v time=1 -v key=2 -v size=3 -f key_table.awk; time=0 takes the number of the line as the time. With all
+# three given the heading may be missing. A key is any text without a comma. Blanks around a comma don't count.
+function refuse(why) { print "key_table.awk: " why > "/dev/stderr"; exit 1 }
+function is_right() {
+    return NF == columns && (!at["time"] || $at["time"] ~ /^[^ \t]+$/) && $at["key"] != "" && $at["size"] ~ /^[0-9]+$/
 }
-FNR == 1 { headings++; next }
-FNR == 2 && !is_right() {
-    print "key_table.awk: line 2 must be: time,key,size, and the size a number" > "/dev/stderr"
-    exit 1
+# The number of the column of a role: the one that is given, or the only one that has a name of it.
+function column_of(role, given,  i, found) {
+    if (given != "") {
+        if (given !~ /^[0-9]+$/ || given > NF || given < (role != "time")) refuse(role "=" given ": line 1 has no such column")
+        return given + 0
+    }
+    for (i = 1; i <= NF; i++) {
+        if ($i !~ /^[A-Za-z_]+$/ || !index(names[role], " " tolower($i) " ")) continue
+        if (found) refuse("line 1 has two columns of a " role "; give the number of one, as -v " role "=" i)
+        found = i
+    }
+    if (!found) refuse("line 1 must be a heading with time, key and size, or give their columns: -v time=1 -v key=2 -v size=3")
+    return found
 }
+BEGIN {
+    FS = "[ \t]*,[ \t]*"
+    names["time"] = " time timestamp ts date datetime epoch "
+    names["key"] = " key id url uri path object object_id obj_id name "
+    names["size"] = " size bytes length size_bytes object_size obj_size content_length "
+}
+{ sub(/^[ \t]+/, ""); sub(/[ \t]*\r?$/, "") }
+FNR == 1 {
+    columns = NF
+    at["time"] = column_of("time", time)
+    at["key"] = column_of("key", key)
+    at["size"] = column_of("size", size)
+    has_heading = time == "" || key == "" || size == "" || !is_right()
+    headings += has_heading
+    if (has_heading) next
+}
+FNR == 2 && has_heading && !is_right() { refuse("line 2 must have the columns of line 1, a word as time and a number as size") }
 is_right() {
-    if (!($2 in number)) number[$2] = ++keys
-    print $1, number[$2], $3
+    word = $at["key"]
+    if (!(word in number)) number[word] = ++keys
+    print (at["time"] ? $at["time"] : NR), number[word], $at["size"]
     kept++
 }
 END { fflush(); printf "kept %d of %d lines\n", kept, NR - headings > "/dev/stderr"; if (!kept) exit 1 }

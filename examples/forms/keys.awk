@@ -1,4 +1,5 @@
 # Keys, one a line, of any text, to webcache. Each object has size 1, so a capacity counts objects.
+{ sub(/\r$/, "") }
 FNR == 1 && $0 == "" {
     print "keys.awk: line 1 must be a key, and is empty" > "/dev/stderr"
     exit 1

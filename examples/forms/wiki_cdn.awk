@@ -2,6 +2,7 @@
 # hashed_path_query, image_type, response_size and time_firstbyte. An object is a hash, of the size of its response.
 function is_right() { return NF == 5 && $1 ~ /^[0-9]+$/ && $2 != "" && $4 ~ /^[0-9]+$/ }
 BEGIN { FS = "\t" }
+{ sub(/\r$/, "") }
 FNR == 1 && !(NF == 5 && $1 == "relative_unix" && $2 == "hashed_path_query" && $4 == "response_size") {
     print "wiki_cdn.awk: line 1 must be the heading: relative_unix, hashed_path_query, image_type, response_size," \
         " time_firstbyte, with tabs between them" > "/dev/stderr"
