@@ -1,7 +1,9 @@
 //! Where a certificate is made: aside, until it is whole.
-ghost use Rattle.std.specs.Prelude.{◌+◌, ◌≤◌, ◌<◌, string_len};
-ghost use Rattle.std.specs.String.{string_capacity};
+ghost use Rattle.std.specs.Prelude.{◌≡◌, ◌+◌, ◌≤◌, ◌++◌, IfOk, false, length, string_len, true};
+ghost use Rattle.std.specs.String.{string_bytes, string_capacity};
+ghost use Rattle.bound_io.specs.Asides.{is_aside_name};
 
+use crate::asides::{ENDINGS, is_aside_name};
 use crate::file_id::{FileId, Spared, refused};
 use crate::standing::{Standing, standing_at};
 use std::alloc::Global;
@@ -11,11 +13,8 @@ use std::io::ErrorKind;
 use std::os::unix::fs::OpenOptionsExt;
 use std::rt::Files;
 
-// What the name of a certificate that is being made ends with, and then a digit, if others stand there.
-const ASIDE: &str = ".part";
-
-// How many such names there are: without a number, and with 1 to 9.
-const NAMES: u8 = 10;
+// The length of the longest ending.
+const LONGEST: usize = 6;
 
 // How many links are followed.
 const MOST_LINKS: u32 = 40;
@@ -53,11 +52,12 @@ pub struct Unplaced {
 }
 
 /// What a path leads to, and the name beside it under which its certificate is made. Both have their memory from the
-/// start.
+/// start. No certificate is made under the name at which another is to stand.
 #[derive(Drop)]
 pub(crate) struct Place {
     target: String,
     aside: String,
+    ghost is_apart: { is_aside_name (string_bytes target) ≡ false },
     ghost has_room: { string_len target + 6 ≤ string_capacity aside },
 }
 
@@ -99,10 +99,18 @@ fn follow_links<R: Files>(rt: &R, alloc: Global, path: &str) -> io::Result<Strin
 }
 
 impl Place {
-    /// Follows the links at the end of a path, and takes the memory for the names.
-    pub(crate) fn of<R: Files>(rt: &R, alloc: Global, path: &str) -> io::Result<Place> {
+    /// Follows the links at the end of a path, and takes the memory for the names. A path under which another run may make
+    /// its certificate is refused, and a link to one too: else the one run could rename the file of the other.
+    pub(crate) fn of<R: Files>(rt: &R, alloc: Global, path: &str) -> io::Result<Place>
+        ensures { IfOk result (λ place. is_aside_name path.now ≡ false) }
+    {
         let target = follow_links(rt, alloc, path)?;
-        let aside = String::with_capacity(alloc, target.len() + ASIDE.len() + 1)?;
+        if is_aside_name(path) || is_aside_name(target.as_str()) {
+            return Err(refused(
+                "names in .part or .part1 to .part9 are for certificates that are being made",
+            ));
+        }
+        let aside = String::with_capacity(alloc, target.len() + LONGEST)?;
         Ok(Place { target, aside })
     }
 
@@ -111,22 +119,22 @@ impl Place {
         self.aside.as_str()
     }
 
-    // Takes the name with this number, for which it needs no memory.
-    fn name_aside(&mut self, number: u8)
-        requires { number < 10 }
+    // Takes the name with this ending, for which it needs no memory.
+    fn name_aside(&mut self, ending: &str)
+        requires short { length ending.now ≤ 6 }
+        requires listed { is_aside_name ending.now ≡ true }
+        ensures name { string_bytes self.new.aside ≡ string_bytes self.old.target ++ ending.now }
+        ensures is_aside_name { is_aside_name (string_bytes self.new.aside) ≡ true }
     {
         self.aside.clear();
         self.aside.push_str(self.target.as_str()).unwrap();
-        self.aside.push_str(ASIDE).unwrap();
-        if number > 0 {
-            self.aside.push(char::from(b'0' + number)).unwrap();
-        }
+        self.aside.push_str(ending).unwrap();
     }
 
     // Makes a file under the first name that is free.
     fn create_aside<R: Files>(&mut self, rt: &R, mode: u32) -> io::Result<R::File> {
-        for number in 0..NAMES {
-            self.name_aside(number);
+        for ending in ENDINGS {
+            self.name_aside(ending);
             let made = OpenOptions::new()
                 .write(true)
                 .create_new(true)
@@ -137,9 +145,7 @@ impl Place {
                 made => return made,
             }
         }
-        Err(refused(
-            "it stands there, and so do the names before it; remove those that no run is writing",
-        ))
+        Err(refused("it stands there, as do the names before it; remove those that no run writes"))
     }
 
     // Makes a file aside with the permissions of an old one.

@@ -126,6 +126,38 @@ fn a_link_stays_a_link(rt: HostRuntime) {
     remove(&rt, "far_end");
 }
 
+// A path, of which `y` is a link to `x.part`, and whether a certificate may be put there.
+const NAMES: [(&str, bool); 12] = [
+    ("x.part", false),
+    ("x.part1", false),
+    ("x.part7", false),
+    ("x.part9", false),
+    (".part", false),
+    ("y", false),
+    ("x.part0", true),
+    ("x.part10", true),
+    ("x.parts", true),
+    ("x.part.cert", true),
+    ("xpart", true),
+    ("part", true),
+];
+
+#[test]
+fn refuses_the_names_under_which_certificates_are_made(rt: HostRuntime) {
+    let linked = symlink(&rt, "x.part", "y");
+    holds("a link", linked.is_ok()).expect(&rt, "a row");
+    for (path, is_taken) in NAMES {
+        let made = makes(&rt, rt.alloc(), path, Spared::default());
+        same(path, made, is_taken).expect(&rt, "a row");
+        same(path, fs::metadata(&rt, path).is_ok(), is_taken).expect(&rt, "a row");
+        if is_taken {
+            remove(&rt, path);
+        }
+    }
+    holds_bytes(&rt, "x.part.part", b"");
+    remove(&rt, "y");
+}
+
 #[test]
 fn leaves_the_files_of_the_run(rt: HostRuntime) {
     put(&rt, "spared", b"");
