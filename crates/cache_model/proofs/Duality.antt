@@ -1,5 +1,5 @@
 -- Weak duality by recursion on the trace, without indices.
-use Rattle.std.proofs.Common.{◌≡◌, ℕ, zero, suc, ◌+◌, ◌-◌, ◌*◌, ◌≤◌, Bool, true, false, cond, not, ◌&&◌, ◌||◌, eqb, List, [], ◌∷◌, length, refl, ap, arith, ⊎_elim, sum, sum_by, filter, zip, drop}
+use Rattle.std.proofs.Common.{◌≡◌, ℕ, zero, suc, ◌+◌, ◌-◌, ◌*◌, ◌≤◌, Bool, true, false, cond, not, ◌&&◌, ◌||◌, eqb, List, [], ◌∷◌, length, refl, ap, arith, ⊎_elim, sum, sum_by, filter}
 use Rattle.std.proofs.Math.Nat.{mul-le-mul_right}
 use Rattle.std.specs.List.{IsDistinct, AllByRecursion}
 use Rattle.std.proofs.lemmas.Bool.{eqb-true, eq-eqb, and_parts, and_from, or_cases, or_left, or_right, cond_both}
@@ -23,27 +23,26 @@ same_object-true x y h =
 pub same_object-refl : (x : Object) → same_object x x ≡ true
 same_object-refl x = and_from _ _ (and_from _ _ (eq-eqb x.volume x.volume refl) (eq-eqb x.id x.id refl)) (eq-eqb x.size x.size refl)
 
--- the warm-up that is left after one request
-abbrev pub fewer : ℕ → ℕ
-fewer zero = zero
-fewer (suc m) = m
+-- whether the requests after the first count
+abbrev pub after : (ℕ → Bool) → ℕ → Bool
+after counted t = counted (suc t)
 
--- what the next request earns: nothing in the warm-up
-abbrev pub earns_now : ℕ → ℕ → ℕ
-earns_now zero n = n
-earns_now (suc m) n = 0
+-- what a request earns: nothing if it doesn't count
+abbrev pub earns_now : Bool → ℕ → ℕ
+earns_now true n = n
+earns_now false n = 0
 
--- what the interval from x in the contents to its next request is worth, if the first m requests earn nothing
-abbrev pub worth : ℕ → (Object → ℕ) → (Object → ℕ) → List Object → List ℕ → Object → ℕ
-worth m g w [] prices x = 0
-worth m g w (r ∷ later) [] x = 0
-worth m g w (r ∷ later) (q ∷ prices) x = cond (same_object r x) (earns_now m (g x)) (worth (fewer m) g w later prices x - w x * q)
+-- what the interval from x in the contents to its next request is worth
+abbrev pub worth : (ℕ → Bool) → (Object → ℕ) → (Object → ℕ) → List Object → List ℕ → Object → ℕ
+worth counted g w [] prices x = 0
+worth counted g w (r ∷ later) [] x = 0
+worth counted g w (r ∷ later) (q ∷ prices) x = cond (same_object r x) (earns_now (counted 0) (g x)) (worth (after counted) g w later prices x - w x * q)
 
 -- the same of each request, summed
-abbrev pub extra : ℕ → (Object → ℕ) → (Object → ℕ) → List Object → List ℕ → ℕ
-extra m g w [] prices = 0
-extra m g w (r ∷ later) [] = 0
-extra m g w (r ∷ later) (q ∷ prices) = (worth (fewer m) g w later prices r - w r * q) + extra (fewer m) g w later prices
+abbrev pub extra : (ℕ → Bool) → (Object → ℕ) → (Object → ℕ) → List Object → List ℕ → ℕ
+extra counted g w [] prices = 0
+extra counted g w (r ∷ later) [] = 0
+extra counted g w (r ∷ later) (q ∷ prices) = (worth (after counted) g w later prices r - w r * q) + extra (after counted) g w later prices
 
 -- the contents but for r
 abbrev pub without : Object → List Object → List Object
@@ -144,50 +143,49 @@ inside-without r held (x ∷ xs) h = (at (same_object r x) refl, inside-without 
         ⊎_elim (λ (same : same_object x r ≡ true). or_left _ _ same)
         (λ (in_held : holds held x ≡ true). or_right _ _ (holds-without r x held e in_held)) (or_cases _ _ h.0)
 
--- what the requests earn, if the first m earn nothing
-abbrev pub earned : ℕ → (Object → ℕ) → List Object → List (List Object) → ℕ
-earned m earns trace contents = sum_by (λ (x, held). cond (holds held x) (earns x) 0) (drop m (zip trace contents))
+-- what the requests earn
+abbrev pub earned : (ℕ → Bool) → (Object → ℕ) → List Object → List (List Object) → ℕ
+earned counted earns [] contents = 0
+earned counted earns (r ∷ later) [] = 0
+earned counted earns (r ∷ later) (held ∷ nexts) = cond (counted 0 && holds held r) (earns r) 0 + earned (after counted) earns later nexts
 
 -- the next request, and the others
-earned-cons : (m : ℕ) (earns : Object → ℕ) (r : Object) (later : List Object) (held : List Object) (nexts : List (List Object))
-    → earned m earns (r ∷ later) (held ∷ nexts) ≡ cond (holds held r) (earns_now m (earns r)) 0 + earned (fewer m) earns later nexts
-earned-cons zero earns r later held nexts = sum_by-cons (λ (x, held). cond (holds held x) (earns x) 0) (r, held) (zip later nexts)
-earned-cons (suc m) earns r later held nexts = at (holds held r)
+earned-cons : (counted : ℕ → Bool) (earns : Object → ℕ) (r : Object) (later : List Object) (held : List Object) (nexts : List (List Object))
+    → earned counted earns (r ∷ later) (held ∷ nexts) ≡ cond (holds held r) (earns_now (counted 0) (earns r)) 0 + earned (after counted) earns later nexts
+earned-cons counted earns r later held nexts = ap (λ n. n + earned (after counted) earns later nexts) (at (counted 0) (holds held r))
   where
-    at : (t : Bool) → earned m earns later nexts ≡ cond t 0 0 + earned m earns later nexts
-    at true = omega arith
-    at false = omega arith
+    at : (s t : Bool) → cond (s && t) (earns r) 0 ≡ cond t (earns_now s (earns r)) 0
+    at true true = refl
+    at true false = refl
+    at false true = refl
+    at false false = refl
 
--- no more than before the warm-up is taken off
-earns_now-le : (m : ℕ) (earns g : Object → ℕ) (held : List Object) → AllByRecursion (λ x. earns x ≤ g x) held → AllByRecursion (λ x. earns_now m (earns x) ≤ earns_now m (g x)) held
-earns_now-le m earns g [] enough = tt
-earns_now-le zero earns g (x ∷ held) enough = (enough.0, earns_now-le zero earns g held enough.1)
-earns_now-le (suc m) earns g (x ∷ held) enough = (omega arith, earns_now-le (suc m) earns g held enough.1)
+-- no more than if it counts
+earns_now-le : (t : Bool) (earns g : Object → ℕ) (held : List Object) → AllByRecursion (λ x. earns x ≤ g x) held → AllByRecursion (λ x. earns_now t (earns x) ≤ earns_now t (g x)) held
+earns_now-le t earns g [] enough = tt
+earns_now-le true earns g (x ∷ held) enough = (enough.0, earns_now-le true earns g held enough.1)
+earns_now-le false earns g (x ∷ held) enough = (omega arith, earns_now-le false earns g held enough.1)
 
-nothing_earned : (m : ℕ) (earns : Object → ℕ) (contents : List (List Object)) → earned m earns [] contents ≡ 0
-nothing_earned zero earns contents = refl
-nothing_earned (suc m) earns contents = refl
-
-pub earned-le : (m : ℕ) (earns g w : Object → ℕ) (units : ℕ) (trace : List Object) (prices : List ℕ) (held : List Object) (nexts : List (List Object))
+pub earned-le : (counted : ℕ → Bool) (earns g w : Object → ℕ) (units : ℕ) (trace : List Object) (prices : List ℕ) (held : List Object) (nexts : List (List Object))
     → length prices ≡ length trace → AllByRecursion (λ x. earns x ≤ g x) held → Follows earns g w units held trace nexts
-    → earned m earns trace (held ∷ nexts) ≤ units * sum prices + extra m g w trace prices + sum_by (worth m g w trace prices) held
-earned-le m earns g w units [] prices held nexts same counted play = omega (arith, nothing_earned m earns (held ∷ nexts))
-earned-le m earns g w units (r ∷ later) [] held nexts same counted play = absurd (omega arith)
-earned-le m earns g w units (r ∷ later) (q ∷ prices) held [] same counted play = absurd play
-earned-le m earns g w units (r ∷ later) (q ∷ prices) held (next ∷ nexts) same counted play =
-    let v : Object → ℕ = worth (fewer m) g w later prices in
+    → earned counted earns trace (held ∷ nexts) ≤ units * sum prices + extra counted g w trace prices + sum_by (worth counted g w trace prices) held
+earned-le counted earns g w units [] prices held nexts same enough play = omega arith
+earned-le counted earns g w units (r ∷ later) [] held nexts same enough play = absurd (omega arith)
+earned-le counted earns g w units (r ∷ later) (q ∷ prices) held [] same enough play = absurd play
+earned-le counted earns g w units (r ∷ later) (q ∷ prices) held (next ∷ nexts) same enough play =
+    let v : Object → ℕ = worth (after counted) g w later prices in
     let f : Object → ℕ = λ x. v x - w x * q in
     let step : IsStep earns g w units held r next = play.0 in
-    let rest : earned (fewer m) earns later (next ∷ nexts) ≤ units * sum prices + extra (fewer m) g w later prices + sum_by v next =
-    earned-le (fewer m) earns g w units later prices next nexts (omega arith) step.counted play.1 in
+    let rest : earned (after counted) earns later (next ∷ nexts) ≤ units * sum prices + extra (after counted) g w later prices + sum_by v next =
+    earned-le (after counted) earns g w units later prices next nexts (omega arith) step.counted play.1 in
     let split : sum_by v next ≤ sum_by w next * q + sum_by f next = sum_by-worth-le v w q next in
     let room : sum_by w next * q ≤ units * q = mul-le-mul_right q step.room in
     let inside : sum_by f next ≤ sum_by f (r ∷ without r held) = sum_by-subset f next (r ∷ without r held) step.apart (inside-without r held next step.inside) in
-    let hit : cond (holds held r) (earns_now m (earns r)) 0 + sum_by f (without r held) ≤ sum_by (worth m g w (r ∷ later) (q ∷ prices)) held =
-    hit-le (λ x. earns_now m (earns x)) (λ x. earns_now m (g x)) f r held (earns_now-le m earns g held counted) in
+    let hit : cond (holds held r) (earns_now (counted 0) (earns r)) 0 + sum_by f (without r held) ≤ sum_by (worth counted g w (r ∷ later) (q ∷ prices)) held =
+    hit-le (λ x. earns_now (counted 0) (earns x)) (λ x. earns_now (counted 0) (g x)) f r held (earns_now-le (counted 0) earns g held enough) in
     omega (
       arith,
-      earned-cons m earns r later held (next ∷ nexts),
+      earned-cons counted earns r later held (next ∷ nexts),
       sum_by-cons f r (without r held),
       ap (λ n. units * n) (sum_by-cons (λ (n : ℕ). n) q prices),
     )

@@ -7,8 +7,7 @@ use Rattle.std.proofs.lemmas.List.Folds.{list_any_at, list_any_none, list_any-ap
 use Rattle.std.proofs.lemmas.List.Elements.{All-from_get_or}
 use Rattle.std.proofs.lemmas.List.Edits.{length-between, get_or-between, between_more}
 use Rattle.cache_model.specs.declared.objects.Object.{Object}
-use Rattle.cache_model.specs.Claim.{same_object, request_at, no_object}
-use Rattle.cache_model.specs.declared.terms.Terms.{Terms}
+use Rattle.cache_model.specs.Claim.{Terms, counts, same_object, request_at, no_object}
 use Rattle.cache_model.specs.declared.intervals.Interval.{Interval}
 use Rattle.cache_model.specs.Intervals.{is_eligible, interval_of, eligible_from}
 use Rattle.cache_model.specs.Objects.{IsNext, IsLast}
@@ -79,17 +78,17 @@ is_next_no trace a b k n lt ne =
     (cases_lt a k)
 
 pub eligible_next : (terms : Terms) (trace : List Object) (a b : ℕ) → IsNext trace a b
-    → filter (is_eligible terms trace a) (range_with_len 0 (length trace)) ≡ cond (nat_le (request_at trace a).size terms.capacity && nat_le terms.warmup b) (b ∷ []) []
-eligible_next terms trace a b n = at (nat_le (request_at trace a).size terms.capacity) (nat_le terms.warmup b) refl
+    → filter (is_eligible terms trace a) (range_with_len 0 (length trace)) ≡ cond (nat_le (request_at trace a).size terms.capacity && counts terms b) (b ∷ []) []
+eligible_next terms trace a b n = at (nat_le (request_at trace a).size terms.capacity) (counts terms b) refl
   where
     passes : Bool → ℕ → Bool
-    passes fits k = is_next trace a k && fits && nat_le terms.warmup k
+    passes fits k = is_next trace a k && fits && counts terms k
 
     -- b alone is the next request, and it does not count
-    none : (fits counts : Bool) → nat_le terms.warmup b ≡ counts → (fits && counts) ≡ false → (k : ℕ) → k < length trace → passes fits k ≡ false
-    none fits counts e neither k lt =
+    none : (fits counted : Bool) → counts terms b ≡ counted → (fits && counted) ≡ false → (k : ℕ) → k < length trace → passes fits k ≡ false
+    none fits counted e neither k lt =
         ⊎_elim
-        (λ (here : k ≡ b). ap (λ j. is_next trace a j && fits && nat_le terms.warmup j) here ∙ ap (λ t. is_next trace a b && fits && t) e ∙ shut (is_next trace a b) fits counts neither)
+        (λ (here : k ≡ b). ap (λ j. is_next trace a j && fits && counts terms j) here ∙ ap (λ t. is_next trace a b && fits && t) e ∙ shut (is_next trace a b) fits counted neither)
         (λ (ne : k ≢ b). and_left _ _ (and_left _ fits (is_next_no trace a b k n lt ne)))
         (cases_eq k b)
       where
@@ -97,43 +96,43 @@ eligible_next terms trace a b n = at (nat_le (request_at trace a).size terms.cap
         shut true t u h = h
         shut false t u h = refl
 
-    at : (fits counts : Bool) → nat_le terms.warmup b ≡ counts → filter (passes fits) (range_with_len 0 (length trace)) ≡ cond (fits && counts) (b ∷ []) []
+    at : (fits counted : Bool) → counts terms b ≡ counted → filter (passes fits) (range_with_len 0 (length trace)) ≡ cond (fits && counted) (b ∷ []) []
     at true true e = filter-range_one (passes true) b 0 (length trace) (omega arith) (omega arith) (and_from _ _ (and_from _ true (is_next_yes trace a b n) refl) e)
         (λ k low high ne. and_left _ _ (and_left _ true (is_next_no trace a b k n (omega arith) ne)))
     at true false e = filter-range_none (passes true) 0 (length trace) (λ k low high. none true false e refl k (omega arith))
-    at false counts e = filter-range_none (passes false) 0 (length trace) (λ k low high. none false counts e refl k (omega arith))
+    at false counted e = filter-range_none (passes false) 0 (length trace) (λ k low high. none false counted e refl k (omega arith))
 
 -- no later request is of the object
 pub eligible_last : (terms : Terms) (trace : List Object) (a : ℕ) → IsLast trace a
     → filter (is_eligible terms trace a) (range_with_len 0 (length trace)) ≡ []
 eligible_last terms trace a none =
     filter-range_none (is_eligible terms trace a) 0 (length trace)
-    (λ k low high. and_left _ (nat_le terms.warmup k) (and_left _ (nat_le (request_at trace a).size terms.capacity) (and_left _ _ (at k (omega arith)))))
+    (λ k low high. and_left _ (counts terms k) (and_left _ (nat_le (request_at trace a).size terms.capacity) (and_left _ _ (at k (omega arith)))))
   where
     at : (k : ℕ) → k < length trace → (nat_lt a k && same_object (request_at trace a) (request_at trace k)) ≡ false
     at k lt = ⊎_elim (λ (h : a < k). and_right (nat_lt a k) _ (none k h lt)) (λ (h : k ≤ a). and_left (nat_lt a k) _ (le-ltb a k h)) (cases_lt a k)
 
 pub eligible_from_next : (terms : Terms) (trace : List Object) (a b : ℕ) → IsNext trace a b
-    → eligible_from terms trace a ≡ cond (nat_le (request_at trace a).size terms.capacity && nat_le terms.warmup b) (interval_of terms.objective trace a b ∷ []) []
+    → eligible_from terms trace a ≡ cond (nat_le (request_at trace a).size terms.capacity && counts terms b) (interval_of terms.objective trace a b ∷ []) []
 eligible_from_next terms trace a b n =
-    ap (map (interval_of terms.objective trace a)) (eligible_next terms trace a b n) ∙ at (nat_le (request_at trace a).size terms.capacity && nat_le terms.warmup b)
+    ap (map (interval_of terms.objective trace a)) (eligible_next terms trace a b n) ∙ at (nat_le (request_at trace a).size terms.capacity && counts terms b)
   where
     at : (t : Bool) → map (interval_of terms.objective trace a) (cond t (b ∷ []) []) ≡ cond t (interval_of terms.objective trace a b ∷ []) []
     at true = refl
     at false = refl
 
--- the object fits, and its next request is past the warm-up
-pub eligible_from_one : (terms : Terms) (trace : List Object) (a b : ℕ) → IsNext trace a b → (request_at trace a).size ≤ terms.capacity → terms.warmup ≤ b
+-- the object fits, and its next request counts
+pub eligible_from_one : (terms : Terms) (trace : List Object) (a b : ℕ) → IsNext trace a b → (request_at trace a).size ≤ terms.capacity → counts terms b ≡ true
     → eligible_from terms trace a ≡ interval_of terms.objective trace a b ∷ []
-eligible_from_one terms trace a b n fits counts =
+eligible_from_one terms trace a b n fits counted =
     eligible_from_next terms trace a b n
-    ∙ ap (λ t. cond t (interval_of terms.objective trace a b ∷ []) []) (and_from _ _ (le-leb (request_at trace a).size terms.capacity fits) (le-leb terms.warmup b counts))
+    ∙ ap (λ t. cond t (interval_of terms.objective trace a b ∷ []) []) (and_from _ _ (le-leb (request_at trace a).size terms.capacity fits) counted)
 
--- the next request is one of the warm-up
-pub eligible_from_early : (terms : Terms) (trace : List Object) (a b : ℕ) → IsNext trace a b → b < terms.warmup → eligible_from terms trace a ≡ []
-eligible_from_early terms trace a b n early =
+-- the next request doesn't count
+pub eligible_from_uncounted : (terms : Terms) (trace : List Object) (a b : ℕ) → IsNext trace a b → counts terms b ≡ false → eligible_from terms trace a ≡ []
+eligible_from_uncounted terms trace a b n uncounted =
     eligible_from_next terms trace a b n
-    ∙ ap (λ t. cond t (interval_of terms.objective trace a b ∷ []) []) (and_right (nat_le (request_at trace a).size terms.capacity) _ (lt-leb terms.warmup b early))
+    ∙ ap (λ t. cond t (interval_of terms.objective trace a b ∷ []) []) (and_right (nat_le (request_at trace a).size terms.capacity) _ uncounted)
 
 pub eligible_from_last : (terms : Terms) (trace : List Object) (a : ℕ) → IsLast trace a → eligible_from terms trace a ≡ []
 eligible_from_last terms trace a last = ap (map (interval_of terms.objective trace a)) (eligible_last terms trace a last)
@@ -160,4 +159,4 @@ pub eligible_from_too_large : (terms : Terms) (trace : List Object) (a : ℕ) �
 eligible_from_too_large terms trace a large =
     ap (map (interval_of terms.objective trace a))
     (filter-range_none (is_eligible terms trace a) 0 (length trace)
-    (λ k low high. and_left _ (nat_le terms.warmup k) (and_right (is_next trace a k) _ (lt-leb (request_at trace a).size terms.capacity large))))
+    (λ k low high. and_left _ (counts terms k) (and_right (is_next trace a k) _ (lt-leb (request_at trace a).size terms.capacity large))))

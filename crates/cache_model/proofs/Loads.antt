@@ -5,9 +5,8 @@ use Rattle.std.proofs.lemmas.Bool.{cases_Bool, cases_lt, and_left, and_right, an
 use Rattle.std.proofs.lemmas.List.Folds.{Any-from_list_any}
 use Rattle.std.proofs.lemmas.List.Sums.{sum_by-cons}
 use Rattle.cache_model.specs.declared.objects.Object.{Object}
-use Rattle.cache_model.specs.declared.terms.Terms.{Terms}
 use Rattle.cache_model.specs.declared.intervals.Interval.{Interval}
-use Rattle.cache_model.specs.Claim.{same_object, request_at, no_object, is_latest}
+use Rattle.cache_model.specs.Claim.{Terms, counts, same_object, request_at, no_object, is_latest}
 use Rattle.cache_model.specs.Intervals.{interval_of, eligible_from, eligible_intervals}
 use Rattle.cache_model.specs.Objects.{IsNext}
 use Rattle.cache_model.specs.Schedules.{covers, load_at}
@@ -44,11 +43,11 @@ module _ (terms : Terms) (trace : List Object) (g : ℕ → ℕ) (t : ℕ) where
       (λ k d lt. let i : Interval = get_or (eligible_from terms trace a) k d in let from : i.start ≡ a = (All-eligible_from terms trace a k d lt).1 in
       cond_zero (covers t i) (g i.start) (ap g from ∙ e)))
 
-  started : (a b : ℕ) → a ≤ t → t < length trace → IsNext trace a b → (request_at trace a).size ≤ terms.capacity → terms.warmup ≤ b → own a ≡ sum_by share (eligible_from terms trace a)
+  started : (a b : ℕ) → a ≤ t → t < length trace → IsNext trace a b → (request_at trace a).size ≤ terms.capacity → counts terms b ≡ true → own a ≡ sum_by share (eligible_from terms trace a)
   unfolding share own
-  started a b low high n fits counts =
+  started a b low high n fits counted =
       let i : Interval = interval_of terms.objective trace a b in
-      let of_start : eligible_from terms trace a ≡ i ∷ [] = eligible_from_one terms trace a b n fits counts in
+      let of_start : eligible_from terms trace a ≡ i ∷ [] = eligible_from_one terms trace a b n fits counted in
       let one : sum_by share (eligible_from terms trace a) ≡ cond (covers t i) (g a) 0 = ap (sum_by share) of_start ∙ (omega (arith, sum_by-cons share i [])) in
       let p : Object → Bool = same_object (request_at trace a) in
       ⊎_elim

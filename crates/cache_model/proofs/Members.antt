@@ -5,9 +5,8 @@ use Rattle.std.proofs.lemmas.Bool.{ltb-true, leb-true, and_parts, not-true, both
 use Rattle.std.proofs.lemmas.List.Kept.{AllPairs-cons}
 use Rattle.std.proofs.lemmas.List.Elements.{All-nil, All-head, All-tail, All-weaker, All-append, All-map, All-contains, Contains-get_or, Contains-append_left, Contains-append_right}
 use Rattle.cache_model.specs.declared.objects.Object.{Object}
-use Rattle.cache_model.specs.declared.terms.Terms.{Terms}
 use Rattle.cache_model.specs.declared.intervals.Interval.{Interval}
-use Rattle.cache_model.specs.Claim.{same_object, request_at, no_object}
+use Rattle.cache_model.specs.Claim.{Terms, counts, same_object, request_at, no_object}
 use Rattle.cache_model.specs.Intervals.{is_eligible, interval_of, eligible_from, eligible_intervals}
 use Rattle.cache_model.specs.Objects.{IsNext}
 use Rattle.cache_model.specs.Laws.{IsEligible, EligibleIntervals}
@@ -29,11 +28,11 @@ Contains-flat_map_range f x k a (suc n) low high m =
     (cases_eq a k)
 
 -- the test and the relation
-eligible_parts : (terms : Terms) (trace : List Object) (a b : ℕ) → b < length trace → is_eligible terms trace a b ≡ true → IsNext trace a b × ((request_at trace a).size ≤ terms.capacity) × (terms.warmup ≤ b)
+eligible_parts : (terms : Terms) (trace : List Object) (a b : ℕ) → b < length trace → is_eligible terms trace a b ≡ true → IsNext trace a b × ((request_at trace a).size ≤ terms.capacity) × (counts terms b ≡ true)
 eligible_parts terms trace a b within e =
     let p : Object → Bool = same_object (request_at trace a) in
     let pair : Bool = nat_lt a b && p (request_at trace b) && not (list_any p (slice_range trace (a + 1) b)) in
-    let all = and_parts (pair && nat_le (request_at trace a).size terms.capacity) (nat_le terms.warmup b) e in
+    let all = and_parts (pair && nat_le (request_at trace a).size terms.capacity) (counts terms b) e in
     let outer = and_parts pair (nat_le (request_at trace a).size terms.capacity) all.0 in
     let inner = and_parts (nat_lt a b && p (request_at trace b)) (not (list_any p (slice_range trace (a + 1) b))) outer.0 in
     let first = and_parts (nat_lt a b) (p (request_at trace b)) inner.0 in (
@@ -48,7 +47,7 @@ eligible_parts terms trace a b within e =
             (cases_Bool (p (request_at trace k)));
       },
       leb-true (request_at trace a).size terms.capacity outer.1,
-      leb-true terms.warmup b all.1,
+      all.1,
     )
 
 pub All-eligible_from : (terms : Terms) (trace : List Object) (a : ℕ) → All (λ i. IsEligible terms trace i × (i.start ≡ a)) (eligible_from terms trace a)

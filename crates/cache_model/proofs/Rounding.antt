@@ -6,9 +6,8 @@ use Rattle.std.proofs.lemmas.List.Folds.{Any-from_list_any}
 use Rattle.std.proofs.lemmas.List.Elements.{All-head, All-tail, All-nil, All-cons}
 use Rattle.std.proofs.lemmas.List.Sums.{sum_by-cons}
 use Rattle.cache_model.specs.declared.objects.Object.{Object}
-use Rattle.cache_model.specs.declared.terms.Terms.{Terms}
 use Rattle.cache_model.specs.declared.intervals.Interval.{Interval}
-use Rattle.cache_model.specs.Claim.{same_object, total_size, request_at, no_object, is_kept, is_held, held_before}
+use Rattle.cache_model.specs.Claim.{Terms, counts, same_object, total_size, request_at, no_object, is_kept, is_held, held_before}
 use Rattle.cache_model.specs.Intervals.{interval_of, eligible_from, eligible_intervals}
 use Rattle.cache_model.specs.Objects.{IsNext}
 use Rattle.cache_model.specs.Schedules.{covers}
@@ -48,13 +47,13 @@ module _ (terms : Terms) (trace : List Object) (keeps : List Bool) (t : ℕ) whe
       (λ k d lt. let i : Interval = get_or (eligible_from terms trace a) k d in let from : i.start ≡ a = (All-eligible_from terms trace a k d lt).1 in
       ap (λ s. cond s i.size 0) (and_right (covers t i) _ (ap (is_kept keeps) from ∙ e))))
 
-  kept : (a b : ℕ) → a ≤ t → t < length trace → IsNext trace a b → (request_at trace a).size ≤ terms.capacity → terms.warmup ≤ b → is_kept keeps a ≡ true
+  kept : (a b : ℕ) → a ≤ t → t < length trace → IsNext trace a b → (request_at trace a).size ≤ terms.capacity → counts terms b ≡ true → is_kept keeps a ≡ true
       → held_share a ≡ sum_by share (eligible_from terms trace a)
   unfolding share held_share
-  kept a b low high n fits counts e =
+  kept a b low high n fits counted e =
       let size : ℕ = (request_at trace a).size in
       let i : Interval = interval_of terms.objective trace a b in
-      let of_start : eligible_from terms trace a ≡ i ∷ [] = eligible_from_one terms trace a b n fits counts in
+      let of_start : eligible_from terms trace a ≡ i ∷ [] = eligible_from_one terms trace a b n fits counted in
       let one : sum_by share (eligible_from terms trace a) ≡ cond (covers t i && is_kept keeps a) size 0 = ap (sum_by share) of_start ∙ (omega (arith, sum_by-cons share i [])) in
       let p : Object → Bool = same_object (request_at trace a) in
       ⊎_elim

@@ -10,10 +10,9 @@ use Rattle.cache_model.specs.declared.objects.Object.{Object}
 use Rattle.cache_model.specs.declared.objects.Objective.{Objective}
 use Rattle.cache_model.specs.declared.objects.Objective.TheVariants.{Object as Hits, Bytes}
 use Rattle.cache_model.specs.declared.intervals.Interval.{Interval}
-use Rattle.cache_model.specs.declared.terms.Terms.{Terms}
 use Rattle.cache_model.specs.declared.certificates.Header.{Header}
 use Rattle.cache_model.specs.declared.certificates.Record.{Record}
-use Rattle.cache_model.specs.Claim.{score, terms_from, total_size, held_before, contents_of, is_kept}
+use Rattle.cache_model.specs.Claim.{Terms, score, terms_from, total_size, held_before, contents_of, is_kept}
 use Rattle.cache_model.specs.Objects.{objects_of}
 use Rattle.cache_model.specs.Intervals.{eligible_intervals, bound_of}
 use Rattle.cache_model.specs.Schedules.{load_at, flow_value, covers}
@@ -36,7 +35,7 @@ entry p k f = record { price = p; keep = k; flow = f }
 
 -- what is asked for without a warm-up
 abbrev asked : Objective → ℕ → Terms
-asked o c = terms_from o c 0
+asked o c = terms_from o c 0 []
 
 abbrev bound : Objective → ℕ → ℕ → ℕ → List Object → List ℕ → ℕ
 bound o c u d trace prices = bound_of (eligible_intervals (asked o c) trace) u (c / u) d prices
@@ -78,24 +77,65 @@ unfolding cycle_keeps
 cycle_held = refl
 
 -- ---- the same with a warm-up: five requests leave the interval that ends at request 5, six leave none
-cycle_warm_intervals : eligible_intervals (terms_from Hits 2 5) cycle ≡ interval 2 5 1 1 ∷ []
+cycle_warm_intervals : eligible_intervals (terms_from Hits 2 5 []) cycle ≡ interval 2 5 1 1 ∷ []
 cycle_warm_intervals = refl
 
-cycle_warm_bound : bound_of (eligible_intervals (terms_from Hits 2 5) cycle) 1 2 1 (0 ∷ 0 ∷ 0 ∷ 0 ∷ 0 ∷ 0 ∷ []) ≡ 1
+cycle_warm_bound : bound_of (eligible_intervals (terms_from Hits 2 5 []) cycle) 1 2 1 (0 ∷ 0 ∷ 0 ∷ 0 ∷ 0 ∷ 0 ∷ []) ≡ 1
 cycle_warm_bound = refl
 
-cycle_late_intervals : eligible_intervals (terms_from Hits 2 6) cycle ≡ []
+cycle_late_intervals : eligible_intervals (terms_from Hits 2 6 []) cycle ≡ []
 cycle_late_intervals = refl
 
 -- the keeps of requests 0 and 2 hit requests 3 and 5, and request 5 alone is past five requests
-cycle_warm_score : score (terms_from Hits 2 5) cycle (contents_of cycle (true ∷ false ∷ true ∷ false ∷ false ∷ false ∷ [])) ≡ 1
+cycle_warm_score : score (terms_from Hits 2 5 []) cycle (contents_of cycle (true ∷ false ∷ true ∷ false ∷ false ∷ false ∷ [])) ≡ 1
 cycle_warm_score = refl
 
-cycle_whole_score : score (terms_from Hits 2 3) cycle (contents_of cycle (true ∷ false ∷ true ∷ false ∷ false ∷ false ∷ [])) ≡ 2
+cycle_whole_score : score (terms_from Hits 2 3 []) cycle (contents_of cycle (true ∷ false ∷ true ∷ false ∷ false ∷ false ∷ [])) ≡ 2
 cycle_whole_score = refl
 
-cycle_late_score : score (terms_from Hits 2 6) cycle (contents_of cycle (true ∷ false ∷ true ∷ false ∷ false ∷ false ∷ [])) ≡ 0
+cycle_late_score : score (terms_from Hits 2 6 []) cycle (contents_of cycle (true ∷ false ∷ true ∷ false ∷ false ∷ false ∷ [])) ≡ 0
 cycle_late_score = refl
+
+-- ---- the same, and request 3 only fills: nothing that ends there is eligible, and its hit earns nothing
+abbrev fourth_fills : List Bool
+fourth_fills = false ∷ false ∷ false ∷ true ∷ []
+
+cycle_marked_intervals : eligible_intervals (terms_from Hits 2 0 fourth_fills) cycle ≡ interval 1 4 1 1 ∷ interval 2 5 1 1 ∷ []
+cycle_marked_intervals = refl
+
+cycle_marked_score : score (terms_from Hits 2 0 fourth_fills) cycle (contents_of cycle (true ∷ false ∷ true ∷ false ∷ false ∷ false ∷ [])) ≡ 1
+cycle_marked_score = refl
+
+-- with a warm-up of five requests too
+cycle_both_intervals : eligible_intervals (terms_from Hits 2 5 fourth_fills) cycle ≡ interval 2 5 1 1 ∷ []
+cycle_both_intervals = refl
+
+-- ---- A is set and then asked for: the hit counts
+abbrev set_and_get : List Object
+set_and_get = object 1 3 ∷ object 1 3 ∷ []
+
+set_intervals : eligible_intervals (terms_from Bytes 3 0 (true ∷ false ∷ [])) set_and_get ≡ interval 0 1 3 3 ∷ []
+set_intervals = refl
+
+set_score : score (terms_from Bytes 3 0 (true ∷ false ∷ [])) set_and_get (contents_of set_and_get (true ∷ false ∷ [])) ≡ 3
+set_score = refl
+
+-- ---- A is read, written and read: the block is held over the write, and one read alone is a hit that counts
+abbrev write_between : List Object
+write_between = object 1 3 ∷ object 1 3 ∷ object 1 3 ∷ []
+
+between_intervals : eligible_intervals (terms_from Hits 3 0 (false ∷ true ∷ false ∷ [])) write_between ≡ interval 1 2 3 1 ∷ []
+between_intervals = refl
+
+between_score : score (terms_from Hits 3 0 (false ∷ true ∷ false ∷ [])) write_between (contents_of write_between (true ∷ true ∷ false ∷ [])) ≡ 1
+between_score = refl
+
+-- ---- all are writes
+writes_intervals : eligible_intervals (terms_from Hits 3 0 (true ∷ true ∷ true ∷ [])) write_between ≡ []
+writes_intervals = refl
+
+writes_score : score (terms_from Hits 3 0 (true ∷ true ∷ true ∷ [])) write_between (contents_of write_between (true ∷ true ∷ false ∷ [])) ≡ 0
+writes_score = refl
 
 -- ---- the same at capacity 1 and the constant price 1 over 3
 cycle_constant : bound Hits 1 1 3 cycle (1 ∷ 1 ∷ 1 ∷ 1 ∷ 1 ∷ 0 ∷ []) ≡ 5
@@ -189,10 +229,10 @@ pair_header exact flow = record { objective = Hits; capacity = 10; requests = 2;
 abbrev pair_records : ℕ → List Record
 pair_records flow = entry 0 true flow ∷ entry 0 false 0 ∷ []
 
-pair_upper : upper_of pair (pair_header true 1) (pair_records 1) ≡ 1
+pair_upper : upper_of pair [] (pair_header true 1) (pair_records 1) ≡ 1
 pair_upper = refl
 
-pair_flow : flow_of pair (pair_header true 1) (pair_records 1) ≡ 1
+pair_flow : flow_of pair [] (pair_header true 1) (pair_records 1) ≡ 1
 pair_flow = refl
 
 pair_text : cert_text (pair_header true 1) (pair_records 1) ≡ text_of (
@@ -289,7 +329,7 @@ pair_certificate = record {
       (All-cons IsRecordInRange (entry 0 false 0) [] (small_record 0 0 false (lit≤ tt) (lit≤ tt)) (All-nil IsRecordInRange));
 }
 
-pair_valid : IsValid pair (pair_header true 1) (pair_records 1)
+pair_valid : IsValid pair [] (pair_header true 1) (pair_records 1)
 pair_valid = record {
   certificate = pair_certificate;
   requests = refl;
@@ -363,7 +403,7 @@ none_loads : (t : ℕ) → t ≤ 0 → total_size (held_before [] [] t) ≤ 10
 none_loads zero h = lit≤ tt
 none_loads (suc t) h = absurd (omega arith)
 
-none_valid : IsValid [] none_header []
+none_valid : IsValid [] [] none_header []
 none_valid = record {
   certificate = none_certificate;
   requests = refl;

@@ -1,18 +1,20 @@
 -- What each request adds to the load and to the score of the contents of keeps.
-use Rattle.std.proofs.Common.{◌≡◌, ◌≢◌, ℕ, suc, zero, ◌+◌, ◌<◌, ◌≤◌, ◌∙◌, sym, refl, ap, subst, Bool, true, false, not, ◌||◌, cond, nat_le, List, [], ◌∷◌, length, arith, inl, inr, ◌⊎◌, ⊎_elim, Any, Contains, sum_by, zip, map, filter, drop, get_or, slice_range}
+use Rattle.std.proofs.Common.{◌≡◌, ◌≢◌, ℕ, suc, zero, ◌+◌, ◌<◌, ◌≤◌, ◌∙◌, sym, refl, ap, subst, Bool, true, false, not, ◌&&◌, ◌||◌, cond, nat_le, List, [], ◌∷◌, length, arith, inl, inr, ◌⊎◌, ⊎_elim, Any, Contains, sum_by, zip, drop, map, filter, get_or, slice_range}
 use Rattle.std.specs.List.{range_with_len, list_any}
-use Rattle.std.proofs.lemmas.Bool.{cases_Bool, cases_lt, cases_eq, both_ways, and_parts, and_from, lt-leb}
+use Rattle.std.proofs.Math.Dec.{leb-suc-zero, leb-suc-suc}
+use Rattle.std.proofs.lemmas.Bool.{cases_Bool, cases_lt, cases_eq, both_ways, and_parts, and_from, and_right, le-leb}
 use Rattle.std.proofs.lemmas.List.Elements.{All-map}
+use Rattle.std.proofs.lemmas.List.FromFn.{get_or-map-range_with_len}
 use Rattle.std.proofs.lemmas.List.Folds.{list_any_at, list_any_none, Any-from_list_any}
 use Rattle.std.proofs.lemmas.List.Sums.{sum_by-cons, get_or-le-sum_by}
 use Rattle.cache_model.specs.declared.objects.Object.{Object}
-use Rattle.cache_model.specs.declared.terms.Terms.{Terms}
-use Rattle.cache_model.specs.Claim.{same_object, gain_of, total_size, holds, score, IsAllowed, request_at, no_object, is_kept, is_held, is_latest, held_before, contents_of}
+use Rattle.cache_model.specs.declared.objects.Objective.{Objective}
+use Rattle.cache_model.specs.Claim.{Terms, counts, terms_from, same_object, gain_of, total_size, holds, before_request, score, IsAllowed, request_at, no_object, is_kept, is_held, is_latest, held_before, contents_of}
 use Rattle.cache_model.specs.Objects.{IsFirst, IsNext}
 use Rattle.cache_model.specs.Keeps.{latest_sum, load_after}
-use Rattle.cache_model.proofs.Duality.{same_object-true, fewer}
-use Rattle.cache_model.proofs.Pairs.{same_object-sym, leb-fewer}
-use Rattle.cache_model.proofs.Sums.{sum_by-range}
+use Rattle.cache_model.proofs.Duality.{same_object-true}
+use Rattle.cache_model.proofs.Pairs.{same_object-sym}
+use Rattle.cache_model.proofs.Sums.{sum_by-range, sum_by-agree, sum_by-nothing}
 use Rattle.cache_model.proofs.Eligible.{list_any-range_false, list_any-range_true, list_any-range_more, or_false}
 use Rattle.cache_model.proofs.Streams.{sum_by-range_agree, sum_by-range_one, sum_by-range_last}
 use Rattle.cache_model.proofs.Keeps.{All-filter_range, Contains-filter_range, contents_of_keeps}
@@ -221,46 +223,24 @@ allowed-from_loads trace capacity keeps fits = contents_of_keeps trace capacity 
         let e : t + 1 ≡ suc t = omega arith in
         subst (λ j. total_size (held_before trace keeps j) ≤ capacity) e (fits t (omega arith))
 
--- what request t earns: nothing in the warm-up
+-- what request t earns
 abbrev pub earned_at : Terms → List Object → List Bool → ℕ → ℕ
 earned_at terms trace keeps t =
-    cond (nat_le terms.warmup t) (cond (holds (held_before trace keeps t) (request_at trace t)) (gain_of terms.objective (request_at trace t)) 0) 0
+    cond (counts terms t && holds (held_before trace keeps t) (request_at trace t)) (gain_of terms.objective (request_at trace t)) 0
 
--- a sum over two lists from the m-th pair on, the second list by the numbers of a range
-sum_by-zip_range : {X Y : Type 0} (m : ℕ) (f : X × Y → ℕ) (h : ℕ → Y) (d : X) (xs : List X) (a n : ℕ) → length xs ≤ n
-    → sum_by f (drop m (zip xs (map h (range_with_len a n)))) ≡ sum_by (λ k. cond (nat_le m k) (f (get_or xs k d, h (a + k))) 0) (range_with_len 0 (length xs))
-sum_by-zip_range zero f h d [] a n low = refl
-sum_by-zip_range (suc m) f h d [] a n low = refl
-sum_by-zip_range m f h d (x ∷ xs) a zero low = absurd (omega arith)
-sum_by-zip_range m f h d (x ∷ xs) a (suc n) low =
-    let term : ℕ → ℕ = λ k. cond (nat_le m k) (f (get_or (x ∷ xs) k d, h (a + k))) 0 in
-    let first : a + 0 ≡ a = omega arith in
-    let later : (k : ℕ) → (a + 1) + k ≡ a + suc k = λ k. omega arith in
-    omega (
-      arith,
-      split m,
-      sum_by-zip_range (fewer m) f h d xs (a + 1) n (omega arith),
-      sum_by-range term (length xs),
-      ap (λ j. cond (nat_le m 0) (f (x, h j)) 0) first,
-      sum_by-range_agree (λ k. cond (nat_le (fewer m) k) (f (get_or xs k d, h ((a + 1) + k))) 0) (λ k. term (suc k)) 0 (length xs)
-          (λ k l high. ap (λ t. cond t (f (get_or xs k d, h ((a + 1) + k))) 0) (sym (leb-fewer m k)) ∙ ap (λ j. cond (nat_le m (suc k)) (f (get_or xs k d, h j)) 0) (later k)),
-    )
-  where
-    rest : ℕ → ℕ
-    rest k = sum_by f (drop k (zip xs (map h (range_with_len (a + 1) n))))
-
-    split : (m : ℕ) → sum_by f (drop m (zip (x ∷ xs) (map h (range_with_len a (suc n))))) ≡ cond (nat_le m 0) (f (x, h a)) 0 + rest (fewer m)
-    split zero = sum_by-cons f (x, h a) (zip xs (map h (range_with_len (a + 1) n)))
-    split (suc m) = let none : cond (nat_le (suc m) 0) (f (x, h a)) 0 ≡ 0 = ap (λ t. cond t (f (x, h a)) 0) (lt-leb (suc m) 0 (omega arith)) in omega (arith, none)
+-- the contents of keeps before request t
+before_request-contents_of : (trace : List Object) (keeps : List Bool) (t : ℕ) → t < length trace → before_request (contents_of trace keeps) t ≡ held_before trace keeps t
+before_request-contents_of trace keeps t within = get_or-map-range_with_len (held_before trace keeps) 0 (length trace + 1) t t [] (omega arith) (omega arith)
 
 -- the score of the contents of keeps is what each request earns, summed
 pub score-requests : (terms : Terms) (trace : List Object) (keeps : List Bool)
     → score terms trace (contents_of trace keeps) ≡ sum_by (earned_at terms trace keeps) (range_with_len 0 (length trace))
 score-requests terms trace keeps =
-    let f : Object × List Object → ℕ = λ (x, held). cond (holds held x) (gain_of terms.objective x) 0 in
-    sum_by-zip_range terms.warmup f (held_before trace keeps) no_object trace 0 (length trace + 1) (omega arith)
-    ∙ sum_by-range_agree (λ k. cond (nat_le terms.warmup k) (f (request_at trace k, held_before trace keeps (0 + k))) 0) (earned_at terms trace keeps) 0 (length trace)
-    (λ k low high. let e : 0 + k ≡ k = omega arith in ap (λ j. cond (nat_le terms.warmup k) (f (request_at trace k, held_before trace keeps j)) 0) e)
+    sum_by-range_agree
+    (λ t. cond (counts terms t && holds (before_request (contents_of trace keeps) t) (request_at trace t)) (gain_of terms.objective (request_at trace t)) 0)
+    (earned_at terms trace keeps) 0 (length trace)
+    (λ t low high. ap (λ held. cond (counts terms t && holds held (request_at trace t)) (gain_of terms.objective (request_at trace t)) 0)
+    (before_request-contents_of trace keeps t (omega arith)))
 
 -- one more request
 pub earned-more : (terms : Terms) (trace : List Object) (keeps : List Bool) (t : ℕ)
@@ -268,3 +248,54 @@ pub earned-more : (terms : Terms) (trace : List Object) (keeps : List Bool) (t :
 earned-more terms trace keeps t =
     let e : t + 1 ≡ suc t = omega arith in
     ap (λ n. sum_by (earned_at terms trace keeps) (range_with_len 0 n)) e ∙ sum_by-range_last (earned_at terms trace keeps) t
+
+-- what a pair of a request and its contents earns
+abbrev pair_earns : Objective → Object × List Object → ℕ
+pair_earns o = λ (x, held). cond (holds held x) (gain_of o x) 0
+
+-- what request t earns if all past the warm-up count
+abbrev earned_past : Objective → ℕ → List Object → List (List Object) → ℕ → ℕ
+earned_past o m trace contents t = cond ((nat_le m t && true) && holds (before_request contents t) (request_at trace t)) (gain_of o (request_at trace t)) 0
+
+earned_past-suc : (o : Objective) (m n : ℕ) (later : List Object) (nexts : List (List Object)) (t : ℕ) → nat_le m (suc t) ≡ nat_le n t
+    → cond ((nat_le m (suc t) && true) && holds (before_request nexts t) (request_at later t)) (gain_of o (request_at later t)) 0 ≡ earned_past o n later nexts t
+earned_past-suc o m n later nexts t e = ap (λ b. cond ((b && true) && holds (before_request nexts t) (request_at later t)) (gain_of o (request_at later t)) 0) e
+
+none_left : {X Y : Type 0} (f : X × Y → ℕ) (m : ℕ) (xs : List X) → sum_by f (drop m (zip xs [])) ≡ 0
+none_left f zero [] = refl
+none_left f (suc m) [] = refl
+none_left f zero (x ∷ xs) = refl
+none_left f (suc m) (x ∷ xs) = refl
+
+earned_past-zip : (o : Objective) (m : ℕ) (trace : List Object) (contents : List (List Object))
+    → sum_by (earned_past o m trace contents) (range_with_len 0 (length trace)) ≡ sum_by (pair_earns o) (drop m (zip trace contents))
+earned_past-zip o zero [] contents = refl
+earned_past-zip o (suc m) [] contents = refl
+earned_past-zip o m (r ∷ later) [] =
+    sum_by-nothing (earned_past o m (r ∷ later) []) (range_with_len 0 (length (r ∷ later)))
+    (λ t. ap (λ b. cond b (gain_of o (request_at (r ∷ later) t)) 0) (and_right (nat_le m t && true) false refl))
+    ∙ sym (none_left (pair_earns o) m (r ∷ later))
+earned_past-zip o zero (r ∷ later) (held ∷ nexts) =
+    sum_by-range (earned_past o 0 (r ∷ later) (held ∷ nexts)) (length later)
+    ∙ omega (
+      arith,
+      sum_by-cons (pair_earns o) (r, held) (zip later nexts),
+      ap (λ b. cond ((b && true) && holds held r) (gain_of o r) 0) (le-leb 0 0 (omega arith)),
+      sum_by-agree (λ t. earned_past o 0 (r ∷ later) (held ∷ nexts) (suc t)) (earned_past o 0 later nexts) (range_with_len 0 (length later))
+          (λ t. earned_past-suc o 0 0 later nexts t (le-leb 0 (suc t) (omega arith) ∙ sym (le-leb 0 t (omega arith)))),
+      earned_past-zip o 0 later nexts,
+    )
+earned_past-zip o (suc m) (r ∷ later) (held ∷ nexts) =
+    sum_by-range (earned_past o (suc m) (r ∷ later) (held ∷ nexts)) (length later)
+    ∙ omega (
+      arith,
+      ap (λ b. cond ((b && true) && holds held r) (gain_of o r) 0) (leb-suc-zero m),
+      sum_by-agree (λ t. earned_past o (suc m) (r ∷ later) (held ∷ nexts) (suc t)) (earned_past o m later nexts) (range_with_len 0 (length later))
+          (λ t. earned_past-suc o (suc m) m later nexts t (leb-suc-suc m t)),
+      earned_past-zip o m later nexts,
+    )
+
+-- where every request counts, the score is the sum over the requests and their contents from the warm-up on
+pub score-zip : (o : Objective) (c m : ℕ) (trace : List Object) (contents : List (List Object))
+    → score (terms_from o c m []) trace contents ≡ sum_by (λ (x, held). cond (holds held x) (gain_of o x) 0) (drop m (zip trace contents))
+score-zip o c m trace contents = earned_past-zip o m trace contents

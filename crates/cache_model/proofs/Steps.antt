@@ -1,20 +1,19 @@
 -- Allowed contents, step by step.
-use Rattle.std.proofs.Common.{◌≡◌, ◌≢◌, ℕ, suc, zero, ◌+◌, ◌*◌, ◌/◌, ◌<◌, ◌≤◌, ◌∙◌, sym, refl, ap, subst, Bool, true, false, cond, List, [], ◌∷◌, length, arith, inl, inr, ◌⊎◌, Some, All, AllPairs, Contains, sum, sum_by, zip, drop, get_or, slice_get}
-use Rattle.std.specs.List.{AllByRecursion}
+use Rattle.std.proofs.Common.{◌≡◌, ◌≢◌, ℕ, suc, zero, ◌+◌, ◌*◌, ◌/◌, ◌<◌, ◌≤◌, ◌∙◌, sym, refl, ap, subst, Bool, true, false, cond, ◌&&◌, List, [], ◌∷◌, length, arith, inl, inr, ◌⊎◌, Some, All, AllPairs, Contains, sum, sum_by, get_or, slice_get}
+use Rattle.std.specs.List.{AllByRecursion, range_with_len}
 use Rattle.std.proofs.Math.Nat.{div-mul-le_self, div-zero}
 use Rattle.std.proofs.lemmas.Nat.{le-div}
-use Rattle.std.proofs.lemmas.Bool.{le-leb, or_left, or_right}
+use Rattle.std.proofs.lemmas.Bool.{le-leb, and_right, or_left, or_right}
 use Rattle.std.proofs.lemmas.List.Folds.{list_any_at}
 use Rattle.std.proofs.lemmas.List.Elements.{All-head, All-tail, recursion_from_All, Contains-get_or}
 use Rattle.std.proofs.lemmas.List.Sums.{sum_by-cons, get_or-le-sum_by}
 use Rattle.std.proofs.lemmas.Map.Made.{IsDistinct-from_AllPairs}
 use Rattle.cache_model.specs.declared.objects.Object.{Object}
 use Rattle.cache_model.specs.declared.objects.Objective.{Objective}
-use Rattle.cache_model.specs.declared.terms.Terms.{Terms}
-use Rattle.cache_model.specs.Claim.{same_object, gain_of, total_size, holds, before_request, IsAllowed, score}
+use Rattle.cache_model.specs.Claim.{Terms, counts, same_object, gain_of, total_size, holds, before_request, IsAllowed, score, request_at}
 use Rattle.cache_model.specs.Intervals.{eligible_intervals, bound_of}
-use Rattle.cache_model.proofs.Duality.{same_object-true, same_object-refl, Follows, earned, earned-le, worth, extra}
-use Rattle.cache_model.proofs.Sums.{sum_by-nothing}
+use Rattle.cache_model.proofs.Duality.{same_object-true, same_object-refl, Follows, after, earned, earned-le, worth, extra}
+use Rattle.cache_model.proofs.Sums.{sum_by-nothing, sum_by-range}
 use Rattle.cache_model.proofs.Pairs.{earns_of, counted_of, weight_of, surplus_by_pairs, surplus_by_recursion}
 
 -- the weights of what fits are within the units
@@ -65,16 +64,26 @@ Follows-from_steps o c u d (r ∷ trace) held (next ∷ nexts) same enter fits a
           (All-tail (λ xs. total_size xs ≤ c) next nexts fits) (All-tail (AllPairs (λ x y. x ≢ y)) next nexts apart),
     )
 
--- a sum, over the denominator
-earned-mul : (o : Objective) (d : ℕ) (requests : List (Object × List Object))
-    → d * sum_by (λ (x, held). cond (holds held x) (gain_of o x) 0) requests ≡ sum_by (λ (x, held). cond (holds held x) (d * gain_of o x) 0) requests
-earned-mul o d [] = omega arith
-earned-mul o d (request ∷ requests) =
-    let f : Object × List Object → ℕ = λ (x, held). cond (holds held x) (gain_of o x) 0 in
-    let g : Object × List Object → ℕ = λ (x, held). cond (holds held x) (d * gain_of o x) 0 in
-    omega (arith, ap (λ n. d * n) (sum_by-cons f request requests), sum_by-cons g request requests, earned-mul o d requests, at (holds request.1 request.0))
+-- a score is what the requests earn
+pub score-earned : (counted : ℕ → Bool) (earns : Object → ℕ) (trace : List Object) (contents : List (List Object))
+    → sum_by (λ t. cond (counted t && holds (before_request contents t) (request_at trace t)) (earns (request_at trace t)) 0) (range_with_len 0 (length trace))
+    ≡ earned counted earns trace contents
+score-earned counted earns [] contents = refl
+score-earned counted earns (r ∷ later) [] =
+    sum_by-nothing _ (range_with_len 0 (length (r ∷ later)))
+    (λ t. ap (λ b. cond b (earns (request_at (r ∷ later) t)) 0) (and_right (counted t) false refl))
+score-earned counted earns (r ∷ later) (held ∷ nexts) =
+    sum_by-range (λ t. cond (counted t && holds (before_request (held ∷ nexts) t) (request_at (r ∷ later) t)) (earns (request_at (r ∷ later) t)) 0) (length later)
+    ∙ ap (λ n. cond (counted 0 && holds held r) (earns r) 0 + n) (score-earned (after counted) earns later nexts)
+
+-- what is earned, over the denominator
+earned-mul : (d : ℕ) (counted : ℕ → Bool) (earns : Object → ℕ) (trace : List Object) (contents : List (List Object))
+    → d * earned counted earns trace contents ≡ earned counted (λ x. d * earns x) trace contents
+earned-mul d counted earns [] contents = omega arith
+earned-mul d counted earns (r ∷ later) [] = omega arith
+earned-mul d counted earns (r ∷ later) (held ∷ nexts) = omega (arith, earned-mul d (after counted) earns later nexts, at (counted 0 && holds held r))
   where
-    at : (t : Bool) → d * cond t (gain_of o request.0) 0 ≡ cond t (d * gain_of o request.0) 0
+    at : (t : Bool) → d * cond t (earns r) 0 ≡ cond t (d * earns r) 0
     at true = refl
     at false = omega arith
 
@@ -85,14 +94,20 @@ no_policy_scores_more_lem terms u d trace prices [] allowed same = absurd (omega
 no_policy_scores_more_lem terms u d trace prices (held ∷ nexts) allowed same =
     let o : Objective = terms.objective in
     let c : ℕ = terms.capacity in
-    let m : ℕ = terms.warmup in
+    let counted : ℕ → Bool = counts terms in
     let g : Object → ℕ = counted_of o c d in
     let w : Object → ℕ = weight_of u in
     let fits : total_size held ≤ c = All-head (λ xs. total_size xs ≤ c) held nexts allowed.within_capacity in
     let play : Follows (earns_of o d) g w (c / u) held trace nexts =
     Follows-from_steps o c u d trace held nexts (omega arith) allowed.only_requests_enter
     (All-tail (λ xs. total_size xs ≤ c) held nexts allowed.within_capacity) (All-tail (AllPairs (λ x y. x ≢ y)) held nexts allowed.without_repeats) in
-    let most : earned m (earns_of o d) trace (held ∷ nexts) ≤ (c / u) * sum prices + extra m g w trace prices + sum_by (worth m g w trace prices) held =
-    earned-le m (earns_of o d) g w (c / u) trace prices held nexts same (member_counted o c d held fits) play in
-    let nothing : sum_by (worth m g w trace prices) held ≡ 0 = ap (λ xs. sum_by (worth m g w trace prices) xs) allowed.empty_at_first in
-    omega (arith, earned-mul o d (drop m (zip trace (held ∷ nexts))), surplus_by_pairs terms u d trace prices, surplus_by_recursion m o c u d trace prices same)
+    let most : earned counted (earns_of o d) trace (held ∷ nexts) ≤ (c / u) * sum prices + extra counted g w trace prices + sum_by (worth counted g w trace prices) held =
+    earned-le counted (earns_of o d) g w (c / u) trace prices held nexts same (member_counted o c d held fits) play in
+    let nothing : sum_by (worth counted g w trace prices) held ≡ 0 = ap (λ xs. sum_by (worth counted g w trace prices) xs) allowed.empty_at_first in
+    omega (
+      arith,
+      ap (λ n. d * n) (score-earned counted (gain_of o) trace (held ∷ nexts)),
+      earned-mul d counted (gain_of o) trace (held ∷ nexts),
+      surplus_by_pairs terms u d trace prices,
+      surplus_by_recursion counted o c u d trace prices same,
+    )

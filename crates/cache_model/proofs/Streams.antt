@@ -6,9 +6,8 @@ use Rattle.std.proofs.lemmas.Bool.{cases_eq, cases_lt, cases_Bool, lt-ltb, and_l
 use Rattle.std.proofs.lemmas.List.{get_or_append_left, take-append-le, drop-append-le, length-append, length-drop}
 use Rattle.std.proofs.lemmas.List.Sums.{sum_by-cons, sum_by_push}
 use Rattle.cache_model.specs.declared.objects.Object.{Object}
-use Rattle.cache_model.specs.declared.terms.Terms.{Terms}
 use Rattle.cache_model.specs.declared.intervals.Interval.{Interval}
-use Rattle.cache_model.specs.Claim.{same_object, gain_of, request_at, no_object}
+use Rattle.cache_model.specs.Claim.{Terms, counts, same_object, gain_of, request_at, no_object}
 use Rattle.cache_model.specs.Objects.{IsLatest}
 use Rattle.cache_model.specs.Intervals.{is_eligible, interval_of, eligible_from, eligible_intervals}
 use Rattle.cache_model.proofs.Duality.{same_object-true, same_object-refl}
@@ -74,7 +73,7 @@ module _ (f : Interval → ℕ) (terms : Terms) (trace : List Object) (x : Objec
   unfolding pair_sum
   earlier_pair a b la lb =
       let F : Object → Object → List Object → ℕ = λ y z between.
-      cond (nat_lt a b && same_object y z && not (list_any (same_object y) between) && nat_le y.size terms.capacity && nat_le terms.warmup b)
+      cond (nat_lt a b && same_object y z && not (list_any (same_object y) between) && nat_le y.size terms.capacity && counts terms b)
       (f (record { start = a; end = b; size = y.size; gain = gain_of terms.objective z })) 0 in
       let s : List Object = slice_range (trace ++ x ∷ []) (a + 1) b in
       ap (λ y. F y (request_at (trace ++ x ∷ []) b) s) (get_or_append_left trace (x ∷ []) no_object a la)
@@ -129,7 +128,7 @@ module _ (f : Interval → ℕ) (terms : Terms) (trace : List Object) (x : Objec
       ap (λ t. cond t (f (interval_of terms.objective ts a (length trace))) 0)
       (and_left _ _ (and_left _ _ (and_right _ _ (ap not (list_any-range_true (same_object (request_at ts a)) ts no_object (a + 1) (length trace) b (omega arith) lb (omega (arith, size_more)) e)))))
 
-  latest_pair : (a : ℕ) → IsLatest trace x a → pair_sum f terms (trace ++ x ∷ []) a (length trace) ≡ cond (nat_le x.size terms.capacity && nat_le terms.warmup (length trace)) (f (interval_of terms.objective (trace ++ x ∷ []) a (length trace))) 0
+  latest_pair : (a : ℕ) → IsLatest trace x a → pair_sum f terms (trace ++ x ∷ []) a (length trace) ≡ cond (nat_le x.size terms.capacity && counts terms (length trace)) (f (interval_of terms.objective (trace ++ x ∷ []) a (length trace))) 0
   unfolding pair_sum
   latest_pair a l =
       let ts : List Object = trace ++ x ∷ [] in
@@ -141,7 +140,7 @@ module _ (f : Interval → ℕ) (terms : Terms) (trace : List Object) (x : Objec
       ap (λ y. list_any (same_object y) (slice_range ts (a + 1) (length trace))) here
       ∙ list_any-range_false (same_object x) ts no_object (a + 1) (length trace) (omega (arith, size_more))
       (λ k low high. ap (same_object x) (get_or_append_left trace (x ∷ []) no_object k high) ∙ l.others k (omega arith) high) in
-      let F : Bool → Bool → Bool → Object → ℕ = λ s t u y. cond (s && t && not u && nat_le y.size terms.capacity && nat_le terms.warmup (length trace)) value 0 in
+      let F : Bool → Bool → Bool → Object → ℕ = λ s t u y. cond (s && t && not u && nat_le y.size terms.capacity && counts terms (length trace)) value 0 in
       ap (λ s. F s (same_object (request_at ts a) (request_at ts (length trace))) (list_any (same_object (request_at ts a)) (slice_range ts (a + 1) (length trace))) (request_at ts a)) (lt-ltb a (length trace) l.within)
       ∙ ap (λ t. F true t (list_any (same_object (request_at ts a)) (slice_range ts (a + 1) (length trace))) (request_at ts a)) same
       ∙ ap (λ u. F true true u (request_at ts a)) none
@@ -157,10 +156,10 @@ module _ (f : Interval → ℕ) (terms : Terms) (trace : List Object) (x : Objec
 
   pub eligible_push_again : (a : ℕ) → IsLatest trace x a
       → sum_by f (eligible_intervals terms (trace ++ x ∷ []))
-      ≡ sum_by f (eligible_intervals terms trace) + cond (nat_le x.size terms.capacity && nat_le terms.warmup (length trace)) (f (interval_of terms.objective (trace ++ x ∷ []) a (length trace))) 0
+      ≡ sum_by f (eligible_intervals terms trace) + cond (nat_le x.size terms.capacity && counts terms (length trace)) (f (interval_of terms.objective (trace ++ x ∷ []) a (length trace))) 0
   eligible_push_again a l =
       let before : ℕ → ℕ = λ k. sum_by f (eligible_from terms trace k) in
-      let value : ℕ = cond (nat_le x.size terms.capacity && nat_le terms.warmup (length trace)) (f (interval_of terms.objective (trace ++ x ∷ []) a (length trace))) 0 in
+      let value : ℕ = cond (nat_le x.size terms.capacity && counts terms (length trace)) (f (interval_of terms.objective (trace ++ x ∷ []) a (length trace))) 0 in
       rows
       ∙ sum_by-range_one (λ k. sum_by f (eligible_from terms (trace ++ x ∷ []) k)) before a value 0 (length trace) (omega arith) (let w : a < length trace = l.within in omega arith)
       (omega (arith, earlier_row a l.within, latest_pair a l))

@@ -1,10 +1,10 @@
 -- Certificates whose prices and flows are all 0, and what bounds every unit and every list of intervals.
-use Rattle.std.proofs.Common.{◌≡◌, ℕ, zero, suc, ◌+◌, ◌-◌, ◌*◌, ◌/◌, ◌<◌, ◌≤◌, ◌∙◌, sym, refl, ap, subst, cond, arith, Bool, true, false, List, [], ◌∷◌, length, map, zip, take, drop, replicate, get_or, slice_range, sum, sum_by, All, AllPairs}
+use Rattle.std.proofs.Common.{◌≡◌, ℕ, zero, suc, ◌+◌, ◌-◌, ◌*◌, ◌/◌, ◌<◌, ◌≤◌, ◌∙◌, sym, refl, ap, subst, cond, ◌&&◌, arith, Bool, true, false, List, [], ◌∷◌, length, map, zip, take, drop, replicate, get_or, slice_range, sum, sum_by, All, AllPairs}
 use Rattle.std.specs.List.{range_with_len, AllZip}
 use Prim.Native.Nat.{◌∣◌}
 use Rattle.std.proofs.Math.Nat.{pos_of_dvd_of_pos}
 use Rattle.std.proofs.lemmas.Nat.Gcd.{le_of_dvd}
-use Rattle.std.proofs.lemmas.Bool.{both_ways, and_left}
+use Rattle.std.proofs.lemmas.Bool.{both_ways, and_left, and_right}
 use Rattle.std.proofs.lemmas.List.{length-map, drop-replicate}
 use Rattle.std.proofs.lemmas.List.Folds.{sum_by-replicate}
 use Rattle.std.proofs.lemmas.List.Sums.{sum_by-cons, sum_by-take-le}
@@ -12,16 +12,16 @@ use Rattle.std.proofs.lemmas.List.Elements.{All-head, All-tail, All-map, All-wea
 use Rattle.cache_model.specs.declared.objects.Object.{Object}
 use Rattle.cache_model.specs.declared.objects.Objective.{Objective}
 use Rattle.cache_model.specs.declared.intervals.Interval.{Interval}
-use Rattle.cache_model.specs.declared.terms.Terms.{Terms}
 use Rattle.cache_model.specs.declared.certificates.Header.{Header}
-use Rattle.cache_model.specs.Claim.{holds, gain_of, total_size, IsAllowed, score, terms_of, request_at, no_object, is_kept, is_latest, is_held, held_before, contents_of}
+use Rattle.cache_model.specs.Claim.{Terms, counts, holds, gain_of, total_size, IsAllowed, score, terms_of, request_at, no_object, is_kept, is_latest, is_held, held_before, contents_of}
 use Rattle.cache_model.specs.Objects.{IsNext}
 use Rattle.cache_model.specs.Intervals.{surplus, eligible_intervals}
 use Rattle.cache_model.specs.Units.{weight, IsUnit}
 use Rattle.cache_model.specs.Schedules.{covers, load_at, flow_value}
 use Rattle.cache_model.specs.Certificates.{IsHeaderInRange, IsRecordInRange, unpriced, prices_of, keeps_of, flow_at, flows_of, eligible_of, units_of, upper_of, IsValid}
 use Rattle.cache_model.specs.Laws.{IsEligible}
-use Rattle.cache_model.proofs.Sums.{sum_by-agree}
+use Rattle.cache_model.proofs.Scores.{score-requests, earned_at}
+use Rattle.cache_model.proofs.Sums.{sum_by-nothing, sum_by-agree}
 use Rattle.cache_model.proofs.Eligible.{filter-range_none}
 use Rattle.cache_model.proofs.Keeps.{contents_of_keeps}
 use Rattle.cache_model.proofs.Members.{All-eligible_intervals, intervals_are_eligible}
@@ -72,19 +72,19 @@ surplus-unpriced unit denominator keeps i =
     omega (arith, none)
 
 -- without prices the bound is the sum of the gains of the eligible intervals, over the denominator
-upper_unpriced : (trace : List Object) (h : Header) (keeps : List Bool) → upper_of trace h (map unpriced keeps) ≡ sum_by (λ i. h.denominator * i.gain) (eligible_of trace h)
-upper_unpriced trace h keeps =
+upper_unpriced : (trace : List Object) (fills : List Bool) (h : Header) (keeps : List Bool) → upper_of trace fills h (map unpriced keeps) ≡ sum_by (λ i. h.denominator * i.gain) (eligible_of trace fills h)
+upper_unpriced trace fills h keeps =
     let prices : List ℕ = prices_of (map unpriced keeps) in
     let none : units_of h * sum prices ≡ units_of h * 0 = ap (λ n. units_of h * n) (sum-unpriced keeps) in
-    let whole : sum_by (surplus h.unit h.denominator prices) (eligible_of trace h) ≡ sum_by (λ i. h.denominator * i.gain) (eligible_of trace h) =
-    sum_by-agree (surplus h.unit h.denominator prices) (λ i. h.denominator * i.gain) (eligible_of trace h) (surplus-unpriced h.unit h.denominator keeps) in
+    let whole : sum_by (surplus h.unit h.denominator prices) (eligible_of trace fills h) ≡ sum_by (λ i. h.denominator * i.gain) (eligible_of trace fills h) =
+    sum_by-agree (surplus h.unit h.denominator prices) (λ i. h.denominator * i.gain) (eligible_of trace fills h) (surplus-unpriced h.unit h.denominator keeps) in
     omega (arith, none, whole)
 
 -- without prices, over the denominator 1, the bound is the sum of the gains of the eligible intervals
-pub upper_of_gains : (trace : List Object) (h : Header) (keeps : List Bool) → h.denominator ≡ 1 → upper_of trace h (map unpriced keeps) ≡ sum_by (λ i. i.gain) (eligible_of trace h)
-upper_of_gains trace h keeps one =
-    upper_unpriced trace h keeps
-    ∙ sum_by-agree (λ i. h.denominator * i.gain) (λ i. i.gain) (eligible_of trace h) (λ i. ap (λ d. d * i.gain) one ∙ omega arith)
+pub upper_of_gains : (trace : List Object) (fills : List Bool) (h : Header) (keeps : List Bool) → h.denominator ≡ 1 → upper_of trace fills h (map unpriced keeps) ≡ sum_by (λ i. i.gain) (eligible_of trace fills h)
+upper_of_gains trace fills h keeps one =
+    upper_unpriced trace fills h keeps
+    ∙ sum_by-agree (λ i. h.denominator * i.gain) (λ i. i.gain) (eligible_of trace fills h) (λ i. ap (λ d. d * i.gain) one ∙ omega arith)
 
 -- each flow is at most its interval's weight
 flows_within_weights : (unit : ℕ) (keeps : List Bool) (intervals : List Interval) → AllZip (λ i f. f ≤ weight unit i) intervals (flows_of intervals (map unpriced keeps))
@@ -116,15 +116,15 @@ flow_value-unpriced unit denominator keeps (i ∷ intervals) =
     omega (arith, sum_by-cons term (i, flow) (zip intervals (flows_of intervals (map unpriced keeps))), first, flow_value-unpriced unit denominator keeps intervals)
 
 -- the records without prices and flows are a valid certificate, with the header of their numbers
-pub unpriced_valid : (trace : List Object) (h : Header) (keeps : List Bool)
+pub unpriced_valid : (trace : List Object) (fills : List Bool) (h : Header) (keeps : List Bool)
     → IsHeaderInRange h → h.requests ≡ length trace → length keeps ≡ length trace → h.exact ≡ false
-    → All (λ i. h.unit ∣ i.size) (eligible_of trace h)
+    → All (λ i. h.unit ∣ i.size) (eligible_of trace fills h)
     → IsAllowed h.capacity trace (contents_of trace keeps)
-    → h.lower ≡ score (terms_of h) trace (contents_of trace keeps)
+    → h.lower ≡ score (terms_of h fills) trace (contents_of trace keeps)
     → h.flow ≡ 0
-    → h.upper ≡ upper_of trace h (map unpriced keeps)
-    → IsValid trace h (map unpriced keeps)
-unpriced_valid trace h keeps in_range requests one_keep_each plain unit allowed lower flow upper =
+    → h.upper ≡ upper_of trace fills h (map unpriced keeps)
+    → IsValid trace fills h (map unpriced keeps)
+unpriced_valid trace fills h keeps in_range requests one_keep_each plain unit allowed lower flow upper =
     let same : keeps ≡ keeps_of (map unpriced keeps) = sym (keeps_of-unpriced keeps) in
     let none : units_of h * sum (prices_of (map unpriced keeps)) ≡ units_of h * 0 = ap (λ n. units_of h * n) (sum-unpriced keeps) in
     record {
@@ -134,13 +134,13 @@ unpriced_valid trace h keeps in_range requests one_keep_each plain unit allowed 
       last_price = price_at-unpriced keeps (length trace - 1);
       unit = unit;
       keeps = subst (λ kept. IsAllowed h.capacity trace (contents_of trace kept)) same allowed;
-      lower = lower ∙ ap (λ kept. score (terms_of h) trace (contents_of trace kept)) same;
+      lower = lower ∙ ap (λ kept. score (terms_of h fills) trace (contents_of trace kept)) same;
       unused_flows = λ t none. flow_at-unpriced keeps t;
       flows = record {
-        within_weights = flows_within_weights h.unit keeps (eligible_of trace h);
-        within_units = λ t. omega (arith, load_at-unpriced keeps t (eligible_of trace h));
+        within_weights = flows_within_weights h.unit keeps (eligible_of trace fills h);
+        within_units = λ t. omega (arith, load_at-unpriced keeps t (eligible_of trace fills h));
       };
-      flow = flow ∙ sym (flow_value-unpriced h.unit h.denominator keeps (eligible_of trace h));
+      flow = flow ∙ sym (flow_value-unpriced h.unit h.denominator keeps (eligible_of trace fills h));
       upper = upper;
       whole_costs = λ exact. absurd (both_ways h.exact plain exact);
       exact_values = λ exact. absurd (both_ways h.exact plain exact);
@@ -164,26 +164,14 @@ nothing_kept_allowed trace capacity =
     contents_of_keeps trace capacity (replicate (length trace) false)
     (λ t within. omega (arith, ap total_size (held_before-nothing trace (length trace) t)))
 
--- requests at contents with nothing in them earn nothing
-earned-empty : (objective : Objective) (m : ℕ) (trace : List Object) (contents : List (List Object)) → All (λ held. held ≡ []) contents
-    → sum_by (λ (y, kept). cond (holds kept y) (gain_of objective y) 0) (drop m (zip trace contents)) ≡ 0
-earned-empty objective zero [] contents empty = refl
-earned-empty objective (suc m) [] contents empty = refl
-earned-empty objective zero (x ∷ trace) [] empty = refl
-earned-empty objective (suc m) (x ∷ trace) [] empty = refl
-earned-empty objective zero (x ∷ trace) (held ∷ contents) empty =
-    let earned : Object × List Object → ℕ = λ (y, kept). cond (holds kept y) (gain_of objective y) 0 in
-    let first : earned (x, held) ≡ 0 = ap (λ kept. cond (holds kept x) (gain_of objective x) 0) (All-head (λ kept. kept ≡ []) held contents empty) in
-    omega (arith, sum_by-cons earned (x, held) (zip trace contents), first, earned-empty objective zero trace contents (All-tail (λ kept. kept ≡ []) held contents empty))
-earned-empty objective (suc m) (x ∷ trace) (held ∷ contents) empty = earned-empty objective m trace contents (All-tail (λ kept. kept ≡ []) held contents empty)
-
 -- if nothing is kept, nothing is earned
 pub nothing_kept_score : (terms : Terms) (trace : List Object) → score terms trace (contents_of trace (replicate (length trace) false)) ≡ 0
 nothing_kept_score terms trace =
     let keeps : List Bool = replicate (length trace) false in
-    let numbers : List ℕ = range_with_len 0 (length trace + 1) in
-    earned-empty terms.objective terms.warmup trace (contents_of trace keeps)
-    (All-map (λ held. held ≡ []) (held_before trace keeps) numbers (λ k d lt. held_before-nothing trace (length trace) (get_or numbers k d)))
+    score-requests terms trace keeps
+    ∙ sum_by-nothing (earned_at terms trace keeps) (range_with_len 0 (length trace))
+    (λ t. ap (λ held. cond (counts terms t && holds held (request_at trace t)) (gain_of terms.objective (request_at trace t)) 0) (held_before-nothing trace (length trace) t)
+    ∙ ap (λ b. cond b (gain_of terms.objective (request_at trace t)) 0) (and_right (counts terms t) false refl))
 
 -- the unit of sizes from 1 to the capacity is from 1 to the capacity
 unit_within : (capacity u : ℕ) (intervals : List Interval) → 1 ≤ capacity → All (λ i. (1 ≤ i.size) × (i.size ≤ capacity)) intervals → IsUnit intervals u → (1 ≤ u) × (u ≤ capacity)

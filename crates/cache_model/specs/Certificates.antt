@@ -55,39 +55,39 @@ flow_at records t = slice_index_or (map (λ r. r.flow) records) t 0
 abbrev pub flows_of : List Interval → List Record → List ℕ
 flows_of intervals records = map (λ i. flow_at records i.start) intervals
 
--- the eligible intervals at the header's terms
-abbrev pub eligible_of : List Object → Header → List Interval
-eligible_of trace h = eligible_intervals (terms_of h) trace
+-- the eligible intervals at the header's terms, for a trace with these marks
+abbrev pub eligible_of : List Object → List Bool → Header → List Interval
+eligible_of trace fills h = eligible_intervals (terms_of h fills) trace
 
 -- the capacity in units, rounded down
 abbrev pub units_of : Header → ℕ
 units_of h = h.capacity / h.unit
 
 -- the bound of the records' prices
-abbrev pub upper_of : List Object → Header → List Record → ℕ
-upper_of trace h records = bound_of (eligible_of trace h) h.unit (units_of h) h.denominator (prices_of records)
+abbrev pub upper_of : List Object → List Bool → Header → List Record → ℕ
+upper_of trace fills h records = bound_of (eligible_of trace fills h) h.unit (units_of h) h.denominator (prices_of records)
 
 -- the value of the records' flows
-abbrev pub flow_of : List Object → Header → List Record → ℕ
-flow_of trace h records = flow_value (eligible_of trace h) h.unit h.denominator (flows_of (eligible_of trace h) records)
+abbrev pub flow_of : List Object → List Bool → Header → List Record → ℕ
+flow_of trace fills h records = flow_value (eligible_of trace fills h) h.unit h.denominator (flows_of (eligible_of trace fills h) records)
 
 -- the keeps are allowed contents, the flows a fractional schedule, and the header has their score, their value and the bound of the prices
-pub record IsValid (trace : List Object) (h : Header) (records : List Record) : Type 0 where
+pub record IsValid (trace : List Object) (fills : List Bool) (h : Header) (records : List Record) : Type 0 where
   pub certificate : IsCertificate h records
   pub requests : h.requests ≡ length trace
   pub sum_limit : units_of h * sum (prices_of records) ≤ 2 ^ 126
   pub last_price : slice_index_or (prices_of records) (length trace - 1) 0 ≡ 0
-  pub unit : All (λ i. h.unit ∣ i.size) (eligible_of trace h)
+  pub unit : All (λ i. h.unit ∣ i.size) (eligible_of trace fills h)
   pub keeps : IsAllowed h.capacity trace (contents_of trace (keeps_of records))
-  pub lower : h.lower ≡ score (terms_of h) trace (contents_of trace (keeps_of records))
-  pub unused_flows : (t : ℕ) → list_any (λ i. i.start == t) (eligible_of trace h) ≡ false → flow_at records t ≡ 0
-  pub flows : IsFractionalSchedule (eligible_of trace h) h.unit (units_of h) (flows_of (eligible_of trace h) records)
-  pub flow : h.flow ≡ flow_of trace h records
-  pub upper : h.upper ≡ upper_of trace h records
-  pub whole_costs : IsTrue h.exact → HasWholeCosts (eligible_of trace h) h.unit h.denominator
+  pub lower : h.lower ≡ score (terms_of h fills) trace (contents_of trace (keeps_of records))
+  pub unused_flows : (t : ℕ) → list_any (λ i. i.start == t) (eligible_of trace fills h) ≡ false → flow_at records t ≡ 0
+  pub flows : IsFractionalSchedule (eligible_of trace fills h) h.unit (units_of h) (flows_of (eligible_of trace fills h) records)
+  pub flow : h.flow ≡ flow_of trace fills h records
+  pub upper : h.upper ≡ upper_of trace fills h records
+  pub whole_costs : IsTrue h.exact → HasWholeCosts (eligible_of trace fills h) h.unit h.denominator
   pub exact_values : IsTrue h.exact → h.upper ≡ h.flow
 
 -- no prices over any denominator give a smaller bound than the records' prices
-abbrev pub IsLeastOverAll : List Object → Header → List Record → Type 0
-IsLeastOverAll trace h records = (e : ℕ) (prices : List ℕ) → length prices ≡ length trace
-    → e * upper_of trace h records ≤ h.denominator * bound_of (eligible_of trace h) h.unit (units_of h) e prices
+abbrev pub IsLeastOverAll : List Object → List Bool → Header → List Record → Type 0
+IsLeastOverAll trace fills h records = (e : ℕ) (prices : List ℕ) → length prices ≡ length trace
+    → e * upper_of trace fills h records ≤ h.denominator * bound_of (eligible_of trace fills h) h.unit (units_of h) e prices

@@ -4,16 +4,15 @@ use Rattle.std.specs.List.{list_any}
 use Rattle.cache_model.specs.declared.objects.Object.{Object}
 use Rattle.cache_model.specs.declared.objects.Objective.{Objective}
 use Rattle.cache_model.specs.declared.intervals.Interval.{Interval}
-use Rattle.cache_model.specs.declared.terms.Terms.{Terms}
-use Rattle.cache_model.specs.Claim.{same_object, gain_of, request_at}
+use Rattle.cache_model.specs.Claim.{Terms, counts, same_object, gain_of, request_at}
 use Rattle.cache_model.specs.Objects.{numbers_of}
 
--- request a comes before request b, both are of one object that fits, no request between them is of it, and b is not within the warm-up
+-- request a comes before request b, both are of one object that fits, no request between them is of it, and b counts
 abbrev pub is_eligible : Terms → List Object → ℕ → ℕ → Bool
 is_eligible terms trace a b =
     let x = request_at trace a in
     nat_lt a b && same_object x (request_at trace b) && not (list_any (same_object x) (slice_range trace (a + 1) b))
-    && nat_le x.size terms.capacity && nat_le terms.warmup b
+    && nat_le x.size terms.capacity && counts terms b
 
 -- the interval of two requests, with its size and the gain of the later one
 abbrev pub interval_of : Objective → List Object → ℕ → ℕ → Interval

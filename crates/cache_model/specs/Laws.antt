@@ -1,13 +1,12 @@
 -- The laws of the definitions, each the contract of a function.
 use Rattle.std.specs.Prelude.{if◌then◌else◌, nat_le, sum_by, map, [], ◌∷◌, ◌++◌, ◌≡◌, ◌↔◌, ℕ, ◌+◌, ◌*◌, ◌<◌, ◌≤◌, ◌==◌, ◌&&◌, Bool, false, IsTrue, List, length, Contains, All, AllPairs}
 use Rattle.cache_model.specs.declared.objects.Object.{Object}
-use Rattle.cache_model.specs.declared.terms.Terms.{Terms}
 use Rattle.cache_model.specs.declared.intervals.Interval.{Interval}
 use Rattle.cache_model.specs.declared.certificates.Header.{Header}
 use Rattle.cache_model.specs.declared.certificates.Record.{Record}
 use Rattle.cache_model.specs.Certificates.{IsCertificate, IsValid, IsLeastOverAll}
 use Rattle.cache_model.specs.Texts.{cert_text}
-use Rattle.cache_model.specs.Claim.{IsAllowed, total_size, BoundsEveryPolicy, request_at, held_before, contents_of, is_kept}
+use Rattle.cache_model.specs.Claim.{Terms, counts, IsAllowed, total_size, BoundsEveryPolicy, request_at, held_before, contents_of, is_kept}
 use Rattle.cache_model.specs.Objects.{IsLatest, IsNew}
 use Rattle.cache_model.specs.Intervals.{interval_of, eligible_intervals, bound_of}
 use Rattle.cache_model.specs.Objects.{IsNext}
@@ -17,11 +16,11 @@ use Rattle.cache_model.specs.Schedules.{load_at, IsFractionalSchedule, flow_valu
 use Rattle.cache_model.specs.Units.{weight, IsUnit, IsLeastWhole, IsLeastCommonMultiple, IsReducedWeight}
 use Rattle.cache_model.specs.Rounding.{IsRounded, IsMaximal, taken_load}
 
--- two requests of one object that fits, with no request of it between them, the later one not within the warm-up
+-- two requests of one object that fits, with no request of it between them, the later one of those that count
 pub record IsEligible (terms : Terms) (trace : List Object) (i : Interval) : Type 0 where
   pub next : IsNext trace i.start i.end
   pub fits : (request_at trace i.start).size ≤ terms.capacity
-  pub counts : terms.warmup ≤ i.end
+  pub counts : IsTrue (counts terms i.end)
   pub numbers : i ≡ interval_of terms.objective trace i.start i.end
 
 -- the list has all and only the eligible intervals, in order of start
@@ -76,7 +75,7 @@ pub record IntervalsGrow (terms : Terms) (trace : List Object) (x : Object) (amo
   pub again : (a : ℕ) → IsLatest trace x a
       → sum_by amount (eligible_intervals terms (trace ++ x ∷ []))
       ≡ sum_by amount (eligible_intervals terms trace)
-      + (if nat_le x.size terms.capacity && nat_le terms.warmup (length trace) then amount (interval_of terms.objective (trace ++ x ∷ []) a (length trace)) else 0)
+      + (if nat_le x.size terms.capacity && counts terms (length trace) then amount (interval_of terms.objective (trace ++ x ∷ []) a (length trace)) else 0)
 
 -- one more request: its amount stands in place of that of the latest request of its object
 pub record LatestSumGrows (trace : List Object) (x : Object) (amount : ℕ → ℕ) : Type 0 where
@@ -100,11 +99,11 @@ LoadIsLatestSum =
 
 -- a valid certificate bounds every policy
 abbrev pub ValidBoundsEveryPolicy : Type 0
-ValidBoundsEveryPolicy = (trace : List Object) (h : Header) (records : List Record) → IsValid trace h records → BoundsEveryPolicy trace h
+ValidBoundsEveryPolicy = (trace : List Object) (fills : List Bool) (h : Header) (records : List Record) → IsValid trace fills h records → BoundsEveryPolicy trace fills h
 
 -- a valid certificate of the form exact gives the least bound of all prices over every denominator
 abbrev pub ExactIsLeast : Type 0
-ExactIsLeast = (trace : List Object) (h : Header) (records : List Record) → IsValid trace h records → IsTrue h.exact → IsLeastOverAll trace h records
+ExactIsLeast = (trace : List Object) (fills : List Bool) (h : Header) (records : List Record) → IsValid trace fills h records → IsTrue h.exact → IsLeastOverAll trace fills h records
 
 -- the same intervals have one unit only
 abbrev pub UnitIsOneNumber : Type 0

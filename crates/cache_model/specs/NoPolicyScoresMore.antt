@@ -1,8 +1,7 @@
 -- No policy scores more than the bound of any prices.
 use Rattle.std.specs.Prelude.{◌≡◌, ℕ, ◌*◌, ◌/◌, ◌≤◌, List, length}
 use Rattle.cache_model.specs.declared.objects.Object.{Object}
-use Rattle.cache_model.specs.declared.terms.Terms.{Terms}
-use Rattle.cache_model.specs.Claim.{IsAllowed, score}
+use Rattle.cache_model.specs.Claim.{Terms, IsAllowed, score}
 use Rattle.cache_model.specs.Intervals.{eligible_intervals, bound_of}
 
 -- over the denominator, no allowed contents score more than the priced bound

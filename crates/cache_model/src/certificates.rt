@@ -6,8 +6,8 @@ ghost use Rattle.cache_model.specs.Certificates.{IsHeaderInRange, IsRecordInRang
 use crate::objects::Objective;
 use crate::version::{CERT_VERSION, SHORT_VERSION};
 
-/// The head of a certificate. The upper bound and the flow value are numerators over the denominator. That number of
-/// requests at first is the warm-up: they fill the cache and earn nothing.
+/// The head of a certificate. The upper bound and the flow value are numerators over the denominator. The first
+/// `warmup` requests fill the cache and earn nothing.
 #[derive(Clone, Copy, Debug, PartialEq, Eq)]
 pub struct Header {
     pub objective: Objective,
