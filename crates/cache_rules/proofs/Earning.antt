@@ -1,16 +1,15 @@
 -- The score of contents of keeps, one request later.
-use Rattle.std.proofs.Common.{◌≡◌, ◌∙◌, ◌≤◌, ◌+◌, ◌^◌, ℕ, Bool, true, false, cond, nat_le, List, sym, ap, arith, length, sum_by}
+use Rattle.std.proofs.Common.{◌≡◌, ◌∙◌, ◌≤◌, ◌+◌, ◌^◌, ℕ, Bool, true, false, cond, ◌&&◌, List, sym, ap, arith, length, sum_by}
 use Rattle.std.specs.List.{range_with_len}
 use Rattle.cache_model.specs.declared.objects.Object.{Object}
 use Rattle.cache_model.specs.declared.objects.Objective.{Objective}
 use Rattle.cache_model.specs.declared.objects.Objective.TheVariants.{Object as Hits, Bytes}
-use Rattle.cache_model.specs.declared.terms.Terms.{Terms}
-use Rattle.cache_model.specs.Claim.{gain_of, holds, held_before, request_at, score, contents_of}
+use Rattle.cache_model.specs.Claim.{Terms, counts, gain_of, holds, held_before, request_at, score, contents_of}
 use Rattle.cache_model.proofs.Scores.{earned_at, earned-more, score-requests}
 
--- what a hit past the warm-up earns
+-- what a request earns
 abbrev pub earned_of : Terms → ℕ → Object → Bool → ℕ
-earned_of terms t object hit = cond (nat_le terms.warmup t) (cond hit (gain_of terms.objective object) 0) 0
+earned_of terms t object hit = cond (counts terms t && hit) (gain_of terms.objective object) 0
 
 -- what is earned, one request later
 pub gains_more : (terms : Terms) (trace : List Object) (keeps : List Bool) (t before after : ℕ) (hit : Bool) (object : Object)
@@ -37,9 +36,8 @@ gain_of-le Bytes x sized = omega arith
 
 -- what is earned or not is at most what a hit earns
 pub earned_of-le : (terms : Terms) (t : ℕ) (object : Object) (hit : Bool) → (1 ≤ object.size) × (object.size ≤ 2 ^ 48) → earned_of terms t object hit ≤ 2 ^ 48
-earned_of-le terms t object hit sized = at (nat_le terms.warmup t) hit
+earned_of-le terms t object hit sized = at (counts terms t && hit)
   where
-    at : (counts hit : Bool) → cond counts (cond hit (gain_of terms.objective object) 0) 0 ≤ 2 ^ 48
-    at true true = gain_of-le terms.objective object sized
-    at true false = omega arith
-    at false hit = omega arith
+    at : (earns : Bool) → cond earns (gain_of terms.objective object) 0 ≤ 2 ^ 48
+    at true = gain_of-le terms.objective object sized
+    at false = omega arith

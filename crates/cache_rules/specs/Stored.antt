@@ -1,10 +1,42 @@
 -- How a trace is stored: each request by the number of its object, beside the nearest requests of that object.
-use Rattle.std.specs.Prelude.{◌≡◌, ℕ, ◌≤◌, ◌<◌, ◌^◌, List, length, map, slice_index, slice_index_or, All, false}
+use Rattle.std.specs.Prelude.{◌≡◌, ℕ, ◌≤◌, ◌<◌, ◌^◌, Bool, if◌then◌else◌, List, [], ◌∷◌, ◌++◌, length, map, slice_index, slice_index_or, All, false, None, Some}
+use Rattle.std.specs.declared.option.Option.{Option}
 use Rattle.std.specs.Map.{keys_of, values_of}
 use Rattle.cache_model.specs.declared.objects.Object.{Object}
 use Rattle.cache_model.specs.Claim.{same_object, no_object}
 use Rattle.cache_model.specs.Objects.{IsLatest}
 use Rattle.cache_model.specs.Objects.{objects_of, IsFirst, IsLast, IsNext}
+
+-- the objects of the requests of a trace, and of each request whether it only fills the cache; past the end of that list none does
+pub record Requests : Type 0 where
+  pub objects : List Object
+  pub fills : List Bool
+
+-- requests that all count, without a mark each
+abbrev pub all_count : List Object → Requests
+all_count objects = record { objects = objects; fills = [] }
+
+-- a trace being made: the requests so far, and whether a mark is kept of each
+pub record Making : Type 0 where
+  pub requests : Requests
+  pub marks : Bool
+
+-- the mark of one more request, if marks are kept
+abbrev pub mark_if : Bool → Bool → Option Bool
+mark_if marks only_fills = if marks then Some only_fills else None
+
+-- the marks with one more, if there is one
+abbrev pub with_mark : List Bool → Option Bool → List Bool
+with_mark fills None = fills
+with_mark fills (Some only_fills) = fills ++ only_fills ∷ []
+
+-- one more request, with its mark if there is one
+abbrev pub with_request : Requests → Object → Option Bool → Requests
+with_request r x mark = record { objects = r.objects ++ x ∷ []; fills = with_mark r.fills mark }
+
+-- one more request, which may only fill
+abbrev pub made_more : Making → Object → Bool → Making
+made_more m x only_fills = record m { requests = with_request m.requests x (mark_if m.marks only_fills) }
 
 -- what is stored where there is no request
 abbrev pub no_request : ℕ

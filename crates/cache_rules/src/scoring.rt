@@ -1,7 +1,7 @@
 //! The score of contents that are given by keeps.
-ghost use Rattle.std.specs.Prelude.{◌≡◌, ◌↔◌, ◌≤◌, ◌<◌, ◌+◌, ◌^◌, ℕ, Bool, true, nat_le, if◌then◌else◌, length, IfOk, IfErr, OnOk, IsOk};
+ghost use Rattle.std.specs.Prelude.{◌≡◌, ◌↔◌, ◌≤◌, ◌<◌, ◌+◌, ◌^◌, ℕ, Bool, true, ◌&&◌, if◌then◌else◌, length, IfOk, IfErr, OnOk, IsOk};
 ghost use Rattle.cache_model.specs.Keeps.{load_after, IsFirstOverfull};
-ghost use Rattle.cache_model.specs.Claim.{gain_of, holds, score, terms_from, IsAllowed, contents_of, held_before, request_at};
+ghost use Rattle.cache_model.specs.Claim.{counts, gain_of, holds, marked, score, terms_from, IsAllowed, contents_of, held_before, request_at};
 
 use crate::trace::Trace;
 use cache_model::{Object, Objective, Terms};
@@ -25,8 +25,8 @@ pub fn gain(objective: Objective, object: &Object) -> u64
 
 // The object of request `t`.
 fn requested(trace: &Trace, t: u32) -> Object
-    requires within { t < length trace.now }
-    ensures object { result ≡ request_at trace.now t }
+    requires within { t < length trace.now.objects }
+    ensures object { result ≡ request_at trace.now.objects t }
     ensures size { (1 ≤ result.size) × (result.size ≤ 2 ^ 48) }
 {
     trace.object(trace.request(t))
@@ -34,9 +34,9 @@ fn requested(trace: &Trace, t: u32) -> Object
 
 // Whether the object of request `t` is held before it: the latest keep of an object is that of its request before.
 fn is_hit(trace: &Trace, keeps: &[bool], t: u32) -> bool
-    requires one_keep_each { length keeps.now ≡ length trace.now }
-    requires within { t < length trace.now }
-    ensures { result ≡ holds (held_before trace.now keeps.now t) (request_at trace.now t) }
+    requires one_keep_each { length keeps.now ≡ length trace.now.objects }
+    requires within { t < length trace.now.objects }
+    ensures { result ≡ holds (held_before trace.now.objects keeps.now t) (request_at trace.now.objects t) }
 {
     match trace.prev(t) {
         Some(earlier) => keeps[earlier as usize],
@@ -60,14 +60,15 @@ fn moved(load: u128, size: u64, leaves: bool, enters: bool) -> u128
     load
 }
 
-// What request `t` earns: the gain of a hit that is past the warm-up.
-fn earned(terms: Terms, t: u32, object: &Object, hit: bool) -> u64
-    ensures { result ≡ (if nat_le terms.warmup t then (if hit then gain_of terms.objective object.now else 0) else 0) }
+// What request `t` earns: the gain of a hit, if the request is past the warm-up and doesn't only fill.
+fn earned(trace: &Trace, terms: Terms, t: u32, object: &Object, hit: bool) -> u64
+    ensures { result ≡ (if counts (marked terms trace.now.fills) t && hit then gain_of terms.objective object.now else 0) }
 {
-    if t < terms.warmup || !hit {
-        return 0;
+    if hit && trace.counts(t, terms.warmup) {
+        gain(terms.objective, object)
+    } else {
+        0
     }
-    gain(terms.objective, object)
 }
 
 /// The score of the contents that the keeps stand for, if each load is within the capacity.
@@ -80,11 +81,11 @@ pub fn score(
     warmup: u32,
     keeps: &[bool],
 ) -> Result<u128, Overfull>
-    requires one_keep_each { length keeps.now ≡ length trace.now }
-    ensures score { IfOk result (λ gains. gains ≡ score (terms_from objective capacity warmup) trace.now (contents_of trace.now keeps.now)) }
-    ensures allowed { OnOk result (IsAllowed capacity trace.now (contents_of trace.now keeps.now)) }
-    ensures fits { IsOk result ↔ ((t : ℕ) → t < length trace.now → load_after trace.now keeps.now t ≤ capacity) }
-    ensures overfull { IfErr result (λ over. IsFirstOverfull capacity trace.now keeps.now over.step over.load) }
+    requires one_keep_each { length keeps.now ≡ length trace.now.objects }
+    ensures score { IfOk result (λ gains. gains ≡ score (terms_from objective capacity warmup trace.now.fills) trace.now.objects (contents_of trace.now.objects keeps.now)) }
+    ensures allowed { OnOk result (IsAllowed capacity trace.now.objects (contents_of trace.now.objects keeps.now)) }
+    ensures fits { IsOk result ↔ ((t : ℕ) → t < length trace.now.objects → load_after trace.now.objects keeps.now t ≤ capacity) }
+    ensures overfull { IfErr result (λ over. IsFirstOverfull capacity trace.now.objects keeps.now over.step over.load) }
 {
     let terms = Terms {
         objective,
@@ -100,23 +101,23 @@ pub fn score(
         if load > capacity as u128 {
             return Err(Overfull { step: t, load });
         }
-        gains += earned(terms, t, &object, hit) as u128;
+        gains += earned(trace, terms, t, &object, hit) as u128;
     }
     Ok(gains)
 }
 
 /// The score of contents that are known to fit. It goes over the requests once, sums no load and takes no memory.
 pub fn score_of_fitting(trace: &Trace, terms: Terms, keeps: &[bool]) -> u128
-    requires one_keep_each { length keeps.now ≡ length trace.now }
-    requires fits { (t : ℕ) → t < length trace.now → load_after trace.now keeps.now t ≤ terms.capacity }
-    ensures score { result ≡ score terms trace.now (contents_of trace.now keeps.now) }
-    ensures allowed { IsAllowed terms.capacity trace.now (contents_of trace.now keeps.now) }
+    requires one_keep_each { length keeps.now ≡ length trace.now.objects }
+    requires fits { (t : ℕ) → t < length trace.now.objects → load_after trace.now.objects keeps.now t ≤ terms.capacity }
+    ensures score { result ≡ score (marked terms trace.now.fills) trace.now.objects (contents_of trace.now.objects keeps.now) }
+    ensures allowed { IsAllowed terms.capacity trace.now.objects (contents_of trace.now.objects keeps.now) }
 {
     let mut gains = 0;
     for t in 0..trace.len() {
         let object = requested(trace, t);
         let hit = is_hit(trace, keeps, t);
-        gains += earned(terms, t, &object, hit) as u128;
+        gains += earned(trace, terms, t, &object, hit) as u128;
     }
     gains
 }

@@ -3,7 +3,7 @@ use Rattle.cache_model.proofs.Scores.{holds-first, holds-next}
 use Rattle.cache_rules.proofs.scoring.is_hit.Goals as goal
 
 pub returns-in-Some : goal.returns-in-Some
-returns-in-Some c = sym (holds-next c.args.trace.now c.args.t c.requires.within c.args.keeps.now c.in-Some.earlier c.in-Some.ensures.nearest)
+returns-in-Some c = sym (holds-next c.args.trace.now.objects c.args.t c.requires.within c.args.keeps.now c.in-Some.earlier c.in-Some.ensures.nearest)
 
 pub returns-in-None : goal.returns-in-None
-returns-in-None c = sym (holds-first c.args.trace.now c.args.t c.requires.within c.args.keeps.now c.in-None.ensures.nearest)
+returns-in-None c = sym (holds-first c.args.trace.now.objects c.args.t c.requires.within c.args.keeps.now c.in-None.ensures.nearest)
