@@ -1,5 +1,5 @@
 -- No allowed contents score more than the rule of Belady.
-use Rattle.std.proofs.Common.{◌≡◌, ◌≢◌, ℕ, ◌+◌, ◌*◌, ◌/◌, ◌≤◌, ◌∙◌, sym, refl, ap, subst, ⊎_elim, Bool, true, false, ◌&&◌, cond, leb, nat_le, List, [], ◌∷◌, length, get_or, fold, arith, sum_by, zip, AllPairs, Contains}
+use Rattle.std.proofs.Common.{◌≡◌, ◌≢◌, ℕ, ◌+◌, ◌*◌, ◌/◌, ◌≤◌, ◌∙◌, sym, refl, ap, subst, ⊎_elim, Bool, true, false, ◌&&◌, cond, leb, List, [], ◌∷◌, length, get_or, fold, arith, sum_by, zip, AllPairs, Contains}
 use Rattle.std.specs.declared.option.Option.{Option}
 use Rattle.std.specs.List.{AllByRecursion, list_any}
 use Rattle.std.proofs.lemmas.Bool.{cases_Bool, le-leb, leb-true, leb-false}
@@ -8,9 +8,10 @@ use Rattle.std.proofs.lemmas.List.Folds.{Any-from_list_any, list_any_at}
 use Rattle.cache_model.specs.declared.objects.Object.{Object}
 use Rattle.cache_model.specs.declared.objects.Objective.{Objective}
 use Rattle.cache_model.specs.declared.objects.Objective.TheVariants.{Object as Hits, Bytes}
-use Rattle.cache_model.specs.Claim.{gain_of, total_size, IsAllowed, score, terms_from}
-use Rattle.cache_model.proofs.Duality.{Follows, earned}
+use Rattle.cache_model.specs.Claim.{counts_past, gain_of, total_size, IsAllowed, score, terms_from}
+use Rattle.cache_model.proofs.Duality.{Follows}
 use Rattle.cache_model.proofs.Pairs.{earns_of, counted_of, weight_of}
+use Rattle.cache_model.proofs.Scores.{score-zip}
 use Rattle.cache_model.proofs.Steps.{Follows-from_steps}
 use Rattle.cache_model.proofs.Sums.{sum_by-agree}
 use Rattle.policy_model.specs.States.{has_entry}
@@ -22,7 +23,7 @@ use Rattle.policy_model.specs.Runs.{Run, run_step, run_from}
 use Rattle.policy_laws.specs.Laws.{HaveOneSize, BeladyIsBest}
 use Rattle.policy_laws.proofs.Standing.{Ready, next_in}
 use Rattle.policy_laws.proofs.Held.{IsAlike, soon}
-use Rattle.policy_laws.proofs.Best.{asks_from, won, best}
+use Rattle.policy_laws.proofs.Best.{asks_from, won, best, earned_by}
 use Rattle.policy_laws.proofs.Asked.{asks_of-from}
 
 -- ---- what a run counts
@@ -32,23 +33,24 @@ one_of a = 1
 abbrev size_of : Ask → ℕ
 size_of a = a.size
 
-counted_now : (b : Bool) (t amount : ℕ) → cond (nat_le 0 t && b) amount 0 ≡ cond b amount 0
-counted_now b t amount = ap (λ early. cond (early && b) amount 0) (le-leb 0 t (omega arith))
+counted_now : (b : Bool) (t amount : ℕ) → cond (counts_past 0 [] t && b) amount 0 ≡ cond b amount 0
+counted_now b t amount = ap (λ early. cond ((early && true) && b) amount 0) (le-leb 0 t (omega arith))
 
-run_hits : (asks : List Ask) (run : Run) → (fold (run_step 0) run asks).hits ≡ run.hits + won one_of run.state asks
+run_hits : (asks : List Ask) (run : Run) → (fold (run_step (counts_past 0 [])) run asks).hits ≡ run.hits + won one_of run.state asks
 run_hits [] run = omega arith
 run_hits (a ∷ rest) run =
-    omega (arith, run_hits rest (run_step 0 run a), counted_now (has_entry run.state.entries a.object) a.request 1)
+    omega (arith, run_hits rest (run_step (counts_past 0 []) run a), counted_now (has_entry run.state.entries a.object) a.request 1)
 
-run_bytes : (asks : List Ask) (run : Run) → (fold (run_step 0) run asks).bytes ≡ run.bytes + won size_of run.state asks
+run_bytes : (asks : List Ask) (run : Run) → (fold (run_step (counts_past 0 [])) run asks).bytes ≡ run.bytes + won size_of run.state asks
 run_bytes [] run = omega arith
 run_bytes (a ∷ rest) run =
-    omega (arith, run_bytes rest (run_step 0 run a), counted_now (has_entry run.state.entries a.object) a.request a.size)
+    omega (arith, run_bytes rest (run_step (counts_past 0 []) run a), counted_now (has_entry run.state.entries a.object) a.request a.size)
 
 -- ---- what contents score
-score-earned : (o : Objective) (c : ℕ) (trace : List Object) (contents : List (List Object)) → score (terms_from o c 0) trace contents ≡ earned 0 (earns_of o 1) trace contents
+score-earned : (o : Objective) (c : ℕ) (trace : List Object) (contents : List (List Object)) → score (terms_from o c 0 []) trace contents ≡ earned_by (earns_of o 1) trace contents
 score-earned o c trace contents =
-    sum_by-agree (λ (x, held). cond (holds held x) (gain_of o x) 0) (λ (x, held). cond (holds held x) (1 * gain_of o x) 0) (zip trace contents)
+    score-zip o c 0 trace contents
+    ∙ sum_by-agree (λ (x, held). cond (holds held x) (gain_of o x) 0) (λ (x, held). cond (holds held x) (1 * gain_of o x) 0) (zip trace contents)
     (λ e. let one : gain_of o e.0 ≡ 1 * gain_of o e.0 = omega arith in ap (λ n. cond (holds e.1 e.0) n 0) one)
 
 -- allowed contents are within what the rule gains, if each object of the trace is alike
@@ -56,7 +58,7 @@ within_won : (o : Objective) (amount : Ask → ℕ) (gain c s : ℕ) (trace : Li
     → ((y : Object) (t k : ℕ) (next : Option ℕ) → amount (record { request = t; object = k; size = y.size; next = next }) ≡ earns_of o 1 y)
     → AllByRecursion (IsAlike (earns_of o 1) (counted_of o c 1) gain c s) trace
     → IsAllowed c trace (held ∷ nexts)
-    → score (terms_from o c 0) trace (held ∷ nexts) ≤ won amount (start_of Belady c) (asks_of trace)
+    → score (terms_from o c 0 []) trace (held ∷ nexts) ≤ won amount (start_of Belady c) (asks_of trace)
 within_won o amount gain c s trace held nexts same_amount alike allowed =
     let num : Object → ℕ = number_of trace in
     let empty : held ≡ [] = allowed.empty_at_first in
@@ -65,7 +67,7 @@ within_won o amount gain c s trace held nexts same_amount alike allowed =
     Follows-from_steps o c s 1 trace held nexts (omega arith) allowed.only_requests_enter
     (All-tail (λ xs. total_size xs ≤ c) held nexts allowed.within_capacity) (All-tail (AllPairs (λ x y. x ≢ y)) held nexts allowed.without_repeats) in
     let ready : Ready num gain c s 0 trace [] = record { apart = tt; sized = tt; nexts = tt; room = omega arith } in
-    let ahead : 0 + earned 0 (earns_of o 1) trace (held ∷ nexts) ≤ 0 + won amount (start_of Belady c) (asks_from num 0 trace) =
+    let ahead : 0 + earned_by (earns_of o 1) trace (held ∷ nexts) ≤ 0 + won amount (start_of Belady c) (asks_from num 0 trace) =
     best num (earns_of o 1) (counted_of o c 1) amount gain c s (λ y t later. same_amount y t (num y) (next_in num (t + 1) later (num y))) trace 0 0 [] held nexts 0 0 play
     (subst (AllByRecursion (λ x. earns_of o 1 x ≤ counted_of o c 1 x)) (sym empty) tt)
     (subst (AllByRecursion (IsAlike (earns_of o 1) (counted_of o c 1) gain c s)) (sym empty) tt)

@@ -5,7 +5,7 @@ use Rattle.std.proofs.Math.Nat.{mul-le-mul_left}
 use Rattle.std.proofs.lemmas.List.Sums.{sum_by-cons}
 use Rattle.cache_model.specs.declared.objects.Object.{Object}
 use Rattle.cache_model.specs.Claim.{holds}
-use Rattle.cache_model.proofs.Duality.{Follows, IsStep, earned}
+use Rattle.cache_model.proofs.Duality.{Follows, IsStep}
 use Rattle.cache_model.proofs.Sums.{sum_by-nothing}
 use Rattle.policy_model.specs.States.{Entry, State, has_entry}
 use Rattle.policy_model.specs.Steps.{policy_step, entries_after}
@@ -24,6 +24,10 @@ abbrev pub won : (Ask → ℕ) → State → List Ask → ℕ
 won amount s [] = 0
 won amount s (a ∷ rest) = cond (has_entry s.entries a.object) (amount a) 0 + won amount (policy_step s a.object a.size a.next).after rest
 
+-- what the requests earn, if each counts
+abbrev pub earned_by : (Object → ℕ) → List Object → List (List Object) → ℕ
+earned_by earns trace contents = sum_by (λ (x, held). cond (holds held x) (earns x) 0) (zip trace contents)
+
 module _ (num : Object → ℕ) (earns g : Object → ℕ) (amount : Ask → ℕ) (gain c s : ℕ)
     (same_amount : (y : Object) (t : ℕ) (later : List Object) → amount (record { request = t; object = num y; size = y.size; next = next_in num (t + 1) later (num y) }) ≡ earns y) where
   pub best : (later : List Object) (t now : ℕ) (entries : List Entry) (held : List Object) (nexts : List (List Object)) (hk hb : ℕ)
@@ -33,7 +37,7 @@ module _ (num : Object → ℕ) (earns g : Object → ℕ) (amount : Ask → ℕ
       → AllByRecursion (IsAlike earns g gain c s) later
       → Ready num gain c s t later entries
       → ((n : ℕ) → hk + sum_by (soon g n later) held ≤ hb + over (due num gain n later) entries)
-      → hk + earned 0 earns later (held ∷ nexts) ≤ hb + won amount (kept num gain c s now entries) (asks_from num t later)
+      → hk + earned_by earns later (held ∷ nexts) ≤ hb + won amount (kept num gain c s now entries) (asks_from num t later)
   best [] t now entries held nexts hk hb play counted alike_held alike ready behind =
       omega (arith, behind 0, sum_by-nothing (λ (e : Entry). due num gain 0 [] e.object) entries (λ e. refl), sum_by-nothing (soon g 0 []) held (λ x. refl))
   best (r ∷ later) t now entries held [] hk hb play counted alike_held alike ready behind = absurd play
@@ -52,7 +56,7 @@ module _ (num : Object → ℕ) (earns g : Object → ℕ) (amount : Ask → ℕ
       (λ large n. omega (arith, soon-le g n later r, here.none large))
       here.enough
       (λ n. omega (arith, behind (suc n), sum_by-soon g earns (λ x. x.size / s) (c / s) n held r later next step counted)) in
-      let rest : hk + won_now + earned 0 earns later (next ∷ nexts)
+      let rest : hk + won_now + earned_by earns later (next ∷ nexts)
       ≤ hb + cond hit (earns r) 0 + won amount (kept num gain c s (min (now + 1) (2 ^ 64 - 1)) after) (asks_from num (t + 1) later) =
       best later (t + 1) (min (now + 1) (2 ^ 64 - 1)) after next nexts (hk + won_now) (hb + cond hit (earns r) 0) play.1 step.counted alike_next alike.1 goes.0 goes.1 in
       omega (

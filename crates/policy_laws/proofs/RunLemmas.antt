@@ -1,9 +1,9 @@
 -- The run of each rule is allowed contents.
-use Rattle.std.proofs.Common.{◌≡◌, ℕ, zero, suc, ◌+◌, ◌<◌, ◌≤◌, sym, refl, ap, subst, Bool, ◌&&◌, cond, nat_le, List, [], length, arith, Some, None, lt-ltb}
+use Rattle.std.proofs.Common.{◌≡◌, ℕ, zero, suc, ◌+◌, ◌<◌, ◌≤◌, sym, refl, ap, subst, Bool, ◌&&◌, cond, List, [], length, arith, Some, None, lt-ltb}
 use Rattle.std.specs.declared.option.Option.{Option}
 use Rattle.cache_model.specs.declared.objects.Object.{Object}
 use Rattle.cache_model.specs.Objects.{objects_of}
-use Rattle.cache_model.specs.Claim.{request_at}
+use Rattle.cache_model.specs.Claim.{counts_past, request_at}
 use Rattle.policy_model.specs.declared.names.PolicyName.{PolicyName}
 use Rattle.policy_model.specs.States.{State, members_of, has_entry, used, start_of, IsFit}
 use Rattle.policy_model.specs.Steps.{entries_after}
@@ -17,8 +17,8 @@ use Rattle.policy_laws.specs.Laws.{RunsAreAllowed}
 use Rattle.policy_laws.proofs.Asked.{number_of-object}
 
 -- a run after t requests: contents so far, whose entries fit
-record Stands (capacity warmup : ℕ) (trace : List Object) (t : ℕ) (run : Run) : Type 0 where
-  pub played : AreScoresTo capacity warmup trace t (members_of run.state.entries) run.hits run.bytes
+record Stands (capacity : ℕ) (counted : ℕ → Bool) (trace : List Object) (t : ℕ) (run : Run) : Type 0 where
+  pub played : AreScoresTo capacity counted trace t (members_of run.state.entries) run.hits run.bytes
   pub fit : IsFit capacity run.state.entries
   pub same_capacity : run.state.capacity ≡ capacity
 
@@ -33,8 +33,8 @@ asked_at trace t within =
       size_is = refl;
     }
 
-one_more : (capacity warmup : ℕ) (trace : List Object) (t : ℕ) (run : Run) → t < length trace → Stands capacity warmup trace t run → Stands capacity warmup trace (t + 1) (run_step warmup run (ask_at trace t))
-one_more capacity warmup trace t run within stands =
+one_more : (capacity : ℕ) (counted : ℕ → Bool) (trace : List Object) (t : ℕ) (run : Run) → t < length trace → Stands capacity counted trace t run → Stands capacity counted trace (t + 1) (run_step counted run (ask_at trace t))
+one_more capacity counted trace t run within stands =
     let s : State = run.state in
     let x : Object = request_at trace t in
     let k : ℕ = number_of trace x in
@@ -47,31 +47,31 @@ one_more capacity warmup trace t run within stands =
     let fit : IsFit capacity (entries_after s k x.size next) = subst (λ c. IsFit c (entries_after s k x.size next)) stands.same_capacity fit_after in
     let low : used (entries_after s k x.size next) ≤ capacity = fit.room in
     record {
-      played = played-more capacity warmup trace t k x.size (members_of s.entries) (members_of (entries_after s k x.size next)) run.hits run.bytes
-          (run.hits + cond (nat_le warmup t && hit) 1 0) (run.bytes + cond (nat_le warmup t && hit) x.size 0) hit asked stands.played
+      played = played-more capacity counted trace t k x.size (members_of s.entries) (members_of (entries_after s k x.size next)) run.hits run.bytes
+          (run.hits + cond (counted t && hit) 1 0) (run.bytes + cond (counted t && hit) x.size 0) hit asked stands.played
           (enters-step s k x.size next) (omega (arith, size-members (entries_after s k x.size next))) (apart-members (entries_after s k x.size next) fit.apart)
           (has_entry-members s.entries k) refl refl;
       fit = fit;
       same_capacity = stands.same_capacity;
     }
 
-stands_at : (name : PolicyName) (capacity warmup : ℕ) (trace : List Object) (t : ℕ) → t ≤ length trace → Stands capacity warmup trace t (run_to warmup (start_of name capacity) trace t)
-stands_at name capacity warmup trace zero within = record {
-  played = played-none capacity warmup trace (members_of []) refl;
+stands_at : (name : PolicyName) (capacity : ℕ) (counted : ℕ → Bool) (trace : List Object) (t : ℕ) → t ≤ length trace → Stands capacity counted trace t (run_to counted (start_of name capacity) trace t)
+stands_at name capacity counted trace zero within = record {
+  played = played-none capacity counted trace (members_of []) refl;
   fit = record { room = omega arith; apart = tt };
   same_capacity = refl;
 }
-stands_at name capacity warmup trace (suc t) within =
+stands_at name capacity counted trace (suc t) within =
     let low : t < length trace = omega arith in
-    let e : run_to warmup (start_of name capacity) trace (t + 1) ≡ run_step warmup (run_to warmup (start_of name capacity) trace t) (ask_at trace t) = run_to-more warmup (start_of name capacity) trace t low in
-    let here : Stands capacity warmup trace (t + 1) (run_to warmup (start_of name capacity) trace (t + 1)) =
-    subst (Stands capacity warmup trace (t + 1)) (sym e) (one_more capacity warmup trace t (run_to warmup (start_of name capacity) trace t) low (stands_at name capacity warmup trace t (omega arith))) in
+    let e : run_to counted (start_of name capacity) trace (t + 1) ≡ run_step counted (run_to counted (start_of name capacity) trace t) (ask_at trace t) = run_to-more counted (start_of name capacity) trace t low in
+    let here : Stands capacity counted trace (t + 1) (run_to counted (start_of name capacity) trace (t + 1)) =
+    subst (Stands capacity counted trace (t + 1)) (sym e) (one_more capacity counted trace t (run_to counted (start_of name capacity) trace t) low (stands_at name capacity counted trace t (omega arith))) in
     let one : t + 1 ≡ suc t = omega arith in
-    subst (λ n. Stands capacity warmup trace n (run_to warmup (start_of name capacity) trace n)) one here
+    subst (λ n. Stands capacity counted trace n (run_to counted (start_of name capacity) trace n)) one here
 
 pub runs_are_allowed : RunsAreAllowed
-runs_are_allowed name capacity warmup trace =
-    let all : Stands capacity warmup trace (length trace) (run_to warmup (start_of name capacity) trace (length trace)) = stands_at name capacity warmup trace (length trace) (omega arith) in
-    let run : Run = run_to warmup (start_of name capacity) trace (length trace) in
-    subst (λ (r : Run). AreScores capacity warmup trace r.hits r.bytes) (run_to-all warmup (start_of name capacity) trace (length trace) refl)
-    (played-all capacity warmup trace (members_of run.state.entries) (length trace) run.hits run.bytes refl all.played)
+runs_are_allowed name capacity warmup fills trace =
+    let all : Stands capacity (counts_past warmup fills) trace (length trace) (run_to (counts_past warmup fills) (start_of name capacity) trace (length trace)) = stands_at name capacity (counts_past warmup fills) trace (length trace) (omega arith) in
+    let run : Run = run_to (counts_past warmup fills) (start_of name capacity) trace (length trace) in
+    subst (λ (r : Run). AreScores capacity warmup fills trace r.hits r.bytes) (run_to-all (counts_past warmup fills) (start_of name capacity) trace (length trace) refl)
+    (played-all capacity warmup fills trace (members_of run.state.entries) (length trace) run.hits run.bytes refl all.played)

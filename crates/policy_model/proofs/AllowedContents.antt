@@ -1,16 +1,16 @@
 -- One more request of contents, and of its score.
-use Rattle.std.proofs.Common.{sum_by, ◌≡◌, ◌≢◌, ℕ, zero, suc, ◌+◌, ◌<◌, ◌≤◌, ◌⊎◌, inl, inr, ⊎_elim, ◌∙◌, sym, refl, ap, subst, false, ◌&&◌, cond, nat_le, List, [], ◌∷◌, ◌++◌, length, get_or, drop, zip, arith, Some, slice_get, AllPairs, Contains}
+use Rattle.std.proofs.Common.{sum_by, ◌≡◌, ◌≢◌, ℕ, zero, suc, ◌+◌, ◌<◌, ◌≤◌, ◌⊎◌, inl, inr, ⊎_elim, ◌∙◌, sym, refl, ap, subst, Bool, ◌&&◌, cond, List, [], ◌∷◌, ◌++◌, length, get_or, arith, Some, slice_get, AllPairs, Contains}
+use Rattle.std.specs.List.{range_with_len}
 use Rattle.std.proofs.Math.Seq.{get_or-append_seam}
-use Rattle.std.proofs.lemmas.Bool.{cases_lt, le-leb, lt-leb}
+use Rattle.std.proofs.lemmas.Bool.{cases_lt}
 use Rattle.std.proofs.lemmas.List.{get_or_append_left, length-append}
 use Rattle.std.proofs.lemmas.List.Elements.{All-push, All-cons, All-nil}
-use Rattle.std.proofs.lemmas.List.Sums.{sum_by-cons}
 use Rattle.std.proofs.lemmas.Option.{slice_get-get_or}
 use Rattle.cache_model.specs.declared.objects.Object.{Object}
 use Rattle.cache_model.specs.declared.objects.Objective.{Objective}
-use Rattle.cache_model.specs.Claim.{gain_of, total_size, holds, before_request, IsAllowed, score, terms_from}
+use Rattle.cache_model.specs.Claim.{gain_of, total_size, holds, before_request, request_at, IsAllowed}
 use Rattle.cache_model.specs.Claim.{no_object}
-use Rattle.cache_model.proofs.Ranges.{leb-suc}
+use Rattle.cache_model.proofs.Streams.{sum_by-range_agree, sum_by-range_last}
 
 -- the contents of no requests holds nothing
 pub allowed-none : (c : ℕ) → IsAllowed c [] ([] ∷ [])
@@ -71,33 +71,29 @@ module _ (c : ℕ) (xs : List Object) (x : Object) (ks : List (List Object)) (ne
           (λ (asked : x ≡ y). inr (get_late ∙ ap Some asked))
           (enters y (subst (λ h. Contains h y) before_late m))
 
-abbrev earns : Objective → Object × List Object → ℕ
-earns o = λ (x, held). cond (holds held x) (gain_of o x) 0
+-- what request t earns at contents
+abbrev earns_at : (ℕ → Bool) → Objective → List Object → List (List Object) → ℕ → ℕ
+earns_at counted o trace contents t = cond (counted t && holds (before_request contents t) (request_at trace t)) (gain_of o (request_at trace t)) 0
 
--- the score at any capacity, from the warm-up on
-abbrev pub score_from : ℕ → Objective → List Object → List (List Object) → ℕ
-score_from warmup objective trace contents = score (terms_from objective 0 warmup) trace contents
+-- the score, at any capacity
+abbrev pub score_from : (ℕ → Bool) → Objective → List Object → List (List Object) → ℕ
+score_from counted o trace contents = sum_by (earns_at counted o trace contents) (range_with_len 0 (length trace))
 
-score-nothing : (m : ℕ) (o : Objective) → sum_by (earns o) (drop m []) ≡ 0
-score-nothing zero o = refl
-score-nothing (suc m) o = refl
-
--- what one more request earns, counted from the warm-up on
-pub score_from-more : (m : ℕ) (o : Objective) (xs : List Object) (x : Object) (ks : List (List Object)) (next : List Object) → length ks ≡ length xs + 1
-    → score_from m o (xs ++ x ∷ []) (ks ++ next ∷ []) ≡ score_from m o xs ks + cond (nat_le m (length xs) && holds (before_request ks (length xs)) x) (gain_of o x) 0
-score_from-more m o [] x [] next long = absurd (omega arith)
-score_from-more zero o [] x (k ∷ ks) next long = omega (arith, sum_by-cons (earns o) (x, k) (zip [] (ks ++ next ∷ [])))
-score_from-more (suc m) o [] x (k ∷ ks) next long =
-    let early : nat_le (suc m) 0 ≡ false = lt-leb (suc m) 0 (omega arith) in
-    let none : cond (nat_le (suc m) 0 && holds k x) (gain_of o x) 0 ≡ 0 = ap (λ b. cond (b && holds k x) (gain_of o x) 0) early in
-    let before : score_from (suc m) o [] (k ∷ ks) ≡ 0 = refl in
-    omega (arith, none, before, score-nothing m o)
-score_from-more m o (y ∷ ys) x [] next long = absurd (omega arith)
-score_from-more zero o (y ∷ ys) x (k ∷ ks) next long =
-    let rest = score_from-more zero o ys x ks next (omega arith) in
-    let now : (n : ℕ) → cond (nat_le 0 n && holds (get_or ks (length ys) []) x) (gain_of o x) 0 ≡ cond (holds (get_or ks (length ys) []) x) (gain_of o x) 0 =
-    λ n. ap (λ b. cond (b && holds (get_or ks (length ys) []) x) (gain_of o x) 0) (le-leb 0 n (omega arith)) in
-    omega (arith, rest, now (length ys), now (suc (length ys)), sum_by-cons (earns o) (y, k) (zip (ys ++ x ∷ []) (ks ++ next ∷ [])), sum_by-cons (earns o) (y, k) (zip ys ks))
-score_from-more (suc m) o (y ∷ ys) x (k ∷ ks) next long =
-    score_from-more m o ys x ks next (omega arith)
-    ∙ ap (λ b. score_from m o ys ks + cond (b && holds (get_or ks (length ys) []) x) (gain_of o x) 0) (sym (leb-suc m (length ys)))
+-- what one more request earns
+pub score_from-more : (counted : ℕ → Bool) (o : Objective) (xs : List Object) (x : Object) (ks : List (List Object)) (next : List Object) → length ks ≡ length xs + 1
+    → score_from counted o (xs ++ x ∷ []) (ks ++ next ∷ []) ≡ score_from counted o xs ks + cond (counted (length xs) && holds (before_request ks (length xs)) x) (gain_of o x) 0
+score_from-more counted o xs x ks next long =
+    let n : ℕ = length xs in
+    let longer : length (xs ++ x ∷ []) ≡ suc (length xs) = omega (arith, length-append xs (x ∷ [])) in
+    let f : ℕ → ℕ = earns_at counted o (xs ++ x ∷ []) (ks ++ next ∷ []) in
+    let same : (y z : Object) (held kept : List Object) (t : ℕ) → y ≡ z → held ≡ kept
+    → cond (counted t && holds held y) (gain_of o y) 0 ≡ cond (counted t && holds kept z) (gain_of o z) 0 =
+    λ y z held kept t objects contents. ap (λ (u : Object). cond (counted t && holds held u) (gain_of o u) 0) objects ∙ ap (λ h. cond (counted t && holds h z) (gain_of o z) 0) contents in
+    ap (λ k. sum_by f (range_with_len 0 k)) longer
+    ∙ sum_by-range_last f (length xs)
+    ∙ omega (
+      arith,
+      sum_by-range_agree f (earns_at counted o xs ks) 0 (length xs)
+          (λ t low high. same _ _ _ _ t (get_or_append_left xs (x ∷ []) no_object t (omega arith)) (get_or_append_left ks (next ∷ []) [] t (omega arith))),
+      same _ _ _ _ (length xs) (get_or-append_seam xs x [] no_object) (get_or_append_left ks (next ∷ []) [] (length xs) (omega arith)),
+    )
