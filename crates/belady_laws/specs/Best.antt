@@ -1,5 +1,5 @@
 -- What no contents passes.
-use Rattle.std.specs.Prelude.{◌≡◌, ℕ, ◌≤◌, List}
+use Rattle.std.specs.Prelude.{◌≡◌, ℕ, ◌≤◌, List, []}
 use Rattle.cache_model.specs.declared.objects.Object.{Object}
 use Rattle.cache_model.specs.declared.objects.Objective.TheVariants.{Object as Hits, Bytes}
 use Rattle.cache_model.specs.Claim.{IsAllowed, score, terms_from}
@@ -11,15 +11,15 @@ use Rattle.belady_laws.specs.Clashes.{IsClash}
 -- the contents are allowed contents with these scores
 pub record AreBestContents (capacity : ℕ) (trace : List Object) (hits bytes : ℕ) (contents : List (List Object)) : Type 0 where
   pub allowed : IsAllowed capacity trace contents
-  pub hits_are : hits ≡ score (terms_from Hits capacity 0) trace contents
-  pub bytes_are : bytes ≡ score (terms_from Bytes capacity 0) trace contents
+  pub hits_are : hits ≡ score (terms_from Hits capacity 0 []) trace contents
+  pub bytes_are : bytes ≡ score (terms_from Bytes capacity 0 []) trace contents
 
 -- the hits and bytes are the greatest scores of all allowed contents, and those of one of them
 pub record IsBest (capacity : ℕ) (trace : List Object) (hits bytes : ℕ) : Type 0 where
   pub contents : List (List Object)
   pub played : AreBestContents capacity trace hits bytes contents
-  pub most_hits : (other : List (List Object)) → IsAllowed capacity trace other → score (terms_from Hits capacity 0) trace other ≤ hits
-  pub most_bytes : (other : List (List Object)) → IsAllowed capacity trace other → score (terms_from Bytes capacity 0) trace other ≤ bytes
+  pub most_hits : (other : List (List Object)) → IsAllowed capacity trace other → score (terms_from Hits capacity 0 []) trace other ≤ hits
+  pub most_bytes : (other : List (List Object)) → IsAllowed capacity trace other → score (terms_from Bytes capacity 0 []) trace other ≤ bytes
 
 -- a clash of sizes is the first, and otherwise there is one size and memory ran out
 abbrev pub IsCause : ℕ → List Object → BestFault → Type 0

@@ -1,5 +1,5 @@
 //! The replay that no contents passes.
-ghost use Rattle.std.specs.Prelude.{◌≡◌, ◌≤◌, ◌^◌, IfErr, IfOk, OnOk};
+ghost use Rattle.std.specs.Prelude.{◌≡◌, ◌≤◌, ◌^◌, [], IfErr, IfOk, OnOk};
 ghost use Rattle.policy_model.specs.Runs.{policy_run};
 ghost use Rattle.policy_laws.specs.Laws.{HaveOneSize};
 ghost use Rattle.belady_laws.specs.Best.{IsBest, IsCause};
@@ -35,22 +35,22 @@ impl From<NoMemory> for BestFault {
 // Replays the rule of Belady.
 fn replay_belady(alloc: Global, trace: &Trace, capacity: u64) -> Result<Replay, NoMemory>
     requires range { (1 ≤ capacity) × (capacity ≤ 2 ^ 56) }
-    requires one_size { HaveOneSize capacity trace.now }
-    ensures best { IfOk result (λ r. IsBest capacity trace.now r.hits r.bytes) }
-    ensures run { IfOk result (λ r. (r.hits ≡ (policy_run PolicyName.Belady trace.now capacity 0).hits) × (r.bytes ≡ (policy_run PolicyName.Belady trace.now capacity 0).bytes)) }
+    requires one_size { HaveOneSize capacity trace.now.objects }
+    ensures best { trace.now.fills ≡ [] → IfOk result (λ r. IsBest capacity trace.now.objects r.hits r.bytes) }
+    ensures run { IfOk result (λ r. (r.hits ≡ (policy_run PolicyName.Belady trace.now.objects capacity 0 trace.now.fills).hits) × (r.bytes ≡ (policy_run PolicyName.Belady trace.now.objects capacity 0 trace.now.fills).bytes)) }
 {
     let mut policy = Belady::new(alloc, capacity, trace.objects())?;
     replay(alloc, trace, 0, &mut policy)
 }
 
 /// Replays the rule of Belady, 1966, if all objects that fit have one size. Then no allowed contents has more hits, or
-/// more bytes of hits.
+/// more bytes of hits, if every request counts.
 pub fn best_replay(alloc: Global, trace: &Trace, capacity: u64) -> Result<Replay, BestFault>
     requires range { (1 ≤ capacity) × (capacity ≤ 2 ^ 56) }
-    ensures best { IfOk result (λ r. IsBest capacity trace.now r.hits r.bytes) }
-    ensures run { IfOk result (λ r. (r.hits ≡ (policy_run PolicyName.Belady trace.now capacity 0).hits) × (r.bytes ≡ (policy_run PolicyName.Belady trace.now capacity 0).bytes)) }
-    ensures one_size { OnOk result (HaveOneSize capacity trace.now) }
-    ensures cause { IfErr result (IsCause capacity trace.now) }
+    ensures best { trace.now.fills ≡ [] → IfOk result (λ r. IsBest capacity trace.now.objects r.hits r.bytes) }
+    ensures run { IfOk result (λ r. (r.hits ≡ (policy_run PolicyName.Belady trace.now.objects capacity 0 trace.now.fills).hits) × (r.bytes ≡ (policy_run PolicyName.Belady trace.now.objects capacity 0 trace.now.fills).bytes)) }
+    ensures one_size { OnOk result (HaveOneSize capacity trace.now.objects) }
+    ensures cause { IfErr result (IsCause capacity trace.now.objects) }
 {
     if let Some(clash) = size_clash(trace, capacity) {
         return Err(BestFault::Unequal(clash));

@@ -1,5 +1,5 @@
 -- The laws of a policy, and what a replay answers.
-use Rattle.std.specs.Prelude.{◌≡◌, ◌≢◌, ℕ, ◌≤◌, List, AllPairs, IfSome, Some}
+use Rattle.std.specs.Prelude.{◌≡◌, ◌≢◌, ℕ, ◌≤◌, Bool, List, AllPairs, IfSome, Some}
 use Rattle.std.specs.declared.option.Option.{Option}
 use Rattle.cache_model.specs.declared.objects.Object.{Object}
 use Rattle.policy_model.specs.States.{Member, State, members_of, members_size, start_of}
@@ -24,10 +24,10 @@ abbrev pub IsFresh : Option State → Type 0
 IsFresh known_state = IfSome known_state (λ s. s ≡ start_of s.name s.capacity)
 
 -- where a state is known, the hits and bytes are those of its rule's run
-abbrev pub IsRunOf : Option State → List Object → ℕ → ℕ → ℕ → Type 0
-IsRunOf known_state trace warmup hits bytes =
-    IfSome known_state (λ s. (hits ≡ (policy_run s.name trace s.capacity warmup).hits) × (bytes ≡ (policy_run s.name trace s.capacity warmup).bytes))
+abbrev pub IsRunOf : Option State → List Object → ℕ → List Bool → ℕ → ℕ → Type 0
+IsRunOf known_state trace warmup fills hits bytes =
+    IfSome known_state (λ s. (hits ≡ (policy_run s.name trace s.capacity warmup fills).hits) × (bytes ≡ (policy_run s.name trace s.capacity warmup fills).bytes))
 
 -- a state that is known is then that of its rule's run
-abbrev pub IsStateAfter : Option State → Option State → List Object → ℕ → Type 0
-IsStateAfter before after trace warmup = IfSome before (λ s. after ≡ Some (policy_run s.name trace s.capacity warmup).state)
+abbrev pub IsStateAfter : Option State → Option State → List Object → ℕ → List Bool → Type 0
+IsStateAfter before after trace warmup fills = IfSome before (λ s. after ≡ Some (policy_run s.name trace s.capacity warmup fills).state)

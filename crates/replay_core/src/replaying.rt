@@ -1,5 +1,6 @@
 //! The replay of a trace through a policy.
-ghost use Rattle.std.specs.Prelude.{◌≡◌, ◌≤◌, ◌&&◌, nat_le, [], length, IfOk, OnOk};
+ghost use Rattle.std.specs.Prelude.{◌≡◌, ◌≤◌, ◌&&◌, [], length, IfOk, OnOk};
+ghost use Rattle.cache_model.specs.Claim.{counts_past};
 ghost use Rattle.cache_model.specs.Objects.{objects_of};
 ghost use Rattle.policy_model.specs.Runs.{AreScores};
 ghost use Rattle.replay_core.specs.Laws.{IsFresh, IsRunOf, IsStateAfter};
@@ -12,13 +13,13 @@ use cache_rules::Trace;
 use std::alloc::Global;
 
 // Whether the answer to request `t` counts.
-fn counts(t: u32, warmup: u32, outcome: Outcome) -> bool
-    ensures { result ≡ (nat_le warmup t && is_hit outcome) }
+fn counts(trace: &Trace, t: u32, warmup: u32, outcome: Outcome) -> bool
+    ensures { result ≡ (counts_past warmup trace.now.fills t && is_hit outcome) }
 {
-    t >= warmup && outcome == Outcome::Hit
+    trace.counts(t, warmup) && outcome == Outcome::Hit
 }
 
-/// Asks the policy for each request of the trace, and counts the hits from request `warmup` on.
+/// Asks the policy for each request of the trace, and counts the hits of those that count, from request `warmup` on.
 ///
 /// It takes the time of one call of the policy for each request.
 pub fn replay<P: Policy>(
@@ -27,12 +28,12 @@ pub fn replay<P: Policy>(
     warmup: u32,
     policy: &mut P,
 ) -> Result<Replay, NoMemory>
-    requires objects { length (objects_of trace.now) ≤ P.objects policy.old }
+    requires objects { length (objects_of trace.now.objects) ≤ P.objects policy.old }
     requires empty { P.contents policy.old ≡ [] }
     requires fresh { IsFresh (P.known_state policy.old) }
-    ensures played { IfOk result (λ r. AreScores (P.room policy.old) warmup trace.now r.hits r.bytes) }
-    ensures run { IfOk result (λ r. IsRunOf (P.known_state policy.old) trace.now warmup r.hits r.bytes) }
-    ensures state { OnOk result (IsStateAfter (P.known_state policy.old) (P.known_state policy.new) trace.now warmup) }
+    ensures played { IfOk result (λ r. AreScores (P.room policy.old) warmup trace.now.fills trace.now.objects r.hits r.bytes) }
+    ensures run { IfOk result (λ r. IsRunOf (P.known_state policy.old) trace.now.objects warmup trace.now.fills r.hits r.bytes) }
+    ensures state { OnOk result (IsStateAfter (P.known_state policy.old) (P.known_state policy.new) trace.now.objects warmup trace.now.fills) }
 {
     let mut hits = 0;
     let mut bytes = 0;
@@ -40,7 +41,7 @@ pub fn replay<P: Policy>(
         let object = trace.request(t);
         let size = trace.size_of(object);
         let outcome = policy.request(alloc, object, size, trace.next(t))?;
-        if counts(t, warmup, outcome) {
+        if counts(trace, t, warmup, outcome) {
             hits += 1;
             bytes += size as u128;
         }

@@ -1,8 +1,8 @@
-use Rattle.std.proofs.Common.{◌≡◌, ◌≤◌, ◌<◌, ◌+◌, ◌*◌, ◌^◌, ◌∙◌, ℕ, Bool, ◌&&◌, cond, true, false, nat_le, add-zero, List, sym, ap, refl, arith, length}
+use Rattle.std.proofs.Common.{◌≡◌, ◌≤◌, ◌<◌, ◌+◌, ◌*◌, ◌^◌, ◌∙◌, ℕ, Bool, ◌&&◌, cond, true, false, add-zero, List, sym, ap, refl, arith, length}
 use Rattle.std.proofs.lemmas.Option.{get_or_from_slice_get}
 use Rattle.cache_model.specs.declared.objects.Object.{Object}
 use Rattle.cache_model.specs.Objects.{objects_of}
-use Rattle.cache_model.specs.Claim.{no_object, request_at}
+use Rattle.cache_model.specs.Claim.{counts_past, no_object, request_at}
 use Rattle.policy_model.specs.Asks.{object_numbered}
 use Rattle.policy_model.proofs.Numbers.{number_of-found, next_request-found}
 use Rattle.policy_model.proofs.Replays.{IsAsked, played-all, played-none, played-more}
@@ -22,20 +22,20 @@ pub loop-t-init : goal.loop-t-init
 loop-t-init g c = record {
   capacity = refl;
   objects = refl;
-  played = played-none (g.P.Policy.room c.args.policy.now) c.args.warmup c.args.trace.now (g.P.Policy.contents c.args.policy.now) c.requires.empty;
-  run = run-none (g.P.Policy.known_state c.args.policy.now) c.args.warmup c.args.trace.now;
+  played = played-none (g.P.Policy.room c.args.policy.now) (counts_past c.args.warmup c.args.trace.now.fills) c.args.trace.now.objects (g.P.Policy.contents c.args.policy.now) c.requires.empty;
+  run = run-none (g.P.Policy.known_state c.args.policy.now) (counts_past c.args.warmup c.args.trace.now.fills) c.args.trace.now.objects;
   few_hits = omega arith;
   few_bytes = omega arith;
 }
 
 pub loop-t-preserved : goal.loop-t-preserved
 loop-t-preserved g c =
-    let trace : List Object = c.args.trace.now in
+    let trace : List Object = c.args.trace.now.objects in
     let t : ℕ = c.loop-t.t in
     let k : ℕ = c.request-object.result in
     let size : ℕ = c.size_of-size.result in
     let hit : Bool = is_hit c.in_ok-outcome.outcome in
-    let counts : Bool = nat_le c.args.warmup t && hit in
+    let counts : Bool = counts_past c.args.warmup c.args.trace.now.fills t && hit in
     let within : t < length trace = omega arith in
     let object : object_numbered trace k ≡ request_at trace t = get_or_from_slice_get (objects_of trace) k (request_at trace t) no_object c.request-object.ensures.object in
     let size_is : size ≡ (request_at trace t).size = c.size_of-size.ensures.size ∙ ap (λ (x : Object). x.size) object in
@@ -55,13 +55,13 @@ loop-t-preserved g c =
     record {
       capacity = c.request.ensures.same_capacity ∙ c.loop-t.invariant.capacity;
       objects = c.request.ensures.same_objects ∙ c.loop-t.invariant.objects;
-      played = played-more (g.P.Policy.room c.args.policy.now) c.args.warmup trace t k size (g.P.Policy.contents c.loop-t.policy) (g.P.Policy.contents c.request.new.self)
+      played = played-more (g.P.Policy.room c.args.policy.now) (counts_past c.args.warmup c.args.trace.now.fills) trace t k size (g.P.Policy.contents c.loop-t.policy) (g.P.Policy.contents c.request.new.self)
           c.loop-t.hits c.loop-t.bytes c.if-counts.hits c.if-counts.bytes hit asked c.loop-t.invariant.played c.in_ok-outcome.ensures.only_the_request_enters
           (let fits : members_size (g.P.Policy.contents c.request.new.self) ≤ g.P.Policy.room c.request.new.self = sound.within_capacity in
           let same : g.P.Policy.room c.request.new.self ≡ g.P.Policy.room c.args.policy.now = c.request.ensures.same_capacity ∙ c.loop-t.invariant.capacity in
           omega arith)
           sound.without_repeats hit_is hits_more bytes_more;
-      run = run-more (g.P.Policy.known_state c.args.policy.now) (g.P.Policy.known_state c.loop-t.policy) (g.P.Policy.known_state c.request.new.self) c.args.warmup trace t k size c.next.result
+      run = run-more (g.P.Policy.known_state c.args.policy.now) (g.P.Policy.known_state c.loop-t.policy) (g.P.Policy.known_state c.request.new.self) (counts_past c.args.warmup c.args.trace.now.fills) trace t k size c.next.result
           (g.P.Policy.contents c.loop-t.policy) (g.P.Policy.room c.loop-t.policy) c.loop-t.hits c.loop-t.bytes c.if-counts.hits c.if-counts.bytes hit within
           (number_of-found trace (request_at trace t) k c.request-object.ensures.number) (sym size_is) (next_request-found trace t c.next.result within c.next.ensures.nearest)
           c.loop-t.invariant.run (g.met.P.Policy.state_fits c.loop-t.policy) c.in_ok-outcome.ensures.step hit_is hits_more bytes_more;
@@ -72,15 +72,15 @@ loop-t-preserved g c =
 
 pub returns-clause-run : goal.returns-clause-run
 returns-clause-run g c =
-    run-all (g.P.Policy.known_state c.args.policy.now) (g.P.Policy.known_state c.loop-t.policy) c.args.warmup c.args.trace.now c.loop-t.t c.loop-t.hits c.loop-t.bytes
+    run-all (g.P.Policy.known_state c.args.policy.now) (g.P.Policy.known_state c.loop-t.policy) c.args.warmup c.args.trace.now.fills c.args.trace.now.objects c.loop-t.t c.loop-t.hits c.loop-t.bytes
     (omega arith) c.requires.fresh c.loop-t.invariant.run
 
 pub returns-clause-state : goal.returns-clause-state
 returns-clause-state g c =
-    state-all (g.P.Policy.known_state c.args.policy.now) (g.P.Policy.known_state c.loop-t.policy) c.args.warmup c.args.trace.now c.loop-t.t c.loop-t.hits c.loop-t.bytes
+    state-all (g.P.Policy.known_state c.args.policy.now) (g.P.Policy.known_state c.loop-t.policy) c.args.warmup c.args.trace.now.fills c.args.trace.now.objects c.loop-t.t c.loop-t.hits c.loop-t.bytes
     (omega arith) c.requires.fresh c.loop-t.invariant.run
 
 pub returns-clause-played : goal.returns-clause-played
 returns-clause-played g c =
-    played-all (g.P.Policy.room c.args.policy.now) c.args.warmup c.args.trace.now (g.P.Policy.contents c.loop-t.policy) c.loop-t.t c.loop-t.hits c.loop-t.bytes
+    played-all (g.P.Policy.room c.args.policy.now) c.args.warmup c.args.trace.now.fills c.args.trace.now.objects (g.P.Policy.contents c.loop-t.policy) c.loop-t.t c.loop-t.hits c.loop-t.bytes
     (omega arith) c.loop-t.invariant.played

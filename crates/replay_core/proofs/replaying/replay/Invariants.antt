@@ -1,4 +1,5 @@
 use Rattle.std.proofs.Common.{◌≡◌, ◌≤◌, ◌*◌, ◌^◌}
+use Rattle.cache_model.specs.Claim.{counts_past}
 use Rattle.policy_model.proofs.Replays.{AreScoresTo}
 use Rattle.replay_core.proofs.KnownRuns.{IsRunTo}
 use Rattle.replay_core.proofs.replaying.replay.Given as goal
@@ -7,8 +8,8 @@ abbrev pub invariant-loop-t : goal.invariant-loop-t
 invariant-loop-t g l = record {
   capacity : g.P.Policy.room l.policy ≡ g.P.Policy.room l.fn.policy;
   objects : g.P.Policy.objects l.policy ≡ g.P.Policy.objects l.fn.policy;
-  played : AreScoresTo (g.P.Policy.room l.fn.policy) l.warmup l.trace l.t (g.P.Policy.contents l.policy) l.hits l.bytes;
-  run : IsRunTo (g.P.Policy.known_state l.fn.policy) (g.P.Policy.known_state l.policy) l.warmup l.trace l.t l.hits l.bytes;
+  played : AreScoresTo (g.P.Policy.room l.fn.policy) (counts_past l.warmup l.trace.fills) l.trace.objects l.t (g.P.Policy.contents l.policy) l.hits l.bytes;
+  run : IsRunTo (g.P.Policy.known_state l.fn.policy) (g.P.Policy.known_state l.policy) (counts_past l.warmup l.trace.fills) l.trace.objects l.t l.hits l.bytes;
   few_hits : l.hits ≤ l.t;
   few_bytes : l.bytes ≤ l.t * 2 ^ 48;
 }
