@@ -7,14 +7,14 @@ use Rattle.std.proofs.lemmas.List.{length-append, length-drop, length-replicate,
 use Rattle.std.proofs.lemmas.List.FromFn.{length-range_with_len}
 use Rattle.std.proofs.lemmas.List.Sums.{sum_by-cons, sum_by-take-le, sum_by_more, count_by-le-length}
 use Rattle.cache_model.specs.declared.objects.Object.{Object}
-use Rattle.cache_model.specs.Claim.{same_object, request_at, no_object}
+use Rattle.cache_model.specs.Claim.{only_fills, same_object, request_at, no_object}
 use Rattle.cache_model.specs.Objects.{objects_of, IsFirst, IsNext}
 use Rattle.cache_model.proofs.Duality.{same_object-true}
 use Rattle.cache_model.proofs.Pairs.{same_object-sym, ltb-suc}
 use Rattle.cache_model.proofs.Scores.{first_or_next}
 use Rattle.cache_model.proofs.Streams.{sum_by-range_agree}
 use Rattle.stack_curve.specs.Counts.{latest_of, marks_at, sum_to, AreCounts}
-use Rattle.stack_curve.specs.Distances.{earlier, since, different, stack_distance, is_within, curve_hits}
+use Rattle.stack_curve.specs.Distances.{counted_distance, earlier, since, different, stack_distance, is_within, curve_hits}
 use Rattle.stack_curve.proofs.Different.{asks_for, kinds, kinds-last, kinds-reverse, asks-last, asks-reverse, asks-first, asks-next, asks-none, asks-at, different-kinds, different-since, since-here, since-other}
 use Rattle.stack_curve.proofs.LruCurve.{hits-more}
 
@@ -222,21 +222,21 @@ module _ (trace : List Object) where
     no_distance first = ap (λ b. cond b (Some (different (request_at trace t ∷ since (request_at trace t) (earlier trace t)))) None) (asks-reverse (request_at trace t) (take t trace) ∙ asks-first trace t within first)
 
     -- ---- the counts
-    pub counted-none : (counts : List ℕ) → stack_distance trace t ≡ None → AreCounts trace t counts → AreCounts trace (t + 1) counts
-    counted-none counts none so_far = record {
+    pub counted-none : (fills : List Bool) (counts : List ℕ) → counted_distance trace fills t ≡ None → AreCounts trace fills t counts → AreCounts trace fills (t + 1) counts
+    counted-none fills counts none so_far = record {
       places = so_far.places;
-      sums = λ k low. omega (arith, so_far.sums k low, hits-more trace k t, ap {B = ℕ} (λ o. cond (is_within k o) 1 0) none);
+      sums = λ k low. omega (arith, so_far.sums k low, hits-more trace fills k t, ap {B = ℕ} (λ o. cond (is_within k o) 1 0) none);
     }
 
-    pub counted-some : (counts : List ℕ) (d : ℕ) → d ≤ length (objects_of trace) → stack_distance trace t ≡ Some d → AreCounts trace t counts
-        → AreCounts trace (t + 1) (set counts d (get_or counts d 0 + 1))
-    counted-some counts d few some so_far = record {
+    pub counted-some : (fills : List Bool) (counts : List ℕ) (d : ℕ) → d ≤ length (objects_of trace) → counted_distance trace fills t ≡ Some d → AreCounts trace fills t counts
+        → AreCounts trace fills (t + 1) (set counts d (get_or counts d 0 + 1))
+    counted-some fills counts d few some so_far = record {
       places = length-set counts d (get_or counts d 0 + 1) ∙ so_far.places;
       sums = λ k low. omega (
         arith,
         sum_take-raised counts d (k + 1) (omega (arith, so_far.places)),
         so_far.sums k (omega (arith, length-set counts d (get_or counts d 0 + 1))),
-        hits-more trace k t,
+        hits-more trace fills k t,
         ap {B = ℕ} (λ o. cond (is_within k o) 1 0) some,
         one d k,
       );
@@ -249,13 +249,13 @@ module _ (trace : List Object) where
             (λ (less : m ≤ k). ap {B = ℕ} (λ b. cond b 1 0) (lt-ltb m (k + 1) (omega arith)) ∙ sym (ap {B = ℕ} (λ b. cond b 1 0) (le-leb m k less)))
             (cases_lt k m)
 
-    pub count-fits : (counts : List ℕ) (d : ℕ) → d ≤ length (objects_of trace) → AreCounts trace t counts → get_or counts d 0 ≤ t
-    count-fits counts d few so_far =
+    pub count-fits : (fills : List Bool) (counts : List ℕ) (d : ℕ) → d ≤ length (objects_of trace) → AreCounts trace fills t counts → get_or counts d 0 ≤ t
+    count-fits fills counts d few so_far =
         omega (
           arith,
           so_far.sums d (omega (arith, so_far.places)),
           sum_by_more (λ (n : ℕ). n) counts d 0 (omega (arith, so_far.places)),
-          count_by-le-length (λ u. is_within d (stack_distance trace u)) (range_with_len 0 t),
+          count_by-le-length (λ u. is_within d (counted_distance trace fills u)) (range_with_len 0 t),
           length-range_with_len 0 t,
         )
 
@@ -263,8 +263,8 @@ module _ (trace : List Object) where
   sum_zeros zero = refl
   sum_zeros (suc n) = omega (arith, sum_by-cons (λ (c : ℕ). c) 0 (replicate n 0), sum_zeros n)
 
-  pub counts-start : (counts : List ℕ) (objects : ℕ) → objects ≡ length (objects_of trace) → counts ≡ replicate (objects + 1) 0 → AreCounts trace 0 counts
-  counts-start counts objects all none = record {
+  pub counts-start : (fills : List Bool) (counts : List ℕ) (objects : ℕ) → objects ≡ length (objects_of trace) → counts ≡ replicate (objects + 1) 0 → AreCounts trace fills 0 counts
+  counts-start fills counts objects all none = record {
     places = omega (arith, ap length none, length-replicate {A = ℕ} (objects + 1) 0);
     sums = λ k low. omega (arith, sum_by-take-le (λ (c : ℕ). c) counts (k + 1), ap (sum_by (λ c. c)) none, sum_zeros (objects + 1));
   }
@@ -282,15 +282,23 @@ module _ (trace : List Object) where
       ∙ sym (ap (is_within slots) (distance t within again.0 again.1) ∙ le-leb d slots (omega arith)))
       (first_or_next trace t within)
 
-  pub curve-clipped : (slots : ℕ) → curve_hits trace (min slots (length (objects_of trace))) ≡ curve_hits trace slots
-  curve-clipped slots =
+  counted-clipped : (fills : List Bool) (slots t : ℕ) → t < length trace → length (objects_of trace) ≤ slots
+      → is_within (length (objects_of trace)) (counted_distance trace fills t) ≡ is_within slots (counted_distance trace fills t)
+  counted-clipped fills slots t within all = at (only_fills fills t)
+    where
+      at : (b : Bool) → is_within (length (objects_of trace)) (cond b None (stack_distance trace t)) ≡ is_within slots (cond b None (stack_distance trace t))
+      at true = refl
+      at false = clipped slots t within all
+
+  pub curve-clipped : (fills : List Bool) (slots : ℕ) → curve_hits trace fills (min slots (length (objects_of trace))) ≡ curve_hits trace fills slots
+  curve-clipped fills slots =
       ⊎_elim
-      (λ (few : slots < length (objects_of trace)). let e : min slots (length (objects_of trace)) ≡ slots = omega arith in ap (curve_hits trace) e)
+      (λ (few : slots < length (objects_of trace)). let e : min slots (length (objects_of trace)) ≡ slots = omega arith in ap (curve_hits trace fills) e)
       (λ (all : length (objects_of trace) ≤ slots).
       let e : min slots (length (objects_of trace)) ≡ length (objects_of trace) = omega arith in
-      ap (curve_hits trace) e
-      ∙ sum_by-range_agree (λ t. cond (is_within (length (objects_of trace)) (stack_distance trace t)) 1 0) (λ t. cond (is_within slots (stack_distance trace t)) 1 0) 0 (length trace)
-      (λ t low high. ap {B = ℕ} (λ b. cond b 1 0) (clipped slots t (omega arith) all)))
+      ap (curve_hits trace fills) e
+      ∙ sum_by-range_agree (λ t. cond (is_within (length (objects_of trace)) (counted_distance trace fills t)) 1 0) (λ t. cond (is_within slots (counted_distance trace fills t)) 1 0) 0 (length trace)
+      (λ t low high. ap {B = ℕ} (λ b. cond b 1 0) (counted-clipped fills slots t (omega arith) all)))
       (cases_lt slots (length (objects_of trace)))
 
 -- ---- each count becomes the sum of those up to it

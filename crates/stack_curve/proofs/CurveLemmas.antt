@@ -1,5 +1,5 @@
 -- The curve of the counts, its size and LRU.
-use Rattle.std.proofs.Common.{◌≡◌, ℕ, ◌+◌, ◌-◌, ◌/◌, ◌<◌, ◌≤◌, ◌^◌, ◌∙◌, sym, refl, ap, subst, ⊎_elim, false, cond, eqb, List, [], ◌∷◌, length, get_or, min, arith, sum_by, Result, Ok, Err, IfErr}
+use Rattle.std.proofs.Common.{◌≡◌, ℕ, ◌+◌, ◌-◌, ◌/◌, ◌<◌, ◌≤◌, ◌^◌, ◌∙◌, sym, refl, ap, subst, ⊎_elim, Bool, false, cond, eqb, List, [], ◌∷◌, length, get_or, min, arith, sum_by, Result, Ok, Err, IfErr}
 use Rattle.std.proofs.lemmas.Bool.{cases_lt, eqb-true, false_from_ne_true}
 use Rattle.std.proofs.lemmas.List.{take_all}
 use Rattle.std.proofs.lemmas.List.Elements.{All-from_get_or}
@@ -16,7 +16,7 @@ use Rattle.policy_model.specs.Runs.{policy_run}
 use Rattle.policy_laws.proofs.Asked.{number_of-object}
 use Rattle.stack_curve.specs.Counts.{AreCounts, AreHits, sum_to}
 use Rattle.stack_curve.specs.Curves.{Points, IsCurve, IsOfLru, first_size, hits_with, size_at}
-use Rattle.stack_curve.specs.Distances.{curve_hits, stack_distance, is_within}
+use Rattle.stack_curve.specs.Distances.{curve_hits, counted_distance, is_within}
 use Rattle.stack_curve.specs.Laws.{HaveSize}
 use Rattle.stack_curve.proofs.CountLemmas.{curve-clipped}
 use Rattle.stack_curve.proofs.LruCurve.{curve_is_of_lru}
@@ -37,9 +37,9 @@ have-size trace size alike =
     let known = number_of-object trace t within in
     ap (λ (y : Object). y.size) (sym known.1) ∙ alike (number_of trace (request_at trace t)) known.0)
 
-module _ (trace : List Object) where
+module _ (trace : List Object) (fills : List Bool) where
   -- all counts are of requests
-  pub counts-few : (counts : List ℕ) → length trace ≤ 2 ^ 25 → AreCounts trace (length trace) counts → sum_by (λ count. count) counts < 2 ^ 32
+  pub counts-few : (counts : List ℕ) → length trace ≤ 2 ^ 25 → AreCounts trace fills (length trace) counts → sum_by (λ count. count) counts < 2 ^ 32
   counts-few counts few are =
       let long : length counts ≡ length (objects_of trace) + 1 = are.places in
       let last : ℕ = length (objects_of trace) in
@@ -47,20 +47,20 @@ module _ (trace : List Object) where
         arith,
         ap (sum_by (λ c. c)) (take_all (last + 1) counts (omega arith)),
         are.sums last (omega arith),
-        count_by-le-length (λ u. is_within last (stack_distance trace u)) (range_with_len 0 (length trace)),
+        count_by-le-length (λ u. is_within last (counted_distance trace fills u)) (range_with_len 0 (length trace)),
         length-range_with_len 0 (length trace),
       )
 
   -- the counts summed up are the hits
-  pub are-hits : (counts hits : List ℕ) → AreCounts trace (length trace) counts → length hits ≡ length counts
-      → ((k : ℕ) → k < length counts → get_or hits k 0 ≡ sum_to counts k) → AreHits trace hits
+  pub are-hits : (counts hits : List ℕ) → AreCounts trace fills (length trace) counts → length hits ≡ length counts
+      → ((k : ℕ) → k < length counts → get_or hits k 0 ≡ sum_to counts k) → AreHits trace fills hits
   are-hits counts hits are long summed = record {
     places = long ∙ are.places;
     each = λ k low. summed k (omega arith) ∙ are.sums k (omega arith);
   }
 
   -- the hits are those of the curve
-  pub is-curve : (size : ℕ) (hits : List ℕ) → size ≡ first_size trace → AreHits trace hits → IsCurve trace (record { size = size; hits = hits })
+  pub is-curve : (size : ℕ) (hits : List ℕ) → size ≡ first_size trace → AreHits trace fills hits → IsCurve trace fills (record { size = size; hits = hits })
   is-curve size hits size_is are = record {
     size_is = size_is;
     hits_are = λ slots.
@@ -68,7 +68,7 @@ module _ (trace : List Object) where
         let clip : min slots (length hits - 1) ≡ min slots (length (objects_of trace)) = omega arith in
         ap (λ k. get_or hits k 0) clip
         ∙ are.each (min slots (length (objects_of trace))) (omega arith)
-        ∙ curve-clipped trace slots;
+        ∙ curve-clipped trace fills slots;
   }
 
 -- an error that is known
@@ -76,28 +76,28 @@ pub if-err : {R E : Type 0} (r : Result R E) (known : E) (P : E → Type 0) → 
 if-err (Ok v) known P is holds = tt
 if-err (Err e) known P is holds = subst P (sym is) holds
 
-nothing-hits : (trace : List Object) (capacity : ℕ) → length trace ≡ 0 → 0 ≡ (policy_run Lru trace capacity 0).hits
-nothing-hits [] capacity none = refl
-nothing-hits (x ∷ xs) capacity none = absurd (omega arith)
+nothing-hits : (trace : List Object) (fills : List Bool) (capacity : ℕ) → length trace ≡ 0 → 0 ≡ (policy_run Lru trace capacity 0 fills).hits
+nothing-hits [] fills capacity none = refl
+nothing-hits (x ∷ xs) fills capacity none = absurd (omega arith)
 
 nothing-size : (trace : List Object) → length trace ≡ 0 → first_size trace ≡ 0
 nothing-size [] none = refl
 nothing-size (x ∷ xs) none = absurd (omega arith)
 
 -- at one size it is LRU's
-pub is-of-lru : (trace : List Object) (points : Points) → IsCurve trace points → HaveSize (first_size trace) trace → (0 < length trace → 1 ≤ first_size trace) → IsOfLru trace points
-is-of-lru trace points is sized positive capacity some =
+pub is-of-lru : (trace : List Object) (fills : List Bool) (points : Points) → IsCurve trace fills points → HaveSize (first_size trace) trace → (0 < length trace → 1 ≤ first_size trace) → IsOfLru trace fills points
+is-of-lru trace fills points is sized positive capacity some =
     ⊎_elim
     (λ (requests : 0 < length trace).
     let one : 1 ≤ points.size = omega (arith, positive requests, is.size_is) in
     ap (λ b. cond b 0 (hits_with points (capacity / points.size))) (not_zero points.size one)
     ∙ is.hits_are (capacity / points.size)
-    ∙ ap (λ s. curve_hits trace (capacity / s)) is.size_is
-    ∙ sym (curve_is_of_lru trace (first_size trace) capacity (positive requests) some sized))
+    ∙ ap (λ s. curve_hits trace fills (capacity / s)) is.size_is
+    ∙ sym (curve_is_of_lru trace fills (first_size trace) capacity (positive requests) some sized))
     (λ (none : length trace ≤ 0).
     let nothing : length trace ≡ 0 = omega arith in
     ap (λ s. cond (eqb s 0) 0 (hits_with points (capacity / s))) (is.size_is ∙ nothing-size trace nothing)
-    ∙ nothing-hits trace capacity nothing)
+    ∙ nothing-hits trace fills capacity nothing)
     (cases_lt 0 (length trace))
   where
     not_zero : (s : ℕ) → 1 ≤ s → eqb s 0 ≡ false

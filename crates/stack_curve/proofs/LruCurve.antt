@@ -1,11 +1,11 @@
 -- The hits of LRU's run are those of the curve.
-use Rattle.std.proofs.Common.{◌≡◌, ℕ, zero, suc, ◌+◌, ◌-◌, ◌/◌, ◌<◌, ◌≤◌, ◌∙◌, sym, refl, ap, subst, ⊎_elim, Bool, true, false, ◌&&◌, cond, eqb, leb, List, [], ◌∷◌, length, take, reverse, get_or, arith, Some, None}
+use Rattle.std.proofs.Common.{◌≡◌, ℕ, zero, suc, ◌+◌, ◌-◌, ◌/◌, ◌<◌, ◌≤◌, ◌∙◌, sym, refl, ap, subst, ⊎_elim, Bool, true, false, not, ◌&&◌, cond, eqb, leb, List, [], ◌∷◌, length, take, reverse, get_or, arith, Some, None}
 use Rattle.std.specs.List.{AllByRecursion}
 use Rattle.std.proofs.lemmas.Bool.{cases_Bool, le-leb, eqb-true, eq-eqb, false_from_ne_true}
 use Rattle.std.proofs.lemmas.List.{length-reverse, length-take-le, take_more, get_or-take, get_or-reverse, reverse-append}
 use Rattle.std.proofs.lemmas.List.Elements.{All-get_or}
 use Rattle.cache_model.specs.declared.objects.Object.{Object}
-use Rattle.cache_model.specs.Claim.{same_object, request_at, no_object}
+use Rattle.cache_model.specs.Claim.{counts_past, only_fills, same_object, request_at, no_object}
 use Rattle.cache_model.proofs.Duality.{same_object-true, same_object-refl}
 use Rattle.cache_model.proofs.Streams.{sum_by-range_last}
 use Rattle.policy_model.specs.declared.names.PolicyName.{PolicyName}
@@ -17,16 +17,24 @@ use Rattle.policy_model.specs.Runs.{Run, run_step}
 use Rattle.policy_model.proofs.Replays.{run_to, run_to-more, run_to-all}
 use Rattle.policy_laws.proofs.Asked.{number_of-object}
 use Rattle.stack_curve.specs.Counts.{hits_before}
-use Rattle.stack_curve.specs.Distances.{earlier, since, different, stack_distance, is_within}
+use Rattle.stack_curve.specs.Distances.{counted_distance, earlier, since, different, stack_distance, is_within}
 use Rattle.stack_curve.specs.Laws.{HaveSize, CurveIsOfLru}
 use Rattle.stack_curve.proofs.Different.{asks_for, kinds, different-since}
 use Rattle.stack_curve.proofs.Recent.{recent, asks-recent, length-recent, since-recent, asks-take}
 use Rattle.stack_curve.proofs.LruEntries.{entries_of, lru_state, IsToldApart, all-recent, all-take, has-entries, after-request}
 
-pub hits-more : (trace : List Object) (slots t : ℕ) → hits_before trace slots (t + 1) ≡ hits_before trace slots t + cond (is_within slots (stack_distance trace t)) 1 0
-hits-more trace slots t =
+pub hits-more : (trace : List Object) (fills : List Bool) (slots t : ℕ) → hits_before trace fills slots (t + 1) ≡ hits_before trace fills slots t + cond (is_within slots (counted_distance trace fills t)) 1 0
+hits-more trace fills slots t =
     let one : t + 1 ≡ suc t = omega arith in
-    ap (hits_before trace slots) one ∙ sum_by-range_last (λ u. cond (is_within slots (stack_distance trace u)) 1 0) t
+    ap (hits_before trace fills slots) one ∙ sum_by-range_last (λ u. cond (is_within slots (counted_distance trace fills u)) 1 0) t
+
+-- a distance that counts is within the slots, or not
+counted-within : (trace : List Object) (fills : List Bool) (slots t : ℕ) → is_within slots (counted_distance trace fills t) ≡ (not (only_fills fills t) && is_within slots (stack_distance trace t))
+counted-within trace fills slots t = at (only_fills fills t)
+  where
+    at : (b : Bool) → is_within slots (cond b None (stack_distance trace t)) ≡ (not b && is_within slots (stack_distance trace t))
+    at true = refl
+    at false = refl
 
 by_index : (P : Object → Type 0) (xs : List Object) → ((k : ℕ) → k < length xs → P (get_or xs k no_object)) → AllByRecursion P xs
 by_index P [] each = tt
@@ -81,15 +89,15 @@ module _ (trace : List Object) where
       ∙ sym other)
       (cases_Bool (same_object y x))
 
-  module _ (size capacity : ℕ) (positive : 1 ≤ size) (sized : HaveSize size trace) where
+  module _ (fills : List Bool) (size capacity : ℕ) (positive : 1 ≤ size) (sized : HaveSize size trace) where
     -- LRU's run after t requests: the most recently used objects are kept, and the hits are the curve's
     record Follows (t : ℕ) (run : Run) : Type 0 where
       pub name : run.state.name ≡ Lru
       pub same_capacity : run.state.capacity ≡ capacity
       pub kept : run.state.entries ≡ entries_of (number_of trace) (take (capacity / size) (recent (earlier trace t)))
-      pub hits : run.hits ≡ hits_before trace (capacity / size) t
+      pub hits : run.hits ≡ hits_before trace fills (capacity / size) t
 
-    one_more : (t : ℕ) (run : Run) → t < length trace → Follows t run → Follows (t + 1) (run_step 0 run (ask_at trace t))
+    one_more : (t : ℕ) (run : Run) → t < length trace → Follows t run → Follows (t + 1) (run_step (counts_past 0 fills) run (ask_at trace t))
     one_more t run within so_far =
         let num : Object → ℕ = number_of trace in
         let slots : ℕ = capacity / size in
@@ -112,13 +120,14 @@ module _ (trace : List Object) where
           kept = ap (λ (s : State). entries_after s (num x) x.size (next_request trace t)) state
               ∙ after-request num capacity size positive slots run.state.now (next_request trace t) x h refl own sizes told
               ∙ ap (λ g. entries_of num (take slots (recent g))) (sym (earlier-more t within));
-          hits = ap (λ n. n + cond (leb 0 t && has_entry run.state.entries (num x)) 1 0) so_far.hits
-              ∙ ap (λ b. hits_before trace slots t + cond (b && has_entry run.state.entries (num x)) 1 0) always
-              ∙ ap (λ b. hits_before trace slots t + cond b 1 0) hit
-              ∙ sym (hits-more trace slots t);
+          hits = ap (λ n. n + cond (counts_past 0 fills t && has_entry run.state.entries (num x)) 1 0) so_far.hits
+              ∙ ap (λ b. hits_before trace fills slots t + cond ((b && not (only_fills fills t)) && has_entry run.state.entries (num x)) 1 0) always
+              ∙ ap (λ b. hits_before trace fills slots t + cond (not (only_fills fills t) && b) 1 0) hit
+              ∙ ap (λ b. hits_before trace fills slots t + cond b 1 0) (sym (counted-within trace fills slots t))
+              ∙ sym (hits-more trace fills slots t);
         }
 
-    follows : (t : ℕ) → t ≤ length trace → Follows t (run_to 0 (start_of Lru capacity) trace t)
+    follows : (t : ℕ) → t ≤ length trace → Follows t (run_to (counts_past 0 fills) (start_of Lru capacity) trace t)
     follows zero within = record { name = refl; same_capacity = refl; kept = sym (ap (entries_of (number_of trace)) (nothing (capacity / size))); hits = refl }
       where
         nothing : (k : ℕ) → take {A = Object} k [] ≡ []
@@ -127,10 +136,10 @@ module _ (trace : List Object) where
     follows (suc t) within =
         let low : t < length trace = omega arith in
         let one : t + 1 ≡ suc t = omega arith in
-        subst (λ n. Follows n (run_to 0 (start_of Lru capacity) trace n)) one
-        (subst (Follows (t + 1)) (sym (run_to-more 0 (start_of Lru capacity) trace t low)) (one_more t (run_to 0 (start_of Lru capacity) trace t) low (follows t (omega arith))))
+        subst (λ n. Follows n (run_to (counts_past 0 fills) (start_of Lru capacity) trace n)) one
+        (subst (Follows (t + 1)) (sym (run_to-more (counts_past 0 fills) (start_of Lru capacity) trace t low)) (one_more t (run_to (counts_past 0 fills) (start_of Lru capacity) trace t) low (follows t (omega arith))))
 
 pub curve_is_of_lru : CurveIsOfLru
-curve_is_of_lru trace size capacity positive some sized =
-    ap (λ (r : Run). r.hits) (sym (run_to-all 0 (start_of Lru capacity) trace (length trace) refl))
-    ∙ (follows trace size capacity positive sized (length trace) (omega arith)).hits
+curve_is_of_lru trace fills size capacity positive some sized =
+    ap (λ (r : Run). r.hits) (sym (run_to-all (counts_past 0 fills) (start_of Lru capacity) trace (length trace) refl))
+    ∙ (follows trace fills size capacity positive sized (length trace) (omega arith)).hits

@@ -21,17 +21,24 @@ mixed = object 1 ∷ object 2 ∷ object 1 ∷ object 3 ∷ object 2 ∷ object 
 mixed_distances : distances mixed ≡ None ∷ None ∷ Some 2 ∷ None ∷ Some 3 ∷ Some 3 ∷ []
 mixed_distances = refl
 
-mixed_curve : map (curve_hits mixed) (0 ∷ 1 ∷ 2 ∷ 3 ∷ 4 ∷ []) ≡ 0 ∷ 0 ∷ 1 ∷ 3 ∷ 3 ∷ []
+mixed_curve : map (curve_hits mixed []) (0 ∷ 1 ∷ 2 ∷ 3 ∷ 4 ∷ []) ≡ 0 ∷ 0 ∷ 1 ∷ 3 ∷ 3 ∷ []
 mixed_curve = refl
 
-mixed_lru : map (λ capacity. (policy_run Lru mixed capacity 0).hits) (1 ∷ 2 ∷ 3 ∷ []) ≡ 0 ∷ 1 ∷ 3 ∷ []
+mixed_lru : map (λ capacity. (policy_run Lru mixed capacity 0 []).hits) (1 ∷ 2 ∷ 3 ∷ []) ≡ 0 ∷ 1 ∷ 3 ∷ []
 mixed_lru = refl
+
+-- the same, of which the fifth request only fills
+mixed_marked : map (curve_hits mixed (false ∷ false ∷ false ∷ false ∷ true ∷ [])) (0 ∷ 1 ∷ 2 ∷ 3 ∷ 4 ∷ []) ≡ 0 ∷ 0 ∷ 1 ∷ 2 ∷ 2 ∷ []
+mixed_marked = refl
+
+marked_lru : map (λ capacity. (policy_run Lru mixed capacity 0 (false ∷ false ∷ false ∷ false ∷ true ∷ [])).hits) (1 ∷ 2 ∷ 3 ∷ []) ≡ 0 ∷ 1 ∷ 2 ∷ []
+marked_lru = refl
 
 -- A B C A B C
 abbrev cycle : List Object
 cycle = object 1 ∷ object 2 ∷ object 3 ∷ object 1 ∷ object 2 ∷ object 3 ∷ []
 
-cycle_curve : map (curve_hits cycle) (0 ∷ 1 ∷ 2 ∷ 3 ∷ 4 ∷ []) ≡ 0 ∷ 0 ∷ 0 ∷ 3 ∷ 3 ∷ []
+cycle_curve : map (curve_hits cycle []) (0 ∷ 1 ∷ 2 ∷ 3 ∷ 4 ∷ []) ≡ 0 ∷ 0 ∷ 0 ∷ 3 ∷ 3 ∷ []
 cycle_curve = refl
 
 -- four places, of which 1 and 3 are marked

@@ -1,5 +1,5 @@
 -- The curve of a trace, and two of its objects that differ in size.
-use Rattle.std.specs.Prelude.{◌≡◌, ◌≢◌, ℕ, ◌-◌, ◌/◌, ◌==◌, ◌<◌, ◌≤◌, if◌then◌else◌, List, length, min, slice_index_or}
+use Rattle.std.specs.Prelude.{◌≡◌, ◌≢◌, ℕ, ◌-◌, ◌/◌, ◌==◌, ◌<◌, ◌≤◌, if◌then◌else◌, Bool, List, length, min, slice_index_or}
 use Rattle.cache_model.specs.declared.objects.Object.{Object}
 use Rattle.cache_model.specs.Claim.{request_at}
 use Rattle.cache_model.specs.Objects.{objects_of}
@@ -51,10 +51,10 @@ abbrev pub hits_within : Points → ℕ → ℕ
 hits_within points capacity = if points.size == 0 then 0 else hits_with points (capacity / points.size)
 
 -- the curve of a trace
-pub record IsCurve (trace : List Object) (points : Points) : Type 0 where
+pub record IsCurve (trace : List Object) (fills : List Bool) (points : Points) : Type 0 where
   pub size_is : points.size ≡ first_size trace
-  pub hits_are : (slots : ℕ) → hits_with points slots ≡ curve_hits trace slots
+  pub hits_are : (slots : ℕ) → hits_with points slots ≡ curve_hits trace fills slots
 
 -- its hits at every capacity are those of LRU
-abbrev pub IsOfLru : List Object → Points → Type 0
-IsOfLru trace points = (capacity : ℕ) → 1 ≤ capacity → hits_within points capacity ≡ (policy_run Lru trace capacity 0).hits
+abbrev pub IsOfLru : List Object → List Bool → Points → Type 0
+IsOfLru trace fills points = (capacity : ℕ) → 1 ≤ capacity → hits_within points capacity ≡ (policy_run Lru trace capacity 0 fills).hits

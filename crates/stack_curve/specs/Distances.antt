@@ -3,7 +3,7 @@ use Rattle.std.specs.Prelude.{ℕ, Bool, false, not, nat_le, if◌then◌else◌
 use Rattle.std.specs.declared.option.Option.{Option}
 use Rattle.std.specs.List.{list_any}
 use Rattle.cache_model.specs.declared.objects.Object.{Object}
-use Rattle.cache_model.specs.Claim.{same_object, request_at}
+use Rattle.cache_model.specs.Claim.{only_fills, same_object, request_at}
 use Rattle.cache_model.specs.Objects.{objects_of, numbers_of}
 
 -- the requests before request t, the latest first
@@ -29,6 +29,10 @@ abbrev pub is_within : ℕ → Option ℕ → Bool
 is_within slots None = false
 is_within slots (Some distance) = nat_le distance slots
 
--- how many requests have a stack distance of at most this many slots
-abbrev pub curve_hits : List Object → ℕ → ℕ
-curve_hits trace slots = count_by (λ t. is_within slots (stack_distance trace t)) (numbers_of trace)
+-- the stack distance of request t, if it counts
+abbrev pub counted_distance : List Object → List Bool → ℕ → Option ℕ
+counted_distance trace fills t = if only_fills fills t then None else stack_distance trace t
+
+-- how many requests that count have a stack distance of at most this many slots
+abbrev pub curve_hits : List Object → List Bool → ℕ → ℕ
+curve_hits trace fills slots = count_by (λ t. is_within slots (counted_distance trace fills t)) (numbers_of trace)

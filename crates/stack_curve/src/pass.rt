@@ -33,8 +33,8 @@ impl From<NoMemory> for CurveFault {
 
 // The size of the first request, and 0 of none.
 fn size_of_first(trace: &Trace) -> u64
-    ensures size { result ≡ first_size trace.now }
-    ensures positive { 0 < length trace.now → 1 ≤ result }
+    ensures size { result ≡ first_size trace.now.objects }
+    ensures positive { 0 < length trace.now.objects → 1 ≤ result }
 {
     if trace.objects() == 0 {
         0
@@ -45,7 +45,7 @@ fn size_of_first(trace: &Trace) -> u64
 
 // The size of the first object that has not this one.
 fn other_size(trace: &Trace, size: u64) -> Option<u64>
-    ensures { MatchOption result ((n : ℕ) → n < length (objects_of trace.now) → size_at trace.now n ≡ size) (IsFirstOther trace.now size) }
+    ensures { MatchOption result ((n : ℕ) → n < length (objects_of trace.now.objects) → size_at trace.now.objects n ≡ size) (IsFirstOther trace.now.objects size) }
 {
     for number in 0..trace.objects() {
         let here = trace.size_of(number);
@@ -56,18 +56,30 @@ fn other_size(trace: &Trace, size: u64) -> Option<u64>
     None
 }
 
-// Counts the stack distance of a request, and moves the mark of its object to it.
-fn count_request(trace: &Trace, t: u32, marks: &mut Marks, counts: &mut [u32])
-    requires within { t < length trace.now }
-    requires few { length trace.now ≤ 2 ^ 25 }
-    requires marked { marks.old ≡ marks_at trace.now t }
-    requires counted { AreCounts trace.now t counts.old }
-    ensures marked { marks.new ≡ marks_at trace.now (t + 1) }
-    ensures counted { AreCounts trace.now (t + 1) counts.new }
+// Counts the stack distance of a request, if the request counts.
+fn count_distance(trace: &Trace, t: u32, marks: &Marks, counts: &mut [u32])
+    requires within { t < length trace.now.objects }
+    requires few { length trace.now.objects ≤ 2 ^ 25 }
+    requires marked { marks.now ≡ marks_at trace.now.objects t }
+    requires counted { AreCounts trace.now.objects trace.now.fills t counts.old }
+    ensures counted { AreCounts trace.now.objects trace.now.fills (t + 1) counts.new }
 {
+    if trace.only_fills(t) {
+        return;
+    }
     if let Some(last) = trace.prev(t) {
         let distance = marks.count(last + 1, t) + 1;
         counts[distance as usize] += 1;
+    }
+}
+
+// Moves the mark of an object to its latest request.
+fn move_mark(trace: &Trace, t: u32, marks: &mut Marks)
+    requires within { t < length trace.now.objects }
+    requires marked { marks.old ≡ marks_at trace.now.objects t }
+    ensures marked { marks.new ≡ marks_at trace.now.objects (t + 1) }
+{
+    if let Some(last) = trace.prev(t) {
         marks.set(last, false);
     }
     marks.set(t, true);
@@ -92,12 +104,13 @@ fn sum_up(counts: &mut [u32])
 
 // The hits at each number of slots up to the number of objects.
 fn hits_of(alloc: Global, trace: &Trace) -> Result<Vec<u32>, NoMemory>
-    ensures { IfOk result (λ hits. AreHits trace.now hits.items) }
+    ensures { IfOk result (λ hits. AreHits trace.now.objects trace.now.fills hits.items) }
 {
     let mut marks = Marks::new(alloc, trace.len())?;
     let mut counts = no_counts(alloc, trace.objects())?;
     for t in 0..trace.len() {
-        count_request(trace, t, &mut marks, &mut counts);
+        count_distance(trace, t, &marks, &mut counts);
+        move_mark(trace, t, &mut marks);
     }
     sum_up(&mut counts);
     Ok(counts)
@@ -106,10 +119,10 @@ fn hits_of(alloc: Global, trace: &Trace) -> Result<Vec<u32>, NoMemory>
 /// The curve of a trace whose objects have one size. It takes 8 bytes for each request while it counts, and 4 for each
 /// object.
 pub fn curve(alloc: Global, trace: &Trace) -> Result<Curve, CurveFault>
-    ensures curve { IfOk result (IsCurve trace.now) }
-    ensures one_size { OnOk result (HaveSize (first_size trace.now) trace.now) }
-    ensures lru { IfOk result (IsOfLru trace.now) }
-    ensures cause { IfErr result (IsCause trace.now) }
+    ensures curve { IfOk result (IsCurve trace.now.objects trace.now.fills) }
+    ensures one_size { OnOk result (HaveSize (first_size trace.now.objects) trace.now.objects) }
+    ensures lru { IfOk result (IsOfLru trace.now.objects trace.now.fills) }
+    ensures cause { IfErr result (IsCause trace.now.objects) }
 {
     let size = size_of_first(trace);
     if let Some(other) = other_size(trace, size) {
