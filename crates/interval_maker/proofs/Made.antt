@@ -5,9 +5,8 @@ use Rattle.std.proofs.lemmas.Bool.{ne_eqb}
 use Rattle.std.proofs.lemmas.List.{length-set, get_or-replicate, length-replicate}
 use Rattle.std.proofs.lemmas.List.Elements.{All-append, All-cons, All-nil, All-head, All-weaker}
 use Rattle.cache_model.specs.declared.objects.Object.{Object}
-use Rattle.cache_model.specs.declared.terms.Terms.{Terms}
 use Rattle.cache_model.specs.declared.intervals.Interval.{Interval}
-use Rattle.cache_model.specs.Claim.{request_at}
+use Rattle.cache_model.specs.Claim.{Terms, request_at}
 use Rattle.cache_model.specs.Objects.{IsNext}
 use Rattle.cache_model.specs.Intervals.{eligible_from, eligible_intervals}
 use Rattle.cache_model.specs.Laws.{IsEligible}

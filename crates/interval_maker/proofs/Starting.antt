@@ -1,16 +1,15 @@
 -- The eligible interval that starts at a request, by the next request of its object.
-use Rattle.std.proofs.Common.{◌≡◌, ◌∙◌, ℕ, ◌<◌, ◌≤◌, ◌^◌, ap, sym, subst, List, [], ◌∷◌, length, Some, slice_get, lit≤}
+use Rattle.std.proofs.Common.{◌≡◌, ◌∙◌, ℕ, ◌<◌, ◌≤◌, ◌^◌, ap, sym, subst, List, [], ◌∷◌, true, false, length, Some, slice_get, lit≤}
 use Rattle.cache_model.specs.declared.objects.Object.{Object}
 use Rattle.cache_model.specs.declared.objects.Objective.{Objective}
-use Rattle.cache_model.specs.declared.terms.Terms.{Terms}
 use Rattle.cache_model.specs.declared.intervals.Interval.{Interval}
 use Rattle.cache_model.specs.declared.objects.Objective.TheVariants.{Object as Hits, Bytes}
-use Rattle.cache_model.specs.Claim.{gain_of, request_at}
+use Rattle.cache_model.specs.Claim.{Terms, counts, gain_of, request_at}
 use Rattle.cache_model.specs.Objects.{objects_of, IsNext, IsLast}
 use Rattle.cache_model.specs.Intervals.{eligible_from}
 use Rattle.cache_model.proofs.Duality.{same_object-true}
 use Rattle.interval_maker.specs.Timelines.{IsInterval}
-use Rattle.cache_model.proofs.Eligible.{eligible_from_one, eligible_from_early, eligible_from_last, eligible_from_too_large}
+use Rattle.cache_model.proofs.Eligible.{eligible_from_one, eligible_from_uncounted, eligible_from_last, eligible_from_too_large}
 
 -- one number names one object
 pub object_named : (trace : List Object) (number t : ℕ) (x : Object) → slice_get (objects_of trace) number ≡ Some (request_at trace t) → slice_get (objects_of trace) number ≡ Some x → request_at trace t ≡ x
@@ -22,19 +21,19 @@ too_large terms trace t x is over = eligible_from_too_large terms trace t (rw is
 pub no_next : (terms : Terms) (trace : List Object) (t : ℕ) → IsLast trace t → eligible_from terms trace t ≡ []
 no_next terms trace t last = eligible_from_last terms trace t last
 
-pub too_early : (terms : Terms) (trace : List Object) (t end : ℕ) → IsNext trace t end → end < terms.warmup → eligible_from terms trace t ≡ []
-too_early terms trace t end next early = eligible_from_early terms trace t end next early
+pub uncounted : (terms : Terms) (trace : List Object) (t end : ℕ) → IsNext trace t end → counts terms end ≡ false → eligible_from terms trace t ≡ []
+uncounted terms trace t end next none = eligible_from_uncounted terms trace t end next none
 
 -- the gain at the end is that of the object at the start
 pub with_next : (terms : Terms) (trace : List Object) (t end : ℕ) (x : Object) (gain : ℕ)
-    → request_at trace t ≡ x → x.size ≤ terms.capacity → IsNext trace t end → terms.warmup ≤ end → gain ≡ gain_of terms.objective x
+    → request_at trace t ≡ x → x.size ≤ terms.capacity → IsNext trace t end → counts terms end ≡ true → gain ≡ gain_of terms.objective x
     → eligible_from terms trace t ≡ (record { start = t; end = end; size = x.size; gain = gain }) ∷ []
-with_next terms trace t end x gain is fits next counts gained =
+with_next terms trace t end x gain is fits next counted gained =
     let same : request_at trace t ≡ request_at trace end = same_object-true (request_at trace t) (request_at trace end) next.same in
     let earned : gain_of terms.objective (request_at trace end) ≡ gain = ap (gain_of terms.objective) (sym same ∙ is) ∙ sym gained in
     let size : (request_at trace t).size ≡ x.size = ap (λ (y : Object). y.size) is in
     let with_parts : ℕ → ℕ → List Interval = λ s g. record { start = t; end = end; size = s; gain = g } ∷ [] in
-    eligible_from_one terms trace t end next (rw size fits) counts
+    eligible_from_one terms trace t end next (rw size fits) counted
     ∙ ap (λ g. with_parts (request_at trace t).size g) earned
     ∙ ap (λ s. with_parts s gain) size
 

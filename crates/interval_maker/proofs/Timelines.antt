@@ -2,9 +2,8 @@
 use Rattle.std.proofs.Common.{◌≡◌, ℕ, ◌<◌, ◌≤◌, ◌^◌, ◌∙◌, sym, subst, true, List, length, get_or, arith, ⊎_elim, All}
 use Rattle.std.proofs.lemmas.Bool.{cases_order, both_ways}
 use Rattle.cache_model.specs.declared.objects.Object.{Object}
-use Rattle.cache_model.specs.declared.terms.Terms.{Terms}
 use Rattle.cache_model.specs.declared.intervals.Interval.{Interval}
-use Rattle.cache_model.specs.Claim.{same_object, request_at}
+use Rattle.cache_model.specs.Claim.{Terms, same_object, request_at}
 use Rattle.cache_model.specs.Objects.{IsNext}
 use Rattle.cache_model.specs.Intervals.{eligible_intervals}
 use Rattle.cache_model.specs.Laws.{IsEligible}

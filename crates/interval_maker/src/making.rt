@@ -1,6 +1,6 @@
 //! The eligible intervals of a trace, by the next request of each request's object.
 ghost use Rattle.std.specs.Prelude.{◌≡◌, ◌<◌, ◌≤◌, ◌-◌, ◌^◌, ◌∷◌, ◌++◌, [], length, replicate, slice_set, All, IfOk, MatchOption, OnOk};
-ghost use Rattle.cache_model.specs.Claim.{terms_from};
+ghost use Rattle.cache_model.specs.Claim.{marked, terms_from};
 ghost use Rattle.cache_model.specs.Intervals.{eligible_from};
 ghost use Rattle.interval_maker.specs.Stored.{no_number};
 ghost use Rattle.interval_maker.specs.Timelines.{IsInterval, IsTimeline, timeline_of};
@@ -13,9 +13,9 @@ use std::alloc::Global;
 
 // The eligible interval that starts at a request.
 fn interval_from(trace: &Trace, t: u32, terms: Terms) -> Option<Interval>
-    requires { t < length trace.now }
-    ensures { MatchOption result (eligible_from terms trace.now t ≡ [])
-        (λ i. (eligible_from terms trace.now t ≡ i ∷ []) × IsInterval (length trace.now) i) }
+    requires { t < length trace.now.objects }
+    ensures { MatchOption result (eligible_from (marked terms trace.now.fills) trace.now.objects t ≡ [])
+        (λ i. (eligible_from (marked terms trace.now.fills) trace.now.objects t ≡ i ∷ []) × IsInterval (length trace.now.objects) i) }
 {
     let object = trace.object(trace.request(t));
     if terms.capacity < object.size {
@@ -24,7 +24,7 @@ fn interval_from(trace: &Trace, t: u32, terms: Terms) -> Option<Interval>
     let Some(end) = trace.next(t) else {
         return None;
     };
-    if end < terms.warmup {
+    if !trace.counts(end, terms.warmup) {
         return None;
     }
     Some(Interval {
@@ -42,8 +42,8 @@ fn no_numbers(alloc: Global, steps: u32) -> Result<Vec<u32>, NoMemory>
     Ok(vec![in alloc; NO_INTERVAL; steps as usize]?)
 }
 
-/// The eligible intervals of a trace, in order of start, at a capacity in bytes. An interval that ends in the warm-up,
-/// before request `warmup`, is none of them. Takes time in the number of requests.
+/// The eligible intervals of a trace, in order of start, at a capacity in bytes. An interval whose end
+/// doesn't count, since it is before request `warmup` or only fills the cache, is none of them. Takes time in the number of requests.
 pub fn make(
     alloc: Global,
     trace: &Trace,
@@ -51,7 +51,7 @@ pub fn make(
     objective: Objective,
     warmup: u32,
 ) -> Result<Intervals, NoMemory>
-    ensures intervals { IfOk result (λ made. made ≡ timeline_of (terms_from objective capacity warmup) trace.now) }
+    ensures intervals { IfOk result (λ made. made ≡ timeline_of (terms_from objective capacity warmup trace.now.fills) trace.now.objects) }
     ensures timeline { IfOk result IsTimeline }
     ensures fit { IfOk result (λ made. All (λ i. i.size ≤ capacity) made.items) }
 {

@@ -2,10 +2,9 @@
 use Rattle.std.proofs.Common.{◌≡◌, ◌∙◌, ℕ, ◌+◌, ◌*◌, ◌/◌, ◌≤◌, ap, arith, List, length, take, sum, sum_by}
 use Rattle.std.proofs.lemmas.List.{take_all}
 use Rattle.cache_model.specs.declared.objects.Object.{Object}
-use Rattle.cache_model.specs.declared.terms.Terms.{Terms}
 use Rattle.cache_model.specs.declared.intervals.Interval.{Interval}
 use Rattle.cache_model.specs.Intervals.{bound_of, eligible_intervals, surplus}
-use Rattle.cache_model.specs.Claim.{IsAllowed, score}
+use Rattle.cache_model.specs.Claim.{Terms, IsAllowed, score}
 use Rattle.cache_model.proofs.Steps.{no_policy_scores_more_lem}
 use Rattle.interval_maker.specs.Timelines.{Timeline, timeline_of}
 

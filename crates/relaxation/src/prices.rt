@@ -3,9 +3,8 @@ ghost use Rattle.std.specs.Prelude.{ℕ, ◌≡◌, ◌<◌, ◌≤◌, ◌+◌,
 ghost use Rattle.std.specs.Option.{SomeIff};
 ghost use Rattle.std.specs.Vec.{vec_len, vec_capacity};
 ghost use Rattle.cache_model.specs.declared.objects.Object.{Object};
-ghost use Rattle.cache_model.specs.declared.terms.Terms.{Terms};
 ghost use Rattle.cache_model.specs.Intervals.{bound_of, surplus};
-ghost use Rattle.cache_model.specs.Claim.{IsAllowed, score};
+ghost use Rattle.cache_model.specs.Claim.{Terms, IsAllowed, score};
 ghost use Rattle.interval_maker.specs.Timelines.{timeline_of};
 ghost use Rattle.relaxation.specs.PriceFaults.{FailsAt};
 ghost use Rattle.relaxation.specs.Prices.{most_paid};

@@ -1,5 +1,5 @@
 -- If all sizes are equal, weights are at most 1, and full flows alone are worth what all flows are.
-use Rattle.std.proofs.Common.{◌≡◌, ◌≢◌, ℕ, suc, ◌+◌, ◌*◌, ◌/◌, ◌<◌, ◌≤◌, ◌∙◌, sym, refl, ap, subst, Bool, true, ◌||◌, ◌==◌, cond, List, [], ◌∷◌, length, get_or, arith, ⊎_elim, All, sum_by, zip}
+use Rattle.std.proofs.Common.{◌≡◌, ◌≢◌, ℕ, suc, ◌+◌, ◌*◌, ◌/◌, ◌<◌, ◌≤◌, ◌∙◌, sym, refl, ap, subst, Bool, true, ◌&&◌, ◌||◌, ◌==◌, cond, List, [], ◌∷◌, length, get_or, arith, ⊎_elim, All, sum_by, zip}
 use Rattle.std.specs.Prelude.{AllPairs}
 use Rattle.std.specs.List.{range_with_len, AllZip}
 use Rattle.std.proofs.lemmas.Bool.{cases_eq, le-leb, or_left, eq-eqb, ne_eqb}
@@ -10,12 +10,11 @@ use Prim.Native.Nat.{◌∣◌}
 use Rattle.std.proofs.lemmas.Nat.Gcd.{dvd_antisymm, dvd_refl}
 use Rattle.std.proofs.Math.Nat.{one-dvd, div-zero, div-one, mul-one, mul-zero, mul-add, mul-le-mul_left, le_of_mul-le-mul_left}
 use Rattle.cache_model.specs.declared.objects.Object.{Object}
-use Rattle.cache_model.specs.declared.terms.Terms.{Terms}
 use Rattle.cache_model.specs.declared.intervals.Interval.{Interval}
 use Rattle.cache_model.specs.Intervals.{eligible_intervals, bound_of}
 use Rattle.cache_model.specs.Laws.{IsEligible}
 use Rattle.cache_model.specs.Objects.{IsNext}
-use Rattle.cache_model.specs.Claim.{IsAllowed, score, gain_of, holds, held_before, contents_of, is_kept, request_at}
+use Rattle.cache_model.specs.Claim.{Terms, IsAllowed, score, gain_of, holds, held_before, contents_of, is_kept, request_at}
 use Rattle.cache_model.specs.Rounding.{IsRounded, fits_beside}
 use Rattle.cache_model.specs.Schedules.{IsFractionalSchedule, flow_value}
 use Rattle.cache_model.specs.Units.{IsUnit, HasWholeCosts, weight}
@@ -106,7 +105,7 @@ kept_gain-le-score terms trace keeps =
         let el : IsEligible terms trace i = each k d low in
         ap {B = ℕ} (λ g. cond (is_kept keeps i.start) g 0) (ap (λ (j : Interval). j.gain) el.numbers)
         ∙ ap {B = ℕ} (λ b. cond b (gain_of terms.objective (request_at trace i.end)) 0) (sym (holds-next trace i.end el.next.within keeps i.start el.next))
-        ∙ sym (ap {B = ℕ} (λ b. cond b (cond (holds (held_before trace keeps i.end) (request_at trace i.end)) (gain_of terms.objective (request_at trace i.end)) 0) 0) (le-leb terms.warmup i.end el.counts))
+        ∙ sym (ap {B = ℕ} (λ b. cond (b && holds (held_before trace keeps i.end) (request_at trace i.end)) (gain_of terms.objective (request_at trace i.end)) 0) el.counts)
 
     apart : AllPairs (λ (i j : Interval). i.end ≢ j.end) items
     apart m n d before low same =

@@ -2,10 +2,9 @@
 use Rattle.std.specs.Prelude.{◌≡◌, ℕ, ◌*◌, ◌/◌, ◌<◌, ◌≤◌, Bool, ◌==◌, List, length, map, zip, All}
 use Prim.Native.Nat.{◌∣◌}
 use Rattle.cache_model.specs.declared.objects.Object.{Object}
-use Rattle.cache_model.specs.declared.terms.Terms.{Terms}
 use Rattle.cache_model.specs.declared.intervals.Interval.{Interval}
 use Rattle.cache_model.specs.Intervals.{eligible_intervals, bound_of}
-use Rattle.cache_model.specs.Claim.{IsAllowed, score, contents_of}
+use Rattle.cache_model.specs.Claim.{Terms, IsAllowed, score, contents_of}
 use Rattle.cache_model.specs.Rounding.{IsRounded, FitTogether}
 use Rattle.cache_model.specs.Schedules.{IsFractionalSchedule, flow_value}
 use Rattle.cache_model.specs.Units.{IsUnit, HasWholeCosts, weight}
