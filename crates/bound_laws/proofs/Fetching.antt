@@ -12,6 +12,7 @@ use Rattle.cache_model.specs.Claim.{same_object, gain_of, total_size, holds, IsA
 use Rattle.cache_model.proofs.Duality.{same_object-true, same_object-refl, without, holds-without, sum_by-without, sum_by-without-le, sum_by-subset}
 use Rattle.cache_model.proofs.Pairs.{same_object-sym}
 use Rattle.cache_model.proofs.Headline.{valid_bounds}
+use Rattle.cache_model.proofs.Scores.{score-zip}
 use Rattle.cache_model.proofs.Steps.{same_object-from}
 use Rattle.cache_model.proofs.Sums.{sum_by-filter}
 use Rattle.part_laws.proofs.Moves.{IsMove, Moves, allowed_of_moves}
@@ -189,21 +190,21 @@ hits_and_misses o zero (r ∷ trace) (held ∷ contents) long =
 hits_and_misses o (suc m) (r ∷ trace) (held ∷ contents) long = hits_and_misses o m trace contents (omega arith)
 
 pub fetches_are_bounded : FetchesAreBounded
-fetches_are_bounded terms most trace [] none within = absurd (omega (arith, within.one_more_than_requests))
-fetches_are_bounded terms most trace (held ∷ nexts) none within =
-    let o : Objective = terms.objective in
+fetches_are_bounded o c w most trace [] none within = absurd (omega (arith, within.one_more_than_requests))
+fetches_are_bounded o c w most trace (held ∷ nexts) none within =
     let long : length nexts ≡ length trace = omega (arith, within.one_more_than_requests) in
-    let fits : All (λ xs. total_size xs ≤ terms.capacity) nexts = All-tail (λ xs. total_size xs ≤ terms.capacity) held nexts within.within_capacity in
+    let fits : All (λ xs. total_size xs ≤ c) nexts = All-tail (λ xs. total_size xs ≤ c) held nexts within.within_capacity in
     let apart : All (AllPairs (λ x y. x ≢ y)) nexts = All-tail (AllPairs (λ x y. x ≢ y)) held nexts within.without_repeats in
-    let allowed : IsAllowed terms.capacity trace (held ∷ kept_after held trace nexts) =
-    allowed_of_moves terms.capacity trace held (kept_after held trace nexts) within.empty_at_first (moves-kept_after terms.capacity held trace nexts long fits apart) in
+    let allowed : IsAllowed c trace (held ∷ kept_after held trace nexts) =
+    allowed_of_moves c trace held (kept_after held trace nexts) within.empty_at_first (moves-kept_after c held trace nexts long fits apart) in
     omega (
       arith,
       none (held ∷ kept_after held trace nexts) allowed,
-      hits_within o terms.warmup trace held held [] nexts long apart (λ x h. inl h),
-      hits_and_misses o terms.warmup trace (held ∷ nexts) (omega arith),
+      score-zip o c w trace (held ∷ kept_after held trace nexts),
+      hits_within o w trace held held [] nexts long apart (λ x h. inl h),
+      hits_and_misses o w trace (held ∷ nexts) (omega arith),
     )
 
 pub valid_bounds_fetches : ValidBoundsFetches
 valid_bounds_fetches trace h records contents valid within =
-    fetches_are_bounded (terms_of h) (h.upper / h.denominator) trace contents (valid_bounds trace h records valid).no_policy_passes_the_floor within
+    fetches_are_bounded h.objective h.capacity h.warmup (h.upper / h.denominator) trace contents (valid_bounds trace [] h records valid).no_policy_passes_the_floor within

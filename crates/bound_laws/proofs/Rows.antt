@@ -16,7 +16,7 @@ trace = object 1 ∷ object 2 ∷ object 1 ∷ object 2 ∷ []
 abbrev ahead : List (List Object)
 ahead = [] ∷ (object 2 ∷ []) ∷ (object 1 ∷ []) ∷ (object 2 ∷ []) ∷ [] ∷ []
 
-first_misses : missed (terms_from Hits 2 0) trace ahead ≡ 1
+first_misses : missed Hits 0 trace ahead ≡ 1
 first_misses = refl
 
 three_prefetches : prefetched Hits trace ahead ≡ 3
@@ -30,7 +30,7 @@ asked_for : sum_by (gain_of Hits) trace ≡ 4
 asked_for = refl
 
 -- the price 1 for the second step bounds the hits by 1 at one object, and by none at the capacity 1, which has no unit
-bound_at_one : bound_of (eligible_intervals (terms_from Hits 2 0) trace) 2 1 1 (0 ∷ 1 ∷ 0 ∷ 0 ∷ []) ≡ 1
+bound_at_one : bound_of (eligible_intervals (terms_from Hits 2 0 []) trace) 2 1 1 (0 ∷ 1 ∷ 0 ∷ 0 ∷ []) ≡ 1
 bound_at_one = refl
 
 one_unit_fewer : units_fewer 2 1 2 ≡ 1

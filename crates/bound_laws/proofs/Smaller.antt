@@ -8,9 +8,8 @@ use Rattle.std.proofs.lemmas.List.{length-map}
 use Rattle.std.proofs.lemmas.List.Sums.{sum_by-cons}
 use Rattle.cache_model.specs.declared.objects.Object.{Object}
 use Rattle.cache_model.specs.declared.objects.Objective.{Objective}
-use Rattle.cache_model.specs.declared.terms.Terms.{Terms}
 use Rattle.cache_model.specs.declared.certificates.Record.{Record}
-use Rattle.cache_model.specs.Claim.{same_object, request_at, terms_from, terms_of}
+use Rattle.cache_model.specs.Claim.{Terms, counts, same_object, request_at, terms_from, terms_of}
 use Rattle.cache_model.specs.Intervals.{eligible_intervals, surplus, interval_of}
 use Rattle.cache_model.specs.Certificates.{prices_of}
 use Rattle.cache_model.proofs.Pairs.{pair_surplus, surplus_by_pairs}
@@ -43,24 +42,24 @@ gated before after n a b amount below = at (before && nat_le n a && after) refl
     at false e = omega arith
 
 -- fewer intervals are eligible at a smaller capacity
-pair_surplus-le : (m : ℕ) (o : Objective) (smaller c u d : ℕ) (trace : List Object) (prices : List ℕ) → smaller ≤ c → (a b : ℕ)
-    → pair_surplus m o smaller u d trace prices a b ≤ pair_surplus m o c u d trace prices a b
-pair_surplus-le m o smaller c u d trace prices below a b =
+pair_surplus-le : (counted : ℕ → Bool) (o : Objective) (smaller c u d : ℕ) (trace : List Object) (prices : List ℕ) → smaller ≤ c → (a b : ℕ)
+    → pair_surplus counted o smaller u d trace prices a b ≤ pair_surplus counted o c u d trace prices a b
+pair_surplus-le counted o smaller c u d trace prices below a b =
     let x : Object = request_at trace a in
-    gated (nat_lt a b && same_object x (request_at trace b) && not (list_any (same_object x) (slice_range trace (a + 1) b))) (nat_le m b) x.size smaller c
+    gated (nat_lt a b && same_object x (request_at trace b) && not (list_any (same_object x) (slice_range trace (a + 1) b))) (counted b) x.size smaller c
     (surplus u d prices (interval_of o trace a b)) below
 
 surpluses-le : (terms : Terms) (smaller u d : ℕ) (trace : List Object) (prices : List ℕ) → smaller ≤ terms.capacity
-    → sum_by (surplus u d prices) (eligible_intervals (terms_from terms.objective smaller terms.warmup) trace) ≤ sum_by (surplus u d prices) (eligible_intervals terms trace)
+    → sum_by (surplus u d prices) (eligible_intervals (terms_from terms.objective smaller terms.warmup terms.fills) trace) ≤ sum_by (surplus u d prices) (eligible_intervals terms trace)
 surpluses-le terms smaller u d trace prices below =
     let requests : List ℕ = range_with_len 0 (length trace) in
     omega (
       arith,
-      surplus_by_pairs (terms_from terms.objective smaller terms.warmup) u d trace prices,
+      surplus_by_pairs (terms_from terms.objective smaller terms.warmup terms.fills) u d trace prices,
       surplus_by_pairs terms u d trace prices,
-      sum_by-mono (λ a. sum_by (pair_surplus terms.warmup terms.objective smaller u d trace prices a) requests) (λ a. sum_by (pair_surplus terms.warmup terms.objective terms.capacity u d trace prices a) requests) requests
-          (λ a. sum_by-mono (pair_surplus terms.warmup terms.objective smaller u d trace prices a) (pair_surplus terms.warmup terms.objective terms.capacity u d trace prices a) requests
-          (pair_surplus-le terms.warmup terms.objective smaller terms.capacity u d trace prices below a)),
+      sum_by-mono (λ a. sum_by (pair_surplus (counts terms) terms.objective smaller u d trace prices a) requests) (λ a. sum_by (pair_surplus (counts terms) terms.objective terms.capacity u d trace prices a) requests) requests
+          (λ a. sum_by-mono (pair_surplus (counts terms) terms.objective smaller u d trace prices a) (pair_surplus (counts terms) terms.objective terms.capacity u d trace prices a) requests
+          (pair_surplus-le (counts terms) terms.objective smaller terms.capacity u d trace prices below a)),
     )
 
 pub smaller_capacities_are_bounded : SmallerCapacitiesAreBounded
@@ -72,11 +71,11 @@ smaller_capacities_are_bounded terms smaller u d trace prices contents below all
     omega (
       arith,
       ap (λ n. n * sum prices) split,
-      no_policy_scores_more_lem (terms_from terms.objective smaller terms.warmup) u d trace prices contents allowed same,
+      no_policy_scores_more_lem (terms_from terms.objective smaller terms.warmup terms.fills) u d trace prices contents allowed same,
       surpluses-le terms smaller u d trace prices below,
     )
 
 pub valid_bounds_smaller_capacities : ValidBoundsSmallerCapacities
-valid_bounds_smaller_capacities trace h records smaller contents valid below allowed =
+valid_bounds_smaller_capacities trace fills h records smaller contents valid below allowed =
     let many : length (prices_of records) ≡ length trace = omega (arith, length-map records (λ (r : Record). r.price), valid.certificate.count, valid.requests) in
-    omega (arith, valid.upper, smaller_capacities_are_bounded (terms_of h) smaller h.unit h.denominator trace (prices_of records) contents below allowed many)
+    omega (arith, valid.upper, smaller_capacities_are_bounded (terms_of h fills) smaller h.unit h.denominator trace (prices_of records) contents below allowed many)

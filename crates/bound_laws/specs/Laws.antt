@@ -1,11 +1,10 @@
 -- What a bound says of smaller capacities, and of fetches; each law is the contract of a function.
-use Rattle.std.specs.Prelude.{◌≡◌, ◌≢◌, ℕ, ◌+◌, ◌-◌, ◌*◌, ◌/◌, ◌≤◌, not, if◌then◌else◌, List, [], ◌∷◌, length, drop, filter, sum, sum_by, zip, All, AllPairs}
+use Rattle.std.specs.Prelude.{◌≡◌, ◌≢◌, ℕ, ◌+◌, ◌-◌, ◌*◌, ◌/◌, ◌≤◌, Bool, not, if◌then◌else◌, List, [], ◌∷◌, length, drop, filter, sum, sum_by, zip, All, AllPairs}
 use Rattle.cache_model.specs.declared.objects.Object.{Object}
 use Rattle.cache_model.specs.declared.objects.Objective.{Objective}
-use Rattle.cache_model.specs.declared.terms.Terms.{Terms}
 use Rattle.cache_model.specs.declared.certificates.Header.{Header}
 use Rattle.cache_model.specs.declared.certificates.Record.{Record}
-use Rattle.cache_model.specs.Claim.{holds, gain_of, total_size, before_request, IsAllowed, score, terms_of}
+use Rattle.cache_model.specs.Claim.{Terms, holds, gain_of, total_size, before_request, IsAllowed, score, terms_from, terms_of}
 use Rattle.cache_model.specs.Intervals.{eligible_intervals, bound_of}
 use Rattle.cache_model.specs.Certificates.{IsValid, prices_of}
 use Rattle.part_laws.specs.Laws.{NoneScoreMore}
@@ -27,11 +26,11 @@ SmallerCapacitiesAreBounded =
 -- nor more than the upper bound of a valid certificate, less the same
 abbrev pub ValidBoundsSmallerCapacities : Type 0
 ValidBoundsSmallerCapacities =
-    (trace : List Object) (h : Header) (records : List Record) (smaller : ℕ) (contents : List (List Object))
-    → IsValid trace h records
+    (trace : List Object) (fills : List Bool) (h : Header) (records : List Record) (smaller : ℕ) (contents : List (List Object))
+    → IsValid trace fills h records
     → smaller ≤ h.capacity
     → IsAllowed smaller trace contents
-    → h.denominator * score (terms_of h) trace contents + units_fewer h.capacity smaller h.unit * sum (prices_of records) ≤ h.upper
+    → h.denominator * score (terms_of h fills) trace contents + units_fewer h.capacity smaller h.unit * sum (prices_of records) ≤ h.upper
 
 -- contents that begin empty and fit, whatever enters and when
 pub record IsWithinCapacity (capacity : ℕ) (trace : List Object) (contents : List (List Object)) : Type 0 where
@@ -41,8 +40,8 @@ pub record IsWithinCapacity (capacity : ℕ) (trace : List Object) (contents : L
   pub without_repeats : All (AllPairs (λ x y. x ≢ y)) contents
 
 -- from the warm-up on, the gains of the requests whose object is not in the contents before them
-abbrev pub missed : Terms → List Object → List (List Object) → ℕ
-missed terms trace contents = sum_by (λ (x, held). if holds held x then 0 else gain_of terms.objective x) (drop terms.warmup (zip trace contents))
+abbrev pub missed : Objective → ℕ → List Object → List (List Object) → ℕ
+missed objective warmup trace contents = sum_by (λ (x, held). if holds held x then 0 else gain_of objective x) (drop warmup (zip trace contents))
 
 -- the gains of what the next contents have, and what neither was held nor is asked for
 abbrev pub entered_unasked : Objective → Object → List Object → List Object → ℕ
@@ -53,20 +52,20 @@ abbrev pub prefetched : Objective → List Object → List (List Object) → ℕ
 prefetched objective trace contents =
     sum_by (λ (x, pair). entered_unasked objective x pair.0 pair.1) (zip trace (zip contents (drop 1 contents)))
 
--- misses and prefetches of any contents, and what bounds all allowed contents, sum to no less than what is asked for
+-- if every request counts, misses and prefetches of any contents, and what bounds all allowed contents, sum to no less than what is asked for
 abbrev pub FetchesAreBounded : Type 0
 FetchesAreBounded =
-    (terms : Terms) (most : ℕ) (trace : List Object) (contents : List (List Object))
-    → NoneScoreMore terms trace most
-    → IsWithinCapacity terms.capacity trace contents
-    → sum_by (gain_of terms.objective) (drop terms.warmup trace)
-    ≤ most + (missed terms trace contents + prefetched terms.objective trace contents)
+    (objective : Objective) (capacity warmup most : ℕ) (trace : List Object) (contents : List (List Object))
+    → NoneScoreMore (terms_from objective capacity warmup []) trace most
+    → IsWithinCapacity capacity trace contents
+    → sum_by (gain_of objective) (drop warmup trace)
+    ≤ most + (missed objective warmup trace contents + prefetched objective trace contents)
 
 -- the floor of a valid certificate's upper bound bounds the fetches of all contents
 abbrev pub ValidBoundsFetches : Type 0
 ValidBoundsFetches =
     (trace : List Object) (h : Header) (records : List Record) (contents : List (List Object))
-    → IsValid trace h records
+    → IsValid trace [] h records
     → IsWithinCapacity h.capacity trace contents
     → sum_by (gain_of h.objective) (drop h.warmup trace)
-    ≤ h.upper / h.denominator + (missed (terms_of h) trace contents + prefetched h.objective trace contents)
+    ≤ h.upper / h.denominator + (missed h.objective h.warmup trace contents + prefetched h.objective trace contents)

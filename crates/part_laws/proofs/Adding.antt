@@ -5,6 +5,7 @@ use Rattle.std.proofs.lemmas.List.Sums.{sum_by-append}
 use Rattle.cache_model.specs.declared.objects.Object.{Object}
 use Rattle.cache_model.specs.declared.objects.Objective.{Objective}
 use Rattle.cache_model.specs.Claim.{holds, gain_of}
+use Rattle.cache_model.proofs.Scores.{score-zip}
 use Rattle.part_laws.specs.Laws.{ScoresAddUp}
 
 -- what a request earns at contents
@@ -37,6 +38,7 @@ pub scores_add_up : ScoresAddUp
 scores_add_up objective trace contents = record {
   at_a_cut = at_a_cut (earns objective) (zip trace contents);
   from_the_warmup = λ capacity warmup.
-      ap (sum_by (earns objective))
+      score-zip objective capacity warmup trace contents
+      ∙ ap (sum_by (earns objective))
       (sym (take_all (length trace - warmup) (drop warmup (zip trace contents)) (omega (arith, length-drop warmup (zip trace contents), length-zip-le trace contents))));
 }

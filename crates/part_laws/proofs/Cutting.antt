@@ -7,6 +7,7 @@ use Rattle.cache_model.specs.declared.objects.Object.{Object}
 use Rattle.cache_model.specs.declared.objects.Objective.{Objective}
 use Rattle.cache_model.specs.Claim.{same_object, gain_of, total_size, holds, IsAllowed, terms_from}
 use Rattle.cache_model.proofs.Duality.{same_object-true, same_object-refl}
+use Rattle.cache_model.proofs.Scores.{score-zip}
 use Rattle.part_laws.specs.Laws.{IsPrelude, NoneScoreMore, CutIsBounded}
 use Rattle.part_laws.proofs.Moves.{IsMove, Moves, holds-from_Contains, Contains-from_holds, moves_of_allowed, allowed_of_moves}
 use Rattle.part_laws.proofs.Adding.{earns}
@@ -193,7 +194,7 @@ reached c (r ∷ before) later held (next ∷ nexts) fits apart moves =
     }
 
 bounded : (o : Objective) (c k most : ℕ) (before part after prelude held : List Object) (nexts : List (List Object))
-    → IsPrelude before part prelude → NoneScoreMore (terms_from o c (length prelude + k)) (prelude ++ part) most
+    → IsPrelude before part prelude → NoneScoreMore (terms_from o c (length prelude + k) []) (prelude ++ part) most
     → IsAllowed c (before ++ (part ++ after)) (held ∷ nexts)
     → sum_by (earns o) (take (length part - k) (drop (length before + k) (zip (before ++ (part ++ after)) (held ∷ nexts)))) ≤ most
 bounded o c k most before part after prelude held nexts has none allowed =
@@ -213,6 +214,7 @@ bounded o c k most before part after prelude held nexts has none allowed =
       ap (λ zs. sum_by (earns o) (take (length part - k) zs)) (r.stands k),
       earned-made o c k [] prelude part after r.now r.rest r.moves will,
       none (start ∷ made [] r.now prelude part r.rest) made_here,
+      score-zip o c (length prelude + k) (prelude ++ part) (start ∷ made [] r.now prelude part r.rest),
     )
 
 pub cut_is_bounded : CutIsBounded

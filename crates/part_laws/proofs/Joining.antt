@@ -4,6 +4,7 @@ use Rattle.std.proofs.lemmas.List.Sums.{sum_by-cons}
 use Rattle.std.proofs.lemmas.List.Elements.{All-head, All-tail}
 use Rattle.cache_model.specs.declared.objects.Object.{Object}
 use Rattle.cache_model.specs.Claim.{IsAllowed, score, terms_from}
+use Rattle.cache_model.proofs.Scores.{score-zip}
 use Rattle.part_laws.specs.Laws.{one_after_the_other, AreJoined, PartsAreAllowed, FilledPart, score_of_parts, IsReached, LowerBoundsAddUp}
 use Rattle.part_laws.proofs.Moves.{Moves, emptied, moves_of_allowed, allowed_of_moves}
 use Rattle.part_laws.proofs.Adding.{earns}
@@ -50,7 +51,14 @@ pub parts_are_allowed : PartsAreAllowed
 parts_are_allowed c a b contents [] first more = absurd (omega (arith, more.one_more_than_requests))
 parts_are_allowed c a b contents (start ∷ others) first more = record {
   allowed = joined c a b contents start others first more;
-  scores = λ objective warmup. sum_by-joined (earns objective) warmup a b contents (start ∷ others) first.one_more_than_requests;
+  scores = λ objective warmup.
+      omega (
+        arith,
+        score-zip objective c warmup (a ++ b) (one_after_the_other a contents (start ∷ others)),
+        sum_by-joined (earns objective) warmup a b contents (start ∷ others) first.one_more_than_requests,
+        score-zip objective c warmup a contents,
+        score-zip objective c (warmup - length a) b (start ∷ others),
+      );
 }
 
 -- the parts one after another, from the last one on
@@ -58,15 +66,15 @@ pub lower_bounds_add_up : LowerBoundsAddUp
 lower_bounds_add_up objective c warmup [] allowed = record {
   contents = [] ∷ [];
   allowed = allowed_of_moves c [] [] [] refl tt;
-  score_is = nothing (earns objective) warmup;
+  score_is = score-zip objective c warmup [] ([] ∷ []) ∙ nothing (earns objective) warmup;
 }
 lower_bounds_add_up objective c warmup (p ∷ parts) allowed =
-    let rest : IsReached (terms_from objective c (warmup - length p.requests)) (flat_map (λ (q : FilledPart). q.requests) parts) (score_of_parts objective c (warmup - length p.requests) parts) =
+    let rest : IsReached (terms_from objective c (warmup - length p.requests) []) (flat_map (λ (q : FilledPart). q.requests) parts) (score_of_parts objective c (warmup - length p.requests) parts) =
     lower_bounds_add_up objective c (warmup - length p.requests) parts (All-tail (λ (q : FilledPart). IsAllowed c q.requests q.contents) p parts allowed) in
     let both : AreJoined c p.requests (flat_map (λ (q : FilledPart). q.requests) parts) p.contents rest.contents =
     parts_are_allowed c p.requests (flat_map (λ (q : FilledPart). q.requests) parts) p.contents rest.contents (All-head (λ (q : FilledPart). IsAllowed c q.requests q.contents) p parts allowed) rest.allowed in
     record {
       contents = one_after_the_other p.requests p.contents rest.contents;
       allowed = both.allowed;
-      score_is = both.scores objective warmup ∙ ap (λ n. score (terms_from objective c warmup) p.requests p.contents + n) rest.score_is;
+      score_is = both.scores objective warmup ∙ ap (λ n. score (terms_from objective c warmup []) p.requests p.contents + n) rest.score_is;
     }

@@ -18,7 +18,7 @@ part = object 1 ∷ object 3 ∷ object 1 ∷ []
 abbrev only_a : List (List Object)
 only_a = [] ∷ (object 1 ∷ []) ∷ (object 1 ∷ []) ∷ (object 1 ∷ []) ∷ (object 1 ∷ []) ∷ (object 1 ∷ []) ∷ (object 1 ∷ []) ∷ []
 
-hits_of_the_whole : score (terms_from Hits 3 0) (before ++ part) only_a ≡ 3
+hits_of_the_whole : score (terms_from Hits 3 0 []) (before ++ part) only_a ≡ 3
 hits_of_the_whole = refl
 
 hits_before : score_between Hits (before ++ part) only_a 0 3 ≡ 1
@@ -28,7 +28,7 @@ hits_of_the_part : score_between Hits (before ++ part) only_a 3 6 ≡ 2
 hits_of_the_part = refl
 
 -- behind the prelude A the part has as many
-hits_behind_the_prelude : score (terms_from Hits 3 1) (object 1 ∷ part) ([] ∷ (object 1 ∷ []) ∷ (object 1 ∷ []) ∷ (object 1 ∷ []) ∷ (object 1 ∷ []) ∷ []) ≡ 2
+hits_behind_the_prelude : score (terms_from Hits 3 1 []) (object 1 ∷ part) ([] ∷ (object 1 ∷ []) ∷ (object 1 ∷ []) ∷ (object 1 ∷ []) ∷ (object 1 ∷ []) ∷ []) ≡ 2
 hits_behind_the_prelude = refl
 
 -- from its second request on one hit less
@@ -42,7 +42,7 @@ emptied = one_after_the_other before ([] ∷ (object 1 ∷ []) ∷ (object 1 ∷
 what_is_held : emptied ≡ [] ∷ (object 1 ∷ []) ∷ (object 1 ∷ []) ∷ [] ∷ (object 1 ∷ []) ∷ (object 1 ∷ []) ∷ [] ∷ []
 what_is_held = refl
 
-hits_emptied : score (terms_from Hits 3 0) (before ++ part) emptied ≡ 2
+hits_emptied : score (terms_from Hits 3 0 []) (before ++ part) emptied ≡ 2
 hits_emptied = refl
 
 -- of a warm-up of four requests one falls into the part, behind its prelude of one

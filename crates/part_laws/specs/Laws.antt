@@ -2,8 +2,7 @@
 use Rattle.std.specs.Prelude.{◌≡◌, ℕ, ◌+◌, ◌-◌, ◌≤◌, if◌then◌else◌, List, [], ◌∷◌, ◌++◌, length, take, slice_range, flat_map, sum_by, zip, All, Contains}
 use Rattle.cache_model.specs.declared.objects.Object.{Object}
 use Rattle.cache_model.specs.declared.objects.Objective.{Objective}
-use Rattle.cache_model.specs.declared.terms.Terms.{Terms}
-use Rattle.cache_model.specs.Claim.{holds, gain_of, IsAllowed, score, terms_from}
+use Rattle.cache_model.specs.Claim.{Terms, holds, gain_of, IsAllowed, score, terms_from}
 
 -- the gains of the hits from request `first` to the one before `end`
 abbrev pub score_between : Objective → List Object → List (List Object) → ℕ → ℕ → ℕ
@@ -16,7 +15,7 @@ pub record AddsUp (objective : Objective) (trace : List Object) (contents : List
       → score_between objective trace contents first end
       ≡ score_between objective trace contents first cut + score_between objective trace contents cut end
   pub from_the_warmup : (capacity warmup : ℕ)
-      → score (terms_from objective capacity warmup) trace contents ≡ score_between objective trace contents warmup (length trace)
+      → score (terms_from objective capacity warmup []) trace contents ≡ score_between objective trace contents warmup (length trace)
 
 -- scores add up over a cut, of all contents of every trace
 abbrev pub ScoresAddUp : Type 0
@@ -35,7 +34,7 @@ abbrev pub CutIsBounded : Type 0
 CutIsBounded =
     (objective : Objective) (capacity k most : ℕ) (before part after prelude : List Object)
     → IsPrelude before part prelude
-    → NoneScoreMore (terms_from objective capacity (length prelude + k)) (prelude ++ part) most
+    → NoneScoreMore (terms_from objective capacity (length prelude + k) []) (prelude ++ part) most
     → (contents : List (List Object)) → IsAllowed capacity (before ++ part ++ after) contents
     → score_between objective (before ++ part ++ after) contents (length before + k) (length before + length part) ≤ most
 
@@ -58,7 +57,7 @@ abbrev pub EachIsBounded : Objective → ℕ → ℕ → List Object → List Pa
 EachIsBounded objective capacity warmup before [] = Unit {0}
 EachIsBounded objective capacity warmup before (p ∷ parts) =
     IsPrelude before p.requests p.prelude
-    × NoneScoreMore (terms_from objective capacity (warmup_behind (length p.prelude) (length before) warmup)) (p.prelude ++ p.requests) p.most
+    × NoneScoreMore (terms_from objective capacity (warmup_behind (length p.prelude) (length before) warmup) []) (p.prelude ++ p.requests) p.most
     × EachIsBounded objective capacity warmup (before ++ p.requests) parts
 
 -- the bounds of all parts sum to a bound of the whole trace
@@ -66,7 +65,7 @@ abbrev pub BoundsAddUp : Type 0
 BoundsAddUp =
     (objective : Objective) (capacity warmup : ℕ) (parts : List Part)
     → EachIsBounded objective capacity warmup [] parts
-    → NoneScoreMore (terms_from objective capacity warmup) (whole_of parts) (sum_by (λ p. p.most) parts)
+    → NoneScoreMore (terms_from objective capacity warmup []) (whole_of parts) (sum_by (λ p. p.most) parts)
 
 -- the contents before each request of the trace, and then the others: the cache is emptied between the two
 abbrev pub one_after_the_other : List Object → List (List Object) → List (List Object) → List (List Object)
@@ -76,8 +75,8 @@ one_after_the_other trace contents others = take (length trace) contents ++ othe
 pub record AreJoined (capacity : ℕ) (a b : List Object) (contents others : List (List Object)) : Type 0 where
   pub allowed : IsAllowed capacity (a ++ b) (one_after_the_other a contents others)
   pub scores : (objective : Objective) (warmup : ℕ)
-      → score (terms_from objective capacity warmup) (a ++ b) (one_after_the_other a contents others)
-      ≡ score (terms_from objective capacity warmup) a contents + score (terms_from objective capacity (warmup - length a)) b others
+      → score (terms_from objective capacity warmup []) (a ++ b) (one_after_the_other a contents others)
+      ≡ score (terms_from objective capacity warmup []) a contents + score (terms_from objective capacity (warmup - length a) []) b others
 
 -- contents that are allowed for each of two parts can follow one another
 abbrev pub PartsAreAllowed : Type 0
@@ -94,7 +93,7 @@ pub record FilledPart : Type 0 where
 abbrev pub score_of_parts : Objective → ℕ → ℕ → List FilledPart → ℕ
 score_of_parts objective capacity warmup [] = 0
 score_of_parts objective capacity warmup (p ∷ parts) =
-    score (terms_from objective capacity warmup) p.requests p.contents + score_of_parts objective capacity (warmup - length p.requests) parts
+    score (terms_from objective capacity warmup []) p.requests p.contents + score_of_parts objective capacity (warmup - length p.requests) parts
 
 -- allowed contents of the trace score exactly this
 pub record IsReached (terms : Terms) (trace : List Object) (total : ℕ) : Type 0 where
@@ -107,4 +106,4 @@ abbrev pub LowerBoundsAddUp : Type 0
 LowerBoundsAddUp =
     (objective : Objective) (capacity warmup : ℕ) (parts : List FilledPart)
     → All (λ p. IsAllowed capacity p.requests p.contents) parts
-    → IsReached (terms_from objective capacity warmup) (flat_map (λ p. p.requests) parts) (score_of_parts objective capacity warmup parts)
+    → IsReached (terms_from objective capacity warmup []) (flat_map (λ p. p.requests) parts) (score_of_parts objective capacity warmup parts)
