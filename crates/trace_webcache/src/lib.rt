@@ -1,4 +1,4 @@
-//! One line of a webcache trace: a time, an id and a size.
+//! One line of a webcache trace: a time, an id and a size, and a mark if one is asked for.
 //!
 //! The rule is "A line of a webcache trace" in docs/DEFINITIONS.md.
 #![tactic(auto)]
@@ -6,4 +6,4 @@
 mod line;
 mod number;
 
-pub use line::parse;
+pub use line::{MarkedSpan, parse, parse_marked};
