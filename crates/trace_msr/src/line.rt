@@ -18,6 +18,8 @@ pub struct MsrLine<'a> {
     pub host: &'a [u8],
     pub disk: u64,
     pub span: Span,
+    /// Whether its requests only fill the cache: its type is Write.
+    pub fills: bool,
 }
 
 // Whether a quote stands anywhere.
@@ -27,11 +29,17 @@ fn has_quote(line: &[u8]) -> bool
     memchr(b'"', line).is_some()
 }
 
-// Whether the text is one of the two types, in letters of either case.
-fn is_action(text: &[u8]) -> bool
-    ensures { result ≡ lines.is_action text.now }
+// Whether the requests of a line of this type only fill the cache. Letters of either case are the same.
+fn mark_of(text: &[u8]) -> Result<bool, LineKind>
+    ensures { result ≡ lines.mark_of text.now }
 {
-    text.eq_ignore_ascii_case(b"Read") || text.eq_ignore_ascii_case(b"Write")
+    if text.eq_ignore_ascii_case(b"Read") {
+        Ok(false)
+    } else if text.eq_ignore_ascii_case(b"Write") {
+        Ok(true)
+    } else {
+        Err(LineKind::BadType)
+    }
 }
 
 /// What the line asks for in blocks of `block` bytes, and of which disk, or why it is refused. The text is without
@@ -51,13 +59,12 @@ pub fn parse(line: &[u8], block: u64) -> Result<MsrLine<'_>, LineKind>
     let Ok(disk) = read_u64(used.disk) else {
         return Err(LineKind::BadNumber { word: 3 });
     };
-    if !is_action(used.action) {
-        return Err(LineKind::BadType);
-    }
+    let fills = mark_of(used.action)?;
     let span = read_span(used.offset, used.size, block)?;
     Ok(MsrLine {
         host: used.host,
         disk,
         span,
+        fills,
     })
 }
