@@ -9,6 +9,7 @@ use Rattle.bound_io.specs.Positions.{Position}
 use Rattle.bound_io.specs.declared.line_reader.LineFault.{LineFault}
 use Rattle.bound_io.specs.declared.line_reader.LineFault.TheVariants as line
 use Rattle.cache_model.specs.declared.objects.Object.{Object}
+use Rattle.cache_rules.specs.Stored.{Requests, mark_if, with_mark, with_request}
 use Rattle.trace_lines.specs.declared.line.Span.{Span}
 use Rattle.trace_lines.specs.declared.line.Span.TheVariants.{Nothing, One, Blocks}
 use Rattle.trace_lines.specs.declared.line.LineKind.{LineKind}
@@ -16,11 +17,11 @@ use Rattle.trace_lines.specs.declared.line.LineKind.TheVariants.{TooLong}
 use Rattle.trace_any.specs.declared.fault.TraceFault.{TraceFault}
 use Rattle.trace_any.specs.declared.fault.TraceFault.TheVariants.{BadLine, InputTooLong, TooManyRequests}
 use Rattle.trace_any.specs.Volumes.{Volume}
-use Rattle.trace_any.specs.Readings.{LineContents, has_records, spanned, stopped, requested, text_content, with_line, read_line, read_on, reading, nothing_read, fault_of}
+use Rattle.trace_any.specs.Readings.{is_marked, LineContents, Reading, has_records, marks_of, spanned, stopped, requested, text_content, with_line, read_line, read_on, reading, nothing_read, fault_of}
 use Rattle.trace_any.specs.declared.format.Format.{Format}
 use Rattle.trace_any.specs.declared.format.Limits.{Limits}
 use Rattle.bound_io.specs.Reading.{LosesPrefix}
-use Rattle.trace_any.specs.Readers.{Reader, Ahead, fresh, room_left, so_far, to_come, onto, after, with_ahead_by, ahead_by, with_named_by, number_by, bytes_after, GoesOn, GivesNone, IsOver, IsStopped, IsWhole, LineTaken}
+use Rattle.trace_any.specs.Readers.{Reader, Ahead, fresh, last_mark, room_left, so_far, to_come, onto, after, with_ahead_by, ahead_by, with_named_by, number_by, bytes_after, GoesOn, GivesNone, IsOver, IsStopped, IsWhole, LineTaken}
 use Rattle.trace_any.specs.FirstLines.{coming_in}
 use Rattle.trace_any.specs.NextPieces.{GivesNext, IsNextRefused, NextPiece, after_next, next_size, next_text}
 use Rattle.trace_any.proofs.NextPieces.{is_given, next_size-le, next_text-le, past_next, refused_past_limit, refused_too_long}
@@ -29,8 +30,8 @@ use Rattle.trace_any.proofs.ReadingSteps.{plain, read_on-first, read_on-none, re
 -- no block is left of the last line
 to_come_lines : (r : Reader) (bytes : List ℕ) → r.ahead.count ≡ 0 → to_come r bytes ≡ read_on r.format (room_left r) (so_far r) bytes
 to_come_lines r bytes none =
-    ap (λ n. read_on r.format (room_left r) (requested (r.limits.requests - r.given) (so_far r) r.ahead.volume r.ahead.first n r.ahead.size) bytes) none
-    ∙ ap (λ s. read_on r.format (room_left r) s bytes) (requested-none r.volumes (r.limits.requests - r.given) r.dropped r.lines.line r.lines.consumed r.ahead.volume r.ahead.first r.ahead.size)
+    ap (λ n. read_on r.format (room_left r) (requested (r.limits.requests - r.given) (so_far r) r.ahead.volume (last_mark r) r.ahead.first n r.ahead.size) bytes) none
+    ∙ ap (λ s. read_on r.format (room_left r) s bytes) (requested-none r.volumes (r.limits.requests - r.given) r.dropped r.lines.line r.lines.consumed r.ahead.volume (last_mark r) r.ahead.first r.ahead.size)
 
 -- the first line is read, whatever comes of it
 to_come_line : (r : Reader) (bytes : List ℕ) → r.ahead.count ≡ 0 → 0 < length bytes
@@ -40,7 +41,7 @@ to_come_line r bytes none some = to_come_lines r bytes none ∙ read_on-first r.
 -- a line that is neither too long nor past the limit is taken up
 line_read : (r : Reader) (bytes : List ℕ) (line consumed : ℕ) → r.ahead.count ≡ 0 → 0 < length bytes → length (next_text (has_records r.format) bytes) ≤ 65535 → consumed ≤ r.limits.bytes
     → line ≡ r.lines.line + 1 → consumed ≡ r.lines.consumed + next_size (has_records r.format) bytes
-    → to_come r bytes ≡ read_on r.format (room_left r) (with_line (r.limits.requests - r.given) (plain r.volumes r.dropped line consumed) (text_content r.format (next_text (has_records r.format) bytes))) (after_next (has_records r.format) bytes)
+    → to_come r bytes ≡ read_on r.format (room_left r) (with_line (r.limits.requests - r.given) (is_marked r.format) (plain r.volumes r.dropped line consumed) (text_content r.format (next_text (has_records r.format) bytes))) (after_next (has_records r.format) bytes)
 line_read r bytes line consumed none some short within line_is consumed_is =
     to_come_line r bytes none some
     ∙ rw (line_is, consumed_is, le-ltb 65535 (length (next_text (has_records r.format) bytes)) short, le-ltb r.limits.bytes (r.lines.consumed + next_size (has_records r.format) bytes) (omega (arith, within, consumed_is))) refl
@@ -53,7 +54,7 @@ with_lines r lines = record r { lines = lines }
 pub record TakesUp (r new : Reader) (said : Result (Option LineContents) LineKind) (bytes : List ℕ) (after : Option (List ℕ)) : Type 0 where
   pub further : r.lines.consumed ≤ new.lines.consumed
   pub rest : after ≡ Some (bytes_after r new bytes)
-  pub coming : to_come r bytes ≡ read_on r.format (room_left r) (with_line (r.limits.requests - r.given) (so_far new) said) (bytes_after r new bytes)
+  pub coming : to_come r bytes ≡ read_on r.format (room_left r) (with_line (r.limits.requests - r.given) (is_marked r.format) (so_far new) said) (bytes_after r new bytes)
 
 pub takes_up : (r : Reader) (l : Position) (before after : Option (List ℕ)) (text : List ℕ) → r.ahead.count ≡ 0 → r.lines.limit ≡ r.limits.bytes → GivesNext (has_records r.format) r.lines l before after
     → IfSome before (λ bytes. (text ≡ next_text (has_records r.format) bytes) × (0 < length bytes)) → length text ≤ 65535 → IfSome before (λ bytes. TakesUp r (with_lines r l) (text_content r.format text) bytes after)
@@ -69,8 +70,8 @@ takes_up r l (Some bytes) after text none limit gives_next texts short =
     record {
       further = omega (arith, gives.some);
       rest = gives.rest ∙ ap (λ rest. Some rest) past;
-      coming = taken ∙ (ap (λ t. read_on r.format (room_left r) (with_line (r.limits.requests - r.given) (plain r.volumes r.dropped l.line l.consumed) (text_content r.format t)) (after_next records bytes)) (sym (texts.0))
-          ∙ ap (λ rest. read_on r.format (room_left r) (with_line (r.limits.requests - r.given) (plain r.volumes r.dropped l.line l.consumed) (text_content r.format text)) rest) past);
+      coming = taken ∙ (ap (λ t. read_on r.format (room_left r) (with_line (r.limits.requests - r.given) (is_marked r.format) (plain r.volumes r.dropped l.line l.consumed) (text_content r.format t)) (after_next records bytes)) (sym (texts.0))
+          ∙ ap (λ rest. read_on r.format (room_left r) (with_line (r.limits.requests - r.given) (is_marked r.format) (plain r.volumes r.dropped l.line l.consumed) (text_content r.format text)) rest) past);
     }
 
 -- a line without a word changes nothing
@@ -82,46 +83,46 @@ goes_blank r l (Some bytes) after said blank none takes =
     record {
       further = takes.further;
       rest = takes.rest;
-      coming = takes.coming ∙ (ap (λ t. read_on r.format (room_left r) (with_line (r.limits.requests - r.given) (so_far (with_lines r l)) t) rest) blank ∙ sym (to_come_lines (with_lines r l) rest none));
+      coming = takes.coming ∙ (ap (λ t. read_on r.format (room_left r) (with_line (r.limits.requests - r.given) (is_marked r.format) (so_far (with_lines r l)) t) rest) blank ∙ sym (to_come_lines (with_lines r l) rest none));
     }
 
 -- a reader whose last line asked for this
-abbrev pub with_asked : Reader → Option Volume → Span → Reader
-with_asked r volume span = with_ahead_by (record r { volumes = with_named_by span r.volumes volume }) (ahead_by (number_by span r.volumes volume) span)
+abbrev pub with_asked : Reader → Option Volume → Bool → Span → Reader
+with_asked r volume fills span = with_ahead_by (record r { volumes = with_named_by span r.volumes volume }) (ahead_by (number_by span r.volumes volume) fills span)
 
 -- the blocks that a line asks for are those to come next
-asked_next : (r : Reader) (volume : Option Volume) (span : Span) (rest : List ℕ) → r.ahead.count ≡ 0
-    → read_on r.format (room_left r) (spanned (r.limits.requests - r.given) (so_far r) volume span) rest ≡ to_come (with_asked r volume span) rest
-asked_next r volume Nothing rest none = sym (to_come_lines (with_asked r volume Nothing) rest none)
-asked_next r volume (One id size) rest none = refl
-asked_next r volume (Blocks first count size) rest none = refl
+asked_next : (r : Reader) (volume : Option Volume) (fills : Bool) (span : Span) (rest : List ℕ) → r.ahead.count ≡ 0
+    → read_on r.format (room_left r) (spanned (r.limits.requests - r.given) (so_far r) volume (mark_if (is_marked r.format) fills) span) rest ≡ to_come (with_asked r volume fills span) rest
+asked_next r volume fills Nothing rest none = sym (to_come_lines (with_asked r volume fills Nothing) rest none)
+asked_next r volume fills (One id size) rest none = refl
+asked_next r volume fills (Blocks first count size) rest none = refl
 
 -- what a line asks for is no matter of the lines
-pub lines_asked : (r : Reader) (volume : Option Volume) (span : Span) → (with_asked r volume span).lines ≡ r.lines
-lines_asked r volume Nothing = refl
-lines_asked r volume (One id size) = refl
-lines_asked r volume (Blocks first count size) = refl
+pub lines_asked : (r : Reader) (volume : Option Volume) (fills : Bool) (span : Span) → (with_asked r volume fills span).lines ≡ r.lines
+lines_asked r volume fills Nothing = refl
+lines_asked r volume fills (One id size) = refl
+lines_asked r volume fills (Blocks first count size) = refl
 
 -- a reader that holds the volumes and the blocks of what was asked
-pub is_asked : (r : Reader) (volume : Option Volume) (span : Span) (number : ℕ) (volumes : List Volume) (ahead : Option Ahead) → number ≡ number_by span r.volumes volume → volumes ≡ with_named_by span r.volumes volume → ahead_by number span ≡ ahead
-    → with_asked r volume span ≡ with_ahead_by (record r { volumes = volumes }) ahead
-is_asked r volume span number volumes ahead number_is volumes_are ahead_is =
-    ap (λ v. with_ahead_by (record r { volumes = v }) (ahead_by (number_by span r.volumes volume) span)) (sym volumes_are)
-    ∙ ap (λ a. with_ahead_by (record r { volumes = volumes }) a) (ap (λ n. ahead_by n span) (sym number_is) ∙ ahead_is)
+pub is_asked : (r : Reader) (volume : Option Volume) (fills : Bool) (span : Span) (number : ℕ) (volumes : List Volume) (ahead : Option Ahead) → number ≡ number_by span r.volumes volume → volumes ≡ with_named_by span r.volumes volume → ahead_by number fills span ≡ ahead
+    → with_asked r volume fills span ≡ with_ahead_by (record r { volumes = volumes }) ahead
+is_asked r volume fills span number volumes ahead number_is volumes_are ahead_is =
+    ap (λ v. with_ahead_by (record r { volumes = v }) (ahead_by (number_by span r.volumes volume) fills span)) (sym volumes_are)
+    ∙ ap (λ a. with_ahead_by (record r { volumes = volumes }) a) (ap (λ n. ahead_by n fills span) (sym number_is) ∙ ahead_is)
 
 -- goes on where the lines have come to this position
 abbrev GoesAt : Reader → Reader → List ℕ → Option (List ℕ) → Position → Type 0
 GoesAt r new bytes after p = (r.lines.consumed ≤ p.consumed) × (after ≡ Some (drop (p.consumed - r.lines.consumed) bytes)) × (to_come r bytes ≡ to_come new (drop (p.consumed - r.lines.consumed) bytes))
 
 pub goes_asked : (r : Reader) (l : Position) (what : LineContents) (before after : Option (List ℕ)) (said : Result (Option LineContents) LineKind) → said ≡ Ok (Some what) → r.ahead.count ≡ 0
-    → IfSome before (λ bytes. TakesUp r (with_lines r l) said bytes after) → IfSome before (λ bytes. GoesOn (λ s. s) r (with_asked (with_lines r l) what.volume what.span) bytes after)
+    → IfSome before (λ bytes. TakesUp r (with_lines r l) said bytes after) → IfSome before (λ bytes. GoesOn (λ s. s) r (with_asked (with_lines r l) what.volume what.fills what.span) bytes after)
 goes_asked r l what None after said asks none takes = tt
 goes_asked r l what (Some bytes) after said asks none takes =
     let next = with_lines r l in
     let rest = bytes_after r next bytes in
-    let coming = takes.coming ∙ (ap (λ t. read_on r.format (room_left r) (with_line (r.limits.requests - r.given) (so_far next) t) rest) asks ∙ asked_next next what.volume what.span rest none) in
-    let lines = sym (lines_asked next what.volume what.span) in
-    let goes = subst (λ p. GoesAt r (with_asked next what.volume what.span) bytes after p) lines (takes.further, takes.rest, coming) in
+    let coming = takes.coming ∙ (ap (λ t. read_on r.format (room_left r) (with_line (r.limits.requests - r.given) (is_marked r.format) (so_far next) t) rest) asks ∙ asked_next next what.volume what.fills what.span rest none) in
+    let lines = sym (lines_asked next what.volume what.fills what.span) in
+    let goes = subst (λ p. GoesAt r (with_asked next what.volume what.fills what.span) bytes after p) lines (takes.further, takes.rest, coming) in
     record { further = goes.0; rest = goes.1; coming = goes.2 }
 
 -- a line that is refused ends the reading
@@ -130,8 +131,8 @@ pub refused_line : (r : Reader) (l : Position) (kind : LineKind) (before after :
 refused_line r l kind None after said refused takes = tt
 refused_line r l kind (Some bytes) after said refused takes =
     let now = so_far (with_lines r l) in
-    let stop : to_come r bytes ≡ stopped now (BadLine l.line kind) = takes.coming ∙ (ap (λ t. read_on r.format (room_left r) (with_line (r.limits.requests - r.given) now t) (bytes_after r (with_lines r l) bytes)) refused ∙ read_on-stopped r.format (room_left r) now (BadLine l.line kind) (bytes_after r (with_lines r l) bytes)) in
-    record { requests = ap (λ s. s.requests) stop; dropped_lines = ap (λ s. s.dropped) stop; stop = ap (λ s. s.refused) stop }
+    let stop : to_come r bytes ≡ stopped now (BadLine l.line kind) = takes.coming ∙ (ap (λ t. read_on r.format (room_left r) (with_line (r.limits.requests - r.given) (is_marked r.format) now t) (bytes_after r (with_lines r l) bytes)) refused ∙ read_on-stopped r.format (room_left r) now (BadLine l.line kind) (bytes_after r (with_lines r l) bytes)) in
+    record { requests = ap (λ s. s.requests) stop; marks = ap (λ s. s.fills) stop; dropped_lines = ap (λ s. s.dropped) stop; stop = ap (λ s. s.refused) stop }
 
 pub too_long : (r : Reader) (line : ℕ) (before : Option (List ℕ)) → r.ahead.count ≡ 0 → line ≡ r.lines.line + 1 → IfSome before (λ bytes. 65535 < length (next_text (has_records r.format) bytes)) → IfSome before (λ bytes. IsOver (to_come r bytes) r.dropped (Some (BadLine line TooLong)))
 too_long r line None none line_is long = tt
@@ -143,7 +144,7 @@ too_long r line (Some bytes) none line_is long =
     let read : read_line r.format (room_left r) (so_far r) (text, size) ≡ stopped now (BadLine (r.lines.line + 1) TooLong) = rw (lt-ltb 65535 (length text) long) refl in
     let stop : to_come r bytes ≡ stopped now (BadLine (r.lines.line + 1) TooLong) = to_come_line r bytes none (omega (arith, long, next_text-le records bytes))
     ∙ (ap (λ t. read_on r.format (room_left r) t (after_next records bytes)) read ∙ read_on-stopped r.format (room_left r) now (BadLine (r.lines.line + 1) TooLong) (after_next records bytes)) in
-    rw line_is (record { requests = ap (λ s. s.requests) stop; dropped_lines = ap (λ s. s.dropped) stop; stop = ap (λ s. s.refused) stop })
+    rw line_is (record { requests = ap (λ s. s.requests) stop; marks = ap (λ s. s.fills) stop; dropped_lines = ap (λ s. s.dropped) stop; stop = ap (λ s. s.refused) stop })
 
 pub past_limit : (r : Reader) (before : Option (List ℕ)) → r.ahead.count ≡ 0 → r.lines.limit ≡ r.limits.bytes → r.lines.consumed ≤ r.limits.bytes
     → IfSome before (λ bytes. (length (next_text (has_records r.format) bytes) ≤ 65535) × (r.lines.limit < r.lines.consumed + next_size (has_records r.format) bytes)) → IfSome before (λ bytes. IsOver (to_come r bytes) r.dropped (Some InputTooLong))
@@ -157,42 +158,44 @@ past_limit r (Some bytes) none limit within past =
     let read : read_line r.format (room_left r) (so_far r) (text, size) ≡ stopped now InputTooLong = rw (le-ltb 65535 (length text) (past.0), lt-ltb r.limits.bytes (r.lines.consumed + size) (omega (arith, past.1, limit))) refl in
     let stop : to_come r bytes ≡ stopped now InputTooLong = to_come_line r bytes none some
     ∙ (ap (λ t. read_on r.format (room_left r) t (after_next records bytes)) read ∙ read_on-stopped r.format (room_left r) now InputTooLong (after_next records bytes)) in
-    record { requests = ap (λ s. s.requests) stop; dropped_lines = ap (λ s. s.dropped) stop; stop = ap (λ s. s.refused) stop }
+    record { requests = ap (λ s. s.requests) stop; marks = ap (λ s. s.fills) stop; dropped_lines = ap (λ s. s.dropped) stop; stop = ap (λ s. s.refused) stop }
 
 -- no line is left
 pub no_line : (r : Reader) (before : Option (List ℕ)) → r.ahead.count ≡ 0 → IsAtEnd before → IfSome before (λ bytes. IsOver (to_come r bytes) r.dropped None)
 no_line r None none end = tt
 no_line r (Some bytes) none end =
     let over : to_come r bytes ≡ so_far r = to_come_lines r bytes none ∙ (ap (λ b. read_on r.format (room_left r) (so_far r) b) end ∙ read_on-none r.format (room_left r) (so_far r)) in
-    record { requests = ap (λ s. s.requests) over; dropped_lines = ap (λ s. s.dropped) over; stop = ap (λ s. s.refused) over }
+    record { requests = ap (λ s. s.requests) over; marks = ap (λ s. s.fills) over; dropped_lines = ap (λ s. s.dropped) over; stop = ap (λ s. s.refused) over }
 
 -- a reader that has given the first of its blocks, if the next one is this
 abbrev pub with_given : Reader → ℕ → Reader
-with_given r next = record r { given = r.given + 1; ahead = record { volume = r.ahead.volume; first = next; count = r.ahead.count - 1; size = r.ahead.size } }
+with_given r next = record r { given = r.given + 1; ahead = record { volume = r.ahead.volume; fills = r.ahead.fills; first = next; count = r.ahead.count - 1; size = r.ahead.size } }
 
-same_blocks : (volumes : List Volume) (most dropped lines bytes volume first next count size : ℕ) → (0 < count → next ≡ first) → requested most (plain volumes dropped lines bytes) volume first count size ≡ requested most (plain volumes dropped lines bytes) volume next count size
-same_blocks volumes most dropped lines bytes volume first next zero size same = requested-none volumes most dropped lines bytes volume first size ∙ sym (requested-none volumes most dropped lines bytes volume next size)
-same_blocks volumes most dropped lines bytes volume first next (suc count) size same = ap (λ n. requested most (plain volumes dropped lines bytes) volume n (suc count) size) (sym (same (omega arith)))
+same_blocks : (volumes : List Volume) (most dropped lines bytes volume : ℕ) (mark : Option Bool) (first next count size : ℕ) → (0 < count → next ≡ first)
+    → requested most (plain volumes dropped lines bytes) volume mark first count size ≡ requested most (plain volumes dropped lines bytes) volume mark next count size
+same_blocks volumes most dropped lines bytes volume mark first next zero size same = requested-none volumes most dropped lines bytes volume mark first size ∙ sym (requested-none volumes most dropped lines bytes volume mark next size)
+same_blocks volumes most dropped lines bytes volume mark first next (suc count) size same = ap (λ n. requested most (plain volumes dropped lines bytes) volume mark n (suc count) size) (sym (same (omega arith)))
 
 -- the first of the blocks is given
 pub gives_block : (r : Reader) (next : ℕ) (lines : List (List ℕ × ℕ)) → r.given < r.limits.requests → 0 < r.ahead.count → (1 < r.ahead.count → next ≡ r.ahead.first + 1)
-    → coming_in r lines ≡ onto (record { volume = r.ahead.volume; id = r.ahead.first; size = r.ahead.size }) (coming_in (with_given r next) lines)
+    → coming_in r lines ≡ onto (record { volume = r.ahead.volume; id = r.ahead.first; size = r.ahead.size }) (last_mark r) (coming_in (with_given r next) lines)
 gives_block r next lines room some follows =
     let a = r.ahead in
+    let mark = last_mark r in
     let most = r.limits.requests - (r.given + 1) in
     let count = a.count - 1 in
     let x : Object = record { volume = a.volume; id = a.first; size = a.size } in
     let places : r.limits.requests - r.given ≡ most + 1 = omega (arith, room) in
     let blocks : a.count ≡ count + 1 = omega (arith, some) in
     let v = r.volumes in let d = r.dropped in let l = r.lines.line in let c = r.lines.consumed in
-    let start : requested (r.limits.requests - r.given) (plain v d l c) a.volume a.first a.count a.size ≡ onto x (requested most (plain v d l c) a.volume next count a.size)
-    = ap (λ n. requested n (plain v d l c) a.volume a.first a.count a.size) places
-    ∙ (ap (λ n. requested (most + 1) (plain v d l c) a.volume a.first n a.size) blocks
-    ∙ (requested-next v most d l c a.volume a.first count a.size
-    ∙ ap (onto x) (same_blocks v most d l c a.volume (a.first + 1) next count a.size (λ h. follows (omega (arith, h, blocks)))))) in
+    let start : requested (r.limits.requests - r.given) (plain v d l c) a.volume mark a.first a.count a.size ≡ onto x mark (requested most (plain v d l c) a.volume mark next count a.size)
+    = ap (λ n. requested n (plain v d l c) a.volume mark a.first a.count a.size) places
+    ∙ (ap (λ n. requested (most + 1) (plain v d l c) a.volume mark a.first n a.size) blocks
+    ∙ (requested-next v most d l c a.volume mark a.first count a.size
+    ∙ ap (onto x mark) (same_blocks v most d l c a.volume mark (a.first + 1) next count a.size (λ h. follows (omega (arith, h, blocks)))))) in
     ap (λ s. fold (read_line r.format (room_left r)) s lines) start
-    ∙ (ap (λ n. fold (read_line r.format (record { requests = n; bytes = r.limits.bytes })) (onto x (requested most (plain v d l c) a.volume next count a.size)) lines) places
-    ∙ fold-onto r.format most r.limits.bytes x (requested most (plain v d l c) a.volume next count a.size) lines)
+    ∙ (ap (λ n. fold (read_line r.format (record { requests = n; bytes = r.limits.bytes })) (onto x mark (requested most (plain v d l c) a.volume mark next count a.size)) lines) places
+    ∙ fold-onto r.format most r.limits.bytes x mark (requested most (plain v d l c) a.volume mark next count a.size) lines)
 
 -- no request more is allowed
 pub no_room : (r : Reader) (bytes : List ℕ) → r.given ≡ r.limits.requests → 0 < r.ahead.count → IsOver (to_come r bytes) r.dropped (Some TooManyRequests)
@@ -200,9 +203,10 @@ no_room r bytes full some =
     let a = r.ahead in
     let now = so_far r in
     let none : r.limits.requests - r.given ≡ 0 = omega (arith, full) in
-    let start = ap (λ n. requested n now a.volume a.first a.count a.size) none ∙ requested-full r.volumes r.dropped r.lines.line r.lines.consumed a.volume a.first a.count a.size some in
+    let mark = last_mark r in
+    let start = ap (λ n. requested n now a.volume mark a.first a.count a.size) none ∙ requested-full r.volumes r.dropped r.lines.line r.lines.consumed a.volume mark a.first a.count a.size some in
     let stop : to_come r bytes ≡ stopped now TooManyRequests = ap (λ s. read_on r.format (room_left r) s bytes) start ∙ read_on-stopped r.format (room_left r) now TooManyRequests bytes in
-    record { requests = ap (λ s. s.requests) stop; dropped_lines = ap (λ s. s.dropped) stop; stop = ap (λ s. s.refused) stop }
+    record { requests = ap (λ s. s.requests) stop; marks = ap (λ s. s.fills) stop; dropped_lines = ap (λ s. s.dropped) stop; stop = ap (λ s. s.refused) stop }
 
 -- a fault of the lines is that fault of the trace
 pub lines_refused : (r new : Reader) (before : Option (List ℕ)) (faults_before faults_after : ℕ) (fault : LineFault) → r.ahead.count ≡ 0 → r.lines.limit ≡ r.limits.bytes → r.lines.consumed ≤ r.limits.bytes → new.dropped ≡ r.dropped
@@ -260,47 +264,69 @@ goes_then first second third (Some bytes) between after one other =
     }
 
 -- a reader that has read nothing yet stands where it stood
-pub goes_nowhere : (r : Reader) (given : List Object) (before : Option (List ℕ)) → given ≡ [] → IfSome before (λ bytes. GoesOn (after given) r r bytes before)
-goes_nowhere r given None empty = tt
-goes_nowhere r given (Some bytes) empty =
+pub goes_nowhere : (r : Reader) (given : List Object) (fills : List Bool) (before : Option (List ℕ)) → given ≡ [] → fills ≡ [] → IfSome before (λ bytes. GoesOn (after given fills) r r bytes before)
+goes_nowhere r given fills None empty unmarked = tt
+goes_nowhere r given fills (Some bytes) empty unmarked =
     let none : r.lines.consumed - r.lines.consumed ≡ 0 = omega arith in
     let same : bytes_after r r bytes ≡ bytes = ap (λ n. drop n bytes) none in
     record {
       further = omega arith;
       rest = ap (λ rest. Some rest) (sym same);
-      coming = rw (empty) (ap (to_come r) (sym same));
+      coming = rw (empty, unmarked) (ap (to_come r) (sym same));
     }
 
+-- requests before a request and others are requests before the others
+pub after-onto : (given : List Object) (fills : List Bool) (x : Object) (mark : Option Bool) (s : Reading) → after given fills (onto x mark s) ≡ after (given ++ x ∷ []) (fills ++ marks_of mark (x ∷ [])) s
+after-onto given fills x mark s =
+    ap (λ requests. record s { requests = requests; fills = fills ++ (marks_of mark (x ∷ []) ++ s.fills) }) (sym (append_assoc given (x ∷ []) s.requests))
+    ∙ ap (λ marks. record s { requests = (given ++ x ∷ []) ++ s.requests; fills = marks }) (sym (append_assoc fills (marks_of mark (x ∷ [])) s.fills))
+
+-- the mark of one request more
+with_mark-marks_of : (fills : List Bool) (x : Object) (mark : Option Bool) → fills ++ marks_of mark (x ∷ []) ≡ with_mark fills mark
+with_mark-marks_of fills x None = append-nil fills
+with_mark-marks_of fills x (Some only_fills) = refl
+
 -- one request more after some
-pub loads_one : (first second third : Reader) (given : List Object) (x : Object) (before between later : Option (List ℕ)) → IfSome before (λ bytes. GoesOn (after given) first second bytes between)
-    → IfSome between (λ bytes. GoesOn (onto x) second third bytes later) → IfSome before (λ bytes. GoesOn (after (given ++ x ∷ [])) first third bytes later)
-loads_one first second third given x None between later one other = tt
-loads_one first second third given x (Some bytes) between later one other =
+pub loads_one : (first second third : Reader) (given : List Object) (fills : List Bool) (x : Object) (mark : Option Bool) (before between later : Option (List ℕ)) → IfSome before (λ bytes. GoesOn (after given fills) first second bytes between)
+    → IfSome between (λ bytes. GoesOn (onto x mark) second third bytes later) → IfSome before (λ bytes. GoesOn (after (given ++ x ∷ []) (fills ++ marks_of mark (x ∷ []))) first third bytes later)
+loads_one first second third given fills x mark None between later one other = tt
+loads_one first second third given fills x mark (Some bytes) between later one other =
     let next = rw (one.rest) at other in
     let same = past_both (second.lines.consumed - first.lines.consumed) (third.lines.consumed - second.lines.consumed) (third.lines.consumed - first.lines.consumed) bytes (omega (arith, one.further, next.further)) in
     let coming = to_come third (bytes_after second third (bytes_after first second bytes)) in
     record {
       further = omega (arith, one.further, next.further);
       rest = next.rest ∙ ap (λ rest. Some rest) same;
-      coming = one.coming ∙ (ap (after given) next.coming ∙ (ap (λ requests. record coming { requests = requests }) (sym (append_assoc given (x ∷ []) coming.requests)) ∙ ap (λ rest. after (given ++ x ∷ []) (to_come third rest)) same));
+      coming = one.coming ∙ (ap (after given fills) next.coming ∙ (after-onto given fills x mark coming ∙ ap (λ rest. after (given ++ x ∷ []) (fills ++ marks_of mark (x ∷ [])) (to_come third rest)) same));
     }
 
+-- requests before the others of a reading
+abbrev pub after_all : Requests → Reading → Reading
+after_all given = after given.objects given.fills
+
+-- one request more after those of a trace
+pub loads_more : (first second third : Reader) (given : Requests) (x : Object) (mark : Option Bool) (before between later : Option (List ℕ)) → IfSome before (λ bytes. GoesOn (after_all given) first second bytes between)
+    → IfSome between (λ bytes. GoesOn (onto x mark) second third bytes later) → IfSome before (λ bytes. GoesOn (after_all (with_request given x mark)) first third bytes later)
+loads_more first second third given x mark before between later one other =
+    subst (λ fills. IfSome before (λ bytes. GoesOn (after (given.objects ++ x ∷ []) fills) first third bytes later)) (with_mark-marks_of given.fills x mark) (loads_one first second third given.objects given.fills x mark before between later one other)
+
 -- no request more after some
-pub loads_all : (first second third : Reader) (given : List Object) (before between later : Option (List ℕ)) → IfSome before (λ bytes. GoesOn (after given) first second bytes between)
-    → IfSome between (λ bytes. GivesNone second third bytes later) → IfSome before (λ bytes. IsWhole (to_come first bytes) given third.dropped)
-loads_all first second third given None between later one none = tt
-loads_all first second third given (Some bytes) between later one none =
+pub loads_all : (first second third : Reader) (given : List Object) (fills : List Bool) (before between later : Option (List ℕ)) → IfSome before (λ bytes. GoesOn (after given fills) first second bytes between)
+    → IfSome between (λ bytes. GivesNone second third bytes later) → IfSome before (λ bytes. IsWhole (to_come first bytes) (record { objects = given; fills = fills }) third.dropped)
+loads_all first second third given fills None between later one none = tt
+loads_all first second third given fills (Some bytes) between later one none =
     let over = rw (one.rest) at none in
     record {
       requests = ap (λ r. r.requests) one.coming ∙ (ap (λ requests. given ++ requests) over.0.requests ∙ append-nil given);
+      marks = ap (λ r. r.fills) one.coming ∙ (ap (λ marks. fills ++ marks) over.0.marks ∙ append-nil fills);
       dropped_lines = ap (λ r. r.dropped) one.coming ∙ over.0.dropped_lines;
       stop = ap (λ r. r.refused) one.coming ∙ over.0.stop;
     }
 
-pub loads_to_end : (first second third : Reader) (given : List Object) (before between later : Option (List ℕ)) → IfSome before (λ bytes. GoesOn (after given) first second bytes between)
+pub loads_to_end : (first second third : Reader) (given : List Object) (fills : List Bool) (before between later : Option (List ℕ)) → IfSome before (λ bytes. GoesOn (after given fills) first second bytes between)
     → IfSome between (λ bytes. GivesNone second third bytes later) → IfSome before (λ _. later ≡ Some [])
-loads_to_end first second third given None between later one none = tt
-loads_to_end first second third given (Some bytes) between later one none = let over = rw (one.rest) at none in over.1
+loads_to_end first second third given fills None between later one none = tt
+loads_to_end first second third given fills (Some bytes) between later one none = let over = rw (one.rest) at none in over.1
 
 -- no fault is one that can't be
 pub no_fault : (fault : Option TraceFault) (P : TraceFault → Type 0) → IfSome fault P → ((f : TraceFault) → P f → ⊥) → fault ≡ None

@@ -5,3 +5,4 @@ pub mod ReadingSteps
 pub mod Coming
 pub mod Through
 pub mod VolumeSteps
+pub mod Marks

@@ -1,5 +1,5 @@
 -- A reader goes through the lines of a trace, one after another.
-use Rattle.std.proofs.Common.{◌≡◌, ℕ, ◌+◌, ◌-◌, ◌≤◌, ◌<◌, ◌∙◌, sym, refl, ap, List, [], ◌∷◌, ◌++◌, append_assoc, append-nil, length, length-append, length-drop, take, drop, inl, inr, ◌⊎◌, arith, Option, Some, None, Result, Ok, IfSome}
+use Rattle.std.proofs.Common.{◌≡◌, Bool, ℕ, ◌+◌, ◌-◌, ◌≤◌, ◌<◌, ◌∙◌, sym, refl, ap, List, [], ◌∷◌, ◌++◌, append_assoc, append-nil, length, length-append, length-drop, take, drop, inl, inr, ◌⊎◌, arith, Option, Some, None, Result, Ok, IfSome}
 use Rattle.std.specs.List.{fold}
 use Rattle.std.proofs.Math.Seq.{take-add}
 use Rattle.std.proofs.lemmas.List.{drop-drop}
@@ -7,32 +7,33 @@ use Rattle.std.proofs.lemmas.List.Sums.{sum_by-append}
 use Rattle.std.proofs.lemmas.Bool.{cases_lt, le-ltb}
 use Rattle.bound_io.specs.Positions.{Position}
 use Rattle.cache_model.specs.declared.objects.Object.{Object}
+use Rattle.cache_rules.specs.Stored.{mark_if}
 use Rattle.trace_lines.specs.declared.line.Span.{Span}
 use Rattle.trace_lines.specs.declared.line.Span.TheVariants.{Nothing, One, Blocks}
 use Rattle.trace_lines.specs.declared.line.LineKind.{LineKind}
 use Rattle.trace_any.specs.Volumes.{Volume}
 use Rattle.trace_any.specs.declared.format.Format.{Format}
 use Rattle.trace_any.specs.declared.format.Limits.{Limits}
-use Rattle.trace_any.specs.Readings.{LineContents, Reading, has_records, pieces_of, nothing_read, reading, requested, read_line, spanned, text_content, with_line}
-use Rattle.trace_any.specs.Readers.{GoesOn, Reader, after, bytes_after, fresh, onto, room_left, so_far, with_ahead}
+use Rattle.trace_any.specs.Readings.{is_marked, LineContents, Reading, has_records, marks_of, pieces_of, nothing_read, reading, requested, read_line, spanned, text_content, with_line}
+use Rattle.trace_any.specs.Readers.{GoesOn, Reader, after, bytes_after, fresh, last_mark, onto, room_left, so_far, with_ahead}
 use Rattle.trace_any.specs.FirstLines.{GoesNoFurther, GoesThrough, HasGiven, HasLostFor, bytes_of, coming_in, first_lines, lines_between, reading_of_first}
 use Rattle.trace_any.specs.NextPieces.{GivesNext, after_next, next_size, next_text}
-use Rattle.trace_any.proofs.Coming.{past_both, with_asked, with_lines}
+use Rattle.trace_any.proofs.Coming.{after-onto, past_both, with_asked, with_lines}
 use Rattle.trace_any.proofs.NextPieces.{cut-first, is_given, past_next}
 use Rattle.trace_any.proofs.ReadingSteps.{plain, requested-none}
 
 -- no block is left of the last line
 ahead_none : (r : Reader) → r.ahead.count ≡ 0 → with_ahead r ≡ so_far r
 ahead_none r none =
-    ap (λ n. requested (r.limits.requests - r.given) (so_far r) r.ahead.volume r.ahead.first n r.ahead.size) none
-    ∙ requested-none r.volumes (r.limits.requests - r.given) r.dropped r.lines.line r.lines.consumed r.ahead.volume r.ahead.first r.ahead.size
+    ap (λ n. requested (r.limits.requests - r.given) (so_far r) r.ahead.volume (last_mark r) r.ahead.first n r.ahead.size) none
+    ∙ requested-none r.volumes (r.limits.requests - r.given) r.dropped r.lines.line r.lines.consumed r.ahead.volume (last_mark r) r.ahead.first r.ahead.size
 
 -- the first line is read, and what it asks for is this
 pub record ReadsLine (r : Reader) (l : Position) (said : Result (Option LineContents) LineKind) (bytes : List ℕ) : Type 0 where
   pub some : 0 < length bytes
   pub line : l.line ≡ r.lines.line + 1
   pub consumed : l.consumed ≡ r.lines.consumed + next_size (has_records r.format) bytes
-  pub step : read_line r.format (room_left r) (with_ahead r) (next_text (has_records r.format) bytes, next_size (has_records r.format) bytes) ≡ with_line (r.limits.requests - r.given) (so_far (with_lines r l)) said
+  pub step : read_line r.format (room_left r) (with_ahead r) (next_text (has_records r.format) bytes, next_size (has_records r.format) bytes) ≡ with_line (r.limits.requests - r.given) (is_marked r.format) (so_far (with_lines r l)) said
 
 pub reads_line : (r : Reader) (l : Position) (before after : Option (List ℕ)) (text : List ℕ) → r.ahead.count ≡ 0 → r.lines.limit ≡ r.limits.bytes → GivesNext (has_records r.format) r.lines l before after
     → IfSome before (λ bytes. (text ≡ next_text (has_records r.format) bytes) × (0 < length bytes)) → length text ≤ 65535 → IfSome before (ReadsLine r l (text_content r.format text))
@@ -44,7 +45,7 @@ reads_line r l (Some bytes) after text none limit gives_next texts short =
     let first = next_text records bytes in
     let size = next_size records bytes in
     let line : List ℕ × ℕ = (first, size) in
-    let taken : read_line r.format (room_left r) (so_far r) line ≡ with_line (r.limits.requests - r.given) (plain r.volumes r.dropped (r.lines.line + 1) (r.lines.consumed + size)) (text_content r.format first) =
+    let taken : read_line r.format (room_left r) (so_far r) line ≡ with_line (r.limits.requests - r.given) (is_marked r.format) (plain r.volumes r.dropped (r.lines.line + 1) (r.lines.consumed + size)) (text_content r.format first) =
     rw (le-ltb 65535 (length first) (omega (arith, ap length (texts.0), short)), le-ltb r.limits.bytes (r.lines.consumed + size) (omega (arith, within, gives.consumed))) refl in
     record {
       some = texts.1;
@@ -52,9 +53,9 @@ reads_line r l (Some bytes) after text none limit gives_next texts short =
       consumed = gives.consumed;
       step = ap (λ s. read_line r.format (room_left r) s line) (ahead_none r none)
           ∙ (taken
-          ∙ (ap (λ n. with_line (r.limits.requests - r.given) (plain r.volumes r.dropped n (r.lines.consumed + size)) (text_content r.format first)) (sym gives.line)
-          ∙ (ap (λ n. with_line (r.limits.requests - r.given) (plain r.volumes r.dropped l.line n) (text_content r.format first)) (sym gives.consumed)
-          ∙ ap (λ t. with_line (r.limits.requests - r.given) (plain r.volumes r.dropped l.line l.consumed) (text_content r.format t)) (sym (texts.0)))));
+          ∙ (ap (λ n. with_line (r.limits.requests - r.given) (is_marked r.format) (plain r.volumes r.dropped n (r.lines.consumed + size)) (text_content r.format first)) (sym gives.line)
+          ∙ (ap (λ n. with_line (r.limits.requests - r.given) (is_marked r.format) (plain r.volumes r.dropped l.line n) (text_content r.format first)) (sym gives.consumed)
+          ∙ ap (λ t. with_line (r.limits.requests - r.given) (is_marked r.format) (plain r.volumes r.dropped l.line l.consumed) (text_content r.format t)) (sym (texts.0)))));
     }
 
 -- the lines and the room are the same for both
@@ -64,7 +65,7 @@ pub record IsNextAt (r new : Reader) (l : Position) : Type 0 where
   pub lines : new.lines ≡ l
 
 one_more : (r new : Reader) (l : Position) (said : Result (Option LineContents) LineKind) (bytes : List ℕ) → r.ahead.count ≡ 0 → IsNextAt r new l → ReadsLine r l said bytes
-    → with_line (r.limits.requests - r.given) (so_far (with_lines r l)) said ≡ with_ahead new → GoesNoFurther (λ s. s) r new bytes
+    → with_line (r.limits.requests - r.given) (is_marked r.format) (so_far (with_lines r l)) said ≡ with_ahead new → GoesNoFurther (λ s. s) r new bytes
 one_more r new l said bytes none next reads asks =
     let records = has_records r.format in
     let line : List ℕ × ℕ = (next_text records bytes, next_size records bytes) in
@@ -81,7 +82,8 @@ one_more r new l said bytes none next reads asks =
       rest = ap (pieces_of r.format) (ap (λ n. drop n bytes) size ∙ past_next records bytes) ∙ (sym (ap (drop 1) all) ∙ ap (λ n. drop n (pieces_of r.format bytes)) (sym one));
       coming = λ more. ap (λ ls. coming_in r (ls ++ more)) first
           ∙ (ap (λ s. fold (read_line r.format (room_left r)) s more) (reads.step ∙ asks)
-          ∙ (ap (λ f. fold (read_line f (room_left r)) (with_ahead new) more) (sym next.format) ∙ ap (λ m. fold (read_line new.format m) (with_ahead new) more) (sym next.room)));
+          ∙ (ap (λ f. fold (read_line f (room_left r)) (with_ahead new) more) (sym next.format)
+          ∙ ap (λ m. fold (read_line new.format m) (with_ahead new) more) (sym next.room)));
     } in
     record {
       through = through;
@@ -97,25 +99,25 @@ pub through_blank : (r : Reader) (l : Position) (before : Option (List ℕ)) (sa
 through_blank r l None said blank none reads = tt
 through_blank r l (Some bytes) said blank none reads =
     one_more r (with_lines r l) l said bytes none (record { format = refl; room = refl; lines = refl }) reads
-    (ap (with_line (r.limits.requests - r.given) (so_far (with_lines r l))) blank ∙ sym (ahead_none (with_lines r l) none))
+    (ap (with_line (r.limits.requests - r.given) (is_marked r.format) (so_far (with_lines r l))) blank ∙ sym (ahead_none (with_lines r l) none))
 
-next_asked : (r : Reader) (l : Position) (volume : Option Volume) (span : Span) → IsNextAt r (with_asked (with_lines r l) volume span) l
-next_asked r l volume Nothing = record { format = refl; room = refl; lines = refl }
-next_asked r l volume (One id size) = record { format = refl; room = refl; lines = refl }
-next_asked r l volume (Blocks first count size) = record { format = refl; room = refl; lines = refl }
+next_asked : (r : Reader) (l : Position) (volume : Option Volume) (fills : Bool) (span : Span) → IsNextAt r (with_asked (with_lines r l) volume fills span) l
+next_asked r l volume fills Nothing = record { format = refl; room = refl; lines = refl }
+next_asked r l volume fills (One id size) = record { format = refl; room = refl; lines = refl }
+next_asked r l volume fills (Blocks first count size) = record { format = refl; room = refl; lines = refl }
 
-ahead_asked : (r : Reader) (volume : Option Volume) (span : Span) → r.ahead.count ≡ 0 → spanned (r.limits.requests - r.given) (so_far r) volume span ≡ with_ahead (with_asked r volume span)
-ahead_asked r volume Nothing none = sym (ahead_none (with_asked r volume Nothing) none)
-ahead_asked r volume (One id size) none = refl
-ahead_asked r volume (Blocks first count size) none = refl
+ahead_asked : (r : Reader) (volume : Option Volume) (fills : Bool) (span : Span) → r.ahead.count ≡ 0 → spanned (r.limits.requests - r.given) (so_far r) volume (mark_if (is_marked r.format) fills) span ≡ with_ahead (with_asked r volume fills span)
+ahead_asked r volume fills Nothing none = sym (ahead_none (with_asked r volume fills Nothing) none)
+ahead_asked r volume fills (One id size) none = refl
+ahead_asked r volume fills (Blocks first count size) none = refl
 
 -- a line that asks for this
 pub through_asked : (r : Reader) (l : Position) (what : LineContents) (before : Option (List ℕ)) (said : Result (Option LineContents) LineKind) → said ≡ Ok (Some what) → r.ahead.count ≡ 0
-    → IfSome before (ReadsLine r l said) → IfSome before (GoesNoFurther (λ s. s) r (with_asked (with_lines r l) what.volume what.span))
+    → IfSome before (ReadsLine r l said) → IfSome before (GoesNoFurther (λ s. s) r (with_asked (with_lines r l) what.volume what.fills what.span))
 through_asked r l what None said asks none reads = tt
 through_asked r l what (Some bytes) said asks none reads =
-    one_more r (with_asked (with_lines r l) what.volume what.span) l said bytes none (next_asked r l what.volume what.span) reads
-    (ap (with_line (r.limits.requests - r.given) (so_far (with_lines r l))) asks ∙ ahead_asked (with_lines r l) what.volume what.span none)
+    one_more r (with_asked (with_lines r l) what.volume what.fills what.span) l said bytes none (next_asked r l what.volume what.fills what.span) reads
+    (ap (with_line (r.limits.requests - r.given) (is_marked r.format) (so_far (with_lines r l))) asks ∙ ahead_asked (with_lines r l) what.volume what.fills what.span none)
 
 -- some lines, and then some more
 module _ (one other both : Reading → Reading) (same : (s : Reading) → one (other s) ≡ both s) (first second third : Reader) (bytes : List ℕ) (goes : GoesThrough one first second bytes) where
@@ -186,10 +188,10 @@ no_further_then first second third (Some bytes) between rest one other =
         ∙ (ap (λ (s : Reading). s.requests) (coming_first (λ s. s) (λ s. s) (λ s. s) (λ s. refl) first second third bytes one.through n) ∙ next.none_before n (omega (arith, few, more, one.through.further, next.through.further)))
 
 -- a request is given of the lines so far
-pub no_further_given : (first second third : Reader) (x : Object) (before : Option (List ℕ)) → third.format ≡ second.format → third.lines ≡ second.lines → ((lines : List (List ℕ × ℕ)) → coming_in second lines ≡ onto x (coming_in third lines))
-    → IfSome before (GoesNoFurther (λ s. s) first second) → IfSome before (GoesNoFurther (onto x) first third)
-no_further_given first second third x None form same gives one = tt
-no_further_given first second third x (Some bytes) form same gives one =
+pub no_further_given : (first second third : Reader) (x : Object) (mark : Option Bool) (before : Option (List ℕ)) → third.format ≡ second.format → third.lines ≡ second.lines → ((lines : List (List ℕ × ℕ)) → coming_in second lines ≡ onto x mark (coming_in third lines))
+    → IfSome before (GoesNoFurther (λ s. s) first second) → IfSome before (GoesNoFurther (onto x mark) first third)
+no_further_given first second third x mark None form same gives one = tt
+no_further_given first second third x mark (Some bytes) form same gives one =
     let goes = one.through in
     let line : third.lines.line ≡ second.lines.line = ap (λ (p : Position). p.line) same in
     let consumed : third.lines.consumed ≡ second.lines.consumed = ap (λ (p : Position). p.consumed) same in
@@ -225,14 +227,15 @@ no_further_yet r (Some bytes) =
     }
 
 -- one request more after some
-pub given_next : (first second third : Reader) (given : List Object) (x : Object) (bytes : List ℕ) → HasGiven given first second bytes → GoesNoFurther (onto x) second third (bytes_after first second bytes) → HasGiven (given ++ x ∷ []) first third bytes
-given_next first second third given x bytes has next = record {
-  through = through_both (after given) (onto x) (after (given ++ x ∷ [])) same first second third bytes has.through next.through;
+pub given_next : (first second third : Reader) (given : List Object) (fills : List Bool) (x : Object) (mark : Option Bool) (bytes : List ℕ) → HasGiven given fills first second bytes → GoesNoFurther (onto x mark) second third (bytes_after first second bytes)
+    → HasGiven (given ++ x ∷ []) (fills ++ marks_of mark (x ∷ [])) first third bytes
+given_next first second third given fills x mark bytes has next = record {
+  through = through_both (after given fills) (onto x mark) (after (given ++ x ∷ []) (fills ++ marks_of mark (x ∷ []))) same first second third bytes has.through next.through;
   least = λ lines some. by lines some (cases_lt lines (lines_between first third));
 }
   where
-    same : (s : Reading) → after given (onto x s) ≡ after (given ++ x ∷ []) s
-    same s = ap (λ requests. record s { requests = requests }) (sym (append_assoc given (x ∷ []) s.requests))
+    same : (s : Reading) → after given fills (onto x mark s) ≡ after (given ++ x ∷ []) (fills ++ marks_of mark (x ∷ [])) s
+    same s = after-onto given fills x mark s
 
     by : (lines : ℕ) → length (given ++ x ∷ []) ≤ length (coming_in first (first_lines first.format lines bytes)).requests → lines < lines_between first third ⊎ lines_between first third ≤ lines → lines_between first third ≤ lines
     by lines some (inr more) = more
@@ -243,11 +246,11 @@ given_next first second third given x bytes has next = record {
         let at : lines ≡ lines_between first second + n = omega (arith, before) in
         let none : (coming_in second (first_lines second.format n (bytes_after first second bytes))).requests ≡ [] = next.none_before n (omega (arith, fewer, before, has.through.further, next.through.further)) in
         let count : (coming_in first (first_lines first.format lines bytes)).requests ≡ given = ap (λ j. (coming_in first (first_lines first.format j bytes)).requests) at
-        ∙ (ap (λ (s : Reading). s.requests) (coming_first (after given) (onto x) (after (given ++ x ∷ [])) same first second third bytes has.through n) ∙ (ap (λ rs. given ++ rs) none ∙ append-nil given)) in
+        ∙ (ap (λ (s : Reading). s.requests) (coming_first (after given fills) (onto x mark) (after (given ++ x ∷ []) (fills ++ marks_of mark (x ∷ []))) same first second third bytes has.through n) ∙ (ap (λ rs. given ++ rs) none ∙ append-nil given)) in
         absurd (omega (arith, some, long, ap length count))
 
 -- no request was given yet
-pub given_none : (r : Reader) (bytes : List ℕ) → HasGiven [] r r bytes
+pub given_none : (r : Reader) (bytes : List ℕ) → HasGiven [] [] r r bytes
 given_none r bytes =
     let none : lines_between r r ≡ 0 = omega arith in
     let nothing : r.lines.consumed - r.lines.consumed ≡ 0 = omega arith in
@@ -280,9 +283,9 @@ bytes_of-more format j k bytes low =
     omega (arith, both)
 
 -- what a source lost for the requests that a reader has given
-pub lost_for : (start now : Reader) (format : Format) (limits : Limits) (given : List Object) (bytes left : List ℕ) → start ≡ fresh format limits → HasGiven given start now bytes → now.lines.held ++ left ≡ bytes_after start now bytes → length now.lines.held ≤ 65536
+pub lost_for : (start now : Reader) (format : Format) (limits : Limits) (given : List Object) (fills : List Bool) (bytes left : List ℕ) → start ≡ fresh format limits → HasGiven given fills start now bytes → now.lines.held ++ left ≡ bytes_after start now bytes → length now.lines.held ≤ 65536
     → length given ≤ length (reading format limits bytes).requests → HasLostFor format limits (length given) bytes left
-lost_for start now format limits given bytes left begins has rest held enough =
+lost_for start now format limits given fills bytes left begins has rest held enough =
     let none : start.lines.consumed ≡ 0 = ap (λ (r : Reader). r.lines.consumed) begins in
     let form : start.format ≡ format = ap (λ (r : Reader). r.format) begins in
     record {

@@ -1,5 +1,5 @@
 -- The first lines of a trace, or its first records: what a reader of requests has gone through, and how much of a source its first requests need.
-use Rattle.std.specs.Prelude.{◌≡◌, ℕ, ◌+◌, ◌-◌, ◌<◌, ◌≤◌, List, [], ◌++◌, length, take, drop, fold}
+use Rattle.std.specs.Prelude.{◌≡◌, ℕ, ◌+◌, ◌-◌, ◌<◌, ◌≤◌, Bool, List, [], ◌++◌, length, take, drop, fold}
 use Rattle.std.specs.List.{sum_by}
 use Rattle.cache_model.specs.declared.objects.Object.{Object}
 use Rattle.trace_any.specs.declared.format.Format.{Format}
@@ -32,7 +32,7 @@ lines_between old new = new.lines.line - old.lines.line
 abbrev pub coming_in : Reader → List (List ℕ × ℕ) → Reading
 coming_in r lines = fold (read_line r.format (room_left r)) (with_ahead r) lines
 
--- a reader has gone through the first of these bytes' lines and stands after them; whatever lines follow them, what is to come is what was, without the requests that were given
+-- a reader has gone through the first of these bytes' lines and stands after them; whatever lines follow them, what is to come is what was, without the requests and the marks that were given
 pub record GoesThrough (with_given : Reading → Reading) (old new : Reader) (bytes : List ℕ) : Type 0 where
   pub format : new.format ≡ old.format
   pub further : old.lines.line ≤ new.lines.line
@@ -45,7 +45,7 @@ pub record GoesNoFurther (with_given : Reading → Reading) (old new : Reader) (
   pub through : GoesThrough with_given old new bytes
   pub none_before : (fewer : ℕ) → fewer < lines_between old new → (coming_in old (first_lines old.format fewer bytes)).requests ≡ []
 
--- a reader has given these requests, and has gone through no more lines than they need
-pub record HasGiven (given : List Object) (old new : Reader) (bytes : List ℕ) : Type 0 where
-  pub through : GoesThrough (after given) old new bytes
+-- a reader has given these requests and marks, and has gone through no more lines than they need
+pub record HasGiven (given : List Object) (fills : List Bool) (old new : Reader) (bytes : List ℕ) : Type 0 where
+  pub through : GoesThrough (after given fills) old new bytes
   pub least : (lines : ℕ) → length given ≤ length (coming_in old (first_lines old.format lines bytes)).requests → lines_between old new ≤ lines

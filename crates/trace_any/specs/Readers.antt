@@ -7,25 +7,27 @@ use Rattle.bound_io.specs.Causes.{HasNewFault}
 use Rattle.bound_io.specs.Positions.{Position}
 use Rattle.bound_io.specs.Lines.{stands_in}
 use Rattle.cache_model.specs.declared.objects.Object.{Object}
+use Rattle.cache_rules.specs.Stored.{Requests, mark_if}
 use Rattle.trace_any.specs.declared.fault.TraceFault.{TraceFault}
 use Rattle.trace_any.specs.declared.fault.TraceFault.TheVariants.{BadLine, ReadFault, InputTooLong, TooManyRequests, NoMemory}
 use Rattle.trace_any.specs.declared.format.Format.{Format}
 use Rattle.trace_any.specs.declared.format.Limits.{Limits}
 use Rattle.trace_any.specs.Volumes.{Volume}
-use Rattle.trace_any.specs.Readings.{Reading, requested, read_on, with_named, number_of}
+use Rattle.trace_any.specs.Readings.{is_marked, Reading, requested, read_on, with_named, number_of, marks_of}
 
--- what is left of the blocks that the last line asked for
+-- what is left of the blocks that the last line asked for, and whether its requests only fill the cache
 pub record Ahead : Type 0 where
   pub volume : ℕ
+  pub fills : Bool
   pub first : ℕ
   pub count : ℕ
   pub size : ℕ
 
 -- no block is left
 abbrev pub nothing_ahead : Ahead
-nothing_ahead = record { volume = 0; first = 0; count = 0; size = 0 }
+nothing_ahead = record { volume = 0; fills = false; first = 0; count = 0; size = 0 }
 
--- where a reader of requests stands: its lines, the number of requests given and of lines dropped, the volumes named, the blocks of the last line, and the fault that was answered
+-- where a reader of requests stands: its form, its limits, its lines, the number of requests given and of lines dropped, the volumes named, the blocks of the last line, and the fault that was answered
 pub record Reader : Type 0 where
   pub format : Format
   pub limits : Limits
@@ -64,27 +66,32 @@ room_left r = record { requests = r.limits.requests - r.given; bytes = r.limits.
 
 -- a reading that has come as far as a reader, whose requests so far are left out
 abbrev pub so_far : Reader → Reading
-so_far r = record { requests = []; volumes = r.volumes; dropped = r.dropped; lines = r.lines.line; bytes = r.lines.consumed; refused = None }
+so_far r = record { requests = []; fills = []; volumes = r.volumes; dropped = r.dropped; lines = r.lines.line; bytes = r.lines.consumed; refused = None }
+
+-- the mark of the requests of the last line that asked for one, if its form has marks
+abbrev pub last_mark : Reader → Option Bool
+last_mark r = mark_if (is_marked r.format) r.ahead.fills
 
 -- the blocks of the last line, as far as there is room
 abbrev pub with_ahead : Reader → Reading
-with_ahead r = requested (r.limits.requests - r.given) (so_far r) r.ahead.volume r.ahead.first r.ahead.count r.ahead.size
+with_ahead r = requested (r.limits.requests - r.given) (so_far r) r.ahead.volume (last_mark r) r.ahead.first r.ahead.count r.ahead.size
 
--- the reading of what is still to come, if the reader stands in these bytes: the requests after those given, the dropped lines in all, and why it stops
+-- the reading of what is still to come, if the reader stands in these bytes: the requests after those given with their marks, the dropped lines in all, and why it stops
 abbrev pub to_come : Reader → List ℕ → Reading
 to_come r bytes = read_on r.format (room_left r) (with_ahead r) bytes
 
--- a request before the others of a reading
-abbrev pub onto : Object → Reading → Reading
-onto x r = record r { requests = x ∷ r.requests }
+-- a request, with its mark if there is one, before the others of a reading
+abbrev pub onto : Object → Option Bool → Reading → Reading
+onto x mark r = record r { requests = x ∷ r.requests; fills = marks_of mark (x ∷ []) ++ r.fills }
 
--- requests before the others of a reading
-abbrev pub after : List Object → Reading → Reading
-after given r = record r { requests = given ++ r.requests }
+-- requests and their marks before the others of a reading
+abbrev pub after : List Object → List Bool → Reading → Reading
+after given fills r = record r { requests = given ++ r.requests; fills = fills ++ r.fills }
 
--- the reading has no more requests, these dropped lines, and stops for this or not at all
+-- the reading has no more requests and no more marks, these dropped lines, and stops for this or not at all
 pub record IsOver (r : Reading) (dropped : ℕ) (refused : Option TraceFault) : Type 0 where
   pub requests : r.requests ≡ []
+  pub marks : r.fills ≡ []
   pub dropped_lines : r.dropped ≡ dropped
   pub stop : r.refused ≡ refused
 
@@ -104,7 +111,7 @@ IsStopped old new before faults_before faults_after NoMemory = Unit {0}
 abbrev pub bytes_after : Reader → Reader → List ℕ → List ℕ
 bytes_after old new bytes = drop (new.lines.consumed - old.lines.consumed) bytes
 
--- the reader goes on from these bytes past the lines that it gave, and what is to come is what was, without the request that was given
+-- the reader goes on from these bytes past the lines that it gave, and what is to come is what was, without the request and the mark that were given
 pub record GoesOn (with_given : Reading → Reading) (old new : Reader) (bytes : List ℕ) (after : Option (List ℕ)) : Type 0 where
   pub further : old.lines.consumed ≤ new.lines.consumed
   pub rest : after ≡ Some (bytes_after old new bytes)
@@ -114,9 +121,9 @@ pub record GoesOn (with_given : Reading → Reading) (old new : Reader) (bytes :
 abbrev pub GivesNone : Reader → Reader → List ℕ → Option (List ℕ) → Type 0
 GivesNone old new bytes after = IsOver (to_come old bytes) new.dropped None × (after ≡ Some []) × IsOver (to_come new []) new.dropped None
 
--- how the next request is given: it is the first of those to come; at the end none is left
+-- how the next request is given: it is the first of those to come, and the last mark is its own; at the end none is left
 abbrev pub NextRequest : Reader → Reader → Option (List ℕ) → Option (List ℕ) → ℕ → ℕ → Result (Option Object) TraceFault → Type 0
-NextRequest old new before after faults_before faults_after (Ok (Some x)) = (new.given ≡ old.given + 1) × IfSome before (λ bytes. GoesOn (onto x) old new bytes after)
+NextRequest old new before after faults_before faults_after (Ok (Some x)) = (new.given ≡ old.given + 1) × IfSome before (λ bytes. GoesOn (onto x (last_mark new)) old new bytes after)
 NextRequest old new before after faults_before faults_after (Ok None) = IfSome before (λ bytes. GivesNone old new bytes after)
 NextRequest old new before after faults_before faults_after (Err fault) = IsStopped old new before faults_before faults_after fault
 
@@ -126,11 +133,11 @@ LineTaken old new before after faults_before faults_after (Ok true) = (old.lines
 LineTaken old new before after faults_before faults_after (Ok false) = IfSome before (λ bytes. GivesNone old new bytes after)
 LineTaken old new before after faults_before faults_after (Err fault) = IsStopped old new before faults_before faults_after fault
 
--- the blocks that a line with this span asks for of the volume with this number, if any
-abbrev pub ahead_by : ℕ → Span → Option Ahead
-ahead_by volume Nothing = None
-ahead_by volume (One id size) = Some (record { volume = volume; first = id; count = 1; size = size })
-ahead_by volume (Blocks first count size) = Some (record { volume = volume; first = first; count = count; size = size })
+-- the blocks that a line with this span asks for of the volume with this number, if any, and whether they only fill the cache
+abbrev pub ahead_by : ℕ → Bool → Span → Option Ahead
+ahead_by volume fills Nothing = None
+ahead_by volume fills (One id size) = Some (record { volume = volume; fills = fills; first = id; count = 1; size = size })
+ahead_by volume fills (Blocks first count size) = Some (record { volume = volume; fills = fills; first = first; count = count; size = size })
 
 -- a reader whose last line asked for these blocks, or for nothing
 abbrev pub with_ahead_by : Reader → Option Ahead → Reader
@@ -149,9 +156,10 @@ number_by Nothing volumes volume = 0
 number_by (One id size) volumes volume = number_of volumes volume
 number_by (Blocks first count size) volumes volume = number_of volumes volume
 
--- a reading that was not refused has these requests and dropped lines
-pub record IsWhole (r : Reading) (trace : List Object) (dropped : ℕ) : Type 0 where
-  pub requests : r.requests ≡ trace
+-- a reading that was not refused has these requests, marks and dropped lines
+pub record IsWhole (r : Reading) (trace : Requests) (dropped : ℕ) : Type 0 where
+  pub requests : r.requests ≡ trace.objects
+  pub marks : r.fills ≡ trace.fills
   pub dropped_lines : r.dropped ≡ dropped
   pub stop : r.refused ≡ None
 

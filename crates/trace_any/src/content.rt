@@ -1,5 +1,5 @@
 //! What a line or a record asks for, by the form of the trace.
-ghost use Rattle.std.specs.Prelude.{◌≡◌, ◌+◌, ◌≤◌, ◌^◌, true, None, Some, length, IfOk, IfSome, IsSome, OnOk, OnErr};
+ghost use Rattle.std.specs.Prelude.{◌≡◌, ◌+◌, ◌≤◌, ◌^◌, true, false, None, Some, length, IfOk, IfSome, IsSome, OnOk, OnErr};
 ghost use Rattle.trace_any.specs.Readers.{with_named_by, number_by};
 ghost use Rattle.trace_any.specs.Readings.{IsFormat, NamesVolumes, content_named, has_records, text_content, whole_record};
 ghost use Rattle.trace_lines.specs.Lines.{IsSpan};
@@ -11,29 +11,49 @@ use bound_base::NoMemory;
 use std::alloc::Global;
 use trace_lines::{LineKind, Span, is_blank, trim_cr};
 use trace_msr::MsrLine;
+use trace_webcache::MarkedSpan;
 
-/// What a line asks for, and the host and the disk of its volume, if its form names volumes.
+/// What a line asks for, the host and the disk of its volume, if its form names volumes, and whether its requests only
+/// fill the cache.
 #[derive(Clone, Copy)]
 pub struct LineContent<'a> {
     pub span: Span,
     pub volume: Option<(&'a [u8], u64)>,
+    pub fills: bool,
 }
 
-// What a line of a form without volumes asks for.
+// What a line without a volume and a mark asks for.
 fn of_no_volume(span: Span) -> LineContent<'static>
-    ensures { result ≡ record { span = span; volume = None } }
+    ensures { result ≡ record { span = span; volume = None; fills = false } }
 {
-    LineContent { span, volume: None }
+    LineContent {
+        span,
+        volume: None,
+        fills: false,
+    }
+}
+
+// What a line with a mark and without a volume asks for.
+fn of_marked(line: MarkedSpan) -> LineContent<'static>
+    ensures { result ≡ record { span = line.span; volume = None; fills = line.fills } }
+{
+    LineContent {
+        span: line.span,
+        volume: None,
+        fills: line.fills,
+    }
 }
 
 // What a line of a form with volumes asks for.
 fn of_volume(line: MsrLine<'_>) -> LineContent<'_>
     ensures span { result.span ≡ line.entry.span }
     ensures volume { volume_of result.volume ≡ Some (record { host = line.entry.host.now; disk = line.entry.disk }) }
+    ensures fills { result.fills ≡ line.entry.fills }
 {
     LineContent {
         span: line.span,
         volume: Some((line.host, line.disk)),
+        fills: line.fills,
     }
 }
 
@@ -62,8 +82,11 @@ fn content_named(format: Format, text: &[u8]) -> Result<LineContent<'_>, LineKin
 {
     match format {
         Format::Webcache => Ok(of_no_volume(trace_webcache::parse(text)?)),
+        Format::MarkedWebcache => Ok(of_marked(trace_webcache::parse_marked(text)?)),
         Format::Arc => Ok(of_no_volume(trace_arc::parse(text)?)),
-        Format::Msr { block } => Ok(of_volume(trace_msr::parse(text, block)?)),
+        Format::Msr { block } | Format::MsrReads { block } => Ok(of_volume(trace_msr::parse(
+            text, block,
+        )?)),
         Format::Oracle => Ok(of_no_volume(whole_record(text)?)),
     }
 }

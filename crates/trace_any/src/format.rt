@@ -1,17 +1,21 @@
 //! The forms of a trace, and how much of one is read.
 ghost use Rattle.std.specs.Prelude.{◌≡◌};
-ghost use Rattle.trace_any.specs.Readings.{full_limits, has_records};
+ghost use Rattle.trace_any.specs.Readings.{full_limits, has_records, is_marked};
 
 /// The form of a trace.
 #[derive(Clone, Copy, Debug, PartialEq, Eq)]
 pub enum Format {
     /// A line is a time, an id, a size in bytes, and any further words.
     Webcache,
+    /// A line as of `Webcache` whose fourth word is its mark: `r` if its request counts, and `w` if it only fills the cache.
+    MarkedWebcache,
     /// A line is a first block, how many blocks, and any further words. A block has 512 bytes.
     Arc,
     /// A line is of fields with commas between them: a timestamp, a host, a disk, a type, an offset and a size in
     /// bytes, and any further fields. Each block of this many bytes, from 1 to 2^48, that it touches is a request.
     Msr { block: u64 },
+    /// Lines as of `Msr`, of which those that write only fill the cache.
+    MsrReads { block: u64 },
     /// A record is of 24 bytes, packed and little endian: a time of 4, an id of 8, a size in bytes of 4, and the time of
     /// the next access, of 8. There are no lines.
     Oracle,
@@ -23,6 +27,13 @@ impl Format {
         ensures { result ≡ has_records self }
     {
         matches!(self, Format::Oracle)
+    }
+
+    /// Whether a line of the form says if its requests only fill the cache.
+    pub fn is_marked(self) -> bool
+        ensures { result ≡ is_marked self }
+    {
+        matches!(self, Format::MarkedWebcache | Format::MsrReads { .. })
     }
 }
 

@@ -1,16 +1,49 @@
 //! Whole traces.
-ghost use Rattle.std.specs.Prelude.{◌≡◌, ◌≤◌, ◌⊎◌, Some, [], None, Err, IfOk, IfErr, OnOk, IfSome};
+ghost use Rattle.std.specs.Prelude.{◌≡◌, ◌≤◌, ◌<◌, ◌^◌, ◌⊎◌, Some, [], None, Err, length, IfOk, IfErr, OnOk, OnErr, IfSome};
 ghost use Rattle.bound_io.specs.Reading.{LosesPrefix};
-ghost use Rattle.trace_any.specs.Readers.{IsNotLoaded, IsWhole, to_come, known};
+ghost use Rattle.cache_rules.specs.Stored.{with_request};
+ghost use Rattle.trace_any.specs.Readings.{is_marked};
+ghost use Rattle.trace_any.specs.Readers.{IsNotLoaded, IsWhole, last_mark, to_come, known};
 
 use crate::fault::TraceFault;
 use crate::requests::RequestReader;
+use bound_base::NoMemory;
 use bound_io::Source;
-use cache_rules::{Builder, Trace};
+use cache_rules::{Builder, Object, Trace};
 use std::alloc::Global;
 
-/// The trace of all that the reader has still to give, and how many lines of it were dropped in all. A reader that has
-/// answered a fault answers it again, unless there is no memory to begin with.
+// A builder without requests, which keeps marks if the form of the reader has them.
+fn builder_for(alloc: Global, reader: &RequestReader) -> Result<Builder, NoMemory>
+    ensures { IfOk result (λ b. b ≡ record { requests = record { objects = []; fills = [] }; marks = is_marked reader.now.format }) }
+{
+    if reader.is_marked() {
+        Builder::marking(alloc)
+    } else {
+        Builder::new(alloc)
+    }
+}
+
+// Appends the request that the reader has just given, with its mark if its form has marks.
+fn push_given(
+    requests: &mut Builder,
+    reader: &RequestReader,
+    object: Object,
+) -> Result<(), NoMemory>
+    requires marks { requests.old.marks ≡ is_marked reader.now.format }
+    requires few { length requests.old.requests.objects < 2 ^ 25 }
+    requires size { (1 ≤ object.size) × (object.size ≤ 2 ^ 48) }
+    ensures ok { OnOk result (requests.new ≡ record requests.old { requests = with_request requests.old.requests object (last_mark reader.now) }) }
+    ensures err { OnErr result (requests.new ≡ requests.old) }
+{
+    if reader.last_fills() {
+        requests.push_filling(object)
+    } else {
+        requests.push(object)
+    }
+}
+
+/// The trace of all that the reader has still to give, with marks if it takes them, and how many lines of it were
+/// dropped in all. A reader that has answered a fault answers it again, unless there is no memory to begin with.
 ///
 /// It takes memory for the requests, the different objects and the hosts of the volumes, and none for the text.
 pub fn load<S: Source>(
@@ -28,9 +61,9 @@ pub fn load<S: Source>(
     ensures later { S.faults source.old ≤ S.faults source.new }
     ensures none_failed { OnOk result (S.faults source.new ≡ S.faults source.old) }
 {
-    let mut requests = Builder::new(alloc)?;
+    let mut requests = builder_for(alloc, reader)?;
     while let Some(object) = reader.next(alloc, source)? {
-        requests.push(object)?;
+        push_given(&mut requests, reader, object)?;
     }
     Ok((requests.finish(), reader.dropped()))
 }

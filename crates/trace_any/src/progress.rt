@@ -1,10 +1,10 @@
 //! How far the reading of a trace has come.
-ghost use Rattle.std.specs.Prelude.{List, ℕ, ◌≡◌, ◌+◌, ◌≤◌, ◌<◌, ◌^◌, None, Some, Err, true, false, length, IfOk, IfErr, IfSome, IfNone, OnOk};
+ghost use Rattle.std.specs.Prelude.{List, ℕ, ◌≡◌, ◌+◌, ◌≤◌, ◌<◌, ◌^◌, ◌&&◌, None, Some, Err, true, false, length, IfOk, IfErr, IfSome, IfNone, OnOk};
 ghost use Rattle.bound_io.specs.Causes.{HasNewFault};
 ghost use Rattle.bound_io.specs.Reading.{LosesPrefix};
 ghost use Rattle.std.specs.Option.{option_map};
 ghost use Rattle.trace_lines.specs.Lines.{IsSpan};
-ghost use Rattle.trace_any.specs.Readings.{IsFormat, NamesVolumes};
+ghost use Rattle.trace_any.specs.Readings.{IsFormat, NamesVolumes, is_marked};
 ghost use Rattle.trace_any.specs.Readers.{ahead_by};
 
 use crate::content::{content_of, number_of};
@@ -23,6 +23,7 @@ use trace_lines::Span;
 #[derive(Clone, Copy)]
 struct Range {
     volume: u32,
+    fills: bool,
     first: u64,
     count: u64,
     size: u64,
@@ -54,7 +55,7 @@ impl Model for Progress {
       given = r.given;
       dropped = r.dropped;
       volumes = r.volumes;
-      ahead = record { volume = r.ahead.volume; first = r.ahead.first; count = r.ahead.count; size = r.ahead.size };
+      ahead = record { volume = r.ahead.volume; fills = r.ahead.fills; first = r.ahead.first; count = r.ahead.count; size = r.ahead.size };
       fault = None;
     } };
 
@@ -65,9 +66,9 @@ impl Model for Progress {
 }
 
 // The blocks that a line asks for, if any.
-fn range_of(volume: u32, span: Span) -> Option<Range>
+fn range_of(volume: u32, fills: bool, span: Span) -> Option<Range>
     requires { IsSpan span }
-    ensures ahead { option_map (λ r. record { volume = r.volume; first = r.first; count = r.count; size = r.size }) result ≡ ahead_by volume span }
+    ensures ahead { option_map (λ r. record { volume = r.volume; fills = r.fills; first = r.first; count = r.count; size = r.size }) result ≡ ahead_by volume fills span }
     ensures range { IfSome result (λ r. (1 ≤ r.count) × (1 ≤ r.size) × (r.size ≤ 2 ^ 48) × (r.first + r.count ≤ 2 ^ 64)) }
 {
     let (first, count, size) = match span {
@@ -77,6 +78,7 @@ fn range_of(volume: u32, span: Span) -> Option<Range>
     };
     Some(Range {
         volume,
+        fills,
         first,
         count,
         size,
@@ -85,7 +87,7 @@ fn range_of(volume: u32, span: Span) -> Option<Range>
 
 impl Progress {
     ghost use Rattle.trace_any.specs.FirstLines.{GoesNoFurther, coming_in};
-    ghost use Rattle.trace_any.specs.Readers.{GoesOn, IsOver, IsStopped, LineTaken, NextRequest, fresh, onto, to_come, known};
+    ghost use Rattle.trace_any.specs.Readers.{GoesOn, IsOver, IsStopped, LineTaken, NextRequest, fresh, last_mark, onto, to_come, known};
 
     /// Nothing is read yet. The buffer is taken here.
     pub fn new(alloc: Global, format: Format, limits: Limits) -> Result<Self, NoMemory>
@@ -103,6 +105,7 @@ impl Progress {
             volumes: Volumes::new(alloc),
             ahead: Range {
                 volume: 0,
+                fills: false,
                 first: 0,
                 count: 0,
                 size: 0,
@@ -115,6 +118,20 @@ impl Progress {
         ensures { result ≡ self.now.dropped }
     {
         self.dropped
+    }
+
+    /// Whether the form of the trace has marks.
+    pub fn is_marked(&self) -> bool
+        ensures { result ≡ is_marked self.now.format }
+    {
+        self.format.is_marked()
+    }
+
+    /// Whether the requests of the last line that asked for one only fill the cache, if the form has marks.
+    pub fn last_fills(&self) -> bool
+        ensures { result ≡ (is_marked self.now.format && self.now.ahead.fills) }
+    {
+        self.format.is_marked() && self.ahead.fills
     }
 
     // Takes up the next line, and says whether there was one.
@@ -149,7 +166,7 @@ impl Progress {
         if let Some(content) = content {
             let span = content.span;
             let volume = number_of(&mut self.volumes, alloc, &content)?;
-            match range_of(volume, span) {
+            match range_of(volume, content.fills, span) {
                 Some(range) => self.ahead = range,
                 None => self.dropped += 1,
             }
@@ -163,8 +180,8 @@ impl Progress {
         ensures still { (self.new.format ≡ self.old.format) × (self.new.limits ≡ self.old.limits) × (self.new.lines ≡ self.old.lines) × (self.new.dropped ≡ self.old.dropped) }
         ensures few { (self.new.given ≤ self.new.limits.requests) × (self.new.limits.requests ≤ 2 ^ 25) }
         ensures size { IfOk result (λ x. (1 ≤ x.size) × (x.size ≤ 2 ^ 48)) }
-        ensures given { IfOk result (λ x. (self.new.given ≡ self.old.given + 1) × ((bytes : List ℕ) → to_come self.old bytes ≡ onto x (to_come self.new bytes))) }
-        ensures given_in { IfOk result (λ x. (lines : List (List ℕ × ℕ)) → coming_in self.old lines ≡ onto x (coming_in self.new lines)) }
+        ensures given { IfOk result (λ x. (self.new.given ≡ self.old.given + 1) × ((bytes : List ℕ) → to_come self.old bytes ≡ onto x (last_mark self.new) (to_come self.new bytes))) }
+        ensures given_in { IfOk result (λ x. (lines : List (List ℕ × ℕ)) → coming_in self.old lines ≡ onto x (last_mark self.new) (coming_in self.new lines)) }
         ensures full { IfErr result (λ fault. (fault ≡ TraceFault.TooManyRequests) × ((bytes : List ℕ) → IsOver (to_come self.old bytes) self.new.dropped (Some fault))) }
     {
         if self.given == self.limits.requests {
@@ -195,7 +212,7 @@ impl Progress {
         ensures ahead { length self.new.lines.held ≤ 65536 }
         ensures forgets_none { self.old.dropped ≤ self.new.dropped }
         ensures next { NextRequest self.old self.new (known self.old (S.left source.old)) (known self.new (S.left source.new)) (S.faults source.old) (S.faults source.new) result }
-        ensures lines { IfOk result (λ found. IfSome found (λ x. IfSome (known self.old (S.left source.old)) (GoesNoFurther (onto x) self.old self.new))) }
+        ensures lines { IfOk result (λ found. IfSome found (λ x. IfSome (known self.old (S.left source.old)) (GoesNoFurther (onto x (last_mark self.new)) self.old self.new))) }
         ensures source { LosesPrefix (S.left source.old) (S.left source.new) }
         ensures later { S.faults source.old ≤ S.faults source.new }
         ensures none_failed { OnOk result (S.faults source.new ≡ S.faults source.old) }

@@ -1,7 +1,7 @@
 //! A reader of requests.
-ghost use Rattle.std.specs.Prelude.{◌≡◌, ◌≤◌, ◌^◌, None, Some, Err, IfOk, IfErr, IfSome, OnOk, length};
+ghost use Rattle.std.specs.Prelude.{◌≡◌, ◌≤◌, ◌^◌, ◌&&◌, true, false, None, Some, Err, IfOk, IfErr, IfSome, OnOk, length};
 ghost use Rattle.bound_io.specs.Reading.{LosesPrefix};
-ghost use Rattle.trace_any.specs.Readings.{IsFormat, NamesVolumes};
+ghost use Rattle.trace_any.specs.Readings.{IsFormat, NamesVolumes, is_marked};
 
 use crate::fault::TraceFault;
 use crate::format::{Format, Limits};
@@ -24,7 +24,7 @@ pub struct RequestReader {
 }
 
 impl Model for RequestReader {
-    ghost use Rattle.std.specs.Prelude.{◌≡◌, ◌≤◌, ◌^◌, None, length};
+    ghost use Rattle.std.specs.Prelude.{◌≡◌, ◌≤◌, ◌^◌, ◌&&◌, true, false, None, length};
     ghost use Rattle.trace_any.specs.Readers.{Reader, with_fault};
 
     ghost Value = { Reader };
@@ -38,10 +38,10 @@ impl Model for RequestReader {
 
 impl RequestReader {
     ghost use Rattle.trace_any.specs.FirstLines.{GoesNoFurther};
-    ghost use Rattle.trace_any.specs.Readers.{NextRequest, err_of, fresh, known, onto};
+    ghost use Rattle.trace_any.specs.Readers.{NextRequest, err_of, fresh, known, last_mark, onto};
 
-    /// A reader of a trace of this form, within these limits. It takes its buffer here, and later memory for each
-    /// volume alone.
+    /// A reader of a trace of this form, within these limits. It takes its buffer here, and later memory for each volume
+    /// alone.
     pub fn new(alloc: Global, format: Format, limits: Limits) -> Result<Self, NoMemory>
         requires format { IsFormat format }
         requires requests { limits.requests ≤ 2 ^ 25 }
@@ -61,6 +61,20 @@ impl RequestReader {
         self.progress.dropped()
     }
 
+    /// Whether the form of the trace has marks, so that some requests may only fill the cache.
+    pub fn is_marked(&self) -> bool
+        ensures { result ≡ is_marked self.now.format }
+    {
+        self.progress.is_marked()
+    }
+
+    /// Whether the request that `next` has just given only fills the cache. In a form without marks none does.
+    pub fn last_fills(&self) -> bool
+        ensures { result ≡ (is_marked self.now.format && self.now.ahead.fills) }
+    {
+        self.progress.last_fills()
+    }
+
     /// The next request, or None at the end.
     pub fn next<S: Source>(
         &mut self,
@@ -68,11 +82,12 @@ impl RequestReader {
         source: &mut S,
     ) -> Result<Option<Object>, TraceFault>
         ensures next { self.old.fault ≡ None → NextRequest self.old self.new (known self.old (S.left source.old)) (known self.new (S.left source.new)) (S.faults source.old) (S.faults source.new) result }
-        ensures lines { self.old.fault ≡ None → IfOk result (λ found. IfSome found (λ x. IfSome (known self.old (S.left source.old)) (GoesNoFurther (onto x) self.old self.new))) }
+        ensures lines { self.old.fault ≡ None → IfOk result (λ found. IfSome found (λ x. IfSome (known self.old (S.left source.old)) (GoesNoFurther (onto x (last_mark self.new)) self.old self.new))) }
         ensures fault { self.old.fault ≡ None → self.new.fault ≡ err_of result }
         ensures forgets_none { self.old.dropped ≤ self.new.dropped }
         ensures again { IfSome self.old.fault (λ fault. (result ≡ Err fault) × (self.new ≡ self.old) × (S.left source.new ≡ S.left source.old) × (S.faults source.new ≡ S.faults source.old)) }
         ensures size { IfOk result (λ found. IfSome found (λ x. (1 ≤ x.size) × (x.size ≤ 2 ^ 48))) }
+        ensures format { self.new.format ≡ self.old.format }
         ensures few { (self.new.limits ≡ self.old.limits) × (self.new.given ≤ self.new.limits.requests) × (self.new.limits.requests ≤ 2 ^ 25) }
         ensures ahead { length self.new.lines.held ≤ 65536 }
         ensures source { LosesPrefix (S.left source.old) (S.left source.new) }

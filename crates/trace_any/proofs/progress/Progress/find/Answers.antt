@@ -1,5 +1,6 @@
 use Rattle.std.proofs.Common.{◌∙◌, refl, [], arith, ap}
 use Rattle.bound_io.proofs.KnownLemmas.{loses_then}
+use Rattle.trace_any.specs.Readers.{last_mark}
 use Rattle.trace_any.proofs.Coming.{goes_nowhere, goes_then, loses_nothing}
 use Rattle.trace_any.proofs.Through.{no_further_given, no_further_then, no_further_yet, rests_on}
 use Rattle.trace_any.proofs.progress.Progress.find.Goals as goal
@@ -40,11 +41,11 @@ loop-self-init g c = record {
   given = refl;
   no_fault = c.requires.no_fault;
   forgets_none = omega arith;
-  goes_on = goes_nowhere c.args.self.now [] _ refl;
+  goes_on = goes_nowhere c.args.self.now [] [] _ refl refl;
   lines = no_further_yet c.args.self.now _;
   source = loses_nothing (g.S.Source.left c.args.source.now);
   none_failed = refl;
 }
 
 pub returns-clause-lines : goal.returns-clause-lines
-returns-clause-lines g c = no_further_given c.args.self.now c.loop-self.self c.give.new.self c.in_ok-give.field-0 _ c.give.ensures.still.0 c.give.ensures.still.2 c.in_ok-give.ensures.given_in c.loop-self.invariant.lines
+returns-clause-lines g c = no_further_given c.args.self.now c.loop-self.self c.give.new.self c.in_ok-give.field-0 (last_mark c.give.new.self) _ c.give.ensures.still.0 c.give.ensures.still.2 c.in_ok-give.ensures.given_in c.loop-self.invariant.lines

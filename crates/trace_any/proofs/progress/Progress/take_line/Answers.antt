@@ -3,7 +3,7 @@ use Rattle.trace_any.specs.Readers.{LineTaken, IsOver, GoesOn, Ahead, known, to_
 use Rattle.trace_any.specs.LineContent.{answer_of, content_by, volume_of}
 use Rattle.std.specs.Option.{option_map}
 use Rattle.trace_any.specs.declared.progress.Range.{Range}
-use Rattle.trace_any.specs.Readings.{fault_of}
+use Rattle.trace_any.specs.Readings.{is_marked, fault_of}
 use Rattle.trace_any.specs.declared.fault.TraceFault.TheVariants.{BadLine}
 use Rattle.trace_any.specs.contracts.progress.Progress.{the_view}
 use Rattle.trace_any.proofs.Coming.{lines_refused, goes_onward, taken_err, takes_up, refused_line, goes_blank, goes_asked, is_asked, with_lines}
@@ -14,7 +14,7 @@ use Rattle.trace_any.proofs.progress.Progress.take_line.Goals as goal
 
 -- the blocks of the code, as those of the reader
 abbrev range_ahead : Range → Ahead
-range_ahead r = record { volume = r.volume; first = r.first; count = r.count; size = r.size }
+range_ahead r = record { volume = r.volume; fills = r.fills; first = r.first; count = r.count; size = r.size }
 
 pub returns-in_err-text-clause-taken : goal.returns-in_err-text-clause-taken
 returns-in_err-text-clause-taken g c =
@@ -54,7 +54,7 @@ returns-in-Some-range_of-clause-taken g c =
     let said = sym (c.content_of.ensures.content_named) ∙ (ap answer_of c.in-Ok.is ∙ ap (λ w. answer_of (Ok w)) c.in-Some-content.is) in
     let goes = goes_asked s l (content_by content) _ _ _ said none takes in
     let moved = with_lines s l in
-    let new = is_asked moved (volume_of content.volume) content.span _ _ _ (c.in_ok-volume.ensures.number) (c.in_ok-volume.ensures.volumes) (sym (c.range_of.ensures.ahead) ∙ ap (option_map range_ahead) c.in-Some-range_of.is) in
+    let new = is_asked moved (volume_of content.volume) content.fills content.span _ _ _ (c.in_ok-volume.ensures.number) (c.in_ok-volume.ensures.volumes) (sym (c.range_of.ensures.ahead) ∙ ap (option_map range_ahead) c.in-Some-range_of.is) in
     subst (λ r. (r.lines.consumed < l.consumed) × IfSome (known r (g.S.Source.left c.args.source.now)) (λ bytes. GoesOn (λ x. x) r (with_ahead_by (record moved { volumes = c.number_of.new.volumes }) (Some (range_ahead c.in-Some-range_of.range))) bytes (known moved (g.S.Source.left c.next_piece.new.source)))) is
     ((is_given _ _ _ _ _ gives).some, subst (λ n. IfSome (known s (g.S.Source.left c.args.source.now)) (λ bytes. GoesOn (λ x. x) s n bytes (known moved (g.S.Source.left c.next_piece.new.source)))) new goes)
 
@@ -71,7 +71,7 @@ returns-in-None-clause-taken g c =
     let said = sym (c.content_of.ensures.content_named) ∙ (ap answer_of c.in-Ok.is ∙ ap (λ w. answer_of (Ok w)) c.in-Some-content.is) in
     let goes = goes_asked s l (content_by content) _ _ _ said none takes in
     let moved = with_lines s l in
-    let new = is_asked moved (volume_of content.volume) content.span _ _ _ (c.in_ok-volume.ensures.number) (c.in_ok-volume.ensures.volumes) (sym (c.range_of.ensures.ahead) ∙ ap (option_map range_ahead) c.in-None.is) in
+    let new = is_asked moved (volume_of content.volume) content.fills content.span _ _ _ (c.in_ok-volume.ensures.number) (c.in_ok-volume.ensures.volumes) (sym (c.range_of.ensures.ahead) ∙ ap (option_map range_ahead) c.in-None.is) in
     subst (λ r. (r.lines.consumed < l.consumed) × IfSome (known r (g.S.Source.left c.args.source.now)) (λ bytes. GoesOn (λ x. x) r (with_ahead_by (record moved { volumes = c.number_of.new.volumes }) None) bytes (known moved (g.S.Source.left c.next_piece.new.source)))) is
     ((is_given _ _ _ _ _ gives).some, subst (λ n. IfSome (known s (g.S.Source.left c.args.source.now)) (λ bytes. GoesOn (λ x. x) s n bytes (known moved (g.S.Source.left c.next_piece.new.source)))) new goes)
 
@@ -103,7 +103,7 @@ returns-in-Some-range_of-clause-lines g c =
     let said = sym (c.content_of.ensures.content_named) ∙ (ap answer_of c.in-Ok.is ∙ ap (λ w. answer_of (Ok w)) c.in-Some-content.is) in
     let goes = through_asked s l (content_by content) _ _ said none reads in
     let moved = with_lines s l in
-    let new = is_asked moved (volume_of content.volume) content.span _ _ _ (c.in_ok-volume.ensures.number) (c.in_ok-volume.ensures.volumes) (sym (c.range_of.ensures.ahead) ∙ ap (option_map range_ahead) c.in-Some-range_of.is) in
+    let new = is_asked moved (volume_of content.volume) content.fills content.span _ _ _ (c.in_ok-volume.ensures.number) (c.in_ok-volume.ensures.volumes) (sym (c.range_of.ensures.ahead) ∙ ap (option_map range_ahead) c.in-Some-range_of.is) in
     λ _. subst (λ r. IfSome (known r (g.S.Source.left c.args.source.now)) (GoesNoFurther (λ x. x) r (with_ahead_by (record moved { volumes = c.number_of.new.volumes }) (Some (range_ahead c.in-Some-range_of.range))))) is
     (subst (λ n. IfSome (known s (g.S.Source.left c.args.source.now)) (GoesNoFurther (λ x. x) s n)) new goes)
 
@@ -120,7 +120,7 @@ returns-in-None-clause-lines g c =
     let said = sym (c.content_of.ensures.content_named) ∙ (ap answer_of c.in-Ok.is ∙ ap (λ w. answer_of (Ok w)) c.in-Some-content.is) in
     let goes = through_asked s l (content_by content) _ _ said none reads in
     let moved = with_lines s l in
-    let new = is_asked moved (volume_of content.volume) content.span _ _ _ (c.in_ok-volume.ensures.number) (c.in_ok-volume.ensures.volumes) (sym (c.range_of.ensures.ahead) ∙ ap (option_map range_ahead) c.in-None.is) in
+    let new = is_asked moved (volume_of content.volume) content.fills content.span _ _ _ (c.in_ok-volume.ensures.number) (c.in_ok-volume.ensures.volumes) (sym (c.range_of.ensures.ahead) ∙ ap (option_map range_ahead) c.in-None.is) in
     λ _. subst (λ r. IfSome (known r (g.S.Source.left c.args.source.now)) (GoesNoFurther (λ x. x) r (with_ahead_by (record moved { volumes = c.number_of.new.volumes }) None))) is
     (subst (λ n. IfSome (known s (g.S.Source.left c.args.source.now)) (GoesNoFurther (λ x. x) s n)) new goes)
 
