@@ -2,11 +2,12 @@
 use Rattle.std.proofs.Common.{◌≡◌, ℕ, ◌+◌, ◌-◌, ◌<◌, ◌≤◌, ◌∙◌, sym, refl, ap, subst, List, [], length, drop, arith, Option, Some, None, IfSome, IfErr, Ok, Err}
 use Rattle.std.proofs.lemmas.List.{append-nil}
 use Rattle.bound_io.specs.Devices.{device}
-use Rattle.cache_model.specs.declared.objects.Object.{Object}
+use Rattle.cache_rules.specs.Stored.{Requests}
 use Rattle.cache_model.specs.declared.certificates.Header.{Header}
 use Rattle.cache_model.specs.declared.certificates.Record.{Record}
 use Rattle.cache_model.specs.Texts.{header_len}
 use Rattle.trace_any.specs.Readings as traces
+use Rattle.trace_any.specs.Readings.{is_marked}
 use Rattle.trace_any.specs.Readers as requests
 use Rattle.trace_any.specs.Readers.{IsWhole, bytes_after}
 use Rattle.trace_any.specs.FirstLines.{HasGiven, HasLostFor}
@@ -35,6 +36,7 @@ use Rattle.cert_checker.specs.Keeping.{HasKept}
 use Rattle.cert_checker.specs.Rules.{end_fault}
 use Rattle.cert_checker.specs.Summaries.{StandsFor, Summary}
 use Rattle.cert_checker.specs.Walks.{asked}
+use Rattle.cert_checker.proofs.Marked.{none_marked}
 use Rattle.cert_checker.proofs.Events.{asked_all, walked_too_few, walked_end_text, walked_end_rule, walked_all}
 use Rattle.cert_checker.proofs.Stops.{asked_at, if_both, if_one, near_line, near_here, consumed_on, same_records, text_stop, through, walk_at}
 
@@ -52,82 +54,82 @@ both_known : (o : Option (List ℕ)) (P Q : List ℕ → Type 0) → IfSome o P 
 both_known None P Q p q = tt
 both_known (Some bytes) P Q p q = (p, q)
 
-module _ (start : Inputs) (h : Header) (given : List Object) (records : List Record) (now : Inputs) (checker : Summary) (ended : HasCheckedAll start h given records now checker) where
-  input : length records ≡ length given
+module _ (start : Inputs) (h : Header) (given : Requests) (records : List Record) (now : Inputs) (checker : Summary) (ended : HasCheckedAll start h given records now checker) where
+  input : length records ≡ length given.objects
   input = ended.stands.input.one_record_each
 
-  within : length given ≤ h.requests
+  within : length given.objects ≤ h.requests
   within = ended.stands.input.within
 
   -- the trace has lost all, as its end was asked for
   lost_all : (end : Inputs) → end.trace ≡ now.trace → HasAsked start end
   lost_all end same =
       if_both start.trace start.certificate _ _ _ (both_known start.trace _ _ ended.trace_read ended.trace_end) ended.records_read (λ b t p q.
-      let many : asked (traces.reading start.reader.format start.reader.limits b) t ≡ length given + 1 =
-      asked_at start b t _ _ refl q.reading ∙ asked_all h given records input within ended.stands.no_fault (traces.reading start.reader.format start.reader.limits b) (lines.to_come now.cert (after_lines now.cert.lines.line t)) p.0.requests in
+      let many : asked (traces.reading start.reader.format start.reader.limits b) t ≡ length given.objects + 1 =
+      asked_at start b t _ _ refl q.reading ∙ asked_all h given.objects given.fills records input within ended.stands.no_fault (traces.reading start.reader.format start.reader.limits b) (lines.to_come now.cert (after_lines now.cert.lines.line t)) p.0.requests p.0.marks in
       let size = ap length p.0.requests in
       if_known end.trace _ (λ l e.
       let gone : Some l ≡ Some [] = sym e ∙ (same ∙ p.1) in
       record { near = λ some. absurd (omega (arith, some, many, size)); all = λ fewer. cc }))
 
   -- fewer requests than the header says
-  pub stop_few : (end : Inputs) → end.trace ≡ now.trace → end.cert ≡ now.cert → end.certificate ≡ now.certificate → length now.cert.lines.held ≤ 65536 → now.cert.lines.line ≡ header_len h + length given → length given < h.requests
-      → IsStop start end (fault.Invalid (header_len h + length given) (RequestCount h.requests (length given)))
+  pub stop_few : (end : Inputs) → end.trace ≡ now.trace → end.cert ≡ now.cert → end.certificate ≡ now.certificate → length now.cert.lines.held ≤ 65536 → now.cert.lines.line ≡ header_len h + length given.objects → length given.objects < h.requests
+      → IsStop start end (fault.Invalid (header_len h + length given.objects) (RequestCount h.requests (length given.objects)))
   stop_few end same_trace same_cert same_left held line_is fewer = record {
     event = if_both start.trace start.certificate _ _ _ ended.trace_read ended.records_read (λ b t p q.
         walk_at start b t _ _ refl q.reading
-        ∙ walked_too_few h given records input within ended.stands.no_fault (traces.reading start.reader.format start.reader.limits b) (lines.to_come now.cert (after_lines now.cert.lines.line t)) p.requests p.stop fewer);
+        ∙ walked_too_few h given.objects given.fills records input within ended.stands.no_fault (traces.reading start.reader.format start.reader.limits b) (lines.to_come now.cert (after_lines now.cert.lines.line t)) p.requests p.marks p.stop fewer);
     near = (
-      near_here h records start end (header_len h + length given) (if_one start.certificate _ _ ended.records_read (λ t q. same_records h records now end t q same_cert same_left))
+      near_here h records start end (header_len h + length given.objects) (if_one start.certificate _ _ ended.records_read (λ t q. same_records h records now end t q same_cert same_left))
           (subst (λ (c : lines.Reader). length c.lines.held ≤ 65536) (sym same_cert) held)
-          (subst (λ (c : lines.Reader). c.lines.line ≤ header_len h + length given) (sym same_cert) (omega (arith, line_is))),
+          (subst (λ (c : lines.Reader). c.lines.line ≤ header_len h + length given.objects) (sym same_cert) (omega (arith, line_is))),
       lost_all end same_trace,
     );
   }
 
-  module _ (full : length given ≡ h.requests) (end : Inputs) (same_trace : end.trace ≡ now.trace) (held : length end.cert.lines.held ≤ 65536) (past : IfSome (known now.cert.lines now.certificate) (IsPast now.cert.lines end.cert.lines)) where
+  module _ (full : length given.objects ≡ h.requests) (end : Inputs) (same_trace : end.trace ≡ now.trace) (held : length end.cert.lines.held ≤ 65536) (past : IfSome (known now.cert.lines now.certificate) (IsPast now.cert.lines end.cert.lines)) where
     -- the end is not read
     pub stop_end : (f : CertFault) → lines.IsRefused now.cert (device now.certificate end.certificate now.certificate_faults end.certificate_faults) f → IfErr {T = Unit {0}} (Err f) (IsWithin end.cert.lines.line) → IsStop start end (of_text f)
     stop_end f refused reached = text_stop start end now.cert now.certificate now.certificate_faults f refused ended.later.certificate reached
         (λ n low. near_line h records start now end n ended.records_read past held low) (λ g e event stopped.
         if_both start.trace start.certificate _ _ _ ended.trace_read ended.records_read (λ b t p q.
         walk_at start b t _ _ refl q.reading
-        ∙ walked_end_text h given records input within ended.stands.no_fault (traces.reading start.reader.format start.reader.limits b) (lines.to_come now.cert (after_lines now.cert.lines.line t)) p.requests p.stop full g e
+        ∙ walked_end_text h given.objects given.fills records input within ended.stands.no_fault (traces.reading start.reader.format start.reader.limits b) (lines.to_come now.cert (after_lines now.cert.lines.line t)) p.requests p.marks p.stop full g e
         (at_some (known now.cert.lines now.certificate) _ _ q.stands_in stopped) event))
         (λ g e event stopped. lost_all end same_trace)
 
     module _ (read : IfSome (known now.cert.lines now.certificate) (λ bytes. (lines.to_come now.cert bytes ≡ certificates.stopped None) × (known end.cert.lines end.certificate ≡ Some []) × (end.certificate ≡ Some []))) where
       -- the end is read, and a rule fails
-      pub stop_end_rule : (kind : InvalidKind) → now.cert.stage ≡ InRecords → now.cert.left ≡ 0 → now.cert.lines.line ≡ header_len h + length given → end_fault h given records ≡ Some kind → IsStop start end (fault.Invalid (header_len h + 1 + length given) kind)
+      pub stop_end_rule : (kind : InvalidKind) → now.cert.stage ≡ InRecords → now.cert.left ≡ 0 → now.cert.lines.line ≡ header_len h + length given.objects → end_fault h given.fills given.objects records ≡ Some kind → IsStop start end (fault.Invalid (header_len h + 1 + length given.objects) kind)
       stop_end_rule kind at none line_is fails = record {
         event = if_both start.trace start.certificate _ _ _ ended.trace_read ended.records_read (λ b t p q.
             walk_at start b t _ _ refl q.reading
-            ∙ walked_end_rule h given records input within ended.stands.no_fault (traces.reading start.reader.format start.reader.limits b) (lines.to_come now.cert (after_lines now.cert.lines.line t)) p.requests p.stop full kind
+            ∙ walked_end_rule h given.objects given.fills records input within ended.stands.no_fault (traces.reading start.reader.format start.reader.limits b) (lines.to_come now.cert (after_lines now.cert.lines.line t)) p.requests p.marks p.stop full kind
             (at_some (known now.cert.lines now.certificate) _ _ q.stands_in read).0 fails);
         near = (
           if_one start.certificate _ _ ended.records_read (λ t q.
               let is = at_some (known now.cert.lines now.certificate) _ _ q.stands_in read in
-              let next : now.cert.lines.line + 1 ≡ header_len h + 1 + length given = omega (arith, line_is) in
-              let over : after_lines (header_len h + 1 + length given) t ≡ [] = ap (λ k. after_lines k t) (sym next) ∙ (after_lines-add now.cert.lines.line 1 t ∙ after_end now.cert (after_lines now.cert.lines.line t) at none is.0) in
+              let next : now.cert.lines.line + 1 ≡ header_len h + 1 + length given.objects = omega (arith, line_is) in
+              let over : after_lines (header_len h + 1 + length given.objects) t ≡ [] = ap (λ k. after_lines k t) (sym next) ∙ (after_lines-add now.cert.lines.line 1 t ∙ after_end now.cert (after_lines now.cert.lines.line t) at none is.0) in
               omega (arith, (consumed_on h records now end t q past).1, ap length over, held)),
           lost_all end same_trace,
         );
       }
 
       -- the end is read, and no rule fails
-      pub passes : end.reader ≡ now.reader → end.trace ≡ now.trace → (verdict : Verdict) → IsYes h given records verdict → HasKept start end (record { verdict = verdict; trace = given; records = records })
+      pub passes : end.reader ≡ now.reader → end.trace ≡ now.trace → (verdict : Verdict) → IsYes h given.fills given.objects records verdict → HasKept start end (record { verdict = verdict; trace = given; records = records })
       passes same_reader same_left verdict said = record {
         passed = record {
           requests = given;
           records = records;
-          yes = subst (λ k. IsYes k given records verdict) (sym said.header) said;
+          yes = subst (λ k. IsYes k given.fills given.objects records verdict) (sym said.header) said;
           trace = if_one start.trace _ _ ended.trace_read (λ b p. subst (λ (r : requests.Reader). IsWhole (traces.reading start.reader.format start.reader.limits b) given r.dropped) (sym same_reader) p);
           certificate = if_one start.certificate _ _ ended.records_read (λ t q.
               let is = at_some (known now.cert.lines now.certificate) _ _ q.stands_in read in
               q.reading ∙ (ap (after_records h records) is.0 ∙ (ap (λ rs. certificates.whole h rs) (append-nil records) ∙ ap (λ k. certificates.whole k records) (sym said.header))));
           walked = if_both start.trace start.certificate _ _ _ ended.trace_read ended.records_read (λ b t p q.
               walk_at start b t _ _ refl q.reading
-              ∙ walked_all h given records input within ended.stands.no_fault (traces.reading start.reader.format start.reader.limits b) (lines.to_come now.cert (after_lines now.cert.lines.line t)) p.requests p.stop full
+              ∙ walked_all h given.objects given.fills records input within ended.stands.no_fault (traces.reading start.reader.format start.reader.limits b) (lines.to_come now.cert (after_lines now.cert.lines.line t)) p.requests p.marks p.stop full
               (at_some (known now.cert.lines now.certificate) _ _ q.stands_in read).0 said.no_fault);
           trace_end = if_one start.trace _ _ ended.trace_end (λ b p. same_left ∙ p);
           certificate_end = if_one start.certificate _ _ ended.records_read (λ t q. (at_some (known now.cert.lines now.certificate) _ _ q.stands_in read).2);
@@ -169,15 +171,17 @@ module _ (start : Inputs) (fresh_reader : IsFresh start.reader) (fresh_cert : st
 
     -- the header is read
     pub opens : (h : Header) (checker : Summary) → lines.HeaderRead start.cert end.cert (device start.certificate end.certificate start.certificate_faults end.certificate_faults) (Ok h)
-        → end.reader ≡ start.reader → end.trace ≡ start.trace → StandsFor h [] [] checker → IsLater start end → HasChecked start h [] [] end checker
+        → end.reader ≡ start.reader → end.trace ≡ start.trace → StandsFor h [] [] [] checker → IsLater start end → HasChecked start h (record { objects = []; fills = [] }) [] end checker
     opens h checker read same_reader same_left stands later = record {
       stands = stands;
+      marked = none_marked (is_marked end.reader.format);
+      same_format = ap (λ (r : requests.Reader). r.format) same_reader;
       trace_read = if_known start.trace _ (λ b e. record {
         rest = b;
         stands_in = ap (λ (r : requests.Reader). requests.known r end.trace) same_reader ∙ (ap (requests.known start.reader) same_left
             ∙ (ap (λ (r : requests.Reader). requests.known r start.trace) fresh_reader ∙ ap (requests.known (requests.fresh start.reader.format start.reader.limits)) e));
         begins = fresh_reader;
-        gone = subst (λ (r : requests.Reader). HasGiven [] start.reader r b) (sym same_reader) (given_none start.reader b);
+        gone = subst (λ (r : requests.Reader). HasGiven [] [] start.reader r b) (sym same_reader) (given_none start.reader b);
         rest_is =
             let none : start.reader.lines.consumed - start.reader.lines.consumed ≡ 0 = omega arith in
             ap (λ n. drop n b) (sym none) ∙ ap (λ (r : requests.Reader). bytes_after start.reader r b) (sym same_reader);

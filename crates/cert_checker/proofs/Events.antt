@@ -5,6 +5,8 @@ use Rattle.std.proofs.lemmas.Bool.{ne_eqb, lt-ltb, le-ltb}
 use Rattle.std.specs.List.{position_or_len, range_with_len}
 use Rattle.std.specs.Option.{is_some}
 use Rattle.cache_model.specs.declared.objects.Object.{Object}
+use Rattle.cache_model.specs.Claim.{only_fills}
+use Rattle.cache_rules.specs.Stored.{with_mark, with_request}
 use Rattle.cache_model.specs.declared.certificates.Header.{Header}
 use Rattle.cache_model.specs.declared.certificates.Record.{Record}
 use Rattle.cache_model.specs.Texts.{header_len}
@@ -15,9 +17,13 @@ use Rattle.cert_format.specs.declared.fault.CertFault.{CertFault}
 use Rattle.cert_checker.specs.declared.invalid.InvalidKind.{InvalidKind}
 use Rattle.cert_checker.specs.declared.invalid.InvalidKind.TheVariants.{RequestCount}
 use Rattle.cert_format.specs.Readings as certificates
-use Rattle.cert_checker.specs.Checks.{after_records}
+use Rattle.cert_checker.specs.Checks.{AreMarked, after_records, fault_at}
 use Rattle.cert_checker.specs.Rules.{found, first_some, record_fault, end_fault}
 use Rattle.cert_checker.specs.Walks.{Event, Invalid, Refused, asked_under, at_line, text_event, text_after, refusal_event, events_at, last_events, walk_under}
+use Rattle.trace_any.specs.Readings.{marks_of}
+use Rattle.trace_any.proofs.Marks.{HasMarks}
+use Rattle.cert_checker.proofs.Marked.{only_fills-first, with_mark-marks}
+use Rattle.cert_checker.proofs.Marks.{record_fault-marks}
 use Rattle.cert_checker.proofs.Prefixes.{record_fault-prefix}
 
 -- what gives nothing is passed
@@ -84,124 +90,138 @@ abbrev pub EndsAt : List Object → traces.Reading → certificates.Reading → 
 EndsAt given trace c e = (walk_of trace c ≡ Some e) × (asked_of trace c ≡ length given + 1)
 
 -- the walk has passed these requests and records
-module _ (h : Header) (given : List Object) (records : List Record) (one : length records ≡ length given) (within : length given ≤ h.requests)
-    (no_fault : (t : ℕ) → t < length given → record_fault h given records t ≡ None) where
-  module _ (more : List Object) (c : certificates.Reading) where
+module _ (h : Header) (given : List Object) (fills : List Bool) (records : List Record) (one : length records ≡ length given) (within : length given ≤ h.requests)
+    (no_fault : (t : ℕ) → t < length given → record_fault h fills given records t ≡ None) where
+  module _ (marks : List Bool) (same : (t : ℕ) → t < length given → only_fills marks t ≡ only_fills fills t) (more : List Object) (c : certificates.Reading) where
     -- the text of the certificate has no fault before
     text_none : (t : ℕ) → t < length given → text_after (after_records h records c) t ≡ None
     text_none t low =
         ap (λ b. cond b (text_event c.fault) None) (ne_eqb (length (records ++ c.records)) t (λ e. omega (arith, e, low, one, length-append records c.records)))
 
-    passes : (t : ℕ) → t < length given → first_some (events_at h (after_records h records c) (given ++ more) t) ≡ None
+    passes : (t : ℕ) → t < length given → first_some (events_at h marks (after_records h records c) (given ++ more) t) ≡ None
     passes t low =
         let cc = after_records h records c in
         let text = text_after cc t in
-        let rule = at_line (header_len h + 1 + t) (record_fault h (given ++ more) cc.records t) in
+        let rule = at_line (header_len h + 1 + t) (record_fault h marks (given ++ more) cc.records t) in
         skip (at_line (header_len h + t) (found (t == h.requests) (RequestCount h.requests (t + 1)))) (text ∷ rule ∷ []) (not_found (t == h.requests) (header_len h + t) (RequestCount h.requests (t + 1)) (ne_eqb t h.requests (λ e. omega (arith, e, low, within))))
         ∙ skip text (rule ∷ []) (text_none t low)
-        ∙ skip rule [] (ap (at_line (header_len h + 1 + t)) (record_fault-prefix h given more records c.records t low (omega (arith, low, one)) ∙ no_fault t low))
+        ∙ skip rule [] (ap (at_line (header_len h + 1 + t)) (record_fault-prefix h marks given more records c.records t low (omega (arith, low, one)) ∙ (record_fault-marks h marks fills given records same t low ∙ no_fault t low)))
 
-  -- an event at a request is the first of the walk, if none comes before
-  event_first : (x : Object) (rest : traces.Reading) (c : certificates.Reading) (e : Event) → first_some (events_at h (after_records h records c) (given ++ x ∷ rest.requests) (length given)) ≡ Some e
-      → EndsAt given (requests.after given (requests.onto x rest)) (after_records h records c) e
-  event_first x rest c e is =
-      let trace = given ++ x ∷ rest.requests in
-      let f : ℕ → Option Event = λ t. first_some (events_at h (after_records h records c) trace t) in
-      let here : 0 + length given ≡ length given = omega arith in
-      let none : (k : ℕ) → 0 ≤ k → k < 0 + length given → f k ≡ None = λ k low high. passes (x ∷ rest.requests) c k (omega (arith, high, here)) in
-      let within : length given < length trace = omega (arith, length-append given (x ∷ rest.requests)) in (
-        stop_at f (last_events h (after_records h records c) (requests.after given (requests.onto x rest))) 0 (length given) (length trace) e none (ap f here ∙ is) within,
-        ap (λ n. n + 1) (count_to f 0 (length given) (length trace) e none (ap f here ∙ is) within),
-      )
+  -- the walk goes on with this request, and with these marks in all
+  module _ (marked : Bool) (are : AreMarked marked (record { objects = given; fills = fills })) (x : Object) (mark : Option Bool) (rest : traces.Reading)
+      (has : HasMarks marked (requests.after given fills (requests.onto x mark rest))) where
+    abbrev all : List Bool
+    all = fills ++ (marks_of mark (x ∷ []) ++ rest.fills)
 
-  -- one request more than the header says
-  pub walked_too_many : (x : Object) (rest : traces.Reading) (c : certificates.Reading) → length given ≡ h.requests
-      → EndsAt given (requests.after given (requests.onto x rest)) (after_records h records c) (Invalid (header_len h + length given) (RequestCount h.requests (length given + 1)))
-  walked_too_many x rest c full =
-      let t = length given in
-      let cc = after_records h records c in
-      event_first x rest c _
-      (stop (at_line (header_len h + t) (found (t == h.requests) (RequestCount h.requests (t + 1)))) (text_after cc t ∷ at_line (header_len h + 1 + t) (record_fault h (given ++ x ∷ rest.requests) cc.records t) ∷ []) _
-      (is_found (t == h.requests) (header_len h + t) (RequestCount h.requests (t + 1)) (eq-eqb t h.requests full)))
+    first_marks : (t : ℕ) → t < length given → only_fills all t ≡ only_fills fills t
+    first_marks = only_fills-first marked (record { objects = given; fills = fills }) (requests.after given fills (requests.onto x mark rest)) (marks_of mark (x ∷ []) ++ rest.fills) are has refl
 
-  -- the line of the record is not read
-  pub walked_text : (x : Object) (rest : traces.Reading) (c : certificates.Reading) (f : CertFault) (e : Event) → length given < h.requests → c ≡ certificates.stopped (Some f) → text_event (Some f) ≡ Some e
-      → EndsAt given (requests.after given (requests.onto x rest)) (after_records h records c) e
-  walked_text x rest c f e fewer is event =
-      let t = length given in
-      let cc = after_records h records c in
-      let none : length c.records ≡ 0 = ap (λ r. length r.records) is in
-      let rule = at_line (header_len h + 1 + t) (record_fault h (given ++ x ∷ rest.requests) cc.records t) in
-      event_first x rest c e
-      (skip (at_line (header_len h + t) (found (t == h.requests) (RequestCount h.requests (t + 1)))) (text_after cc t ∷ rule ∷ []) (not_found (t == h.requests) (header_len h + t) (RequestCount h.requests (t + 1)) (ne_eqb t h.requests (λ same. omega (arith, same, fewer))))
-      ∙ stop (text_after cc t) (rule ∷ []) e
-      (ap (λ b. cond b (text_event c.fault) None) (eq-eqb (length (records ++ c.records)) t (omega (arith, one, none, length-append records c.records)))
-      ∙ (ap (λ r. text_event r.fault) is ∙ event)))
+    -- an event at a request is the first of the walk, if none comes before
+    event_first : (c : certificates.Reading) (e : Event) → first_some (events_at h all (after_records h records c) (given ++ x ∷ rest.requests) (length given)) ≡ Some e
+        → EndsAt given (requests.after given fills (requests.onto x mark rest)) (after_records h records c) e
+    event_first c e is =
+        let trace = given ++ x ∷ rest.requests in
+        let f : ℕ → Option Event = λ t. first_some (events_at h all (after_records h records c) trace t) in
+        let here : 0 + length given ≡ length given = omega arith in
+        let none : (k : ℕ) → 0 ≤ k → k < 0 + length given → f k ≡ None = λ k low high. passes all first_marks (x ∷ rest.requests) c k (omega (arith, high, here)) in
+        let within : length given < length trace = omega (arith, length-append given (x ∷ rest.requests)) in (
+          stop_at f (last_events h (after_records h records c) (requests.after given fills (requests.onto x mark rest))) 0 (length given) (length trace) e none (ap f here ∙ is) within,
+          ap (λ n. n + 1) (count_to f 0 (length given) (length trace) e none (ap f here ∙ is) within),
+        )
 
-  -- the record fails a rule
-  pub walked_rule : (x : Object) (rest : traces.Reading) (r : Record) (others : certificates.Reading) (c : certificates.Reading) (kind : InvalidKind) → length given < h.requests → c ≡ certificates.onto r others
-      → record_fault h (given ++ x ∷ []) (records ++ r ∷ []) (length given) ≡ Some kind
-      → EndsAt given (requests.after given (requests.onto x rest)) (after_records h records c) (Invalid (header_len h + 1 + length given) kind)
-  walked_rule x rest r others c kind fewer is fails =
-      let t = length given in
-      let next = after_records h records (certificates.onto r others) in
-      let trace = given ++ x ∷ rest.requests in
-      let W : certificates.Reading → Option Event = λ d. walk_of (requests.after given (requests.onto x rest)) (after_records h records d) in
-      let rule = at_line (header_len h + 1 + t) (record_fault h trace next.records t) in
-      let trace_is : trace ≡ (given ++ x ∷ []) ++ rest.requests = sym (append_assoc given (x ∷ []) rest.requests) in
-      let records_are : next.records ≡ (records ++ r ∷ []) ++ others.records = sym (append_assoc records (r ∷ []) others.records) in
-      let prefix = ap (λ xs. record_fault h xs next.records t) trace_is
-      ∙ (ap (λ rs. record_fault h ((given ++ x ∷ []) ++ rest.requests) rs t) records_are
-      ∙ (record_fault-prefix h (given ++ x ∷ []) rest.requests (records ++ r ∷ []) others.records t (omega (arith, length-append given (x ∷ []))) (omega (arith, one, length-append records (r ∷ []))) ∙ fails)) in
-      let first = event_first x rest (certificates.onto r others) (Invalid (header_len h + 1 + t) kind)
-      (skip (at_line (header_len h + t) (found (t == h.requests) (RequestCount h.requests (t + 1)))) (text_after next t ∷ rule ∷ []) (not_found (t == h.requests) (header_len h + t) (RequestCount h.requests (t + 1)) (ne_eqb t h.requests (λ same. omega (arith, same, fewer))))
-      ∙ (skip (text_after next t) (rule ∷ []) (ap (λ b. cond b (text_event others.fault) None) (ne_eqb (length (records ++ r ∷ others.records)) t (λ e. omega (arith, e, one, length-append records (r ∷ others.records)))))
-      ∙ stop rule [] _ (ap (at_line (header_len h + 1 + t)) prefix))) in
-      (ap W is ∙ first.0, ap (λ d. asked_of (requests.after given (requests.onto x rest)) (after_records h records d)) is ∙ first.1)
+    -- one request more than the header says
+    pub walked_too_many : (c : certificates.Reading) → length given ≡ h.requests
+        → EndsAt given (requests.after given fills (requests.onto x mark rest)) (after_records h records c) (Invalid (header_len h + length given) (RequestCount h.requests (length given + 1)))
+    walked_too_many c full =
+        let t = length given in
+        let cc = after_records h records c in
+        event_first c _
+        (stop (at_line (header_len h + t) (found (t == h.requests) (RequestCount h.requests (t + 1)))) (text_after cc t ∷ at_line (header_len h + 1 + t) (record_fault h all (given ++ x ∷ rest.requests) cc.records t) ∷ []) _
+        (is_found (t == h.requests) (header_len h + t) (RequestCount h.requests (t + 1)) (eq-eqb t h.requests full)))
+
+    -- the line of the record is not read
+    pub walked_text : (c : certificates.Reading) (f : CertFault) (e : Event) → length given < h.requests → c ≡ certificates.stopped (Some f) → text_event (Some f) ≡ Some e
+        → EndsAt given (requests.after given fills (requests.onto x mark rest)) (after_records h records c) e
+    walked_text c f e fewer is event =
+        let t = length given in
+        let cc = after_records h records c in
+        let none : length c.records ≡ 0 = ap (λ r. length r.records) is in
+        let rule = at_line (header_len h + 1 + t) (record_fault h all (given ++ x ∷ rest.requests) cc.records t) in
+        event_first c e
+        (skip (at_line (header_len h + t) (found (t == h.requests) (RequestCount h.requests (t + 1)))) (text_after cc t ∷ rule ∷ []) (not_found (t == h.requests) (header_len h + t) (RequestCount h.requests (t + 1)) (ne_eqb t h.requests (λ same. omega (arith, same, fewer))))
+        ∙ stop (text_after cc t) (rule ∷ []) e
+        (ap (λ b. cond b (text_event c.fault) None) (eq-eqb (length (records ++ c.records)) t (omega (arith, one, none, length-append records c.records)))
+        ∙ (ap (λ r. text_event r.fault) is ∙ event)))
+
+    -- the record fails a rule
+    pub walked_rule : AreMarked marked (with_request (record { objects = given; fills = fills }) x mark) → (r : Record) (others : certificates.Reading) (c : certificates.Reading) (kind : InvalidKind) → length given < h.requests → c ≡ certificates.onto r others
+        → fault_at h (with_request (record { objects = given; fills = fills }) x mark) (records ++ r ∷ []) (length given) ≡ Some kind
+        → EndsAt given (requests.after given fills (requests.onto x mark rest)) (after_records h records c) (Invalid (header_len h + 1 + length given) kind)
+    walked_rule are_next r others c kind fewer is fails =
+        let t = length given in
+        let next = after_records h records (certificates.onto r others) in
+        let trace = given ++ x ∷ rest.requests in
+        let W : certificates.Reading → Option Event = λ d. walk_of (requests.after given fills (requests.onto x mark rest)) (after_records h records d) in
+        let rule = at_line (header_len h + 1 + t) (record_fault h all trace next.records t) in
+        let trace_is : trace ≡ (given ++ x ∷ []) ++ rest.requests = sym (append_assoc given (x ∷ []) rest.requests) in
+        let records_are : next.records ≡ (records ++ r ∷ []) ++ others.records = sym (append_assoc records (r ∷ []) others.records) in
+        let all_are : all ≡ with_mark fills mark ++ rest.fills = sym (append_assoc fills (marks_of mark (x ∷ [])) rest.fills) ∙ ap (λ marks. marks ++ rest.fills) (sym (with_mark-marks fills mark x)) in
+        let next_marks = only_fills-first marked (with_request (record { objects = given; fills = fills }) x mark) (requests.after given fills (requests.onto x mark rest)) rest.fills are_next has all_are in
+        let prefix = ap (λ xs. record_fault h all xs next.records t) trace_is
+        ∙ (ap (λ rs. record_fault h all ((given ++ x ∷ []) ++ rest.requests) rs t) records_are
+        ∙ (record_fault-prefix h all (given ++ x ∷ []) rest.requests (records ++ r ∷ []) others.records t (omega (arith, length-append given (x ∷ []))) (omega (arith, one, length-append records (r ∷ [])))
+        ∙ (record_fault-marks h all (with_mark fills mark) (given ++ x ∷ []) (records ++ r ∷ []) next_marks t (omega (arith, length-append given (x ∷ []))) ∙ fails))) in
+        let first = event_first (certificates.onto r others) (Invalid (header_len h + 1 + t) kind)
+        (skip (at_line (header_len h + t) (found (t == h.requests) (RequestCount h.requests (t + 1)))) (text_after next t ∷ rule ∷ []) (not_found (t == h.requests) (header_len h + t) (RequestCount h.requests (t + 1)) (ne_eqb t h.requests (λ same. omega (arith, same, fewer))))
+        ∙ (skip (text_after next t) (rule ∷ []) (ap (λ b. cond b (text_event others.fault) None) (ne_eqb (length (records ++ r ∷ others.records)) t (λ e. omega (arith, e, one, length-append records (r ∷ others.records)))))
+        ∙ stop rule [] _ (ap (at_line (header_len h + 1 + t)) prefix))) in
+        (ap W is ∙ first.0, ap (λ d. asked_of (requests.after given fills (requests.onto x mark rest)) (after_records h records d)) is ∙ first.1)
 
   -- no request gives an event
-  close_first : (trace : traces.Reading) (c : certificates.Reading) → trace.requests ≡ given → walk_of trace (after_records h records c) ≡ first_some (last_events h (after_records h records c) trace)
-  close_first trace c is =
+  close_first : (trace : traces.Reading) (c : certificates.Reading) → trace.requests ≡ given → trace.fills ≡ fills → walk_of trace (after_records h records c) ≡ first_some (last_events h (after_records h records c) trace)
+  close_first trace c is marks_are =
       let cc = after_records h records c in
       let end = last_events h cc trace in
-      let f : List Object → ℕ → Option Event = λ xs t. first_some (events_at h cc xs t) in
+      let f : List Bool → List Object → ℕ → Option Event = λ marks xs t. first_some (events_at h marks cc xs t) in
       let all : given ++ [] ≡ given = append-nil given in
       let here : 0 + length given ≡ length given = omega arith in
-      ap (λ xs. first_some (map (f xs) (range_with_len 0 (length xs)) ++ end)) is
-      ∙ past_none (f given) end 0 (length given) (λ k low high. ap (λ xs. f xs k) (sym all) ∙ passes [] c k (omega (arith, high, here)))
+      ap (λ xs. first_some (map (f trace.fills xs) (range_with_len 0 (length xs)) ++ end)) is
+      ∙ (ap (λ marks. first_some (map (f marks given) (range_with_len 0 (length given)) ++ end)) marks_are
+      ∙ past_none (f fills given) end 0 (length given) (λ k low high. ap (λ xs. f fills xs k) (sym all) ∙ passes fills (λ t low. refl) [] c k (omega (arith, high, here))))
 
   -- all requests are asked for, and whether there is one more
-  pub asked_all : (trace : traces.Reading) (c : certificates.Reading) → trace.requests ≡ given → asked_of trace (after_records h records c) ≡ length given + 1
-  asked_all trace c is =
+  pub asked_all : (trace : traces.Reading) (c : certificates.Reading) → trace.requests ≡ given → trace.fills ≡ fills → asked_of trace (after_records h records c) ≡ length given + 1
+  asked_all trace c is marks_are =
       let cc = after_records h records c in
-      let f : List Object → ℕ → Option Event = λ xs t. first_some (events_at h cc xs t) in
+      let f : List Bool → List Object → ℕ → Option Event = λ marks xs t. first_some (events_at h marks cc xs t) in
       let all : given ++ [] ≡ given = append-nil given in
       let here : 0 + length given ≡ length given = omega arith in
-      ap (λ xs. position_or_len is_some (map (f xs) (range_with_len 0 (length xs))) + 1) is
-      ∙ ap (λ n. n + 1) (count_all (f given) 0 (length given) (λ k low high. ap (λ xs. f xs k) (sym all) ∙ passes [] c k (omega (arith, high, here))))
+      ap (λ xs. position_or_len is_some (map (f trace.fills xs) (range_with_len 0 (length xs))) + 1) is
+      ∙ (ap (λ marks. position_or_len is_some (map (f marks given) (range_with_len 0 (length given))) + 1) marks_are
+      ∙ ap (λ n. n + 1) (count_all (f fills given) 0 (length given) (λ k low high. ap (λ xs. f fills xs k) (sym all) ∙ passes fills (λ t low. refl) [] c k (omega (arith, high, here)))))
 
   -- the trace is refused
-  pub walked_refused : (trace : traces.Reading) (c : certificates.Reading) (why : TraceFault) → trace.requests ≡ given → trace.refused ≡ Some why
+  pub walked_refused : (trace : traces.Reading) (c : certificates.Reading) (why : TraceFault) → trace.requests ≡ given → trace.fills ≡ fills → trace.refused ≡ Some why
       → walk_of trace (after_records h records c) ≡ Some (Refused why)
-  walked_refused trace c why all is =
+  walked_refused trace c why all marks_are is =
       let k = length trace.requests in
       let cc = after_records h records c in
-      close_first trace c all
-      ∙ stop (refusal_event trace.refused) (at_line (header_len h + k) (found (nat_lt k h.requests) (RequestCount h.requests k)) ∷ text_after cc k ∷ at_line (header_len h + 1 + k) (end_fault h trace.requests cc.records) ∷ []) _ (ap refusal_event is)
+      close_first trace c all marks_are
+      ∙ stop (refusal_event trace.refused) (at_line (header_len h + k) (found (nat_lt k h.requests) (RequestCount h.requests k)) ∷ text_after cc k ∷ at_line (header_len h + 1 + k) (end_fault h trace.fills trace.requests cc.records) ∷ []) _ (ap refusal_event is)
 
-  module _ (trace : traces.Reading) (c : certificates.Reading) (all : trace.requests ≡ given) (whole : trace.refused ≡ None) where
+  module _ (trace : traces.Reading) (c : certificates.Reading) (all : trace.requests ≡ given) (marks_are : trace.fills ≡ fills) (whole : trace.refused ≡ None) where
     -- the events of the end, by the requests
-    abbrev ends : List Object → List (Option Event)
-    ends xs = at_line (header_len h + length xs) (found (nat_lt (length xs) h.requests) (RequestCount h.requests (length xs))) ∷ text_after (after_records h records c) (length xs) ∷ at_line (header_len h + 1 + length xs) (end_fault h xs (records ++ c.records)) ∷ []
+    abbrev ends : List Bool → List Object → List (Option Event)
+    ends marks xs = at_line (header_len h + length xs) (found (nat_lt (length xs) h.requests) (RequestCount h.requests (length xs))) ∷ text_after (after_records h records c) (length xs) ∷ at_line (header_len h + 1 + length xs) (end_fault h marks xs (records ++ c.records)) ∷ []
 
-    close_ends : walk_of trace (after_records h records c) ≡ first_some (ends given)
-    close_ends = close_first trace c all ∙ (skip (refusal_event trace.refused) (ends trace.requests) (ap refusal_event whole) ∙ ap (λ xs. first_some (ends xs)) all)
+    close_ends : walk_of trace (after_records h records c) ≡ first_some (ends fills given)
+    close_ends = close_first trace c all marks_are ∙ (skip (refusal_event trace.refused) (ends trace.fills trace.requests) (ap refusal_event whole) ∙ (ap (λ marks. first_some (ends marks trace.requests)) marks_are ∙ ap (λ xs. first_some (ends fills xs)) all))
 
     -- fewer requests than the header says
     pub walked_too_few : length given < h.requests → walk_of trace (after_records h records c) ≡ Some (Invalid (header_len h + length given) (RequestCount h.requests (length given)))
     walked_too_few fewer =
         let t = length given in
-        close_ends ∙ stop (at_line (header_len h + t) (found (nat_lt t h.requests) (RequestCount h.requests t))) (text_after (after_records h records c) t ∷ at_line (header_len h + 1 + t) (end_fault h given (records ++ c.records)) ∷ []) _
+        close_ends ∙ stop (at_line (header_len h + t) (found (nat_lt t h.requests) (RequestCount h.requests t))) (text_after (after_records h records c) t ∷ at_line (header_len h + 1 + t) (end_fault h fills given (records ++ c.records)) ∷ []) _
         (is_found (nat_lt t h.requests) (header_len h + t) (RequestCount h.requests t) (lt-ltb t h.requests fewer))
 
     module _ (full : length given ≡ h.requests) where
@@ -217,22 +237,22 @@ module _ (h : Header) (given : List Object) (records : List Record) (one : lengt
       -- the end is not read
       pub walked_end_text : (f : CertFault) (e : Event) → c ≡ certificates.stopped (Some f) → text_event (Some f) ≡ Some e → walk_of trace (after_records h records c) ≡ Some e
       walked_end_text f e is event =
-          let rule = at_line (header_len h + 1 + length given) (end_fault h given (records ++ c.records)) in
+          let rule = at_line (header_len h + 1 + length given) (end_fault h fills given (records ++ c.records)) in
           close_ends ∙ (skip _ (text_after (after_records h records c) (length given) ∷ rule ∷ []) enough
           ∙ stop (text_after (after_records h records c) (length given)) (rule ∷ []) e (text_at (Some f) is ∙ event))
 
       -- the end is read, and its rules decide
-      pub walked_end : c ≡ certificates.stopped None → walk_of trace (after_records h records c) ≡ first_some (at_line (header_len h + 1 + length given) (end_fault h given records) ∷ [])
+      pub walked_end : c ≡ certificates.stopped None → walk_of trace (after_records h records c) ≡ first_some (at_line (header_len h + 1 + length given) (end_fault h fills given records) ∷ [])
       walked_end is =
           let t = length given in
-          let rule = at_line (header_len h + 1 + t) (end_fault h given (records ++ c.records)) in
+          let rule = at_line (header_len h + 1 + t) (end_fault h fills given (records ++ c.records)) in
           let all_records : records ++ c.records ≡ records = ap (λ r. records ++ r.records) is ∙ append-nil records in
           close_ends ∙ (skip _ (text_after (after_records h records c) t ∷ rule ∷ []) enough
           ∙ (skip (text_after (after_records h records c) t) (rule ∷ []) (text_at None is)
-          ∙ ap (λ rs. first_some (at_line (header_len h + 1 + t) (end_fault h given rs) ∷ [])) all_records))
+          ∙ ap (λ rs. first_some (at_line (header_len h + 1 + t) (end_fault h fills given rs) ∷ [])) all_records))
 
-      pub walked_end_rule : (kind : InvalidKind) → c ≡ certificates.stopped None → end_fault h given records ≡ Some kind → walk_of trace (after_records h records c) ≡ Some (Invalid (header_len h + 1 + length given) kind)
+      pub walked_end_rule : (kind : InvalidKind) → c ≡ certificates.stopped None → end_fault h fills given records ≡ Some kind → walk_of trace (after_records h records c) ≡ Some (Invalid (header_len h + 1 + length given) kind)
       walked_end_rule kind is fails = walked_end is ∙ ap (λ f. first_some (at_line (header_len h + 1 + length given) f ∷ [])) fails
 
-      pub walked_all : c ≡ certificates.stopped None → end_fault h given records ≡ None → walk_of trace (after_records h records c) ≡ None
+      pub walked_all : c ≡ certificates.stopped None → end_fault h fills given records ≡ None → walk_of trace (after_records h records c) ≡ None
       walked_all is none = walked_end is ∙ ap (λ f. first_some (at_line (header_len h + 1 + length given) f ∷ [])) none

@@ -4,7 +4,7 @@ use Rattle.std.specs.List.{AllZip, list_any, range_with_len}
 use Prim.Native.Nat.{◌∣◌}
 use Rattle.std.proofs.Common.{eq-eqb}
 use Rattle.std.proofs.Math.Nat.{mul-le-mul_left}
-use Rattle.std.proofs.lemmas.Bool.{and_parts, both_ways, cases_lt, eqb-true, leb-true, le-leb, le-ltb, lt-ltb, not-true}
+use Rattle.std.proofs.lemmas.Bool.{and_parts, both_ways, eqb-true, leb-true, le-leb, le-ltb, not-true}
 use Rattle.std.proofs.lemmas.List.{get_or-map}
 use Rattle.std.proofs.lemmas.List.Elements.{All-contains}
 use Rattle.std.proofs.lemmas.List.Folds.{Any-from_list_any}
@@ -15,7 +15,7 @@ use Rattle.cache_model.specs.declared.objects.Object.{Object}
 use Rattle.cache_model.specs.declared.intervals.Interval.{Interval}
 use Rattle.cache_model.specs.declared.certificates.Header.{Header}
 use Rattle.cache_model.specs.declared.certificates.Record.{Record}
-use Rattle.cache_model.specs.Claim.{same_object, gain_of, total_size, request_at, no_object, contents_of, held_before, is_latest, terms_of}
+use Rattle.cache_model.specs.Claim.{counts_past, same_object, gain_of, total_size, request_at, no_object, contents_of, held_before, is_latest, terms_of}
 use Rattle.cache_model.specs.Objects.{IsFirst, IsNext}
 use Rattle.cache_model.specs.Intervals.{interval_of}
 use Rattle.cache_model.specs.Keeps.{latest_sum, load_after}
@@ -51,7 +51,7 @@ at_range f n k d low =
     get_or-map f (range_with_len 0 n) k 0 d (omega (arith, length-range_with_len 0 n))
     ∙ ap f (get_or-range_with_len 0 n k 0 low ∙ omega arith)
 
-module _ (h : Header) (trace : List Object) (records : List Record) (v : IsValid trace h records) where
+module _ (h : Header) (fills : List Bool) (trace : List Object) (records : List Record) (v : IsValid trace fills h records) where
   one : length records ≡ length trace
   one = v.certificate.count ∙ v.requests
 
@@ -77,41 +77,41 @@ module _ (h : Header) (trace : List Object) (records : List Record) (v : IsValid
         ∙ ap (λ k. get_or (prices_of records) k 0) here ∙ v.last_price))
 
     -- the interval that ends there
-    ended : ends_interval h (request_at trace t) (figures_at h trace records t) ≡ true → (a : ℕ) × IsEligible (terms_of h) trace (interval_of h.objective trace a t)
+    ended : ends_interval h (request_at trace t) (figures_at h fills trace records t) ≡ true → (a : ℕ) × IsEligible (terms_of h fills) trace (interval_of h.objective trace a t)
     ended ends =
-        let parts : ((was_requested trace t && nat_le h.warmup t) ≡ true) × (nat_le (request_at trace t).size h.capacity ≡ true) =
-        and_parts (was_requested trace t && nat_le h.warmup t) (nat_le (request_at trace t).size h.capacity) ends in
-        let counts : (was_requested trace t ≡ true) × (nat_le h.warmup t ≡ true) = and_parts (was_requested trace t) (nat_le h.warmup t) parts.0 in
-        from counts.0 (leb-true h.warmup t counts.1) (leb-true (request_at trace t).size h.capacity parts.1) (first_or_next trace t low)
+        let parts : ((was_requested trace t && counts_past h.warmup fills t) ≡ true) × (nat_le (request_at trace t).size h.capacity ≡ true) =
+        and_parts (was_requested trace t && counts_past h.warmup fills t) (nat_le (request_at trace t).size h.capacity) ends in
+        let counts : (was_requested trace t ≡ true) × (counts_past h.warmup fills t ≡ true) = and_parts (was_requested trace t) (counts_past h.warmup fills t) parts.0 in
+        from counts.0 counts.1 (leb-true (request_at trace t).size h.capacity parts.1) (first_or_next trace t low)
       where
-        from : was_requested trace t ≡ true → h.warmup ≤ t → (request_at trace t).size ≤ h.capacity → IsFirst trace t ⊎ ((a : ℕ) × IsNext trace a t)
-            → (a : ℕ) × IsEligible (terms_of h) trace (interval_of h.objective trace a t)
+        from : was_requested trace t ≡ true → counts_past h.warmup fills t ≡ true → (request_at trace t).size ≤ h.capacity → IsFirst trace t ⊎ ((a : ℕ) × IsNext trace a t)
+            → (a : ℕ) × IsEligible (terms_of h fills) trace (interval_of h.objective trace a t)
         from again over fits (inl first) = absurd (both_ways (was_requested trace t) (not-true (was_requested trace t) (is_first-yes trace t (omega arith) first)) again)
         from again over fits (inr (a, next)) =
             let same : request_at trace a ≡ request_at trace t = same_object-true (request_at trace a) (request_at trace t) next.same in
             (a, record { next = next; fits = subst (λ (y : Object). y.size ≤ h.capacity) (sym same) fits; counts = over; numbers = refl })
 
     -- what is said of the intervals holds of that one
-    of_ended : (P : Interval → Type 0) → All P (eligible_of trace h) → (a : ℕ) → IsEligible (terms_of h) trace (interval_of h.objective trace a t)
+    of_ended : (P : Interval → Type 0) → All P (eligible_of trace fills h) → (a : ℕ) → IsEligible (terms_of h fills) trace (interval_of h.objective trace a t)
         → P (record { start = a; end = t; size = (request_at trace t).size; gain = gain_of h.objective (request_at trace t) })
     of_ended P all a e =
         let same : request_at trace a ≡ request_at trace t = same_object-true (request_at trace a) (request_at trace t) e.next.same in
         subst (λ (y : Object). P (record { start = a; end = t; size = y.size; gain = gain_of h.objective (request_at trace t) })) same
-        (All-contains P (eligible_of trace h) (interval_of h.objective trace a t) all (Contains-eligible (terms_of h) trace (interval_of h.objective trace a t) e))
+        (All-contains P (eligible_of trace fills h) (interval_of h.objective trace a t) all (Contains-eligible (terms_of h fills) trace (interval_of h.objective trace a t) e))
 
-    unit : (ends_interval h (request_at trace t) (figures_at h trace records t) && not (divides h.unit (request_at trace t).size)) ≡ false
+    unit : (ends_interval h (request_at trace t) (figures_at h fills trace records t) && not (divides h.unit (request_at trace t).size)) ≡ false
     unit =
-        and_from_second (ends_interval h (request_at trace t) (figures_at h trace records t)) (not (divides h.unit (request_at trace t).size)) (λ ends.
+        and_from_second (ends_interval h (request_at trace t) (figures_at h fills trace records t)) (not (divides h.unit (request_at trace t).size)) (λ ends.
         let i = ended ends in
         ap not (divides-from h.unit (request_at trace t).size (of_ended (λ i. h.unit ∣ i.size) v.unit i.0 i.1)))
 
-    whole : (ends_interval h (request_at trace t) (figures_at h trace records t) && h.exact
+    whole : (ends_interval h (request_at trace t) (figures_at h fills trace records t) && h.exact
         && not (divides ((request_at trace t).size / h.unit) (h.denominator * gain_of h.objective (request_at trace t)))) ≡ false
     whole =
-        and_from_second (ends_interval h (request_at trace t) (figures_at h trace records t) && h.exact)
+        and_from_second (ends_interval h (request_at trace t) (figures_at h fills trace records t) && h.exact)
         (not (divides ((request_at trace t).size / h.unit) (h.denominator * gain_of h.objective (request_at trace t)))) (λ both.
-        let parts : (ends_interval h (request_at trace t) (figures_at h trace records t) ≡ true) × (h.exact ≡ true) =
-        and_parts (ends_interval h (request_at trace t) (figures_at h trace records t)) h.exact both in
+        let parts : (ends_interval h (request_at trace t) (figures_at h fills trace records t) ≡ true) × (h.exact ≡ true) =
+        and_parts (ends_interval h (request_at trace t) (figures_at h fills trace records t)) h.exact both in
         let i = ended parts.0 in
         ap not (divides-from ((request_at trace t).size / h.unit) (h.denominator * gain_of h.objective (request_at trace t))
         (of_ended (λ i. weight h.unit i ∣ h.denominator * i.gain) (v.whole_costs parts.1) i.0 i.1)))
@@ -126,23 +126,23 @@ module _ (h : Header) (trace : List Object) (records : List Record) (v : IsValid
         (v.keeps.within_capacity (t + 1) [] (omega (arith, v.keeps.one_more_than_requests))))
 
     flow-le : flow_at records t ≤ weight_in h (request_at trace t)
-    flow-le = at (list_any (λ i. i.start == t) (eligible_of trace h)) refl
+    flow-le = at (list_any (λ i. i.start == t) (eligible_of trace fills h)) refl
       where
-        started : Any (λ i. (i.start == t) ≡ true) (eligible_of trace h) → flow_at records t ≤ weight_in h (request_at trace t)
+        started : Any (λ i. (i.start == t) ≡ true) (eligible_of trace fills h) → flow_at records t ≤ weight_in h (request_at trace t)
         started (k, i, kl, there, starts) =
-            let e : IsEligible (terms_of h) trace i = subst (IsEligible (terms_of h) trace) there (All-eligible_intervals (terms_of h) trace k i kl) in
+            let e : IsEligible (terms_of h fills) trace i = subst (IsEligible (terms_of h fills) trace) there (All-eligible_intervals (terms_of h fills) trace k i kl) in
             let here : i.start ≡ t = eqb-true i.start t starts in
             let own : flow_at records i.start ≤ weight h.unit i =
             subst (λ j. flow_at records j.start ≤ weight h.unit j) there
-            (AllZip-map_at (λ i f. f ≤ weight h.unit i) (λ i. flow_at records i.start) (eligible_of trace h) v.flows.within_weights k i kl) in
+            (AllZip-map_at (λ i f. f ≤ weight h.unit i) (λ i. flow_at records i.start) (eligible_of trace fills h) v.flows.within_weights k i kl) in
             let fits : (request_at trace t).size ≤ h.capacity = subst (λ a. (request_at trace a).size ≤ h.capacity) here e.fits in
             let size : i.size ≡ (request_at trace t).size = ap (λ (j : Interval). j.size) e.numbers ∙ ap (λ a. (request_at trace a).size) here in
             let room : weight_in h (request_at trace t) ≡ weight h.unit i =
             ap (λ b. cond b ((request_at trace t).size / h.unit) 0) (le-leb (request_at trace t).size h.capacity fits) ∙ ap (λ s. s / h.unit) (sym size) in
             omega (arith, ap (flow_at records) here)
 
-        at : (b : Bool) → list_any (λ i. i.start == t) (eligible_of trace h) ≡ b → flow_at records t ≤ weight_in h (request_at trace t)
-        at true starts = started (Any-from_list_any (λ i. i.start == t) (eligible_of trace h) starts)
+        at : (b : Bool) → list_any (λ i. i.start == t) (eligible_of trace fills h) ≡ b → flow_at records t ≤ weight_in h (request_at trace t)
+        at true starts = started (Any-from_list_any (λ i. i.start == t) (eligible_of trace fills h) starts)
         at false none = omega (arith, v.unused_flows t none)
 
     flow : nat_lt (weight_in h (request_at trace t)) (record_at records t).flow ≡ false
@@ -151,31 +151,31 @@ module _ (h : Header) (trace : List Object) (records : List Record) (v : IsValid
     flows : nat_lt (units_of h) (latest_sum trace (flow_at records) (t + 1)) ≡ false
     flows =
         le-ltb (units_of h) (latest_sum trace (flow_at records) (t + 1))
-        (omega (arith, load-latest (terms_of h) trace (flow_at records) t v.unused_flows low, v.flows.within_units t))
+        (omega (arith, load-latest (terms_of h fills) trace (flow_at records) t v.unused_flows low, v.flows.within_units t))
 
-    unused : unused_before h trace records t ≡ None
-    unused = at (cases_lt t h.warmup)
+    unused : unused_before h fills trace records t ≡ None
+    unused = at (counts_past h.warmup fills t) refl
       where
-        none_found : IsFirst trace t ⊎ ((a : ℕ) × IsNext trace a t) → t < h.warmup → find (has_flow_until trace records t) (range_with_len 0 t) ≡ None
+        none_found : IsFirst trace t ⊎ ((a : ℕ) × IsNext trace a t) → counts_past h.warmup fills t ≡ false → find (has_flow_until trace records t) (range_with_len 0 t) ≡ None
         none_found (inl first) warm = find-first trace records t first
-        none_found (inr (a, next)) warm = find-next trace t a next records ∙ ap (λ f. cond (nat_lt 0 f) (Some a) None) (v.unused_flows a (none-starts h trace a t next warm))
+        none_found (inr (a, next)) warm = find-next trace t a next records ∙ ap (λ f. cond (nat_lt 0 f) (Some a) None) (v.unused_flows a (none-starts h fills trace a t next warm))
 
-        at : t < h.warmup ⊎ h.warmup ≤ t → unused_before h trace records t ≡ None
-        at (inl warm) = ap (λ c. cond c (find (has_flow_until trace records t) (range_with_len 0 t)) None) (lt-ltb t h.warmup warm) ∙ none_found (first_or_next trace t low) warm
-        at (inr over) = ap (λ c. cond c (find (has_flow_until trace records t) (range_with_len 0 t)) None) (le-ltb t h.warmup over)
+        at : (b : Bool) → counts_past h.warmup fills t ≡ b → unused_before h fills trace records t ≡ None
+        at false uncounted = ap (λ c. cond c None (find (has_flow_until trace records t) (range_with_len 0 t))) uncounted ∙ none_found (first_or_next trace t low) uncounted
+        at true over = ap (λ c. cond c None (find (has_flow_until trace records t) (range_with_len 0 t))) over
 
-    no_record : record_fault h trace records t ≡ None
+    no_record : record_fault h fills trace records t ≡ None
     no_record =
-        none_from_Passes h (request_at trace t) (record_at records t) (figures_at h trace records t)
+        none_from_Passes h (request_at trace t) (record_at records t) (figures_at h fills trace records t)
         (record { prices = prices; last = last; unit = unit; whole = whole; load = load; flow = flow; flows = flows; unused = unused })
 
   -- no interval starts at the last request of an object
   last_flow : (a : ℕ) → a < length trace → is_latest trace (length trace) a ≡ true → flow_at records a ≡ 0
-  last_flow a low latest = v.unused_flows a (at (list_any (λ i. i.start == a) (eligible_of trace h)) refl)
+  last_flow a low latest = v.unused_flows a (at (list_any (λ i. i.start == a) (eligible_of trace fills h)) refl)
     where
-      started : Any (λ i. (i.start == a) ≡ true) (eligible_of trace h) → ⊥
+      started : Any (λ i. (i.start == a) ≡ true) (eligible_of trace fills h) → ⊥
       started (k, i, kl, there, starts) =
-          let e : IsEligible (terms_of h) trace i = subst (IsEligible (terms_of h) trace) there (All-eligible_intervals (terms_of h) trace k i kl) in
+          let e : IsEligible (terms_of h fills) trace i = subst (IsEligible (terms_of h fills) trace) there (All-eligible_intervals (terms_of h fills) trace k i kl) in
           let here : i.start ≡ a = eqb-true i.start a starts in
           let next : IsNext trace a i.end = subst (λ b. IsNext trace b i.end) here e.next in
           let before : a < i.end = next.before in
@@ -183,8 +183,8 @@ module _ (h : Header) (trace : List Object) (records : List Record) (v : IsValid
           ap not (list_any-range_true (same_object (request_at trace a)) trace no_object (a + 1) (length trace) i.end (omega arith) next.within (omega arith) next.same) in
           both_ways _ past latest
 
-      at : (b : Bool) → list_any (λ i. i.start == a) (eligible_of trace h) ≡ b → list_any (λ i. i.start == a) (eligible_of trace h) ≡ false
-      at true starts = absurd (started (Any-from_list_any (λ i. i.start == a) (eligible_of trace h) starts))
+      at : (b : Bool) → list_any (λ i. i.start == a) (eligible_of trace fills h) ≡ b → list_any (λ i. i.start == a) (eligible_of trace fills h) ≡ false
+      at true starts = absurd (started (Any-from_list_any (λ i. i.start == a) (eligible_of trace fills h) starts))
       at false none = none
 
   no_flow : first_unused trace records ≡ None
@@ -193,14 +193,14 @@ module _ (h : Header) (trace : List Object) (records : List Record) (v : IsValid
       (λ a from low. and_from_second (is_latest trace (length trace) a) (nat_lt 0 (flow_at records a)) (λ latest.
       le-ltb 0 (flow_at records a) (omega (arith, last_flow a (omega arith) latest))))
 
-  pub IsFaultless-valid : IsFaultless h trace records
+  pub IsFaultless-valid : IsFaultless h fills trace records
   IsFaultless-valid = record {
     no_record = no_record;
-    no_end = none_from_EndPasses h (first_unused trace records) (counted_of h trace records)
+    no_end = none_from_EndPasses h (first_unused trace records) (counted_of h fills trace records)
         (record { no_flow = no_flow; upper = v.upper; flow = v.flow; lower = v.lower; gap = λ exact. sym v.upper ∙ v.exact_values exact ∙ v.flow });
   }
 
 -- both ways
 pub faultless_is_valid_lem : FaultlessIsValid
-faultless_is_valid_lem h trace records cert many =
-    (λ faultless. IsValid-faultless h trace records cert many faultless.no_record faultless.no_end, λ valid. IsFaultless-valid h trace records valid)
+faultless_is_valid_lem h fills trace records cert many =
+    (λ faultless. IsValid-faultless h fills trace records cert many faultless.no_record faultless.no_end, λ valid. IsFaultless-valid h fills trace records valid)

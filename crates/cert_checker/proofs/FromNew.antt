@@ -1,7 +1,7 @@
 -- A check by readers of which no call was made.
 use Rattle.std.proofs.Common.{◌≡◌, ℕ, subst, List, Result, Ok, Err, IfOk}
 use Rattle.bound_io.specs.Devices.{Device}
-use Rattle.cache_model.specs.declared.objects.Object.{Object}
+use Rattle.cache_rules.specs.Stored.{Making}
 use Rattle.cache_model.specs.declared.certificates.Record.{Record}
 use Rattle.trace_any.specs.declared.format.Format.{Format}
 use Rattle.trace_any.specs.Readings.{full_limits}
@@ -26,7 +26,7 @@ module _ (start end : Inputs) (first : start.reader ≡ requests.fresh start.rea
   from_new P p =
       subst (λ r. P (with_readers start r lines.fresh)) first (subst (λ c. P (with_readers start start.reader c)) new p)
 
-  pub ends_new : (has : List Object → List Record → Type 0) (verdict : Verdict) (dropped : ℕ) → end.reader.dropped ≡ dropped → IsCheckEnd has start end (Ok verdict)
+  pub ends_new : (has : Making → List Record → Type 0) (verdict : Verdict) (dropped : ℕ) → end.reader.dropped ≡ dropped → IsCheckEnd has start end (Ok verdict)
       → Ends has start.reader.format (trace_source start end) (cert_source start end) verdict dropped
   ends_new has verdict dropped same ended = record {
     reader = end.reader;
@@ -35,7 +35,7 @@ module _ (start end : Inputs) (first : start.reader ≡ requests.fresh start.rea
     ended = from_new (λ from. IsCheckEnd has from end (Ok verdict)) ended;
   }
 
-  pub fails_new : (has : List Object → List Record → Type 0) (why : CheckFault) → IsTaken start.cert.lines end.cert.lines start.certificate end.certificate → IsCheckEnd has start end (Err why)
+  pub fails_new : (has : Making → List Record → Type 0) (why : CheckFault) → IsTaken start.cert.lines end.cert.lines start.certificate end.certificate → IsCheckEnd has start end (Err why)
       → Fails start.reader.format (trace_source start end) (cert_source start end) why
   fails_new has why taken ended = record {
     reader = end.reader;
@@ -49,7 +49,7 @@ pub fails_memory : (format : Format) (trace cert : Device) → Fails format trac
 fails_memory format trace cert = record { reader = requests.fresh format full_limits; records = lines.fresh; event = tt; near = tt }
 
 -- a yes of what a keeper has is a yes
-pub passes_new : (has : List Object → List Record → Type 0) (format : Format) (trace cert : Device) (result : Result (Verdict × ℕ) CheckFault) → IfOk result (λ p. Ends has format trace cert p.0 p.1)
+pub passes_new : (has : Making → List Record → Type 0) (format : Format) (trace cert : Device) (result : Result (Verdict × ℕ) CheckFault) → IfOk result (λ p. Ends has format trace cert p.0 p.1)
     → IfOk result (λ p. Passes format trace cert p.0 p.1)
 passes_new has format trace cert (Ok p) ends = record { reader = ends.reader; records = ends.records; dropped_lines = ends.dropped_lines; passed = ends.ended.3.passed }
 passes_new has format trace cert (Err why) ends = tt

@@ -1,6 +1,6 @@
 -- How little was read beyond a line that fails.
 use Rattle.std.proofs.Common.{◌≡◌, ℕ, ◌+◌, ◌≤◌, ap, arith, List, [], length, Option, None, Some, Result, Ok, Err, IfErr, IfSome}
-use Rattle.cache_model.specs.declared.objects.Object.{Object}
+use Rattle.cache_rules.specs.Stored.{Making}
 use Rattle.cache_model.specs.declared.certificates.Record.{Record}
 use Rattle.bound_io.specs.Positions.{Position}
 use Rattle.cert_format.specs.Lines.{IsTaken}
@@ -30,7 +30,7 @@ near_stop start end fault.CertReadFault first taken near = tt
 near_stop start end fault.NoMemory first taken near = tt
 
 -- so little was read beyond the line of a check that fails
-pub near_closed : (has : List Object → List Record → Type 0) (start end : Inputs) (result : Result Verdict CheckFault) → start.cert ≡ fresh → IsTaken start.cert.lines end.cert.lines start.certificate end.certificate → IsCheckEnd has start end result
+pub near_closed : (has : Making → List Record → Type 0) (start end : Inputs) (result : Result Verdict CheckFault) → start.cert ≡ fresh → IsTaken start.cert.lines end.cert.lines start.certificate end.certificate → IsCheckEnd has start end result
     → IfErr result (IsNear start end)
 near_closed has start end (Ok verdict) first taken closed = tt
 near_closed has start end (Err why) first taken closed = near_stop start end why first taken closed.near

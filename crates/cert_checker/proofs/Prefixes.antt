@@ -1,13 +1,12 @@
 -- What is said of the first requests and records does not change with those that follow.
-use Rattle.std.proofs.Common.{◌≡◌, ℕ, suc, zero, ◌+◌, ◌-◌, ◌<◌, ◌≤◌, ◌∙◌, refl, ap, Bool, true, false, not, ◌&&◌, ◌==◌, cond, nat_le, nat_lt, find, None, Some, List, ◌∷◌, ◌++◌, length, map, filter, take, drop, slice_range, get_or, sum, arith}
+use Rattle.std.proofs.Common.{◌≡◌, ℕ, suc, zero, ◌+◌, ◌-◌, ◌<◌, ◌≤◌, ◌∙◌, refl, ap, Bool, true, false, not, ◌&&◌, ◌==◌, cond, nat_lt, find, None, Some, List, ◌∷◌, ◌++◌, length, map, filter, take, drop, slice_range, get_or, sum, arith}
 use Rattle.std.specs.declared.option.Option.{Option}
 use Rattle.std.specs.List.{range_with_len, list_any}
 use Rattle.std.proofs.lemmas.List.{get_or_append_left, length-drop, length-map, map-append, take-append-le, drop-append-le}
 use Rattle.cache_model.specs.declared.objects.Object.{Object}
-use Rattle.cache_model.specs.declared.terms.Terms.{Terms}
 use Rattle.cache_model.specs.declared.certificates.Header.{Header}
 use Rattle.cache_model.specs.declared.certificates.Record.{Record}
-use Rattle.cache_model.specs.Claim.{same_object, gain_of, holds, total_size, request_at, no_object, is_kept, is_held, is_latest, held_before}
+use Rattle.cache_model.specs.Claim.{Terms, counts, counts_past, same_object, gain_of, holds, total_size, request_at, no_object, is_kept, is_held, is_latest, held_before}
 use Rattle.cache_model.specs.Keeps.{latest_sum, load_after}
 use Rattle.cache_model.specs.Certificates.{flow_at, keeps_of, prices_of, unpriced}
 use Rattle.cache_model.proofs.Streams.{sum_by-range_agree}
@@ -21,7 +20,7 @@ slice_range-prefix xs ys i j low high =
     ap (take (j - i)) (drop-append-le i xs ys low) ∙ take-append-le (j - i) (drop i xs) ys (omega (arith, length-drop i xs))
 
 -- two filters of a range that agree there, and two maps of what they keep
-map-filter_agree : {X : Type 0} (f g : ℕ → X) (p q : ℕ → Bool) (a n : ℕ)
+pub map-filter_agree : {X : Type 0} (f g : ℕ → X) (p q : ℕ → Bool) (a n : ℕ)
     → ((k : ℕ) → k < a + n → f k ≡ g k) → ((k : ℕ) → k < a + n → p k ≡ q k)
     → map f (filter p (range_with_len a n)) ≡ map g (filter q (range_with_len a n))
 map-filter_agree f g p q a zero values tests = refl
@@ -59,7 +58,7 @@ module _ (trace ys : List Object) where
   pub earned_at-prefix : (terms : Terms) (keeps bits : List Bool) (t : ℕ) → t < length trace → ((a : ℕ) → a < t → is_kept bits a ≡ is_kept keeps a)
       → earned_at terms (trace ++ ys) bits t ≡ earned_at terms trace keeps t
   earned_at-prefix terms keeps bits t high same =
-      let earned : List Object → Object → ℕ = λ held x. cond (nat_le terms.warmup t) (cond (holds held x) (gain_of terms.objective x) 0) 0 in
+      let earned : List Object → Object → ℕ = λ held x. cond (counts terms t && holds held x) (gain_of terms.objective x) 0 in
       ap (earned (held_before (trace ++ ys) bits t)) (request_at-prefix t high)
       ∙ ap (λ held. earned held (request_at trace t)) (held_before-prefix keeps bits t (omega arith) same)
 
@@ -93,7 +92,7 @@ find-range_agree p q a (suc n) same =
     ∙ ap (cond (q a) (Some a)) (find-range_agree p q (a + 1) n (λ k low high. same k (omega arith) (omega arith)))
 
 -- the figures, and the rule that fails, are those of the lists so far
-module _ (h : Header) (trace ys : List Object) (records ss : List Record) (t : ℕ) (within : t < length trace) (recorded : t < length records) where
+module _ (h : Header) (fills : List Bool) (trace ys : List Object) (records ss : List Record) (t : ℕ) (within : t < length trace) (recorded : t < length records) where
   was_requested-prefix : was_requested (trace ++ ys) t ≡ was_requested trace t
   was_requested-prefix =
       ap (λ x. list_any (same_object x) (take t (trace ++ ys))) (request_at-prefix trace ys t within)
@@ -110,28 +109,28 @@ module _ (h : Header) (trace ys : List Object) (records ss : List Record) (t : �
       ∙ ap (λ b. same_object (request_at trace t) (request_at trace k) && b && nat_lt 0 (flow_at (records ++ ss) k)) (is_latest-prefix trace ys t k low (omega arith))
       ∙ ap (λ f. same_object (request_at trace t) (request_at trace k) && is_latest trace t k && nat_lt 0 f) (flow_at-prefix records ss k (omega arith))
 
-  unused_before-prefix : unused_before h (trace ++ ys) (records ++ ss) t ≡ unused_before h trace records t
+  unused_before-prefix : unused_before h fills (trace ++ ys) (records ++ ss) t ≡ unused_before h fills trace records t
   unused_before-prefix =
-      ap (λ o. cond (nat_lt t h.warmup) o None)
+      ap (λ o. cond (counts_past h.warmup fills t) None o)
       (find-range_agree (has_flow_until (trace ++ ys) (records ++ ss) t) (has_flow_until trace records t) 0 t (λ k low high. has_flow_until-prefix k (omega arith)))
 
-  figures_at-prefix : figures_at h (trace ++ ys) (records ++ ss) t ≡ figures_at h trace records t
+  figures_at-prefix : figures_at h fills (trace ++ ys) (records ++ ss) t ≡ figures_at h fills trace records t
   figures_at-prefix =
-      let F : ℕ → Bool → Option ℕ → ℕ → ℕ → Figures = λ prices again unused load flows. record { prices = prices; last = t + 1 == h.requests; counts = again && nat_le h.warmup t; unused = unused; load = load; flows = flows } in
+      let F : ℕ → Bool → Option ℕ → ℕ → ℕ → Figures = λ prices again unused load flows. record { prices = prices; last = t + 1 == h.requests; counts = again && counts_past h.warmup fills t; unused = unused; load = load; flows = flows } in
       let again : Bool = was_requested (trace ++ ys) t in
-      let unused : Option ℕ = unused_before h (trace ++ ys) (records ++ ss) t in
+      let unused : Option ℕ = unused_before h fills (trace ++ ys) (records ++ ss) t in
       let load : ℕ = load_after (trace ++ ys) (keeps_of (records ++ ss)) t in
       let flows : ℕ = latest_sum (trace ++ ys) (flow_at (records ++ ss)) (t + 1) in
       let prices : ℕ = sum (take (t + 1) (prices_of records)) in
       ap (λ ps. F (sum ps) again unused load flows) (take-prices records ss (t + 1) (omega arith))
       ∙ ap (λ b. F prices b unused load flows) was_requested-prefix
       ∙ ap (λ o. F prices (was_requested trace t) o load flows) unused_before-prefix
-      ∙ ap (λ n. F prices (was_requested trace t) (unused_before h trace records t) n flows) load_after-prefix
-      ∙ ap (F prices (was_requested trace t) (unused_before h trace records t) (load_after trace (keeps_of records) t))
+      ∙ ap (λ n. F prices (was_requested trace t) (unused_before h fills trace records t) n flows) load_after-prefix
+      ∙ ap (F prices (was_requested trace t) (unused_before h fills trace records t) (load_after trace (keeps_of records) t))
       (latest_sum-prefix trace ys (flow_at (records ++ ss)) (flow_at records) (t + 1) (omega arith) (λ a low. flow_at-prefix records ss a (omega arith)))
 
-  pub record_fault-prefix : record_fault h (trace ++ ys) (records ++ ss) t ≡ record_fault h trace records t
+  pub record_fault-prefix : record_fault h fills (trace ++ ys) (records ++ ss) t ≡ record_fault h fills trace records t
   record_fault-prefix =
-      ap (λ x. first_some (record_rules h x (record_at (records ++ ss) t) (figures_at h (trace ++ ys) (records ++ ss) t))) (request_at-prefix trace ys t within)
-      ∙ ap (λ r. first_some (record_rules h (request_at trace t) r (figures_at h (trace ++ ys) (records ++ ss) t))) (get_or_append_left records ss (unpriced false) t recorded)
+      ap (λ x. first_some (record_rules h x (record_at (records ++ ss) t) (figures_at h fills (trace ++ ys) (records ++ ss) t))) (request_at-prefix trace ys t within)
+      ∙ ap (λ r. first_some (record_rules h (request_at trace t) r (figures_at h fills (trace ++ ys) (records ++ ss) t))) (get_or_append_left records ss (unpriced false) t recorded)
       ∙ ap (λ f. first_some (record_rules h (request_at trace t) (record_at records t) f)) figures_at-prefix

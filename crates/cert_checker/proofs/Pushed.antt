@@ -1,5 +1,5 @@
 -- One more request and its record: what the figures and the sums become.
-use Rattle.std.proofs.Common.{◌≡◌, ℕ, suc, ◌+◌, ◌-◌, ◌*◌, ◌/◌, ◌<◌, ◌≤◌, ◌∙◌, sym, refl, ap, Bool, true, false, ◌&&◌, ◌==◌, cond, nat_le, nat_lt, List, [], ◌∷◌, ◌++◌, length, map, zip, take, drop, slice_range, get_or, sum, sum_by, arith, None, Some}
+use Rattle.std.proofs.Common.{◌≡◌, ℕ, suc, ◌+◌, ◌-◌, ◌*◌, ◌/◌, ◌<◌, ◌≤◌, ◌∙◌, sym, refl, ap, Bool, true, false, not, ◌&&◌, ◌==◌, cond, nat_le, nat_lt, List, [], ◌∷◌, ◌++◌, length, map, zip, take, drop, slice_range, get_or, sum, sum_by, arith, None, Some}
 use Rattle.std.specs.Prelude.{MatchOption}
 use Rattle.std.specs.declared.option.Option.{Option}
 use Rattle.std.specs.Option.{is_some}
@@ -12,7 +12,7 @@ use Rattle.cache_model.specs.declared.objects.Object.{Object}
 use Rattle.cache_model.specs.declared.intervals.Interval.{Interval}
 use Rattle.cache_model.specs.declared.certificates.Header.{Header}
 use Rattle.cache_model.specs.declared.certificates.Record.{Record}
-use Rattle.cache_model.specs.Claim.{same_object, gain_of, holds, score, total_size, request_at, no_object, contents_of, is_kept, is_latest, held_before, terms_of}
+use Rattle.cache_model.specs.Claim.{counts_past, same_object, gain_of, holds, score, total_size, request_at, no_object, contents_of, is_kept, is_latest, held_before, terms_of}
 use Rattle.cache_model.specs.Objects.{IsLatest, IsNew}
 use Rattle.cache_model.specs.Intervals.{interval_of, surplus}
 use Rattle.cache_model.specs.Keeps.{latest_sum, load_after}
@@ -49,6 +49,10 @@ both_tests true false v = refl
 both_tests false true v = refl
 both_tests false false v = refl
 
+one_after : (a b : Bool) (v : ℕ) → cond (a && b) v 0 ≡ cond a (cond b v 0) 0
+one_after true b v = refl
+one_after false b v = refl
+
 -- nothing, whether it counts or not
 none_counts : (b : Bool) (n : ℕ) → cond b n n ≡ n
 none_counts true n = refl
@@ -68,7 +72,7 @@ gain_if true more = refl
 gain_if false more = refl
 
 -- a test on what another test gives
-one_test : (a b : Bool) (v : ℕ) → cond a (cond b (Some v) None) None ≡ cond (a && b) (Some v) None
+one_test : (a b : Bool) (v : ℕ) → cond a None (cond b (Some v) None) ≡ cond (not a && b) (Some v) None
 one_test true b v = refl
 one_test false b v = refl
 
@@ -86,12 +90,16 @@ flow_value-map u d f (i ∷ xs) =
     omega (arith, flow_value-map u d f xs, sum_by-cons (λ (i, f). (d * i.gain / weight u i) * f) (i, f i) (zip xs (map f xs)), sum_by-cons (λ i. (d * i.gain / weight u i) * f i) i xs)
 
 -- the value of the flows is a sum over the intervals
-pub flow_of-sum : (h : Header) (trace : List Object) (records : List Record) → flow_of trace h records ≡ sum_by (value_in h records) (eligible_of trace h)
-flow_of-sum h trace records = flow_value-map h.unit h.denominator (λ i. flow_at records i.start) (eligible_of trace h)
+pub flow_of-sum : (h : Header) (fills : List Bool) (trace : List Object) (records : List Record) → flow_of trace fills h records ≡ sum_by (value_in h records) (eligible_of trace fills h)
+flow_of-sum h fills trace records = flow_value-map h.unit h.denominator (λ i. flow_at records i.start) (eligible_of trace fills h)
 
-module _ (h : Header) (trace : List Object) (records : List Record) (x : Object) (r : Record) (one : length records ≡ length trace) where
+module _ (h : Header) (fills : List Bool) (trace : List Object) (records : List Record) (x : Object) (r : Record) (one : length records ≡ length trace) where
   abbrev n : ℕ
   n = length trace
+
+  -- whether the request counts
+  abbrev counted : Bool
+  counted = counts_past h.warmup fills n
 
   abbrev trace' : List Object
   trace' = trace ++ x ∷ []
@@ -207,50 +215,50 @@ module _ (h : Header) (trace : List Object) (records : List Record) (x : Object)
         at None new = list_any_none (same_object x) trace (All-from_get_or (λ y. same_object x y ≡ false) trace no_object new)
         at (Some seen) is = list_any_at (same_object x) trace seen.latest no_object is.latest.within is.latest.same
 
-    unused-pushed : unused_before h trace' records' n ≡ unused_flow h n before
+    unused-pushed : unused_before h fills trace' records' n ≡ unused_flow counted before
     unused-pushed = at before known
       where
-        at : (b : Option Seen) → MatchOption b (IsNew trace x) (IsSeen trace records x) → unused_before h trace' records' n ≡ unused_flow h n b
-        at None new = ap (λ o. cond (nat_lt n h.warmup) o None) (find-first trace' records' n (IsFirst-pushed trace x new)) ∙ no_test (nat_lt n h.warmup) None
+        at : (b : Option Seen) → MatchOption b (IsNew trace x) (IsSeen trace records x) → unused_before h fills trace' records' n ≡ unused_flow counted b
+        at None new = ap (λ o. cond counted None o) (find-first trace' records' n (IsFirst-pushed trace x new)) ∙ no_test counted None
         at (Some seen) is =
             let low : seen.latest < n = is.latest.within in
             let flow : flow_at records' seen.latest ≡ seen.flow = flow_at-prefix records (r ∷ []) seen.latest (omega (arith, one)) ∙ sym is.flow in
-            ap (λ o. cond (nat_lt n h.warmup) o None) (find-next trace' n seen.latest (IsNext-pushed trace x seen.latest is.latest) records' ∙ ap (λ f. cond (nat_lt 0 f) (Some seen.latest) None) flow)
-            ∙ one_test (nat_lt n h.warmup) (nat_lt 0 seen.flow) seen.latest
+            ap (λ o. cond counted None o) (find-next trace' n seen.latest (IsNext-pushed trace x seen.latest is.latest) records' ∙ ap (λ f. cond (nat_lt 0 f) (Some seen.latest) None) flow)
+            ∙ one_test counted (nat_lt 0 seen.flow) seen.latest
 
     -- the figures of the code are those of the lists
-    pub figures-pushed : (sums : Sums) → AreSums h trace records sums → (now : Figures) → AreNext h sums x r before now → now ≡ figures_at h trace' records' n
-    figures-pushed sums are now next =
-        let F : ℕ → Bool → Bool → Option ℕ → ℕ → ℕ → Figures = λ prices last counts unused load flows. record { prices = prices; last = last; counts = counts; unused = unused; load = load; flows = flows } in
+    pub figures-pushed : (sums : Sums) → AreSums h fills trace records sums → (now : Figures) (counts : Bool) → counts ≡ counted → AreNext h counts sums x r before now → now ≡ figures_at h fills trace' records' n
+    figures-pushed sums are now counts is_counted next =
+        let F : ℕ → Bool → Bool → Option ℕ → ℕ → ℕ → Figures = λ prices last ends unused load flows. record { prices = prices; last = last; counts = ends; unused = unused; load = load; flows = flows } in
         let prices : now.prices ≡ sum (take (n + 1) (prices_of records')) = omega (arith, next.prices, are.prices, all_prices) in
         let load : now.load ≡ load_after trace' (keeps_of records') n = omega (arith, next.load, are.load, load-pushed) in
         let flows : now.flows ≡ latest_sum trace' (flow_at records') (n + 1) = omega (arith, next.flows, are.flows, flows-pushed) in
-        let counts : now.counts ≡ (was_requested trace' n && nat_le h.warmup n) = next.counts ∙ ap (λ b. b && nat_le h.warmup sums.steps) (sym again-pushed) ∙ ap (λ k. was_requested trace' n && nat_le h.warmup k) are.steps in
-        let unused : now.unused ≡ unused_before h trace' records' n = next.unused ∙ ap (λ k. unused_flow h k before) are.steps ∙ sym unused-pushed in
+        let ending : now.counts ≡ (was_requested trace' n && counted) = next.ends ∙ ap (λ b. b && counts) (sym again-pushed) ∙ ap (λ b. was_requested trace' n && b) is_counted in
+        let unused : now.unused ≡ unused_before h fills trace' records' n = next.unused ∙ ap (λ b. unused_flow b before) is_counted ∙ sym unused-pushed in
         let all : ℕ = sum (take (n + 1) (prices_of records')) in
-        let ends : Bool = was_requested trace' n && nat_le h.warmup n in
+        let ends : Bool = was_requested trace' n && counted in
         ap (λ p. F p now.last now.counts now.unused now.load now.flows) prices
         ∙ ap (λ b. F all b now.counts now.unused now.load now.flows) (next.last ∙ ap (λ k. k + 1 == h.requests) are.steps)
-        ∙ ap (λ b. F all (n + 1 == h.requests) b now.unused now.load now.flows) counts
+        ∙ ap (λ b. F all (n + 1 == h.requests) b now.unused now.load now.flows) ending
         ∙ ap (λ o. F all (n + 1 == h.requests) ends o now.load now.flows) unused
-        ∙ ap (λ l. F all (n + 1 == h.requests) ends (unused_before h trace' records' n) l now.flows) load
-        ∙ ap (F all (n + 1 == h.requests) ends (unused_before h trace' records' n) (load_after trace' (keeps_of records') n)) flows
+        ∙ ap (λ l. F all (n + 1 == h.requests) ends (unused_before h fills trace' records' n) l now.flows) load
+        ∙ ap (F all (n + 1 == h.requests) ends (unused_before h fills trace' records' n) (load_after trace' (keeps_of records') n)) flows
 
     -- the sums over the intervals that have ended
-    module _ (f g : Interval → ℕ) (same : (i : Interval) → IsEligible (terms_of h) trace i → f i ≡ g i) where
-      eligible-agree : sum_by f (eligible_of trace h) ≡ sum_by g (eligible_of trace h)
-      eligible-agree = sum_by-all_agree f g (eligible_of trace h) (λ k d low. same _ (All-eligible_intervals (terms_of h) trace k d low))
+    module _ (f g : Interval → ℕ) (same : (i : Interval) → IsEligible (terms_of h fills) trace i → f i ≡ g i) where
+      eligible-agree : sum_by f (eligible_of trace fills h) ≡ sum_by g (eligible_of trace fills h)
+      eligible-agree = sum_by-all_agree f g (eligible_of trace fills h) (λ k d low. same _ (All-eligible_intervals (terms_of h fills) trace k d low))
 
-      pub intervals-new : IsNew trace x → sum_by f (eligible_of trace' h) ≡ sum_by g (eligible_of trace h)
-      intervals-new new = eligible_push_first f (terms_of h) trace x new ∙ eligible-agree
+      pub intervals-new : IsNew trace x → sum_by f (eligible_of trace' fills h) ≡ sum_by g (eligible_of trace fills h)
+      intervals-new new = eligible_push_first f (terms_of h fills) trace x new ∙ eligible-agree
 
       pub intervals-again : (a : ℕ) → IsLatest trace x a
-          → sum_by f (eligible_of trace' h) ≡ sum_by g (eligible_of trace h) + cond (nat_le h.warmup n) (cond (nat_le x.size h.capacity) (f (interval_of h.objective trace' a n)) 0) 0
+          → sum_by f (eligible_of trace' fills h) ≡ sum_by g (eligible_of trace fills h) + cond (counted) (cond (nat_le x.size h.capacity) (f (interval_of h.objective trace' a n)) 0) 0
       intervals-again a l =
           let more : ℕ = f (interval_of h.objective trace' a n) in
-          eligible_push_again f (terms_of h) trace x a l
-          ∙ ap (λ v. sum_by f (eligible_of trace h) + v) (both_tests (nat_le x.size h.capacity) (nat_le h.warmup n) more)
-          ∙ ap (λ m. m + cond (nat_le h.warmup n) (cond (nat_le x.size h.capacity) more 0) 0) eligible-agree
+          eligible_push_again f (terms_of h fills) trace x a l
+          ∙ ap (λ v. sum_by f (eligible_of trace fills h) + v) (both_tests (nat_le x.size h.capacity) (counted) more)
+          ∙ ap (λ m. m + cond (counted) (cond (nat_le x.size h.capacity) more 0) 0) eligible-agree
 
     -- the interval that ends at the request has its object's size and gain
     ended : (a : ℕ) → IsLatest trace x a → interval_of h.objective trace' a n ≡ record { start = a; end = n; size = x.size; gain = gain_of h.objective x }
@@ -268,20 +276,20 @@ module _ (h : Header) (trace : List Object) (records : List Record) (x : Object)
         ∙ take_all (n - a) (drop a (prices_of records)) (omega (arith, length-drop a (prices_of records), size)) in
         omega (arith, ap sum rest, sum_by-take-drop (λ (k : ℕ). k) (prices_of records) a)
 
-    same_surplus : (i : Interval) → IsEligible (terms_of h) trace i
+    same_surplus : (i : Interval) → IsEligible (terms_of h fills) trace i
         → surplus h.unit h.denominator (prices_of records') i ≡ surplus h.unit h.denominator (prices_of records) i
     same_surplus i e =
         let low : i.start < i.end = e.next.before in
         let high : i.end < n = e.next.within in
         ap (λ ps. h.denominator * i.gain - (i.size / h.unit) * sum ps) (slice_range-prices records (r ∷ []) i.start i.end (omega (arith, one)) (omega (arith, one)))
 
-    pub surpluses-pushed : sum_by (surplus h.unit h.denominator (prices_of records')) (eligible_of trace' h)
-        ≡ sum_by (surplus h.unit h.denominator (prices_of records)) (eligible_of trace h) + (added h x n (sum (prices_of records)) before).surplus
+    pub surpluses-pushed : sum_by (surplus h.unit h.denominator (prices_of records')) (eligible_of trace' fills h)
+        ≡ sum_by (surplus h.unit h.denominator (prices_of records)) (eligible_of trace fills h) + (added h counted x (sum (prices_of records)) before).surplus
     surpluses-pushed = at before known
       where
         at : (b : Option Seen) → MatchOption b (IsNew trace x) (IsSeen trace records x)
-            → sum_by (surplus h.unit h.denominator (prices_of records')) (eligible_of trace' h)
-            ≡ sum_by (surplus h.unit h.denominator (prices_of records)) (eligible_of trace h) + (added h x n (sum (prices_of records)) b).surplus
+            → sum_by (surplus h.unit h.denominator (prices_of records')) (eligible_of trace' fills h)
+            ≡ sum_by (surplus h.unit h.denominator (prices_of records)) (eligible_of trace fills h) + (added h counted x (sum (prices_of records)) b).surplus
         at None new = omega (arith, intervals-new (surplus h.unit h.denominator (prices_of records')) (surplus h.unit h.denominator (prices_of records)) same_surplus new)
         at (Some seen) is =
             let f : Interval → ℕ = surplus h.unit h.denominator (prices_of records') in
@@ -289,63 +297,64 @@ module _ (h : Header) (trace : List Object) (records : List Record) (x : Object)
             ap f (ended seen.latest is.latest)
             ∙ ap (λ p. h.denominator * gain_of h.objective x - (x.size / h.unit) * p) (covered seen.latest is.latest.within ∙ ap (λ p. sum (prices_of records) - p) (sym is.price_before)) in
             intervals-again f (surplus h.unit h.denominator (prices_of records)) same_surplus seen.latest is.latest
-            ∙ ap (λ v. sum_by (surplus h.unit h.denominator (prices_of records)) (eligible_of trace h) + cond (nat_le h.warmup n) (cond (nat_le x.size h.capacity) v 0) 0) own
-            ∙ ap (λ v. sum_by (surplus h.unit h.denominator (prices_of records)) (eligible_of trace h) + v) (sym (surplus_if (nat_le h.warmup n) (added_by h x (sum (prices_of records)) seen)))
+            ∙ ap (λ v. sum_by (surplus h.unit h.denominator (prices_of records)) (eligible_of trace fills h) + cond (counted) (cond (nat_le x.size h.capacity) v 0) 0) own
+            ∙ ap (λ v. sum_by (surplus h.unit h.denominator (prices_of records)) (eligible_of trace fills h) + v) (sym (surplus_if (counted) (added_by h x (sum (prices_of records)) seen)))
 
-    same_value : (i : Interval) → IsEligible (terms_of h) trace i → value_in h records' i ≡ value_in h records i
+    same_value : (i : Interval) → IsEligible (terms_of h fills) trace i → value_in h records' i ≡ value_in h records i
     same_value i e =
         let low : i.start < i.end = e.next.before in
         let high : i.end < n = e.next.within in
         ap (λ f. (h.denominator * i.gain / weight h.unit i) * f) (flow_at-prefix records (r ∷ []) i.start (omega (arith, one)))
 
-    pub values-pushed : flow_of trace' h records' ≡ flow_of trace h records + (added h x n (sum (prices_of records)) before).value
+    pub values-pushed : flow_of trace' fills h records' ≡ flow_of trace fills h records + (added h counted x (sum (prices_of records)) before).value
     values-pushed = at before known
       where
         at : (b : Option Seen) → MatchOption b (IsNew trace x) (IsSeen trace records x)
-            → flow_of trace' h records' ≡ flow_of trace h records + (added h x n (sum (prices_of records)) b).value
-        at None new = omega (arith, flow_of-sum h trace' records', flow_of-sum h trace records, intervals-new (value_in h records') (value_in h records) same_value new)
+            → flow_of trace' fills h records' ≡ flow_of trace fills h records + (added h counted x (sum (prices_of records)) b).value
+        at None new = omega (arith, flow_of-sum h fills trace' records', flow_of-sum h fills trace records, intervals-new (value_in h records') (value_in h records) same_value new)
         at (Some seen) is =
             let low : seen.latest < n = is.latest.within in
             let own : value_in h records' (interval_of h.objective trace' seen.latest n) ≡ (h.denominator * gain_of h.objective x / (x.size / h.unit)) * seen.flow =
             ap (value_in h records') (ended seen.latest is.latest)
             ∙ ap (λ f. (h.denominator * gain_of h.objective x / (x.size / h.unit)) * f) (flow_at-prefix records (r ∷ []) seen.latest (omega (arith, one)) ∙ sym is.flow) in
-            flow_of-sum h trace' records'
+            flow_of-sum h fills trace' records'
             ∙ intervals-again (value_in h records') (value_in h records) same_value seen.latest is.latest
-            ∙ ap (λ v. sum_by (value_in h records) (eligible_of trace h) + cond (nat_le h.warmup n) (cond (nat_le x.size h.capacity) v 0) 0) own
-            ∙ ap (λ v. sum_by (value_in h records) (eligible_of trace h) + v) (sym (value_if (nat_le h.warmup n) (added_by h x (sum (prices_of records)) seen)))
-            ∙ ap (λ s. s + (added h x n (sum (prices_of records)) (Some seen)).value) (sym (flow_of-sum h trace records))
+            ∙ ap (λ v. sum_by (value_in h records) (eligible_of trace fills h) + cond (counted) (cond (nat_le x.size h.capacity) v 0) 0) own
+            ∙ ap (λ v. sum_by (value_in h records) (eligible_of trace fills h) + v) (sym (value_if (counted) (added_by h x (sum (prices_of records)) seen)))
+            ∙ ap (λ s. s + (added h counted x (sum (prices_of records)) (Some seen)).value) (sym (flow_of-sum h fills trace records))
 
     -- the score
-    earned-pushed : earned_at (terms_of h) trace' (keeps_of records') n ≡ (added h x n (sum (prices_of records)) before).gain
+    earned-pushed : earned_at (terms_of h fills) trace' (keeps_of records') n ≡ (added h counted x (sum (prices_of records)) before).gain
     earned-pushed = at before known
       where
         high : n < length trace'
         high = omega (arith, length-pushed trace x)
 
         here : (b : Bool) → holds (held_before trace' (keeps_of records') n) (request_at trace' n) ≡ b
-            → earned_at (terms_of h) trace' (keeps_of records') n ≡ cond (nat_le h.warmup n) (cond b (gain_of h.objective x) 0) 0
+            → earned_at (terms_of h fills) trace' (keeps_of records') n ≡ cond (counted) (cond b (gain_of h.objective x) 0) 0
         here b e =
-            ap (λ k. cond (nat_le h.warmup n) (cond k (gain_of h.objective (request_at trace' n)) 0) 0) e ∙ ap (λ y. cond (nat_le h.warmup n) (cond b (gain_of h.objective y) 0) 0) (request_at-pushed trace x)
+            ap (λ k. cond (counted && k) (gain_of h.objective (request_at trace' n)) 0) e ∙ ap (λ y. cond (counted && b) (gain_of h.objective y) 0) (request_at-pushed trace x)
+            ∙ one_after counted b (gain_of h.objective x)
 
         at : (b : Option Seen) → MatchOption b (IsNew trace x) (IsSeen trace records x)
-            → earned_at (terms_of h) trace' (keeps_of records') n ≡ (added h x n (sum (prices_of records)) b).gain
-        at None new = here false (holds-first trace' n high (keeps_of records') (IsFirst-pushed trace x new)) ∙ none_counts (nat_le h.warmup n) 0
+            → earned_at (terms_of h fills) trace' (keeps_of records') n ≡ (added h counted x (sum (prices_of records)) b).gain
+        at None new = here false (holds-first trace' n high (keeps_of records') (IsFirst-pushed trace x new)) ∙ none_counts (counted) 0
         at (Some seen) is =
             here seen.keep
             (holds-next trace' n high (keeps_of records') seen.latest (IsNext-pushed trace x seen.latest is.latest)
             ∙ same_keeps n (omega arith) seen.latest is.latest.within ∙ sym is.keep)
-            ∙ sym (gain_if (nat_le h.warmup n) (added_by h x (sum (prices_of records)) seen))
+            ∙ sym (gain_if (counted) (added_by h x (sum (prices_of records)) seen))
 
-    pub score-pushed : score (terms_of h) trace' (contents_of trace' (keeps_of records'))
-        ≡ score (terms_of h) trace (contents_of trace (keeps_of records)) + (added h x n (sum (prices_of records)) before).gain
+    pub score-pushed : score (terms_of h fills) trace' (contents_of trace' (keeps_of records'))
+        ≡ score (terms_of h fills) trace (contents_of trace (keeps_of records)) + (added h counted x (sum (prices_of records)) before).gain
     score-pushed =
-        let earned : ℕ → ℕ = earned_at (terms_of h) trace' (keeps_of records') in
+        let earned : ℕ → ℕ = earned_at (terms_of h fills) trace' (keeps_of records') in
         let size : length trace' ≡ n + 1 = omega (arith, length-pushed trace x) in
-        score-requests (terms_of h) trace' (keeps_of records')
+        score-requests (terms_of h fills) trace' (keeps_of records')
         ∙ ap (λ k. sum_by earned (range_with_len 0 k)) size
-        ∙ earned-more (terms_of h) trace' (keeps_of records') n
+        ∙ earned-more (terms_of h fills) trace' (keeps_of records') n
         ∙ ap (λ e. sum_by earned (range_with_len 0 n) + e) earned-pushed
-        ∙ ap (λ s. s + (added h x n (sum (prices_of records)) before).gain)
-        (sum_by-range_agree earned (earned_at (terms_of h) trace (keeps_of records)) 0 n
-        (λ k low lt. earned_at-prefix trace (x ∷ []) (terms_of h) (keeps_of records) (keeps_of records') k (omega arith) (same_keeps k (omega arith)))
-        ∙ sym (score-requests (terms_of h) trace (keeps_of records)))
+        ∙ ap (λ s. s + (added h counted x (sum (prices_of records)) before).gain)
+        (sum_by-range_agree earned (earned_at (terms_of h fills) trace (keeps_of records)) 0 n
+        (λ k low lt. earned_at-prefix trace (x ∷ []) (terms_of h fills) (keeps_of records) (keeps_of records') k (omega arith) (same_keeps k (omega arith)))
+        ∙ sym (score-requests (terms_of h fills) trace (keeps_of records)))

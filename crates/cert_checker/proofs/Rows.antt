@@ -34,25 +34,25 @@ abbrev cycle_records : ℕ → Record → List Record
 cycle_records price third = entry price true 1 ∷ entry 0 true 1 ∷ third ∷ entry 0 false 0 ∷ entry 0 false 0 ∷ entry 0 false 0 ∷ []
 
 abbrev of_cycle : Header → List Record → List (Option InvalidKind)
-of_cycle h records = map (record_fault h cycle records) (0 ∷ 1 ∷ 2 ∷ 3 ∷ 4 ∷ 5 ∷ [])
+of_cycle h records = map (record_fault h [] cycle records) (0 ∷ 1 ∷ 2 ∷ 3 ∷ 4 ∷ 5 ∷ [])
 
 cycle_passes : of_cycle (cycle_header 2) (cycle_records 0 (entry 1 false 0)) ≡ None ∷ None ∷ None ∷ None ∷ None ∷ None ∷ []
 cycle_passes = refl
 
-cycle_end_passes : end_fault (cycle_header 2) cycle (cycle_records 0 (entry 1 false 0)) ≡ None
+cycle_end_passes : end_fault (cycle_header 2) [] cycle (cycle_records 0 (entry 1 false 0)) ≡ None
 cycle_end_passes = refl
 
-greater_upper : end_fault (cycle_header 3) cycle (cycle_records 0 (entry 1 false 0)) ≡ Some (UpperDiffers 3 2)
+greater_upper : end_fault (cycle_header 3) [] cycle (cycle_records 0 (entry 1 false 0)) ≡ Some (UpperDiffers 3 2)
 greater_upper = refl
 
-third_keep : record_fault (cycle_header 2) cycle (cycle_records 0 (entry 1 true 0)) 2 ≡ Some (Overfull 3 2)
+third_keep : record_fault (cycle_header 2) [] cycle (cycle_records 0 (entry 1 true 0)) 2 ≡ Some (Overfull 3 2)
 third_keep = refl
 
-third_flow : record_fault (cycle_header 2) cycle (cycle_records 0 (entry 1 false 1)) 2 ≡ Some (FlowOverfull 3 2)
+third_flow : record_fault (cycle_header 2) [] cycle (cycle_records 0 (entry 1 false 1)) 2 ≡ Some (FlowOverfull 3 2)
 third_flow = refl
 
 -- two units, each paying 2^126
-large_price : record_fault (cycle_header 2) cycle (cycle_records 85070591730234615865843651857942052864 (entry 1 false 0)) 0 ≡ Some SumLimit
+large_price : record_fault (cycle_header 2) [] cycle (cycle_records 85070591730234615865843651857942052864 (entry 1 false 0)) 0 ≡ Some SumLimit
 large_price = refl
 
 -- ---- one object of 4 bytes, asked for twice at capacity 10
@@ -65,46 +65,46 @@ pair_header unit upper flow lower = record { objective = Hits; capacity = 10; re
 abbrev pair_records : ℕ → ℕ → ℕ → List Record
 pair_records flow price last = entry 0 true flow ∷ entry price false last ∷ []
 
-pair_passes : map (record_fault (pair_header 4 1 1 1) pair (pair_records 1 0 0)) (0 ∷ 1 ∷ []) ≡ None ∷ None ∷ []
+pair_passes : map (record_fault (pair_header 4 1 1 1) [] pair (pair_records 1 0 0)) (0 ∷ 1 ∷ []) ≡ None ∷ None ∷ []
 pair_passes = refl
 
-pair_end_passes : end_fault (pair_header 4 1 1 1) pair (pair_records 1 0 0) ≡ None
+pair_end_passes : end_fault (pair_header 4 1 1 1) [] pair (pair_records 1 0 0) ≡ None
 pair_end_passes = refl
 
-last_price : record_fault (pair_header 4 1 1 1) pair (pair_records 1 5 0) 1 ≡ Some (LastPrice 5)
+last_price : record_fault (pair_header 4 1 1 1) [] pair (pair_records 1 5 0) 1 ≡ Some (LastPrice 5)
 last_price = refl
 
-other_unit : record_fault (pair_header 3 1 1 1) pair (pair_records 1 0 0) 1 ≡ Some (UnitNotDivisor 3 4)
+other_unit : record_fault (pair_header 3 1 1 1) [] pair (pair_records 1 0 0) 1 ≡ Some (UnitNotDivisor 3 4)
 other_unit = refl
 
 -- the unit is not asked of an object before it is requested again
-other_unit_at_first : record_fault (pair_header 3 1 1 1) pair (pair_records 1 0 0) 0 ≡ None
+other_unit_at_first : record_fault (pair_header 3 1 1 1) [] pair (pair_records 1 0 0) 0 ≡ None
 other_unit_at_first = refl
 
-half_unit : record_fault (pair_header 2 1 1 1) pair (pair_records 1 0 0) 1 ≡ Some (NotDivisible 2)
+half_unit : record_fault (pair_header 2 1 1 1) [] pair (pair_records 1 0 0) 1 ≡ Some (NotDivisible 2)
 half_unit = refl
 
-greater_flow : record_fault (pair_header 4 1 1 1) pair (pair_records 2 0 0) 0 ≡ Some (FlowAboveWeight 2 1)
+greater_flow : record_fault (pair_header 4 1 1 1) [] pair (pair_records 2 0 0) 0 ≡ Some (FlowAboveWeight 2 1)
 greater_flow = refl
 
-last_flow : end_fault (pair_header 4 1 1 1) pair (pair_records 1 0 1) ≡ Some (Unused 1)
+last_flow : end_fault (pair_header 4 1 1 1) [] pair (pair_records 1 0 1) ≡ Some (Unused 1)
 last_flow = refl
 
-other_flow : end_fault (pair_header 4 1 2 1) pair (pair_records 1 0 0) ≡ Some (FlowDiffers 2 1)
+other_flow : end_fault (pair_header 4 1 2 1) [] pair (pair_records 1 0 0) ≡ Some (FlowDiffers 2 1)
 other_flow = refl
 
-other_lower : end_fault (pair_header 4 1 1 0) pair (pair_records 1 0 0) ≡ Some (LowerDiffers 0 1)
+other_lower : end_fault (pair_header 4 1 1 0) [] pair (pair_records 1 0 0) ≡ Some (LowerDiffers 0 1)
 other_lower = refl
 
-no_flow : end_fault (pair_header 4 1 0 1) pair (pair_records 0 0 0) ≡ Some (ExactGap 1 0)
+no_flow : end_fault (pair_header 4 1 0 1) [] pair (pair_records 0 0 0) ≡ Some (ExactGap 1 0)
 no_flow = refl
 
 -- an object above the capacity may have no flow
-too_large : record_fault (pair_header 4 1 1 1) (object 7 11 ∷ []) (entry 0 false 1 ∷ []) 0 ≡ Some (FlowAboveWeight 1 0)
+too_large : record_fault (pair_header 4 1 1 1) [] (object 7 11 ∷ []) (entry 0 false 1 ∷ []) 0 ≡ Some (FlowAboveWeight 1 0)
 too_large = refl
 
 -- flows where no interval starts load the units all the same
-apart : record_fault (record { objective = Hits; capacity = 1; requests = 2; unit = 1; denominator = 1; exact = false; upper = 0; flow = 0; lower = 0; warmup = 0; version = 1 })
+apart : record_fault (record { objective = Hits; capacity = 1; requests = 2; unit = 1; denominator = 1; exact = false; upper = 0; flow = 0; lower = 0; warmup = 0; version = 1 }) []
     (object 1 1 ∷ object 2 1 ∷ []) (entry 0 false 1 ∷ entry 0 false 1 ∷ []) 1 ≡ Some (FlowOverfull 2 1)
 apart = refl
 
@@ -119,11 +119,11 @@ late_passes : of_cycle (late_header 5 1) (late_records 0) ≡ None ∷ None ∷ 
 late_passes = refl
 
 -- the hit at the fourth request earns nothing
-late_end_passes : end_fault (late_header 5 1) cycle (late_records 0) ≡ None
+late_end_passes : end_fault (late_header 5 1) [] cycle (late_records 0) ≡ None
 late_end_passes = refl
 
 -- where two requests count
-later_end : end_fault (late_header 4 1) cycle (late_records 0) ≡ Some (UpperDiffers 1 2)
+later_end : end_fault (late_header 4 1) [] cycle (late_records 0) ≡ Some (UpperDiffers 1 2)
 later_end = refl
 
 -- a flow whose interval ends within the warm-up
@@ -135,15 +135,37 @@ none_counts : of_cycle (late_header 6 0) (late_records 0) ≡ None ∷ None ∷ 
 none_counts = refl
 
 -- the unit is asked of the first request that counts
-warm_unit : map (record_fault (record (pair_header 3 1 1 1) { warmup = 2 }) pair (pair_records 0 0 0)) (0 ∷ 1 ∷ []) ≡ None ∷ None ∷ []
+warm_unit : map (record_fault (record (pair_header 3 1 1 1) { warmup = 2 }) [] pair (pair_records 0 0 0)) (0 ∷ 1 ∷ []) ≡ None ∷ None ∷ []
 warm_unit = refl
 
-counted_unit : record_fault (record (pair_header 3 1 1 1) { warmup = 1 }) pair (pair_records 0 0 0) 1 ≡ Some (UnitNotDivisor 3 4)
+counted_unit : record_fault (record (pair_header 3 1 1 1) { warmup = 1 }) [] pair (pair_records 0 0 0) 1 ≡ Some (UnitNotDivisor 3 4)
 counted_unit = refl
 
+-- ---- the pair whose second request only fills, and the cycle where only the last request does not
+abbrev second_fills : List Bool
+second_fills = false ∷ true ∷ []
+
+-- a flow whose interval ends at a request that only fills
+filling_flow : map (record_fault (pair_header 4 1 1 1) second_fills pair (pair_records 1 0 0)) (0 ∷ 1 ∷ []) ≡ None ∷ Some (Unused 0) ∷ []
+filling_flow = refl
+
+-- the unit is not asked of a request that only fills
+filling_unit : map (record_fault (pair_header 3 1 1 1) second_fills pair (pair_records 0 0 0)) (0 ∷ 1 ∷ []) ≡ None ∷ None ∷ []
+filling_unit = refl
+
+-- a request that only fills earns nothing
+filling_end : end_fault (pair_header 4 0 0 1) second_fills pair (pair_records 0 0 0) ≡ Some (LowerDiffers 1 0)
+filling_end = refl
+
+abbrev last_counts : List Bool
+last_counts = true ∷ true ∷ true ∷ true ∷ true ∷ false ∷ []
+
 -- ---- walks
+abbrev marked : List Object → List Bool → Option TraceFault → traces.Reading
+marked requests fills refused = record { requests = requests; fills = fills; volumes = []; dropped = 0; lines = 0; bytes = 0; refused = refused }
+
 abbrev known : List Object → Option TraceFault → traces.Reading
-known requests refused = record { requests = requests; volumes = []; dropped = 0; lines = 0; bytes = 0; refused = refused }
+known requests refused = marked requests [] refused
 
 abbrev walked : List Object → Header → List Record → Option Event
 walked trace h records = walk_under (Some h) (known trace None) (certificates.whole h records)
@@ -182,6 +204,22 @@ unit_walk = refl
 -- the trace is refused after its first request: the record of that is still read, and the next is not
 refused_walk : walk_under (Some (pair_header 4 1 1 1)) (known (object 7 4 ∷ []) (Some InputTooLong)) (certificates.whole (pair_header 4 1 1 1) (pair_records 1 0 0)) ≡ Some (Refused InputTooLong)
 refused_walk = refl
+
+-- ---- walks over a trace with marks
+abbrev walked_marked : Header → List Record → Option Event
+walked_marked h records = walk_under (Some h) (marked cycle last_counts None) (certificates.whole h records)
+
+marked_walk : walked_marked (late_header 0 1) (late_records 0) ≡ None
+marked_walk = refl
+
+-- the same certificate, if the marks are forgotten
+forgotten_marks : walked cycle (late_header 0 1) (late_records 0) ≡ Some (Invalid (header_len (late_header 0 1) + 7) (UpperDiffers 1 3))
+unfolding header_len
+forgotten_marks = refl
+
+marked_flow_walk : walked_marked (late_header 0 1) (late_records 1) ≡ Some (Invalid (header_len (late_header 0 1) + 4) (Unused 0))
+unfolding header_len
+marked_flow_walk = refl
 
 -- ---- walks over the bytes of a certificate
 pair_bytes : walk (known pair None) (cert_text (pair_header 4 1 1 1) (pair_records 1 0 0)) ≡ None

@@ -1,5 +1,5 @@
 -- A checker stands for the requests and records that it was given, one step later too.
-use Rattle.std.proofs.Common.{◌≡◌, ℕ, suc, zero, ◌+◌, ◌*◌, ◌^◌, ◌<◌, ◌≤◌, ◌∙◌, sym, refl, ap, subst, true, false, cond, nat_lt, List, [], ◌∷◌, ◌++◌, length, take, sum, arith, None, Some, ⊎_elim}
+use Rattle.std.proofs.Common.{◌≡◌, ℕ, suc, zero, ◌+◌, ◌*◌, ◌^◌, ◌<◌, ◌≤◌, ◌∙◌, sym, refl, ap, subst, Bool, true, false, cond, nat_lt, List, [], ◌∷◌, ◌++◌, length, take, sum, arith, None, Some, ⊎_elim}
 use Rattle.std.specs.Prelude.{MatchOption}
 use Rattle.std.specs.declared.option.Option.{Option}
 use Rattle.std.specs.Map.{keys_of, lookup}
@@ -11,7 +11,7 @@ use Rattle.indexmap.specs.IndexMap.{insert_entry}
 use Rattle.cache_model.specs.declared.objects.Object.{Object}
 use Rattle.cache_model.specs.declared.certificates.Header.{Header}
 use Rattle.cache_model.specs.declared.certificates.Record.{Record}
-use Rattle.cache_model.specs.Claim.{same_object, total_size, request_at, held_before}
+use Rattle.cache_model.specs.Claim.{counts_past, same_object, total_size, request_at, held_before}
 use Rattle.cache_model.specs.Objects.{objects_of, IsNew}
 use Rattle.cache_model.specs.Keeps.{latest_sum, load_after}
 use Rattle.cache_model.specs.Certificates.{flow_at, keeps_of, prices_of, units_of, unpriced, IsRecordInRange}
@@ -45,10 +45,10 @@ keys-inserted entries x v trace records objects None found new =
 keys-inserted entries x v trace records objects (Some seen) found is =
     (Updates-from_lookup same_object x v entries seen found).keys ∙ objects ∙ sym (objects_of-pushed_again trace x seen.latest is.latest)
 
-module _ (h : Header) (trace : List Object) (records : List Record) (s : Summary) (st : StandsFor h trace records s) where
+module _ (h : Header) (fills : List Bool) (trace : List Object) (records : List Record) (s : Summary) (st : StandsFor h fills trace records s) where
   -- no rule fails at a request
-  pub passes_at : (t : ℕ) → t < length trace → Passes h (request_at trace t) (record_at records t) (figures_at h trace records t)
-  passes_at t low = Passes-from_none h (request_at trace t) (record_at records t) (figures_at h trace records t) (st.no_fault t low)
+  pub passes_at : (t : ℕ) → t < length trace → Passes h (request_at trace t) (record_at records t) (figures_at h fills trace records t)
+  passes_at t low = Passes-from_none h (request_at trace t) (record_at records t) (figures_at h fills trace records t) (st.no_fault t low)
 
   -- what is kept is within the limits
   pub record AreWithin : Type 0 where
@@ -73,7 +73,7 @@ module _ (h : Header) (trace : List Object) (records : List Record) (s : Summary
           }
       at (suc t) e =
           let last : t + 1 ≡ length trace = omega arith in
-          let p : Passes h (request_at trace t) (record_at records t) (figures_at h trace records t) = passes_at t (omega arith) in
+          let p : Passes h (request_at trace t) (record_at records t) (figures_at h fills trace records t) = passes_at t (omega arith) in
           let prices : sum (take (t + 1) (prices_of records)) ≡ s.sums.prices =
           ap sum (take_all (t + 1) (prices_of records) (omega (arith, length-map records (λ (r : Record). r.price), st.input.one_record_each))) ∙ sym st.sums.prices in
           record {
@@ -89,11 +89,11 @@ module _ (h : Header) (trace : List Object) (records : List Record) (s : Summary
     -- what the object had is within what there is
     pub size_before-le : size_before x (lookup (same_object x) s.entries) ≤ s.sums.load
     size_before-le =
-        omega (arith, st.sums.load, load-pushed h trace records x (unpriced false) st.input.one_record_each (lookup (same_object x) s.entries) (st.seen x))
+        omega (arith, st.sums.load, load-pushed h fills trace records x (unpriced false) st.input.one_record_each (lookup (same_object x) s.entries) (st.seen x))
 
     pub flow_before-le : flow_before (lookup (same_object x) s.entries) ≤ s.sums.flows
     flow_before-le =
-        omega (arith, st.sums.flows, flows-pushed h trace records x (unpriced false) st.input.one_record_each (lookup (same_object x) s.entries) (st.seen x))
+        omega (arith, st.sums.flows, flows-pushed h fills trace records x (unpriced false) st.input.one_record_each (lookup (same_object x) s.entries) (st.seen x))
 
     module _ (seen : Seen) (found : lookup (same_object x) s.entries ≡ Some seen) where
       pub seen-is : IsSeen trace records x seen
@@ -109,22 +109,22 @@ module _ (h : Header) (trace : List Object) (records : List Record) (s : Summary
           let here : x ≡ request_at trace a = same_object-true x (request_at trace a) seen-is.latest.same in
           let flow : seen.flow ≡ (record_at records a).flow =
           seen-is.flow ∙ get_or-map (λ (r : Record). r.flow) records a (unpriced false) 0 (omega (arith, st.input.one_record_each)) in
-          let p : Passes h (request_at trace a) (record_at records a) (figures_at h trace records a) = passes_at a low in
+          let p : Passes h (request_at trace a) (record_at records a) (figures_at h fills trace records a) = passes_at a low in
           let own : nat_lt (weight_in h x) (record_at records a).flow ≡ false = ap (λ y. nat_lt (weight_in h y) (record_at records a).flow) here ∙ p.flow in
           ⊎_elim
           (λ (above : weight_in h x < (record_at records a).flow). absurd (both_ways (nat_lt (weight_in h x) (record_at records a).flow) own (lt-ltb _ _ above)))
           (λ (below : (record_at records a).flow ≤ weight_in h x). omega (arith, flow))
           (cases_lt (weight_in h x) (record_at records a).flow)
 
-    module _ (r : Record) (now : Figures) (next : AreNext h s.sums x r (lookup (same_object x) s.entries) now) where
+    module _ (r : Record) (now : Figures) (counts : Bool) (is_counted : counts ≡ counts_past h.warmup fills (length trace)) (next : AreNext h counts s.sums x r (lookup (same_object x) s.entries) now) where
       -- the rules of the code are those of the lists
-      pub record_fault-pushed : record_fault h (trace ++ x ∷ []) (records ++ r ∷ []) (length trace) ≡ first_some (record_rules h x r now)
+      pub record_fault-pushed : record_fault h fills (trace ++ x ∷ []) (records ++ r ∷ []) (length trace) ≡ first_some (record_rules h x r now)
       record_fault-pushed =
-          let f : Figures = figures_at h (trace ++ x ∷ []) (records ++ r ∷ []) (length trace) in
+          let f : Figures = figures_at h fills (trace ++ x ∷ []) (records ++ r ∷ []) (length trace) in
           ap (λ y. first_some (record_rules h y (record_at (records ++ r ∷ []) (length trace)) f)) (request_at-pushed trace x)
-          ∙ ap (λ e. first_some (record_rules h x e f)) (record_at-pushed h trace records x r st.input.one_record_each)
+          ∙ ap (λ e. first_some (record_rules h x e f)) (record_at-pushed h fills trace records x r st.input.one_record_each)
           ∙ ap (λ g. first_some (record_rules h x r g))
-          (sym (figures-pushed h trace records x r st.input.one_record_each (lookup (same_object x) s.entries) (st.seen x) s.sums st.sums now next))
+          (sym (figures-pushed h fills trace records x r st.input.one_record_each (lookup (same_object x) s.entries) (st.seen x) s.sums st.sums now counts is_counted next))
 
       module _ (sized : IsSized x) (ranged : IsRecordInRange r) (room : s.sums.steps < h.requests) (passes : first_some (record_rules h x r now) ≡ None) where
         input-pushed : IsInput h (trace ++ x ∷ []) (records ++ r ∷ [])
@@ -136,17 +136,17 @@ module _ (h : Header) (trace : List Object) (records : List Record) (s : Summary
           within = omega (arith, length-pushed trace x, st.sums.steps);
         }
 
-        no_fault-pushed : (t : ℕ) → t < length (trace ++ x ∷ []) → record_fault h (trace ++ x ∷ []) (records ++ r ∷ []) t ≡ None
+        no_fault-pushed : (t : ℕ) → t < length (trace ++ x ∷ []) → record_fault h fills (trace ++ x ∷ []) (records ++ r ∷ []) t ≡ None
         no_fault-pushed t low =
             ⊎_elim
             (λ (early : t < length trace).
-            record_fault-prefix h trace (x ∷ []) records (r ∷ []) t early (omega (arith, st.input.one_record_each)) ∙ st.no_fault t early)
+            record_fault-prefix h fills trace (x ∷ []) records (r ∷ []) t early (omega (arith, st.input.one_record_each)) ∙ st.no_fault t early)
             (λ (late : length trace ≤ t).
             let here : t ≡ length trace = omega (arith, length-pushed trace x) in
-            ap (record_fault h (trace ++ x ∷ []) (records ++ r ∷ [])) here ∙ record_fault-pushed ∙ passes)
+            ap (record_fault h fills (trace ++ x ∷ []) (records ++ r ∷ [])) here ∙ record_fault-pushed ∙ passes)
             (cases_lt t (length trace))
 
-        sums-pushed : AreSums h (trace ++ x ∷ []) (records ++ r ∷ []) (sums_after s.sums now (added h x s.sums.steps s.sums.prices (lookup (same_object x) s.entries)))
+        sums-pushed : AreSums h fills (trace ++ x ∷ []) (records ++ r ∷ []) (sums_after s.sums now (added h counts x s.sums.prices (lookup (same_object x) s.entries)))
         sums-pushed =
             let one : length records ≡ length trace = st.input.one_record_each in
             let b : Option Seen = lookup (same_object x) s.entries in
@@ -154,24 +154,24 @@ module _ (h : Header) (trace : List Object) (records : List Record) (s : Summary
             let prices : s.sums.prices ≡ sum (prices_of records) = st.sums.prices in
             record {
               steps = omega (arith, st.sums.steps, length-pushed trace x);
-              prices = omega (arith, next.prices, st.sums.prices, prices-pushed h trace records x r one);
+              prices = omega (arith, next.prices, st.sums.prices, prices-pushed h fills trace records x r one);
               load = omega (
                 arith,
                 next.load,
                 st.sums.load,
-                load-pushed h trace records x r one b (st.seen x),
+                load-pushed h fills trace records x r one b (st.seen x),
                 ap (λ k. total_size (held_before (trace ++ x ∷ []) (keeps_of (records ++ r ∷ [])) k)) size,
               );
               flows = omega (
                 arith,
                 next.flows,
                 st.sums.flows,
-                flows-pushed h trace records x r one b (st.seen x),
+                flows-pushed h fills trace records x r one b (st.seen x),
                 ap (latest_sum (trace ++ x ∷ []) (flow_at (records ++ r ∷ []))) size,
               );
-              surpluses = omega (arith, st.sums.surpluses, surpluses-pushed h trace records x r one b (st.seen x), ap (λ p. (added h x s.sums.steps p (lookup (same_object x) s.entries)).surplus) prices, ap (λ t. (added h x t (sum (prices_of records)) (lookup (same_object x) s.entries)).surplus) st.sums.steps);
-              values = omega (arith, st.sums.values, values-pushed h trace records x r one b (st.seen x), ap (λ p. (added h x s.sums.steps p (lookup (same_object x) s.entries)).value) prices, ap (λ t. (added h x t (sum (prices_of records)) (lookup (same_object x) s.entries)).value) st.sums.steps);
-              score = omega (arith, st.sums.score, score-pushed h trace records x r one b (st.seen x), ap (λ p. (added h x s.sums.steps p (lookup (same_object x) s.entries)).gain) prices, ap (λ t. (added h x t (sum (prices_of records)) (lookup (same_object x) s.entries)).gain) st.sums.steps);
+              surpluses = omega (arith, st.sums.surpluses, surpluses-pushed h fills trace records x r one b (st.seen x), ap (λ p. (added h counts x p (lookup (same_object x) s.entries)).surplus) prices, ap (λ c. (added h c x (sum (prices_of records)) (lookup (same_object x) s.entries)).surplus) is_counted);
+              values = omega (arith, st.sums.values, values-pushed h fills trace records x r one b (st.seen x), ap (λ p. (added h counts x p (lookup (same_object x) s.entries)).value) prices, ap (λ c. (added h c x (sum (prices_of records)) (lookup (same_object x) s.entries)).value) is_counted);
+              score = omega (arith, st.sums.score, score-pushed h fills trace records x r one b (st.seen x), ap (λ p. (added h counts x p (lookup (same_object x) s.entries)).gain) prices, ap (λ c. (added h c x (sum (prices_of records)) (lookup (same_object x) s.entries)).gain) is_counted);
             }
 
         -- what is kept of the object of the request
@@ -183,8 +183,8 @@ module _ (h : Header) (trace : List Object) (records : List Record) (s : Summary
               latest = IsLatest-pushed trace x;
               price_before = st.sums.prices
                   ∙ ap sum (sym (take-prices records (r ∷ []) (length trace) (omega (arith, one)) ∙ take_all (length trace) (prices_of records) (omega (arith, one, length-map records (λ (e : Record). e.price)))));
-              keep = sym (is_kept-pushed h trace records x r one);
-              flow = sym (flow_at-pushed h trace records x r one);
+              keep = sym (is_kept-pushed h fills trace records x r one);
+              flow = sym (flow_at-pushed h fills trace records x r one);
             } in
             subst (λ k. IsSeen (trace ++ x ∷ []) (records ++ r ∷ []) x (record { latest = k; price_before = s.sums.prices; keep = r.keep; flow = r.flow })) (sym st.sums.steps) is
 
@@ -223,13 +223,13 @@ module _ (h : Header) (trace : List Object) (records : List Record) (s : Summary
               (cases_Bool (same_object x y))
 
           -- the checker stands for one more request and record
-          pub StandsFor-pushed : (sums : Sums) → sums ≡ sums_after s.sums now (added h x s.sums.steps s.sums.prices (lookup (same_object x) s.entries))
-              → StandsFor h (trace ++ x ∷ []) (records ++ r ∷ []) (record { header = s.header; entries = after; sums = sums })
+          pub StandsFor-pushed : (sums : Sums) → sums ≡ sums_after s.sums now (added h counts x s.sums.prices (lookup (same_object x) s.entries))
+              → StandsFor h fills (trace ++ x ∷ []) (records ++ r ∷ []) (record { header = s.header; entries = after; sums = sums })
           StandsFor-pushed sums summed = record {
             header = st.header;
             input = input-pushed;
             no_fault = no_fault-pushed;
             objects = ap keys_of entered ∙ keys-inserted s.entries x (seen_at s.sums r) trace records st.objects (lookup (same_object x) s.entries) refl (st.seen x);
             seen = seen-pushed;
-            sums = subst (AreSums h (trace ++ x ∷ []) (records ++ r ∷ [])) (sym summed) sums-pushed;
+            sums = subst (AreSums h fills (trace ++ x ∷ []) (records ++ r ∷ [])) (sym summed) sums-pushed;
           }

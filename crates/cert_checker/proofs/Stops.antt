@@ -1,5 +1,5 @@
 -- Why a walk ends where it does, and how it goes on.
-use Rattle.std.proofs.Common.{◌≡◌, ℕ, ◌+◌, ◌-◌, ◌<◌, ◌≤◌, ◌∙◌, sym, refl, ap, subst, List, [], ◌∷◌, ◌++◌, append_assoc, length, length-append, arith, Option, Some, None, IfSome, IfErr, Ok, Err, inl, inr}
+use Rattle.std.proofs.Common.{◌≡◌, ℕ, ◌+◌, ◌-◌, ◌<◌, ◌≤◌, ◌∙◌, sym, refl, ap, subst, Bool, List, [], ◌∷◌, ◌++◌, append_assoc, length, length-append, arith, Option, Some, None, IfSome, IfErr, Ok, Err, inl, inr}
 use Rattle.std.proofs.lemmas.List.{append-nil}
 use Rattle.bound_io.specs.Causes.{HasNewFault}
 use Rattle.bound_io.specs.Lines.{stands_in}
@@ -8,11 +8,14 @@ use Rattle.cache_model.specs.declared.objects.Object.{Object}
 use Rattle.cache_model.specs.declared.certificates.Header.{Header}
 use Rattle.cache_model.specs.declared.certificates.Record.{Record}
 use Rattle.cache_model.specs.Texts.{header_len}
+use Rattle.cache_rules.specs.Stored.{Requests, mark_if, with_mark, with_request}
 use Rattle.trace_any.specs.declared.fault.TraceFault.{TraceFault}
 use Rattle.trace_any.specs.declared.fault.TraceFault.TheVariants as refusal
 use Rattle.trace_any.specs.Readings as traces
+use Rattle.trace_any.specs.Readings.{is_marked, marks_of}
+use Rattle.trace_any.proofs.Marks.{HasMarks, reading-marks}
 use Rattle.trace_any.specs.Readers as requests
-use Rattle.trace_any.specs.Readers.{IsWhole, bytes_after}
+use Rattle.trace_any.specs.Readers.{IsWhole, bytes_after, last_mark}
 use Rattle.trace_any.specs.FirstLines.{GoesNoFurther, HasGiven, HasLostFor}
 use Rattle.trace_any.proofs.Coming.{past_both}
 use Rattle.trace_any.proofs.Through.{given_next, lost_for}
@@ -27,10 +30,10 @@ use Rattle.cert_format.proofs.Chains.{after_lines-add, bytes_through-add}
 use Rattle.cert_format.proofs.Taken.{at_some, if_known}
 use Rattle.cert_checker.specs.declared.walking.CheckFault.{CheckFault}
 use Rattle.cert_checker.specs.declared.walking.CheckFault.TheVariants as fault
-use Rattle.cert_checker.specs.Checks.{Inputs, HasChecked, HasCheckedAll, HasAsked, HasRecords, IsFailing, IsFresh, IsLater, IsStop, IsWalked, after_records, of_text, of_trace, taken}
-use Rattle.cert_checker.specs.Rules.{record_fault}
-use Rattle.cert_checker.specs.Summaries.{StandsFor, Summary}
+use Rattle.cert_checker.specs.Checks.{Inputs, HasChecked, HasCheckedAll, HasAsked, HasRecords, IsFailing, IsFresh, IsLater, IsStop, IsWalked, StandsForAll, AreMarked, fault_at, after_records, of_text, of_trace, taken}
+use Rattle.cert_checker.specs.Summaries.{Summary}
 use Rattle.cert_checker.specs.Walks.{Event, Invalid, Refused, asked, text_event, walk}
+use Rattle.cert_checker.proofs.Marked.{AreMarked-next, after-both, with_mark-marks}
 use Rattle.cert_checker.proofs.Events.{EndsAt, asked_of, walk_of, walked_too_many, walked_text, walked_rule, walked_refused}
 
 -- a fact of both, if both are known
@@ -62,7 +65,7 @@ consumed_on h records now end bytes has past =
     (is.further, is.consumed ∙ (ap (λ n. n + bytes_through (end.cert.lines.line - now.cert.lines.line) (after_lines now.cert.lines.line bytes)) has.consumed ∙ sym (through now.cert.lines.line end.cert.lines.line bytes is.further)))
 
 -- the line that was read last is that of the last record
-pub last_line : (h : Header) (given : List Object) (records : List Record) (checker : Summary) (line : ℕ) → StandsFor h given records checker → line ≡ header_len checker.header + checker.sums.steps → line ≡ header_len h + length given
+pub last_line : (h : Header) (given : Requests) (records : List Record) (checker : Summary) (line : ℕ) → StandsForAll h given records checker → line ≡ header_len checker.header + checker.sums.steps → line ≡ header_len h + length given.objects
 last_line h given records checker line stands is = is ∙ (ap (λ k. header_len k + checker.sums.steps) stands.header ∙ ap (λ n. header_len h + n) stands.sums.steps)
 
 -- a buffer at most was taken past a line that was reached
@@ -122,12 +125,19 @@ text_stop start end cert left faults (text.Truncated n) refused earlier reached 
 text_stop start end cert left faults (text.Trailing n) refused earlier reached near walked lost = record { event = walked (text.Trailing n) _ refl refused; near = (near n reached, lost (text.Trailing n) _ refl refused) }
 text_stop start end cert left faults text.ReadFault refused earlier reached near walked lost = record { event = new_fault_since start.certificate_faults faults end.certificate_faults earlier refused; near = tt }
 
-module _ (start : Inputs) (h : Header) (given : List Object) (records : List Record) (now : Inputs) (checker : Summary) (checked : HasChecked start h given records now checker) where
-  input : length records ≡ length given
+module _ (start : Inputs) (h : Header) (given : Requests) (records : List Record) (now : Inputs) (checker : Summary) (checked : HasChecked start h given records now checker) where
+  input : length records ≡ length given.objects
   input = checked.stands.input.one_record_each
 
-  within : length given ≤ h.requests
+  within : length given.objects ≤ h.requests
   within = checked.stands.input.within
+
+  -- the requests so far have a mark each, if the form of the trace has marks
+  abbrev marked : Bool
+  marked = is_marked start.reader.format
+
+  are : AreMarked marked given
+  are = subst (λ f. AreMarked (is_marked f) given) checked.same_format checked.marked
 
   -- a refusal of the trace is the event
   refused_event : (why : TraceFault) (dropped : ℕ) → IfSome (requests.known now.reader now.trace) (λ bytes. requests.IsOver (requests.to_come now.reader bytes) dropped (Some why)) → IsWalked start (Some (Refused why))
@@ -135,9 +145,10 @@ module _ (start : Inputs) (h : Header) (given : List Object) (records : List Rec
       if_both start.trace start.certificate _ _ _ checked.trace_read checked.records_read (λ b t p q.
       let is = at_some (requests.known now.reader now.trace) _ _ p.stands_in over in
       let coming = requests.to_come now.reader p.rest in
-      let none : given ++ coming.requests ≡ given = ap (λ xs. given ++ xs) is.requests ∙ append-nil given in
+      let none : given.objects ++ coming.requests ≡ given.objects = ap (λ xs. given.objects ++ xs) is.requests ∙ append-nil given.objects in
+      let no_mark : given.fills ++ coming.fills ≡ given.fills = ap (λ xs. given.fills ++ xs) is.marks ∙ append-nil given.fills in
       walk_at start b t _ _ p.reading q.reading
-      ∙ walked_refused h given records input within checked.stands.no_fault (requests.after given coming) (lines.to_come now.cert (after_lines now.cert.lines.line t)) why none is.stop)
+      ∙ walked_refused h given.objects given.fills records input within checked.stands.no_fault (requests.after given.objects given.fills coming) (lines.to_come now.cert (after_lines now.cert.lines.line t)) why none no_mark is.stop)
 
   -- the next request is not given
   pub stop_trace : (end : Inputs) (why : TraceFault) → requests.IsStopped now.reader end.reader (requests.known now.reader now.trace) now.trace_faults end.trace_faults why → IsStop start end (of_trace why)
@@ -156,7 +167,8 @@ module _ (start : Inputs) (h : Header) (given : List Object) (records : List Rec
         let is = at_some (requests.known now.reader now.trace) _ _ p.stands_in over in
         let coming = requests.to_come now.reader p.rest in
         record {
-          requests = ap (λ r. r.requests) p.reading ∙ (ap (λ xs. given ++ xs) is.0.requests ∙ append-nil given);
+          requests = ap (λ r. r.requests) p.reading ∙ (ap (λ xs. given.objects ++ xs) is.0.requests ∙ append-nil given.objects);
+          marks = ap (λ r. r.fills) p.reading ∙ (ap (λ xs. given.fills ++ xs) is.0.marks ∙ append-nil given.fills);
           dropped_lines = ap (λ r. r.dropped) p.reading ∙ is.0.dropped_lines;
           stop = ap (λ r. r.refused) p.reading ∙ is.0.stop;
         });
@@ -174,16 +186,23 @@ module _ (start : Inputs) (h : Header) (given : List Object) (records : List Rec
       nothing_left held None is = let wrong : None ≡ Some [] = is in cc
       nothing_left held (Some rest) is = let both : held ++ rest ≡ [] = cc in ap (λ r. Some r) (end_of held rest both)
 
-  module _ (x : Object) (reader : requests.Reader) (left : Option (List ℕ)) (goes : IfSome (requests.known now.reader now.trace) (λ bytes. requests.GoesOn (requests.onto x) now.reader reader bytes (requests.known reader left)))
-      (no_further : IfSome (requests.known now.reader now.trace) (GoesNoFurther (requests.onto x) now.reader reader)) (buffered : length reader.lines.held ≤ 65536) where
+  module _ (x : Object) (reader : requests.Reader) (left : Option (List ℕ)) (form : reader.format ≡ now.reader.format) (goes : IfSome (requests.known now.reader now.trace) (λ bytes. requests.GoesOn (requests.onto x (last_mark reader)) now.reader reader bytes (requests.known reader left)))
+      (no_further : IfSome (requests.known now.reader now.trace) (GoesNoFurther (requests.onto x (last_mark reader)) now.reader reader)) (buffered : length reader.lines.held ≤ 65536) where
     -- the requests after this one
     record Took (b : List ℕ) : Type 0 where
       rest : List ℕ
       stands : requests.known reader left ≡ Some rest
-      reading : traces.reading start.reader.format start.reader.limits b ≡ requests.after given (requests.onto x (requests.to_come reader rest))
+      reading : traces.reading start.reader.format start.reader.limits b ≡ requests.after given.objects given.fills (requests.onto x (last_mark reader) (requests.to_come reader rest))
       begins : IsFresh start.reader
-      gone : HasGiven (given ++ x ∷ []) start.reader reader b
+      gone : HasGiven (given.objects ++ x ∷ []) (given.fills ++ marks_of (last_mark reader) (x ∷ [])) start.reader reader b
       rest_is : rest ≡ bytes_after start.reader reader b
+
+    -- the marks of the whole trace
+    marks_in : (b : List ℕ) (p : Took b) → HasMarks marked (requests.after given.objects given.fills (requests.onto x (last_mark reader) (requests.to_come reader p.rest)))
+    marks_in b p = subst (HasMarks marked) p.reading (reading-marks start.reader.format start.reader.limits b)
+
+    are_next : AreMarked marked (with_request given x (last_mark reader))
+    are_next = subst (λ f. AreMarked marked (with_request given x (mark_if (is_marked f) reader.ahead.fills))) (sym (form ∙ checked.same_format)) (AreMarked-next marked reader.ahead.fills given x are)
 
     took : IfSome start.trace Took
     took = if_one start.trace _ _ checked.trace_read (λ b p.
@@ -192,50 +211,50 @@ module _ (start : Inputs) (h : Header) (given : List Object) (records : List Rec
         record {
           rest = bytes_after now.reader reader p.rest;
           stands = is.rest;
-          reading = p.reading ∙ ap (requests.after given) is.coming;
+          reading = p.reading ∙ ap (requests.after given.objects given.fills) is.coming;
           begins = p.begins;
-          gone = given_next start.reader now.reader reader given x b p.gone (subst (GoesNoFurther (requests.onto x) now.reader reader) p.rest_is further);
+          gone = given_next start.reader now.reader reader given.objects given.fills x (last_mark reader) b p.gone (subst (GoesNoFurther (requests.onto x (last_mark reader)) now.reader reader) p.rest_is further);
           rest_is = ap (bytes_after now.reader reader) p.rest_is
               ∙ past_both (now.reader.lines.consumed - start.reader.lines.consumed) (reader.lines.consumed - now.reader.lines.consumed) (reader.lines.consumed - start.reader.lines.consumed) b
               (omega (arith, p.gone.through.consumed, is.further));
         })
 
     -- the trace has lost what these requests need
-    lost_one : (b l : List ℕ) (p : Took b) → left ≡ Some l → HasLostFor start.reader.format start.reader.limits (length given + 1) b l
+    lost_one : (b l : List ℕ) (p : Took b) → left ≡ Some l → HasLostFor start.reader.format start.reader.limits (length given.objects + 1) b l
     lost_one b l p is =
         let stood : Some (reader.lines.held ++ l) ≡ Some p.rest = ap (requests.known reader) (sym is) ∙ p.stands in
         let here : reader.lines.held ++ l ≡ p.rest = cc in
         let coming = requests.to_come reader p.rest in
-        let many : length (given ++ x ∷ []) ≡ length given + 1 = length-append given (x ∷ []) in
-        let all = length-append given (x ∷ coming.requests) in
+        let many : length (given.objects ++ x ∷ []) ≡ length given.objects + 1 = length-append given.objects (x ∷ []) in
+        let all = length-append given.objects (x ∷ coming.requests) in
         subst (λ n. HasLostFor start.reader.format start.reader.limits n b l) many
-        (lost_for start.reader reader start.reader.format start.reader.limits (given ++ x ∷ []) b l p.begins p.gone (here ∙ p.rest_is) buffered (omega (arith, many, all, ap (λ r. length r.requests) p.reading)))
+        (lost_for start.reader reader start.reader.format start.reader.limits (given.objects ++ x ∷ []) (given.fills ++ marks_of (last_mark reader) (x ∷ [])) b l p.begins p.gone (here ∙ p.rest_is) buffered (omega (arith, many, all, ap (λ r. length r.requests) p.reading)))
 
-    lost_here : (end : Inputs) → end.trace ≡ left → ((b t : List ℕ) → Took b → HasRecords h records now t → asked (traces.reading start.reader.format start.reader.limits b) t ≡ length given + 1) → HasAsked start end
+    lost_here : (end : Inputs) → end.trace ≡ left → ((b t : List ℕ) → Took b → HasRecords h records now t → asked (traces.reading start.reader.format start.reader.limits b) t ≡ length given.objects + 1) → HasAsked start end
     lost_here end same count =
         if_both start.trace start.certificate _ _ _ took checked.records_read (λ b t p q.
         if_known end.trace _ (λ l e. subst (λ n. HasLostFor start.reader.format start.reader.limits n b l) (sym (count b t p q)) (lost_one b l p (sym same ∙ e))))
 
     -- one request more than the header says
-    pub stop_count : (end : Inputs) → end.trace ≡ left → end.cert ≡ now.cert → end.certificate ≡ now.certificate → length now.cert.lines.held ≤ 65536 → now.cert.lines.line ≡ header_len h + length given → length given ≡ h.requests
-        → IsStop start end (fault.Invalid (header_len h + length given) (RequestCount h.requests (length given + 1)))
+    pub stop_count : (end : Inputs) → end.trace ≡ left → end.cert ≡ now.cert → end.certificate ≡ now.certificate → length now.cert.lines.held ≤ 65536 → now.cert.lines.line ≡ header_len h + length given.objects → length given.objects ≡ h.requests
+        → IsStop start end (fault.Invalid (header_len h + length given.objects) (RequestCount h.requests (length given.objects + 1)))
     stop_count end same_trace same_cert same_left held line_is full = record {
       event = if_both start.trace start.certificate _ _ _ took checked.records_read (λ b t p q.
           walk_at start b t _ _ p.reading q.reading ∙ (ends b t p).0);
       near = (
-        near_here h records start end (header_len h + length given) (if_one start.certificate _ _ checked.records_read (λ t q. same_records h records now end t q same_cert same_left))
+        near_here h records start end (header_len h + length given.objects) (if_one start.certificate _ _ checked.records_read (λ t q. same_records h records now end t q same_cert same_left))
             (subst (λ (c : lines.Reader). length c.lines.held ≤ 65536) (sym same_cert) held)
-            (subst (λ (c : lines.Reader). c.lines.line ≤ header_len h + length given) (sym same_cert) (omega (arith, line_is))),
+            (subst (λ (c : lines.Reader). c.lines.line ≤ header_len h + length given.objects) (sym same_cert) (omega (arith, line_is))),
         lost_here end same_trace (λ b t p q. asked_at start b t _ _ p.reading q.reading ∙ (ends b t p).1),
       );
     }
       where
-        ends : (b t : List ℕ) (p : Took b) → EndsAt given (requests.after given (requests.onto x (requests.to_come reader p.rest))) (after_records h records (lines.to_come now.cert (after_lines now.cert.lines.line t)))
-            (Invalid (header_len h + length given) (RequestCount h.requests (length given + 1)))
-        ends b t p = walked_too_many h given records input within checked.stands.no_fault x (requests.to_come reader p.rest) (lines.to_come now.cert (after_lines now.cert.lines.line t)) full
+        ends : (b t : List ℕ) (p : Took b) → EndsAt given.objects (requests.after given.objects given.fills (requests.onto x (last_mark reader) (requests.to_come reader p.rest))) (after_records h records (lines.to_come now.cert (after_lines now.cert.lines.line t)))
+            (Invalid (header_len h + length given.objects) (RequestCount h.requests (length given.objects + 1)))
+        ends b t p = walked_too_many h given.objects given.fills records input within checked.stands.no_fault marked are x (last_mark reader) (requests.to_come reader p.rest) (marks_in b p) (lines.to_come now.cert (after_lines now.cert.lines.line t)) full
 
     -- the record is not read
-    pub stop_text : (end : Inputs) (f : CertFault) → end.trace ≡ left → length given < h.requests → lines.IsRefused now.cert (device now.certificate end.certificate now.certificate_faults end.certificate_faults) f
+    pub stop_text : (end : Inputs) (f : CertFault) → end.trace ≡ left → length given.objects < h.requests → lines.IsRefused now.cert (device now.certificate end.certificate now.certificate_faults end.certificate_faults) f
         → IfErr {T = Unit {0}} (Err f) (IsWithin end.cert.lines.line) → IfSome (known now.cert.lines now.certificate) (IsPast now.cert.lines end.cert.lines) → length end.cert.lines.held ≤ 65536
         → IsStop start end (of_text f)
     stop_text end f same_trace fewer refused reached past held = text_stop start end now.cert now.certificate now.certificate_faults f refused checked.later.certificate reached
@@ -245,9 +264,9 @@ module _ (start : Inputs) (h : Header) (given : List Object) (records : List Rec
         (λ g e event stopped. lost_here end same_trace (λ b t p q. asked_at start b t _ _ p.reading q.reading ∙ (ends b t p q g e event stopped).1))
       where
         ends : (b t : List ℕ) (p : Took b) → HasRecords h records now t → (g : CertFault) (e : Event) → text_event (Some g) ≡ Some e → IfSome (known now.cert.lines now.certificate) (λ bytes. lines.to_come now.cert bytes ≡ certificates.stopped (Some g))
-            → EndsAt given (requests.after given (requests.onto x (requests.to_come reader p.rest))) (after_records h records (lines.to_come now.cert (after_lines now.cert.lines.line t))) e
+            → EndsAt given.objects (requests.after given.objects given.fills (requests.onto x (last_mark reader) (requests.to_come reader p.rest))) (after_records h records (lines.to_come now.cert (after_lines now.cert.lines.line t))) e
         ends b t p q g e event stopped =
-            walked_text h given records input within checked.stands.no_fault x (requests.to_come reader p.rest) (lines.to_come now.cert (after_lines now.cert.lines.line t)) g e fewer (at_some (known now.cert.lines now.certificate) _ _ q.stands_in stopped) event
+            walked_text h given.objects given.fills records input within checked.stands.no_fault marked are x (last_mark reader) (requests.to_come reader p.rest) (marks_in b p) (lines.to_come now.cert (after_lines now.cert.lines.line t)) g e fewer (at_some (known now.cert.lines now.certificate) _ _ q.stands_in stopped) event
 
     module _ (r : Record) (written : List ℕ) (end : Inputs) (line_is : end.cert.lines.line ≡ now.cert.lines.line + 1)
         (goes_on : IfSome (known now.cert.lines now.certificate) (lines.GoesOn (certificates.onto r) 1 written now.cert end.cert end.certificate))
@@ -257,8 +276,8 @@ module _ (start : Inputs) (h : Header) (given : List Object) (records : List Rec
       records_on = if_one start.certificate _ _ checked.records_read (λ t q. one_record h records r written now end t q line_is goes_on past)
 
       -- and fails a rule
-      pub stop_rule : (why : CheckFault) → end.trace ≡ left → length given < h.requests → now.cert.lines.line ≡ header_len h + length given → length end.cert.lines.held ≤ 65536
-          → IsFailing end.cert.lines.line (record_fault h (given ++ x ∷ []) (records ++ r ∷ []) (length given)) why → IsStop start end why
+      pub stop_rule : (why : CheckFault) → end.trace ≡ left → length given.objects < h.requests → now.cert.lines.line ≡ header_len h + length given.objects → length end.cert.lines.held ≤ 65536
+          → IsFailing end.cert.lines.line (fault_at h (with_request given x (last_mark reader)) (records ++ r ∷ []) (length given.objects)) why → IsStop start end why
       stop_rule (fault.Invalid line kind) same_trace fewer first held fails = record {
         event = if_both start.trace start.certificate _ _ _ took checked.records_read (λ b t p q.
             walk_at start b t _ _ p.reading q.reading ∙ ((ends b t p q).0 ∙ ap (λ l. Some (Invalid l kind)) (sym at)));
@@ -268,33 +287,39 @@ module _ (start : Inputs) (h : Header) (given : List Object) (records : List Rec
         );
       }
         where
-          at : line ≡ header_len h + 1 + length given
+          at : line ≡ header_len h + 1 + length given.objects
           at = omega (arith, fails.0, line_is, first)
 
           ends : (b t : List ℕ) (p : Took b) → HasRecords h records now t
-              → EndsAt given (requests.after given (requests.onto x (requests.to_come reader p.rest))) (after_records h records (lines.to_come now.cert (after_lines now.cert.lines.line t))) (Invalid (header_len h + 1 + length given) kind)
+              → EndsAt given.objects (requests.after given.objects given.fills (requests.onto x (last_mark reader) (requests.to_come reader p.rest))) (after_records h records (lines.to_come now.cert (after_lines now.cert.lines.line t))) (Invalid (header_len h + 1 + length given.objects) kind)
           ends b t p q =
               let is = at_some (known now.cert.lines now.certificate) _ _ q.stands_in goes_on in
-              walked_rule h given records input within checked.stands.no_fault x (requests.to_come reader p.rest) r _ (lines.to_come now.cert (after_lines now.cert.lines.line t)) kind fewer is.coming_is fails.1
+              walked_rule h given.objects given.fills records input within checked.stands.no_fault marked are x (last_mark reader) (requests.to_come reader p.rest) (marks_in b p) are_next r _ (lines.to_come now.cert (after_lines now.cert.lines.line t)) kind fewer is.coming_is fails.1
       stop_rule (fault.Trace why) same_trace fewer first held fails = absurd fails
       stop_rule fault.CertReadFault same_trace fewer first held fails = absurd fails
       stop_rule fault.NoMemory same_trace fewer first held fails = record { event = tt; near = tt }
 
       -- or passes
-      pub goes_further : (next : Summary) → end.reader ≡ reader → end.trace ≡ left → StandsFor h (given ++ x ∷ []) (records ++ r ∷ []) next → IsLater start end → HasChecked start h (given ++ x ∷ []) (records ++ r ∷ []) end next
+      pub goes_further : (next : Summary) → end.reader ≡ reader → end.trace ≡ left → StandsForAll h (with_request given x (last_mark reader)) (records ++ r ∷ []) next → IsLater start end → HasChecked start h (with_request given x (last_mark reader)) (records ++ r ∷ []) end next
       goes_further next same_reader same_left stands later = record {
         stands = stands;
+        marked = subst (λ f. AreMarked (is_marked f) (with_request given x (last_mark reader))) (sym same_form) are_next;
+        same_format = same_form;
         trace_read = if_one start.trace _ _ took (λ b p.
             let coming = requests.to_come reader p.rest in
             record {
               rest = p.rest;
               stands_in = ap (λ (s : requests.Reader). requests.known s end.trace) same_reader ∙ (ap (requests.known reader) same_left ∙ p.stands);
-              reading = p.reading ∙ (ap (λ xs. record coming { requests = xs }) (sym (append_assoc given (x ∷ []) coming.requests))
-                  ∙ ap (λ (s : requests.Reader). requests.after (given ++ x ∷ []) (requests.to_come s p.rest)) (sym same_reader));
+              reading = p.reading ∙ (after-both given.objects given.fills x (last_mark reader) coming
+                  ∙ ap (λ (s : requests.Reader). requests.after (given.objects ++ x ∷ []) (with_mark given.fills (last_mark reader)) (requests.to_come s p.rest)) (sym same_reader));
               begins = p.begins;
-              gone = subst (λ (s : requests.Reader). HasGiven (given ++ x ∷ []) start.reader s b) (sym same_reader) p.gone;
+              gone = subst (λ (s : requests.Reader). HasGiven (given.objects ++ x ∷ []) (with_mark given.fills (last_mark reader)) start.reader s b) (sym same_reader)
+                  (subst (λ fills. HasGiven (given.objects ++ x ∷ []) fills start.reader reader b) (sym (with_mark-marks given.fills (last_mark reader) x)) p.gone);
               rest_is = p.rest_is ∙ ap (λ (s : requests.Reader). bytes_after start.reader s b) (sym same_reader);
             });
         records_read = records_on;
         later = later;
       }
+        where
+          same_form : end.reader.format ≡ start.reader.format
+          same_form = ap (λ (s : requests.Reader). s.format) same_reader ∙ (form ∙ checked.same_format)

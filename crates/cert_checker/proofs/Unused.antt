@@ -154,7 +154,7 @@ all_found P (e ∷ es) unique each =
     apart : (x : Object) (v : Seen) → lookup (same_object x) es ≡ Some v → x ≡ e.0 → ⊥
     apart x v found same = absent es v (IsDistinct-head same_object e.0 (keys_of es) unique) (ap (λ y. lookup (same_object y) es) (sym same) ∙ found)
 
-module _ (h : Header) (trace : List Object) (records : List Record) (s : Summary) (st : StandsFor h trace records s) (unique : IsDistinct same_object (keys_of s.entries)) where
+module _ (h : Header) (fills : List Bool) (trace : List Object) (records : List Record) (s : Summary) (st : StandsFor h fills trace records s) (unique : IsDistinct same_object (keys_of s.entries)) where
   has_unused : ℕ → Bool
   has_unused a = is_latest trace (length trace) a && nat_lt 0 (flow_at records a)
 

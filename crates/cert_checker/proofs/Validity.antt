@@ -12,7 +12,7 @@ use Rattle.cache_model.specs.declared.objects.Object.{Object}
 use Rattle.cache_model.specs.declared.intervals.Interval.{Interval}
 use Rattle.cache_model.specs.declared.certificates.Header.{Header}
 use Rattle.cache_model.specs.declared.certificates.Record.{Record}
-use Rattle.cache_model.specs.Claim.{same_object, gain_of, request_at, no_object, is_latest, terms_of}
+use Rattle.cache_model.specs.Claim.{counts_past, same_object, gain_of, request_at, no_object, is_latest, terms_of}
 use Rattle.cache_model.specs.Objects.{IsNext}
 use Rattle.cache_model.specs.Intervals.{interval_of}
 use Rattle.cache_model.specs.Keeps.{latest_sum, load_after}
@@ -42,22 +42,22 @@ was_requested-again trace a b next =
     (ap p (get_or-take b trace a no_object low ∙ same) ∙ ap (same_object (request_at trace b)) refl ∙ ap (λ y. same_object y (request_at trace b)) (sym same) ∙ next.same)
 
 -- what an eligible interval has of the request where it ends
-pub record EndsWith (h : Header) (trace : List Object) (records : List Record) (i : Interval) : Type 0 where
+pub record EndsWith (h : Header) (fills : List Bool) (trace : List Object) (records : List Record) (i : Interval) : Type 0 where
   pub within : i.end < length trace
   pub size : i.size ≡ (request_at trace i.end).size
   pub gain : i.gain ≡ gain_of h.objective (request_at trace i.end)
-  pub ends : ends_interval h (request_at trace i.end) (figures_at h trace records i.end) ≡ true
+  pub ends : ends_interval h (request_at trace i.end) (figures_at h fills trace records i.end) ≡ true
 
-pub EndsWith-eligible : (h : Header) (trace : List Object) (records : List Record) (i : Interval) → IsEligible (terms_of h) trace i → EndsWith h trace records i
-EndsWith-eligible h trace records i e =
+pub EndsWith-eligible : (h : Header) (fills : List Bool) (trace : List Object) (records : List Record) (i : Interval) → IsEligible (terms_of h fills) trace i → EndsWith h fills trace records i
+EndsWith-eligible h fills trace records i e =
     let same : request_at trace i.start ≡ request_at trace i.end = same_object-true (request_at trace i.start) (request_at trace i.end) e.next.same in
     let size : i.size ≡ (request_at trace i.end).size = ap (λ (j : Interval). j.size) e.numbers ∙ ap (λ (x : Object). x.size) same in
     record {
       within = e.next.within;
       size = size;
       gain = ap (λ (j : Interval). j.gain) e.numbers;
-      ends = and_from (was_requested trace i.end && nat_le h.warmup i.end) (nat_le (request_at trace i.end).size h.capacity)
-          (and_from (was_requested trace i.end) (nat_le h.warmup i.end) (was_requested-again trace i.start i.end e.next) (le-leb h.warmup i.end e.counts))
+      ends = and_from (was_requested trace i.end && counts_past h.warmup fills i.end) (nat_le (request_at trace i.end).size h.capacity)
+          (and_from (was_requested trace i.end) (counts_past h.warmup fills i.end) (was_requested-again trace i.start i.end e.next) e.counts)
           (le-leb (request_at trace i.end).size h.capacity (subst (λ (x : Object). x.size ≤ h.capacity) same e.fits));
     }
 
@@ -110,25 +110,25 @@ none-range p n none a low =
         at (b + 1) k (omega arith) (omega arith) passes (sym (ap (λ t. cond t (Some b) (find p (range_with_len (b + 1) k))) fails) ∙ none))
         (cases_Bool (p b))
 
-module _ (h : Header) (trace : List Object) (records : List Record) (cert : IsCertificate h records) (many : h.requests ≡ length trace)
-    (no_record : (t : ℕ) → t < length trace → record_fault h trace records t ≡ None) (no_end : end_fault h trace records ≡ None) where
+module _ (h : Header) (fills : List Bool) (trace : List Object) (records : List Record) (cert : IsCertificate h records) (many : h.requests ≡ length trace)
+    (no_record : (t : ℕ) → t < length trace → record_fault h fills trace records t ≡ None) (no_end : end_fault h fills trace records ≡ None) where
   one : length records ≡ length trace
   one = cert.count ∙ many
 
-  passes : (t : ℕ) → t < length trace → Passes h (request_at trace t) (record_at records t) (figures_at h trace records t)
-  passes t low = Passes-from_none h (request_at trace t) (record_at records t) (figures_at h trace records t) (no_record t low)
+  passes : (t : ℕ) → t < length trace → Passes h (request_at trace t) (record_at records t) (figures_at h fills trace records t)
+  passes t low = Passes-from_none h (request_at trace t) (record_at records t) (figures_at h fills trace records t) (no_record t low)
 
-  end : EndPasses h (first_unused trace records) (counted_of h trace records)
-  end = EndPasses-from_none h (first_unused trace records) (counted_of h trace records) no_end
+  end : EndPasses h (first_unused trace records) (counted_of h fills trace records)
+  end = EndPasses-from_none h (first_unused trace records) (counted_of h fills trace records) no_end
 
   flow-is : (t : ℕ) → t < length trace → flow_at records t ≡ (record_at records t).flow
   flow-is t low = get_or-map (λ (r : Record). r.flow) records t (unpriced false) 0 (omega (arith, one))
 
   intervals : List Interval
-  intervals = eligible_of trace h
+  intervals = eligible_of trace fills h
 
-  eligible : (k : ℕ) (d : Interval) → k < length (eligible_of trace h) → IsEligible (terms_of h) trace (get_or (eligible_of trace h) k d)
-  eligible k d low = All-eligible_intervals (terms_of h) trace k d low
+  eligible : (k : ℕ) (d : Interval) → k < length (eligible_of trace fills h) → IsEligible (terms_of h fills) trace (get_or (eligible_of trace fills h) k d)
+  eligible k d low = All-eligible_intervals (terms_of h fills) trace k d low
 
   sum_limit : units_of h * sum (prices_of records) ≤ 2 ^ 126
   sum_limit = at (length trace) refl
@@ -157,23 +157,23 @@ module _ (h : Header) (trace : List Object) (records : List Record) (cert : IsCe
           ∙ get_or-map (λ (r : Record). r.price) records t (unpriced false) 0 (omega (arith, one))
           ∙ equal_from_not (record_at records t).price 0 (second_from_and (t + 1 == h.requests) (not ((record_at records t).price == 0)) (passes t (omega arith)).last is_last)
 
-  unit : All (λ i. h.unit ∣ i.size) (eligible_of trace h)
+  unit : All (λ i. h.unit ∣ i.size) (eligible_of trace fills h)
   unit k d low =
-      let i : Interval = get_or (eligible_of trace h) k d in
-      let w : EndsWith h trace records (get_or (eligible_of trace h) k d) = EndsWith-eligible h trace records (get_or (eligible_of trace h) k d) (eligible k d low) in
+      let i : Interval = get_or (eligible_of trace fills h) k d in
+      let w : EndsWith h fills trace records (get_or (eligible_of trace fills h) k d) = EndsWith-eligible h fills trace records (get_or (eligible_of trace fills h) k d) (eligible k d low) in
       let x : Object = request_at trace i.end in
       let test : divides h.unit (request_at trace i.end).size ≡ true =
-      not-false _ (second_from_and (ends_interval h (request_at trace i.end) (figures_at h trace records i.end)) (not (divides h.unit (request_at trace i.end).size)) (passes i.end w.within).unit w.ends) in
+      not-false _ (second_from_and (ends_interval h (request_at trace i.end) (figures_at h fills trace records i.end)) (not (divides h.unit (request_at trace i.end).size)) (passes i.end w.within).unit w.ends) in
       dvd_of_mod-eq-zero h.unit (ap (λ s. s % h.unit) w.size ∙ eqb-true ((request_at trace i.end).size % h.unit) 0 test)
 
-  whole : IsTrue h.exact → HasWholeCosts (eligible_of trace h) h.unit h.denominator
+  whole : IsTrue h.exact → HasWholeCosts (eligible_of trace fills h) h.unit h.denominator
   whole exact k d low =
-      let i : Interval = get_or (eligible_of trace h) k d in
-      let w : EndsWith h trace records (get_or (eligible_of trace h) k d) = EndsWith-eligible h trace records (get_or (eligible_of trace h) k d) (eligible k d low) in
+      let i : Interval = get_or (eligible_of trace fills h) k d in
+      let w : EndsWith h fills trace records (get_or (eligible_of trace fills h) k d) = EndsWith-eligible h fills trace records (get_or (eligible_of trace fills h) k d) (eligible k d low) in
       let x : Object = request_at trace i.end in
       let test : divides ((request_at trace i.end).size / h.unit) (h.denominator * gain_of h.objective (request_at trace i.end)) ≡ true =
       not-false _
-      (second_from_and (ends_interval h (request_at trace i.end) (figures_at h trace records i.end) && h.exact)
+      (second_from_and (ends_interval h (request_at trace i.end) (figures_at h fills trace records i.end) && h.exact)
       (not (divides ((request_at trace i.end).size / h.unit) (h.denominator * gain_of h.objective (request_at trace i.end))))
       (passes i.end w.within).whole (and_from _ _ w.ends exact)) in
       dvd_of_mod-eq-zero (weight h.unit i)
@@ -183,7 +183,7 @@ module _ (h : Header) (trace : List Object) (records : List Record) (cert : IsCe
   loads : (t : ℕ) → t < length trace → load_after trace (keeps_of records) t ≤ h.capacity
   loads t low = ltb-false h.capacity (load_after trace (keeps_of records) t) (passes t low).load
 
-  unused_flows : (t : ℕ) → list_any (λ i. i.start == t) (eligible_of trace h) ≡ false → flow_at records t ≡ 0
+  unused_flows : (t : ℕ) → list_any (λ i. i.start == t) (eligible_of trace fills h) ≡ false → flow_at records t ≡ 0
   unused_flows t none =
       ⊎_elim
       (λ (within : t < length trace).
@@ -197,7 +197,7 @@ module _ (h : Header) (trace : List Object) (records : List Record) (cert : IsCe
       (λ (past : length trace ≤ t). get_or_past (map (λ (r : Record). r.flow) records) t 0 (omega (arith, length-map records (λ (r : Record). r.flow), one)))
       (cases_lt t (length trace))
     where
-      counted : (b : ℕ) → IsNext trace t b → t < length trace → h.warmup ≤ b → flow_at records t ≡ 0
+      counted : (b : ℕ) → IsNext trace t b → t < length trace → counts_past h.warmup fills b ≡ true → flow_at records t ≡ 0
       counted b next within over =
           ⊎_elim
           (λ (large : h.capacity < (request_at trace t).size).
@@ -206,32 +206,36 @@ module _ (h : Header) (trace : List Object) (records : List Record) (cert : IsCe
           omega (arith, flow-is t within))
           (λ (fits : (request_at trace t).size ≤ h.capacity).
           let i : Interval = interval_of h.objective trace t b in
-          let there = Contains-eligible (terms_of h) trace (interval_of h.objective trace t b) (record { next = next; fits = fits; counts = over; numbers = refl }) in
+          let there = Contains-eligible (terms_of h fills) trace (interval_of h.objective trace t b) (record { next = next; fits = fits; counts = over; numbers = refl }) in
           absurd (both_ways _ none
-          (list_any_at (λ i. i.start == t) (eligible_of trace h) there.0 (interval_of h.objective trace t b) there.1 (ap (λ (j : Interval). j.start == t) there.2 ∙ eq-eqb t t refl))))
+          (list_any_at (λ i. i.start == t) (eligible_of trace fills h) there.0 (interval_of h.objective trace t b) there.1 (ap (λ (j : Interval). j.start == t) there.2 ∙ eq-eqb t t refl))))
           (cases_lt h.capacity (request_at trace t).size)
 
       started : (b : ℕ) → IsNext trace t b → t < length trace → flow_at records t ≡ 0
       started b next within =
           ⊎_elim
-          (λ (warm : b < h.warmup).
-          let unused : unused_before h trace records b ≡ None = (passes b next.within).unused in
-          let found : find (has_flow_until trace records b) (range_with_len 0 b) ≡ None = ap (λ c. cond c (find (has_flow_until trace records b) (range_with_len 0 b)) None) (sym (lt-ltb b h.warmup warm)) ∙ unused in
+          (λ (uncounted : counts_past h.warmup fills b ≡ false).
+          let unused : unused_before h fills trace records b ≡ None = (passes b next.within).unused in
+          let found : find (has_flow_until trace records b) (range_with_len 0 b) ≡ None = ap (λ c. cond c None (find (has_flow_until trace records b) (range_with_len 0 b))) (sym uncounted) ∙ unused in
           no_flow-found (flow_at records t) (sym (find-next trace b t next records) ∙ found))
-          (λ (over : h.warmup ≤ b). counted b next within over)
-          (cases_lt b h.warmup)
+          (λ (over : counts_past h.warmup fills b ≡ true). counted b next within over)
+          (cases_either (counts_past h.warmup fills b))
         where
+          cases_either : (t : Bool) → (t ≡ false) ⊎ (t ≡ true)
+          cases_either true = inr refl
+          cases_either false = inl refl
+
           no_flow-found : (f : ℕ) → cond (nat_lt 0 f) (Some t) None ≡ None → f ≡ 0
           no_flow-found zero e = refl
           no_flow-found (suc f) e = absurd (true≢false (ap is_some (ap (λ c. cond c (Some t) None) (sym (lt-ltb 0 (suc f) (omega arith))) ∙ e)))
 
-  within_weights : AllZip (λ i f. f ≤ weight h.unit i) (eligible_of trace h) (flows_of (eligible_of trace h) records)
-  within_weights = AllZip-map (λ i f. f ≤ weight h.unit i) (λ i. flow_at records i.start) (eligible_of trace h) each
+  within_weights : AllZip (λ i f. f ≤ weight h.unit i) (eligible_of trace fills h) (flows_of (eligible_of trace fills h) records)
+  within_weights = AllZip-map (λ i f. f ≤ weight h.unit i) (λ i. flow_at records i.start) (eligible_of trace fills h) each
     where
-      each : (k : ℕ) (d : Interval) → k < length (eligible_of trace h) → flow_at records (get_or (eligible_of trace h) k d).start ≤ weight h.unit (get_or (eligible_of trace h) k d)
+      each : (k : ℕ) (d : Interval) → k < length (eligible_of trace fills h) → flow_at records (get_or (eligible_of trace fills h) k d).start ≤ weight h.unit (get_or (eligible_of trace fills h) k d)
       each k d low =
-          let i : Interval = get_or (eligible_of trace h) k d in
-          let e : IsEligible (terms_of h) trace (get_or (eligible_of trace h) k d) = eligible k d low in
+          let i : Interval = get_or (eligible_of trace fills h) k d in
+          let e : IsEligible (terms_of h fills) trace (get_or (eligible_of trace fills h) k d) = eligible k d low in
           let before : i.start < i.end = e.next.before in
           let within : i.end < length trace = e.next.within in
           let flow : (record_at records i.start).flow ≤ weight_in h (request_at trace i.start) = ltb-false (weight_in h (request_at trace i.start)) (record_at records i.start).flow (passes i.start (omega arith)).flow in
@@ -240,30 +244,30 @@ module _ (h : Header) (trace : List Object) (records : List Record) (cert : IsCe
           ∙ ap (λ s. s / h.unit) (sym (ap (λ (j : Interval). j.size) e.numbers)) in
           omega (arith, flow-is i.start (omega arith))
 
-  within_units : (t : ℕ) → load_at (eligible_of trace h) (flows_of (eligible_of trace h) records) t ≤ units_of h
+  within_units : (t : ℕ) → load_at (eligible_of trace fills h) (flows_of (eligible_of trace fills h) records) t ≤ units_of h
   within_units t =
       ⊎_elim
       (λ (within : t < length trace).
       omega (
         arith,
-        load-latest (terms_of h) trace (flow_at records) t unused_flows within,
+        load-latest (terms_of h fills) trace (flow_at records) t unused_flows within,
         ltb-false (units_of h) (latest_sum trace (flow_at records) (t + 1)) (passes t within).flows,
       ))
       (λ (past : length trace ≤ t).
       omega (
         arith,
-        load_at-map (λ i. flow_at records i.start) t (eligible_of trace h),
-        sum_by-none (λ i. cond (covers t i) (flow_at records i.start) 0) (eligible_of trace h)
+        load_at-map (λ i. flow_at records i.start) t (eligible_of trace fills h),
+        sum_by-none (λ i. cond (covers t i) (flow_at records i.start) 0) (eligible_of trace fills h)
             (λ k d low.
-            let i : Interval = get_or (eligible_of trace h) k d in
-            let e : IsEligible (terms_of h) trace (get_or (eligible_of trace h) k d) = eligible k d low in
+            let i : Interval = get_or (eligible_of trace fills h) k d in
+            let e : IsEligible (terms_of h fills) trace (get_or (eligible_of trace fills h) k d) = eligible k d low in
             let high : i.end < length trace = e.next.within in
             ap (λ b. cond b (flow_at records i.start) 0) (and_right (nat_le i.start t) (nat_lt t i.end) (le-ltb t i.end (omega arith)))),
       ))
       (cases_lt t (length trace))
 
   -- every part of validity
-  pub IsValid-faultless : IsValid trace h records
+  pub IsValid-faultless : IsValid trace fills h records
   IsValid-faultless = record {
     certificate = cert;
     requests = many;

@@ -147,77 +147,77 @@ range-first_some f a (suc n) each =
     first_some-none (f a) (map f (range_with_len (a + 1) n)) (each a (omega arith) (omega arith)) (range-first_some f (a + 1) n (λ t low high. each t (omega arith) (omega arith)))
 
 -- a request without an event
-record RequestPasses (h : Header) (c : Reading) (trace : List Object) (t : ℕ) : Type 0 where
+record RequestPasses (h : Header) (fills : List Bool) (c : Reading) (trace : List Object) (t : ℕ) : Type 0 where
   more : (t == h.requests) ≡ false
   text : text_after c t ≡ None
-  rules : record_fault h trace c.records t ≡ None
+  rules : record_fault h fills trace c.records t ≡ None
 
-RequestPasses-from_none : (h : Header) (c : Reading) (trace : List Object) (t : ℕ) → first_some (events_at h c trace t) ≡ None → RequestPasses h c trace t
-RequestPasses-from_none h c trace t e0 =
-    let e1 : first_some (text_after c t ∷ at_line (header_len h + 1 + t) (record_fault h trace c.records t) ∷ []) ≡ None =
-    first_some-tail (at_line (header_len h + t) (found (t == h.requests) (RequestCount h.requests (t + 1)))) (text_after c t ∷ at_line (header_len h + 1 + t) (record_fault h trace c.records t) ∷ []) e0 in
-    let e2 : first_some (at_line (header_len h + 1 + t) (record_fault h trace c.records t) ∷ []) ≡ None =
-    first_some-tail (text_after c t) (at_line (header_len h + 1 + t) (record_fault h trace c.records t) ∷ []) e1 in
+RequestPasses-from_none : (h : Header) (fills : List Bool) (c : Reading) (trace : List Object) (t : ℕ) → first_some (events_at h fills c trace t) ≡ None → RequestPasses h fills c trace t
+RequestPasses-from_none h fills c trace t e0 =
+    let e1 : first_some (text_after c t ∷ at_line (header_len h + 1 + t) (record_fault h fills trace c.records t) ∷ []) ≡ None =
+    first_some-tail (at_line (header_len h + t) (found (t == h.requests) (RequestCount h.requests (t + 1)))) (text_after c t ∷ at_line (header_len h + 1 + t) (record_fault h fills trace c.records t) ∷ []) e0 in
+    let e2 : first_some (at_line (header_len h + 1 + t) (record_fault h fills trace c.records t) ∷ []) ≡ None =
+    first_some-tail (text_after c t) (at_line (header_len h + 1 + t) (record_fault h fills trace c.records t) ∷ []) e1 in
     record {
-      more = found-none _ _ (at_line-none (header_len h + t) _ (first_some-head _ (text_after c t ∷ at_line (header_len h + 1 + t) (record_fault h trace c.records t) ∷ []) e0));
-      text = first_some-head (text_after c t) (at_line (header_len h + 1 + t) (record_fault h trace c.records t) ∷ []) e1;
-      rules = at_line-none (header_len h + 1 + t) (record_fault h trace c.records t) (first_some-head (at_line (header_len h + 1 + t) (record_fault h trace c.records t)) [] e2);
+      more = found-none _ _ (at_line-none (header_len h + t) _ (first_some-head _ (text_after c t ∷ at_line (header_len h + 1 + t) (record_fault h fills trace c.records t) ∷ []) e0));
+      text = first_some-head (text_after c t) (at_line (header_len h + 1 + t) (record_fault h fills trace c.records t) ∷ []) e1;
+      rules = at_line-none (header_len h + 1 + t) (record_fault h fills trace c.records t) (first_some-head (at_line (header_len h + 1 + t) (record_fault h fills trace c.records t)) [] e2);
     }
 
-none_from_RequestPasses : (h : Header) (c : Reading) (trace : List Object) (t : ℕ) → RequestPasses h c trace t → first_some (events_at h c trace t) ≡ None
-none_from_RequestPasses h c trace t p =
-    first_some-none _ (text_after c t ∷ at_line (header_len h + 1 + t) (record_fault h trace c.records t) ∷ []) (none-at_line (header_len h + t) _ (found-not _ _ p.more))
-    (first_some-none (text_after c t) (at_line (header_len h + 1 + t) (record_fault h trace c.records t) ∷ []) p.text
-    (first_some-none (at_line (header_len h + 1 + t) (record_fault h trace c.records t)) [] (none-at_line (header_len h + 1 + t) _ p.rules) refl))
+none_from_RequestPasses : (h : Header) (fills : List Bool) (c : Reading) (trace : List Object) (t : ℕ) → RequestPasses h fills c trace t → first_some (events_at h fills c trace t) ≡ None
+none_from_RequestPasses h fills c trace t p =
+    first_some-none _ (text_after c t ∷ at_line (header_len h + 1 + t) (record_fault h fills trace c.records t) ∷ []) (none-at_line (header_len h + t) _ (found-not _ _ p.more))
+    (first_some-none (text_after c t) (at_line (header_len h + 1 + t) (record_fault h fills trace c.records t) ∷ []) p.text
+    (first_some-none (at_line (header_len h + 1 + t) (record_fault h fills trace c.records t)) [] (none-at_line (header_len h + 1 + t) _ p.rules) refl))
 
 -- an end without an event, of a trace that is not refused
-record EndPasses (h : Header) (c : Reading) (trace : List Object) : Type 0 where
+record EndPasses (h : Header) (fills : List Bool) (c : Reading) (trace : List Object) : Type 0 where
   enough : nat_lt (length trace) h.requests ≡ false
   text : text_after c (length trace) ≡ None
-  rules : end_fault h trace c.records ≡ None
+  rules : end_fault h fills trace c.records ≡ None
 
-EndPasses-from_none : (h : Header) (c : Reading) (trace : traces.Reading) → first_some (last_events h c trace) ≡ None → EndPasses h c trace.requests
+EndPasses-from_none : (h : Header) (c : Reading) (trace : traces.Reading) → first_some (last_events h c trace) ≡ None → EndPasses h trace.fills c trace.requests
 EndPasses-from_none h c trace e0 =
     let e1 : first_some (at_line (header_len h + length trace.requests) (found (nat_lt (length trace.requests) h.requests) (RequestCount h.requests (length trace.requests)))
-    ∷ text_after c (length trace.requests) ∷ at_line (header_len h + 1 + length trace.requests) (end_fault h trace.requests c.records) ∷ []) ≡ None =
+    ∷ text_after c (length trace.requests) ∷ at_line (header_len h + 1 + length trace.requests) (end_fault h trace.fills trace.requests c.records) ∷ []) ≡ None =
     first_some-tail (refusal_event trace.refused)
     (at_line (header_len h + length trace.requests) (found (nat_lt (length trace.requests) h.requests) (RequestCount h.requests (length trace.requests)))
-    ∷ text_after c (length trace.requests) ∷ at_line (header_len h + 1 + length trace.requests) (end_fault h trace.requests c.records) ∷ []) e0 in
-    let e2 : first_some (text_after c (length trace.requests) ∷ at_line (header_len h + 1 + length trace.requests) (end_fault h trace.requests c.records) ∷ []) ≡ None =
+    ∷ text_after c (length trace.requests) ∷ at_line (header_len h + 1 + length trace.requests) (end_fault h trace.fills trace.requests c.records) ∷ []) e0 in
+    let e2 : first_some (text_after c (length trace.requests) ∷ at_line (header_len h + 1 + length trace.requests) (end_fault h trace.fills trace.requests c.records) ∷ []) ≡ None =
     first_some-tail (at_line (header_len h + length trace.requests) (found (nat_lt (length trace.requests) h.requests) (RequestCount h.requests (length trace.requests))))
-    (text_after c (length trace.requests) ∷ at_line (header_len h + 1 + length trace.requests) (end_fault h trace.requests c.records) ∷ []) e1 in
-    let e3 : first_some (at_line (header_len h + 1 + length trace.requests) (end_fault h trace.requests c.records) ∷ []) ≡ None =
-    first_some-tail (text_after c (length trace.requests)) (at_line (header_len h + 1 + length trace.requests) (end_fault h trace.requests c.records) ∷ []) e2 in
+    (text_after c (length trace.requests) ∷ at_line (header_len h + 1 + length trace.requests) (end_fault h trace.fills trace.requests c.records) ∷ []) e1 in
+    let e3 : first_some (at_line (header_len h + 1 + length trace.requests) (end_fault h trace.fills trace.requests c.records) ∷ []) ≡ None =
+    first_some-tail (text_after c (length trace.requests)) (at_line (header_len h + 1 + length trace.requests) (end_fault h trace.fills trace.requests c.records) ∷ []) e2 in
     record {
       enough = found-none _ _ (at_line-none (header_len h + length trace.requests) (found (nat_lt (length trace.requests) h.requests) (RequestCount h.requests (length trace.requests)))
           (first_some-head (at_line (header_len h + length trace.requests) (found (nat_lt (length trace.requests) h.requests) (RequestCount h.requests (length trace.requests))))
-          (text_after c (length trace.requests) ∷ at_line (header_len h + 1 + length trace.requests) (end_fault h trace.requests c.records) ∷ []) e1));
-      text = first_some-head (text_after c (length trace.requests)) (at_line (header_len h + 1 + length trace.requests) (end_fault h trace.requests c.records) ∷ []) e2;
-      rules = at_line-none (header_len h + 1 + length trace.requests) (end_fault h trace.requests c.records) (first_some-head (at_line (header_len h + 1 + length trace.requests) (end_fault h trace.requests c.records)) [] e3);
+          (text_after c (length trace.requests) ∷ at_line (header_len h + 1 + length trace.requests) (end_fault h trace.fills trace.requests c.records) ∷ []) e1));
+      text = first_some-head (text_after c (length trace.requests)) (at_line (header_len h + 1 + length trace.requests) (end_fault h trace.fills trace.requests c.records) ∷ []) e2;
+      rules = at_line-none (header_len h + 1 + length trace.requests) (end_fault h trace.fills trace.requests c.records) (first_some-head (at_line (header_len h + 1 + length trace.requests) (end_fault h trace.fills trace.requests c.records)) [] e3);
     }
 
-none_from_EndPasses : (h : Header) (c : Reading) (trace : traces.Reading) → trace.refused ≡ None → EndPasses h c trace.requests → first_some (last_events h c trace) ≡ None
+none_from_EndPasses : (h : Header) (c : Reading) (trace : traces.Reading) → trace.refused ≡ None → EndPasses h trace.fills c trace.requests → first_some (last_events h c trace) ≡ None
 none_from_EndPasses h c trace whole_trace p =
     first_some-none (refusal_event trace.refused) _ (ap refusal_event whole_trace)
     (first_some-none _ _ (none-at_line (header_len h + length trace.requests) _ (found-not _ _ p.enough))
     (first_some-none (text_after c (length trace.requests)) _ p.text
-    (first_some-none (at_line (header_len h + 1 + length trace.requests) (end_fault h trace.requests c.records)) [] (none-at_line (header_len h + 1 + length trace.requests) _ p.rules) refl)))
+    (first_some-none (at_line (header_len h + 1 + length trace.requests) (end_fault h trace.fills trace.requests c.records)) [] (none-at_line (header_len h + 1 + length trace.requests) _ p.rules) refl)))
 
 -- ---- from the walk to the certificate
 module _ (trace : traces.Reading) (bytes : List ℕ) (h : Header) (headed : (reading bytes).header ≡ Some h)
-    (passes : first_some (events_by_request h (reading bytes) trace.requests ++ last_events h (reading bytes) trace) ≡ None) where
+    (passes : first_some (events_by_request h (reading bytes) trace ++ last_events h (reading bytes) trace) ≡ None) where
   n : ℕ
   n = length trace.requests
 
-  parts : (first_some (events_by_request h (reading bytes) trace.requests) ≡ None) × (first_some (last_events h (reading bytes) trace) ≡ None)
-  parts = first_some-both (events_by_request h (reading bytes) trace.requests) (last_events h (reading bytes) trace) passes
+  parts : (first_some (events_by_request h (reading bytes) trace) ≡ None) × (first_some (last_events h (reading bytes) trace) ≡ None)
+  parts = first_some-both (events_by_request h (reading bytes) trace) (last_events h (reading bytes) trace) passes
 
-  each_request : (t : ℕ) → t < length trace.requests → RequestPasses h (reading bytes) trace.requests t
+  each_request : (t : ℕ) → t < length trace.requests → RequestPasses h trace.fills (reading bytes) trace.requests t
   each_request t low =
-      RequestPasses-from_none h (reading bytes) trace.requests t
-      (first_some-range (λ k. first_some (events_at h (reading bytes) trace.requests k)) 0 (length trace.requests) parts.0 t (omega arith) (omega arith))
+      RequestPasses-from_none h trace.fills (reading bytes) trace.requests t
+      (first_some-range (λ k. first_some (events_at h trace.fills (reading bytes) trace.requests k)) 0 (length trace.requests) parts.0 t (omega arith) (omega arith))
 
-  last : EndPasses h (reading bytes) trace.requests
+  last : EndPasses h trace.fills (reading bytes) trace.requests
   last = EndPasses-from_none h (reading bytes) trace parts.1
 
   many : h.requests ≡ length trace.requests
@@ -243,7 +243,7 @@ module _ (trace : traces.Reading) (bytes : List ℕ) (h : Header) (headed : (rea
       here : (t : ℕ) → length (reading bytes).records ≡ t → text_after (reading bytes) t ≡ None → text_event (reading bytes).fault ≡ None
       here t e none = sym (ap (λ b. cond b (text_event (reading bytes).fault) None) (eq-eqb (length (reading bytes).records) t e)) ∙ none
 
-  certificate_of : (h : Header) × (records : List Record) × (bytes ≡ cert_text h records) × IsValid trace.requests h records
+  certificate_of : (h : Header) × (records : List Record) × (bytes ≡ cert_text h records) × IsValid trace.requests trace.fills h records
   certificate_of =
       let spelled = read_written bytes no_fault in
       let g : Header = spelled.0 in
@@ -255,19 +255,19 @@ module _ (trace : traces.Reading) (bytes : List ℕ) (h : Header) (headed : (rea
         h,
         spelled.1,
         is.text ∙ ap (λ g. cert_text g spelled.1) same,
-        IsValid-faultless h trace.requests spelled.1 cert many
-            (λ t low. ap (λ rs. record_fault h trace.requests rs t) (sym same_records) ∙ (each_request t low).rules)
-            (ap (end_fault h trace.requests) (sym same_records) ∙ last.rules),
+        IsValid-faultless h trace.fills trace.requests spelled.1 cert many
+            (λ t low. ap (λ rs. record_fault h trace.fills trace.requests rs t) (sym same_records) ∙ (each_request t low).rules)
+            (ap (end_fault h trace.fills trace.requests) (sym same_records) ∙ last.rules),
       )
 
 -- ---- and back
-walk-valid : (trace : traces.Reading) → trace.refused ≡ None → (h : Header) (records : List Record) → IsValid trace.requests h records → walk_under (Some h) trace (whole h records) ≡ None
+walk-valid : (trace : traces.Reading) → trace.refused ≡ None → (h : Header) (records : List Record) → IsValid trace.requests trace.fills h records → walk_under (Some h) trace (whole h records) ≡ None
 walk-valid trace whole_trace h records v =
-    let faultless : IsFaultless h trace.requests records = IsFaultless-valid h trace.requests records v in
-    first_some-append (events_by_request h (whole h records) trace.requests) (last_events h (whole h records) trace)
+    let faultless : IsFaultless h trace.fills trace.requests records = IsFaultless-valid h trace.fills trace.requests records v in
+    first_some-append (events_by_request h (whole h records) trace) (last_events h (whole h records) trace)
     ∙ ap (λ o. option_or o (first_some (last_events h (whole h records) trace)))
-    (range-first_some (λ t. first_some (events_at h (whole h records) trace.requests t)) 0 (length trace.requests) (λ t low high.
-    none_from_RequestPasses h (whole h records) trace.requests t
+    (range-first_some (λ t. first_some (events_at h trace.fills (whole h records) trace.requests t)) 0 (length trace.requests) (λ t low high.
+    none_from_RequestPasses h trace.fills (whole h records) trace.requests t
     (record { more = ne_eqb t h.requests (λ e. omega (arith, v.requests)); text = no_text t; rules = faultless.no_record t (omega arith) })))
     ∙ none_from_EndPasses h (whole h records) trace whole_trace
     (record { enough = le-ltb (length trace.requests) h.requests (omega (arith, v.requests)); text = no_text (length trace.requests); rules = faultless.no_end })
@@ -280,7 +280,7 @@ walk-valid trace whole_trace h records v =
         at false = refl
 
 walk-passes : (trace : traces.Reading) (bytes : List ℕ) → (o : Option Header) → (reading bytes).header ≡ o → walk_under o trace (reading bytes) ≡ None
-    → (h : Header) × (records : List Record) × (bytes ≡ cert_text h records) × IsValid trace.requests h records
+    → (h : Header) × (records : List Record) × (bytes ≡ cert_text h records) × IsValid trace.requests trace.fills h records
 walk-passes trace bytes None none passes = absurd ((reading-is bytes).headless none ((reading-is bytes).shown passes))
 walk-passes trace bytes (Some h) headed passes = certificate_of trace bytes h headed passes
 

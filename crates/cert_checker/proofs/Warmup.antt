@@ -1,12 +1,12 @@
 -- The request before one of the same object, and its flow.
-use Rattle.std.proofs.Common.{◌≡◌, ◌≢◌, ℕ, ◌+◌, ◌<◌, ◌≤◌, ◌∙◌, refl, ap, Bool, true, false, not, ◌&&◌, ◌==◌, cond, nat_lt, List, length, find, arith, Any, None, Some, ⊎_elim, subst}
+use Rattle.std.proofs.Common.{◌≡◌, ◌≢◌, ℕ, ◌+◌, ◌<◌, ◌≤◌, ◌∙◌, sym, refl, ap, Bool, true, false, not, ◌&&◌, ◌==◌, cond, nat_lt, List, length, find, arith, Any, None, Some, ⊎_elim, subst}
 use Rattle.std.specs.List.{list_any, range_with_len}
 use Rattle.std.proofs.lemmas.Bool.{and_from, and_left, and_right, both_ways, cases_Bool, cases_lt, cases_eq, eqb-true}
 use Rattle.std.proofs.lemmas.List.Folds.{Any-from_list_any}
 use Rattle.cache_model.specs.declared.objects.Object.{Object}
 use Rattle.cache_model.specs.declared.certificates.Header.{Header}
 use Rattle.cache_model.specs.declared.certificates.Record.{Record}
-use Rattle.cache_model.specs.Claim.{same_object, request_at, no_object, is_latest, terms_of}
+use Rattle.cache_model.specs.Claim.{counts_past, same_object, request_at, no_object, is_latest, terms_of}
 use Rattle.cache_model.specs.Objects.{IsFirst, IsNext}
 use Rattle.cache_model.specs.Laws.{IsEligible}
 use Rattle.cache_model.specs.Certificates.{eligible_of, flow_at}
@@ -76,18 +76,18 @@ next_unique trace a b c one other =
     (cases_lt c b))
     (cases_lt b c)
 
--- no eligible interval starts at a request whose next one is within the warm-up
-pub none-starts : (h : Header) (trace : List Object) (a t : ℕ) → IsNext trace a t → t < h.warmup → list_any (λ i. i.start == a) (eligible_of trace h) ≡ false
-none-starts h trace a t next warm = at (list_any (λ i. i.start == a) (eligible_of trace h)) refl
+-- no eligible interval starts at a request whose next one doesn't count
+pub none-starts : (h : Header) (fills : List Bool) (trace : List Object) (a t : ℕ) → IsNext trace a t → counts_past h.warmup fills t ≡ false → list_any (λ i. i.start == a) (eligible_of trace fills h) ≡ false
+none-starts h fills trace a t next warm = at (list_any (λ i. i.start == a) (eligible_of trace fills h)) refl
   where
-    started : Any (λ i. (i.start == a) ≡ true) (eligible_of trace h) → ⊥
+    started : Any (λ i. (i.start == a) ≡ true) (eligible_of trace fills h) → ⊥
     started (k, i, kl, there, starts) =
-        let e : IsEligible (terms_of h) trace i = subst (IsEligible (terms_of h) trace) there (All-eligible_intervals (terms_of h) trace k i kl) in
+        let e : IsEligible (terms_of h fills) trace i = subst (IsEligible (terms_of h fills) trace) there (All-eligible_intervals (terms_of h fills) trace k i kl) in
         let here : i.start ≡ a = eqb-true i.start a starts in
         let own_next : IsNext trace a i.end = subst (λ b. IsNext trace b i.end) here e.next in
         let ends : i.end ≡ t = next_unique trace a i.end t own_next next in
-        omega (arith, ends, e.counts, warm)
+        both_ways (counts_past h.warmup fills t) warm (ap (counts_past h.warmup fills) (sym ends) ∙ e.counts)
 
-    at : (b : Bool) → list_any (λ i. i.start == a) (eligible_of trace h) ≡ b → list_any (λ i. i.start == a) (eligible_of trace h) ≡ false
-    at true starts = absurd (started (Any-from_list_any (λ i. i.start == a) (eligible_of trace h) starts))
+    at : (b : Bool) → list_any (λ i. i.start == a) (eligible_of trace fills h) ≡ b → list_any (λ i. i.start == a) (eligible_of trace fills h) ≡ false
+    at true starts = absurd (started (Any-from_list_any (λ i. i.start == a) (eligible_of trace fills h) starts))
     at false none = none

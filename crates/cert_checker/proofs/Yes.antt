@@ -1,5 +1,5 @@
 -- What a checker's yes says.
-use Rattle.std.proofs.Common.{◌≡◌, ◌∙◌, ℕ, sym, ap, List, length, None}
+use Rattle.std.proofs.Common.{◌≡◌, ◌∙◌, ℕ, sym, ap, Bool, List, length, None}
 use Rattle.std.specs.declared.option.Option.{Option}
 use Rattle.cache_model.specs.declared.objects.Object.{Object}
 use Rattle.cache_model.specs.declared.certificates.Header.{Header}
@@ -14,10 +14,10 @@ use Rattle.cert_checker.specs.Rules.{counted_of, end_fault, end_rules, first_som
 use Rattle.cert_checker.specs.Summaries.{StandsFor, Summary}
 use Rattle.cert_checker.proofs.Validity.{IsValid-faultless}
 
-module _ (h : Header) (trace : List Object) (records : List Record) (s : Summary) (st : StandsFor h trace records s)
-    (unused : Option ℕ) (first : unused ≡ first_unused trace records) (counted : Counted) (counts : counted ≡ counted_of h trace records) where
+module _ (h : Header) (fills : List Bool) (trace : List Object) (records : List Record) (s : Summary) (st : StandsFor h fills trace records s)
+    (unused : Option ℕ) (first : unused ≡ first_unused trace records) (counted : Counted) (counts : counted ≡ counted_of h fills trace records) where
   -- the rules of the code are those of the lists
-  pub end_fault-is : first_some (end_rules s.header unused counted) ≡ end_fault h trace records
+  pub end_fault-is : first_some (end_rules s.header unused counted) ≡ end_fault h fills trace records
   end_fault-is =
       ap (λ g. first_some (end_rules g unused counted)) st.header
       ∙ ap (λ u. first_some (end_rules h u counted)) first
@@ -30,15 +30,15 @@ module _ (h : Header) (trace : List Object) (records : List Record) (s : Summary
     certificate : IsCertificate h records
     certificate = record { header = st.input.header_in_range; count = st.input.one_record_each ∙ sym many; each = st.input.records_in_range }
 
-    valid : IsValid trace h records
-    valid = IsValid-faultless h trace records certificate many st.no_fault (sym end_fault-is ∙ passes)
+    valid : IsValid trace fills h records
+    valid = IsValid-faultless h fills trace records certificate many st.no_fault (sym end_fault-is ∙ passes)
 
-    pub yes-is : (verdict : Verdict) → verdict.header ≡ s.header → verdict.objects ≡ length (objects_of trace) → IsYes h trace records verdict
+    pub yes-is : (verdict : Verdict) → verdict.header ≡ s.header → verdict.objects ≡ length (objects_of trace) → IsYes h fills trace records verdict
     yes-is verdict header objects = record {
       no_fault = sym end_fault-is ∙ passes;
       header = header ∙ st.header;
       objects = objects;
       valid = valid;
-      bounds_every_policy = valid_bounds trace h records valid;
-      least = exact_is_least trace h records valid;
+      bounds_every_policy = valid_bounds trace fills h records valid;
+      least = exact_is_least trace fills h records valid;
     }

@@ -1,5 +1,5 @@
 -- What a checker answers, for every header, requests and records that it stands for.
-use Rattle.std.specs.Prelude.{◌≡◌, IsTrue, List, [], ◌∷◌, ◌++◌, length, Result, Ok, Err, None, Some}
+use Rattle.std.specs.Prelude.{◌≡◌, IsTrue, Bool, List, [], ◌∷◌, ◌++◌, length, Result, Ok, Err, None, Some}
 use Rattle.std.specs.declared.option.Option.{Option}
 use Rattle.cache_model.specs.declared.objects.Object.{Object}
 use Rattle.cache_model.specs.declared.certificates.Header.{Header}
@@ -20,20 +20,20 @@ IsRuleOr fault (Rule kind) = fault ≡ Some kind
 IsRuleOr fault NoMemory = fault ≡ None
 
 -- one more request and record: the checker stands for the lists with them, or names the first rule that the record fails
-abbrev pub IsStepped : Header → List Object → List Record → Object → Record → Summary → Result (Unit {0}) StepFault → Type 0
-IsStepped h trace records x r new (Ok done) = StandsFor h (trace ++ x ∷ []) (records ++ r ∷ []) new
-IsStepped h trace records x r new (Err fault) = IsRuleOr (record_fault h (trace ++ x ∷ []) (records ++ r ∷ []) (length trace)) fault
+abbrev pub IsStepped : Header → List Bool → List Object → List Record → Object → Record → Summary → Result (Unit {0}) StepFault → Type 0
+IsStepped h fills trace records x r new (Ok done) = StandsFor h fills (trace ++ x ∷ []) (records ++ r ∷ []) new
+IsStepped h fills trace records x r new (Err fault) = IsRuleOr (record_fault h fills (trace ++ x ∷ []) (records ++ r ∷ []) (length trace)) fault
 
 -- a yes: the certificate is valid, so no policy scores more than its upper bound, and in the form exact no prices over any denominator have a smaller one
-pub record IsYes (h : Header) (trace : List Object) (records : List Record) (verdict : Verdict) : Type 0 where
-  pub no_fault : end_fault h trace records ≡ None
+pub record IsYes (h : Header) (fills : List Bool) (trace : List Object) (records : List Record) (verdict : Verdict) : Type 0 where
+  pub no_fault : end_fault h fills trace records ≡ None
   pub header : verdict.header ≡ h
   pub objects : verdict.objects ≡ length (objects_of trace)
-  pub valid : IsValid trace h records
-  pub bounds_every_policy : BoundsEveryPolicy trace h
-  pub least : IsTrue h.exact → IsLeastOverAll trace h records
+  pub valid : IsValid trace fills h records
+  pub bounds_every_policy : BoundsEveryPolicy trace fills h
+  pub least : IsTrue h.exact → IsLeastOverAll trace fills h records
 
 -- the end: a yes, or the first rule that it fails
-abbrev pub IsFinished : Header → List Object → List Record → Result Verdict InvalidKind → Type 0
-IsFinished h trace records (Ok verdict) = IsYes h trace records verdict
-IsFinished h trace records (Err kind) = end_fault h trace records ≡ Some kind
+abbrev pub IsFinished : Header → List Bool → List Object → List Record → Result Verdict InvalidKind → Type 0
+IsFinished h fills trace records (Ok verdict) = IsYes h fills trace records verdict
+IsFinished h fills trace records (Err kind) = end_fault h fills trace records ≡ Some kind

@@ -1,5 +1,5 @@
 -- A check of a certificate against a trace, both read as streams.
-use Rattle.std.specs.Prelude.{◌≡◌, ℕ, ◌+◌, ◌≤◌, List, [], ◌∷◌, ◌++◌, length, None, Some, IfSome, Result, Ok, Err}
+use Rattle.std.specs.Prelude.{◌≡◌, ℕ, ◌+◌, ◌≤◌, Bool, true, false, ◌&&◌, List, [], ◌∷◌, ◌++◌, length, None, Some, IfSome, Result, Ok, Err}
 use Rattle.std.specs.declared.option.Option.{Option}
 use Rattle.bound_io.specs.Causes.{HasNewFault}
 use Rattle.bound_io.specs.Devices.{Device, device}
@@ -7,13 +7,15 @@ use Rattle.cache_model.specs.declared.objects.Object.{Object}
 use Rattle.cache_model.specs.declared.certificates.Header.{Header}
 use Rattle.cache_model.specs.declared.certificates.Record.{Record}
 use Rattle.cache_model.specs.Texts.{header_len}
+use Rattle.cache_rules.specs.Stored.{Requests, with_request}
 use Rattle.trace_any.specs.declared.fault.TraceFault.{TraceFault}
 use Rattle.trace_any.specs.declared.fault.TraceFault.TheVariants as refusal
 use Rattle.trace_any.specs.declared.format.Format.{Format}
 use Rattle.trace_any.specs.declared.format.Limits.{Limits}
 use Rattle.trace_any.specs.Readings as traces
+use Rattle.trace_any.specs.Readings.{is_marked}
 use Rattle.trace_any.specs.FirstLines.{HasGiven, HasLostFor}
-use Rattle.trace_any.specs.Readers.{IsWhole, after, bytes_after}
+use Rattle.trace_any.specs.Readers.{IsWhole, after, bytes_after, last_mark}
 use Rattle.trace_any.specs.Readers as requests
 use Rattle.cert_format.specs.declared.fault.CertFault.{CertFault}
 use Rattle.cert_format.specs.declared.fault.CertFault.TheVariants as text
@@ -86,14 +88,29 @@ IsFailing line failed (fault.Trace why) = ⊥
 IsFailing line failed fault.CertReadFault = ⊥
 IsFailing line failed fault.NoMemory = failed ≡ None
 
--- a step from these requests and records
-abbrev pub IsSteppedWith : ℕ → Header → List Object → List Record → Object → Record → Summary → Result (Unit {0}) CheckFault → Type 0
-IsSteppedWith line h trace records x r new (Ok done) = StandsFor h (trace ++ x ∷ []) (records ++ r ∷ []) new
-IsSteppedWith line h trace records x r new (Err why) = IsFailing line (record_fault h (trace ++ x ∷ []) (records ++ r ∷ []) (length trace)) why
+-- there is a mark of each request, or of none if there are no marks
+abbrev pub AreMarked : Bool → Requests → Type 0
+AreMarked true given = length given.fills ≡ length given.objects
+AreMarked false given = given.fills ≡ []
 
--- a step with the record of this line: the checker stands for one request and record more, or the rule that fails is named with the line
-abbrev pub IsSteppedAt : ℕ → Summary → Summary → Object → Record → Result (Unit {0}) CheckFault → Type 0
-IsSteppedAt line old new x r result = (h : Header) (trace : List Object) (records : List Record) → StandsFor h trace records old → IsSteppedWith line h trace records x r new result
+-- the checker stands for these requests, with their marks, and for these records
+abbrev pub StandsForAll : Header → Requests → List Record → Summary → Type 0
+StandsForAll h given records s = StandsFor h given.fills given.objects records s
+
+-- the first rule that record t of these fails, if there is one
+abbrev pub fault_at : Header → Requests → List Record → ℕ → Option InvalidKind
+fault_at h given records t = record_fault h given.fills given.objects records t
+
+-- a step from these requests and records
+abbrev pub IsSteppedWith : ℕ → Header → Requests → List Record → Object → Option Bool → Record → Summary → Result (Unit {0}) CheckFault → Type 0
+IsSteppedWith line h given records x mark r new (Ok done) = StandsForAll h (with_request given x mark) (records ++ r ∷ []) new
+IsSteppedWith line h given records x mark r new (Err why) = IsFailing line (fault_at h (with_request given x mark) (records ++ r ∷ []) (length given.objects)) why
+
+-- a step with a request that only fills the cache, if this is true, and the record of this line: with the mark of a reader that gave such a request last, the checker stands for one request and record more, or the rule that fails is named with the line
+abbrev pub IsSteppedAt : ℕ → Summary → Summary → Object → Bool → Record → Result (Unit {0}) CheckFault → Type 0
+IsSteppedAt line old new x only r result = (reader : requests.Reader) (h : Header) (given : Requests) (records : List Record)
+    → only ≡ (is_marked reader.format && reader.ahead.fills) → AreMarked (is_marked reader.format) given → StandsForAll h given records old
+    → IsSteppedWith line h given records x (last_mark reader) r new result
 
 -- if the bytes of both sources are known, this is the first event of the walk over them
 abbrev pub IsWalked : Inputs → Option Event → Type 0
@@ -146,24 +163,24 @@ abbrev pub KeepsAnswer : {A : Type 0} → Option TraceFault → Option CertFault
 KeepsAnswer reader cert (Ok answer) = (reader ≡ None) × (cert ≡ None)
 KeepsAnswer reader cert (Err why) = IsKept reader cert why × IfSome reader (λ fault. of_trace fault ≡ why) × IfSome cert (λ fault. of_text fault ≡ why)
 
--- a yes: of some requests and records, which are all that the two sources have, if their bytes are known
+-- a yes: of some requests with their marks and some records, which are all that the two sources have, if their bytes are known
 pub record IsPassed (start end : Inputs) (verdict : Verdict) : Type 0 where
-  pub requests : List Object
+  pub requests : Requests
   pub records : List Record
-  pub yes : IsYes verdict.header requests records verdict
+  pub yes : IsYes verdict.header requests.fills requests.objects records verdict
   pub trace : IfSome start.trace (λ bytes. IsWhole (traces.reading start.reader.format start.reader.limits bytes) requests end.reader.dropped)
   pub certificate : IfSome start.certificate (λ text. certificates.reading text ≡ whole verdict.header records)
   pub walked : IsWalked start None
   pub trace_end : IfSome start.trace (λ _. end.trace ≡ Some [])
   pub certificate_end : IfSome start.certificate (λ _. end.certificate ≡ Some [])
 
--- these are the first requests of the trace, and what is still to come follows them
-pub record HasRequests (given : List Object) (start now : Inputs) (bytes : List ℕ) : Type 0 where
+-- these are the first requests of the trace with their marks, and what is still to come follows them
+pub record HasRequests (given : Requests) (start now : Inputs) (bytes : List ℕ) : Type 0 where
   pub rest : List ℕ
   pub stands_in : requests.known now.reader now.trace ≡ Some rest
-  pub reading : traces.reading start.reader.format start.reader.limits bytes ≡ after given (requests.to_come now.reader rest)
+  pub reading : traces.reading start.reader.format start.reader.limits bytes ≡ after given.objects given.fills (requests.to_come now.reader rest)
   pub begins : IsFresh start.reader
-  pub gone : HasGiven given start.reader now.reader bytes
+  pub gone : HasGiven given.objects given.fills start.reader now.reader bytes
   pub rest_is : rest ≡ bytes_after start.reader now.reader bytes
 
 -- a reading after a header and these records
@@ -184,7 +201,7 @@ pub record IsInStep (now : Inputs) (checker : Summary) : Type 0 where
   pub line : now.cert.lines.line ≡ header_len checker.header + checker.sums.steps
   pub left : now.cert.left + checker.sums.steps ≡ checker.header.requests
   pub held : length now.cert.lines.held ≤ 65536
-  pub some : (trace : List Object) × (records : List Record) × StandsFor checker.header trace records checker
+  pub some : (given : Requests) × (records : List Record) × AreMarked (is_marked now.reader.format) given × StandsForAll checker.header given records checker
 
 -- the same, with some reader of a trace and its source
 abbrev pub IsInSomeStep : (requests.Reader → Option (List ℕ) → ℕ → Inputs) → Summary → Type 0
@@ -196,16 +213,18 @@ pub record IsLater (start now : Inputs) : Type 0 where
   pub certificate : start.certificate_faults ≤ now.certificate_faults
 
 -- these requests and records were read and passed
-pub record HasChecked (start : Inputs) (h : Header) (trace : List Object) (records : List Record) (now : Inputs) (checker : Summary) : Type 0 where
-  pub stands : StandsFor h trace records checker
-  pub trace_read : IfSome start.trace (HasRequests trace start now)
+pub record HasChecked (start : Inputs) (h : Header) (given : Requests) (records : List Record) (now : Inputs) (checker : Summary) : Type 0 where
+  pub stands : StandsForAll h given records checker
+  pub marked : AreMarked (is_marked now.reader.format) given
+  pub same_format : now.reader.format ≡ start.reader.format
+  pub trace_read : IfSome start.trace (HasRequests given start now)
   pub records_read : IfSome start.certificate (HasRecords h records now)
   pub later : IsLater start now
 
 -- the trace has no more requests
-pub record HasCheckedAll (start : Inputs) (h : Header) (trace : List Object) (records : List Record) (now : Inputs) (checker : Summary) : Type 0 where
-  pub stands : StandsFor h trace records checker
-  pub trace_read : IfSome start.trace (λ bytes. IsWhole (traces.reading start.reader.format start.reader.limits bytes) trace now.reader.dropped)
+pub record HasCheckedAll (start : Inputs) (h : Header) (given : Requests) (records : List Record) (now : Inputs) (checker : Summary) : Type 0 where
+  pub stands : StandsForAll h given records checker
+  pub trace_read : IfSome start.trace (λ bytes. IsWhole (traces.reading start.reader.format start.reader.limits bytes) given now.reader.dropped)
   pub trace_end : IfSome start.trace (λ _. now.trace ≡ Some [])
   pub records_read : IfSome start.certificate (HasRecords h records now)
   pub later : IsLater start now
@@ -234,12 +253,12 @@ pub record IsStop (start end : Inputs) (why : CheckFault) : Type 0 where
   pub event : IsEvent start end why
   pub near : IsSparing start end why
 
--- the next check: of this request and its record, or there is none more, or why the walk ends here
-abbrev pub IsNextCheck : Inputs → Header → List Object → List Record → Inputs → Summary → Result (Option (Object × Record)) CheckFault → Type 0
-IsNextCheck start h trace records now checker (Ok (Some p)) = HasChecked start h (trace ++ p.0 ∷ []) (records ++ p.1 ∷ []) now checker
-IsNextCheck start h trace records now checker (Ok None) = HasCheckedAll start h trace records now checker
-IsNextCheck start h trace records now checker (Err why) = IsStop start now why
+-- the next check: of this request with the mark that the reader read last, and its record, or there is none more, or why the walk ends here
+abbrev pub IsNextCheck : Inputs → Header → Requests → List Record → Inputs → Summary → Result (Option (Object × Record)) CheckFault → Type 0
+IsNextCheck start h given records now checker (Ok (Some p)) = HasChecked start h (with_request given p.0 (last_mark now.reader)) (records ++ p.1 ∷ []) now checker
+IsNextCheck start h given records now checker (Ok None) = HasCheckedAll start h given records now checker
+IsNextCheck start h given records now checker (Err why) = IsStop start now why
 
 -- whatever was read and passed before, the next check goes on from there
 abbrev pub ChecksNext : Inputs → Summary → Inputs → Summary → Result (Option (Object × Record)) CheckFault → Type 0
-ChecksNext old before new after result = (start : Inputs) (h : Header) (trace : List Object) (records : List Record) → HasChecked start h trace records old before → IsNextCheck start h trace records new after result
+ChecksNext old before new after result = (start : Inputs) (h : Header) (given : Requests) (records : List Record) → HasChecked start h given records old before → IsNextCheck start h given records new after result

@@ -6,7 +6,7 @@ use Rattle.std.specs.List.{list_any, range_with_len}
 use Rattle.cache_model.specs.declared.objects.Object.{Object}
 use Rattle.cache_model.specs.declared.certificates.Header.{Header}
 use Rattle.cache_model.specs.declared.certificates.Record.{Record}
-use Rattle.cache_model.specs.Claim.{same_object, gain_of, score, request_at, contents_of, is_latest, terms_of}
+use Rattle.cache_model.specs.Claim.{counts_past, same_object, gain_of, score, request_at, contents_of, is_latest, terms_of}
 use Rattle.cache_model.specs.Objects.{numbers_of}
 use Rattle.cache_model.specs.Keeps.{latest_sum, load_after}
 use Rattle.cache_model.specs.Certificates.{flow_at, flow_of, keeps_of, prices_of, units_of, unpriced, upper_of}
@@ -76,24 +76,24 @@ was_requested trace t = list_any (same_object (request_at trace t)) (take t trac
 abbrev pub has_flow_until : List Object → List Record → ℕ → ℕ → Bool
 has_flow_until trace records t a = same_object (request_at trace t) (request_at trace a) && is_latest trace t a && nat_lt 0 (flow_at records a)
 
--- within the warm-up, the request before t of the same object, if it has a flow
-abbrev pub unused_before : Header → List Object → List Record → ℕ → Option ℕ
-unused_before h trace records t = if nat_lt t h.warmup then find (has_flow_until trace records t) (range_with_len 0 t) else None
+-- if request t doesn't count, the request before it of the same object, if that has a flow
+abbrev pub unused_before : Header → List Bool → List Object → List Record → ℕ → Option ℕ
+unused_before h fills trace records t = if counts_past h.warmup fills t then None else find (has_flow_until trace records t) (range_with_len 0 t)
 
 -- the figures after request t and its record
-abbrev pub figures_at : Header → List Object → List Record → ℕ → Figures
-figures_at h trace records t = record {
+abbrev pub figures_at : Header → List Bool → List Object → List Record → ℕ → Figures
+figures_at h fills trace records t = record {
   prices = sum (take (t + 1) (prices_of records));
   last = t + 1 == h.requests;
-  counts = was_requested trace t && nat_le h.warmup t;
-  unused = unused_before h trace records t;
+  counts = was_requested trace t && counts_past h.warmup fills t;
+  unused = unused_before h fills trace records t;
   load = load_after trace (keeps_of records) t;
   flows = latest_sum trace (flow_at records) (t + 1);
 }
 
 -- the first rule that record t fails
-abbrev pub record_fault : Header → List Object → List Record → ℕ → Option InvalidKind
-record_fault h trace records t = first_some (record_rules h (request_at trace t) (record_at records t) (figures_at h trace records t))
+abbrev pub record_fault : Header → List Bool → List Object → List Record → ℕ → Option InvalidKind
+record_fault h fills trace records t = first_some (record_rules h (request_at trace t) (record_at records t) (figures_at h fills trace records t))
 
 -- the first request that is the latest of its object and has a flow
 abbrev pub first_unused : List Object → List Record → Option ℕ
@@ -110,16 +110,16 @@ end_rules h unused counted =
     ∷ []
 
 -- what the whole lists give
-abbrev pub counted_of : Header → List Object → List Record → Counted
-counted_of h trace records = record {
-  upper = upper_of trace h records;
-  flow = flow_of trace h records;
-  lower = score (terms_of h) trace (contents_of trace (keeps_of records));
+abbrev pub counted_of : Header → List Bool → List Object → List Record → Counted
+counted_of h fills trace records = record {
+  upper = upper_of trace fills h records;
+  flow = flow_of trace fills h records;
+  lower = score (terms_of h fills) trace (contents_of trace (keeps_of records));
 }
 
 -- the first rule that the end fails
-abbrev pub end_fault : Header → List Object → List Record → Option InvalidKind
-end_fault h trace records = first_some (end_rules h (first_unused trace records) (counted_of h trace records))
+abbrev pub end_fault : Header → List Bool → List Object → List Record → Option InvalidKind
+end_fault h fills trace records = first_some (end_rules h (first_unused trace records) (counted_of h fills trace records))
 
 -- the test passes, unless there is a fault
 abbrev pub unless_fault : Option InvalidKind → Result (Unit {0}) InvalidKind

@@ -1,5 +1,5 @@
 -- One step of a checker, over what it keeps.
-use Rattle.std.specs.Prelude.{◌≡◌, ℕ, ◌+◌, ◌-◌, ◌*◌, ◌/◌, ◌==◌, ◌&&◌, Bool, if◌then◌else◌, nat_le, nat_lt, None, Some}
+use Rattle.std.specs.Prelude.{◌≡◌, ℕ, ◌+◌, ◌-◌, ◌*◌, ◌/◌, ◌==◌, ◌&&◌, Bool, not, if◌then◌else◌, nat_le, nat_lt, None, Some}
 use Rattle.std.specs.declared.option.Option.{Option}
 use Rattle.std.specs.Option.{is_some}
 use Rattle.cache_model.specs.declared.objects.Object.{Object}
@@ -21,17 +21,17 @@ abbrev pub flow_before : Option Seen → ℕ
 flow_before None = 0
 flow_before (Some seen) = seen.flow
 
--- the latest request of an object, if it has a flow and request t is within the warm-up
-abbrev pub unused_flow : Header → ℕ → Option Seen → Option ℕ
-unused_flow h t None = None
-unused_flow h t (Some seen) = if nat_lt t h.warmup && nat_lt 0 seen.flow then Some seen.latest else None
+-- the latest request of an object, if it has a flow and this one doesn't count
+abbrev pub unused_flow : Bool → Option Seen → Option ℕ
+unused_flow counts None = None
+unused_flow counts (Some seen) = if not counts && nat_lt 0 seen.flow then Some seen.latest else None
 
--- the figures after a request of x and its record: what the object had before is taken off
-pub record AreNext (h : Header) (sums : Sums) (x : Object) (r : Record) (before : Option Seen) (now : Figures) : Type 0 where
+-- the figures after a request of x, which counts or not, and its record: what the object had before is taken off
+pub record AreNext (h : Header) (counts : Bool) (sums : Sums) (x : Object) (r : Record) (before : Option Seen) (now : Figures) : Type 0 where
   pub prices : now.prices ≡ sums.prices + r.price
   pub last : now.last ≡ (sums.steps + 1 == h.requests)
-  pub counts : now.counts ≡ (is_some before && nat_le h.warmup sums.steps)
-  pub unused : now.unused ≡ unused_flow h sums.steps before
+  pub ends : now.counts ≡ (is_some before && counts)
+  pub unused : now.unused ≡ unused_flow counts before
   pub load : now.load + size_before x before ≡ sums.load + (if r.keep then x.size else 0)
   pub flows : now.flows + flow_before before ≡ sums.flows + r.flow
 
@@ -47,10 +47,10 @@ added_by h x prices seen = record {
 abbrev pub added_if : Bool → Added → Added
 added_if counts more = if counts then more else record { surplus = 0; value = 0; gain = 0 }
 
--- what request t, of x, adds, which is nothing if it is the first of its object or within the warm-up
-abbrev pub added : Header → Object → ℕ → ℕ → Option Seen → Added
-added h x t prices None = record { surplus = 0; value = 0; gain = 0 }
-added h x t prices (Some seen) = added_if (nat_le h.warmup t) (added_by h x prices seen)
+-- what a request of x adds, which is nothing if it is the first of its object or doesn't count
+abbrev pub added : Header → Bool → Object → ℕ → Option Seen → Added
+added h counts x prices None = record { surplus = 0; value = 0; gain = 0 }
+added h counts x prices (Some seen) = added_if counts (added_by h x prices seen)
 
 -- the sums after a request
 abbrev pub sums_after : Sums → Figures → Added → Sums

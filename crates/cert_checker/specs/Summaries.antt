@@ -1,5 +1,5 @@
 -- What a checker keeps, and the requests and records that it stands for.
-use Rattle.std.specs.Prelude.{◌≡◌, ℕ, ◌<◌, ◌≤◌, ◌*◌, ◌^◌, List, length, take, sum, sum_by, All, MatchOption, None}
+use Rattle.std.specs.Prelude.{◌≡◌, ℕ, ◌<◌, ◌≤◌, ◌*◌, ◌^◌, Bool, List, length, take, sum, sum_by, All, MatchOption, None}
 use Rattle.std.specs.List.{IsDistinct}
 use Rattle.std.specs.Map.{keys_of, lookup}
 use Rattle.cache_model.specs.declared.objects.Object.{Object}
@@ -29,14 +29,14 @@ pub record IsSeen (trace : List Object) (records : List Record) (x : Object) (se
   pub flow : seen.flow ≡ flow_at records seen.latest
 
 -- the sums are those of the requests and records
-pub record AreSums (h : Header) (trace : List Object) (records : List Record) (sums : Sums) : Type 0 where
+pub record AreSums (h : Header) (fills : List Bool) (trace : List Object) (records : List Record) (sums : Sums) : Type 0 where
   pub steps : sums.steps ≡ length trace
   pub prices : sums.prices ≡ sum (prices_of records)
   pub load : sums.load ≡ total_size (held_before trace (keeps_of records) (length trace))
   pub flows : sums.flows ≡ latest_sum trace (flow_at records) (length trace)
-  pub surpluses : sums.surpluses ≡ sum_by (surplus h.unit h.denominator (prices_of records)) (eligible_of trace h)
-  pub values : sums.values ≡ flow_of trace h records
-  pub score : sums.score ≡ score (terms_of h) trace (contents_of trace (keeps_of records))
+  pub surpluses : sums.surpluses ≡ sum_by (surplus h.unit h.denominator (prices_of records)) (eligible_of trace fills h)
+  pub values : sums.values ≡ flow_of trace fills h records
+  pub score : sums.score ≡ score (terms_of h fills) trace (contents_of trace (keeps_of records))
 
 -- the header, the requests and the records so far, one for each request, are in range
 pub record IsInput (h : Header) (trace : List Object) (records : List Record) : Type 0 where
@@ -46,18 +46,18 @@ pub record IsInput (h : Header) (trace : List Object) (records : List Record) : 
   pub one_record_each : length records ≡ length trace
   pub within : length trace ≤ h.requests
 
--- no record fails a rule, and what is kept is the summary of the header, the requests and the records
-pub record StandsFor (h : Header) (trace : List Object) (records : List Record) (s : Summary) : Type 0 where
+-- no record fails a rule, and what is kept is the summary of the header, the requests, of which some only fill, and the records
+pub record StandsFor (h : Header) (fills : List Bool) (trace : List Object) (records : List Record) (s : Summary) : Type 0 where
   pub header : s.header ≡ h
   pub input : IsInput h trace records
-  pub no_fault : (t : ℕ) → t < length trace → record_fault h trace records t ≡ None
+  pub no_fault : (t : ℕ) → t < length trace → record_fault h fills trace records t ≡ None
   pub objects : keys_of s.entries ≡ objects_of trace
   pub seen : (x : Object) → MatchOption (lookup (same_object x) s.entries) (IsNew trace x) (IsSeen trace records x)
-  pub sums : AreSums h trace records s.sums
+  pub sums : AreSums h fills trace records s.sums
 
 -- it holds of each header, requests and records that the summary stands for
-abbrev pub HoldsOfAll : Summary → (Header → List Object → List Record → Type 0) → Type 0
-HoldsOfAll s holds = (h : Header) (trace : List Object) (records : List Record) → StandsFor h trace records s → holds h trace records
+abbrev pub HoldsOfAll : Summary → (Header → List Bool → List Object → List Record → Type 0) → Type 0
+HoldsOfAll s holds = (h : Header) (fills : List Bool) (trace : List Object) (records : List Record) → StandsFor h fills trace records s → holds h fills trace records
 
 -- sums stay small: each request adds a limited amount
 pub record AreSmall (sums : Sums) : Type 0 where
@@ -68,7 +68,8 @@ pub record AreSmall (sums : Sums) : Type 0 where
 -- a checker stands for some requests and records, has one entry for each object, and its sums are small
 pub record IsChecker (s : Summary) : Type 0 where
   pub unique : IsDistinct same_object (keys_of s.entries)
+  pub fills : List Bool
   pub trace : List Object
   pub records : List Record
-  pub stands : StandsFor s.header trace records s
+  pub stands : StandsFor s.header fills trace records s
   pub small : AreSmall s.sums

@@ -1,5 +1,5 @@
 -- The walk of a check: what comes first, as the requests and the lines of the certificate are read side by side.
-use Rattle.std.specs.Prelude.{ℕ, ◌+◌, List, [], ◌∷◌, ◌++◌, length, map, ◌==◌, nat_lt, if◌then◌else◌, None, Some}
+use Rattle.std.specs.Prelude.{ℕ, ◌+◌, Bool, List, [], ◌∷◌, ◌++◌, length, map, ◌==◌, nat_lt, if◌then◌else◌, None, Some}
 use Rattle.std.specs.declared.option.Option.{Option}
 use Rattle.std.specs.Option.{is_some}
 use Rattle.std.specs.List.{position_or_len}
@@ -52,12 +52,12 @@ refusal_event (Some fault) = Some (Refused fault)
 abbrev pub text_after : certificates.Reading → ℕ → Option Event
 text_after c t = if length c.records == t then text_event c.fault else None
 
--- the events at request t: the certificate has no record for it, or its line is not read, or fails a rule
-abbrev pub events_at : Header → certificates.Reading → List Object → ℕ → List (Option Event)
-events_at h c trace t =
+-- the events at request t, by these marks: the certificate has no record for it, or its line is not read, or fails a rule
+abbrev pub events_at : Header → List Bool → certificates.Reading → List Object → ℕ → List (Option Event)
+events_at h fills c trace t =
     at_line (header_len h + t) (found (t == h.requests) (RequestCount h.requests (t + 1)))
     ∷ text_after c t
-    ∷ at_line (header_len h + 1 + t) (record_fault h trace c.records t)
+    ∷ at_line (header_len h + 1 + t) (record_fault h fills trace c.records t)
     ∷ []
 
 -- the events after the last request: the trace is refused, or has too few requests, or the end is not read, or fails a rule
@@ -67,17 +67,17 @@ last_events h c trace =
     refusal_event trace.refused
     ∷ at_line (header_len h + n) (found (nat_lt n h.requests) (RequestCount h.requests n))
     ∷ text_after c n
-    ∷ at_line (header_len h + 1 + n) (end_fault h trace.requests c.records)
+    ∷ at_line (header_len h + 1 + n) (end_fault h trace.fills trace.requests c.records)
     ∷ []
 
 -- the events after the header, by request
-abbrev pub events_by_request : Header → certificates.Reading → List Object → List (Option Event)
-events_by_request h c trace = map (λ t. first_some (events_at h c trace t)) (numbers_of trace)
+abbrev pub events_by_request : Header → certificates.Reading → traces.Reading → List (Option Event)
+events_by_request h c trace = map (λ t. first_some (events_at h trace.fills c trace.requests t)) (numbers_of trace.requests)
 
 -- the first event of the two readings, if the certificate has this header or none
 abbrev pub walk_under : Option Header → traces.Reading → certificates.Reading → Option Event
 walk_under None trace c = text_event c.fault
-walk_under (Some h) trace c = first_some (events_by_request h c trace.requests ++ last_events h c trace)
+walk_under (Some h) trace c = first_some (events_by_request h c trace ++ last_events h c trace)
 
 -- the first event of the walk over the reading of a trace and the bytes of a certificate, if there is one
 abbrev pub walk : traces.Reading → List ℕ → Option Event
@@ -86,7 +86,7 @@ walk trace bytes = let c = certificates.reading bytes in walk_under c.header tra
 -- how many requests the walk asks for: none before the header is read, and then one more than the requests that give no event
 abbrev pub asked_under : Option Header → traces.Reading → certificates.Reading → ℕ
 asked_under None trace c = 0
-asked_under (Some h) trace c = position_or_len is_some (events_by_request h c trace.requests) + 1
+asked_under (Some h) trace c = position_or_len is_some (events_by_request h c trace) + 1
 
 -- how many requests the walk over the reading of a trace and the bytes of a certificate asks for
 abbrev pub asked : traces.Reading → List ℕ → ℕ

@@ -1,7 +1,7 @@
 -- A check of all that two sources have left, by readers that are made for it.
 use Rattle.std.specs.Prelude.{◌≡◌, ℕ, List, Ok}
 use Rattle.bound_io.specs.Devices.{Device}
-use Rattle.cache_model.specs.declared.objects.Object.{Object}
+use Rattle.cache_rules.specs.Stored.{Making}
 use Rattle.cache_model.specs.declared.certificates.Record.{Record}
 use Rattle.trace_any.specs.declared.format.Format.{Format}
 use Rattle.trace_any.specs.Readings.{full_limits}
@@ -42,7 +42,7 @@ pub record Fails (format : Format) (trace cert : Device) (why : CheckFault) : Ty
   pub near : IsNear (first_inputs format trace cert) (last_inputs reader records trace cert) why
 
 -- a yes of the requests and the records that a keeper has, and how many lines of the trace were dropped
-pub record Ends (has : List Object → List Record → Type 0) (format : Format) (trace cert : Device) (verdict : Verdict) (dropped : ℕ) : Type 0 where
+pub record Ends (has : Making → List Record → Type 0) (format : Format) (trace cert : Device) (verdict : Verdict) (dropped : ℕ) : Type 0 where
   pub reader : requests.Reader
   pub records : lines.Reader
   pub dropped_lines : reader.dropped ≡ dropped

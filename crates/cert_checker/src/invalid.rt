@@ -22,7 +22,8 @@ pub enum InvalidKind {
     SumLimit,
     /// The price of the last record is not 0.
     LastPrice { price: u128 },
-    /// The unit does not divide the size of an object that is requested again after the warm-up and fits the capacity.
+    /// The unit does not divide the size of an object that fits the capacity. The request counts, and is not the first
+    /// of the object.
     UnitNotDivisor { unit: u64, size: u64 },
     /// The form is exact, and the cost of an interval of this weight is not whole.
     NotDivisible { weight: u64 },
@@ -33,7 +34,7 @@ pub enum InvalidKind {
     /// The flows over a step pass the units.
     FlowOverfull { load: u128, units: u64 },
     /// A request has a flow, though no interval that counts starts there: it is the last of its object, or the next one
-    /// is within the warm-up. Records count from 0.
+    /// doesn't count. Records count from 0.
     Unused { number: u64 },
     /// The upper bound is not that of the prices.
     UpperDiffers { written: u128, counted: u128 },

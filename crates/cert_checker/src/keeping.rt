@@ -1,8 +1,9 @@
 //! A check that keeps what it reads.
-ghost use Rattle.std.specs.Prelude.{◌≡◌, ◌≤◌, IfOk, IfErr, length};
+ghost use Rattle.std.specs.Prelude.{◌≡◌, ◌≤◌, ◌<◌, ◌^◌, [], true, IfOk, IfErr, OnOk, length};
 ghost use Rattle.bound_io.specs.Devices.{seen};
 ghost use Rattle.bound_io.specs.Reading.{LosesPrefix};
 ghost use Rattle.cert_format.specs.Readers.{fresh};
+ghost use Rattle.cache_rules.specs.Stored.{made_more};
 ghost use Rattle.cert_checker.specs.Checks.{IsEvent, IsFresh, IsNear, KeepsAnswer, seen_inputs};
 ghost use Rattle.cert_checker.specs.Keeping.{HasKept};
 ghost use Rattle.cert_checker.specs.Whole.{Fails, Keeps};
@@ -45,7 +46,7 @@ impl Kept {
         &self.verdict
     }
 
-    /// The requests of the trace.
+    /// The requests of the trace, with their marks.
     pub fn trace(&self) -> &Trace
         ensures { result.now ≡ self.now.trace }
     {
@@ -60,6 +61,31 @@ impl Kept {
     }
 }
 
+// A builder without requests, which keeps marks or not.
+fn builder_of(alloc: Global, marks: bool) -> Result<Builder, NoMemory>
+    ensures { IfOk result (λ b. b ≡ record { requests = record { objects = []; fills = [] }; marks = marks }) }
+{
+    if marks {
+        Builder::marking(alloc)
+    } else {
+        Builder::new(alloc)
+    }
+}
+
+// Appends a request that only fills the cache, or counts.
+fn push(requests: &mut Builder, object: Object, only: bool) -> Result<(), NoMemory>
+    requires marks { only ≡ true → requests.old.marks ≡ true }
+    requires few { length requests.old.requests.objects < 2 ^ 25 }
+    requires size { (1 ≤ object.size) × (object.size ≤ 2 ^ 48) }
+    ensures { OnOk result (requests.new ≡ made_more requests.old object only) }
+{
+    if only {
+        requests.push_filling(object)
+    } else {
+        requests.push(object)
+    }
+}
+
 // Keeps all.
 #[derive(Drop)]
 struct Lists {
@@ -70,10 +96,10 @@ struct Lists {
 impl Keeper for Lists {
     ghost use Rattle.std.specs.Prelude.{◌≡◌};
 
-    ghost has = { λ lists requests records. (lists.requests ≡ requests) × (lists.records.items ≡ records) };
+    ghost has = { λ lists given records. (lists.requests ≡ given) × (lists.records.items ≡ records) };
 
-    fn keep(&mut self, object: Object, entry: Record) -> Result<(), NoMemory> {
-        self.requests.push(object)?;
+    fn keep(&mut self, object: Object, only: bool, entry: Record) -> Result<(), NoMemory> {
+        push(&mut self.requests, object, only)?;
         self.records.push(entry)?;
         Ok(())
     }
@@ -109,7 +135,7 @@ pub fn check_and_keep<T: Source, Q: Source>(
     ensures cert_later { Q.faults certificate.old ≤ Q.faults certificate.new }
 {
     let mut lists = Lists {
-        requests: Builder::new(alloc)?,
+        requests: builder_of(alloc, reader.is_marked())?,
         records: Vec::new(alloc),
     };
     let verdict = check_with(alloc, reader, trace, cert, certificate, &mut lists)?;
@@ -136,7 +162,7 @@ pub fn keep_all<T: Source, Q: Source>(
     ensures cert_source { LosesPrefix (Q.left certificate.old) (Q.left certificate.new) }
 {
     let mut lists = Lists {
-        requests: Builder::new(alloc)?,
+        requests: builder_of(alloc, format.is_marked())?,
         records: Vec::new(alloc),
     };
     let (verdict, dropped) = check_new(alloc, format, trace, certificate, &mut lists)?;

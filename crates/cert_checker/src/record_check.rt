@@ -60,7 +60,7 @@ fn check_interval(header: &Header, object: &Object, now: &Figures) -> Result<(),
     Ok(())
 }
 
-// A flow whose interval ends within the warm-up is not used.
+// A flow whose interval ends at a request that doesn't count is not used.
 fn check_unused(now: &Figures) -> Result<(), InvalidKind>
     ensures { result ≡ unless_fault (option_map Unused now.now.unused) }
 {

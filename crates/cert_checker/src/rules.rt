@@ -8,8 +8,8 @@ use cache_rules::gain;
 use cert_format::Header;
 
 /// What the requests and records through one of them give: the sum of the prices, whether it is the last, whether an
-/// interval of its object ends there that counts, the request before it of its object if that has a flow and its
-/// interval ends within the warm-up, and after it the sizes of the kept objects and the flows of all objects.
+/// interval of its object ends there that counts, the request before it of its object if that has a flow and this one
+/// doesn't count, and after it the sizes of the kept objects and the flows of all objects.
 #[derive(Clone, Copy)]
 pub struct Figures {
     pub prices: u128,

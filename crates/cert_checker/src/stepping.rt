@@ -1,5 +1,5 @@
 //! What one more request and its record change.
-ghost use Rattle.std.specs.Prelude.{◌≡◌, nat_le, ◌≤◌, ◌<◌, ◌+◌, ◌-◌, ◌*◌, ◌/◌, ◌^◌, IfSome, if◌then◌else◌};
+ghost use Rattle.std.specs.Prelude.{◌≡◌, nat_le, not, ◌&&◌, true, ◌≤◌, ◌<◌, ◌+◌, ◌-◌, ◌*◌, ◌/◌, ◌^◌, IfSome, if◌then◌else◌};
 ghost use Rattle.cache_model.specs.Certificates.{IsHeaderInRange};
 ghost use Rattle.cache_model.specs.Claim.{gain_of};
 ghost use Rattle.cert_checker.specs.Rules.{weight_in};
@@ -30,19 +30,28 @@ fn shares(object: &Object, before: Option<Seen>) -> (u64, u64)
     }
 }
 
-// The request before this one of its object, if it has a flow and this one is within the warm-up.
-fn unused(header: &Header, sums: &Sums, before: Option<Seen>) -> Option<u32>
-    ensures { result ≡ unused_flow header.now sums.now.steps before }
+// The request before this one of its object, if it has a flow and this one doesn't count.
+fn unused(counts: bool, before: Option<Seen>) -> Option<u32>
+    ensures { result ≡ unused_flow counts before }
 {
     match before {
-        Some(seen) if sums.steps < header.warmup && seen.flow > 0 => Some(seen.latest),
+        Some(seen) if !counts && seen.flow > 0 => Some(seen.latest),
         _ => None,
     }
 }
 
-/// The figures after a request of the object and its record, if this is what was kept of the object.
+/// Whether the next request counts: it is past the warm-up, and doesn't only fill the cache.
+pub fn counts(header: &Header, sums: &Sums, only: bool) -> bool
+    ensures { result ≡ (nat_le header.now.warmup sums.now.steps && not only) }
+{
+    sums.steps >= header.warmup && !only
+}
+
+/// The figures after a request of the object, which counts or not, and its record, if this is what was kept of the
+/// object.
 pub fn figures(
     header: &Header,
+    counts: bool,
     sums: &Sums,
     object: &Object,
     entry: &Record,
@@ -54,14 +63,14 @@ pub fn figures(
     requires flows { sums.now.flows + entry.now.flow < 2 ^ 64 }
     requires in_load { size_before object.now before ≤ sums.now.load }
     requires in_flows { flow_before before ≤ sums.now.flows }
-    ensures { AreNext header.now sums.now object.now entry.now before result }
+    ensures { AreNext header.now counts sums.now object.now entry.now before result }
 {
     let (size, flow) = shares(object, before);
     Figures {
         prices: sums.prices + entry.price,
         last: sums.steps + 1 == header.requests,
-        counts: before.is_some() && header.warmup <= sums.steps,
-        unused: unused(header, sums, before),
+        counts: before.is_some() && counts,
+        unused: unused(counts, before),
         load: sums.load - size + kept_size(object, entry.keep),
         flows: sums.flows - flow + entry.flow,
     }
@@ -134,36 +143,43 @@ fn added_by_interval(header: &Header, object: &Object, prices: u128, seen: &Seen
     }
 }
 
-// What a later request of the object adds.
-fn added_by_hit(header: &Header, object: &Object, sums: &Sums, seen: &Seen) -> Added
+// What a later request of the object adds, if it counts.
+fn added_by_hit(header: &Header, counts: bool, object: &Object, prices: u128, seen: &Seen) -> Added
     requires header { IsHeaderInRange header.now }
     requires size { object.now.size ≤ 2 ^ 48 }
-    requires prices { seen.now.price_before ≤ sums.now.prices }
+    requires prices { seen.now.price_before ≤ prices }
     requires flow { seen.now.flow ≤ weight_in header.now object.now }
-    requires weight { header.now.warmup ≤ sums.now.steps → object.now.size ≤ header.now.capacity → 1 ≤ object.now.size / header.now.unit }
-    ensures sums { result ≡ added_if (nat_le header.now.warmup sums.now.steps) (added_by header.now object.now sums.now.prices seen.now) }
+    requires weight { counts ≡ true → object.now.size ≤ header.now.capacity → 1 ≤ object.now.size / header.now.unit }
+    ensures sums { result ≡ added_if counts (added_by header.now object.now prices seen.now) }
     ensures small { (result.surplus ≤ 2 ^ 96) × (result.value ≤ 2 ^ 96) × (result.gain ≤ 2 ^ 48) }
 {
-    if header.warmup <= sums.steps {
-        added_by_interval(header, object, sums.prices, seen)
+    if counts {
+        added_by_interval(header, object, prices, seen)
     } else {
         NOTHING_ADDED
     }
 }
 
-/// What a request of the object adds, if this is what was kept of the object: nothing within the warm-up.
-pub fn added(header: &Header, object: &Object, sums: &Sums, before: Option<Seen>) -> Added
+/// What a request of the object adds, if this is what was kept of the object: nothing if it doesn't count. The prices
+/// before it have this sum.
+pub fn added(
+    header: &Header,
+    counts: bool,
+    object: &Object,
+    prices: u128,
+    before: Option<Seen>,
+) -> Added
     requires header { IsHeaderInRange header.now }
     requires size { object.now.size ≤ 2 ^ 48 }
-    requires prices { IfSome before (λ seen. seen.price_before ≤ sums.now.prices) }
+    requires prices { IfSome before (λ seen. seen.price_before ≤ prices) }
     requires flow { IfSome before (λ seen. seen.flow ≤ weight_in header.now object.now) }
-    requires weight { header.now.warmup ≤ sums.now.steps
+    requires weight { counts ≡ true
         → IfSome before (λ seen. object.now.size ≤ header.now.capacity → 1 ≤ object.now.size / header.now.unit) }
-    ensures sums { result ≡ added header.now object.now sums.now.steps sums.now.prices before }
+    ensures sums { result ≡ added header.now counts object.now prices before }
     ensures small { (result.surplus ≤ 2 ^ 96) × (result.value ≤ 2 ^ 96) × (result.gain ≤ 2 ^ 48) }
 {
     match before {
-        Some(seen) => added_by_hit(header, object, sums, &seen),
+        Some(seen) => added_by_hit(header, counts, object, prices, &seen),
         None => NOTHING_ADDED,
     }
 }

@@ -2,14 +2,16 @@
 ghost use Rattle.std.specs.Prelude.{◌≡◌, ◌≤◌, ◌<◌, ◌+◌, ◌^◌, [], IfOk, IfErr, IfSome, None, OnOk, length};
 ghost use Rattle.bound_io.specs.Reading.{LosesPrefix};
 ghost use Rattle.cache_model.specs.Certificates.{IsRecordInRange};
+ghost use Rattle.cache_model.specs.Claim.{only_fills};
 ghost use Rattle.cert_checker.specs.declared.invalid.InvalidKind.TheVariants.{RequestCount};
 ghost use Rattle.cert_format.specs.Lines.{IsTaken};
 ghost use Rattle.cert_format.specs.Readers.{fresh};
 ghost use Rattle.cert_checker.specs.declared.walking.CheckFault.TheVariants.{Invalid};
 ghost use Rattle.cert_checker.specs.Checks.{ChecksNext, IsEvent, IsFresh, IsInSomeStep, IsInStep, IsNear, IsPassed, IsSteppedAt, KeepsAnswer, seen_cert, seen_inputs};
-ghost use Rattle.cert_checker.specs.Keeping.{ChecksLast, IsCheckEnd};
-ghost use Rattle.cert_checker.specs.Summaries.{IsSized};
+ghost use Rattle.cert_checker.specs.Keeping.{ChecksLast, IsCheckEnd, no_requests};
+ghost use Rattle.cert_checker.specs.Summaries.{HoldsOfAll, IsSized};
 ghost use Rattle.cert_checker.specs.Walks.{text_kind};
+ghost use Rattle.cert_checker.specs.Answers.{IsStepped};
 
 use crate::checker::{Checker, StepFault};
 use crate::invalid::InvalidKind;
@@ -115,11 +117,34 @@ fn records_read(header: &Header, cert: &CertReader) -> u64
     (header.requests - cert.left()) as u64
 }
 
-// The step of the checker with the record of this line.
+// The checker's own step with a request that only fills the cache, or counts, and its record.
+#[inline(always)]
+fn step_as(
+    alloc: Global,
+    checker: &mut Checker,
+    only: bool,
+    object: Object,
+    entry: Record,
+) -> Result<(), StepFault>
+    requires fewer { checker.old.sums.steps < checker.old.header.requests }
+    requires size { (1 ≤ object.size) × (object.size ≤ 2 ^ 48) }
+    requires range { IsRecordInRange entry }
+    ensures { HoldsOfAll checker.old (λ h fills trace records. only_fills fills (length trace) ≡ only
+        → IsStepped h fills trace records object entry checker.new result) }
+{
+    if only {
+        checker.step_filling(alloc, object, entry)
+    } else {
+        checker.step(alloc, object, entry)
+    }
+}
+
+// The step of the checker with a request that only fills the cache, or counts, and the record of this line.
 #[inline(always)]
 fn step(
     alloc: Global,
     checker: &mut Checker,
+    only: bool,
     object: Object,
     entry: Record,
     line: u64,
@@ -127,9 +152,9 @@ fn step(
     requires fewer { checker.old.sums.steps < checker.old.header.requests }
     requires size { (1 ≤ object.size) × (object.size ≤ 2 ^ 48) }
     requires range { IsRecordInRange entry }
-    ensures stepped { IsSteppedAt line checker.old checker.new object entry result }
+    ensures stepped { IsSteppedAt line checker.old checker.new object only entry result }
 {
-    match checker.step(alloc, object, entry) {
+    match step_as(alloc, checker, only, object, entry) {
         Ok(()) => Ok(()),
         Err(StepFault::Rule(kind)) => Err(CheckFault::Invalid { line, kind }),
         Err(StepFault::NoMemory) => Err(CheckFault::NoMemory),
@@ -166,12 +191,13 @@ fn check_next<T: Source, Q: Source>(
     let Some(object) = reader.next(alloc, trace)? else {
         return Ok(None);
     };
+    let only = reader.last_fills();
     let read = records_read(header, cert);
     if read == header.requests as u64 {
         return Err(count_differs(header, cert.line(), read + 1));
     }
     let entry = cert.next_record(certificate)?;
-    step(alloc, checker, object, entry, cert.line())?;
+    step(alloc, checker, only, object, entry, cert.line())?;
     Ok(Some((object, entry)))
 }
 
@@ -215,7 +241,7 @@ pub(crate) fn check_with<T: Source, Q: Source, K: Keeper>(
 ) -> Result<Verdict, CheckFault>
     requires fresh_reader { IsFresh reader.old }
     requires fresh_cert { cert.old ≡ fresh }
-    requires nothing { K.has keeper.old [] [] }
+    requires nothing { K.has keeper.old (no_requests reader.old.format) [] }
     ensures checked { IsCheckEnd (K.has keeper.new)
         (seen_inputs T.left T.faults Q.left Q.faults reader.old trace.old cert.old certificate.old)
         (seen_inputs T.left T.faults Q.left Q.faults reader.new trace.new cert.new certificate.new) result }
@@ -236,7 +262,7 @@ pub(crate) fn check_with<T: Source, Q: Source, K: Keeper>(
         &header,
         &mut checker,
     )? {
-        keeper.keep(object, entry)?;
+        keeper.keep(object, reader.last_fills(), entry)?;
     }
     check_last(cert, certificate, &header, &checker)
 }
@@ -248,7 +274,7 @@ pub(crate) struct Nothing;
 impl Keeper for Nothing {
     ghost has = { λ _ _ _. Unit {0} };
 
-    fn keep(&mut self, _object: Object, _entry: Record) -> Result<(), NoMemory> {
+    fn keep(&mut self, _object: Object, _only: bool, _entry: Record) -> Result<(), NoMemory> {
         Ok(())
     }
 }

@@ -5,6 +5,7 @@ ghost use Rattle.bound_io.specs.Reading.{LosesPrefix};
 ghost use Rattle.cert_format.specs.Readers.{fresh as first_record};
 ghost use Rattle.trace_any.specs.Readers.{fresh as first_request};
 ghost use Rattle.trace_any.specs.Readings.{IsFormat, full_limits};
+ghost use Rattle.cert_checker.specs.Keeping.{no_requests};
 ghost use Rattle.cert_checker.specs.Whole.{Ends, Fails, Passes};
 
 use crate::keeper::Keeper;
@@ -26,7 +27,7 @@ fn check_read<T: Source, Q: Source, K: Keeper>(
 ) -> Result<(Verdict, u64), CheckFault>
     requires fresh_reader { reader.old ≡ first_request reader.old.format full_limits }
     requires fresh_cert { cert.old ≡ first_record }
-    requires nothing { K.has keeper.old [] [] }
+    requires nothing { K.has keeper.old (no_requests reader.old.format) [] }
     ensures yes { IfOk result (λ p. Ends (K.has keeper.new) reader.old.format
         (seen T.left T.faults trace.old trace.new) (seen Q.left Q.faults certificate.old certificate.new) p.0 p.1) }
     ensures no { IfErr result (Fails reader.old.format
@@ -51,7 +52,7 @@ fn check_by<T: Source, Q: Source, K: Keeper>(
 ) -> Result<(Verdict, u64), CheckFault>
     requires format { IsFormat format }
     requires fresh_cert { cert.old ≡ first_record }
-    requires nothing { K.has keeper.old [] [] }
+    requires nothing { K.has keeper.old (no_requests format) [] }
     ensures yes { IfOk result (λ p. Ends (K.has keeper.new) format
         (seen T.left T.faults trace.old trace.new) (seen Q.left Q.faults certificate.old certificate.new) p.0 p.1) }
     ensures no { IfErr result (Fails format
@@ -72,7 +73,7 @@ pub(crate) fn check_new<T: Source, Q: Source, K: Keeper>(
     keeper: &mut K,
 ) -> Result<(Verdict, u64), CheckFault>
     requires format { IsFormat format }
-    requires nothing { K.has keeper.old [] [] }
+    requires nothing { K.has keeper.old (no_requests format) [] }
     ensures yes { IfOk result (λ p. Ends (K.has keeper.new) format
         (seen T.left T.faults trace.old trace.new) (seen Q.left Q.faults certificate.old certificate.new) p.0 p.1) }
     ensures no { IfErr result (Fails format

@@ -5,13 +5,15 @@ use Rattle.cache_model.specs.declared.certificates.Header.{Header}
 use Rattle.cache_model.specs.Texts.{header_len, line, record_line}
 use Rattle.cert_checker.specs.declared.invalid.InvalidKind.TheVariants.{RequestCount}
 use Rattle.cert_checker.specs.declared.walking.CheckFault.TheVariants.{Invalid}
-use Rattle.cert_checker.specs.Checks.{Inputs, seen_inputs, IsFailing}
-use Rattle.cert_checker.specs.Rules.{record_fault}
-use Rattle.cert_checker.specs.Summaries.{StandsFor}
+use Rattle.cert_checker.specs.Checks.{Inputs, seen_inputs, IsFailing, StandsForAll, fault_at}
+use Rattle.cache_rules.specs.Stored.{with_request}
+use Rattle.trace_any.specs.Readers.{last_mark}
+use Rattle.trace_any.specs.Readings.{is_marked}
 use Rattle.cert_format.proofs.Taken.{same_taken}
 use Rattle.cert_checker.proofs.Losses.{keeps}
 use Rattle.cert_checker.proofs.KeptFaults.{kept_none, kept_rule, kept_text, kept_trace}
 use Rattle.cert_checker.proofs.Stops.{last_line, stop_trace, end_trace, stop_count, stop_text, stop_rule, goes_further}
+use Rattle.cert_checker.proofs.Marked.{AreMarked-next, marked_now}
 use Rattle.cert_checker.proofs.walking.check_next.Goals as goal
 
 pub returns-in_err-object-clause-checked : goal.returns-in_err-object-clause-checked
@@ -35,15 +37,15 @@ returns-then-read-header-clause-checked g c = λ start h given records checked.
     let next = rw c.in-Some.is at c.in_ok-object.ensures.next c.requires.in_step.trace_fault in
     let near = rw c.in-Some.is at c.in_ok-object.ensures.lines c.requires.in_step.trace_fault in
     let many = checked.stands.sums.steps in
-    let at : c.args.cert.now.lines.line ≡ header_len h + length given = last_line h given records c.args.checker.now c.args.cert.now.lines.line checked.stands c.requires.in_step.line in
+    let at : c.args.cert.now.lines.line ≡ header_len h + length given.objects = last_line h given records c.args.checker.now c.args.cert.now.lines.line checked.stands c.requires.in_step.line in
     let written : c.args.header.now.requests ≡ h.requests = ap (λ (k : Header). k.requests) (c.requires.header ∙ checked.stands.header) in
-    let line_is : c.line.result ≡ header_len h + length given = omega (arith, c.line.ensures, at) in
-    let read : c.records_read-read.result + 1 ≡ length given + 1 = omega (arith, c.records_read-read.ensures, c.requires.in_step.left, many, ap (λ (k : Header). k.requests) c.requires.header) in
-    let full : length given ≡ h.requests = omega (arith, read, written, c.if-read-header.true) in
-    let is : c.count_differs.result ≡ Invalid (header_len h + length given) (RequestCount h.requests (length given + 1)) =
+    let line_is : c.line.result ≡ header_len h + length given.objects = omega (arith, c.line.ensures, at) in
+    let read : c.records_read-read.result + 1 ≡ length given.objects + 1 = omega (arith, c.records_read-read.ensures, c.requires.in_step.left, many, ap (λ (k : Header). k.requests) c.requires.header) in
+    let full : length given.objects ≡ h.requests = omega (arith, read, written, c.if-read-header.true) in
+    let is : c.count_differs.result ≡ Invalid (header_len h + length given.objects) (RequestCount h.requests (length given.objects + 1)) =
     c.count_differs.ensures ∙ (ap (λ l. Invalid l (RequestCount c.args.header.now.requests (c.records_read-read.result + 1))) line_is
-    ∙ (ap (λ w. Invalid (header_len h + length given) (RequestCount w (c.records_read-read.result + 1))) written ∙ ap (λ r. Invalid (header_len h + length given) (RequestCount h.requests r)) read)) in
-    rw is (stop_count start h given records now c.args.checker.now checked c.in-Some.object c.next.new.self (g.T.Source.left c.next.new.source) next.1 near c.in_ok-object.ensures.ahead end refl refl refl c.requires.in_step.held at full)
+    ∙ (ap (λ w. Invalid (header_len h + length given.objects) (RequestCount w (c.records_read-read.result + 1))) written ∙ ap (λ r. Invalid (header_len h + length given.objects) (RequestCount h.requests r)) read)) in
+    rw is (stop_count start h given records now c.args.checker.now checked c.in-Some.object c.next.new.self (g.T.Source.left c.next.new.source) c.in_ok-object.ensures.format next.1 near c.in_ok-object.ensures.ahead end refl refl refl c.requires.in_step.held at full)
 
 pub returns-in_err-entry-clause-checked : goal.returns-in_err-entry-clause-checked
 returns-in_err-entry-clause-checked g c =
@@ -54,9 +56,9 @@ returns-in_err-entry-clause-checked g c =
     let next = rw c.in-Some.is at c.in_ok-object.ensures.next c.requires.in_step.trace_fault in
     let near = rw c.in-Some.is at c.in_ok-object.ensures.lines c.requires.in_step.trace_fault in
     let written : c.args.header.now.requests ≡ h.requests = ap (λ (k : Header). k.requests) (c.requires.header ∙ checked.stands.header) in
-    let fewer : length given < h.requests = omega (arith, c.records_read-read.ensures, c.requires.in_step.left, checked.stands.sums.steps, ap (λ (k : Header). k.requests) c.requires.header, written, checked.stands.input.within, c.if-read-header.false) in
+    let fewer : length given.objects < h.requests = omega (arith, c.records_read-read.ensures, c.requires.in_step.left, checked.stands.sums.steps, ap (λ (k : Header). k.requests) c.requires.header, written, checked.stands.input.within, c.if-read-header.false) in
     let e = c.in_err-entry.ensures in
-    stop_text start h given records now c.args.checker.now checked c.in-Some.object c.next.new.self (g.T.Source.left c.next.new.source) next.1 near c.in_ok-object.ensures.ahead end c.in_err-entry.field-0.0 refl fewer (e.read c.requires.in_step.cert_fault) (e.within c.requires.in_step.cert_fault) e.past e.ahead)
+    stop_text start h given records now c.args.checker.now checked c.in-Some.object c.next.new.self (g.T.Source.left c.next.new.source) c.in_ok-object.ensures.format next.1 near c.in_ok-object.ensures.ahead end c.in_err-entry.field-0.0 refl fewer (e.read c.requires.in_step.cert_fault) (e.within c.requires.in_step.cert_fault) e.past e.ahead)
 
 pub returns-in_err-step-clause-checked : goal.returns-in_err-step-clause-checked
 returns-in_err-step-clause-checked g c =
@@ -67,12 +69,12 @@ returns-in_err-step-clause-checked g c =
     let next = rw c.in-Some.is at c.in_ok-object.ensures.next c.requires.in_step.trace_fault in
     let near = rw c.in-Some.is at c.in_ok-object.ensures.lines c.requires.in_step.trace_fault in
     let written : c.args.header.now.requests ≡ h.requests = ap (λ (k : Header). k.requests) (c.requires.header ∙ checked.stands.header) in
-    let fewer : length given < h.requests = omega (arith, c.records_read-read.ensures, c.requires.in_step.left, checked.stands.sums.steps, ap (λ (k : Header). k.requests) c.requires.header, written, checked.stands.input.within, c.if-read-header.false) in
+    let fewer : length given.objects < h.requests = omega (arith, c.records_read-read.ensures, c.requires.in_step.left, checked.stands.sums.steps, ap (λ (k : Header). k.requests) c.requires.header, written, checked.stands.input.within, c.if-read-header.false) in
     let e = c.in_ok-entry.ensures in
     let read = e.read c.requires.in_step.cert_fault in
-    stop_rule start h given records now c.args.checker.now checked c.in-Some.object c.next.new.self (g.T.Source.left c.next.new.source) next.1 near c.in_ok-object.ensures.ahead c.in_ok-entry.entry (line (record_line c.args.cert.now.version c.args.cert.now.price c.in_ok-entry.entry)) end read.4 read.5 e.past c.in_err-step.field-0.0 refl fewer
+    stop_rule start h given records now c.args.checker.now checked c.in-Some.object c.next.new.self (g.T.Source.left c.next.new.source) c.in_ok-object.ensures.format next.1 near c.in_ok-object.ensures.ahead c.in_ok-entry.entry (line (record_line c.args.cert.now.version c.args.cert.now.price c.in_ok-entry.entry)) end read.4 read.5 e.past c.in_err-step.field-0.0 refl fewer
     (last_line h given records c.args.checker.now c.args.cert.now.lines.line checked.stands c.requires.in_step.line) e.ahead
-    (subst (λ l. IsFailing l (record_fault h (given ++ c.in-Some.object ∷ []) (records ++ c.in_ok-entry.entry ∷ []) (length given)) c.in_err-step.field-0.0) c.line-2.ensures (c.in_err-step.ensures.stepped h given records checked.stands)))
+    (subst (λ l. IsFailing l (fault_at h (with_request given c.in-Some.object (last_mark c.next.new.self)) (records ++ c.in_ok-entry.entry ∷ []) (length given.objects)) c.in_err-step.field-0.0) c.line-2.ensures (c.in_err-step.ensures.stepped c.next.new.self h given records c.last_fills-only.ensures (marked_now given checked.marked c.in_ok-object.ensures.format) checked.stands)))
 
 pub returns-clause-checked : goal.returns-clause-checked
 returns-clause-checked g c = λ start h given records checked.
@@ -82,8 +84,8 @@ returns-clause-checked g c = λ start h given records checked.
     let near = rw c.in-Some.is at c.in_ok-object.ensures.lines c.requires.in_step.trace_fault in
     let e = c.in_ok-entry.ensures in
     let read = e.read c.requires.in_step.cert_fault in
-    goes_further start h given records now c.args.checker.now checked c.in-Some.object c.next.new.self (g.T.Source.left c.next.new.source) next.1 near c.in_ok-object.ensures.ahead c.in_ok-entry.entry (line (record_line c.args.cert.now.version c.args.cert.now.price c.in_ok-entry.entry)) end read.4 read.5 e.past c.step.new.checker refl refl
-    (c.in_ok-step.ensures.stepped h given records checked.stands)
+    goes_further start h given records now c.args.checker.now checked c.in-Some.object c.next.new.self (g.T.Source.left c.next.new.source) c.in_ok-object.ensures.format next.1 near c.in_ok-object.ensures.ahead c.in_ok-entry.entry (line (record_line c.args.cert.now.version c.args.cert.now.price c.in_ok-entry.entry)) end read.4 read.5 e.past c.step.new.checker refl refl
+    (c.in_ok-step.ensures.stepped c.next.new.self h given records c.last_fills-only.ensures (marked_now given checked.marked c.in_ok-object.ensures.format) checked.stands)
     (record { trace = omega (arith, checked.later.trace, c.in_ok-object.ensures.later); certificate = omega (arith, checked.later.certificate, e.later) })
 
 pub returns-clause-in_step : goal.returns-clause-in_step
@@ -93,9 +95,9 @@ returns-clause-in_step g c =
     let read = e.read s.cert_fault in
     let x = c.in-Some.object in
     let r = c.in_ok-entry.entry in
-    let more = c.in_ok-step.ensures.stepped c.args.checker.now.header s.some.0 s.some.1 s.some.2 in
-    let steps = more.sums.steps ∙ length-append s.some.0 (x ∷ []) in
-    let old = s.some.2.sums.steps in (
+    let more = c.in_ok-step.ensures.stepped c.next.new.self c.args.checker.now.header s.some.0 s.some.1 c.last_fills-only.ensures (marked_now s.some.0 s.some.2 c.in_ok-object.ensures.format) s.some.3 in
+    let steps = more.sums.steps ∙ length-append s.some.0.objects (x ∷ []) in
+    let old = s.some.3.sums.steps in (
       record {
         trace_fault = c.in_ok-object.ensures.fault s.trace_fault;
         cert_fault = e.fault s.cert_fault;
@@ -103,7 +105,12 @@ returns-clause-in_step g c =
         line = omega (arith, read.4, s.line, steps, old, ap header_len more.header);
         left = omega (arith, read.1, s.left, steps, old, ap (λ (k : Header). k.requests) more.header);
         held = e.ahead;
-        some = (s.some.0 ++ x ∷ [], s.some.1 ++ r ∷ [], subst (λ k. StandsFor k (s.some.0 ++ x ∷ []) (s.some.1 ++ r ∷ []) c.step.new.checker) (sym more.header) more);
+        some = (
+          with_request s.some.0 x (last_mark c.next.new.self),
+          s.some.1 ++ r ∷ [],
+          AreMarked-next (is_marked c.next.new.self.format) c.next.new.self.ahead.fills s.some.0 x (marked_now s.some.0 s.some.2 c.in_ok-object.ensures.format),
+          subst (λ k. StandsForAll k (with_request s.some.0 x (last_mark c.next.new.self)) (s.some.1 ++ r ∷ []) c.step.new.checker) (sym more.header) more,
+        );
       },
       more.header,
     )
@@ -205,7 +212,7 @@ returns-in_default-clause-in_step g c =
         line = s.line;
         left = s.left;
         held = s.held;
-        some = s.some;
+        some = (s.some.0, s.some.1, marked_now s.some.0 s.some.2 c.in_ok-object.ensures.format, s.some.3);
       },
       refl,
     )
@@ -246,7 +253,7 @@ returns-in_err-step-clause-kept g c =
     let p = err_from_is_err_and c.from_residual-in_err-step.result c.from_residual-in_err-step.ensures.1 in
     let s = c.requires.in_step.some in
     rw (p.1, p.2) (kept_none _ _ _ (c.in_ok-object.ensures.fault c.requires.in_step.trace_fault) (c.in_ok-entry.ensures.fault c.requires.in_step.cert_fault)
-    (kept_rule _ _ _ (c.in_err-step.ensures.stepped c.args.checker.now.header s.0 s.1 s.2)))
+    (kept_rule _ _ _ (c.in_err-step.ensures.stepped c.next.new.self c.args.checker.now.header s.0 s.1 c.last_fills-only.ensures (marked_now s.0 s.2 c.in_ok-object.ensures.format) s.3)))
 
 pub returns-clause-kept : goal.returns-clause-kept
 returns-clause-kept g c = (c.in_ok-object.ensures.fault c.requires.in_step.trace_fault, c.in_ok-entry.ensures.fault c.requires.in_step.cert_fault)

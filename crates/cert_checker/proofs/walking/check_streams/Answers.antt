@@ -1,5 +1,5 @@
 use Rattle.std.proofs.Common.{List, Result, Ok, Err, IfOk}
-use Rattle.cache_model.specs.declared.objects.Object.{Object}
+use Rattle.cache_rules.specs.Stored.{Making}
 use Rattle.cache_model.specs.declared.certificates.Record.{Record}
 use Rattle.cert_checker.specs.declared.verdict.Verdict.{Verdict}
 use Rattle.cert_checker.specs.declared.walking.CheckFault.{CheckFault}
@@ -9,7 +9,7 @@ use Rattle.cert_checker.proofs.NextChecks.{event_closed}
 use Rattle.cert_checker.proofs.Nearness.{near_closed}
 use Rattle.cert_checker.proofs.walking.check_streams.Goals as goal
 
-yes_closed : (has : List Object → List Record → Type 0) (start end : Inputs) (result : Result Verdict CheckFault) → IsCheckEnd has start end result → IfOk result (IsPassed start end)
+yes_closed : (has : Making → List Record → Type 0) (start end : Inputs) (result : Result Verdict CheckFault) → IsCheckEnd has start end result → IfOk result (IsPassed start end)
 yes_closed has start end (Ok verdict) closed = closed.3.passed
 yes_closed has start end (Err why) closed = tt
 

@@ -4,11 +4,16 @@ use Rattle.std.proofs.lemmas.Result.{err_from_is_err_and}
 use Rattle.cache_model.specs.declared.certificates.Header.{Header}
 use Rattle.cache_model.specs.Texts.{header_len}
 use Rattle.cert_format.proofs.Chains.{loses_both, taken_both}
+use Rattle.cache_rules.specs.Stored.{with_request}
+use Rattle.trace_any.specs.Readers.{last_mark}
+use Rattle.trace_any.specs.Readings.{is_marked}
 use Rattle.cert_checker.specs.Checks.{Inputs, seen_inputs}
+use Rattle.cert_checker.specs.Keeping.{of_form}
 use Rattle.cert_checker.specs.Summaries.{StandsFor}
 use Rattle.cert_checker.proofs.Ends.{stop_header, opens}
 use Rattle.cert_checker.proofs.KeptFaults.{kept_text}
 use Rattle.cert_checker.proofs.Losses.{keeps}
+use Rattle.cert_checker.proofs.Marked.{kept_next, marks_kept, none_marked}
 use Rattle.cert_checker.proofs.NextChecks.{check_end}
 use Rattle.cert_checker.proofs.walking.check_with.Goals as goal
 
@@ -46,7 +51,7 @@ loop-checker-init g c =
     let none : c.args.cert.now.fault ≡ None = ap (λ r. r.fault) c.requires.fresh_cert in
     let e = c.in_ok-header.ensures in
     let read = e.read none in
-    let st = c.in_ok-checker.ensures.nothing in
+    let st = c.in_ok-checker.ensures.nothing [] in
     record {
       in_step = record {
         trace_fault = ap (λ r. r.fault) c.requires.fresh_reader;
@@ -55,10 +60,10 @@ loop-checker-init g c =
         line = omega (arith, read.4, st.sums.steps, ap header_len st.header);
         left = omega (arith, read.1, st.sums.steps, ap (λ (k : Header). k.requests) st.header);
         held = e.ahead;
-        some = ([], [], subst (λ k. StandsFor k [] [] c.in_ok-checker.checker) (sym st.header) st);
+        some = (record { objects = []; fills = [] }, [], none_marked (is_marked c.args.reader.now.format), subst (λ k. StandsFor k [] [] [] c.in_ok-checker.checker) (sym st.header) st);
       };
       header = sym st.header;
-      kept = ([], [], c.requires.nothing, opens start c.requires.fresh_reader c.requires.fresh_cert middle e.past c.in_ok-header.header c.in_ok-checker.checker read refl refl st (record { trace = omega arith; certificate = e.later }));
+      kept = (record { objects = []; fills = [] }, [], c.requires.nothing, opens start c.requires.fresh_reader c.requires.fresh_cert middle e.past c.in_ok-header.header c.in_ok-checker.checker read refl refl st (record { trace = omega arith; certificate = e.later }));
       trace_source = keeps (g.T.Source.left c.args.trace.now);
       trace_later = omega arith;
       taken = e.taken;
@@ -75,8 +80,13 @@ loop-checker-preserved g c =
       in_step = e.in_step.0;
       header = i.header ∙ sym e.in_step.1;
       kept =
-          let more = rw c.in-Some.is at (e.checked start c.in_ok-header.header i.kept.0 i.kept.1 i.kept.3) in
-          (i.kept.0 ++ c.in-Some.object ∷ [], i.kept.1 ++ c.in-Some.entry ∷ [], c.in_ok-keep.ensures i.kept.0 i.kept.1 i.kept.2, more);
+          let more = rw c.in-Some.is at (e.checked start c.in_ok-header.header i.kept.0 i.kept.1 i.kept.3) in (
+            with_request i.kept.0 c.in-Some.object (last_mark c.check_next.new.reader),
+            i.kept.1 ++ c.in-Some.entry ∷ [],
+            kept_next (g.K.Keeper.has c.keep.new.self) _ c.check_next.new.reader (sym more.same_format) i.kept.0 c.in-Some.object _ c.last_fills.result c.last_fills.ensures
+                (c.in_ok-keep.ensures (of_form c.args.reader.now.format i.kept.0) i.kept.1 i.kept.2),
+            more,
+          );
       trace_source = loses_both (g.T.Source.left c.args.trace.now) (g.T.Source.left c.loop-checker.trace) (g.T.Source.left c.check_next.new.trace) i.trace_source e.trace.0;
       trace_later = omega (arith, i.trace_later, e.trace.1);
       taken = taken_both c.args.cert.now.lines c.loop-checker.cert.lines c.check_next.new.cert.lines (g.Q.Source.left c.args.certificate.now) (g.Q.Source.left c.loop-checker.certificate) (g.Q.Source.left c.check_next.new.certificate) i.cert_source i.taken e.taken;
@@ -89,8 +99,10 @@ keep-requires-clause-few g c =
     let i = c.loop-checker.invariant in
     let e = c.in_ok-object.ensures in
     let fewer = rw c.in-Some.is at e.fewer in
+    let start : Inputs = seen_inputs g.T.Source.left g.T.Source.faults g.Q.Source.left g.Q.Source.faults c.args.reader.now c.args.trace.now c.args.cert.now c.args.certificate.now in
+    let more = rw c.in-Some.is at (e.checked start c.in_ok-header.header i.kept.0 i.kept.1 i.kept.3) in
     let stands = i.kept.3.stands in
-    (i.kept.0, i.kept.1, i.kept.2, omega (arith, stands.sums.steps, i.in_step.left, e.in_step.0.left, fewer, i.in_step.some.2.input.header_in_range.requests))
+    (of_form c.args.reader.now.format i.kept.0, i.kept.1, i.kept.2, omega (arith, stands.sums.steps, i.in_step.left, e.in_step.0.left, fewer, i.in_step.some.3.input.header_in_range.requests), marks_kept _ c.check_next.new.reader (sym more.same_format) c.last_fills.result c.last_fills.ensures)
 
 pub keep-requires-clause-size : goal.keep-requires-clause-size
 keep-requires-clause-size g c = rw c.in-Some.is at c.in_ok-object.ensures.size

@@ -1,6 +1,7 @@
 use Rattle.std.proofs.Common.{◌≡◌, ◌≤◌, List}
 use Rattle.bound_io.specs.Reading.{LosesPrefix}
-use Rattle.cache_model.specs.declared.objects.Object.{Object}
+use Rattle.cache_rules.specs.Stored.{Requests}
+use Rattle.cert_checker.specs.Keeping.{of_form}
 use Rattle.cache_model.specs.declared.certificates.Record.{Record}
 use Rattle.cert_format.specs.Lines.{IsTaken}
 use Rattle.cert_checker.specs.Checks.{HasChecked, Inputs, IsInStep, seen_inputs}
@@ -14,7 +15,7 @@ invariant-loop-checker g l =
     record {
       in_step : IsInStep now l.checker;
       header : l.header ≡ l.checker.header;
-      kept : (requests : List Object) × (records : List Record) × g.K.Keeper.has l.keeper requests records × HasChecked start l.header requests records now l.checker;
+      kept : (requests : Requests) × (records : List Record) × g.K.Keeper.has l.keeper (of_form l.fn.reader.format requests) records × HasChecked start l.header requests records now l.checker;
       trace_source : LosesPrefix (g.T.Source.left l.fn.trace) (g.T.Source.left l.trace);
       trace_later : g.T.Source.faults l.fn.trace ≤ g.T.Source.faults l.trace;
       taken : IsTaken l.fn.cert.lines l.cert.lines (g.Q.Source.left l.fn.certificate) (g.Q.Source.left l.certificate);

@@ -8,7 +8,7 @@ use Rattle.cert_checker.proofs.Unused.{first_unused-least, has_flow}
 use Rattle.cert_checker.proofs.checker.Checker.first_unused.Goals as goal
 
 pub returns : goal.returns
-returns c = λ h trace records st.
+returns c = λ h fills trace records st.
     sym (option_map_id _)
     ∙ min_from_yields_List c.map.result _ c.min.ensures.ran
     (YieldsList-from_map _ (λ seen. seen.latest)
@@ -17,4 +17,4 @@ returns c = λ h trace records st.
     (YieldsList-at c.filter.ensures.source (YieldsList-from_rest (values_of c.self.inside.seen.entries) c.values.ensures.rest))
     c.filter.ensures.closure (λ x b q k. search rules)))
     c.map.ensures.closure (λ x r q k. search rules))
-    ∙ first_unused-least h trace records _ (subst (StandsFor h trace records) (sym c.self.view_is) st) c.self.invariant.unique
+    ∙ first_unused-least h fills trace records _ (subst (StandsFor h fills trace records) (sym c.self.view_is) st) c.self.invariant.unique

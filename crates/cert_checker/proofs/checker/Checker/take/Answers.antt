@@ -8,9 +8,9 @@ use Rattle.cert_checker.specs.declared.summary.Sums.{Sums}
 use Rattle.cert_checker.specs.Rules.{first_some, record_rules}
 use Rattle.cert_checker.specs.Steps.{seen_at, sums_after}
 use Rattle.cert_checker.specs.Summaries.{StandsFor, Summary}
-use Rattle.cert_checker.proofs.Checking.{prices-le, load-le, flows-le, in_load, in_flows, each_price, each_flow, each_weight, refused, taken, IsChecker-taken}
+use Rattle.cert_checker.proofs.Checking.{counted-is, prices-le, load-le, flows-le, in_load, in_flows, each_price, each_flow, each_weight, refused, taken, IsChecker-taken}
 use Rattle.cert_checker.proofs.Passing.{none_from_ok, some_from_err}
-use Rattle.cert_checker.proofs.checker.Checker.step.Goals as goal
+use Rattle.cert_checker.proofs.checker.Checker.take.Goals as goal
 
 pub figures-now-requires-clause-prices : goal.figures-now-requires-clause-prices
 figures-now-requires-clause-prices c = omega (arith, prices-le _ c.self.invariant, c.requires.range.price)
@@ -35,8 +35,8 @@ pub returns-in_err-check_record-clause-stepped : goal.returns-in_err-check_recor
 returns-in_err-check_record-clause-stepped c =
     let found = c.find-place.ensures.seen in
     let p = err_from_is_err_and c.from_residual.result c.from_residual.ensures.1 in
-    rw (p.1, p.2) (λ h trace records st.
-    refused _ c.self.invariant c.args.object c.find-place.result.1 found c.args.entry c.figures-now.result c.figures-now.ensures h trace records (subst (StandsFor h trace records) (sym c.self.view_is) st)
+    rw (p.1, p.2) (λ h fills trace records st mark.
+    refused _ c.self.invariant c.args.object c.find-place.result.1 found c.args.entry c.figures-now.result _ c.figures-now.ensures h fills trace records (subst (StandsFor h fills trace records) (sym c.self.view_is) st) (c.counts-counts.ensures ∙ counted-is _ h fills trace records (subst (StandsFor h fills trace records) (sym c.self.view_is) st) c.args.only mark)
     ∙ some_from_err (first_some (record_rules c.self.inside.header c.args.object c.args.entry c.figures-now.result)) c.in_err-check_record.field-0.0 c.in_err-check_record.ensures)
 
 pub added-added-requires-clause-prices : goal.added-added-requires-clause-prices
@@ -52,15 +52,15 @@ added-added-requires-clause-flow c =
 pub added-added-requires-clause-weight : goal.added-added-requires-clause-weight
 added-added-requires-clause-weight c =
     let found = c.find-place.ensures.seen in
-    each_weight _ c.self.invariant c.args.object c.find-place.result.1 found c.args.entry c.figures-now.result c.figures-now.ensures c.requires.size
+    each_weight _ c.self.invariant c.args.object c.find-place.result.1 found c.args.entry c.figures-now.result _ c.figures-now.ensures c.requires.size
     (none_from_ok (first_some (record_rules c.self.inside.header c.args.object c.args.entry c.figures-now.result)) c.in_ok-check_record.ensures)
 
 pub returns-in_err-put-clause-stepped : goal.returns-in_err-put-clause-stepped
 returns-in_err-put-clause-stepped c =
     let found = c.find-place.ensures.seen in
     let p = err_from_is_err_and c.from_residual-in_err-put.result c.from_residual-in_err-put.ensures.1 in
-    rw (p.1, p.2) (λ h trace records st.
-    refused _ c.self.invariant c.args.object c.find-place.result.1 found c.args.entry c.figures-now.result c.figures-now.ensures h trace records (subst (StandsFor h trace records) (sym c.self.view_is) st)
+    rw (p.1, p.2) (λ h fills trace records st mark.
+    refused _ c.self.invariant c.args.object c.find-place.result.1 found c.args.entry c.figures-now.result _ c.figures-now.ensures h fills trace records (subst (StandsFor h fills trace records) (sym c.self.view_is) st) (c.counts-counts.ensures ∙ counted-is _ h fills trace records (subst (StandsFor h fills trace records) (sym c.self.view_is) st) c.args.only mark)
     ∙ none_from_ok (first_some (record_rules c.self.inside.header c.args.object c.args.entry c.figures-now.result)) c.in_ok-check_record.ensures)
 
 pub returns-in_err-put-clause-only_if_new : goal.returns-in_err-put-clause-only_if_new
@@ -82,22 +82,22 @@ looked c y =
 pub invariant_of-self-2 : goal.invariant_of-self-2
 invariant_of-self-2 c =
     let found = c.find-place.ensures.seen in
-    IsChecker-taken _ c.self.invariant c.args.object c.find-place.result.1 found c.args.entry c.figures-now.result c.figures-now.ensures c.requires.size c.requires.range
+    IsChecker-taken _ c.self.invariant c.args.object c.find-place.result.1 found c.args.entry c.figures-now.result _ c.figures-now.ensures c.requires.size c.requires.range
     (subst (λ (v : Summary). v.sums.steps < v.header.requests) (sym c.self.view_is) c.requires.fewer)
     (none_from_ok (first_some (record_rules c.self.inside.header c.args.object c.args.entry c.figures-now.result)) c.in_ok-check_record.ensures)
     c.put.new.entries.entries (entered c) (looked c) c.sums_with-self-inside.result
-    (c.sums_with-self-inside.ensures.sums ∙ ap (sums_after c.self.inside.sums c.figures-now.result) c.added-added.ensures.sums) c.sums_with-self-inside.ensures.small
+    (c.sums_with-self-inside.ensures.sums ∙ ap (sums_after c.self.inside.sums c.figures-now.result) c.added-added.ensures.sums) c.args.only c.counts-counts.ensures c.sums_with-self-inside.ensures.small
     c.in_ok-put.ensures.distinct
 
 pub returns-clause-stepped : goal.returns-clause-stepped
-returns-clause-stepped c = λ h trace records st.
+returns-clause-stepped c = λ h fills trace records st mark.
     let found = c.find-place.ensures.seen in
-    taken _ c.self.invariant c.args.object c.find-place.result.1 found c.args.entry c.figures-now.result c.figures-now.ensures c.requires.size c.requires.range
+    taken _ c.self.invariant c.args.object c.find-place.result.1 found c.args.entry c.figures-now.result _ c.figures-now.ensures c.requires.size c.requires.range
     (subst (λ (v : Summary). v.sums.steps < v.header.requests) (sym c.self.view_is) c.requires.fewer)
     (none_from_ok (first_some (record_rules c.self.inside.header c.args.object c.args.entry c.figures-now.result)) c.in_ok-check_record.ensures)
     c.put.new.entries.entries (entered c) (looked c) c.sums_with-self-inside.result
     (c.sums_with-self-inside.ensures.sums ∙ ap (sums_after c.self.inside.sums c.figures-now.result) c.added-added.ensures.sums)
-    h trace records (subst (StandsFor h trace records) (sym c.self.view_is) st)
+    h fills trace records (subst (StandsFor h fills trace records) (sym c.self.view_is) st) (c.counts-counts.ensures ∙ counted-is _ h fills trace records (subst (StandsFor h fills trace records) (sym c.self.view_is) st) c.args.only mark)
 
 pub figures-now-requires-clause-steps : goal.figures-now-requires-clause-steps
 figures-now-requires-clause-steps c = omega (arith, c.requires.fewer, c.self.invariant.stands.input.header_in_range.requests, ap (λ (v : Summary). v.sums.steps) c.self.view_is, ap (λ (v : Summary). v.header.requests) c.self.view_is)
