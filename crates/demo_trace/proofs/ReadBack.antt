@@ -38,11 +38,11 @@ lines_apart n (x ∷ xs) low each =
 
 -- a reading of these requests and bytes, a line for each request
 abbrev so_far : List Object → ℕ → ℕ → Reading
-so_far requests lines bytes = record { requests = requests; volumes = []; dropped = 0; lines = lines; bytes = bytes; refused = None }
+so_far requests lines bytes = record { requests = requests; fills = []; volumes = []; dropped = 0; lines = lines; bytes = bytes; refused = None }
 
 -- there is room for one more
 take_one : (done : List Object) (lines bytes id size : ℕ) → length done < 2 ^ 25
-    → requested (2 ^ 25) (so_far done lines bytes) 0 id 1 size ≡ so_far (done ++ record { volume = 0; id = id; size = size } ∷ []) lines bytes
+    → requested (2 ^ 25) (so_far done lines bytes) 0 None id 1 size ≡ so_far (done ++ record { volume = 0; id = id; size = size } ∷ []) lines bytes
 take_one done lines bytes id size room =
     let full : nat_lt (2 ^ 25 - length done) 1 ≡ false = le-ltb (2 ^ 25 - length done) 1 (omega (arith, room)) in
     let one : min 1 (2 ^ 25 - length done) ≡ 1 = omega (arith, room) in
@@ -61,9 +61,9 @@ step done lines bytes n x room low low_n ok =
     let short_line = line_short n x low_n ok in
     let short : nat_lt 65535 (length l) ≡ false = le-ltb 65535 (length l) (omega (arith, short_line)) in
     let within : nat_lt (2 ^ 36) (bytes + (length l + 1)) ≡ false = le-ltb (2 ^ 36) (bytes + (length l + 1)) (omega (arith, short_line, low, room)) in
-    let content : text_content Webcache l ≡ Ok (Some (record { span = One x.id x.size; volume = None })) = rw (line_without_cr n x ok, line_not_blank n x low_n, line_read n x low_n ok) refl in
+    let content : text_content Webcache l ≡ Ok (Some (record { span = One x.id x.size; volume = None; fills = false })) = rw (line_without_cr n x ok, line_not_blank n x low_n, line_read n x low_n ok) refl in
     let taken = take_one done (lines + 1) (bytes + (length l + 1)) x.id x.size room in
-    rw (short, within) (ap (with_line (2 ^ 25) now) content ∙ (taken ∙ ap (λ y. so_far (done ++ y ∷ []) (lines + 1) (bytes + (length l + 1))) (of_volume_0 x ok)))
+    rw (short, within) (ap (with_line (2 ^ 25) false now) content ∙ (taken ∙ ap (λ y. so_far (done ++ y ∷ []) (lines + 1) (bytes + (length l + 1))) (of_volume_0 x ok)))
 
 -- the lines of the requests after those that are read
 fold_from : (done xs : List Object) (bytes : ℕ) → length done + length xs ≤ 2 ^ 25 → bytes ≤ 64 * length done → All IsWritable xs

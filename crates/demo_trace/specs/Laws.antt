@@ -5,10 +5,11 @@ use Rattle.trace_any.specs.declared.format.Format.TheVariants.{Webcache}
 use Rattle.trace_any.specs.Readings.{Reading, full_limits, reading}
 use Rattle.demo_trace.specs.Lines.{IsWritable, webcache_text}
 
--- the reading of a text that asks for these requests, one a line, and nothing else
+-- the reading of a text that asks for these requests, one a line, without marks, and for nothing else
 abbrev pub read_whole : List Object → Reading
 read_whole requests = record {
   requests = requests;
+  fills = [];
   volumes = [];
   dropped = 0;
   lines = length requests;

@@ -1,5 +1,6 @@
 //! Drawing the requests.
 ghost use Rattle.std.specs.Prelude.{◌≡◌, ◌≤◌, ◌^◌, All, IfOk};
+ghost use Rattle.cache_rules.specs.Stored.{all_count};
 ghost use Rattle.rand_pcg.specs.Pcg.{pcg32};
 ghost use Rattle.demo_trace.specs.Lines.{IsWritable};
 ghost use Rattle.demo_trace.specs.Requests.{demo_requests, object_drawn};
@@ -34,8 +35,8 @@ fn draw(generator: &mut Pcg32, objects: u32) -> Object
 pub fn demo_trace(alloc: Global, seed: u64, requests: u32, objects: u32) -> Result<Trace, NoMemory>
     requires requests { requests ≤ 2 ^ 25 }
     requires objects { 1 ≤ objects }
-    ensures requests { IfOk result (λ trace. trace ≡ demo_requests seed requests objects) }
-    ensures writable { IfOk result (λ trace. All IsWritable trace) }
+    ensures requests { IfOk result (λ trace. trace ≡ all_count (demo_requests seed requests objects)) }
+    ensures writable { IfOk result (λ trace. All IsWritable trace.objects) }
 {
     let mut generator = Pcg32::seed_from_u64(seed);
     let mut trace = Builder::new(alloc)?;

@@ -32,8 +32,8 @@ fn line_of(number: u32, object: &Object) -> LineText<ROOM>
 /// The lines of a webcache trace that ask for these requests, which are numbered from 1. If a line can say what each
 /// request asks for, they are read back as this trace.
 pub fn webcache_text(alloc: Global, trace: &Trace) -> Result<Vec<u8>, NoMemory>
-    ensures text { IfOk result (λ text. text.items ≡ webcache_text trace.now) }
-    ensures read { All IsWritable trace.now → IfOk result (λ text. reading Webcache full_limits text.items ≡ read_whole trace.now) }
+    ensures text { IfOk result (λ text. text.items ≡ webcache_text trace.now.objects) }
+    ensures read { All IsWritable trace.now.objects → IfOk result (λ text. reading Webcache full_limits text.items ≡ read_whole trace.now.objects) }
 {
     let mut text = Vec::with_capacity(alloc, trace.len() as usize * USUAL)?;
     for t in 0..trace.len() {

@@ -10,7 +10,7 @@ use Rattle.demo_trace.proofs.lines.webcache_text.Goals as goal
 
 pub loop-t-preserved : goal.loop-t-preserved
 loop-t-preserved c =
-    let trace = c.args.trace.now in
+    let trace = c.args.trace.now.objects in
     let t = c.loop-t.t in
     let is : Some c.object-object.result ≡ Some (request_at trace t) = sym c.object-object.ensures.object ∙ c.request.ensures.object in
     let object : c.object-object.result ≡ request_at trace t = cc in
@@ -20,6 +20,6 @@ loop-t-preserved c =
 
 pub returns-clause-read : goal.returns-clause-read
 returns-clause-read c = λ each.
-    let trace = c.args.trace.now in
+    let trace = c.args.trace.now.objects in
     let whole = all_written c.loop-t.text.items (webcache_text trace) trace c.loop-t.t (omega (arith, c.loop-t-test.false, c.len-t-end.ensures.requests)) c.loop-t.invariant in
     ap (reading Webcache full_limits) whole ∙ written_read trace (omega (arith, c.len-t-end.ensures)) each
