@@ -1,2 +1,3 @@
 mod Rows
 pub mod CurveLemmas
+pub mod CountedLemmas

@@ -1,5 +1,5 @@
 -- Reports worked out by hand.
-use Rattle.std.proofs.Common.{◌≡◌, ℕ, Bool, true, false, [], ◌∷◌, codes, refl}
+use Rattle.std.proofs.Common.{◌≡◌, ℕ, Bool, true, false, [], ◌∷◌, codes, refl, None, Some}
 use Rattle.std.specs.Fmt.{digits}
 use Rattle.cache_model.specs.declared.objects.Objective.TheVariants.{Object as Hits}
 use Rattle.cache_model.specs.declared.certificates.Header.{Header}
@@ -9,6 +9,7 @@ use Rattle.bound_report.specs.declared.facts.Window.TheVariants.{All as Whole}
 use Rattle.bound_report.specs.Reports.{report_text}
 use Rattle.replay_core.specs.declared.counts.Replay.{Replay}
 use Rattle.bound_report.specs.Demos.{demo_text}
+use Rattle.bound_report.specs.Counted.{refined_with_counted, with_counted}
 use Rattle.bound_report.specs.Curves.{curve_text}
 use Rattle.stack_curve.specs.Curves.{hits_with}
 
@@ -68,3 +69,24 @@ curve_of_six : curve_text (record { requests = 6; objects = 3; dropped = 0 }) 1 
     ∷ [])
 unfolding digits
 curve_of_six = refl
+
+-- the line of the requests that count stands behind the line of the trace
+curve_of_reads : with_counted (Some 4) (curve_text (record { requests = 6; objects = 3; dropped = 0 }) 1 (hits_with (record { size = 1; hits = 0 ∷ 0 ∷ 1 ∷ 3 ∷ [] }))) ≡ text_of (
+    codes "trace requests 6 objects 3 dropped 0"
+    ∷ codes "counted 4"
+    ∷ codes "size 1"
+    ∷ codes "slots 2 hits 1"
+    ∷ codes "slots 3 hits 3"
+    ∷ [])
+unfolding digits
+curve_of_reads = refl
+
+-- in the report of a refinement too, of which it is the second line
+refined_reads : refined_with_counted (Some 0) (codes "refined from 2/1 to 1/1\ntrace requests 2 objects 1 dropped 0\nvalid\n")
+    ≡ codes "refined from 2/1 to 1/1\ntrace requests 2 objects 1 dropped 0\ncounted 0\nvalid\n"
+unfolding digits
+refined_reads = refl
+
+-- where the number isn't asked for, a report stays as it is
+all_count : with_counted None (codes "trace requests 2 objects 1 dropped 0\n") ≡ codes "trace requests 2 objects 1 dropped 0\n"
+all_count = refl

@@ -6,3 +6,4 @@ pub mod Verdicts
 pub mod Refinements
 pub mod Replays
 pub mod Demos
+pub mod Counted

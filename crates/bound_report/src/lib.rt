@@ -4,6 +4,7 @@
 //! The rules are "Report of bounds", "Verdict" and "Refusal" in docs/DEFINITIONS.md.
 #![tactic(auto)]
 
+mod counted;
 mod curves;
 mod demo;
 mod facts;
@@ -14,6 +15,7 @@ mod report;
 mod upgrade;
 
 pub use cert_checker::{InvalidKind, Verdict};
+pub use counted::{push_counted, push_refined_counted};
 pub use curves::{CurveFacts, curve_text};
 pub use demo::{DemoFacts, PolicyReplays, demo_text};
 pub use facts::{BoundFacts, Mode, Window};
