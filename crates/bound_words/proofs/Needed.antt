@@ -7,7 +7,7 @@ use Rattle.bound_words.specs.declared.commands.Command.TheVariants as command
 use Rattle.bound_words.specs.declared.words.WordFault.{WordFault}
 use Rattle.bound_words.specs.Commands.{command_named, operands_at, operands_of, places_of}
 use Rattle.bound_words.specs.Named.{value_given}
-use Rattle.bound_words.specs.Words.{◌>>=◌, HasNeeded, block_fault, earlier, has_needed, inputs_fault, known_command, command_of, operands_fault, passed, paths, plan, plan_of_command, plan_of_operands, required, window_fault}
+use Rattle.bound_words.specs.Words.{◌>>=◌, HasNeeded, beside_fault, has_needed, inputs_fault, known_command, command_of, operands_fault, passed, paths, plan, plan_of_command, plan_of_operands, required}
 
 -- what holds behind each value holds if there is one
 behind : {A B : Type 0} (r : Result A WordFault) (g : A → Result B WordFault) (P : Type 0) → ((x : A) → IfOk (g x) (λ b. P)) → IfOk (r >>= g) (λ b. P)
@@ -47,7 +47,7 @@ needed_of : (asked : Command) (words : List (List ℕ))
 needed_of asked words =
     behind (paths 1 (places_of asked).count words) _ _ (λ named.
     behind (passed (operands_fault asked (operands_at asked + 1) [] (operands_of asked words))) _ _ (λ accepted.
-    behind (passed (earlier (block_fault (operands_at asked + 1) (operands_of asked words)) (window_fault (operands_at asked + 1) (operands_of asked words)))) _ _ (λ fitting.
+    behind (passed (beside_fault (operands_at asked + 1) (operands_of asked words))) _ _ (λ fitting.
     needed asked words (operands_of asked words))))
 
 -- the same of a word that may be a command

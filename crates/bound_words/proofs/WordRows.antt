@@ -4,7 +4,7 @@ use Rattle.cache_model.specs.declared.objects.Objective.TheVariants.{Object as H
 use Rattle.bound_report.specs.declared.facts.Mode.TheVariants.{Constant, Flow, Infinite}
 use Rattle.bound_report.specs.declared.facts.Window.TheVariants.{All as Whole}
 use Rattle.relaxation.specs.declared.denominators.DenominatorChoice.TheVariants.{Auto, Exact, Given}
-use Rattle.trace_any.specs.declared.format.Format.TheVariants.{Webcache, Arc, Msr, Oracle}
+use Rattle.trace_any.specs.declared.format.Format.TheVariants.{Webcache, Arc, Msr, Oracle, MarkedWebcache, MsrReads}
 use Rattle.bound_words.specs.declared.words.Plan.TheVariants.{Bounds, Check, Curve, Demo, Upgrade}
 use Rattle.bound_report.specs.declared.refusal.WordKind.TheVariants.{Missing, Unknown, Twice, BadValue}
 use Rattle.bound_words.specs.Words.{fault, plan}
@@ -171,3 +171,57 @@ oracle_records = refl
 oracle_block : plan (codes "check" ∷ codes "t" ∷ codes "c" ∷ codes "format=oracle" ∷ codes "block=24" ∷ []) ≡ Err (fault 5 Unknown)
 unfolding plan
 oracle_block = refl
+
+-- only reads count, by marks or by the types of the lines
+marked_check : plan (codes "check" ∷ codes "t" ∷ codes "c" ∷ codes "count=reads" ∷ codes "format=webcache" ∷ []) ≡ Ok (Check MarkedWebcache)
+unfolding plan
+marked_check = refl
+
+reads_curve : plan (codes "curve" ∷ codes "t" ∷ codes "format=msr" ∷ codes "count=reads" ∷ codes "block=512" ∷ []) ≡ Ok (Curve (MsrReads 512))
+unfolding plan
+reads_curve = refl
+
+-- all requests count, by default and with every form
+all_count : plan (codes "check" ∷ codes "t" ∷ codes "c" ∷ codes "format=msr" ∷ codes "count=all" ∷ []) ≡ Ok (Check (Msr 4096))
+unfolding plan
+all_count = refl
+
+all_records_count : plan (codes "curve" ∷ codes "t" ∷ codes "count=all" ∷ codes "format=oracle" ∷ []) ≡ Ok (Curve Oracle)
+unfolding plan
+all_records_count = refl
+
+-- writes alone can't count, and a demo has none
+writes_count : plan (bounds_with (codes "count=writes" ∷ codes "count=reads" ∷ [])) ≡ Err (fault 4 BadValue)
+unfolding plan
+writes_count = refl
+
+demo_count : plan (codes "demo" ∷ codes "count=all" ∷ []) ≡ Err (fault 2 Unknown)
+unfolding plan
+demo_count = refl
+
+-- that only reads count is refused beside a form that has no writes, though an operand is missing
+reads_unknown : plan (bounds_with (codes "mode=infinite" ∷ codes "count=reads" ∷ codes "format=arc" ∷ [])) ≡ Err (fault 5 Unknown)
+unfolding plan
+reads_unknown = refl
+
+records_unknown : plan (codes "curve" ∷ codes "t" ∷ codes "format=oracle" ∷ codes "count=reads" ∷ []) ≡ Err (fault 4 Unknown)
+unfolding plan
+records_unknown = refl
+
+-- a block and that only reads count, both refused: the one at the lesser place
+block_before_count : plan (codes "check" ∷ codes "t" ∷ codes "c" ∷ codes "block=512" ∷ codes "count=reads" ∷ codes "format=arc" ∷ []) ≡ Err (fault 4 Unknown)
+unfolding plan
+block_before_count = refl
+
+count_before_block : plan (codes "check" ∷ codes "t" ∷ codes "c" ∷ codes "format=arc" ∷ codes "count=reads" ∷ codes "block=512" ∷ []) ≡ Err (fault 5 Unknown)
+unfolding plan
+count_before_block = refl
+
+block_beside_all : plan (codes "check" ∷ codes "t" ∷ codes "c" ∷ codes "format=arc" ∷ codes "count=all" ∷ codes "block=512" ∷ []) ≡ Err (fault 6 Unknown)
+unfolding plan
+block_beside_all = refl
+
+-- where no form is given, the form is missing
+reads_alone : plan (codes "curve" ∷ codes "t" ∷ codes "count=reads" ∷ []) ≡ Err (fault 4 Missing)
+unfolding plan
+reads_alone = refl

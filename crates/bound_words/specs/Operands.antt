@@ -1,5 +1,5 @@
 -- The operands: which values each may have, and what it gives.
-use Rattle.std.specs.Prelude.{ℕ, List, Bool, ◌&&◌, ◌||◌, if◌then◌else◌, codes, unwrap_or, option_and_then}
+use Rattle.std.specs.Prelude.{ℕ, List, Bool, false, ◌&&◌, ◌||◌, if◌then◌else◌, codes, unwrap_or, option_and_then}
 use Rattle.std.specs.declared.option.Option.{Option}
 use Rattle.std.specs.Option.{is_some}
 use Rattle.std.specs.Str.{bytes_eq}
@@ -16,13 +16,14 @@ use Rattle.cache_model.specs.declared.version.TheConstants.{CERT_VERSION}
 use Rattle.bound_words.specs.declared.commands.Command.{Command}
 use Rattle.bound_words.specs.declared.commands.Command.TheVariants as command
 use Rattle.bound_words.specs.Named.{value_given}
-use Rattle.bound_words.specs.Values.{block_of, format_of, capacity_of, count_of, objective_of, width_of, window_of, mode_of, denominator_of, policy_of, version_of, seed_of, drawn_of, usual_denominator}
+use Rattle.bound_words.specs.Values.{block_of, format_of, capacity_of, count_of, objective_of, width_of, window_of, mode_of, denominator_of, policy_of, reads_of, version_of, seed_of, drawn_of, usual_denominator}
 
 -- whether the operand of this name may have this value
 abbrev pub is_value : List ℕ → List ℕ → Bool
 is_value name value =
-    if bytes_eq name (codes "format") then is_some (format_of value 4096)
+    if bytes_eq name (codes "format") then is_some (format_of value 4096 false)
     else (if bytes_eq name (codes "block") then is_some (block_of value)
+    else (if bytes_eq name (codes "count") then is_some (reads_of value)
     else (if bytes_eq name (codes "capacity") then is_some (capacity_of value)
     else (if bytes_eq name (codes "objective") then is_some (objective_of value)
     else (if bytes_eq name (codes "mode") then is_some (mode_of value Whole)
@@ -32,7 +33,7 @@ is_value name value =
     else (if bytes_eq name (codes "warmup") then is_some (count_of value)
     else (if bytes_eq name (codes "version") then is_some (version_of value)
     else (if bytes_eq name (codes "seed") then is_some (seed_of value)
-    else (bytes_eq name (codes "requests") || bytes_eq name (codes "objects")) && is_some (drawn_of value)))))))))))
+    else (bytes_eq name (codes "requests") || bytes_eq name (codes "objects")) && is_some (drawn_of value))))))))))))
 
 -- whether an operand of the command may have this value: the window of a refinement is a number of steps
 abbrev pub takes_value : Command → List ℕ → List ℕ → Bool
@@ -43,9 +44,13 @@ takes_value command name value = is_value name value
 abbrev pub block_given : List (List ℕ) → ℕ
 block_given operands = unwrap_or (option_and_then block_of (value_given (codes "block") operands)) 4096
 
+-- whether only reads count, and all requests where the operands don't say it
+abbrev pub reads_given : List (List ℕ) → Bool
+reads_given operands = unwrap_or (option_and_then reads_of (value_given (codes "count") operands)) false
+
 -- the form of the trace that the operands give
 abbrev pub format_given : List (List ℕ) → Option Format
-format_given operands = option_and_then (λ value. format_of value (block_given operands)) (value_given (codes "format") operands)
+format_given operands = option_and_then (λ value. format_of value (block_given operands) (reads_given operands)) (value_given (codes "format") operands)
 
 -- the capacity that the operands give
 abbrev pub capacity_given : List (List ℕ) → Option ℕ

@@ -2,7 +2,6 @@
 use Rattle.std.specs.Prelude.{ℕ, ◌^◌, ◌≤◌}
 use Rattle.cache_model.specs.declared.objects.Objective.{Objective}
 use Rattle.cache_model.specs.declared.version.TheConstants.{CERT_VERSION}
-use Rattle.cache_model.specs.Claim.{terms_from}
 use Rattle.relaxation.specs.declared.denominators.DenominatorChoice.{DenominatorChoice}
 use Rattle.trace_any.specs.Readings.{IsFormat}
 use Rattle.bound_report.specs.declared.facts.Mode.{Mode}
@@ -16,7 +15,7 @@ use Rattle.bound_words.specs.Ranges.{AreBoundSettingsInRange, AreDrawSettingsInR
 -- the settings of bounds, in the order of a plan
 abbrev pub bound_settings : ℕ → Objective → Mode → DenominatorChoice → ℕ → ℕ → BoundSettings
 bound_settings capacity objective mode denominator warmup version =
-    record { terms = terms_from objective capacity warmup; mode = mode; denominator = denominator; version = version }
+    record { terms = record { objective = objective; capacity = capacity; warmup = warmup }; mode = mode; denominator = denominator; version = version }
 
 -- the settings of a plan; in a demo every request counts, and the certificate has the first version
 abbrev pub settings_of : Plan → Settings

@@ -1,5 +1,5 @@
 -- The values of operands.
-use Rattle.std.specs.Prelude.{ℕ, ◌^◌, List, nat_le, ◌&&◌, if◌then◌else◌, codes, Result, Ok, Err, None, Some}
+use Rattle.std.specs.Prelude.{ℕ, ◌^◌, List, Bool, true, false, nat_le, ◌&&◌, if◌then◌else◌, codes, Result, Ok, Err, None, Some}
 use Rattle.std.specs.declared.option.Option.{Option}
 use Rattle.std.specs.Option.{option_map}
 use Rattle.std.specs.Str.{bytes_eq}
@@ -14,7 +14,7 @@ use Rattle.bound_report.specs.declared.facts.Window.TheVariants.{Steps, All as W
 use Rattle.relaxation.specs.declared.denominators.DenominatorChoice.{DenominatorChoice}
 use Rattle.relaxation.specs.declared.denominators.DenominatorChoice.TheVariants.{Auto, Exact, Given}
 use Rattle.trace_any.specs.declared.format.Format.{Format}
-use Rattle.trace_any.specs.declared.format.Format.TheVariants.{Webcache, Arc, Msr, Oracle}
+use Rattle.trace_any.specs.declared.format.Format.TheVariants.{Webcache, Arc, Msr, Oracle, MarkedWebcache, MsrReads}
 use Rattle.cache_model.specs.declared.version.TheConstants.{SHORT_VERSION}
 use Rattle.policy_model.specs.declared.names.PolicyName.{PolicyName}
 use Rattle.policy_model.specs.declared.names.PolicyName.TheVariants.{Lru, Fifo, Clock, Lfu, Belady}
@@ -32,12 +32,19 @@ number_to most value = checked most (number_of (2 ^ 64) value)
 abbrev pub block_of : List ℕ → Option ℕ
 block_of value = number_to (2 ^ 48) value
 
--- the form of a trace that a value names, if a block has this many bytes
-abbrev pub format_of : List ℕ → ℕ → Option Format
-format_of value block =
-    if bytes_eq value (codes "webcache") then Some Webcache
+-- whether only reads count, by a value: all requests, or the reads
+abbrev pub reads_of : List ℕ → Option Bool
+reads_of value =
+    if bytes_eq value (codes "all") then Some false
+    else (if bytes_eq value (codes "reads") then Some true
+    else None)
+
+-- the form of a trace that a value names, if a block has this many bytes, and if only reads count or all requests
+abbrev pub format_of : List ℕ → ℕ → Bool → Option Format
+format_of value block reads =
+    if bytes_eq value (codes "webcache") then Some (if reads then MarkedWebcache else Webcache)
     else (if bytes_eq value (codes "arc") then Some Arc
-    else (if bytes_eq value (codes "msr") then Some (Msr block)
+    else (if bytes_eq value (codes "msr") then Some (if reads then MsrReads block else Msr block)
     else (if bytes_eq value (codes "oracle") then Some Oracle
     else None)))
 

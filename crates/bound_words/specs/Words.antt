@@ -1,5 +1,5 @@
 -- The words of the command line.
-use Rattle.std.specs.Prelude.{ℕ, zero, suc, ◌+◌, List, [], ◌∷◌, ◌++◌, length, ◌==◌, nat_lt, Bool, false, not, ◌&&◌, if◌then◌else◌, codes, slice_get, option_and_then, IsTrue, IfSome, Result, Ok, Err, None, Some}
+use Rattle.std.specs.Prelude.{ℕ, zero, suc, ◌+◌, List, [], ◌∷◌, ◌++◌, length, ◌==◌, nat_lt, Bool, false, not, ◌&&◌, ◌||◌, if◌then◌else◌, codes, slice_get, option_and_then, IsTrue, IfSome, Result, Ok, Err, None, Some}
 use Rattle.std.specs.declared.option.Option.{Option}
 use Rattle.std.specs.Option.{is_some, option_map, option_or}
 use Rattle.std.specs.List.{list_all}
@@ -14,7 +14,7 @@ use Rattle.bound_report.specs.declared.refusal.WordKind.TheVariants.{Missing, Un
 use Rattle.bound_words.specs.declared.commands.Command.TheVariants as command
 use Rattle.bound_words.specs.Commands.{command_named, has_operand, needed_names, places_of, operands_at, operands_of}
 use Rattle.bound_words.specs.Named.{has_equals, name_of, value_of, value_given, place_given}
-use Rattle.bound_words.specs.Operands.{takes_value, format_given, capacity_given, objective_given, mode_given, denominator_given, policy_given, warmup_given, version_given, seed_given, requests_given, objects_given, capacity_or_usual, width_given}
+use Rattle.bound_words.specs.Operands.{takes_value, format_given, capacity_given, objective_given, mode_given, denominator_given, policy_given, warmup_given, version_given, seed_given, requests_given, objects_given, capacity_or_usual, reads_given, width_given}
 
 -- go on with the value, or stop at the fault
 infixl 10 ◌>>=◌
@@ -73,6 +73,16 @@ takes_no_block (Some format) = not (bytes_eq format (codes "msr"))
 abbrev pub block_fault : ℕ → List (List ℕ) → Option WordFault
 block_fault first operands = if takes_no_block (value_given (codes "format") operands) then unknown_operand first (codes "block") operands else None
 
+-- whether a form of the trace is given that has no writes
+abbrev pub has_no_writes : Option (List ℕ) → Bool
+has_no_writes None = false
+has_no_writes (Some format) = not (bytes_eq format (codes "webcache") || bytes_eq format (codes "msr"))
+
+-- that only reads count is unknown beside a form of the trace that has no writes
+abbrev pub count_fault : ℕ → List (List ℕ) → Option WordFault
+count_fault first operands =
+    if reads_given operands && has_no_writes (value_given (codes "format") operands) then unknown_operand first (codes "count") operands else None
+
 -- whether a mode is given that takes no window
 abbrev pub takes_no_window : Option (List ℕ) → Bool
 takes_no_window None = false
@@ -87,6 +97,10 @@ abbrev pub earlier : Option WordFault → Option WordFault → Option WordFault
 earlier None second = second
 earlier (Some first) None = Some first
 earlier (Some first) (Some second) = if nat_lt second.place first.place then Some second else Some first
+
+-- the first operand that may not stand beside another
+abbrev pub beside_fault : ℕ → List (List ℕ) → Option WordFault
+beside_fault first operands = earlier (earlier (block_fault first operands) (count_fault first operands)) (window_fault first operands)
 
 -- no fault lets the words pass
 abbrev pub passed : Option WordFault → Result (Unit {0}) WordFault
@@ -166,7 +180,7 @@ plan_of_command command.Refine words operands = refine_plan (places_of command.R
 abbrev pub plan_of_operands : Command → ℕ → List (List ℕ) → List (List ℕ) → Result Plan WordFault
 plan_of_operands asked first words operands = do
   accepted ← passed (operands_fault asked first [] operands)
-  fitting ← passed (earlier (block_fault first operands) (window_fault first operands))
+  fitting ← passed (beside_fault first operands)
   plan_of_command asked words operands
 
 -- what the words ask for, or the first fault in them

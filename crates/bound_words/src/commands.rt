@@ -83,6 +83,7 @@ impl Command {
                 "format",
                 "capacity",
                 "block",
+                "count",
                 "objective",
                 "mode",
                 "window",
@@ -90,8 +91,8 @@ impl Command {
                 "warmup",
                 "version",
             ],
-            Command::Check | Command::Curve => &["format", "block"],
-            Command::Replay => &["format", "capacity", "policy", "block", "warmup"],
+            Command::Check | Command::Curve => &["format", "block", "count"],
+            Command::Replay => &["format", "capacity", "policy", "block", "count", "warmup"],
             Command::Demo => &[
                 "seed",
                 "requests",
@@ -103,7 +104,7 @@ impl Command {
                 "denominator",
             ],
             Command::Upgrade => &[],
-            Command::Refine => &["format", "window", "block"],
+            Command::Refine => &["format", "window", "block", "count"],
         }
     }
 

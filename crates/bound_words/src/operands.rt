@@ -4,14 +4,14 @@ ghost use Rattle.bound_report.specs.declared.facts.Mode.TheVariants.{Flow};
 ghost use Rattle.relaxation.specs.Denominators.{IsChoice};
 ghost use Rattle.trace_any.specs.Readings.{IsFormat};
 ghost use Rattle.bound_words.specs.Ranges.{IsModeInRange};
-ghost use Rattle.bound_words.specs.Operands.{block_given, capacity_given, capacity_or_usual, denominator_given, drawn_given, format_given, is_value, mode_given, objective_given, objects_given, policy_given, requests_given, seed_given, takes_value, version_given, warmup_given, width_given, window_given};
+ghost use Rattle.bound_words.specs.Operands.{block_given, capacity_given, capacity_or_usual, denominator_given, drawn_given, format_given, is_value, mode_given, objective_given, objects_given, policy_given, reads_given, requests_given, seed_given, takes_value, version_given, warmup_given, width_given, window_given};
 ghost use Rattle.cache_model.specs.declared.version.TheConstants.{CERT_VERSION, SHORT_VERSION};
 
 use crate::commands::Command;
 use crate::named::value_given;
 use crate::values::{
     USUAL_BLOCK, block_of, capacity_of, count_of, denominator_of, drawn_of, format_of, is, mode_of,
-    objective_of, policy_of, seed_of, usual_denominator, version_of, width_of, window_of,
+    objective_of, policy_of, reads_of, seed_of, usual_denominator, version_of, width_of, window_of,
 };
 use bound_report::{Mode, Window};
 use cache_model::CERT_VERSION;
@@ -34,9 +34,11 @@ pub(crate) fn is_value(name: &str, value: &str) -> bool
     ensures { result ≡ is_value name.now value.now }
 {
     if is(name, "format") {
-        format_of(value, USUAL_BLOCK).is_some()
+        format_of(value, USUAL_BLOCK, false).is_some()
     } else if is(name, "block") {
         block_of(value).is_some()
+    } else if is(name, "count") {
+        reads_of(value).is_some()
     } else if is(name, "capacity") {
         capacity_of(value).is_some()
     } else if is(name, "objective") {
@@ -80,11 +82,22 @@ fn block_given(operands: &[String]) -> u64
     }
 }
 
+/// Whether only reads count.
+pub(crate) fn reads_given(operands: &[String]) -> bool
+    ensures { result ≡ reads_given (map string_bytes operands.now) }
+{
+    match value_given("count", operands) {
+        Some(value) => reads_of(value).unwrap_or(false),
+        None => false,
+    }
+}
+
 pub(crate) fn format_given(operands: &[String]) -> Option<Format>
     ensures value { result ≡ format_given (map string_bytes operands.now) }
     ensures range { IfSome result IsFormat }
 {
-    format_of(value_given("format", operands)?, block_given(operands))
+    let value = value_given("format", operands)?;
+    format_of(value, block_given(operands), reads_given(operands))
 }
 
 pub(crate) fn capacity_given(operands: &[String]) -> Option<u64>

@@ -1,11 +1,12 @@
 //! The values of operands.
-ghost use Rattle.std.specs.Prelude.{◌≡◌, ◌≤◌, ◌^◌, IfSome};
+ghost use Rattle.std.specs.Prelude.{◌≡◌, ◌≤◌, ◌^◌, if◌then◌else◌, IfSome};
 ghost use Rattle.std.specs.Str.{bytes_eq};
 ghost use Rattle.bound_report.specs.declared.facts.Mode.TheVariants.{Flow};
 ghost use Rattle.relaxation.specs.Denominators.{IsChoice};
 ghost use Rattle.trace_any.specs.Readings.{IsFormat};
+ghost use Rattle.trace_any.specs.declared.format.Format.TheVariants.{Webcache, Msr, MarkedWebcache, MsrReads};
 ghost use Rattle.bound_words.specs.Ranges.{IsModeInRange};
-ghost use Rattle.bound_words.specs.Values.{block_of, capacity_of, count_of, denominator_of, drawn_of, format_of, mode_of, number_to, objective_of, policy_of, seed_of, usual_denominator, version_of, width_of, window_of};
+ghost use Rattle.bound_words.specs.Values.{block_of, capacity_of, count_of, denominator_of, drawn_of, format_of, mode_of, number_to, objective_of, policy_of, reads_of, seed_of, usual_denominator, version_of, width_of, window_of};
 ghost use Rattle.cache_model.specs.declared.version.TheConstants.{CERT_VERSION, SHORT_VERSION};
 
 use bound_base::read_u64;
@@ -69,18 +70,53 @@ pub(crate) fn block_of(value: &str) -> Option<u64>
     number_to(MOST_BLOCK, value)
 }
 
-/// The form that a value names, if a block has this many bytes.
-pub(crate) fn format_of(value: &str, block: u64) -> Option<Format>
+/// Whether only reads count, by a value.
+pub(crate) fn reads_of(value: &str) -> Option<bool>
+    ensures { result ≡ reads_of value.now }
+{
+    if is(value, "all") {
+        Some(false)
+    } else if is(value, "reads") {
+        Some(true)
+    } else {
+        None
+    }
+}
+
+// The form webcache, with marks if only reads count.
+fn webcache(reads: bool) -> Format
+    ensures { result ≡ if reads then MarkedWebcache else Webcache }
+{
+    if reads {
+        Format::MarkedWebcache
+    } else {
+        Format::Webcache
+    }
+}
+
+// The form msr, with marks if only reads count.
+fn msr(block: u64, reads: bool) -> Format
+    ensures { result ≡ if reads then MsrReads block else Msr block }
+{
+    if reads {
+        Format::MsrReads { block }
+    } else {
+        Format::Msr { block }
+    }
+}
+
+/// The form that a value names, if a block has this many bytes, and if only reads count or all requests.
+pub(crate) fn format_of(value: &str, block: u64, reads: bool) -> Option<Format>
     requires block { (1 ≤ block) × (block ≤ 2 ^ 48) }
-    ensures value { result ≡ format_of value.now block }
+    ensures value { result ≡ format_of value.now block reads }
     ensures range { IfSome result IsFormat }
 {
     if is(value, "webcache") {
-        Some(Format::Webcache)
+        Some(webcache(reads))
     } else if is(value, "arc") {
         Some(Format::Arc)
     } else if is(value, "msr") {
-        Some(Format::Msr { block })
+        Some(msr(block, reads))
     } else if is(value, "oracle") {
         Some(Format::Oracle)
     } else {

@@ -3,11 +3,11 @@ ghost use Rattle.std.specs.Prelude.{◌≡◌, ◌≤◌, [], map, slice_get, st
 ghost use Rattle.std.specs.Option.{option_copied};
 ghost use Rattle.bound_words.specs.Settings.{IsPlanInRange};
 ghost use Rattle.bound_words.specs.Commands.{operands_of, places_of};
-ghost use Rattle.bound_words.specs.Words.{HasNeeded, block_fault, command_of, earlier, operand_fault, operands_fault, passed, path, paths, plan, plan_of_operands, unknown_operand, window_fault};
+ghost use Rattle.bound_words.specs.Words.{HasNeeded, beside_fault, block_fault, command_of, count_fault, earlier, has_no_writes, operand_fault, operands_fault, passed, path, paths, plan, plan_of_operands, unknown_operand, window_fault};
 
 use crate::commands::{Command, command_named, has_operand};
 use crate::named::{has_equals, name_of, place_given, value_given, value_of};
-use crate::operands::takes_value;
+use crate::operands::{reads_given, takes_value};
 use crate::plans::plan_of_command;
 use crate::values::is;
 use bound_report::{Mode, WordKind};
@@ -175,6 +175,27 @@ fn block_fault(first: u64, operands: &[String]) -> Option<WordFault>
     }
 }
 
+// Whether a form of the trace is given that has no writes.
+fn has_no_writes(format: Option<&str>) -> bool
+    ensures { result ≡ has_no_writes (option_copied format.entry) }
+{
+    match format {
+        Some(format) => !(is(format, "webcache") || is(format, "msr")),
+        None => false,
+    }
+}
+
+// That only reads count may stand only if the trace isn't of a form that has no writes.
+fn count_fault(first: u64, operands: &[String]) -> Option<WordFault>
+    requires { first ≤ 10 }
+    ensures { result ≡ count_fault first (map string_bytes operands.now) }
+{
+    if reads_given(operands) && has_no_writes(value_given("format", operands)) {
+        return unknown_operand(first, "count", operands);
+    }
+    None
+}
+
 // A window may stand only if the mode isn't another one than flow.
 fn window_fault(first: u64, operands: &[String]) -> Option<WordFault>
     requires { first ≤ 10 }
@@ -195,6 +216,15 @@ fn earlier(first: Option<WordFault>, second: Option<WordFault>) -> Option<WordFa
         (Some(a), _) => Some(a),
         (None, other) => other,
     }
+}
+
+// The first operand that may not stand beside another.
+fn beside_fault(first: u64, operands: &[String]) -> Option<WordFault>
+    requires { first ≤ 10 }
+    ensures { result ≡ beside_fault first (map string_bytes operands.now) }
+{
+    let of_trace = earlier(block_fault(first, operands), count_fault(first, operands));
+    earlier(of_trace, window_fault(first, operands))
 }
 
 pub(crate) fn passed(fault: Option<WordFault>) -> Result<(), WordFault>
@@ -218,7 +248,7 @@ fn plan_of_operands(
     ensures range { IfOk result IsPlanInRange }
 {
     check_operands(command, first, operands)?;
-    passed(earlier(block_fault(first, operands), window_fault(first, operands)))?;
+    passed(beside_fault(first, operands))?;
     plan_of_command(command, words, operands)
 }
 
