@@ -9,7 +9,9 @@ pub(crate) fn certificate_advice(kind: InvalidKind) -> Option<&'static str> {
         | InvalidKind::FlowAboveWeight { .. }
         | InvalidKind::Unused { .. }
         | InvalidKind::LowerDiffers { .. } => {
-            Some("is it the certificate of this trace, in this form and with this block?")
+            Some(
+                "is it the certificate of this trace, in this form, with this block and this count?",
+            )
         }
         InvalidKind::Truncated => Some("it ends too early; copy it again"),
         _ => None,

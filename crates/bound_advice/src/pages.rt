@@ -12,7 +12,7 @@ replacement policy can exceed, a schedule that reaches the lower bound, and a ce
 /// What stands for what, and five examples.
 pub const EXAMPLES: &str = "
 FORM is webcache, arc, msr or oracle, OBJECTIVE is object or bytes, MODE is flow, constant or infinite,
-POLICY is lru, fifo, clock, lfu or belady, VERSION is 1 or 2.
+POLICY is lru, fifo, clock, lfu or belady, VERSION is 1 or 2, COUNTED is all or reads.
 A path - is the standard input or output. The report goes to the standard output.
 
 A demo draws a trace of its own and shows its bounds, that they are checked, and the hits of each policy.
@@ -35,21 +35,25 @@ pub const COMMANDS: [&str; 8] = [
 pub fn usage_of(command: &str) -> &'static [&'static str] {
     match command {
         "bounds" => &[
-            "bound_cli bounds TRACE CERT format=FORM capacity=BYTES [block=BYTES]",
+            "bound_cli bounds TRACE CERT format=FORM capacity=BYTES [block=BYTES] [count=COUNTED]",
             "    [objective=OBJECTIVE] [mode=MODE] [window=STEPS] [denominator=NUMBER]",
             "    [warmup=REQUESTS] [version=VERSION]",
         ],
-        "check" => &["bound_cli check TRACE CERT format=FORM [block=BYTES]"],
+        "check" => &["bound_cli check TRACE CERT format=FORM [block=BYTES] [count=COUNTED]"],
         "replay" => &[
-            "bound_cli replay TRACE format=FORM capacity=BYTES policy=POLICY [block=BYTES] [warmup=REQUESTS]",
+            "bound_cli replay TRACE format=FORM capacity=BYTES policy=POLICY [block=BYTES]",
+            "    [count=COUNTED] [warmup=REQUESTS]",
         ],
-        "curve" => &["bound_cli curve TRACE format=FORM [block=BYTES]"],
+        "curve" => &["bound_cli curve TRACE format=FORM [block=BYTES] [count=COUNTED]"],
         "demo" => &[
             "bound_cli demo [seed=NUMBER] [requests=NUMBER] [objects=NUMBER] [capacity=BYTES]",
             "    [objective=OBJECTIVE] [mode=MODE] [window=STEPS] [denominator=NUMBER]",
         ],
         "upgrade" => &["bound_cli upgrade CERT MADE"],
-        "refine" => { &["bound_cli refine TRACE CERT MADE format=FORM window=STEPS [block=BYTES]"] }
+        "refine" => &[
+            "bound_cli refine TRACE CERT MADE format=FORM window=STEPS [block=BYTES]",
+            "    [count=COUNTED]",
+        ],
         "help" => &["bound_cli help"],
         _ => &["bound_cli COMMAND ..; bound_cli help has the commands and their words"],
     }

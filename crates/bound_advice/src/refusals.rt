@@ -56,6 +56,7 @@ pub fn advice_on(
             let bad = BadLine {
                 command: words.command(),
                 form: words.value_of("format").unwrap_or(""),
+                reads: words.value_of("count") == Some("reads"),
                 trace: devices.trace,
                 start: devices.start,
                 number: line,

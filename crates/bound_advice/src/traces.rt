@@ -10,6 +10,8 @@ use trace_lines::{LineKind, field, trim_cr, word};
 pub(crate) struct BadLine<'a> {
     pub(crate) command: &'a str,
     pub(crate) form: &'a str,
+    /// Whether only reads count, so that a webcache line has a mark.
+    pub(crate) reads: bool,
     pub(crate) trace: Seen<'a>,
     pub(crate) start: &'a [u8],
     pub(crate) number: u64,
@@ -106,13 +108,22 @@ impl<'a> BadLine<'a> {
                     "msr" =>
                         "it needs six fields with commas between: timestamp, host, disk, type, offset and size",
                     "arc" => "it needs two words: a first block, and how many blocks",
+                    "webcache" if self.reads =>
+                        "it needs four words with count=reads: a time, an id, a size in bytes, and r or w",
                     _ => "it needs three words: a time, an id and a size in bytes",
                 },
             ),
             LineKind::SizeTooLarge => {
                 self.part_advice(alloc, 3, "a size is in bytes, at most 281474976710656")
             }
-            LineKind::BadType => self.part_advice(alloc, 4, "a type is Read or Write"),
+            LineKind::BadType => self.part_advice(
+                alloc,
+                4,
+                match self.form {
+                    "webcache" => "with count=reads it is r for a read, or w for a write",
+                    _ => "a type is Read or Write",
+                },
+            ),
             LineKind::BadRange => self.line_advice(alloc, "it ends beyond 2^64"),
             LineKind::QuoteByte => self.line_advice(
                 alloc,

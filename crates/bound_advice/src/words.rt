@@ -9,6 +9,7 @@ fn values_of(name: &str) -> Option<&'static str> {
     match name {
         "format" => Some("webcache, arc, msr or oracle"),
         "block" => Some("digits alone, from 1 to 281474976710656"),
+        "count" => Some("all or reads"),
         "capacity" => Some("digits alone, from 1 to 72057594037927936"),
         "objective" => Some("object or bytes"),
         "mode" => Some("flow, constant or infinite"),
@@ -172,6 +173,11 @@ fn unsuited(alloc: Global, words: Words<'_>, word: &str) -> Result<String, Alloc
     match name_of(word) {
         "block" if names.contains(&"block") => {
             format!(in alloc; "{word}: a block goes with format=msr alone")
+        }
+        "count" if names.contains(&"count") => {
+            format!(in alloc;
+                "{word}: reads are told apart with format=webcache or format=msr alone"
+            )
         }
         "window" if command == "bounds" || command == "demo" => {
             format!(in alloc; "{word}: a window goes with mode=flow alone")
