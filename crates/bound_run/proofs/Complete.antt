@@ -5,6 +5,7 @@ use Rattle.std.specs.declared.option.Option.{Option}
 use Rattle.std.specs.Option.{is_some}
 use Rattle.std.proofs.lemmas.Bool.{false≢true}
 use Rattle.cache_model.specs.declared.objects.Object.{Object}
+use Rattle.cache_rules.specs.Stored.{Requests as Trail}
 use Rattle.cache_model.specs.declared.certificates.Header.{Header}
 use Rattle.cache_model.specs.declared.certificates.Record.{Record}
 use Rattle.cache_model.specs.Certificates.{IsValid}
@@ -36,7 +37,7 @@ use Rattle.bound_run.specs.declared.status.Status.{Status}
 use Rattle.bound_run.specs.declared.status.Status.TheVariants.{Done, Invalid, Words, BadLine, Limit, TraceFault, CertFault, ReportFault, MadeFault, NoMemory, Unequal}
 use Rattle.bound_run.specs.Demos.{trace_drawn}
 use Rattle.bound_run.specs.BoundsMade.{RefusesDenominator}
-use Rattle.bound_run.specs.Readings.{HasDenominator, IsGoodTrace}
+use Rattle.bound_run.specs.Readings.{HasDenominator, IsGoodTrace, trace_in}
 use Rattle.bound_run.specs.Run.{AnswersCurve, AnswersCurveOf, AnswersOf, Answers, AreGoodInputs, BoundsEnd, CheckEnds, CurveEnds, Completes, DemoEnds, Devices, NoneFails, RefineEnds, ReplayEnds, RunEnds, CommandEnds, UpgradeEnds}
 use Rattle.bound_run.specs.Upgrades.{IsGoodCertificate}
 use Rattle.bound_run.specs.Statuses.{ending_of}
@@ -72,11 +73,11 @@ of_first : (e : Option Event) (others : List (Option Event)) → IsOfCert e → 
 of_first None others first rest = rest
 of_first (Some e) others first rest = first
 
-of_request : (h : Header) (c : Certificate) (trace : List Object) (t : ℕ) → IsOfCert (first_some (events_at h c trace t))
-of_request h c trace t =
+of_request : (h : Header) (fills : List Bool) (c : Certificate) (trace : List Object) (t : ℕ) → IsOfCert (first_some (events_at h fills c trace t))
+of_request h fills c trace t =
     of_first _ _ (of_line (header_len h + t) (found (t == h.requests) (RequestCount h.requests (t + 1))))
     (of_first _ _ (of_choice (length c.records == t) (text_event c.fault) (of_text c.fault))
-    (of_first _ _ (of_line (header_len h + 1 + t) (record_fault h trace c.records t)) tt))
+    (of_first _ _ (of_line (header_len h + 1 + t) (record_fault h fills trace c.records t)) tt))
 
 of_last : (h : Header) (c : Certificate) (trace : Trace) → trace.refused ≡ None → IsOfCert (first_some (last_events h c trace))
 of_last h c trace whole =
@@ -84,7 +85,7 @@ of_last h c trace whole =
     of_first _ _ (subst (λ r. IsOfCert (refusal_event r)) (sym whole) tt)
     (of_first _ _ (of_line (header_len h + n) (found (nat_lt n h.requests) (RequestCount h.requests n)))
     (of_first _ _ (of_choice (length c.records == n) (text_event c.fault) (of_text c.fault))
-    (of_first _ _ (of_line (header_len h + 1 + n) (end_fault h trace.requests c.records)) tt)))
+    (of_first _ _ (of_line (header_len h + 1 + n) (end_fault h trace.fills trace.requests c.records)) tt)))
 
 of_requests : (f : ℕ → Option Event) (numbers : List ℕ) (rest : List (Option Event)) → ((t : ℕ) → IsOfCert (f t)) → IsOfCert (first_some rest) → IsOfCert (first_some (map f numbers ++ rest))
 of_requests f [] rest each last = last
@@ -92,7 +93,7 @@ of_requests f (t ∷ numbers) rest each last = of_first (f t) (map f numbers ++ 
 
 of_walk : (trace : Trace) (c : Certificate) (head : Option Header) → trace.refused ≡ None → IsOfCert (walk_under head trace c)
 of_walk trace c None whole = of_text c.fault
-of_walk trace c (Some h) whole = of_requests (λ t. first_some (events_at h c trace.requests t)) (numbers_of trace.requests) (last_events h c trace) (λ t. of_request h c trace.requests t) (of_last h c trace whole)
+of_walk trace c (Some h) whole = of_requests (λ t. first_some (events_at h trace.fills c trace.requests t)) (numbers_of trace.requests) (last_events h c trace) (λ t. of_request h trace.fills c trace.requests t) (of_last h c trace whole)
 
 -- the walk over a trace that isn't refused doesn't end at a refusal of it
 never_refused : (trace : Trace) (text : List ℕ) (fault : FaultOfTrace) → trace.refused ≡ None → walk trace text ≡ Some (walks.Refused fault) → ⊥
@@ -100,6 +101,10 @@ never_refused trace text fault whole is = subst IsOfCert is (of_walk trace (cert
 
 some_is_not_none : {A : Type 0} (x : A) (o : Option A) → o ≡ Some x → o ≡ None → ⊥
 some_is_not_none x o is none = false≢true (ap is_some (sym none ∙ is))
+
+-- a whole reading is of these requests with their marks
+whole_is : (r : Trace) (requests : Trail) (dropped : ℕ) → IsWhole r requests dropped → trace_in r ≡ requests
+whole_is r requests dropped whole = ap (λ xs. record { objects = xs; fills = r.fills }) whole.requests ∙ ap (λ fills. record { objects = requests.objects; fills = fills }) whole.marks
 
 -- ---- bounds
 
@@ -109,9 +114,9 @@ module _ (format : Format) (asked : BoundSettings) (source report made : Device)
   not_refused None fault known_trace why = known_trace
   not_refused (Some bytes) fault known_trace why = some_is_not_none fault _ why known_trace
 
-  not_past : (before : Option (List ℕ)) (requests : List Object) (dropped : ℕ) → HasDenominator format asked before → IfSome before (λ bytes. IsWhole (reading format full_limits bytes) requests dropped) → RefusesDenominator asked requests → IsGoodTrace format before → ⊥
+  not_past : (before : Option (List ℕ)) (requests : Trail) (dropped : ℕ) → HasDenominator format asked before → IfSome before (λ bytes. IsWhole (reading format full_limits bytes) requests dropped) → RefusesDenominator asked requests → IsGoodTrace format before → ⊥
   not_past None requests dropped has whole refused known_trace = known_trace
-  not_past (Some bytes) requests dropped has whole refused known_trace = has (subst (RefusesDenominator asked) (sym whole.requests) refused)
+  not_past (Some bytes) requests dropped has whole refused known_trace = has (subst (RefusesDenominator asked) (sym (whole_is _ requests dropped whole)) refused)
 
   bounds_complete : (status : Status) → BoundsEnd format asked source report made (ending_of status) → (status ≡ Done) ⊎ (status ≡ NoMemory)
   bounds_complete Done e = inl refl
@@ -131,12 +136,12 @@ module _ (format : Format) (asked : BoundSettings) (source report made : Device)
 -- ---- checks
 
 module _ (format : Format) where
-  yes_at : (before text : Option (List ℕ)) (requests : List Object) (dropped : ℕ) (h : Header) (records : List Record) → IsGoodTrace format before → IsSome text
-      → IfSome before (λ bytes. IsWhole (reading format full_limits bytes) requests dropped) → IfSome text (λ t. t ≡ cert_text h records) → IsValid requests h records → AnswersOf format before text Done
+  yes_at : (before text : Option (List ℕ)) (requests : Trail) (dropped : ℕ) (h : Header) (records : List Record) → IsGoodTrace format before → IsSome text
+      → IfSome before (λ bytes. IsWhole (reading format full_limits bytes) requests dropped) → IfSome text (λ t. t ≡ cert_text h records) → IsValid requests.objects requests.fills h records → AnswersOf format before text Done
   yes_at None text requests dropped h records known_trace known_cert whole is valid = absurd known_trace
   yes_at (Some bytes) None requests dropped h records known_trace known_cert whole is valid = absurd (false≢true known_cert)
   yes_at (Some bytes) (Some t) requests dropped h records known_trace known_cert whole is valid =
-      record { header = h; records = records; text_is = is; valid = subst (λ xs. IsValid xs h records) (sym whole.requests) valid }
+      record { header = h; records = records; text_is = is; valid = subst (λ (xs : Trail). IsValid xs.objects xs.fills h records) (sym (whole_is _ requests dropped whole)) valid }
 
   no_at : (before text : Option (List ℕ)) (line : ℕ) (kind : InvalidKind) → IsGoodTrace format before → IsSome text
       → IfSome before (λ bytes. IfSome text (λ t. walk (reading format full_limits bytes) t ≡ Some (walks.Invalid line kind))) → AnswersOf format before text (Invalid line kind)
@@ -224,8 +229,8 @@ module _ (format : Format) (source report : Device) (good : IsGoodTrace format s
   curve_not_refused (Some bytes) fault known_trace why = some_is_not_none fault _ why known_trace
 
   -- what is true of the requests that were loaded is what is answered of the bytes
-  answered_of : (status : Status) (before : Option (List ℕ)) (requests : List Object) (dropped : ℕ) → IsGoodTrace format before
-      → IfSome before (λ bytes. IsWhole (reading format full_limits bytes) requests dropped) → AnswersCurve requests status → AnswersCurveOf format before status
+  answered_of : (status : Status) (before : Option (List ℕ)) (requests : Trail) (dropped : ℕ) → IsGoodTrace format before
+      → IfSome before (λ bytes. IsWhole (reading format full_limits bytes) requests dropped) → AnswersCurve requests.objects status → AnswersCurveOf format before status
   answered_of status None requests dropped known_trace whole is = absurd known_trace
   answered_of status (Some bytes) requests dropped known_trace whole is = subst (λ xs. AnswersCurve xs status) (sym whole.requests) is
 

@@ -2,7 +2,7 @@
 use Rattle.std.proofs.Common.{◌≡◌, ◌∙◌, ℕ, ◌-◌, ◌/◌, ◌==◌, ap, sym, refl, cond, nat_lt, List, [], ◌∷◌, map, filter, codes}
 use Rattle.std.specs.List.{range_with_len}
 use Rattle.std.proofs.lemmas.List.Elements.{filter_agree}
-use Rattle.cache_model.specs.declared.objects.Object.{Object}
+use Rattle.cache_rules.specs.Stored.{Requests}
 use Rattle.cache_model.specs.Texts.{entry, text_of}
 use Rattle.stack_curve.specs.Curves.{IsCurve, IsOfLru, Points, first_size, hits_with}
 use Rattle.stack_curve.specs.Distances.{curve_hits}
@@ -25,16 +25,16 @@ slots_lines-agree f g same most =
     (filter_agree (adds_hits f) (adds_hits g) (λ k. ap (λ n. nat_lt n (f k)) (same (k - 1)) ∙ ap (λ n. nat_lt (g (k - 1)) n) (same k)) (range_with_len 1 most))
 
 -- the report of a curve, from what the curve is
-pub curve_shown : (trace : List Object) (dropped : ℕ) (points : Points) (text : List ℕ) → HaveSize (first_size trace) trace → IsCurve trace points → IsOfLru trace points
+pub curve_shown : (trace : Requests) (dropped : ℕ) (points : Points) (text : List ℕ) → HaveSize (first_size trace.objects) trace.objects → IsCurve trace.objects trace.fills points → IsOfLru trace.objects trace.fills points
     → text ≡ curve_text (curve_facts trace dropped) points.size (hits_with points) → IsCurveText trace dropped text
 curve_shown trace dropped points text one_size of_trace of_lru is =
     let facts : CurveFacts = curve_facts trace dropped in
     record {
       one_size = one_size;
       text_is = is ∙ ap (λ s. curve_text facts s (hits_with points)) of_trace.size_is
-          ∙ ap (λ ls. text_of (trace_line facts.requests facts.objects facts.dropped ∷ entry (codes "size") (first_size trace) ∷ ls)) (slots_lines-agree (hits_with points) (curve_hits trace) of_trace.hits_are facts.objects);
+          ∙ ap (λ ls. text_of (trace_line facts.requests facts.objects facts.dropped ∷ entry (codes "size") (first_size trace.objects) ∷ ls)) (slots_lines-agree (hits_with points) (curve_hits trace.objects trace.fills) of_trace.hits_are facts.objects);
       of_lru = λ capacity positive.
-          ap (λ n. cond (first_size trace == 0) 0 n) (sym (of_trace.hits_are (capacity / first_size trace)))
+          ap (λ n. cond (first_size trace.objects == 0) 0 n) (sym (of_trace.hits_are (capacity / first_size trace.objects)))
           ∙ ap (λ s. cond (s == 0) 0 (hits_with points (capacity / s))) (sym of_trace.size_is)
           ∙ of_lru capacity positive;
     }

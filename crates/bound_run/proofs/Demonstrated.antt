@@ -6,10 +6,11 @@ use Rattle.std.proofs.lemmas.Bool.{false≢true}
 use Rattle.bound_io.specs.Causes.{HasNewFault}
 use Rattle.bound_io.specs.Devices.{device}
 use Rattle.cache_model.specs.declared.objects.Object.{Object}
+use Rattle.cache_rules.specs.Stored.{Requests as Trail, all_count}
 use Rattle.cache_model.specs.Certificates.{IsValid}
 use Rattle.trace_any.specs.declared.fault.TraceFault.TheVariants as trace
 use Rattle.trace_any.specs.declared.format.Format.TheVariants.{Webcache}
-use Rattle.trace_any.specs.Readings.{full_limits, reading}
+use Rattle.trace_any.specs.Readings.{Reading, full_limits, reading}
 use Rattle.cert_checker.specs.Walks.{Event, walk}
 use Rattle.cert_checker.specs.Walks as walks
 use Rattle.cert_checker.proofs.Walked.{passing_is_valid_lem}
@@ -54,7 +55,7 @@ module _ (lines text : List ℕ) (lines_after text_after : Option (List ℕ)) (g
   only_memory refusal.NoMemory e = refl
 
 -- the text of a demo, from its parts
-pub shown_by : (drawing : DrawSettings) (asked : BoundSettings) (trace : List Object) (cert report text : List ℕ) (replays : PolicyReplays) → trace ≡ trace_drawn drawing
+pub shown_by : (drawing : DrawSettings) (asked : BoundSettings) (trace : Trail) (cert report text : List ℕ) (replays : PolicyReplays) → trace ≡ trace_drawn drawing
     → AreTexts asked trace 0 cert report → AreReplays asked.terms.capacity trace replays → text ≡ demo_text (demo_facts drawing asked) report replays → IsDemoText drawing asked text
 shown_by drawing asked trace cert report text replays drawn texts replayed is = record {
   price = texts.price;
@@ -67,6 +68,6 @@ shown_by drawing asked trace cert report text replays drawn texts replayed is = 
 }
 
 -- what is made of a trace is certified by its lines
-pub certified_by_texts : (asked : BoundSettings) (requests : List Object) (lines cert report : List ℕ) → reading Webcache full_limits lines ≡ read_whole requests → AreTexts asked requests 0 cert report → IsCertified Webcache lines cert
+pub certified_by_texts : (asked : BoundSettings) (requests : List Object) (lines cert report : List ℕ) → reading Webcache full_limits lines ≡ read_whole requests → AreTexts asked (all_count requests) 0 cert report → IsCertified Webcache lines cert
 certified_by_texts asked requests lines cert report read texts =
-    record { header = texts.header; records = texts.records; text_is = texts.cert_is; valid = subst (λ xs. IsValid xs texts.header texts.records) (sym (ap (λ r. r.requests) read)) texts.made.valid }
+    record { header = texts.header; records = texts.records; text_is = texts.cert_is; valid = subst (λ (r : Reading). IsValid r.requests r.fills texts.header texts.records) (sym read) texts.made.valid }

@@ -2,7 +2,7 @@
 use Rattle.std.proofs.Common.{◌≡◌, ◌∙◌, ◌*◌, sym, ap, subst, List, Ok, Err}
 use Rattle.std.specs.Prelude.{Result}
 use Rattle.std.specs.Io.KnownBytes.{Appends}
-use Rattle.cache_model.specs.declared.objects.Object.{Object}
+use Rattle.cache_rules.specs.Stored.{Requests}
 use Rattle.cache_model.specs.declared.certificates.Header.{Header}
 use Rattle.cache_model.specs.declared.certificates.Record.{Record}
 use Rattle.cache_model.specs.Claim.{BoundsEveryPolicy}
@@ -20,7 +20,7 @@ use Rattle.bound_words.specs.declared.settings.Settings.TheVariants.{Bounds, Che
 use Rattle.bound_words.specs.Settings.{settings_of}
 
 -- a valid certificate has true bounds
-true_bounds : (trace : List Object) (h : Header) (records : List Record) → IsValid trace h records → BoundsEveryPolicy trace h → AreTrueBounds trace h records
+true_bounds : (trace : Requests) (h : Header) (records : List Record) → IsValid trace.objects trace.fills h records → BoundsEveryPolicy trace.objects trace.fills h → AreTrueBounds trace h records
 true_bounds trace h records valid above = record {
   certificate = valid.certificate;
   requests = valid.requests;

@@ -9,6 +9,7 @@ use Rattle.cache_model.specs.Certificates.{IsValid}
 use Rattle.cache_model.specs.Objects.{objects_of}
 use Rattle.cache_model.specs.Texts.{cert_text}
 use Rattle.cache_model.proofs.Headline.{exact_is_least}
+use Rattle.cache_rules.specs.Stored.{Requests}
 use Rattle.trace_any.specs.declared.fault.TraceFault.TheVariants as trace
 use Rattle.trace_any.specs.declared.format.Format.{Format}
 use Rattle.trace_any.specs.Readings.{full_limits}
@@ -56,7 +57,7 @@ module _ (format : Format) (start end : Inputs) (new : start.reader ≡ fresh fo
         objects = passed.yes.objects;
         valid = passed.yes.valid;
         bounds = passed.yes.bounds_every_policy;
-        least = exact_is_least passed.requests verdict.header passed.records passed.yes.valid;
+        least = exact_is_least passed.requests.objects passed.requests.fills verdict.header passed.records passed.yes.valid;
         text = texts_of_whole start.certificate verdict.header passed.records passed.certificate;
         nothing_left = passed.certificate_end;
       }
@@ -70,11 +71,11 @@ module _ (format : Format) (start end : Inputs) (new : start.reader ≡ fresh fo
       = record { read = rw (same_format, same_limits) at passed.trace; nothing_left = passed.trace_end } in (
         record {
           loaded = subst (λ requests. IsLoaded format (device start.trace end.trace start.trace_faults end.trace_faults) requests end.reader.dropped) (sym has.trace) loaded;
-          valid = subst (λ requests. IsValid requests kept.verdict.header kept.records) (sym has.trace) (subst (λ records. IsValid passed.requests kept.verdict.header records) (sym has.records) passed.yes.valid);
+          valid = subst (λ (requests : Requests). IsValid requests.objects requests.fills kept.verdict.header kept.records) (sym has.trace) (subst (λ records. IsValid passed.requests.objects passed.requests.fills kept.verdict.header records) (sym has.records) passed.yes.valid);
           text = subst (λ records. IfSome start.certificate (λ text. text ≡ cert_text kept.verdict.header records)) (sym has.records) (texts_of_whole start.certificate kept.verdict.header passed.records passed.certificate);
           nothing_left = passed.certificate_end;
         },
-        ap (λ n. record { header = kept.verdict.header; objects = n }) (passed.yes.objects ∙ ap (λ requests. length (objects_of requests)) (sym has.trace)),
+        ap (λ n. record { header = kept.verdict.header; objects = n }) (passed.yes.objects ∙ ap (λ (requests : Requests). length (objects_of requests.objects)) (sym has.trace)),
       )
 
   -- and a no is the first event of the walk over it, with little read beyond its line

@@ -7,7 +7,7 @@ use Rattle.std.proofs.lemmas.List.Elements.{All-head}
 use Rattle.std.proofs.lemmas.Nat.{le-div}
 use Rattle.std.proofs.lemmas.Nat.Gcd.{le_of_dvd}
 use Rattle.std.proofs.Math.Nat.{mul-le-mul_right, div-le_self}
-use Rattle.cache_model.specs.declared.objects.Object.{Object}
+use Rattle.cache_rules.specs.Stored.{Requests}
 use Rattle.cache_model.specs.declared.intervals.Interval.{Interval}
 use Rattle.cache_model.specs.declared.certificates.Header.{Header}
 use Rattle.cache_model.specs.declared.certificates.Record.{Record}
@@ -16,7 +16,7 @@ use Rattle.bound_report.specs.declared.facts.Mode.TheVariants.{Flow, Constant, I
 use Rattle.cache_model.specs.Intervals.{bound_of}
 use Rattle.cache_model.specs.Units.{IsUnit, HasWholeCosts, weight}
 use Rattle.cache_model.specs.Certificates.{IsHeaderInRange, IsValid, flows_of, keeps_of, prices_of, upper_of}
-use Rattle.cache_model.specs.Claim.{IsAllowed, score, BoundsEveryPolicy, contents_of}
+use Rattle.cache_model.specs.Claim.{IsAllowed, marked, score, BoundsEveryPolicy, contents_of}
 use Rattle.cache_model.specs.Rounding.{IsMaximal, IsRounded, by_rank}
 use Rattle.cache_model.specs.Schedules.{IsFractionalSchedule, flow_value}
 use Rattle.cache_model.proofs.Headline.{prices_bound, exact_is_least}
@@ -56,9 +56,9 @@ pub some_units : (capacity unit : ℕ) → 1 ≤ unit → unit ≤ capacity → 
 some_units capacity unit positive within = le-div 1 capacity unit positive (omega arith)
 
 -- what is found of a trace, by its intervals
-pub record IsFound (asked : BoundSettings) (trace : List Object) (line : Timeline) (unit units d : ℕ) (whole_costs : Bool) (upper flow lower price : ℕ) (prices flows : List ℕ) (keeps : List Bool) : Type 0 where
+pub record IsFound (asked : BoundSettings) (trace : Requests) (line : Timeline) (unit units d : ℕ) (whole_costs : Bool) (upper flow lower price : ℕ) (prices flows : List ℕ) (keeps : List Bool) : Type 0 where
   pub in_range : AreBoundSettingsInRange asked
-  pub few : length trace ≤ 2 ^ 25
+  pub few : length trace.objects ≤ 2 ^ 25
   pub is_line : IsTimeline line
   pub fit : All (λ i. i.size ≤ asked.terms.capacity) line.items
   pub unit_is : IsUnit line.items unit
@@ -77,10 +77,10 @@ pub record IsFound (asked : BoundSettings) (trace : List Object) (line : Timelin
   pub small : upper < 2 ^ 127
   pub value : flow ≡ flow_value line.items unit d flows
   pub small_value : flow < 2 ^ 127
-  pub rounded : IsRounded by_rank line.items asked.terms.capacity (length trace) (full_flags unit line.items flows) keeps
+  pub rounded : IsRounded by_rank line.items asked.terms.capacity (length trace.objects) (full_flags unit line.items flows) keeps
   pub maximal : IsMaximal line.items asked.terms.capacity keeps
-  pub allowed : IsAllowed asked.terms.capacity trace (contents_of trace keeps)
-  pub scored : lower ≡ score asked.terms trace (contents_of trace keeps)
+  pub allowed : IsAllowed asked.terms.capacity trace.objects (contents_of trace.objects keeps)
+  pub scored : lower ≡ score (marked asked.terms trace.fills) trace.objects (contents_of trace.objects keeps)
 
 -- with one window the prices and flows are a solution of the whole
 solved : (mode : Mode) (line : Timeline) (unit units d price : ℕ) (prices flows : List ℕ) → IsOfMode mode line unit units d prices flows price → IsTrue (is_unwindowed mode line.steps)
@@ -89,24 +89,24 @@ solved (Flow window) line unit units d price prices flows (zero, are, one) wide 
 solved Constant line unit units d price prices flows of wide = cc
 solved Infinite line unit units d price prices flows of wide = cc
 
-module _ (asked : BoundSettings) (trace : List Object) (unit d : ℕ) (whole_costs : Bool) (upper flow lower price : ℕ) (prices flows : List ℕ) (keeps : List Bool) where
+module _ (asked : BoundSettings) (trace : Requests) (unit d : ℕ) (whole_costs : Bool) (upper flow lower price : ℕ) (prices flows : List ℕ) (keeps : List Bool) where
   abbrev line : Timeline
-  line = timeline_of asked.terms trace
+  line = timeline_of (marked asked.terms trace.fills) trace.objects
 
   abbrev units : ℕ
   units = asked.terms.capacity / unit
 
   abbrev exact : Bool
-  exact = is_unwindowed asked.mode (length trace) && whole_costs
+  exact = is_unwindowed asked.mode (length trace.objects) && whole_costs
 
   abbrev h : Header
-  h = header_with asked (length trace) unit d exact upper flow lower
+  h = header_with asked (length trace.objects) unit d exact upper flow lower
 
   abbrev rs : List Record
   rs = records_of prices keeps line.items flows
 
   module _ (found : IsFound asked trace line unit units d whole_costs upper flow lower price prices flows keeps) where
-    many : length keeps ≡ length trace
+    many : length keeps ≡ length trace.objects
     many = found.rounded.one_keep_each
 
     lined : IsTimeline (record { steps = length keeps; items = line.items })
@@ -124,7 +124,7 @@ module _ (asked : BoundSettings) (trace : List Object) (unit d : ℕ) (whole_cos
     flowing : flows_of line.items rs ≡ flows
     flowing = flows_of-records prices keeps line.items flows lined each_flow
 
-    counted : length rs ≡ length trace
+    counted : length rs ≡ length trace.objects
     counted = length-records prices keeps line.items flows ∙ many
 
     within : unit ≤ asked.terms.capacity
@@ -136,31 +136,31 @@ module _ (asked : BoundSettings) (trace : List Object) (unit d : ℕ) (whole_cos
     weights : All (λ i. 1 ≤ weight unit i) line.items
     weights = timeline_weights line unit found.is_line found.positive found.unit_is.divides
 
-    bound : upper ≡ upper_of trace h rs
+    bound : upper ≡ upper_of trace.objects trace.fills h rs
     bound = found.bound ∙ ap (bound_of line.items unit units d) (sym priced)
 
-    bounds : BoundsEveryPolicy trace h
-    bounds = prices_bound trace h rs counted (omega (arith, found.range.0)) bound
+    bounds : BoundsEveryPolicy trace.objects trace.fills h
+    bounds = prices_bound trace.objects trace.fills h rs counted (omega (arith, found.range.0)) bound
 
     scored_once : (n m : ℕ) → 1 ≤ n → m ≤ n * m
     scored_once n m once = omega (arith, mul-le-mul_right m once)
 
     ranged : IsHeaderInRange h
     ranged =
-        header_in_range asked (length trace) unit d exact upper flow lower found.in_range found.few (found.positive, within) found.range found.small found.small_value
-        (omega (arith, found.scored, found.small, bounds.no_policy_scores_more (contents_of trace keeps) found.allowed, scored_once d (score asked.terms trace (contents_of trace keeps)) found.range.0))
+        header_in_range asked (length trace.objects) unit d exact upper flow lower found.in_range found.few (found.positive, within) found.range found.small found.small_value
+        (omega (arith, found.scored, found.small, bounds.no_policy_scores_more (contents_of trace.objects keeps) found.allowed, scored_once d (score (marked asked.terms trace.fills) trace.objects (contents_of trace.objects keeps)) found.range.0))
 
     once : (p : ℕ) → p ≤ units * p
     once p = omega (arith, mul-le-mul_right p some)
 
     equal : IsTrue exact → upper ≡ flow
     equal is =
-        let both = and_parts (is_unwindowed asked.mode (length trace)) whole_costs is in
+        let both = and_parts (is_unwindowed asked.mode (length trace.objects)) whole_costs is in
         found.bound
         ∙ (exact_values line.items line.steps unit units d prices flows weights (found.whole both.1) (solved asked.mode line unit units d price prices flows found.of_mode both.0)).0
         ∙ sym found.value
 
-    valid : IsValid trace h rs
+    valid : IsValid trace.objects trace.fills h rs
     valid = record {
       certificate = record {
         header = ranged;
@@ -169,15 +169,15 @@ module _ (asked : BoundSettings) (trace : List Object) (unit d : ℕ) (whole_cos
       };
       requests = refl;
       sum_limit = subst (λ ps. units * sum ps ≤ 2 ^ 126) (sym priced) found.paid;
-      last_price = subst (λ ps. get_or ps (length trace - 1) 0 ≡ 0) (sym priced) found.last;
+      last_price = subst (λ ps. get_or ps (length trace.objects - 1) 0 ≡ 0) (sym priced) found.last;
       unit = found.unit_is.divides;
-      keeps = subst (λ ks. IsAllowed asked.terms.capacity trace (contents_of trace ks)) (sym kept) found.allowed;
-      lower = found.scored ∙ ap (λ ks. score asked.terms trace (contents_of trace ks)) (sym kept);
+      keeps = subst (λ ks. IsAllowed asked.terms.capacity trace.objects (contents_of trace.objects ks)) (sym kept) found.allowed;
+      lower = found.scored ∙ ap (λ ks. score (marked asked.terms trace.fills) trace.objects (contents_of trace.objects ks)) (sym kept);
       unused_flows = flow_at-unused prices keeps line.items flows;
       flows = subst (IsFractionalSchedule line.items unit units) (sym flowing) found.schedule;
       flow = found.value ∙ ap (flow_value line.items unit d) (sym flowing);
       upper = bound;
-      whole_costs = λ is. found.whole (and_parts (is_unwindowed asked.mode (length trace)) whole_costs is).1;
+      whole_costs = λ is. found.whole (and_parts (is_unwindowed asked.mode (length trace.objects)) whole_costs is).1;
       exact_values = equal;
     }
 
@@ -208,13 +208,13 @@ module _ (asked : BoundSettings) (trace : List Object) (unit d : ℕ) (whole_cos
         (λ (empty : length line.items ≤ 0). λ k e low. absurd (omega arith))
         (cases_lt 0 (length line.items))
 
-    best : (size : ℕ) → IsTrue (is_unwindowed asked.mode (length trace)) → All (λ i. i.size ≡ size) line.items → IsBestSchedule asked.terms trace d upper keeps
+    best : (size : ℕ) → IsTrue (is_unwindowed asked.mode (length trace.objects)) → All (λ i. i.size ≡ size) line.items → IsBestSchedule (marked asked.terms trace.fills) trace.objects d upper keeps
     best size wide same =
         let values = (exact_values line.items line.steps unit units d prices flows weights (whole_of_equal size same) (solved asked.mode line unit units d price prices flows found.of_mode wide)).0 in
-        subst (λ u. IsBestSchedule asked.terms trace d u keeps) (sym found.bound)
-        (best_schedule asked.terms trace size unit d prices flows by_rank keeps same found.unit_is found.each found.schedule values found.rounded found.allowed)
+        subst (λ u. IsBestSchedule (marked asked.terms trace.fills) trace.objects d u keeps) (sym found.bound)
+        (best_schedule (marked asked.terms trace.fills) trace.objects size unit d prices flows by_rank keeps same found.unit_is found.each found.schedule values found.rounded found.allowed)
 
-    near : IsTrue (is_unwindowed asked.mode (length trace)) → IsNear trace h flows
+    near : IsTrue (is_unwindowed asked.mode (length trace.objects)) → IsNear trace h flows
     near wide =
         let bounded = rounded_is_near line.items line.steps unit units d prices flows weights (solved asked.mode line unit units d price prices flows found.of_mode wide) in
         record { earned = omega (arith, bounded.0, found.bound); value = omega (arith, bounded.1, found.bound, found.value) }
@@ -227,29 +227,29 @@ module _ (asked : BoundSettings) (trace : List Object) (unit d : ℕ) (whole_cos
       unit = found.unit_is;
       denominator = found.chosen;
       form = (
-        λ is. let both = and_parts (is_unwindowed asked.mode (length trace)) whole_costs is in (both.0, found.whole both.1),
-        λ both. and_from (is_unwindowed asked.mode (length trace)) whole_costs both.0 (found.whole_back both.1),
+        λ is. let both = and_parts (is_unwindowed asked.mode (length trace.objects)) whole_costs is in (both.0, found.whole both.1),
+        λ both. and_from (is_unwindowed asked.mode (length trace.objects)) whole_costs both.0 (found.whole_back both.1),
       );
       of_mode = subst (λ ps. IsOfMode asked.mode line unit units d ps (flows_of line.items rs) price) (sym priced) (subst (λ fs. IsOfMode asked.mode line unit units d prices fs price) (sym flowing) found.of_mode);
       least_windows = subst (HasLeastWindows asked.mode line unit units d) (sym priced) (least_in_each asked.mode found.of_mode);
       below_windows = subst (λ ps. IsBelowWindows asked.mode line unit units d ps upper) (sym priced) (below asked.mode found.in_range.mode found.of_mode);
-      rounded = subst (λ fs. IsRounded by_rank line.items asked.terms.capacity (length trace) (full_flags unit line.items fs) (keeps_of rs)) (sym flowing)
-          (subst (IsRounded by_rank line.items asked.terms.capacity (length trace) (full_flags unit line.items flows)) (sym kept) found.rounded);
+      rounded = subst (λ fs. IsRounded by_rank line.items asked.terms.capacity (length trace.objects) (full_flags unit line.items fs) (keeps_of rs)) (sym flowing)
+          (subst (IsRounded by_rank line.items asked.terms.capacity (length trace.objects) (full_flags unit line.items flows)) (sym kept) found.rounded);
       maximal = subst (IsMaximal line.items asked.terms.capacity) (sym kept) found.maximal;
       bounds = bounds;
-      least = exact_is_least trace h rs valid;
+      least = exact_is_least trace.objects trace.fills h rs valid;
       near = λ wide. subst (IsNear trace h) (sym flowing) (near wide);
-      exact_if_equal = λ size wide same. and_from (is_unwindowed asked.mode (length trace)) whole_costs wide (found.whole_back (whole_of_equal size same));
-      equal_sizes = λ size wide same. subst (IsBestSchedule asked.terms trace d upper) (sym kept) (best size wide same);
+      exact_if_equal = λ size wide same. and_from (is_unwindowed asked.mode (length trace.objects)) whole_costs wide (found.whole_back (whole_of_equal size same));
+      equal_sizes = λ size wide same. subst (IsBestSchedule (marked asked.terms trace.fills) trace.objects d upper) (sym kept) (best size wide same);
     }
 
 -- what is found makes the certificate
-pub made_of : (asked : BoundSettings) (trace : List Object) (found_line : Timeline) (requests unit units d : ℕ) (whole_costs : Bool) (upper flow lower price : ℕ) (prices flows : List ℕ) (keeps : List Bool)
-    → found_line ≡ timeline_of asked.terms trace → requests ≡ length trace → units ≡ asked.terms.capacity / unit → IsFound asked trace found_line unit units d whole_costs upper flow lower price prices flows keeps
+pub made_of : (asked : BoundSettings) (trace : Requests) (found_line : Timeline) (requests unit units d : ℕ) (whole_costs : Bool) (upper flow lower price : ℕ) (prices flows : List ℕ) (keeps : List Bool)
+    → found_line ≡ timeline_of (marked asked.terms trace.fills) trace.objects → requests ≡ length trace.objects → units ≡ asked.terms.capacity / unit → IsFound asked trace found_line unit units d whole_costs upper flow lower price prices flows keeps
     → IsMade asked trace price (header_with asked requests unit d (is_unwindowed asked.mode requests && whole_costs) upper flow lower) (records_of prices keeps found_line.items flows)
 made_of asked trace found_line requests unit units d whole_costs upper flow lower price prices flows keeps is many units_are found =
     let at_line = subst (λ l. IsFound asked trace l unit units d whole_costs upper flow lower price prices flows keeps) is found in
-    let at_units = subst (λ n. IsFound asked trace (timeline_of asked.terms trace) unit n d whole_costs upper flow lower price prices flows keeps) units_are at_line in
+    let at_units = subst (λ n. IsFound asked trace (timeline_of (marked asked.terms trace.fills) trace.objects) unit n d whole_costs upper flow lower price prices flows keeps) units_are at_line in
     let made = made_at asked trace unit d whole_costs upper flow lower price prices flows keeps at_units in
     subst (λ l. IsMade asked trace price (header_with asked requests unit d (is_unwindowed asked.mode requests && whole_costs) upper flow lower) (records_of prices keeps l.items flows)) (sym is)
-    (subst (λ n. IsMade asked trace price (header_with asked n unit d (is_unwindowed asked.mode n && whole_costs) upper flow lower) (records_of prices keeps (timeline_of asked.terms trace).items flows)) (sym many) made)
+    (subst (λ n. IsMade asked trace price (header_with asked n unit d (is_unwindowed asked.mode n && whole_costs) upper flow lower) (records_of prices keeps (timeline_of (marked asked.terms trace.fills) trace.objects).items flows)) (sym many) made)

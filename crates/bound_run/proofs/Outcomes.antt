@@ -6,7 +6,7 @@ use Rattle.std.proofs.lemmas.Bool.{false≢true}
 use Rattle.std.proofs.lemmas.List.{nil_from_length}
 use Rattle.bound_io.specs.Lines.{stands_in}
 use Rattle.bound_io.specs.Devices.{device, Device, Gets, IsUntouched}
-use Rattle.cache_model.specs.declared.objects.Object.{Object}
+use Rattle.cache_rules.specs.Stored.{Requests as Trail}
 use Rattle.trace_any.specs.declared.fault.TraceFault.{TraceFault as FaultOfTrace}
 use Rattle.trace_any.specs.declared.fault.TraceFault.TheVariants as trace
 use Rattle.trace_any.specs.declared.format.Format.{Format}
@@ -46,7 +46,7 @@ nothing_left None left held end = tt
 nothing_left (Some bytes) left held end = left_nothing held left end
 
 -- what a reader that has read nothing loads is the trace of all that the source had left
-pub loaded_all : (format : Format) (before after : Option (List ℕ)) (faults_before faults_after : ℕ) (requests : List Object) (dropped : ℕ)
+pub loaded_all : (format : Format) (before after : Option (List ℕ)) (faults_before faults_after : ℕ) (requests : Trail) (dropped : ℕ)
     → IfSome (known (fresh format full_limits) before) (λ bytes. IsWhole (to_come (fresh format full_limits) bytes) requests dropped)
     → IfSome (known (fresh format full_limits) before) (λ bytes. after ≡ Some []) → IsLoaded format (device before after faults_before faults_after) requests dropped
 loaded_all format None after faults_before faults_after requests dropped whole end = record { read = tt; nothing_left = tt }
@@ -70,12 +70,12 @@ not_loaded format before after faults_before faults_after trace.NoMemory why = t
 -- ---- bounds
 
 -- the bounds of a trace, once it is loaded
-pub ready_of : (format : Format) (asked : BoundSettings) (d : Device) (requests : List Object) (dropped : ℕ) (cert report : List ℕ)
+pub ready_of : (format : Format) (asked : BoundSettings) (d : Device) (requests : Trail) (dropped : ℕ) (cert report : List ℕ)
     → IsLoaded format d requests dropped → AreTexts asked requests dropped cert report → IsReady format asked d cert report
 ready_of format asked d requests dropped cert report loaded texts = record { requests = requests; dropped = dropped; loaded = loaded; texts = texts }
 
 -- what refuses the bounds of a trace that is loaded
-pub refused_of : (format : Format) (asked : BoundSettings) (d : Device) (requests : List Object) (dropped : ℕ) (fault : BoundsFault)
+pub refused_of : (format : Format) (asked : BoundSettings) (d : Device) (requests : Trail) (dropped : ℕ) (fault : BoundsFault)
     → IsLoaded format d requests dropped → FailsBounds asked requests fault → RefusesBounds format asked d (refusal_of_bounds fault)
 refused_of format asked d requests dropped bounds.Denominator loaded why = record { requests = requests; dropped = dropped; loaded = loaded; refused = why }
 refused_of format asked d requests dropped bounds.NoMemory loaded why = tt
@@ -143,7 +143,7 @@ module _ (format : Format) (source report : Device) where
   loading_refuses_curve why e = e
 
   -- what refuses the curve of a trace that is loaded
-  pub curve_refused : (requests : List Object) (dropped : ℕ) (fault : CurveFault) → IsLoaded format source requests dropped → IsCause requests fault → RefusesCurve format source (refusal_of_curve fault)
+  pub curve_refused : (requests : Trail) (dropped : ℕ) (fault : CurveFault) → IsLoaded format source requests dropped → IsCause requests.objects fault → RefusesCurve format source (refusal_of_curve fault)
   curve_refused requests dropped (curve.Unequal first other) loaded why = record { requests = requests; dropped = dropped; loaded = loaded; clash = why }
   curve_refused requests dropped curve.NoMemory loaded why = tt
 

@@ -5,7 +5,7 @@ use Rattle.std.proofs.lemmas.List.Elements.{All-cons, All-head, All-nil, All-tai
 use Rattle.std.proofs.lemmas.List.Sums.{sum_by-cons}
 use Rattle.std.proofs.Math.Nat.{le_of_mul-le-mul_left, mul-le-mul_right}
 use Rattle.bound_io.specs.Devices.{Device}
-use Rattle.cache_model.specs.declared.objects.Object.{Object}
+use Rattle.cache_rules.specs.Stored.{Requests}
 use Rattle.cache_model.specs.declared.intervals.Interval.{Interval}
 use Rattle.cache_model.specs.declared.certificates.Header.{Header}
 use Rattle.cache_model.specs.declared.certificates.Record.{Record}
@@ -66,19 +66,19 @@ in_range (r ∷ records) (p ∷ prices) each small =
 
 -- ---- the prices
 
-module _ {E : Type 0} (width : ℕ) (trace : List Object) (h : Header) (records : List Record) (valid : IsValid trace h records) where
+module _ {E : Type 0} (width : ℕ) (trace : Requests) (h : Header) (records : List Record) (valid : IsValid trace.objects trace.fills h records) where
   -- prices that are refined for the intervals of the trace refine those of its certificate
-  pub refines_ok : (line : Timeline) (given : List ℕ) (r : Result Refinement E) → line ≡ timeline_of (terms_of h) trace → given ≡ prices_of records
+  pub refines_ok : (line : Timeline) (given : List ℕ) (r : Result Refinement E) → line ≡ timeline_of (terms_of h trace.fills) trace.objects → given ≡ prices_of records
       → IfOk r (λ x. length x.prices ≡ line.steps) → IfOk r (λ x. get_or x.prices (line.steps - 1) 0 ≡ 0) → IfOk r (λ x. units_of h * sum x.prices ≤ 2 ^ 126)
       → IfOk r (λ x. x.upper ≡ bound_of line.items h.unit (units_of h) h.denominator x.prices)
       → IfOk r (λ x. x.upper ≤ bound_of line.items h.unit (units_of h) h.denominator given)
       → IfOk r (λ x. AreSettled line.items h.unit (units_of h) h.denominator width x.prices) → IfOk r (RefinesPrices width trace h)
   refines_ok line given (Err e) is same each last paid upper below settled = tt
   refines_ok line given (Ok x) is same each last paid upper below settled =
-      let steps : line.steps ≡ length trace = ap (λ l. l.steps) is in
-      let items : line.items ≡ eligible_of trace h = ap (λ l. l.items) is in
+      let steps : line.steps ≡ length trace.objects = ap (λ l. l.steps) is in
+      let items : line.items ≡ eligible_of trace.objects trace.fills h = ap (λ l. l.items) is in
       let bound : bound_of line.items h.unit (units_of h) h.denominator given ≡ h.upper
-      = ap (λ xs. bound_of xs h.unit (units_of h) h.denominator given) items ∙ ap (bound_of (eligible_of trace h) h.unit (units_of h) h.denominator) same ∙ sym valid.upper in
+      = ap (λ xs. bound_of xs h.unit (units_of h) h.denominator given) items ∙ ap (bound_of (eligible_of trace.objects trace.fills h) h.unit (units_of h) h.denominator) same ∙ sym valid.upper in
       record {
         each_step = each ∙ steps;
         last = subst (λ n. get_or x.prices (n - 1) 0 ≡ 0) steps last;
@@ -90,7 +90,7 @@ module _ {E : Type 0} (width : ℕ) (trace : List Object) (h : Header) (records 
 
 -- ---- the certificate
 
-module _ (width : ℕ) (trace : List Object) (h : Header) (records : List Record) (valid : IsValid trace h records) (to : Refinement) (refines : RefinesPrices width trace h to) where
+module _ (width : ℕ) (trace : Requests) (h : Header) (records : List Record) (valid : IsValid trace.objects trace.fills h records) (to : Refinement) (refines : RefinesPrices width trace h to) where
   abbrev made : Header
   made = with_upper h to.upper
 
@@ -98,7 +98,7 @@ module _ (width : ℕ) (trace : List Object) (h : Header) (records : List Record
   refined = with_prices records to.prices
 
   abbrev intervals : List Interval
-  intervals = eligible_of trace h
+  intervals = eligible_of trace.objects trace.fills h
 
   each : length to.prices ≡ length records
   each = refines.each_step ∙ sym valid.requests ∙ sym valid.certificate.count
@@ -135,19 +135,19 @@ module _ (width : ℕ) (trace : List Object) (h : Header) (records : List Record
   above_flow : h.flow ≤ to.upper
   above_flow =
       let positive : 0 < h.denominator = omega (arith, valid.certificate.header.denominator.0) in
-      let below : flow_of trace h records ≤ bound_of intervals h.unit (units_of h) h.denominator to.prices
+      let below : flow_of trace.objects trace.fills h records ≤ bound_of intervals h.unit (units_of h) h.denominator to.prices
       = le_of_mul-le-mul_left {k = h.denominator} (flow_value-le intervals h.unit (units_of h) h.denominator h.denominator (flows_of intervals records) to.prices valid.flows) positive in
       omega (arith, valid.flow, refines.upper, below)
 
-  pub still_valid : IsValid trace made refined
+  pub still_valid : IsValid trace.objects trace.fills made refined
   still_valid = record {
     certificate = certificate;
     requests = valid.requests;
     sum_limit = rw priced refines.paid;
     last_price = rw priced refines.last;
     unit = valid.unit;
-    keeps = subst (λ keeps. IsAllowed h.capacity trace (contents_of trace keeps)) (sym kept) valid.keeps;
-    lower = valid.lower ∙ ap (λ keeps. score (terms_of h) trace (contents_of trace keeps)) (sym kept);
+    keeps = subst (λ keeps. IsAllowed h.capacity trace.objects (contents_of trace.objects keeps)) (sym kept) valid.keeps;
+    lower = valid.lower ∙ ap (λ keeps. score (terms_of h trace.fills) trace.objects (contents_of trace.objects keeps)) (sym kept);
     unused_flows = λ t none. ap (λ flows. get_or flows t 0) flowing ∙ valid.unused_flows t none;
     flows = subst (λ flows. IsFractionalSchedule intervals h.unit (units_of h) flows) (sym flows_stay) valid.flows;
     flow = valid.flow ∙ ap (λ flows. flow_value intervals h.unit h.denominator flows) (sym flows_stay);
@@ -163,7 +163,7 @@ module _ (width : ℕ) (trace : List Object) (h : Header) (records : List Record
     header_is = refl;
     records_are = refl;
     valid = still_valid;
-    bounds = valid_bounds trace made refined still_valid;
+    bounds = valid_bounds trace.objects trace.fills made refined still_valid;
     not_greater = refines.not_greater;
     settled = refines.settled;
   }
@@ -175,7 +175,7 @@ module _ (width : ℕ) (trace : List Object) (h : Header) (records : List Record
 -- ---- the run
 
 -- what comes of a certificate that was kept
-pub refined_all : (format : Format) (width : ℕ) (source cert : Device) (requests : List Object) (dropped : ℕ) (h : Header) (records : List Record) (written report : List ℕ)
+pub refined_all : (format : Format) (width : ℕ) (source cert : Device) (requests : Requests) (dropped : ℕ) (h : Header) (records : List Record) (written report : List ℕ)
     → IsRefinable format source cert requests dropped h records → AreRefinedTexts width requests dropped h records written report → IsRefined format width source cert written report
 refined_all format width source cert requests dropped h records written report read texts =
     record { requests = requests; dropped = dropped; header = h; records = records; read = read; texts = texts }

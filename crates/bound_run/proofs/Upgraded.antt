@@ -1,5 +1,5 @@
 -- A certificate that is read, and written in the second version as it is.
-use Rattle.std.proofs.Common.{◌≡◌, ◌∙◌, ℕ, ◌+◌, ◌-◌, ◌≤◌, sym, ap, arith, List, [], ◌∷◌, ◌++◌, append_assoc, append-nil, length, length-append, codes, All, Some, None, IfSome, IfErr, Ok, Err}
+use Rattle.std.proofs.Common.{◌≡◌, ◌∙◌, ℕ, ◌+◌, ◌-◌, ◌≤◌, sym, ap, arith, Bool, List, [], ◌∷◌, ◌++◌, append_assoc, append-nil, length, length-append, codes, All, Some, None, IfSome, IfErr, Ok, Err}
 use Rattle.std.specs.declared.option.Option.{Option}
 use Rattle.std.proofs.lemmas.List.Elements.{All-nil, All-push}
 use Rattle.std.proofs.lemmas.List.Concat.{flat_map-append}
@@ -171,8 +171,8 @@ module _ (before left after : Option (List ℕ)) (x y z : ℕ) (h : Header) (cer
 -- ---- what is upgraded
 
 -- a valid certificate is valid in each version of its text
-as_valid : (trace : List Object) (h : Header) (version : ℕ) (records : List Record) → IsHeaderInRange (record h { version = version }) → IsValid trace h records → IsValid trace (record h { version = version }) records
-as_valid trace h version records range valid = record {
+as_valid : (trace : List Object) (fills : List Bool) (h : Header) (version : ℕ) (records : List Record) → IsHeaderInRange (record h { version = version }) → IsValid trace fills h records → IsValid trace fills (record h { version = version }) records
+as_valid trace fills h version records range valid = record {
   certificate = record { header = range; count = valid.certificate.count; each = valid.certificate.each };
   requests = valid.requests;
   sum_limit = valid.sum_limit;
@@ -202,7 +202,7 @@ upgraded_of source h written report is report_is =
       read = is.read;
       cert_is = is.text;
       report_is = report_is;
-      same_traces = λ trace. (as_valid trace h SHORT_VERSION is.records (upgraded_in_range h range), as_valid trace (upgraded h) h.version is.records range);
+      same_traces = λ trace fills. (as_valid trace fills h SHORT_VERSION is.records (upgraded_in_range h range), as_valid trace fills (upgraded h) h.version is.records range);
     }
 
 -- the same bytes

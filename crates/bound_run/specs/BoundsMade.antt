@@ -1,7 +1,7 @@
 -- What bounds makes of a trace: the certificate and the report.
 use Rattle.std.specs.Prelude.{◌≡◌, ◌↔◌, ℕ, ◌+◌, max, nat_le, ◌<◌, ◌≤◌, Bool, false, IsTrue, List, length, map, slice_index_or, sum, All}
 use Rattle.std.specs.List.{range_with_len}
-use Rattle.cache_model.specs.declared.objects.Object.{Object}
+use Rattle.cache_rules.specs.Stored.{Requests}
 use Rattle.cache_model.specs.declared.intervals.Interval.{Interval}
 use Rattle.cache_model.specs.declared.certificates.Header.{Header}
 use Rattle.cache_model.specs.declared.certificates.Record.{Record}
@@ -10,7 +10,7 @@ use Rattle.bound_report.specs.declared.facts.Mode.TheVariants.{Flow, Constant, I
 use Rattle.bound_report.specs.declared.facts.Window.{Window}
 use Rattle.bound_report.specs.declared.facts.Window.TheVariants.{Steps, All as Whole}
 use Rattle.cache_model.specs.Intervals.{eligible_intervals}
-use Rattle.cache_model.specs.Claim.{is_kept, terms_of, BoundsEveryPolicy}
+use Rattle.cache_model.specs.Claim.{is_kept, marked, terms_of, BoundsEveryPolicy}
 use Rattle.cache_model.specs.Units.{IsUnit, HasWholeCosts}
 use Rattle.cache_model.specs.Certificates.{eligible_of, flows_of, keeps_of, prices_of, units_of, IsValid, IsLeastOverAll}
 use Rattle.cache_model.specs.Rounding.{IsMaximal, IsRounded, by_rank}
@@ -65,34 +65,34 @@ IsBelowWindows Constant line unit units denominator prices bound = Unit {0}
 IsBelowWindows Infinite line unit units denominator prices bound = Unit {0}
 
 -- the bound is at most what the flows earn, and so at most their value and one more for each unit of flow
-pub record IsNear (trace : List Object) (h : Header) (flows : List ℕ) : Type 0 where
-  pub earned : h.upper ≤ total_cost (whole_instance (eligible_of trace h) (length trace) h.unit (units_of h) h.denominator).arcs flows
+pub record IsNear (trace : Requests) (h : Header) (flows : List ℕ) : Type 0 where
+  pub earned : h.upper ≤ total_cost (whole_instance (eligible_of trace.objects trace.fills h) (length trace.objects) h.unit (units_of h) h.denominator).arcs flows
   pub value : h.upper ≤ h.flow + sum flows
 
 -- a valid certificate of the trace as asked for: the greatest unit, the denominator that is chosen, the prices and flows of the mode, and the keeps that are rounded from the full flows
-pub record IsMade (asked : BoundSettings) (trace : List Object) (price : ℕ) (h : Header) (records : List Record) : Type 0 where
-  pub valid : IsValid trace h records
-  pub terms : terms_of h ≡ asked.terms
+pub record IsMade (asked : BoundSettings) (trace : Requests) (price : ℕ) (h : Header) (records : List Record) : Type 0 where
+  pub valid : IsValid trace.objects trace.fills h records
+  pub terms : terms_of h trace.fills ≡ marked asked.terms trace.fills
   pub version : h.version ≡ asked.version
-  pub unit : IsUnit (eligible_of trace h) h.unit
-  pub denominator : IsChosen asked.denominator (eligible_of trace h) h.unit h.denominator
-  pub form : IsTrue h.exact ↔ (IsTrue (is_unwindowed asked.mode (length trace)) × HasWholeCosts (eligible_of trace h) h.unit h.denominator)
-  pub of_mode : IsOfMode asked.mode (timeline_of (terms_of h) trace) h.unit (units_of h) h.denominator
-      (prices_of records) (flows_of (eligible_of trace h) records) price
-  pub least_windows : HasLeastWindows asked.mode (timeline_of (terms_of h) trace) h.unit (units_of h) h.denominator (prices_of records)
-  pub below_windows : IsBelowWindows asked.mode (timeline_of (terms_of h) trace) h.unit (units_of h) h.denominator (prices_of records) h.upper
-  pub rounded : IsRounded by_rank (eligible_of trace h) h.capacity (length trace)
-      (full_flags h.unit (eligible_of trace h) (flows_of (eligible_of trace h) records)) (keeps_of records)
-  pub maximal : IsMaximal (eligible_of trace h) h.capacity (keeps_of records)
-  pub bounds : BoundsEveryPolicy trace h
-  pub least : IsTrue h.exact → IsLeastOverAll trace h records
-  pub near : IsTrue (is_unwindowed asked.mode (length trace)) → IsNear trace h (flows_of (eligible_of trace h) records)
-  pub exact_if_equal : (size : ℕ) → IsTrue (is_unwindowed asked.mode (length trace)) → All (λ i. i.size ≡ size) (eligible_of trace h) → IsTrue h.exact
-  pub equal_sizes : (size : ℕ) → IsTrue (is_unwindowed asked.mode (length trace)) → All (λ i. i.size ≡ size) (eligible_of trace h)
-      → IsBestSchedule (terms_of h) trace h.denominator h.upper (keeps_of records)
+  pub unit : IsUnit (eligible_of trace.objects trace.fills h) h.unit
+  pub denominator : IsChosen asked.denominator (eligible_of trace.objects trace.fills h) h.unit h.denominator
+  pub form : IsTrue h.exact ↔ (IsTrue (is_unwindowed asked.mode (length trace.objects)) × HasWholeCosts (eligible_of trace.objects trace.fills h) h.unit h.denominator)
+  pub of_mode : IsOfMode asked.mode (timeline_of (terms_of h trace.fills) trace.objects) h.unit (units_of h) h.denominator
+      (prices_of records) (flows_of (eligible_of trace.objects trace.fills h) records) price
+  pub least_windows : HasLeastWindows asked.mode (timeline_of (terms_of h trace.fills) trace.objects) h.unit (units_of h) h.denominator (prices_of records)
+  pub below_windows : IsBelowWindows asked.mode (timeline_of (terms_of h trace.fills) trace.objects) h.unit (units_of h) h.denominator (prices_of records) h.upper
+  pub rounded : IsRounded by_rank (eligible_of trace.objects trace.fills h) h.capacity (length trace.objects)
+      (full_flags h.unit (eligible_of trace.objects trace.fills h) (flows_of (eligible_of trace.objects trace.fills h) records)) (keeps_of records)
+  pub maximal : IsMaximal (eligible_of trace.objects trace.fills h) h.capacity (keeps_of records)
+  pub bounds : BoundsEveryPolicy trace.objects trace.fills h
+  pub least : IsTrue h.exact → IsLeastOverAll trace.objects trace.fills h records
+  pub near : IsTrue (is_unwindowed asked.mode (length trace.objects)) → IsNear trace h (flows_of (eligible_of trace.objects trace.fills h) records)
+  pub exact_if_equal : (size : ℕ) → IsTrue (is_unwindowed asked.mode (length trace.objects)) → All (λ i. i.size ≡ size) (eligible_of trace.objects trace.fills h) → IsTrue h.exact
+  pub equal_sizes : (size : ℕ) → IsTrue (is_unwindowed asked.mode (length trace.objects)) → All (λ i. i.size ≡ size) (eligible_of trace.objects trace.fills h)
+      → IsBestSchedule (terms_of h trace.fills) trace.objects h.denominator h.upper (keeps_of records)
 
 -- the certificate and the report are the texts of what is made of the trace
-pub record AreTexts (asked : BoundSettings) (trace : List Object) (dropped : ℕ) (cert report : List ℕ) : Type 0 where
+pub record AreTexts (asked : BoundSettings) (trace : Requests) (dropped : ℕ) (cert report : List ℕ) : Type 0 where
   pub price : ℕ
   pub header : Header
   pub records : List Record
@@ -101,11 +101,11 @@ pub record AreTexts (asked : BoundSettings) (trace : List Object) (dropped : ℕ
   pub report_is : report ≡ bounds_report asked trace dropped price header
 
 -- a denominator that rounds no cost is asked for, and the least one passes 2^48
-pub record RefusesDenominator (asked : BoundSettings) (trace : List Object) : Type 0 where
+pub record RefusesDenominator (asked : BoundSettings) (trace : Requests) : Type 0 where
   pub exact : asked.denominator ≡ Exact
   pub unit : ℕ
-  pub unit_is : IsUnit (eligible_intervals asked.terms trace) unit
-  pub past : PassesMost (eligible_intervals asked.terms trace) unit
+  pub unit_is : IsUnit (eligible_intervals (marked asked.terms trace.fills) trace.objects) unit
+  pub past : PassesMost (eligible_intervals (marked asked.terms trace.fills) trace.objects) unit
 
 -- the record of request t: the price of its step, its keep, and the flow of the interval that starts there
 abbrev pub record_of : List ℕ → List Bool → List Interval → List ℕ → ℕ → Record

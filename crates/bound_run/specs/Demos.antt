@@ -1,6 +1,6 @@
 -- What a demo shows.
 use Rattle.std.specs.Prelude.{◌≡◌, ℕ, List}
-use Rattle.cache_model.specs.declared.objects.Object.{Object}
+use Rattle.cache_rules.specs.Stored.{Requests, all_count}
 use Rattle.cache_model.specs.declared.certificates.Header.{Header}
 use Rattle.cache_model.specs.declared.certificates.Record.{Record}
 use Rattle.policy_model.specs.declared.names.PolicyName.TheVariants.{Lru, Fifo, Clock, Lfu, Belady}
@@ -14,12 +14,12 @@ use Rattle.bound_run.specs.BoundsMade.{IsMade}
 use Rattle.bound_run.specs.Reports.{bounds_report}
 use Rattle.bound_run.specs.Replays.{IsReplay}
 
--- the trace that is drawn
-abbrev pub trace_drawn : DrawSettings → List Object
-trace_drawn drawing = demo_requests drawing.seed drawing.requests drawing.objects
+-- the trace that is drawn, all of whose requests count
+abbrev pub trace_drawn : DrawSettings → Requests
+trace_drawn drawing = all_count (demo_requests drawing.seed drawing.requests drawing.objects)
 
 -- the replays of a trace by each policy, all of whose requests count
-pub record AreReplays (capacity : ℕ) (trace : List Object) (replays : PolicyReplays) : Type 0 where
+pub record AreReplays (capacity : ℕ) (trace : Requests) (replays : PolicyReplays) : Type 0 where
   pub lru : IsReplay Lru capacity 0 trace replays.lru
   pub fifo : IsReplay Fifo capacity 0 trace replays.fifo
   pub clock : IsReplay Clock capacity 0 trace replays.clock

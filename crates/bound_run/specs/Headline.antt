@@ -1,12 +1,12 @@
 -- The headline: what is known of the numbers that a run printed, in the words of the trace and of contents alone.
-use Rattle.std.specs.Prelude.{◌≡◌, ◌↔◌, ℕ, ◌*◌, IsTrue, IfSome, List, length, All, Result, Ok, Err}
+use Rattle.std.specs.Prelude.{◌≡◌, ◌↔◌, ℕ, ◌*◌, IsTrue, IfSome, List, [], length, All, Result, Ok, Err}
 use Rattle.std.specs.Io.KnownBytes.{Appends}
 use Rattle.bound_io.specs.Devices.{Device}
-use Rattle.cache_model.specs.declared.objects.Object.{Object}
+use Rattle.cache_rules.specs.Stored.{Requests}
 use Rattle.cache_model.specs.declared.certificates.Header.{Header}
 use Rattle.cache_model.specs.declared.certificates.Record.{Record}
 use Rattle.cache_model.specs.Certificates.{IsCertificate, IsValid, eligible_of, flow_of, keeps_of, upper_of}
-use Rattle.cache_model.specs.Claim.{IsAllowed, score, terms_of, BoundsEveryPolicy, contents_of}
+use Rattle.cache_model.specs.Claim.{IsAllowed, marked, score, terms_of, BoundsEveryPolicy, contents_of}
 use Rattle.cache_model.specs.Texts.{cert_text}
 use Rattle.cache_model.specs.Units.{HasWholeCosts}
 use Rattle.cert_checker.specs.declared.verdict.Verdict.{Verdict}
@@ -31,28 +31,28 @@ use Rattle.bound_words.specs.declared.settings.Settings.TheVariants.{Bounds, Che
 use Rattle.bound_words.specs.Settings.{settings_of}
 
 -- header and records are a certificate in range, with a record for each request, and its bounds are true of the trace: no allowed contents score more than the upper one, the keeps are allowed contents with the lower one as their score, and in the form exact prices and flows have the upper one as their value
-pub record AreTrueBounds (trace : List Object) (h : Header) (records : List Record) : Type 0 where
+pub record AreTrueBounds (trace : Requests) (h : Header) (records : List Record) : Type 0 where
   pub certificate : IsCertificate h records
-  pub requests : h.requests ≡ length trace
-  pub upper : BoundsEveryPolicy trace h
-  pub schedule : IsAllowed h.capacity trace (contents_of trace (keeps_of records))
-  pub lower : score (terms_of h) trace (contents_of trace (keeps_of records)) ≡ h.lower
-  pub equal_values : IsTrue h.exact → (upper_of trace h records ≡ h.upper) × (flow_of trace h records ≡ h.upper)
+  pub requests : h.requests ≡ length trace.objects
+  pub upper : BoundsEveryPolicy trace.objects trace.fills h
+  pub schedule : IsAllowed h.capacity trace.objects (contents_of trace.objects (keeps_of records))
+  pub lower : score (terms_of h trace.fills) trace.objects (contents_of trace.objects (keeps_of records)) ≡ h.lower
+  pub equal_values : IsTrue h.exact → (upper_of trace.objects trace.fills h records ≡ h.upper) × (flow_of trace.objects trace.fills h records ≡ h.upper)
 
 -- bounds printed and certified true bounds at the capacity, for the objective and from the warm-up on that were asked for. With one window for all steps they have the form exact if no cost is rounded, and if all sizes are equal; in that last case they are one number
-pub record ShowsBounds (asked : BoundSettings) (trace : List Object) (dropped : ℕ) (report made : Device) : Type 0 where
+pub record ShowsBounds (asked : BoundSettings) (trace : Requests) (dropped : ℕ) (report made : Device) : Type 0 where
   pub header : Header
   pub records : List Record
   pub price : ℕ
   pub printed : Appends report.before report.after (bounds_report asked trace dropped price header)
   pub certified : Appends made.before made.after (cert_text header records)
-  pub terms : terms_of header ≡ asked.terms
+  pub terms : terms_of header trace.fills ≡ marked asked.terms trace.fills
   pub bounds : AreTrueBounds trace header records
-  pub exact : IsTrue header.exact ↔ (IsTrue (is_unwindowed asked.mode (length trace)) × HasWholeCosts (eligible_of trace header) header.unit header.denominator)
-  pub equal_sizes : (size : ℕ) → IsTrue (is_unwindowed asked.mode (length trace)) → All (λ i. i.size ≡ size) (eligible_of trace header) → IsTrue header.exact × (header.upper ≡ header.denominator * header.lower)
+  pub exact : IsTrue header.exact ↔ (IsTrue (is_unwindowed asked.mode (length trace.objects)) × HasWholeCosts (eligible_of trace.objects trace.fills header) header.unit header.denominator)
+  pub equal_sizes : (size : ℕ) → IsTrue (is_unwindowed asked.mode (length trace.objects)) → All (λ i. i.size ≡ size) (eligible_of trace.objects trace.fills header) → IsTrue header.exact × (header.upper ≡ header.denominator * header.lower)
 
 -- a check printed what the certificate states, which is the text of true bounds, whatever bytes it was given
-pub record ShowsCheck (trace : List Object) (dropped : ℕ) (cert report : Device) : Type 0 where
+pub record ShowsCheck (trace : Requests) (dropped : ℕ) (cert report : Device) : Type 0 where
   pub verdict : Verdict
   pub records : List Record
   pub printed : Appends report.before report.after (verdict_report verdict dropped)
@@ -60,13 +60,13 @@ pub record ShowsCheck (trace : List Object) (dropped : ℕ) (cert report : Devic
   pub bounds : AreTrueBounds trace verdict.header records
 
 -- a replay printed the hits of its rule's run, which no valid certificate of its capacity and no longer warm-up is below
-pub record ShowsReplay (r : ReplaySettings) (trace : List Object) (dropped : ℕ) (report : Device) : Type 0 where
+pub record ShowsReplay (r : ReplaySettings) (trace : Requests) (dropped : ℕ) (report : Device) : Type 0 where
   pub text : List ℕ
   pub printed : Appends report.before report.after text
   pub replay : IsReplayText r trace dropped text
 
 -- a curve printed LRU's hits at every number of slots
-pub record ShowsCurve (trace : List Object) (dropped : ℕ) (report : Device) : Type 0 where
+pub record ShowsCurve (trace : Requests) (dropped : ℕ) (report : Device) : Type 0 where
   pub text : List ℕ
   pub printed : Appends report.before report.after text
   pub curve : IsCurveText trace dropped text
@@ -78,10 +78,10 @@ pub record ShowsDemo (drawing : DrawSettings) (asked : BoundSettings) (report : 
   pub price : ℕ
   pub replays : PolicyReplays
   pub printed : Appends report.before report.after (demo_text (demo_facts drawing asked) (bounds_report asked (trace_drawn drawing) 0 price header) replays)
-  pub terms : terms_of header ≡ asked.terms
+  pub terms : terms_of header [] ≡ marked asked.terms []
   pub bounds : AreTrueBounds (trace_drawn drawing) header records
-  pub exact : IsTrue header.exact ↔ (IsTrue (is_unwindowed asked.mode (length (trace_drawn drawing))) × HasWholeCosts (eligible_of (trace_drawn drawing) header) header.unit header.denominator)
-  pub equal_sizes : (size : ℕ) → IsTrue (is_unwindowed asked.mode (length (trace_drawn drawing))) → All (λ i. i.size ≡ size) (eligible_of (trace_drawn drawing) header) → IsTrue header.exact × (header.upper ≡ header.denominator * header.lower)
+  pub exact : IsTrue header.exact ↔ (IsTrue (is_unwindowed asked.mode (length (trace_drawn drawing).objects)) × HasWholeCosts (eligible_of (trace_drawn drawing).objects (trace_drawn drawing).fills header) header.unit header.denominator)
+  pub equal_sizes : (size : ℕ) → IsTrue (is_unwindowed asked.mode (length (trace_drawn drawing).objects)) → All (λ i. i.size ≡ size) (eligible_of (trace_drawn drawing).objects (trace_drawn drawing).fills header) → IsTrue header.exact × (header.upper ≡ header.denominator * header.lower)
   pub replayed : AreReplays asked.terms.capacity (trace_drawn drawing) replays
 
 -- an upgrade wrote the certificate that it read in the second version
@@ -93,13 +93,13 @@ pub record ShowsUpgrade (source report made : Device) : Type 0 where
   pub upgraded : IsUpgraded source cert text
 
 -- a refinement printed true bounds, whose upper one is no greater than that of the certificate that was read, and certified them
-pub record ShowsRefinement (width : ℕ) (trace : List Object) (dropped : ℕ) (cert report made : Device) : Type 0 where
+pub record ShowsRefinement (width : ℕ) (trace : Requests) (dropped : ℕ) (cert report made : Device) : Type 0 where
   pub header : Header
   pub records : List Record
   pub refined : Header
   pub refined_records : List Record
   pub read : IfSome cert.before (λ text. text ≡ cert_text header records)
-  pub valid : IsValid trace header records
+  pub valid : IsValid trace.objects trace.fills header records
   pub certified : Appends made.before made.after (cert_text refined refined_records)
   pub printed : Appends report.before report.after (refined_report header.upper (verdict_on trace refined) dropped)
   pub refinement : IsRefinement width trace header records refined refined_records
@@ -107,13 +107,13 @@ pub record ShowsRefinement (width : ℕ) (trace : List Object) (dropped : ℕ) (
 
 -- all that the trace source had left was read, or a trace was drawn, and the numbers that were printed are true of it
 abbrev pub Shows : Settings → Devices → Type 0
-Shows (Bounds format asked) d = (trace : List Object) × (dropped : ℕ) × IsLoaded format d.trace trace dropped × ShowsBounds asked trace dropped d.report d.made
-Shows (Check format) d = (trace : List Object) × (dropped : ℕ) × IsLoaded format d.trace trace dropped × ShowsCheck trace dropped d.cert d.report
-Shows (Replay format r) d = (trace : List Object) × (dropped : ℕ) × IsLoaded format d.trace trace dropped × ShowsReplay r trace dropped d.report
-Shows (Curve format) d = (trace : List Object) × (dropped : ℕ) × IsLoaded format d.trace trace dropped × ShowsCurve trace dropped d.report
+Shows (Bounds format asked) d = (trace : Requests) × (dropped : ℕ) × IsLoaded format d.trace trace dropped × ShowsBounds asked trace dropped d.report d.made
+Shows (Check format) d = (trace : Requests) × (dropped : ℕ) × IsLoaded format d.trace trace dropped × ShowsCheck trace dropped d.cert d.report
+Shows (Replay format r) d = (trace : Requests) × (dropped : ℕ) × IsLoaded format d.trace trace dropped × ShowsReplay r trace dropped d.report
+Shows (Curve format) d = (trace : Requests) × (dropped : ℕ) × IsLoaded format d.trace trace dropped × ShowsCurve trace dropped d.report
 Shows (Demo drawing asked) d = ShowsDemo drawing asked d.report
 Shows Upgrade d = ShowsUpgrade d.cert d.report d.made
-Shows (Refine format width) d = (trace : List Object) × (dropped : ℕ) × IsLoaded format d.trace trace dropped × ShowsRefinement width trace dropped d.cert d.report d.made
+Shows (Refine format width) d = (trace : Requests) × (dropped : ℕ) × IsLoaded format d.trace trace dropped × ShowsRefinement width trace dropped d.cert d.report d.made
 
 -- Whatever trace is read and whatever the capacity, no allowed sequence of cache contents scores more than the printed
 -- upper bound, the certified schedule is allowed and scores exactly the lower bound, exact-form prices and flows have

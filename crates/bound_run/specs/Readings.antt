@@ -2,7 +2,7 @@
 use Rattle.std.specs.Prelude.{◌≡◌, ℕ, IsTrue, List, [], length, Some, None, IfSome}
 use Rattle.std.specs.declared.option.Option.{Option}
 use Rattle.bound_io.specs.Devices.{Device}
-use Rattle.cache_model.specs.declared.objects.Object.{Object}
+use Rattle.cache_rules.specs.Stored.{Requests}
 use Rattle.cache_model.specs.declared.certificates.Header.{Header}
 use Rattle.cache_model.specs.declared.certificates.Record.{Record}
 use Rattle.cache_model.specs.Claim.{BoundsEveryPolicy}
@@ -11,7 +11,7 @@ use Rattle.cache_model.specs.Objects.{objects_of}
 use Rattle.cache_model.specs.Texts.{cert_text}
 use Rattle.trace_any.specs.declared.fault.TraceFault.{TraceFault as FaultOfTrace}
 use Rattle.trace_any.specs.declared.format.Format.{Format}
-use Rattle.trace_any.specs.Readings.{reading, full_limits}
+use Rattle.trace_any.specs.Readings.{Reading, reading, full_limits}
 use Rattle.trace_any.specs.Readers.{IsWhole}
 use Rattle.cert_checker.specs.declared.verdict.Verdict.{Verdict}
 use Rattle.cert_checker.specs.Walks.{Event, walk}
@@ -23,8 +23,12 @@ use Rattle.bound_run.specs.BoundsMade.{AreTexts, RefusesDenominator}
 use Rattle.bound_run.specs.Replays.{IsReplayText}
 use Rattle.bound_run.specs.Reports.{verdict_report}
 
+-- the requests of a reading, with their marks
+abbrev pub trace_in : Reading → Requests
+trace_in r = record { objects = r.requests; fills = r.fills }
+
 -- all that the source had left was read, and is a trace of these requests and this many dropped lines, if its bytes are known
-pub record IsLoaded (format : Format) (source : Device) (requests : List Object) (dropped : ℕ) : Type 0 where
+pub record IsLoaded (format : Format) (source : Device) (requests : Requests) (dropped : ℕ) : Type 0 where
   pub read : IfSome source.before (λ bytes. IsWhole (reading format full_limits bytes) requests dropped)
   pub nothing_left : IfSome source.before (λ bytes. source.after ≡ Some [])
 
@@ -34,35 +38,35 @@ IsRefused format source fault = IfSome source.before (λ bytes. (reading format 
 
 -- the certificate and the report of all that the source had left
 pub record IsReady (format : Format) (asked : BoundSettings) (source : Device) (cert report : List ℕ) : Type 0 where
-  pub requests : List Object
+  pub requests : Requests
   pub dropped : ℕ
   pub loaded : IsLoaded format source requests dropped
   pub texts : AreTexts asked requests dropped cert report
 
 -- the report of the replay of all that the source had left
 pub record IsReplayed (format : Format) (r : ReplaySettings) (source : Device) (text : List ℕ) : Type 0 where
-  pub requests : List Object
+  pub requests : Requests
   pub dropped : ℕ
   pub loaded : IsLoaded format source requests dropped
   pub report : IsReplayText r requests dropped text
 
 -- the report of the curve of all that the source had left
 pub record IsCurved (format : Format) (source : Device) (text : List ℕ) : Type 0 where
-  pub requests : List Object
+  pub requests : Requests
   pub dropped : ℕ
   pub loaded : IsLoaded format source requests dropped
   pub report : IsCurveText requests dropped text
 
 -- all that the source had left was read, and two objects of it differ in size
 pub record IsUnequal (format : Format) (source : Device) (first other : ℕ) : Type 0 where
-  pub requests : List Object
+  pub requests : Requests
   pub dropped : ℕ
   pub loaded : IsLoaded format source requests dropped
-  pub clash : IsClash requests first other
+  pub clash : IsClash requests.objects first other
 
 -- all that the source had left was read, and the denominator that is asked for passes its limit
 pub record IsPastDenominator (format : Format) (asked : BoundSettings) (source : Device) : Type 0 where
-  pub requests : List Object
+  pub requests : Requests
   pub dropped : ℕ
   pub loaded : IsLoaded format source requests dropped
   pub refused : RefusesDenominator asked requests
@@ -74,13 +78,13 @@ IsFirstEvent format trace cert event =
 
 -- a yes: all that the sources had left is a trace and the text of a valid certificate of it, so no policy scores more than its upper bound, and in the form exact no prices have a smaller one
 pub record IsAccepted (format : Format) (trace cert : Device) (verdict : Verdict) (dropped : ℕ) : Type 0 where
-  pub requests : List Object
+  pub requests : Requests
   pub records : List Record
   pub loaded : IsLoaded format trace requests dropped
-  pub objects : verdict.objects ≡ length (objects_of requests)
-  pub valid : IsValid requests verdict.header records
-  pub bounds : BoundsEveryPolicy requests verdict.header
-  pub least : IsTrue verdict.header.exact → IsLeastOverAll requests verdict.header records
+  pub objects : verdict.objects ≡ length (objects_of requests.objects)
+  pub valid : IsValid requests.objects requests.fills verdict.header records
+  pub bounds : BoundsEveryPolicy requests.objects requests.fills verdict.header
+  pub least : IsTrue verdict.header.exact → IsLeastOverAll requests.objects requests.fills verdict.header records
   pub text : IfSome cert.before (λ text. text ≡ cert_text verdict.header records)
   pub nothing_left : IfSome cert.before (λ text. cert.after ≡ Some [])
 
@@ -96,7 +100,7 @@ pub record IsCertified (format : Format) (bytes text : List ℕ) : Type 0 where
   pub header : Header
   pub records : List Record
   pub text_is : text ≡ cert_text header records
-  pub valid : IsValid (reading format full_limits bytes).requests header records
+  pub valid : IsValid (reading format full_limits bytes).requests (reading format full_limits bytes).fills header records
 
 -- the bytes are known, and are a trace within the limits
 abbrev pub IsGoodTrace : Format → Option (List ℕ) → Type 0
@@ -106,4 +110,4 @@ IsGoodTrace format (Some bytes) = (reading format full_limits bytes).refused ≡
 -- the trace has no denominator that is refused
 abbrev pub HasDenominator : Format → BoundSettings → Option (List ℕ) → Type 0
 HasDenominator format asked None = ⊥
-HasDenominator format asked (Some bytes) = ¬ (RefusesDenominator asked (reading format full_limits bytes).requests)
+HasDenominator format asked (Some bytes) = ¬ (RefusesDenominator asked (trace_in (reading format full_limits bytes)))

@@ -1,7 +1,7 @@
 -- What a refinement makes of a certificate.
 use Rattle.std.specs.Prelude.{◌≡◌, ℕ, ◌-◌, ◌*◌, ◌^◌, ◌≤◌, List, [], length, map, slice_index_or, sum, zip, Some, IfSome}
 use Rattle.bound_io.specs.Devices.{Device}
-use Rattle.cache_model.specs.declared.objects.Object.{Object}
+use Rattle.cache_rules.specs.Stored.{Requests}
 use Rattle.cache_model.specs.declared.certificates.Header.{Header}
 use Rattle.cache_model.specs.declared.certificates.Record.{Record}
 use Rattle.cache_model.specs.Certificates.{eligible_of, units_of, IsValid}
@@ -30,31 +30,31 @@ abbrev pub with_prices : List Record → List ℕ → List Record
 with_prices records prices = map (λ (r, price). with_price r price) (zip records prices)
 
 -- prices for the certificate of a trace, with their bound: no greater than that of the certificate, and settled for the blocks of the width
-pub record RefinesPrices (width : ℕ) (trace : List Object) (h : Header) (refinement : Refinement) : Type 0 where
-  pub each_step : length refinement.prices ≡ length trace
-  pub last : slice_index_or refinement.prices (length trace - 1) 0 ≡ 0
+pub record RefinesPrices (width : ℕ) (trace : Requests) (h : Header) (refinement : Refinement) : Type 0 where
+  pub each_step : length refinement.prices ≡ length trace.objects
+  pub last : slice_index_or refinement.prices (length trace.objects - 1) 0 ≡ 0
   pub paid : units_of h * sum refinement.prices ≤ 2 ^ 126
-  pub upper : refinement.upper ≡ bound_of (eligible_of trace h) h.unit (units_of h) h.denominator refinement.prices
+  pub upper : refinement.upper ≡ bound_of (eligible_of trace.objects trace.fills h) h.unit (units_of h) h.denominator refinement.prices
   pub not_greater : refinement.upper ≤ h.upper
-  pub settled : AreSettled (eligible_of trace h) h.unit (units_of h) h.denominator width refinement.prices
+  pub settled : AreSettled (eligible_of trace.objects trace.fills h) h.unit (units_of h) h.denominator width refinement.prices
 
 -- a valid certificate that differs from the one that was read in its upper bound and its prices at most; the bound is no greater, and the prices are settled for the blocks of the width
-pub record IsRefinement (width : ℕ) (trace : List Object) (h : Header) (records : List Record) (made : Header) (refined : List Record) : Type 0 where
+pub record IsRefinement (width : ℕ) (trace : Requests) (h : Header) (records : List Record) (made : Header) (refined : List Record) : Type 0 where
   pub prices : List ℕ
   pub each_step : length prices ≡ length records
   pub header_is : made ≡ with_upper h made.upper
   pub records_are : refined ≡ with_prices records prices
-  pub valid : IsValid trace made refined
-  pub bounds : BoundsEveryPolicy trace made
+  pub valid : IsValid trace.objects trace.fills made refined
+  pub bounds : BoundsEveryPolicy trace.objects trace.fills made
   pub not_greater : made.upper ≤ h.upper
-  pub settled : AreSettled (eligible_of trace h) h.unit (units_of h) h.denominator width prices
+  pub settled : AreSettled (eligible_of trace.objects trace.fills h) h.unit (units_of h) h.denominator width prices
 
 -- the yes that a check says of the certificate for the trace
-abbrev pub verdict_on : List Object → Header → Verdict
-verdict_on trace h = record { header = h; objects = length (objects_of trace) }
+abbrev pub verdict_on : Requests → Header → Verdict
+verdict_on trace h = record { header = h; objects = length (objects_of trace.objects) }
 
 -- the certificate and the report are the texts of a refinement of the certificate that was read
-pub record AreRefinedTexts (width : ℕ) (trace : List Object) (dropped : ℕ) (h : Header) (records : List Record) (cert report : List ℕ) : Type 0 where
+pub record AreRefinedTexts (width : ℕ) (trace : Requests) (dropped : ℕ) (h : Header) (records : List Record) (cert report : List ℕ) : Type 0 where
   pub made : Header
   pub refined : List Record
   pub refinement : IsRefinement width trace h records made refined
@@ -62,16 +62,16 @@ pub record AreRefinedTexts (width : ℕ) (trace : List Object) (dropped : ℕ) (
   pub report_is : report ≡ refined_report h.upper (verdict_on trace made) dropped
 
 -- all that the two sources had left was read, a trace and the text of a valid certificate of it, if their bytes are known
-pub record IsRefinable (format : Format) (source cert : Device) (trace : List Object) (dropped : ℕ)
+pub record IsRefinable (format : Format) (source cert : Device) (trace : Requests) (dropped : ℕ)
     (h : Header) (records : List Record) : Type 0 where
   pub loaded : IsLoaded format source trace dropped
-  pub valid : IsValid trace h records
+  pub valid : IsValid trace.objects trace.fills h records
   pub text : IfSome cert.before (λ text. text ≡ cert_text h records)
   pub nothing_left : IfSome cert.before (λ text. cert.after ≡ Some [])
 
 -- the certificate and the report of a refinement of all that the sources had left
 pub record IsRefined (format : Format) (width : ℕ) (source cert : Device) (made report : List ℕ) : Type 0 where
-  pub requests : List Object
+  pub requests : Requests
   pub dropped : ℕ
   pub header : Header
   pub records : List Record

@@ -1,6 +1,6 @@
 -- What a replay of a trace shows.
-use Rattle.std.specs.Prelude.{◌≡◌, ℕ, ◌*◌, ◌/◌, ◌≤◌, List, length}
-use Rattle.cache_model.specs.declared.objects.Object.{Object}
+use Rattle.std.specs.Prelude.{◌≡◌, ℕ, ◌*◌, ◌/◌, ◌≤◌, List, [], length}
+use Rattle.cache_rules.specs.Stored.{Requests}
 use Rattle.cache_model.specs.declared.objects.Objective.{Objective}
 use Rattle.cache_model.specs.declared.objects.Objective.TheVariants.{Object as Hits, Bytes}
 use Rattle.cache_model.specs.declared.certificates.Header.{Header}
@@ -28,26 +28,26 @@ pub record IsUnder (h : Header) (earned : ℕ) : Type 0 where
   pub floor : earned ≤ h.upper / h.denominator
 
 -- each certificate that is valid for the trace, of this capacity and no longer warm-up, bounds the hits, or the bytes, by its objective
-abbrev pub IsWithinBounds : ℕ → ℕ → List Object → ℕ → ℕ → Type 0
+abbrev pub IsWithinBounds : ℕ → ℕ → Requests → ℕ → ℕ → Type 0
 IsWithinBounds capacity warmup trace hits bytes =
-    (h : Header) (records : List Record) → IsValid trace h records → h.capacity ≡ capacity → h.warmup ≤ warmup
+    (h : Header) (records : List Record) → IsValid trace.objects trace.fills h records → h.capacity ≡ capacity → h.warmup ≤ warmup
     → IsUnder h (earned_by h.objective hits bytes)
 
 -- the counts are those of the rule's run; no valid certificate is below them; and those of Belady's rule are the greatest scores if all that fits has one size and every request counts
-pub record IsReplay (policy : PolicyName) (capacity warmup : ℕ) (trace : List Object) (replay : Replay) : Type 0 where
-  pub hits : replay.hits ≡ (policy_run policy trace capacity warmup).hits
-  pub bytes : replay.bytes ≡ (policy_run policy trace capacity warmup).bytes
+pub record IsReplay (policy : PolicyName) (capacity warmup : ℕ) (trace : Requests) (replay : Replay) : Type 0 where
+  pub hits : replay.hits ≡ (policy_run policy trace.objects capacity warmup trace.fills).hits
+  pub bytes : replay.bytes ≡ (policy_run policy trace.objects capacity warmup trace.fills).bytes
   pub bounded : IsWithinBounds capacity warmup trace replay.hits replay.bytes
-  pub best : policy ≡ Belady → warmup ≡ 0 → HaveOneSize capacity trace → IsBest capacity trace replay.hits replay.bytes
+  pub best : policy ≡ Belady → warmup ≡ 0 → trace.fills ≡ [] → HaveOneSize capacity trace.objects → IsBest capacity trace.objects replay.hits replay.bytes
 
 -- what the report of a replay states
-abbrev pub replay_facts : ReplaySettings → List Object → ℕ → Replay → ReplayFacts
+abbrev pub replay_facts : ReplaySettings → Requests → ℕ → Replay → ReplayFacts
 replay_facts r trace dropped replay =
-    let objects = length (objects_of trace) in
-    record { requests = length trace; objects = objects; dropped = dropped; policy = r.policy; capacity = r.capacity; replay = replay }
+    let objects = length (objects_of trace.objects) in
+    record { requests = length trace.objects; objects = objects; dropped = dropped; policy = r.policy; capacity = r.capacity; replay = replay }
 
 -- the text is the report of the replay that is asked for
-pub record IsReplayText (r : ReplaySettings) (trace : List Object) (dropped : ℕ) (text : List ℕ) : Type 0 where
+pub record IsReplayText (r : ReplaySettings) (trace : Requests) (dropped : ℕ) (text : List ℕ) : Type 0 where
   pub replay : Replay
   pub is_replay : IsReplay r.policy r.capacity r.warmup trace replay
   pub text_is : text ≡ with_warmup r.warmup (replay_text (replay_facts r trace dropped replay))

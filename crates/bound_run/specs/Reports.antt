@@ -1,6 +1,6 @@
 -- The reports on a header: their lines, and the warm-up if there is one.
 use Rattle.std.specs.Prelude.{ℕ, List, length}
-use Rattle.cache_model.specs.declared.objects.Object.{Object}
+use Rattle.cache_rules.specs.Stored.{Requests}
 use Rattle.cache_model.specs.declared.certificates.Header.{Header}
 use Rattle.cache_model.specs.Certificates.{eligible_of}
 use Rattle.cache_model.specs.Objects.{objects_of}
@@ -13,12 +13,12 @@ use Rattle.cert_checker.specs.declared.verdict.Verdict.{Verdict}
 use Rattle.bound_words.specs.declared.settings.BoundSettings.{BoundSettings}
 
 -- what the report of bounds states beside the header
-abbrev pub facts_of : BoundSettings → List Object → ℕ → ℕ → Header → BoundFacts
+abbrev pub facts_of : BoundSettings → Requests → ℕ → ℕ → Header → BoundFacts
 facts_of asked trace dropped price h =
-    record { header = h; objects = length (objects_of trace); dropped = dropped; mode = asked.mode; price = price; intervals = length (eligible_of trace h) }
+    record { header = h; objects = length (objects_of trace.objects); dropped = dropped; mode = asked.mode; price = price; intervals = length (eligible_of trace.objects trace.fills h) }
 
 -- the report of bounds
-abbrev pub bounds_report : BoundSettings → List Object → ℕ → ℕ → Header → List ℕ
+abbrev pub bounds_report : BoundSettings → Requests → ℕ → ℕ → Header → List ℕ
 bounds_report asked trace dropped price h = with_warmup h.warmup (report_text (facts_of asked trace dropped price h))
 
 -- the report of a yes

@@ -1,5 +1,5 @@
 -- What an upgrade makes of a certificate.
-use Rattle.std.specs.Prelude.{◌≡◌, ◌↔◌, ℕ, ◌+◌, ◌≤◌, List, [], length, None, Some, IfSome}
+use Rattle.std.specs.Prelude.{◌≡◌, ◌↔◌, ℕ, ◌+◌, ◌≤◌, Bool, List, [], length, None, Some, IfSome}
 use Rattle.std.specs.declared.option.Option.{Option}
 use Rattle.bound_io.specs.Devices.{Device}
 use Rattle.cache_model.specs.declared.objects.Object.{Object}
@@ -34,7 +34,7 @@ pub record IsUpgraded (source : Device) (cert report : List ℕ) : Type 0 where
   pub read : IsRead source header records
   pub cert_is : cert ≡ cert_text (upgraded header) records
   pub report_is : report ≡ upgrade_text header.requests
-  pub same_traces : (trace : List Object) → IsValid trace header records ↔ IsValid trace (upgraded header) records
+  pub same_traces : (trace : List Object) (fills : List Bool) → IsValid trace fills header records ↔ IsValid trace fills (upgraded header) records
 
 -- the source has lost at most the bytes through this line of a certificate and a buffer of bytes more, if they are known
 abbrev pub IsNearLineOf : ℕ → Device → Type 0

@@ -2,7 +2,7 @@
 ghost use Rattle.std.specs.Prelude.{◌≡◌, ◌≤◌, ◌<◌, ◌^◌, length, All, IfOk, IfErr, IsTrue, ◌↔◌, ◌&&◌};
 ghost use Rattle.cache_model.specs.Certificates.{eligible_of};
 ghost use Rattle.cache_model.specs.Units.{HasWholeCosts, IsUnit};
-ghost use Rattle.cache_model.specs.Claim.{IsAllowed, score, contents_of};
+ghost use Rattle.cache_model.specs.Claim.{IsAllowed, marked, score, contents_of};
 ghost use Rattle.cache_model.specs.Rounding.{FitTogether, IsMaximal, IsRounded, by_rank};
 ghost use Rattle.interval_maker.specs.Timelines.{IsTimeline, starting_at, timeline_of};
 ghost use Rattle.relaxation.specs.Denominators.{IsChosen};
@@ -67,7 +67,7 @@ pub(crate) fn intervals_of(
     terms: Terms,
     trace: &Trace,
 ) -> Result<Intervals, NoMemory>
-    ensures intervals { IfOk result (λ made. made ≡ timeline_of terms trace.now) }
+    ensures intervals { IfOk result (λ made. made ≡ timeline_of (marked terms trace.now.fills) trace.now.objects) }
     ensures timeline { IfOk result IsTimeline }
     ensures fit { IfOk result (λ made. All (λ i. i.size ≤ terms.capacity) made.items) }
 {
@@ -82,13 +82,13 @@ fn schedule_of(
     intervals: &Intervals,
     full: &[bool],
 ) -> Result<Schedule, NoMemory>
-    requires intervals { intervals.now ≡ timeline_of terms trace.now }
+    requires intervals { intervals.now ≡ timeline_of (marked terms trace.now.fills) trace.now.objects }
     requires fit { All (λ i. i.size ≤ terms.capacity) intervals.now.items }
     requires flags { FitTogether intervals.now.items terms.capacity full.now }
-    ensures rounded { IfOk result (λ s. IsRounded by_rank intervals.now.items terms.capacity (length trace.now) full.now s.keeps) }
+    ensures rounded { IfOk result (λ s. IsRounded by_rank intervals.now.items terms.capacity (length trace.now.objects) full.now s.keeps) }
     ensures maximal { IfOk result (λ s. IsMaximal intervals.now.items terms.capacity s.keeps) }
-    ensures allowed { IfOk result (λ s. IsAllowed terms.capacity trace.now (contents_of trace.now s.keeps)) }
-    ensures lower { IfOk result (λ s. s.lower ≡ score terms trace.now (contents_of trace.now s.keeps)) }
+    ensures allowed { IfOk result (λ s. IsAllowed terms.capacity trace.now.objects (contents_of trace.now.objects s.keeps)) }
+    ensures lower { IfOk result (λ s. s.lower ≡ score (marked terms trace.now.fills) trace.now.objects (contents_of trace.now.objects s.keeps)) }
 {
     let keeps = schedule_round::round(alloc, intervals, terms.capacity, full)?;
     let lower = score_of_fitting(trace, terms, keeps.as_slice());
@@ -102,7 +102,7 @@ fn denominator_of(
     intervals: &Intervals,
     unit: u64,
 ) -> Result<Denominator, BoundsFault>
-    requires intervals { intervals.now ≡ timeline_of asked.now.terms trace.now }
+    requires intervals { intervals.now ≡ timeline_of (marked asked.now.terms trace.now.fills) trace.now.objects }
     requires unit { IsUnit intervals.now.items unit }
     requires positive { 1 ≤ unit }
     ensures chosen { IfOk result (λ d. IsChosen asked.now.denominator intervals.now.items unit d.value) }
@@ -140,12 +140,12 @@ fn parts_of(
     trace: &Trace,
     intervals: &Intervals,
 ) -> Result<(Header, Relaxed, Keeps), BoundsFault>
-    requires intervals { intervals.now ≡ timeline_of asked.now.terms trace.now }
+    requires intervals { intervals.now ≡ timeline_of (marked asked.now.terms trace.now.fills) trace.now.objects }
     requires timeline { IsTimeline intervals.now }
     requires fit { All (λ i. i.size ≤ asked.now.terms.capacity) intervals.now.items }
     ensures made { IfOk result (λ p. IsMade asked.now trace.now p.1.price p.0
         (records_of p.1.solution.prices p.2 intervals.now.items p.1.solution.flows)) }
-    ensures intervals { IfOk result (λ p. intervals.now.items ≡ eligible_of trace.now p.0) }
+    ensures intervals { IfOk result (λ p. intervals.now.items ≡ eligible_of trace.now.objects trace.now.fills p.0) }
     ensures each { IfOk result (λ p. HasEach (record { header = p.0; relaxed = p.1; keeps = p.2; intervals = intervals.now })) }
     ensures refused { IfErr result (FailsBounds asked.now trace.now) }
 {
@@ -180,7 +180,7 @@ fn parts_of(
 // The certificate of a trace, in parts.
 fn bounds_of(alloc: Global, asked: &BoundSettings, trace: &Trace) -> Result<Bounds, BoundsFault>
     ensures made { IfOk result (λ b. IsMade asked.now trace.now b.relaxed.price b.header (records_in b)) }
-    ensures intervals { IfOk result (λ b. b.intervals.items ≡ eligible_of trace.now b.header) }
+    ensures intervals { IfOk result (λ b. b.intervals.items ≡ eligible_of trace.now.objects trace.now.fills b.header) }
     ensures each { IfOk result HasEach }
     ensures refused { IfErr result (FailsBounds asked.now trace.now) }
 {
@@ -231,7 +231,7 @@ fn texts_with(
     bounds: &Bounds,
 ) -> Result<Texts, NoMemory>
     requires made { IsMade asked.now trace.now bounds.now.relaxed.price bounds.now.header (records_in bounds.now) }
-    requires intervals { bounds.now.intervals.items ≡ eligible_of trace.now bounds.now.header }
+    requires intervals { bounds.now.intervals.items ≡ eligible_of trace.now.objects trace.now.fills bounds.now.header }
     requires each { HasEach bounds.now }
     ensures { IfOk result (λ texts. AreTexts asked.now trace.now dropped texts.cert.items texts.report.items) }
 {

@@ -16,7 +16,7 @@ pub(crate) fn curve_report(
     dropped: u64,
 ) -> Result<Vec<u8>, CurveFault>
     ensures report { IfOk result (λ text. IsCurveText trace.now dropped text.items) }
-    ensures cause { IfErr result (IsCause trace.now) }
+    ensures cause { IfErr result (IsCause trace.now.objects) }
 {
     let curve = curve(alloc, trace)?;
     let facts = CurveFacts {

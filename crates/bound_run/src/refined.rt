@@ -2,7 +2,6 @@
 ghost use Rattle.std.specs.Prelude.{◌≡◌, ◌≤◌, IfOk, IfErr};
 ghost use Rattle.bound_io.specs.Devices.{seen};
 ghost use Rattle.bound_io.specs.Reading.{LosesPrefix};
-ghost use Rattle.cache_model.specs.Claim.{terms_of};
 ghost use Rattle.cache_model.specs.Certificates.{IsValid, prices_of};
 ghost use Rattle.trace_any.specs.Readings.{IsFormat};
 ghost use Rattle.bound_run.specs.Refusals.{RefusesCheck};
@@ -24,7 +23,7 @@ use trace_any::Format;
 
 // The terms of a certificate.
 fn terms_of(header: &Header) -> Terms
-    ensures { result ≡ terms_of header.now }
+    ensures { result ≡ record { objective = header.now.objective; capacity = header.now.capacity; warmup = header.now.warmup } }
 {
     Terms {
         objective: header.objective,
@@ -42,7 +41,7 @@ fn prices_of(alloc: Global, records: &[Record]) -> Result<Vec<u128>, NoMemory>
 
 // Refined prices of a certificate that is valid for the trace.
 fn refine_kept(alloc: Global, kept: &Kept, width: u32) -> Result<Refined, NoMemory>
-    requires valid { IsValid kept.now.trace kept.now.verdict.header kept.now.records }
+    requires valid { IsValid kept.now.trace.objects kept.now.trace.fills kept.now.verdict.header kept.now.records }
     requires width { 1 ≤ width }
     ensures refined { IfOk result (RefinesPrices width kept.now.trace kept.now.verdict.header) }
 {
@@ -102,7 +101,7 @@ fn with_upper(verdict: &Verdict, upper: u128) -> Verdict
 
 // The certificate and the report of a refinement of one that is valid for the trace.
 fn texts_of_kept(alloc: Global, kept: &Kept, dropped: u64, width: u32) -> Result<Texts, NoMemory>
-    requires valid { IsValid kept.now.trace kept.now.verdict.header kept.now.records }
+    requires valid { IsValid kept.now.trace.objects kept.now.trace.fills kept.now.verdict.header kept.now.records }
     requires verdict { kept.now.verdict ≡ verdict_on kept.now.trace kept.now.verdict.header }
     requires width { 1 ≤ width }
     ensures { IfOk result (λ texts. AreRefinedTexts width kept.now.trace dropped

@@ -1,12 +1,10 @@
 //! Replays of a trace, and their reports.
-ghost use Rattle.std.specs.Prelude.{◌≡◌, ◌≤◌, ◌^◌, [], length, IfOk};
+ghost use Rattle.std.specs.Prelude.{◌≡◌, ◌≤◌, [], length, IfOk};
 ghost use Rattle.cache_model.specs.Objects.{objects_of};
-ghost use Rattle.policy_laws.specs.Laws.{HaveOneSize};
 ghost use Rattle.policy_model.specs.Runs.{AreScores};
 ghost use Rattle.replay_core.specs.Laws.{IsFresh, IsRunOf};
 ghost use Rattle.bound_run.specs.Replays.{IsReplay, IsReplayText, IsWithinBounds};
 
-use belady_laws::{best_replay, size_clash};
 use bound_base::NoMemory;
 use bound_report::{ReplayFacts, push_warmup, replay_text};
 use bound_words::ReplaySettings;
@@ -25,11 +23,11 @@ pub fn bounded_replay<P: Policy>(
     warmup: u32,
     policy: &mut P,
 ) -> Result<Replay, NoMemory>
-    requires objects { length (objects_of trace.now) ≤ P.objects policy.old }
+    requires objects { length (objects_of trace.now.objects) ≤ P.objects policy.old }
     requires empty { P.contents policy.old ≡ [] }
     requires fresh { IsFresh (P.known_state policy.old) }
-    ensures scores { IfOk result (λ r. AreScores (P.room policy.old) warmup trace.now r.hits r.bytes) }
-    ensures run { IfOk result (λ r. IsRunOf (P.known_state policy.old) trace.now warmup r.hits r.bytes) }
+    ensures scores { IfOk result (λ r. AreScores (P.room policy.old) warmup trace.now.fills trace.now.objects r.hits r.bytes) }
+    ensures run { IfOk result (λ r. IsRunOf (P.known_state policy.old) trace.now.objects warmup trace.now.fills r.hits r.bytes) }
     ensures bounded { IfOk result (λ r. IsWithinBounds (P.room policy.old) warmup trace.now r.hits r.bytes) }
 {
     replay(alloc, trace, warmup, policy)
@@ -63,34 +61,13 @@ fn replay_lfu(alloc: Global, trace: &Trace, r: ReplaySettings) -> Result<Replay,
     bounded_replay(alloc, trace, r.warmup, &mut policy)
 }
 
-// The replay of Belady's rule where it is best.
-fn replay_best(alloc: Global, trace: &Trace, capacity: u64) -> Result<Replay, NoMemory>
-    requires range { (1 ≤ capacity) × (capacity ≤ 2 ^ 56) }
-    requires one_size { HaveOneSize capacity trace.now }
-    ensures { IfOk result (IsReplay PolicyName.Belady capacity 0 trace.now) }
-{
-    match best_replay(alloc, trace, capacity) {
-        Ok(replay) => Ok(replay),
-        Err(_) => Err(NoMemory),
-    }
-}
-
-fn replay_farthest(alloc: Global, trace: &Trace, r: ReplaySettings) -> Result<Replay, NoMemory>
-    ensures { IfOk result (IsReplay PolicyName.Belady r.capacity r.warmup trace.now) }
-{
-    let mut policy = Belady::new(alloc, r.capacity, trace.objects())?;
-    bounded_replay(alloc, trace, r.warmup, &mut policy)
-}
-
 // Belady's rule gives up what is asked for farthest in the future. If every request counts and all that fits has one
 // size, that is best.
 fn replay_belady(alloc: Global, trace: &Trace, r: ReplaySettings) -> Result<Replay, NoMemory>
     ensures { IfOk result (IsReplay PolicyName.Belady r.capacity r.warmup trace.now) }
 {
-    match size_clash(trace, r.capacity) {
-        None if r.warmup == 0 => replay_best(alloc, trace, r.capacity),
-        _ => replay_farthest(alloc, trace, r),
-    }
+    let mut policy = Belady::new(alloc, r.capacity, trace.objects())?;
+    bounded_replay(alloc, trace, r.warmup, &mut policy)
 }
 
 /// The replay of a policy.

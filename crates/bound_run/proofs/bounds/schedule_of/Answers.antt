@@ -1,7 +1,7 @@
 use Rattle.std.proofs.Common.{ℕ, ◌≤◌, ◌<◌, ◌∙◌, ap, arith, Bool, List}
 use Rattle.std.specs.Prelude.{length}
 use Rattle.cache_model.specs.declared.objects.Object.{Object}
-use Rattle.cache_model.specs.declared.terms.Terms.{Terms}
+use Rattle.cache_model.specs.Claim.{Terms, marked}
 use Rattle.cache_model.specs.Intervals.{eligible_intervals}
 use Rattle.cache_model.specs.Keeps.{load_after}
 use Rattle.cache_model.specs.Rounding.{IsRounded, by_rank, taken_load}
@@ -19,7 +19,7 @@ pub score_of_fitting-lower-requires : goal.score_of_fitting-lower-requires
 score_of_fitting-lower-requires c = record {
   one_keep_each = rw c.as_slice.ensures (c.in_ok-keeps.ensures.rounded.one_keep_each ∙ ap (λ l. l.steps) c.requires.intervals);
   fits = rw c.as_slice.ensures
-      (loads_fit c.args.terms c.args.trace.now c.args.full.now c.in_ok-keeps.keeps
+      (loads_fit (marked c.args.terms c.args.trace.now.fills) c.args.trace.now.objects c.args.full.now c.in_ok-keeps.keeps
       (rw c.requires.intervals at c.in_ok-keeps.ensures.rounded) (λ t. rw c.requires.intervals at (c.in_ok-keeps.ensures.fits t)));
 }
 

@@ -1,4 +1,6 @@
-use Rattle.std.proofs.Common.{◌∙◌, ap}
+use Rattle.std.proofs.Common.{◌∙◌, ap, subst, sym}
+use Rattle.cache_rules.specs.Stored.{Requests, all_count}
+use Rattle.bound_run.specs.BoundsMade.{AreTexts}
 use Rattle.bound_report.specs.Demos.{demo_text}
 use Rattle.bound_run.specs.Demos.{demo_facts}
 use Rattle.bound_run.proofs.Demonstrated.{certified_by_texts, shown_by}
@@ -7,9 +9,10 @@ use Rattle.bound_run.proofs.demos.demo_report.Goals as goal
 pub check_made-requires : goal.check_made-requires
 check_made-requires c =
     let read = c.in_ok-lines.ensures.read c.in_ok-trace.ensures.writable in
+    let drawn = c.in_ok-trace.ensures.requests in
     record {
       trace = ap (λ r. r.refused) read;
-      certified = certified_by_texts c.args.asked.now c.in_ok-trace.trace c.in_ok-lines.lines.items c.in_ok-texts.texts.cert.items c.in_ok-texts.texts.report.items read c.in_ok-texts.ensures.texts;
+      certified = certified_by_texts c.args.asked.now c.in_ok-trace.trace.objects c.in_ok-lines.lines.items c.in_ok-texts.texts.cert.items c.in_ok-texts.texts.report.items read (subst (λ made. AreTexts c.args.asked.now made 0 c.in_ok-texts.texts.cert.items c.in_ok-texts.texts.report.items) (drawn ∙ ap (λ (r : Requests). all_count r.objects) (sym drawn)) c.in_ok-texts.ensures.texts);
     }
 
 pub returns-clause-shown : goal.returns-clause-shown

@@ -1,6 +1,6 @@
 use Rattle.policy_model.specs.declared.names.PolicyName.TheVariants.{Belady}
 use Rattle.bound_run.proofs.Replayed.{replayed}
-use Rattle.bound_run.proofs.replays.replay_farthest.Goals as goal
+use Rattle.bound_run.proofs.replays.replay_belady.Goals as goal
 
 pub returns : goal.returns
 returns c =
