@@ -15,6 +15,7 @@ mod curves;
 mod demos;
 mod faults;
 mod flow;
+mod marks;
 mod modes;
 mod records;
 mod refinements;

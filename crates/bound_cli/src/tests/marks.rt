@@ -1,0 +1,103 @@
+//! Runs in which reads alone count. The numbers were worked out by hand.
+use super::*;
+use bound_report::InvalidKind;
+use trace_lines::LineKind;
+
+const MARKED_CERT: &[u8] =
+    b"cache-bound-certificate 1\nobjective object\ncapacity 10\nrequests 3\nunit 4\n\
+denominator 1\nform plain\nupper 1\nflow 0\nlower 1\nrecords\n0 0 0\n0 1 0\n0 0 0\nend\n";
+
+const MARKED: Row<'static> = Row {
+    shows: "a read after a write is a hit, and the write is none",
+    words: "bounds t c format=webcache capacity=10 mode=infinite count=reads",
+    trace: b"1 7 4 r\n2 7 4 w\n3 7 4 r\n",
+    report: b"trace requests 3 objects 1 dropped 0\ncapacity 10 objective object\n\
+mode infinite form plain\nunit 4 units 2 denominator 1\nintervals 1\nupper 1/1 floor 1\nflow 0/1\nlower 1\n",
+    made: MARKED_CERT,
+    ..GOOD
+};
+
+const CHECKED: Row<'static> = Row {
+    shows: "a check with the marks says yes",
+    words: "check t c format=webcache count=reads",
+    cert: MARKED_CERT,
+    report: b"trace requests 3 objects 1 dropped 0\ncapacity 10 objective object\nform plain\n\
+unit 4 units 2 denominator 1\nupper 1/1 floor 1\nflow 0/1\nlower 1\nvalid\n",
+    made: b"",
+    ..MARKED
+};
+
+const REPLAYED: Row<'static> = Row {
+    shows: "LRU keeps what a write brought in, and counts the hit of the read",
+    words: "replay t format=webcache capacity=10 policy=lru count=reads",
+    trace: b"1 7 4 w\n2 7 4 w\n3 7 4 r\n",
+    report: b"trace requests 3 objects 1 dropped 0\npolicy lru capacity 10\nhits 1 bytes 4\n",
+    made: b"",
+    ..GOOD
+};
+
+const MARKS: [Row<'static>; 9] = [
+    MARKED,
+    Row {
+        shows: "without the operand a fourth word says nothing",
+        words: "bounds t c format=webcache capacity=10 mode=infinite count=all",
+        report: b"trace requests 3 objects 1 dropped 0\ncapacity 10 objective object\n\
+mode infinite form plain\nunit 4 units 2 denominator 1\nintervals 2\nupper 2/1 floor 2\nflow 0/1\nlower 2\n",
+        made: b"cache-bound-certificate 1\nobjective object\ncapacity 10\nrequests 3\nunit 4\n\
+denominator 1\nform plain\nupper 2\nflow 0\nlower 2\nrecords\n0 1 0\n0 1 0\n0 0 0\nend\n",
+        ..MARKED
+    },
+    CHECKED,
+    Row {
+        shows: "a check without the marks says no",
+        words: "check t c format=webcache",
+        status: Status::Invalid {
+            line: 15,
+            kind: InvalidKind::UpperDiffers {
+                written: 1,
+                counted: 2,
+            },
+        },
+        report: b"invalid line 15: upper differs 1 2\n",
+        ..CHECKED
+    },
+    REPLAYED,
+    Row {
+        shows: "a curve counts reads alone",
+        words: "curve t format=webcache count=reads",
+        report: b"trace requests 3 objects 1 dropped 0\nsize 4\nslots 1 hits 1\n",
+        ..REPLAYED
+    },
+    Row {
+        shows: "of an MSR trace the type is the mark",
+        words: "curve t block=512 count=reads format=msr",
+        trace: b"1,h,0,Write,0,512,1\n2,h,0,Read,0,512,1\n3,h,0,write,0,512,1\n",
+        report: b"trace requests 3 objects 1 dropped 0\nsize 512\nslots 1 hits 1\n",
+        ..REPLAYED
+    },
+    Row {
+        shows: "a fourth word that is no mark",
+        trace: b"1 7 4 r\n2 7 0 x\n",
+        status: Status::BadLine {
+            line: 2,
+            kind: LineKind::BadType,
+        },
+        report: b"bad line 2: type\n",
+        ..REPLAYED
+    },
+    Row {
+        shows: "a line without a mark",
+        trace: b"1 7 4 r\n2 7 4\n",
+        status: Status::BadLine {
+            line: 2,
+            kind: LineKind::TooFewWords,
+        },
+        report: b"bad line 2: too few words\n",
+        ..REPLAYED
+    },
+];
+
+#[test]
+fn reads_alone_count_where_that_is_asked_for(rt: HostRuntime) {
+    check_all(&rt, rt.alloc(), &MARKS);
+}
