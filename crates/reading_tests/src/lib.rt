@@ -21,6 +21,10 @@ mod demos;
 #[cfg(test)]
 mod lines;
 #[cfg(test)]
+mod marked_checks;
+#[cfg(test)]
+mod marks;
+#[cfg(test)]
 mod msr_lines;
 #[cfg(test)]
 mod numbers;

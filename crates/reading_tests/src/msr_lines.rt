@@ -3,8 +3,9 @@ use compared::{holds, same};
 use trace_lines::{LineKind, Span};
 use trace_msr::{MsrLine, parse};
 
-// The bytes of a block, a line, its host and disk, its first block, and the number of its blocks, which may be none.
-type Row = (u64, &'static [u8], &'static [u8], u64, u64, u64);
+// The bytes of a block, a line, its host and disk, its first block, the number of its blocks, which may be none, and
+// whether they only fill.
+type Row = (u64, &'static [u8], &'static [u8], u64, u64, u64, bool);
 
 const ROWS: [Row; 30] = [
     (
@@ -14,11 +15,12 @@ const ROWS: [Row; 30] = [
         0,
         0,
         1,
+        false,
     ),
-    (4096, b"1,h,1,WRITE,0,1", b"h", 1, 0, 1),
-    (4096, b"1,h,1,rEaD,0,1,9", b"h", 1, 0, 1),
-    (4096, b"1,h,1,write,0,1,9", b"h", 1, 0, 1),
-    (4096, b"1,h,0012,Read,0,1,x,y,z", b"h", 12, 0, 1),
+    (4096, b"1,h,1,WRITE,0,1", b"h", 1, 0, 1, true),
+    (4096, b"1,h,1,rEaD,0,1,9", b"h", 1, 0, 1, false),
+    (4096, b"1,h,1,write,0,1,9", b"h", 1, 0, 1, true),
+    (4096, b"1,h,0012,Read,0,1,x,y,z", b"h", 12, 0, 1, false),
     (
         4096,
         b"1,h,18446744073709551615,Read,0,1,",
@@ -26,10 +28,11 @@ const ROWS: [Row; 30] = [
         18446744073709551615,
         0,
         1,
+        false,
     ),
-    (4096, b"1,,2,Read,0,1,9", b"", 2, 0, 1),
-    (4096, b",h,2,Read,0,1,9", b"h", 2, 0, 1),
-    (4096, b"x, a\tb ,2,Read,0,1,9", b" a\tb ", 2, 0, 1),
+    (4096, b"1,,2,Read,0,1,9", b"", 2, 0, 1, false),
+    (4096, b",h,2,Read,0,1,9", b"h", 2, 0, 1, false),
+    (4096, b"x, a\tb ,2,Read,0,1,9", b" a\tb ", 2, 0, 1, false),
     (
         4096,
         b"1,h,0,Read,7014609920,24576,41286",
@@ -37,14 +40,15 @@ const ROWS: [Row; 30] = [
         0,
         1712551,
         7,
+        false,
     ),
-    (4096, b"1,h,0,Read,0,1,9", b"h", 0, 0, 1),
-    (4096, b"1,h,0,Read,0,4096,9", b"h", 0, 0, 1),
-    (4096, b"1,h,0,Read,0,4097,9", b"h", 0, 0, 2),
-    (4096, b"1,h,0,Read,4095,1,9", b"h", 0, 0, 1),
-    (4096, b"1,h,0,Read,4095,2,9", b"h", 0, 0, 2),
-    (4096, b"1,h,0,Read,4096,4096,9", b"h", 0, 1, 1),
-    (4096, b"1,h,0,Read,100,8192,9", b"h", 0, 0, 3),
+    (4096, b"1,h,0,Read,0,1,9", b"h", 0, 0, 1, false),
+    (4096, b"1,h,0,Read,0,4096,9", b"h", 0, 0, 1, false),
+    (4096, b"1,h,0,Read,0,4097,9", b"h", 0, 0, 2, false),
+    (4096, b"1,h,0,Read,4095,1,9", b"h", 0, 0, 1, false),
+    (4096, b"1,h,0,Read,4095,2,9", b"h", 0, 0, 2, false),
+    (4096, b"1,h,0,Read,4096,4096,9", b"h", 0, 1, 1, false),
+    (4096, b"1,h,0,Read,100,8192,9", b"h", 0, 0, 3, false),
     (
         4096,
         b"1,h,0,Read,18446744073709551615,1,9",
@@ -52,6 +56,7 @@ const ROWS: [Row; 30] = [
         0,
         4503599627370495,
         1,
+        false,
     ),
     (
         4096,
@@ -60,9 +65,10 @@ const ROWS: [Row; 30] = [
         0,
         0,
         4503599627370496,
+        false,
     ),
-    (3, b"1,h,0,Read,0002,0002,9", b"h", 0, 0, 2),
-    (1, b"1,h,0,Read,5,3,9", b"h", 0, 5, 3),
+    (3, b"1,h,0,Read,0002,0002,9", b"h", 0, 0, 2, false),
+    (1, b"1,h,0,Read,5,3,9", b"h", 0, 5, 3, false),
     (
         1,
         b"1,h,0,Read,0,18446744073709551615,9",
@@ -70,6 +76,7 @@ const ROWS: [Row; 30] = [
         0,
         0,
         18446744073709551615,
+        false,
     ),
     (
         1,
@@ -78,6 +85,7 @@ const ROWS: [Row; 30] = [
         0,
         1,
         18446744073709551615,
+        false,
     ),
     (
         281474976710656,
@@ -86,6 +94,7 @@ const ROWS: [Row; 30] = [
         0,
         0,
         1,
+        false,
     ),
     (
         281474976710656,
@@ -94,6 +103,7 @@ const ROWS: [Row; 30] = [
         0,
         0,
         2,
+        false,
     ),
     (
         281474976710656,
@@ -102,22 +112,36 @@ const ROWS: [Row; 30] = [
         0,
         65535,
         1,
+        false,
     ),
-    (4096, b"3,h,7,Read,0,0,9", b"h", 7, 0, 0),
-    (4096, b"3,h,7,Read,4095,000,9", b"h", 7, 0, 0),
-    (4096, b"3,h,7,Write,1,0", b"h", 7, 0, 0),
-    (4096, b"3,h,7,Write,18446744073709551615,0", b"h", 7, 0, 0),
+    (4096, b"3,h,7,Read,0,0,9", b"h", 7, 0, 0, false),
+    (4096, b"3,h,7,Read,4095,000,9", b"h", 7, 0, 0, false),
+    (4096, b"3,h,7,Write,1,0", b"h", 7, 0, 0, true),
+    (
+        4096,
+        b"3,h,7,Write,18446744073709551615,0",
+        b"h",
+        7,
+        0,
+        0,
+        true,
+    ),
 ];
 
 // What a line of the row is read as.
 fn line_of(row: &Row) -> MsrLine<'static> {
-    let (size, _, host, disk, first, count) = *row;
+    let (size, _, host, disk, first, count, fills) = *row;
     let span = if count == 0 {
         Span::Nothing
     } else {
         Span::Blocks { first, count, size }
     };
-    MsrLine { host, disk, span }
+    MsrLine {
+        host,
+        disk,
+        span,
+        fills,
+    }
 }
 
 #[test]

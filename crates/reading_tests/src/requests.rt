@@ -241,15 +241,47 @@ const MSR_ROWS: [Row<'static>; 7] = [
     },
 ];
 
+// Marked lines, of which the last is refused.
+const MARKED: Row<'static> = Row {
+    format: Format::MarkedWebcache,
+    trace: b"1 7 4 r\n2 7 4 w\n3 7 0 w\n4 7 4\n",
+    dropped: 1,
+    end: Err(TraceFault::BadLine {
+        line: 4,
+        kind: LineKind::TooFewWords,
+    }),
+    ..PAIR
+};
+
+const MARKED_ROWS: [Row<'static>; 2] = [
+    MARKED,
+    Row {
+        trace: b"1 7 4 w\n2 7 4 r\n\n4 7 0 x\n",
+        dropped: 0,
+        end: Err(TraceFault::BadLine {
+            line: 4,
+            kind: LineKind::BadType,
+        }),
+        ..MARKED
+    },
+];
+
+/// Whether blocks of the form are in their range.
+pub fn is_format(format: Format) -> bool
+    ensures { result ≡ true → IsFormat format }
+{
+    let block = match format {
+        Format::Msr { block } | Format::MsrReads { block } => block,
+        _ => 1,
+    };
+    block >= 1 && block <= 1 << 48
+}
+
 // Whether the form and the limits are such that a reader takes.
 fn is_readable(row: &Row<'_>) -> bool
     ensures { result ≡ true → IsFormat row.now.format × (row.now.requests ≤ 2 ^ 25) × (row.now.bytes ≤ 2 ^ 36) }
 {
-    let block = match row.format {
-        Format::Msr { block } => block,
-        _ => 1,
-    };
-    block >= 1 && block <= 1 << 48 && row.requests <= 1 << 25 && row.bytes <= 1 << 36
+    is_format(row.format) && row.requests <= 1 << 25 && row.bytes <= 1 << 36
 }
 
 // Whether this is the next answer.
@@ -327,6 +359,7 @@ fn check_all(rt: &impl Abort, alloc: Global, rows: &[Row<'_>]) {
 fn gives_the_requests_of_webcache_lines(rt: HostRuntime) {
     check_all(&rt, rt.alloc(), &ROWS);
     check_all(&rt, rt.alloc(), &REFUSED_ROWS);
+    check_all(&rt, rt.alloc(), &MARKED_ROWS);
 }
 
 #[test]

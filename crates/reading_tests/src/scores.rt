@@ -169,7 +169,7 @@ fn trace_of(rt: &impl Abort, alloc: Global, requests: &[Object]) -> Trace {
 
 // The score of keeps that are tested first. That of keeps that fit is the same where they aren't tested.
 fn score_of(rt: &impl Abort, trace: &Trace, terms: Terms, keeps: &[bool]) -> Result<u128, Overfull>
-    requires { length keeps.now ≡ length trace.now }
+    requires { length keeps.now ≡ length trace.now.objects }
 {
     let gains = score(trace, terms.capacity, terms.objective, terms.warmup, keeps)?;
     same(gains, score_of_fitting(trace, terms, keeps), gains).expect(rt, "a row");
