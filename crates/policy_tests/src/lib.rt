@@ -7,4 +7,6 @@ mod curves;
 #[cfg(test)]
 mod idle;
 #[cfg(test)]
+mod marks;
+#[cfg(test)]
 mod rows;

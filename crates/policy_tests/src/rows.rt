@@ -10,8 +10,8 @@ use replay_recency::{Clock, Fifo, Lru};
 use std::alloc::Global;
 use std::process::Abort;
 
-// Expects what is to hold.
-fn holds(rt: &impl Abort, is_so: bool)
+/// Expects what is to hold.
+pub fn holds(rt: &impl Abort, is_so: bool)
     ensures { is_so ≡ true }
 {
     assert!(rt; is_so, "a condition");
@@ -32,8 +32,8 @@ pub fn trace_of(rt: &impl Abort, alloc: Global, requests: &[[u64; 2]]) -> Trace 
     builder.finish()
 }
 
-// Hits and bytes of LRU, FIFO, CLOCK, LFU and the rule of Belady, from this request on.
-fn replays(
+/// Hits and bytes of LRU, FIFO, CLOCK, LFU and the rule of Belady, from this request on.
+pub fn replays(
     rt: &impl Abort,
     alloc: Global,
     trace: &Trace,
