@@ -17,6 +17,8 @@ mod loads;
 #[cfg(test)]
 mod made;
 #[cfg(test)]
+mod marks;
+#[cfg(test)]
 mod network;
 #[cfg(test)]
 mod refining;

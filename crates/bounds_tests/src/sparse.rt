@@ -85,8 +85,8 @@ const MADE: [(u32, u32, u32, u64, u32); 8] = [
     (9000, 1200, 2500, 300, 8),
 ];
 
-// The next number of a row that is made: Numerical Recipes' generator.
-fn next_of(number: u32) -> u32 {
+/// The next number of a row that is made: Numerical Recipes' generator.
+pub fn next_of(number: u32) -> u32 {
     number.wrapping_mul(1664525).wrapping_add(1013904223)
 }
 
