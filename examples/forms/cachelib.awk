@@ -1,8 +1,9 @@
-# CacheLib's kvcache traces to webcache. They have a heading that names the columns, with commas between them: key, op,
-# size, op_count and key_size, in any order and among others. A line stands for op_count requests, and those of GET and
-# GET_LEASE are printed; an object is a key, of both sizes together. The time is the number of the line. A line of
-# more than 2^25 requests, the most that the program reads, is refused. Gets alone are kept, and a bound over them is one of caches that
-# only a get fills: a cache which a set fills too may pass it.
+# CacheLib's kvcache traces to webcache, for count=reads. They have a heading that names the columns, with commas between
+# them: key, op, size, op_count and key_size, in any order and among others. A line stands for op_count requests: of GET
+# and GET_LEASE each is a line with r; of SET and SET_LEASE each is one with w, which fills the cache and scores nothing.
+# A DELETE is left out, which loosens the bound at most. An object is a key, of both sizes together. A missed get is
+# logged with size 0: it has the last size of its key. The time is the number of the line. A line of more than 2^25
+# requests, the most that the program reads, is refused.
 function refuse(why) { print "cachelib.awk: " why > "/dev/stderr"; exit 1 }
 function is_number(word) { return word ~ /^[0-9]+$/ }
 function is_right() {
@@ -22,11 +23,14 @@ FNR == 1 {
     next
 }
 FNR == 2 && !is_right() { refuse("line 2 must have the columns of the heading, and numbers as sizes and op_count") }
-is_right() && $at["op"] ~ /^GET(_LEASE)?$/ && $at["op_count"] > 0 {
+is_right() && $at["op"] ~ /^[GS]ET(_LEASE)?$/ && $at["op_count"] > 0 {
     if ($at["op_count"] > 2 ^ 25) refuse("line " NR " stands for more than 2^25 requests, the most that the program reads")
     key = $at["key"]
     if (!(key in number)) number[key] = ++keys
-    for (i = 0; i < $at["op_count"]; i++) printf "%d %d %.0f\n", NR, number[key], $at["key_size"] + $at["size"]
+    reads = $at["op"] ~ /^G/
+    size = reads && $at["size"] == 0 && (key in last) ? last[key] : $at["key_size"] + $at["size"]
+    if ($at["size"] > 0) last[key] = size
+    for (i = 0; i < $at["op_count"]; i++) printf "%d %d %.0f %s\n", NR, number[key], size, reads ? "r" : "w"
     kept++
 }
 END { fflush(); printf "kept %d of %d lines\n", kept, NR - headings > "/dev/stderr"; if (!kept) exit 1 }

@@ -1,10 +1,13 @@
 # A table with commas between its columns and a heading, to webcache. The columns of time, key and size are found by their
 # names, in any order, among others, in letters of either case: those in BEGIN below. Where they are called otherwise, give
 # their numbers: awk -v time=1 -v key=2 -v size=3 -f key_table.awk; time=0 takes the number of the line as the time. With all
-# three given the heading may be missing. A key is any text without a comma. Blanks around a comma don't count.
+# three given the heading may be missing. A key is any text without a comma. Blanks around a comma don't count. With -v op=4
+# that column has the operation, for count=reads: a get or a read is a line with r, a delete is left out, and each other
+# operation is one with w, which fills the cache and scores nothing. A get of size 0 missed: it has the last size of its key.
 function refuse(why) { print "key_table.awk: " why > "/dev/stderr"; exit 1 }
 function is_right() {
-    return NF == columns && (!at["time"] || $at["time"] ~ /^[^ \t]+$/) && $at["key"] != "" && $at["size"] ~ /^[0-9]+$/
+    return NF == columns && (!at["time"] || $at["time"] ~ /^[^ \t]+$/) && $at["key"] != "" && $at["size"] ~ /^[0-9]+$/ &&
+        (!at["op"] || $at["op"] ~ /^[A-Za-z_]+$/)
 }
 # The number of the column of a role: the one that is given, or the only one that has a name of it.
 function column_of(role, given,  i, found) {
@@ -32,15 +35,20 @@ FNR == 1 {
     at["time"] = column_of("time", time)
     at["key"] = column_of("key", key)
     at["size"] = column_of("size", size)
+    at["op"] = op == "" ? 0 : column_of("op", op)
     has_heading = time == "" || key == "" || size == "" || !is_right()
     headings += has_heading
     if (has_heading) next
 }
 FNR == 2 && has_heading && !is_right() { refuse("line 2 must have the columns of line 1, a word as time and a number as size") }
 is_right() {
+    reads = at["op"] && tolower($at["op"]) ~ /^(gets?|read|get_lease)$/
+    if (at["op"] && tolower($at["op"]) ~ /^del(ete)?$/) next
     word = $at["key"]
     if (!(word in number)) number[word] = ++keys
-    print (at["time"] ? $at["time"] : NR), number[word], $at["size"]
+    bytes = reads && $at["size"] + 0 == 0 && (word in last) ? last[word] : $at["size"]
+    if (bytes + 0 > 0) last[word] = bytes
+    print (at["time"] ? $at["time"] : NR), number[word], bytes (at["op"] ? (reads ? " r" : " w") : "")
     kept++
 }
 END { fflush(); printf "kept %d of %d lines\n", kept, NR - headings > "/dev/stderr"; if (!kept) exit 1 }
