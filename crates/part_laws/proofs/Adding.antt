@@ -1,44 +1,39 @@
 -- Scores add up over a cut.
-use Rattle.std.proofs.Common.{◌≡◌, ℕ, ◌+◌, ◌-◌, ◌≤◌, ◌∙◌, sym, ap, cond, List, [], ◌∷◌, length, arith, sum_by, zip, take, drop}
-use Rattle.std.proofs.lemmas.List.{take-append-drop, take-take, drop-take, drop-drop, take_all, length-drop}
-use Rattle.std.proofs.lemmas.List.Sums.{sum_by-append}
+use Rattle.std.proofs.Common.{◌≡◌, ℕ, ◌+◌, ◌-◌, ap, Bool, not, ◌&&◌, cond, nat_le, List, length, arith, sum_by}
+use Rattle.std.specs.List.{range_with_len}
+use Rattle.std.proofs.lemmas.Bool.{le-leb, lt-leb}
 use Rattle.cache_model.specs.declared.objects.Object.{Object}
 use Rattle.cache_model.specs.declared.objects.Objective.{Objective}
-use Rattle.cache_model.specs.Claim.{holds, gain_of}
-use Rattle.cache_model.proofs.Scores.{score-zip}
-use Rattle.part_laws.specs.Laws.{ScoresAddUp}
+use Rattle.cache_model.specs.Claim.{Terms, holds, gain_of, before_request, request_at, only_fills, terms_from}
+use Rattle.part_laws.specs.Laws.{earned_at, ScoresAddUp}
+use Rattle.part_laws.proofs.Ranges.{sum_by-range_split, sum_by-range_from}
 
 -- what a request earns at contents
 abbrev pub earns : Objective → Object × List Object → ℕ
 earns objective = λ (x, held). cond (holds held x) (gain_of objective x) 0
 
--- the first n elements, and then m more
-sum_by-take : {X : Type 0} (f : X → ℕ) (n m : ℕ) (xs : List X) → sum_by f (take (n + m) xs) ≡ sum_by f (take n xs) + sum_by f (take m (drop n xs))
-sum_by-take f n m xs =
-    ap (sum_by f) (sym (take-append-drop n (take (n + m) xs)))
-    ∙ sum_by-append f (take n (take (n + m) xs)) (drop n (take (n + m) xs))
-    ∙ ap (λ ys. sum_by f ys + sum_by f (drop n (take (n + m) xs))) (take-take n (n + m) xs (omega arith))
-    ∙ ap (λ ys. sum_by f (take n xs) + sum_by f ys) (drop-take n m xs)
+-- what a request of x adds to a score: whether it is past the warm-up, whether it only fills, and what is held before it
+abbrev pub adds : Objective → Bool → Bool → List Object → Object → ℕ
+adds objective past fills held x = cond ((past && not fills) && holds held x) (gain_of objective x) 0
 
-at_a_cut : {X : Type 0} (f : X → ℕ) (xs : List X) (first cut end : ℕ) → first ≤ cut → cut ≤ end
-    → sum_by f (take (end - first) (drop first xs)) ≡ sum_by f (take (cut - first) (drop first xs)) + sum_by f (take (end - cut) (drop cut xs))
-at_a_cut f xs first cut end low high =
-    let whole : end - first ≡ (cut - first) + (end - cut) = omega arith in
-    let place : first + (cut - first) ≡ cut = omega arith in
-    ap (λ n. sum_by f (take n (drop first xs))) whole
-    ∙ sum_by-take f (cut - first) (end - cut) (drop first xs)
-    ∙ ap (λ ys. sum_by f (take (cut - first) (drop first xs)) + sum_by f (take (end - cut) ys)) (drop-drop (cut - first) first xs ∙ ap (λ n. drop n xs) place)
-
-length-zip-le : {X Y : Type 0} (xs : List X) (ys : List Y) → length (zip xs ys) ≤ length xs
-length-zip-le [] ys = omega arith
-length-zip-le (x ∷ xs) [] = omega arith
-length-zip-le (x ∷ xs) (y ∷ ys) = omega (arith, length-zip-le xs ys)
+-- what request t adds to the score
+abbrev pub scored_at : Terms → List Object → List (List Object) → ℕ → ℕ
+scored_at terms trace contents t = adds terms.objective (nat_le terms.warmup t) (only_fills terms.fills t) (before_request contents t) (request_at trace t)
 
 pub scores_add_up : ScoresAddUp
-scores_add_up objective trace contents = record {
-  at_a_cut = at_a_cut (earns objective) (zip trace contents);
+scores_add_up objective trace fills contents = record {
+  at_a_cut = λ first cut end low high.
+      let earned : ℕ → ℕ = earned_at objective trace fills contents in
+      let whole : end - first ≡ (cut - first) + (end - cut) = omega arith in
+      let place : first + (cut - first) ≡ cut = omega arith in
+      omega (
+        arith,
+        ap (λ n. sum_by earned (range_with_len first n)) whole,
+        sum_by-range_split earned first (cut - first) (end - cut),
+        ap (λ a. sum_by earned (range_with_len a (end - cut))) place,
+      );
   from_the_warmup = λ capacity warmup.
-      score-zip objective capacity warmup trace contents
-      ∙ ap (sum_by (earns objective))
-      (sym (take_all (length trace - warmup) (drop warmup (zip trace contents)) (omega (arith, length-drop warmup (zip trace contents), length-zip-le trace contents))));
+      sum_by-range_from (scored_at (terms_from objective capacity warmup fills) trace contents) (earned_at objective trace fills contents) warmup (length trace)
+      (λ t early. ap (λ past. adds objective past (only_fills fills t) (before_request contents t) (request_at trace t)) (lt-leb warmup t early))
+      (λ t late. ap (λ past. adds objective past (only_fills fills t) (before_request contents t) (request_at trace t)) (le-leb warmup t late));
 }

@@ -1,16 +1,17 @@
 -- A bound of a part behind a prelude bounds the part within the whole.
-use Rattle.std.proofs.Common.{◌≡◌, ◌≢◌, ℕ, zero, suc, ◌+◌, ◌-◌, ◌≤◌, ◌⊎◌, inl, inr, ⊎_elim, ◌∙◌, sym, refl, ap, subst, Bool, true, false, cond, List, [], ◌∷◌, ◌++◌, append_assoc, length, arith, sum_by, zip, take, drop, filter, AllPairs}
+use Rattle.std.proofs.Common.{◌≡◌, ◌≢◌, ℕ, zero, suc, ◌+◌, ◌-◌, ◌<◌, ◌≤◌, ◌⊎◌, inl, inr, ⊎_elim, ◌∙◌, sym, refl, ap, subst, Bool, true, false, not, ◌&&◌, cond, List, [], ◌∷◌, ◌++◌, append_assoc, length, arith, sum_by, filter, AllPairs}
+use Rattle.std.specs.List.{range_with_len}
 use Rattle.std.proofs.lemmas.Bool.{or_cases, or_left, or_right}
+use Rattle.std.proofs.lemmas.List.{get_or_append_left, get_or-append-add, length-append}
 use Rattle.std.proofs.lemmas.List.Kept.{AllPairs-filter}
-use Rattle.std.proofs.lemmas.List.Sums.{sum_by-cons}
 use Rattle.cache_model.specs.declared.objects.Object.{Object}
 use Rattle.cache_model.specs.declared.objects.Objective.{Objective}
-use Rattle.cache_model.specs.Claim.{same_object, gain_of, total_size, holds, IsAllowed, terms_from}
+use Rattle.cache_model.specs.Claim.{same_object, gain_of, total_size, holds, before_request, request_at, no_object, only_fills, IsAllowed}
 use Rattle.cache_model.proofs.Duality.{same_object-true, same_object-refl}
-use Rattle.cache_model.proofs.Scores.{score-zip}
-use Rattle.part_laws.specs.Laws.{IsPrelude, NoneScoreMore, CutIsBounded}
+use Rattle.part_laws.specs.Laws.{earned_at, IsPrelude, CutIsBounded}
 use Rattle.part_laws.proofs.Moves.{IsMove, Moves, holds-from_Contains, Contains-from_holds, moves_of_allowed, allowed_of_moves}
-use Rattle.part_laws.proofs.Adding.{earns}
+use Rattle.part_laws.proofs.Ranges.{sum_by-range_below}
+use Rattle.part_laws.proofs.Adding.{adds, scores_add_up}
 use Rattle.part_laws.proofs.Filters.{holds-filter, held_and_passed, total_size-filter}
 
 -- what is kept of contents: what was brought
@@ -72,40 +73,16 @@ brought-next c brought r part held next move all = λ x h there.
     (λ (e : r ≡ x). or_left (same_object x r) (holds brought x) (same_object-from r x e))
     (move.enters x h)
 
--- a hit stays one
-earns-kept : (o : Objective) (brought : List Object) (r : Object) (part held : List Object) → IsBrought brought (r ∷ part) held → earns o (r, held) ≤ earns o (r, kept brought held)
-earns-kept o brought r part held all = at (holds held r) refl
-  where
-    at : (t : Bool) → holds held r ≡ t → cond t (gain_of o r) 0 ≤ earns o (r, kept brought held)
-    at true h =
-        let first : holds (r ∷ part) r ≡ true = or_left (same_object r r) (holds part r) (same_object-refl r) in
-        let hit : earns o (r, kept brought held) ≡ gain_of o r = ap (λ b. cond b (gain_of o r) 0) (holds-filter (holds brought) held r h (all r h first)) in
-        omega arith
-    at false h = omega arith
-
-earned-kept : (o : Objective) (c k : ℕ) (brought part after held : List Object) (nexts : List (List Object)) → Moves c held (part ++ after) nexts → IsBrought brought part held
-    → sum_by (earns o) (take (length part - k) (drop k (zip (part ++ after) (held ∷ nexts)))) ≤ sum_by (earns o) (drop k (zip part (kept brought held ∷ kept_after brought part nexts)))
-earned-kept o c k brought [] after held nexts moves all =
-    let none : 0 - k ≡ 0 = omega arith in
-    omega (arith, ap (λ n. sum_by (earns o) (take n (drop k (zip after (held ∷ nexts))))) none)
-earned-kept o c k brought (r ∷ part) after held [] moves all = absurd moves
-earned-kept o c zero brought (r ∷ part) after held (next ∷ nexts) moves all =
-    let one : suc (length part) - 0 ≡ suc (length part - 0) = omega arith in
-    omega (
-      arith,
-      ap (λ n. sum_by (earns o) (take n ((r, held) ∷ zip (part ++ after) (next ∷ nexts)))) one,
-      sum_by-cons (earns o) (r, held) (take (length part - 0) (zip (part ++ after) (next ∷ nexts))),
-      sum_by-cons (earns o) (r, kept brought held) (zip part (kept (r ∷ brought) next ∷ kept_after (r ∷ brought) part nexts)),
-      earns-kept o brought r part held all,
-      earned-kept o c zero (r ∷ brought) part after next nexts moves.1 (brought-next c brought r part held next moves.0 all),
-    )
-earned-kept o c (suc k) brought (r ∷ part) after held (next ∷ nexts) moves all =
-    let less : suc (length part) - suc k ≡ length part - k = omega arith in
-    omega (
-      arith,
-      ap (λ n. sum_by (earns o) (take n (drop k (zip (part ++ after) (next ∷ nexts))))) less,
-      earned-kept o c k (r ∷ brought) part after next nexts moves.1 (brought-next c brought r part held next moves.0 all),
-    )
+-- a hit of the part stays one
+hit-kept : (c : ℕ) (brought part after held : List Object) (nexts : List (List Object)) (j : ℕ) → Moves c held (part ++ after) nexts → IsBrought brought part held → j < length part
+    → holds (before_request (held ∷ nexts) j) (request_at part j) ≡ true
+    → holds (before_request (kept brought held ∷ kept_after brought part nexts) j) (request_at part j) ≡ true
+hit-kept c brought [] after held nexts j moves all low hit = absurd (omega arith)
+hit-kept c brought (r ∷ part) after held [] j moves all low hit = absurd moves
+hit-kept c brought (r ∷ part) after held (next ∷ nexts) zero moves all low hit =
+    holds-filter (holds brought) held r hit (all r hit (or_left (same_object r r) (holds part r) (same_object-refl r)))
+hit-kept c brought (r ∷ part) after held (next ∷ nexts) (suc j) moves all low hit =
+    hit-kept c (r ∷ brought) part after next nexts j moves.1 (brought-next c brought r part held next moves.0 all) (omega arith) hit
 
 -- the prelude, and then the part
 abbrev made : List Object → List Object → List Object → List Object → List (List Object) → List (List Object)
@@ -133,23 +110,18 @@ will-next brought r prelude part held all = λ x h there.
 will-none : (brought part held : List Object) → WillBeBrought brought [] part held → IsBrought brought part held
 will-none brought part held all = λ x h there. ⊎_elim (λ (is : holds brought x ≡ true). is) (λ (no : holds [] x ≡ true). cc) (all x h there)
 
-earned-made : (o : Objective) (c k : ℕ) (brought prelude part after held : List Object) (nexts : List (List Object)) → Moves c held (part ++ after) nexts → WillBeBrought brought prelude part held
-    → sum_by (earns o) (take (length part - k) (drop k (zip (part ++ after) (held ∷ nexts))))
-    ≤ sum_by (earns o) (drop (length prelude + k) (zip (prelude ++ part) (kept brought held ∷ made brought held prelude part nexts)))
-earned-made o c k brought [] part after held nexts moves all =
-    let same : 0 + k ≡ k = omega arith in
-    omega (
-      arith,
-      ap (λ n. sum_by (earns o) (drop n (zip part (kept brought held ∷ kept_after brought part nexts)))) same,
-      earned-kept o c k brought part after held nexts moves (will-none brought part held all),
-    )
-earned-made o c k brought (r ∷ prelude) part after held nexts moves all =
-    let one : suc (length prelude) + k ≡ suc (length prelude + k) = omega arith in
-    omega (
-      arith,
-      ap (λ n. sum_by (earns o) (drop n ((r, kept brought held) ∷ zip (prelude ++ part) (kept (r ∷ brought) held ∷ made (r ∷ brought) held prelude part nexts)))) one,
-      earned-made o c k (r ∷ brought) prelude part after held nexts moves (will-next brought r prelude part held all),
-    )
+-- and behind the prelude
+hit-made : (c : ℕ) (brought prelude part after held : List Object) (nexts : List (List Object)) (j : ℕ) → Moves c held (part ++ after) nexts → WillBeBrought brought prelude part held → j < length part
+    → holds (before_request (held ∷ nexts) j) (request_at part j) ≡ true
+    → holds (before_request (kept brought held ∷ made brought held prelude part nexts) (length prelude + j)) (request_at part j) ≡ true
+hit-made c brought [] part after held nexts j moves all low hit =
+    let same : 0 + j ≡ j = omega arith in
+    ap (λ n. holds (before_request (kept brought held ∷ kept_after brought part nexts) n) (request_at part j)) same
+    ∙ hit-kept c brought part after held nexts j moves (will-none brought part held all) low hit
+hit-made c brought (r ∷ prelude) part after held nexts j moves all low hit =
+    let one : suc (length prelude) + j ≡ suc (length prelude + j) = omega arith in
+    ap (λ n. holds (before_request (kept brought held ∷ kept (r ∷ brought) held ∷ made (r ∷ brought) held prelude part nexts) n) (request_at part j)) one
+    ∙ hit-made c (r ∷ brought) prelude part after held nexts j moves (will-next brought r prelude part held all) low hit
 
 -- what goes before
 -- after the requests `before`: what is held, and what comes then
@@ -160,7 +132,7 @@ record Reached (c : ℕ) (before later held : List Object) (nexts : List (List O
   fits : total_size now ≤ c
   apart : AllPairs (λ x y. x ≢ y) now
   asked : (x : Object) → holds now x ≡ true → (holds held x ≡ true) ⊎ (holds before x ≡ true)
-  stands : (k : ℕ) → drop (length before + k) (zip (before ++ later) (held ∷ nexts)) ≡ drop k (zip later (now ∷ rest))
+  stands : (j : ℕ) → before_request (held ∷ nexts) (length before + j) ≡ before_request (now ∷ rest) j
 
 reached : (c : ℕ) (before later held : List Object) (nexts : List (List Object)) → total_size held ≤ c → AllPairs (λ x y. x ≢ y) held → Moves c held (before ++ later) nexts → Reached c before later held nexts
 reached c [] later held nexts fits apart moves = record {
@@ -170,7 +142,7 @@ reached c [] later held nexts fits apart moves = record {
   fits = fits;
   apart = apart;
   asked = λ x h. inl h;
-  stands = λ k. let same : 0 + k ≡ k = omega arith in ap (λ n. drop n (zip later (held ∷ nexts))) same;
+  stands = λ j. let same : 0 + j ≡ j = omega arith in ap (before_request (held ∷ nexts)) same;
 }
 reached c (r ∷ before) later held [] fits apart moves = absurd moves
 reached c (r ∷ before) later held (next ∷ nexts) fits apart moves =
@@ -188,16 +160,21 @@ reached c (r ∷ before) later held (next ∷ nexts) fits apart moves =
           ⊎_elim (λ (old : holds held x ≡ true). inl old) (λ (e : r ≡ x). inr (or_left (same_object x r) (holds before x) (same_object-from r x e))) (move.enters x was))
           (λ (is : holds before x ≡ true). inr (or_right (same_object x r) (holds before x) is))
           (then.asked x h);
-      stands = λ k.
-          let one : suc (length before) + k ≡ suc (length before + k) = omega arith in
-          ap (λ n. drop n ((r, held) ∷ zip (before ++ later) (next ∷ nexts))) one ∙ then.stands k;
+      stands = λ j.
+          let one : suc (length before) + j ≡ suc (length before + j) = omega arith in
+          ap (before_request (held ∷ next ∷ nexts)) one ∙ then.stands j;
     }
 
-bounded : (o : Objective) (c k most : ℕ) (before part after prelude held : List Object) (nexts : List (List Object))
-    → IsPrelude before part prelude → NoneScoreMore (terms_from o c (length prelude + k) []) (prelude ++ part) most
-    → IsAllowed c (before ++ (part ++ after)) (held ∷ nexts)
-    → sum_by (earns o) (take (length part - k) (drop (length before + k) (zip (before ++ (part ++ after)) (held ∷ nexts)))) ≤ most
-bounded o c k most before part after prelude held nexts has none allowed =
+-- contents of the prelude and the part that hit wherever those of the whole do
+record HitsAsMuch (c : ℕ) (before part prelude : List Object) (contents : List (List Object)) : Type 0 where
+  behind : List (List Object)
+  allowed : IsAllowed c (prelude ++ part) behind
+  hits : (j : ℕ) → j < length part → holds (before_request contents (length before + j)) (request_at part j) ≡ true → holds (before_request behind (length prelude + j)) (request_at part j) ≡ true
+
+-- all allowed contents of the whole have such ones
+hits_as_much : (c : ℕ) (before part after prelude held : List Object) (nexts : List (List Object)) → IsPrelude before part prelude → IsAllowed c (before ++ (part ++ after)) (held ∷ nexts)
+    → HitsAsMuch c before part prelude (held ∷ nexts)
+hits_as_much c before part after prelude held nexts has allowed =
     let empty : held ≡ [] = allowed.empty_at_first in
     let r : Reached c before (part ++ after) held nexts =
     reached c before (part ++ after) held nexts (omega (arith, ap total_size empty)) (subst (AllPairs (λ x y. x ≢ y)) (sym empty) (λ i j d low high. absurd (omega arith)))
@@ -207,25 +184,51 @@ bounded o c k most before part after prelude held nexts has none allowed =
     let will : WillBeBrought [] prelude part r.now = λ x h there.
     inr (holds-from_Contains prelude x (has x (Contains-from_holds before x (asked x h)) (Contains-from_holds part x there))) in
     let start : List Object = kept [] r.now in
-    let made_here : IsAllowed c (prelude ++ part) (start ∷ made [] r.now prelude part r.rest) =
-    allowed_of_moves c (prelude ++ part) start (made [] r.now prelude part r.rest) (kept-nothing r.now) (moves-made c [] prelude part after r.now r.rest r.fits r.apart r.moves) in
-    omega (
-      arith,
-      ap (λ zs. sum_by (earns o) (take (length part - k) zs)) (r.stands k),
-      earned-made o c k [] prelude part after r.now r.rest r.moves will,
-      none (start ∷ made [] r.now prelude part r.rest) made_here,
-      score-zip o c (length prelude + k) (prelude ++ part) (start ∷ made [] r.now prelude part r.rest),
-    )
+    record {
+      behind = start ∷ made [] r.now prelude part r.rest;
+      allowed =
+          allowed_of_moves c (prelude ++ part) start (made [] r.now prelude part r.rest) (kept-nothing r.now) (moves-made c [] prelude part after r.now r.rest r.fits r.apart r.moves);
+      hits = λ j low hit. hit-made c [] prelude part after r.now r.rest j r.moves will low (ap (λ xs. holds xs (request_at part j)) (sym (r.stands j)) ∙ hit);
+    }
+
+-- the same request, marked alike, adds no less if it still hits
+adds-le : (o : Objective) (fills fills' : Bool) (held held' : List Object) (x y : Object) → fills ≡ fills' → x ≡ y → (holds held y ≡ true → holds held' y ≡ true)
+    → adds o true fills held x ≤ adds o true fills' held' y
+adds-le o fills fills' held held' x y marks same hit =
+    omega (arith, ap (λ m. adds o true m held x) marks, ap (adds o true fills' held) same, at fills' (holds held y) (holds held' y) hit)
+  where
+    at : (m t u : Bool) → (t ≡ true → u ≡ true) → cond (not m && t) (gain_of o y) 0 ≤ cond (not m && u) (gain_of o y) 0
+    at true t u more = omega arith
+    at false true true more = omega arith
+    at false true false more = let no : false ≡ true = more refl in cc
+    at false false u more = omega arith
 
 pub cut_is_bounded : CutIsBounded
-cut_is_bounded o c k most before part after prelude has none [] allowed = absurd (omega (arith, allowed.one_more_than_requests))
-cut_is_bounded o c k most before part after prelude has none (held ∷ nexts) allowed =
-    let same : before ++ part ++ after ≡ before ++ (part ++ after) = append_assoc before part after in
+cut_is_bounded o c k most before part after prelude fills marks has alike none [] allowed = absurd (omega (arith, allowed.one_more_than_requests))
+cut_is_bounded o c k most before part after prelude fills marks has alike none (held ∷ nexts) allowed =
+    let trace : List Object = before ++ part ++ after in
+    let same : trace ≡ before ++ (part ++ after) = append_assoc before part after in
+    let made_here : HitsAsMuch c before part prelude (held ∷ nexts) = hits_as_much c before part after prelude held nexts has (subst (λ xs. IsAllowed c xs (held ∷ nexts)) same allowed) in
+    let whole : ℕ → ℕ = earned_at o trace fills (held ∷ nexts) in
+    let alone : ℕ → ℕ = earned_at o (prelude ++ part) marks made_here.behind in
     let long : (length before + length part) - (length before + k) ≡ length part - k = omega arith in
-    let all : sum_by (earns o) (take (length part - k) (drop (length before + k) (zip (before ++ (part ++ after)) (held ∷ nexts)))) ≤ most =
-    bounded o c k most before part after prelude held nexts has none (subst (λ xs. IsAllowed c xs (held ∷ nexts)) same allowed) in
+    let far : length (prelude ++ part) - (length prelude + k) ≡ length part - k = omega (arith, length-append prelude part) in
+    let one : (j : ℕ) → j < length part → whole (length before + j) ≤ alone (length prelude + j) = λ j low.
+    let here : request_at trace (length before + j) ≡ request_at part j =
+    ap (λ xs. request_at xs (length before + j)) same ∙ get_or-append-add before (part ++ after) j no_object ∙ get_or_append_left part after no_object j low in
+    let there : request_at (prelude ++ part) (length prelude + j) ≡ request_at part j = get_or-append-add prelude part j no_object in
+    adds-le o (only_fills fills (length before + j)) (only_fills marks (length prelude + j)) (before_request (held ∷ nexts) (length before + j)) (before_request made_here.behind (length prelude + j))
+    (request_at trace (length before + j)) (request_at (prelude ++ part) (length prelude + j)) (sym (alike j low)) (here ∙ sym there)
+    (λ h. ap (holds (before_request made_here.behind (length prelude + j))) there ∙ made_here.hits j low (ap (holds (before_request (held ∷ nexts) (length before + j))) (sym there) ∙ h)) in
     omega (
       arith,
-      ap (λ n. sum_by (earns o) (take n (drop (length before + k) (zip (before ++ part ++ after) (held ∷ nexts))))) long,
-      ap (λ xs. sum_by (earns o) (take (length part - k) (drop (length before + k) (zip xs (held ∷ nexts))))) same,
+      ap (λ n. sum_by whole (range_with_len (length before + k) n)) long,
+      ap (λ n. sum_by alone (range_with_len (length prelude + k) n)) far,
+      sum_by-range_below whole alone (length before + k) (length prelude + k) (length part - k)
+          (λ i low.
+          let left : length before + k + i ≡ length before + (k + i) = omega arith in
+          let right : length prelude + k + i ≡ length prelude + (k + i) = omega arith in
+          omega (arith, ap whole left, ap alone right, one (k + i) (omega arith))),
+      (scores_add_up o (prelude ++ part) marks made_here.behind).from_the_warmup c (length prelude + k),
+      none made_here.behind made_here.allowed,
     )
