@@ -8,7 +8,7 @@ use Rattle.std.proofs.lemmas.List.Elements.{All-head, All-tail}
 use Rattle.std.proofs.lemmas.List.Sums.{sum_by-cons}
 use Rattle.cache_model.specs.declared.objects.Object.{Object}
 use Rattle.cache_model.specs.declared.objects.Objective.{Objective}
-use Rattle.cache_model.specs.Claim.{same_object, gain_of, total_size, holds, IsAllowed, terms_of}
+use Rattle.cache_model.specs.Claim.{same_object, gain_of, total_size, holds, IsAllowed}
 use Rattle.cache_model.proofs.Duality.{same_object-true, same_object-refl, without, holds-without, sum_by-without, sum_by-without-le, sum_by-subset}
 use Rattle.cache_model.proofs.Pairs.{same_object-sym}
 use Rattle.cache_model.proofs.Headline.{valid_bounds}

@@ -1,3 +1,4 @@
 pub mod Smaller
 pub mod Fetching
+pub mod Greatest
 mod Rows

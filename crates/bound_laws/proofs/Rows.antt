@@ -1,10 +1,12 @@
 -- The definitions at small traces, computed.
-use Rattle.std.proofs.Common.{◌≡◌, ℕ, List, [], ◌∷◌, refl, sum_by}
+use Rattle.std.proofs.Common.{◌≡◌, ℕ, zero, suc, ◌≤◌, Bool, true, List, [], ◌∷◌, refl, arith, sum_by}
 use Rattle.cache_model.specs.declared.objects.Object.{Object}
 use Rattle.cache_model.specs.declared.objects.Objective.TheVariants.{Object as Hits, Bytes}
-use Rattle.cache_model.specs.Claim.{terms_from, gain_of}
+use Rattle.cache_model.specs.Claim.{contents_of, gain_of, held_before, terms_from, total_size}
 use Rattle.cache_model.specs.Intervals.{bound_of, eligible_intervals}
-use Rattle.bound_laws.specs.Laws.{missed, prefetched, units_fewer}
+use Rattle.cache_model.proofs.Keeps.{contents_of_keeps}
+use Rattle.cache_model.proofs.Steps.{no_policy_scores_more_lem}
+use Rattle.bound_laws.specs.Laws.{IsGreatestScore, missed, prefetched, units_fewer}
 
 abbrev object : ℕ → Object
 object id = record { volume = 0; id = id; size = 2 }
@@ -35,3 +37,25 @@ bound_at_one = refl
 
 one_unit_fewer : units_fewer 2 1 2 ≡ 1
 one_unit_fewer = refl
+
+-- no contents hit more than once at one object, and A, kept at its first request, hits once
+first_kept : List Bool
+first_kept = true ∷ []
+
+fits : (t : ℕ) → t ≤ 4 → total_size (held_before trace first_kept t) ≤ 2
+unfolding first_kept
+fits zero within = omega arith
+fits (suc zero) within = omega arith
+fits (suc (suc zero)) within = omega arith
+fits (suc (suc (suc zero))) within = omega arith
+fits (suc (suc (suc (suc zero)))) within = omega arith
+fits (suc (suc (suc (suc (suc t))))) within = absurd (omega arith)
+
+greatest_at_one : IsGreatestScore (terms_from Hits 2 0 []) trace 1
+unfolding first_kept
+greatest_at_one = record {
+  contents = contents_of trace first_kept;
+  allowed = contents_of_keeps trace 2 first_kept fits;
+  scored = refl;
+  greatest = λ others allowed. omega (arith, no_policy_scores_more_lem (terms_from Hits 2 0 []) 2 1 trace (0 ∷ 1 ∷ 0 ∷ 0 ∷ []) others allowed refl, bound_at_one);
+}

@@ -1,4 +1,4 @@
--- What a bound says of smaller capacities, and of fetches; each law is the contract of a function.
+-- What a bound says of smaller capacities, of fetches and of the greatest score; each law is the contract of a function.
 use Rattle.std.specs.Prelude.{◌≡◌, ◌≢◌, ℕ, ◌+◌, ◌-◌, ◌*◌, ◌/◌, ◌≤◌, Bool, not, if◌then◌else◌, List, [], ◌∷◌, length, drop, filter, sum, sum_by, zip, All, AllPairs}
 use Rattle.cache_model.specs.declared.objects.Object.{Object}
 use Rattle.cache_model.specs.declared.objects.Objective.{Objective}
@@ -69,3 +69,22 @@ ValidBoundsFetches =
     → IsWithinCapacity h.capacity trace contents
     → sum_by (gain_of h.objective) (drop h.warmup trace)
     ≤ h.upper / h.denominator + (missed h.objective h.warmup trace contents + prefetched h.objective trace contents)
+
+-- a number is the greatest score of allowed contents: some allowed contents have it, and none score more
+pub record IsGreatestScore (terms : Terms) (trace : List Object) (best : ℕ) : Type 0 where
+  pub contents : List (List Object)
+  pub allowed : IsAllowed terms.capacity trace contents
+  pub scored : score terms trace contents ≡ best
+  pub greatest : (others : List (List Object)) → IsAllowed terms.capacity trace others → score terms trace others ≤ best
+
+-- a greatest score exists for every trace
+abbrev pub GreatestScoreExists : Type 0
+GreatestScoreExists = (terms : Terms) (trace : List Object) → (best : ℕ) × IsGreatestScore terms trace best
+
+-- of a valid certificate's terms it lies from the lower bound to the floor of the upper one
+abbrev pub GreatestScoreIsWithin : Type 0
+GreatestScoreIsWithin =
+    (trace : List Object) (fills : List Bool) (h : Header) (records : List Record)
+    → IsValid trace fills h records
+    → (best : ℕ) → IsGreatestScore (terms_of h fills) trace best
+    → (h.lower ≤ best) × (best ≤ h.upper / h.denominator)
