@@ -1,0 +1,2 @@
+pub mod Steady
+mod Rows
