@@ -37,6 +37,7 @@ use Rattle.cert_checker.specs.Rules.{end_fault}
 use Rattle.cert_checker.specs.Summaries.{StandsFor, Summary}
 use Rattle.cert_checker.specs.Walks.{asked}
 use Rattle.cert_checker.proofs.Marked.{none_marked}
+use Rattle.cert_checker.proofs.OfText.{of_end}
 use Rattle.cert_checker.proofs.Events.{asked_all, walked_too_few, walked_end_text, walked_end_rule, walked_all}
 use Rattle.cert_checker.proofs.Stops.{asked_at, if_both, if_one, near_line, near_here, consumed_on, same_records, text_stop, through, walk_at}
 
@@ -76,9 +77,12 @@ module _ (start : Inputs) (h : Header) (given : Requests) (records : List Record
   pub stop_few : (end : Inputs) → end.trace ≡ now.trace → end.cert ≡ now.cert → end.certificate ≡ now.certificate → length now.cert.lines.held ≤ 65536 → now.cert.lines.line ≡ header_len h + length given.objects → length given.objects < h.requests
       → IsStop start end (fault.Invalid (header_len h + length given.objects) (RequestCount h.requests (length given.objects)))
   stop_few end same_trace same_cert same_left held line_is fewer = record {
-    event = if_both start.trace start.certificate _ _ _ ended.trace_read ended.records_read (λ b t p q.
-        walk_at start b t _ _ refl q.reading
-        ∙ walked_too_few h given.objects given.fills records input within ended.stands.no_fault (traces.reading start.reader.format start.reader.limits b) (lines.to_come now.cert (after_lines now.cert.lines.line t)) p.requests p.marks p.stop fewer);
+    event = (
+      if_both start.trace start.certificate _ _ _ ended.trace_read ended.records_read (λ b t p q.
+          walk_at start b t _ _ refl q.reading
+          ∙ walked_too_few h given.objects given.fills records input within ended.stands.no_fault (traces.reading start.reader.format start.reader.limits b) (lines.to_come now.cert (after_lines now.cert.lines.line t)) p.requests p.marks p.stop fewer),
+      tt,
+    );
     near = (
       near_here h records start end (header_len h + length given.objects) (if_one start.certificate _ _ ended.records_read (λ t q. same_records h records now end t q same_cert same_left))
           (subst (λ (c : lines.Reader). length c.lines.held ≤ 65536) (sym same_cert) held)
@@ -97,15 +101,19 @@ module _ (start : Inputs) (h : Header) (given : Requests) (records : List Record
         ∙ walked_end_text h given.objects given.fills records input within ended.stands.no_fault (traces.reading start.reader.format start.reader.limits b) (lines.to_come now.cert (after_lines now.cert.lines.line t)) p.requests p.marks p.stop full g e
         (at_some (known now.cert.lines now.certificate) _ _ q.stands_in stopped) event))
         (λ g e event stopped. lost_all end same_trace)
+        (λ g stopped. if_one start.certificate _ _ ended.records_read (λ t q. ap (λ r. r.fault) q.reading ∙ ap (λ r. r.fault) (at_some (known now.cert.lines now.certificate) _ _ q.stands_in stopped)))
 
     module _ (read : IfSome (known now.cert.lines now.certificate) (λ bytes. (lines.to_come now.cert bytes ≡ certificates.stopped None) × (known end.cert.lines end.certificate ≡ Some []) × (end.certificate ≡ Some []))) where
       -- the end is read, and a rule fails
       pub stop_end_rule : (kind : InvalidKind) → now.cert.stage ≡ InRecords → now.cert.left ≡ 0 → now.cert.lines.line ≡ header_len h + length given.objects → end_fault h given.fills given.objects records ≡ Some kind → IsStop start end (fault.Invalid (header_len h + 1 + length given.objects) kind)
       stop_end_rule kind at none line_is fails = record {
-        event = if_both start.trace start.certificate _ _ _ ended.trace_read ended.records_read (λ b t p q.
-            walk_at start b t _ _ refl q.reading
-            ∙ walked_end_rule h given.objects given.fills records input within ended.stands.no_fault (traces.reading start.reader.format start.reader.limits b) (lines.to_come now.cert (after_lines now.cert.lines.line t)) p.requests p.marks p.stop full kind
-            (at_some (known now.cert.lines now.certificate) _ _ q.stands_in read).0 fails);
+        event = (
+          if_both start.trace start.certificate _ _ _ ended.trace_read ended.records_read (λ b t p q.
+              walk_at start b t _ _ refl q.reading
+              ∙ walked_end_rule h given.objects given.fills records input within ended.stands.no_fault (traces.reading start.reader.format start.reader.limits b) (lines.to_come now.cert (after_lines now.cert.lines.line t)) p.requests p.marks p.stop full kind
+              (at_some (known now.cert.lines now.certificate) _ _ q.stands_in read).0 fails),
+          of_end start.certificate (header_len h + 1 + length given.objects) h given.fills given.objects records kind fails,
+        );
         near = (
           if_one start.certificate _ _ ended.records_read (λ t q.
               let is = at_some (known now.cert.lines now.certificate) _ _ q.stands_in read in
@@ -168,6 +176,7 @@ module _ (start : Inputs) (fresh_reader : IsFresh start.reader) (fresh_cert : st
         let still : Some l ≡ Some b = sym el ∙ (same_trace ∙ eb) in
         let same : l ≡ b = cc in
         subst (λ n. HasLostFor start.reader.format start.reader.limits n b l) (sym none) (record { near = λ _ lines some. omega (arith, ap length same); all = λ fewer. absurd (omega (arith, fewer)) })))))
+        (λ g stopped. if_known start.certificate _ (λ t e. ap (λ r. r.fault) (reading_is t) ∙ ap (λ r. r.fault) (at_some (known start.cert.lines start.certificate) t _ (known_start t e) stopped)))
 
     -- the header is read
     pub opens : (h : Header) (checker : Summary) → lines.HeaderRead start.cert end.cert (device start.certificate end.certificate start.certificate_faults end.certificate_faults) (Ok h)

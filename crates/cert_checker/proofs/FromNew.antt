@@ -1,10 +1,13 @@
 -- A check by readers of which no call was made.
-use Rattle.std.proofs.Common.{◌≡◌, ℕ, subst, List, Result, Ok, Err, IfOk}
+use Rattle.std.proofs.Common.{◌≡◌, ◌∙◌, ℕ, ap, sym, subst, Bool, true, cond, List, length, Some, None, Result, Ok, Err, IfOk}
+use Rattle.std.specs.Prelude.{count_by}
+use Rattle.std.specs.List.{range_with_len}
 use Rattle.bound_io.specs.Devices.{Device}
-use Rattle.cache_rules.specs.Stored.{Making}
+use Rattle.cache_model.specs.Claim.{counts_past}
+use Rattle.cache_rules.specs.Stored.{Making, Requests}
 use Rattle.cache_model.specs.declared.certificates.Record.{Record}
 use Rattle.trace_any.specs.declared.format.Format.{Format}
-use Rattle.trace_any.specs.Readings.{full_limits}
+use Rattle.trace_any.specs.Readings.{full_limits, is_marked}
 use Rattle.trace_any.specs.Readers as requests
 use Rattle.cert_format.specs.Readers as lines
 use Rattle.cert_format.specs.Lines.{IsTaken}
@@ -12,8 +15,9 @@ use Rattle.cert_checker.specs.declared.verdict.Verdict.{Verdict}
 use Rattle.cert_checker.specs.declared.walking.CheckFault.{CheckFault}
 use Rattle.cert_checker.specs.declared.walking.CheckFault.TheVariants as fault
 use Rattle.cert_checker.specs.Checks.{Inputs, IsEvent, IsNear, inputs, trace_source, cert_source}
-use Rattle.cert_checker.specs.Keeping.{IsCheckEnd}
-use Rattle.cert_checker.specs.Whole.{Ends, Fails, Passes, first_inputs}
+use Rattle.cert_checker.specs.Counting.{PassesCounted, count_from}
+use Rattle.cert_checker.specs.Keeping.{HasKept, IsCheckEnd}
+use Rattle.cert_checker.specs.Whole.{Ends, Fails, Passes, first_inputs, last_inputs}
 use Rattle.cert_checker.proofs.Nearness.{near_closed}
 
 -- the inputs with these readers
@@ -53,3 +57,21 @@ pub passes_new : (has : Making → List Record → Type 0) (format : Format) (tr
     → IfOk result (λ p. Passes format trace cert p.0 p.1)
 passes_new has format trace cert (Ok p) ends = record { reader = ends.reader; records = ends.records; dropped_lines = ends.dropped_lines; passed = ends.ended.3.passed }
 passes_new has format trace cert (Err why) ends = tt
+
+-- a yes whose marks a keeper has counts its requests by them
+pub counted_new : (format : Format) (trace cert : Device) (verdict : Verdict) (dropped counted : ℕ) (fills : List Bool) → is_marked format ≡ true
+    → Ends (λ given records. (given.marks ≡ true) × (fills ≡ given.requests.fills)) format trace cert verdict dropped
+    → counted ≡ count_by (counts_past verdict.header.warmup fills) (range_with_len 0 verdict.header.requests)
+    → PassesCounted format trace cert (record { verdict = verdict; dropped = dropped; counted = Some counted })
+counted_new format trace cert verdict dropped counted fills marked ends is =
+    let (requests, records, kept, end) = ends.ended in
+    let all : HasKept (first_inputs format trace cert) (last_inputs ends.reader ends.records trace cert) (record { verdict = verdict; trace = requests; records = records }) = end in
+    let n : verdict.header.requests ≡ length all.passed.requests.objects = all.passed.yes.valid.requests in
+    let marks : fills ≡ all.passed.requests.fills = kept.1 ∙ ap (λ (r : Requests). r.fills) all.trace in
+    record {
+      passes = record { reader = ends.reader; records = ends.records; dropped_lines = ends.dropped_lines; passed = all.passed };
+      counted =
+          ap (λ k. Some k) (is ∙ ap (λ m. count_by (counts_past verdict.header.warmup m) (range_with_len 0 verdict.header.requests)) marks
+          ∙ ap (λ k. count_by (counts_past verdict.header.warmup all.passed.requests.fills) (range_with_len 0 k)) n)
+          ∙ ap (λ b. cond b (Some (count_from verdict.header.warmup all.passed.requests)) None) (sym marked);
+    }

@@ -21,6 +21,8 @@ use Rattle.trace_any.proofs.Coming.{past_both}
 use Rattle.trace_any.proofs.Through.{given_next, lost_for}
 use Rattle.cert_format.specs.declared.fault.CertFault.{CertFault}
 use Rattle.cert_format.specs.declared.fault.CertFault.TheVariants as text
+use Rattle.cert_format.specs.declared.fault.TextKind.{TextKind}
+use Rattle.cert_format.specs.declared.fault.TextKind.TheVariants as shape
 use Rattle.cert_checker.specs.declared.invalid.InvalidKind.TheVariants.{RequestCount}
 use Rattle.cert_format.specs.Lines.{known, IsPast, IsWithin}
 use Rattle.cert_format.specs.Readings as certificates
@@ -30,9 +32,10 @@ use Rattle.cert_format.proofs.Chains.{after_lines-add, bytes_through-add}
 use Rattle.cert_format.proofs.Taken.{at_some, if_known}
 use Rattle.cert_checker.specs.declared.walking.CheckFault.{CheckFault}
 use Rattle.cert_checker.specs.declared.walking.CheckFault.TheVariants as fault
-use Rattle.cert_checker.specs.Checks.{Inputs, HasChecked, HasCheckedAll, HasAsked, HasRecords, IsFailing, IsFresh, IsLater, IsStop, IsWalked, StandsForAll, AreMarked, fault_at, after_records, of_text, of_trace, taken}
+use Rattle.cert_checker.specs.Checks.{Inputs, HasChecked, HasCheckedAll, HasAsked, HasRecords, EndsSo, IsFailing, IsFresh, IsLater, IsOfText, IsStop, IsWalked, StandsForAll, AreMarked, fault_at, after_records, of_text, of_trace, taken}
 use Rattle.cert_checker.specs.Summaries.{Summary}
-use Rattle.cert_checker.specs.Walks.{Event, Invalid, Refused, asked, text_event, walk}
+use Rattle.cert_checker.specs.Walks.{Event, Invalid, Refused, asked, text_event, text_kind, walk}
+use Rattle.cert_checker.proofs.OfText.{of_record}
 use Rattle.cert_checker.proofs.Marked.{AreMarked-next, after-both, with_mark-marks}
 use Rattle.cert_checker.proofs.Events.{EndsAt, asked_of, walk_of, walked_too_many, walked_text, walked_rule, walked_refused}
 
@@ -114,16 +117,27 @@ one_record h records r text now end t has line_is goes past =
       consumed = (consumed_on h records now end t has past).1;
     }
 
+-- a fault of the text is its event
+own_event : (start : Inputs) (f : CertFault) (e : Event) → text_event (Some f) ≡ Some e → IfSome start.certificate (λ text. (certificates.reading text).fault ≡ Some f) → IfSome start.certificate (λ text. text_event (certificates.reading text).fault ≡ Some e)
+own_event start f e is own = if_one start.certificate _ _ own (λ t o. ap text_event o ∙ is)
+
+of_kind : (start : Inputs) (line : ℕ) (kind : TextKind) → EndsSo start.certificate line (text_kind kind) → IsOfText start.certificate line (text_kind kind)
+of_kind start line shape.Shape is = is
+of_kind start line shape.Number is = is
+of_kind start line shape.Range is = is
+of_kind start line shape.TooLong is = is
+
 -- the text of the certificate is refused, if that is the event
 pub text_stop : (start end : Inputs) (cert : lines.Reader) (left : Option (List ℕ)) (faults : ℕ) (f : CertFault) → lines.IsRefused cert (device left end.certificate faults end.certificate_faults) f → start.certificate_faults ≤ faults
     → IfErr {T = Unit {0}} (Err f) (IsWithin end.cert.lines.line) → ((n : ℕ) → end.cert.lines.line ≤ n → IfSome start.certificate (λ text. taken end.cert ≤ bytes_through n text + 65536))
     → ((g : CertFault) (e : Event) → text_event (Some g) ≡ Some e → IfSome (known cert.lines left) (λ bytes. lines.to_come cert bytes ≡ certificates.stopped (Some g)) → IsWalked start (Some e))
     → ((g : CertFault) (e : Event) → text_event (Some g) ≡ Some e → IfSome (known cert.lines left) (λ bytes. lines.to_come cert bytes ≡ certificates.stopped (Some g)) → HasAsked start end)
+    → ((g : CertFault) → IfSome (known cert.lines left) (λ bytes. lines.to_come cert bytes ≡ certificates.stopped (Some g)) → IfSome start.certificate (λ text. (certificates.reading text).fault ≡ Some g))
     → IsStop start end (of_text f)
-text_stop start end cert left faults (text.BadText n kind) refused earlier reached near walked lost = record { event = walked (text.BadText n kind) _ refl refused; near = (near n reached, lost (text.BadText n kind) _ refl refused) }
-text_stop start end cert left faults (text.Truncated n) refused earlier reached near walked lost = record { event = walked (text.Truncated n) _ refl refused; near = (near n reached, lost (text.Truncated n) _ refl refused) }
-text_stop start end cert left faults (text.Trailing n) refused earlier reached near walked lost = record { event = walked (text.Trailing n) _ refl refused; near = (near n reached, lost (text.Trailing n) _ refl refused) }
-text_stop start end cert left faults text.ReadFault refused earlier reached near walked lost = record { event = new_fault_since start.certificate_faults faults end.certificate_faults earlier refused; near = tt }
+text_stop start end cert left faults (text.BadText n kind) refused earlier reached near walked lost own = record { event = (walked (text.BadText n kind) _ refl refused, of_kind start n kind (own_event start (text.BadText n kind) _ refl (own (text.BadText n kind) refused))); near = (near n reached, lost (text.BadText n kind) _ refl refused) }
+text_stop start end cert left faults (text.Truncated n) refused earlier reached near walked lost own = record { event = (walked (text.Truncated n) _ refl refused, own_event start (text.Truncated n) _ refl (own (text.Truncated n) refused)); near = (near n reached, lost (text.Truncated n) _ refl refused) }
+text_stop start end cert left faults (text.Trailing n) refused earlier reached near walked lost own = record { event = (walked (text.Trailing n) _ refl refused, own_event start (text.Trailing n) _ refl (own (text.Trailing n) refused)); near = (near n reached, lost (text.Trailing n) _ refl refused) }
+text_stop start end cert left faults text.ReadFault refused earlier reached near walked lost own = record { event = new_fault_since start.certificate_faults faults end.certificate_faults earlier refused; near = tt }
 
 module _ (start : Inputs) (h : Header) (given : Requests) (records : List Record) (now : Inputs) (checker : Summary) (checked : HasChecked start h given records now checker) where
   input : length records ≡ length given.objects
@@ -150,12 +164,18 @@ module _ (start : Inputs) (h : Header) (given : Requests) (records : List Record
       walk_at start b t _ _ p.reading q.reading
       ∙ walked_refused h given.objects given.fills records input within checked.stands.no_fault (requests.after given.objects given.fills coming) (lines.to_come now.cert (after_lines now.cert.lines.line t)) why none no_mark is.stop)
 
+  -- and what the trace is refused for
+  refused_so : (why : TraceFault) (dropped : ℕ) → IfSome (requests.known now.reader now.trace) (λ bytes. requests.IsOver (requests.to_come now.reader bytes) dropped (Some why))
+      → IfSome start.trace (λ b. (traces.reading start.reader.format start.reader.limits b).refused ≡ Some why)
+  refused_so why dropped over =
+      if_one start.trace _ _ checked.trace_read (λ b p. ap (λ r. r.refused) p.reading ∙ (at_some (requests.known now.reader now.trace) _ _ p.stands_in over).stop)
+
   -- the next request is not given
   pub stop_trace : (end : Inputs) (why : TraceFault) → requests.IsStopped now.reader end.reader (requests.known now.reader now.trace) now.trace_faults end.trace_faults why → IsStop start end (of_trace why)
-  stop_trace end (refusal.BadLine line kind) stopped = record { event = refused_event (refusal.BadLine line kind) end.reader.dropped stopped; near = tt }
+  stop_trace end (refusal.BadLine line kind) stopped = record { event = (refused_event (refusal.BadLine line kind) end.reader.dropped stopped, refused_so (refusal.BadLine line kind) end.reader.dropped stopped); near = tt }
   stop_trace end refusal.ReadFault stopped = record { event = new_fault_since start.trace_faults now.trace_faults end.trace_faults checked.later.trace stopped; near = tt }
-  stop_trace end refusal.InputTooLong stopped = record { event = refused_event refusal.InputTooLong end.reader.dropped stopped; near = tt }
-  stop_trace end refusal.TooManyRequests stopped = record { event = refused_event refusal.TooManyRequests end.reader.dropped stopped; near = tt }
+  stop_trace end refusal.InputTooLong stopped = record { event = (refused_event refusal.InputTooLong end.reader.dropped stopped, refused_so refusal.InputTooLong end.reader.dropped stopped); near = tt }
+  stop_trace end refusal.TooManyRequests stopped = record { event = (refused_event refusal.TooManyRequests end.reader.dropped stopped, refused_so refusal.TooManyRequests end.reader.dropped stopped); near = tt }
   stop_trace end refusal.NoMemory stopped = record { event = tt; near = tt }
 
   -- no request is left
@@ -239,8 +259,11 @@ module _ (start : Inputs) (h : Header) (given : Requests) (records : List Record
     pub stop_count : (end : Inputs) → end.trace ≡ left → end.cert ≡ now.cert → end.certificate ≡ now.certificate → length now.cert.lines.held ≤ 65536 → now.cert.lines.line ≡ header_len h + length given.objects → length given.objects ≡ h.requests
         → IsStop start end (fault.Invalid (header_len h + length given.objects) (RequestCount h.requests (length given.objects + 1)))
     stop_count end same_trace same_cert same_left held line_is full = record {
-      event = if_both start.trace start.certificate _ _ _ took checked.records_read (λ b t p q.
-          walk_at start b t _ _ p.reading q.reading ∙ (ends b t p).0);
+      event = (
+        if_both start.trace start.certificate _ _ _ took checked.records_read (λ b t p q.
+            walk_at start b t _ _ p.reading q.reading ∙ (ends b t p).0),
+        tt,
+      );
       near = (
         near_here h records start end (header_len h + length given.objects) (if_one start.certificate _ _ checked.records_read (λ t q. same_records h records now end t q same_cert same_left))
             (subst (λ (c : lines.Reader). length c.lines.held ≤ 65536) (sym same_cert) held)
@@ -262,6 +285,7 @@ module _ (start : Inputs) (h : Header) (given : Requests) (records : List Record
         if_both start.trace start.certificate _ _ _ took checked.records_read (λ b t p q.
         walk_at start b t _ _ p.reading q.reading ∙ (ends b t p q g e event stopped).0))
         (λ g e event stopped. lost_here end same_trace (λ b t p q. asked_at start b t _ _ p.reading q.reading ∙ (ends b t p q g e event stopped).1))
+        (λ g stopped. if_one start.certificate _ _ checked.records_read (λ t q. ap (λ r. r.fault) q.reading ∙ ap (λ r. r.fault) (at_some (known now.cert.lines now.certificate) _ _ q.stands_in stopped)))
       where
         ends : (b t : List ℕ) (p : Took b) → HasRecords h records now t → (g : CertFault) (e : Event) → text_event (Some g) ≡ Some e → IfSome (known now.cert.lines now.certificate) (λ bytes. lines.to_come now.cert bytes ≡ certificates.stopped (Some g))
             → EndsAt given.objects (requests.after given.objects given.fills (requests.onto x (last_mark reader) (requests.to_come reader p.rest))) (after_records h records (lines.to_come now.cert (after_lines now.cert.lines.line t))) e
@@ -279,8 +303,11 @@ module _ (start : Inputs) (h : Header) (given : Requests) (records : List Record
       pub stop_rule : (why : CheckFault) → end.trace ≡ left → length given.objects < h.requests → now.cert.lines.line ≡ header_len h + length given.objects → length end.cert.lines.held ≤ 65536
           → IsFailing end.cert.lines.line (fault_at h (with_request given x (last_mark reader)) (records ++ r ∷ []) (length given.objects)) why → IsStop start end why
       stop_rule (fault.Invalid line kind) same_trace fewer first held fails = record {
-        event = if_both start.trace start.certificate _ _ _ took checked.records_read (λ b t p q.
-            walk_at start b t _ _ p.reading q.reading ∙ ((ends b t p q).0 ∙ ap (λ l. Some (Invalid l kind)) (sym at)));
+        event = (
+          if_both start.trace start.certificate _ _ _ took checked.records_read (λ b t p q.
+              walk_at start b t _ _ p.reading q.reading ∙ ((ends b t p q).0 ∙ ap (λ l. Some (Invalid l kind)) (sym at))),
+          of_record start.certificate line h (with_request given x (last_mark reader)).fills (with_request given x (last_mark reader)).objects (records ++ r ∷ []) (length given.objects) kind fails.1,
+        );
         near = (
           near_here h (records ++ r ∷ []) start end line records_on held (omega (arith, fails.0)),
           lost_here end same_trace (λ b t p q. asked_at start b t _ _ p.reading q.reading ∙ (ends b t p q).1),

@@ -20,7 +20,7 @@ use Rattle.trace_any.specs.Readers as requests
 use Rattle.cert_format.specs.declared.fault.CertFault.{CertFault}
 use Rattle.cert_format.specs.declared.fault.CertFault.TheVariants as text
 use Rattle.cert_checker.specs.declared.invalid.InvalidKind.{InvalidKind}
-use Rattle.cert_checker.specs.declared.invalid.InvalidKind.TheVariants.{Truncated, Trailing}
+use Rattle.cert_checker.specs.declared.invalid.InvalidKind.TheVariants.{Shape, Number, Range, TooLong, Truncated, Trailing}
 use Rattle.cert_format.specs.declared.reader.Stage.TheVariants.{InRecords}
 use Rattle.cert_format.specs.Readings.{after_lines, bytes_through, whole}
 use Rattle.cert_format.specs.Readings as certificates
@@ -32,7 +32,7 @@ use Rattle.cert_checker.specs.declared.walking.CheckFault.TheVariants as fault
 use Rattle.cert_checker.specs.Answers.{IsYes}
 use Rattle.cert_checker.specs.Rules.{record_fault}
 use Rattle.cert_checker.specs.Summaries.{Summary, StandsFor}
-use Rattle.cert_checker.specs.Walks.{Event, Invalid, Refused, asked, text_kind, walk}
+use Rattle.cert_checker.specs.Walks.{Event, Invalid, Refused, asked, text_event, text_kind, walk}
 
 -- where the reader of a trace and that of a certificate stand, and their sources: what is left, if it is known, and the count of faults
 pub record Inputs : Type 0 where
@@ -116,12 +116,34 @@ IsSteppedAt line old new x only r result = (reader : requests.Reader) (h : Heade
 abbrev pub IsWalked : Inputs → Option Event → Type 0
 IsWalked start event = IfSome start.trace (λ bytes. IfSome start.certificate (λ text. walk (traces.reading start.reader.format start.reader.limits bytes) text ≡ event))
 
+-- if the bytes of a trace are known, its reading is refused so
+abbrev pub IsRefusedSo : Format → Limits → Option (List ℕ) → TraceFault → Type 0
+IsRefusedSo format limits before why = IfSome before (λ bytes. (traces.reading format limits bytes).refused ≡ Some why)
+
+-- if the bytes of a certificate are known, its reading ends at this line with this kind
+abbrev pub EndsSo : Option (List ℕ) → ℕ → InvalidKind → Type 0
+EndsSo before line kind = IfSome before (λ text. text_event (certificates.reading text).fault ≡ Some (Invalid line kind))
+
+-- a kind that the text of a certificate alone decides is that of its reading
+abbrev pub IsOfText : Option (List ℕ) → ℕ → InvalidKind → Type 0
+IsOfText before line Shape = EndsSo before line Shape
+IsOfText before line Number = EndsSo before line Number
+IsOfText before line Range = EndsSo before line Range
+IsOfText before line TooLong = EndsSo before line TooLong
+IsOfText before line Truncated = EndsSo before line Truncated
+IsOfText before line Trailing = EndsSo before line Trailing
+IsOfText before line kind = Unit {0}
+
+-- the trace is refused so, which is the first event of the walk
+abbrev pub IsRefusedFirst : Inputs → TraceFault → Type 0
+IsRefusedFirst start why = IsWalked start (Some (Refused why)) × IsRefusedSo start.reader.format start.reader.limits start.trace why
+
 -- why there is no yes: the first event of the walk, or a source that failed; that memory is out says nothing
 abbrev pub IsEvent : Inputs → Inputs → CheckFault → Type 0
-IsEvent start end (fault.Invalid line kind) = IsWalked start (Some (Invalid line kind))
-IsEvent start end (fault.Trace (refusal.BadLine line kind)) = IsWalked start (Some (Refused (refusal.BadLine line kind)))
-IsEvent start end (fault.Trace refusal.InputTooLong) = IsWalked start (Some (Refused refusal.InputTooLong))
-IsEvent start end (fault.Trace refusal.TooManyRequests) = IsWalked start (Some (Refused refusal.TooManyRequests))
+IsEvent start end (fault.Invalid line kind) = IsWalked start (Some (Invalid line kind)) × IsOfText start.certificate line kind
+IsEvent start end (fault.Trace (refusal.BadLine line kind)) = IsRefusedFirst start (refusal.BadLine line kind)
+IsEvent start end (fault.Trace refusal.InputTooLong) = IsRefusedFirst start refusal.InputTooLong
+IsEvent start end (fault.Trace refusal.TooManyRequests) = IsRefusedFirst start refusal.TooManyRequests
 IsEvent start end (fault.Trace refusal.ReadFault) = HasNewFault start.trace_faults end.trace_faults
 IsEvent start end (fault.Trace refusal.NoMemory) = ⊥
 IsEvent start end fault.CertReadFault = HasNewFault start.certificate_faults end.certificate_faults

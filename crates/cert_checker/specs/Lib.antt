@@ -7,3 +7,4 @@ pub mod Laws
 pub mod Checks
 pub mod Keeping
 pub mod Whole
+pub mod Counting

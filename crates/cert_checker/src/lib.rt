@@ -5,6 +5,7 @@
 #![tactic(auto)]
 
 mod checker;
+mod counting;
 mod end_check;
 mod entries;
 mod invalid;
@@ -21,6 +22,7 @@ mod whole;
 
 pub use cert_format::{Header, Record};
 pub use checker::{Checker, StepFault};
+pub use counting::{Passed, check_counted};
 pub use invalid::InvalidKind;
 pub use keeping::{Kept, check_and_keep, keep_all};
 pub use laws::{faultless_is_valid, passing_is_valid};
