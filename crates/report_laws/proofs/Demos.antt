@@ -1,0 +1,148 @@
+-- The text of a demo is read in one way.
+use Rattle.std.proofs.Common.{◌≡◌, ℕ, zero, suc, ◌∙◌, sym, refl, ap, true, List, [], ◌∷◌, ◌++◌, append_assoc, get_or, arith, codes, None}
+use Rattle.std.specs.List.{AllByRecursion, list_all}
+use Rattle.std.proofs.lemmas.List.Concat.{flat_map-append}
+use Rattle.std.proofs.lemmas.List.Elements.{recursion_from_All}
+use Rattle.cache_model.specs.Texts.{entry, line, text_of}
+use Rattle.policy_model.specs.declared.names.PolicyName.{PolicyName}
+use Rattle.policy_model.specs.declared.names.PolicyName.TheVariants.{Lru, Fifo, Clock, Lfu, Belady}
+use Rattle.replay_core.specs.declared.counts.Replay.{Replay}
+use Rattle.bound_report.specs.declared.facts.BoundFacts.{BoundFacts}
+use Rattle.bound_report.specs.declared.demo.DemoFacts.{DemoFacts}
+use Rattle.bound_report.specs.declared.demo.PolicyReplays.{PolicyReplays}
+use Rattle.bound_report.specs.Demos.{demo_line, demo_text, replay_line, replay_lines}
+use Rattle.bound_report.specs.Replays.{policy_word, with_warmup}
+use Rattle.bound_report.specs.Reports.{report_lines, report_text}
+use Rattle.report_laws.specs.Laws.{ArePrintable, DemosHaveOneReading, IsPrintable, bound_numbers, demo_numbers}
+use Rattle.report_laws.proofs.Lines.{Lacks, Part, Small, is_part, line_lacks, named, numbers_apart}
+use Rattle.report_laws.proofs.ReportLines.{IsReport, Report, body, bytes_at, lines_of, reports_apart, warmed, with_warmup-lines}
+use Rattle.report_laws.proofs.Bounds.{SmallBounds, bound_trace, bounds_lack, report_of, same_bounds, small_bounds}
+
+-- ---- what is asked of a demo
+abbrev demo_parts : List Part
+demo_parts = named (codes "demo seed") ++ named (codes " requests") ++ named (codes " objects") ++ named (codes " capacity")
+
+abbrev asked_numbers : DemoFacts → List ℕ
+asked_numbers a = a.seed ∷ a.requests ∷ a.objects ∷ a.capacity ∷ []
+
+abbrev asked_of : List ℕ → DemoFacts
+asked_of numbers = record { seed = get_or numbers 0 0; requests = get_or numbers 1 0; objects = get_or numbers 2 0; capacity = get_or numbers 3 0 }
+
+-- ---- the lines of the replays
+abbrev replay_parts : PolicyName → List Part
+replay_parts p = named (codes "replay " ++ policy_word p ++ codes " hits") ++ named (codes " bytes")
+
+are_parts : (p : PolicyName) → list_all is_part (replay_parts p) ≡ true
+are_parts Lru = refl
+are_parts Fifo = refl
+are_parts Clock = refl
+are_parts Lfu = refl
+are_parts Belady = refl
+
+abbrev counts : Replay → List ℕ
+counts r = r.hits ∷ r.bytes ∷ []
+
+abbrev counts_of : List ℕ → Replay
+counts_of numbers = record { hits = get_or numbers 0 0; bytes = get_or numbers 1 0 }
+
+replay_lacks : (p : PolicyName) (r : Replay) → Small (counts r) → Lacks 10 (replay_line p r)
+replay_lacks p r small = line_lacks (replay_parts p) (counts r) (are_parts p) small
+
+replay_apart : (p : PolicyName) (r s : Replay) → Small (counts r) → Small (counts s) → replay_line p r ≡ replay_line p s → r ≡ s
+replay_apart p r s small small' e = ap counts_of (numbers_apart (replay_parts p) (counts r) (counts s) (are_parts p) refl refl small small' e)
+
+-- the numbers of each line are small
+record SmallDemo (a : DemoFacts) (r : PolicyReplays) (f : BoundFacts) : Type 0 where
+  asked : Small (asked_numbers a)
+  lru : Small (counts r.lru)
+  fifo : Small (counts r.fifo)
+  clock : Small (counts r.clock)
+  lfu : Small (counts r.lfu)
+  belady : Small (counts r.belady)
+  bounds : SmallBounds f
+
+small_demo : (a : DemoFacts) (r : PolicyReplays) (f : BoundFacts) → Small (demo_numbers a r ++ bound_numbers f) → SmallDemo a r f
+small_demo a r f (seed, (requests, (objects, (capacity, (h1, (b1, (h2, (b2, (h3, (b3, (h4, (b4, (h5, (b5, bounds)))))))))))))) = record {
+  asked = (seed, (requests, (objects, (capacity, tt))));
+  lru = (h1, (b1, tt));
+  fifo = (h2, (b2, tt));
+  clock = (h3, (b3, tt));
+  lfu = (h4, (b4, tt));
+  belady = (h5, (b5, tt));
+  bounds = small_bounds f bounds;
+}
+
+replays_lack : (a : DemoFacts) (r : PolicyReplays) (f : BoundFacts) → SmallDemo a r f → AllByRecursion (Lacks 10) (replay_lines r)
+replays_lack a r f small =
+    (replay_lacks Lru r.lru small.lru, (replay_lacks Fifo r.fifo small.fifo, (replay_lacks Clock r.clock small.clock, (replay_lacks Lfu r.lfu small.lfu, (replay_lacks Belady r.belady small.belady, tt)))))
+
+replays_from : Replay → Replay → Replay → Replay → Replay → PolicyReplays
+replays_from a b c d e = record { lru = a; fifo = b; clock = c; lfu = d; belady = e }
+
+replays_apart : (a b : DemoFacts) (r s : PolicyReplays) (f g : BoundFacts) → SmallDemo a r f → SmallDemo b s g → replay_lines r ≡ replay_lines s → r ≡ s
+unfolding replays_from
+replays_apart a b r s f g small small' e =
+    let first : r.lru ≡ s.lru = replay_apart Lru r.lru s.lru small.lru small'.lru (at 0) in
+    let second : r.fifo ≡ s.fifo = replay_apart Fifo r.fifo s.fifo small.fifo small'.fifo (at 1) in
+    let third : r.clock ≡ s.clock = replay_apart Clock r.clock s.clock small.clock small'.clock (at 2) in
+    let fourth : r.lfu ≡ s.lfu = replay_apart Lfu r.lfu s.lfu small.lfu small'.lfu (at 3) in
+    let fifth : r.belady ≡ s.belady = replay_apart Belady r.belady s.belady small.belady small'.belady (at 4) in
+    let all : replays_from r.lru r.fifo r.clock r.lfu r.belady ≡ replays_from s.lru s.fifo s.clock s.lfu s.belady = cc in
+    all
+  where
+    at : (i : ℕ) → get_or (replay_lines r) i [] ≡ get_or (replay_lines s) i []
+    at i = ap (λ ls. get_or ls i []) e
+
+-- a report with a warm-up among other lines
+with_warmup-between : (first : List ℕ) (v : ℕ) (lines behind : List (List ℕ)) → line first ++ with_warmup v (text_of lines) ++ text_of behind ≡ text_of (first ∷ lines ++ warmed v behind)
+with_warmup-between first v lines behind =
+    ap (λ text. line first ++ text ++ text_of behind) (with_warmup-lines v lines)
+    ∙ sym (flat_map-append line (first ∷ lines ++ warmed v []) behind)
+    ∙ ap (λ ls. text_of (first ∷ ls)) (append_assoc lines (warmed v []) behind)
+    ∙ ap (λ ls. text_of (first ∷ lines ++ ls)) (warmed-append v)
+  where
+    warmed-append : (w : ℕ) → warmed w [] ++ behind ≡ warmed w behind
+    warmed-append zero = refl
+    warmed-append (suc n) = refl
+
+is_check : (n : ℕ) → codes "check valid" ≡ entry (codes "warmup") n → ⊥
+is_check n e = omega (arith, bytes_at 0 _ _ e)
+
+module _ (a : DemoFacts) (f : BoundFacts) (v : ℕ) (r : PolicyReplays) (printable : ArePrintable None v (demo_numbers a r ++ bound_numbers f)) where
+  small_all : SmallDemo a r f
+  small_all = small_demo a r f (recursion_from_All IsPrintable (demo_numbers a r ++ bound_numbers f) printable.2)
+
+  -- the lines behind those of the bounds
+  abbrev behind : List (List ℕ)
+  behind = codes "check valid" ∷ replay_lines r
+
+  abbrev whole : Report
+  whole = report_of f None v (demo_line a ∷ bound_trace f ∷ []) behind
+
+  is_whole : IsReport whole
+  is_whole =
+      let lack = bounds_lack f small_all.bounds in
+      record {
+        before = (line_lacks demo_parts (asked_numbers a) refl small_all.asked, (lack.0, tt));
+        counted = tt;
+        body = lack.1;
+        warmup = printable.1;
+        behind = (refl, replays_lack a r f small_all);
+        other = is_check;
+      }
+
+  text_whole : demo_text a (with_warmup v (report_text f)) r ≡ text_of (lines_of whole)
+  text_whole = with_warmup-between (demo_line a) v (report_lines f) behind
+
+pub demos_apart : DemosHaveOneReading
+demos_apart a b f g v w r s printable printable' e =
+    let x = whole a f v r printable in
+    let y = whole b g w s printable' in
+    let small = small_all a f v r printable in
+    let small' = small_all b g w s printable' in
+    let same = reports_apart x y (is_whole a f v r printable) (is_whole b g w s printable') refl refl (sym (text_whole a f v r printable) ∙ e ∙ text_whole b g w s printable') in
+    let before : demo_line a ∷ bound_trace f ∷ [] ≡ demo_line b ∷ bound_trace g ∷ [] = same.before in
+    let rest : body x ≡ body y = same.body in
+    let checked : codes "check valid" ∷ replay_lines r ≡ codes "check valid" ∷ replay_lines s = same.behind in
+    let asked : asked_numbers a ≡ asked_numbers b = numbers_apart demo_parts (asked_numbers a) (asked_numbers b) refl refl refl small.asked small'.asked (ap (λ ls. get_or ls 0 []) before) in
+    (ap asked_of asked, same_bounds f g small.bounds small'.bounds cc, same.warmup, replays_apart a b r s f g small small' cc)

@@ -1,0 +1,161 @@
+-- The lines of a report, of which two may be there or not: how many requests count, and the warm-up.
+use Rattle.std.proofs.Common.{◌≡◌, ℕ, zero, suc, ◌∙◌, sym, refl, ap, true, List, [], ◌∷◌, ◌++◌, append-nil, cond, length, get_or, arith, codes, Some, None, Option, IfSome}
+use Rattle.std.specs.List.{AllByRecursion, list_all}
+use Rattle.std.proofs.lemmas.Bool.{ne_eqb}
+use Rattle.std.proofs.lemmas.List.Concat.{flat_map-append}
+use Rattle.cache_model.specs.declared.objects.Objective.{Objective}
+use Rattle.cache_model.specs.Texts.{entry, line, text_of}
+use Rattle.bound_report.specs.Counted.{refined_with_counted, with_counted}
+use Rattle.bound_report.specs.Replays.{with_warmup}
+use Rattle.bound_report.specs.Reports.{capacity_line}
+use Rattle.bound_report.proofs.CountedLemmas.{refined_with_counted-lines, with_counted-lines}
+use Rattle.report_laws.specs.Laws.{IsPrintable}
+use Rattle.report_laws.proofs.Lines.{Lacks, is_part, line_lacks, lines_apart, named, numbers_apart}
+
+-- ---- a line that may be there
+-- lines, and before them one of a word and a number, if there is a number
+abbrev pub optional : List ℕ → Option ℕ → List (List ℕ) → List (List ℕ)
+optional word None lines = lines
+optional word (Some n) lines = entry word n ∷ lines
+
+optional_lacks : (word : List ℕ) (c : Option ℕ) (lines : List (List ℕ)) → list_all is_part (named word) ≡ true → IfSome c IsPrintable
+    → AllByRecursion (Lacks 10) lines → AllByRecursion (Lacks 10) (optional word c lines)
+optional_lacks word None lines ok small lack = lack
+optional_lacks word (Some n) lines ok small lack = (line_lacks (named word) (n ∷ []) ok (small, tt), lack)
+
+-- whether it is there is read too, if the next line is none of that word
+optional_apart : (word : List ℕ) (c d : Option ℕ) (xs ys : List (List ℕ)) → list_all is_part (named word) ≡ true → IfSome c IsPrintable → IfSome d IsPrintable
+    → ((n : ℕ) → get_or xs 0 [] ≡ entry word n → ⊥) → ((n : ℕ) → get_or ys 0 [] ≡ entry word n → ⊥)
+    → optional word c xs ≡ optional word d ys → (c ≡ d) × (xs ≡ ys)
+optional_apart word None None xs ys ok pc pd other_x other_y e = (refl, e)
+optional_apart word None (Some d) xs ys ok pc pd other_x other_y e = absurd (other_x d (ap (λ ls. get_or ls 0 []) e))
+optional_apart word (Some c) None xs ys ok pc pd other_x other_y e = absurd (other_y c (ap (λ ls. get_or ls 0 []) (sym e)))
+optional_apart word (Some c) (Some d) xs ys ok pc pd other_x other_y e =
+    let first : entry word c ≡ entry word d = ap (λ ls. get_or ls 0 []) e in
+    let numbers : c ∷ [] ≡ d ∷ [] = numbers_apart (named word) (c ∷ []) (d ∷ []) ok refl refl (pc, tt) (pd, tt) first in
+    (cc, cc)
+
+-- ---- the warm-up
+-- the number that is printed, which is none if it is 0
+abbrev warmup_of : ℕ → Option ℕ
+warmup_of zero = None
+warmup_of (suc n) = Some (suc n)
+
+-- lines, and before them that of the warm-up, if there is one
+abbrev pub warmed : ℕ → List (List ℕ) → List (List ℕ)
+warmed v lines = optional (codes "warmup") (warmup_of v) lines
+
+warmup_small : (v : ℕ) → IsPrintable v → IfSome (warmup_of v) IsPrintable
+warmup_small zero small = tt
+warmup_small (suc n) small = small
+
+warmup_apart : (v w : ℕ) → warmup_of v ≡ warmup_of w → v ≡ w
+warmup_apart zero zero e = refl
+warmup_apart zero (suc w) e = absurd cc
+warmup_apart (suc v) zero e = absurd cc
+warmup_apart (suc v) (suc w) e = cc
+
+-- behind lines it is a line
+pub with_warmup-lines : (v : ℕ) (lines : List (List ℕ)) → with_warmup v (text_of lines) ≡ text_of (lines ++ warmed v [])
+with_warmup-lines zero lines = ap text_of (sym (append-nil lines))
+with_warmup-lines (suc n) lines =
+    let last = entry (codes "warmup") (suc n) in
+    ap (λ none. cond none (text_of lines) (text_of lines ++ line last)) (ne_eqb (suc n) 0 (λ e. omega arith))
+    ∙ ap (λ text. text_of lines ++ text) (sym (append-nil (line last)))
+    ∙ sym (flat_map-append line lines (last ∷ []))
+
+-- ---- the lines of a report
+-- those up to that of the trace, how many requests count, the lines from the capacity on, the warm-up, and the lines behind it
+pub record Report : Type 0 where
+  pub before : List (List ℕ)
+  pub counted : Option ℕ
+  pub capacity : ℕ
+  pub objective : Objective
+  pub others : List (List ℕ)
+  pub warmup : ℕ
+  pub behind : List (List ℕ)
+
+-- the lines from the capacity on
+abbrev pub body : Report → List (List ℕ)
+body r = capacity_line r.capacity r.objective ∷ r.others
+
+-- all lines behind those up to that of the trace
+abbrev pub after_trace : Report → List (List ℕ)
+after_trace r = optional (codes "counted") r.counted (body r ++ warmed r.warmup r.behind)
+
+-- all its lines
+abbrev pub lines_of : Report → List (List ℕ)
+lines_of r = r.before ++ after_trace r
+
+-- each is one line, and none behind the warm-up looks as that of a warm-up
+pub record IsReport (r : Report) : Type 0 where
+  pub before : AllByRecursion (Lacks 10) r.before
+  pub counted : IfSome r.counted IsPrintable
+  pub body : AllByRecursion (Lacks 10) (body r)
+  pub warmup : IsPrintable r.warmup
+  pub behind : AllByRecursion (Lacks 10) r.behind
+  pub other : (n : ℕ) → get_or r.behind 0 [] ≡ entry (codes "warmup") n → ⊥
+
+lacks-both : (xs ys : List (List ℕ)) → AllByRecursion (Lacks 10) xs → AllByRecursion (Lacks 10) ys → AllByRecursion (Lacks 10) (xs ++ ys)
+lacks-both [] ys a b = b
+lacks-both (x ∷ xs) ys a b = (a.0, lacks-both xs ys a.1 b)
+
+report_lacks : (r : Report) → IsReport r → AllByRecursion (Lacks 10) (lines_of r)
+report_lacks r is =
+    let last = optional_lacks (codes "warmup") (warmup_of r.warmup) r.behind refl (warmup_small r.warmup is.warmup) is.behind in
+    let rest = lacks-both (body r) (warmed r.warmup r.behind) is.body last in
+    lacks-both r.before (after_trace r) is.before (optional_lacks (codes "counted") r.counted (body r ++ warmed r.warmup r.behind) refl is.counted rest)
+
+-- two lists of which as many elements are cut off
+split_at : (xs ys ps qs : List (List ℕ)) → length xs ≡ length ys → xs ++ ps ≡ ys ++ qs → (xs ≡ ys) × (ps ≡ qs)
+split_at [] [] ps qs same e = (refl, e)
+split_at [] (y ∷ ys) ps qs same e = absurd (omega arith)
+split_at (x ∷ xs) [] ps qs same e = absurd (omega arith)
+split_at (x ∷ xs) (y ∷ ys) ps qs same e =
+    let rest : xs ++ ps ≡ ys ++ qs = cc in
+    let both : (xs ≡ ys) × (ps ≡ qs) = split_at xs ys ps qs (omega arith) rest in
+    let others : xs ≡ ys = both.0 in
+    (cc, both.1)
+
+-- the byte at a place
+pub bytes_at : (i : ℕ) (xs ys : List ℕ) → xs ≡ ys → get_or xs i 0 ≡ get_or ys i 0
+bytes_at i xs ys e = ap (λ text. get_or text i 0) e
+
+is_capacity : (capacity : ℕ) (objective : Objective) (n : ℕ) → capacity_line capacity objective ≡ entry (codes "counted") n → ⊥
+is_capacity capacity objective n e = omega (arith, bytes_at 1 _ _ e)
+
+pub record SameReport (r s : Report) : Type 0 where
+  pub before : r.before ≡ s.before
+  pub counted : r.counted ≡ s.counted
+  pub body : body r ≡ body s
+  pub warmup : r.warmup ≡ s.warmup
+  pub behind : r.behind ≡ s.behind
+
+-- two reports of as many lines are the same if their texts are
+pub reports_apart : (r s : Report) → IsReport r → IsReport s → length r.before ≡ length s.before → length r.others ≡ length s.others
+    → text_of (lines_of r) ≡ text_of (lines_of s) → SameReport r s
+reports_apart r s is it before others e =
+    let first = split_at r.before s.before (after_trace r) (after_trace s) before (lines_apart (lines_of r) (lines_of s) (report_lacks r is) (report_lacks s it) e) in
+    let second = optional_apart (codes "counted") r.counted s.counted (body r ++ warmed r.warmup r.behind) (body s ++ warmed s.warmup s.behind)
+    refl is.counted it.counted (is_capacity r.capacity r.objective) (is_capacity s.capacity s.objective) first.1 in
+    let third = split_at (body r) (body s) (warmed r.warmup r.behind) (warmed s.warmup s.behind) (ap suc others) second.1 in
+    let last = optional_apart (codes "warmup") (warmup_of r.warmup) (warmup_of s.warmup) r.behind s.behind
+    refl (warmup_small r.warmup is.warmup) (warmup_small s.warmup it.warmup) is.other it.other third.1 in
+    record { before = first.0; counted = second.0; body = third.0; warmup = warmup_apart r.warmup s.warmup last.0; behind = last.1 }
+
+-- nothing behind the warm-up
+pub none_behind : (n : ℕ) → [] ≡ entry (codes "warmup") n → ⊥
+none_behind n e = cc
+
+-- ---- texts with both lines put in
+pub with_counted-with_warmup : (c : Option ℕ) (v : ℕ) (first : List ℕ) (lines : List (List ℕ)) → Lacks 10 first
+    → with_counted c (with_warmup v (text_of (first ∷ lines))) ≡ text_of (first ∷ optional (codes "counted") c (lines ++ warmed v []))
+with_counted-with_warmup None v first lines lacks = with_warmup-lines v (first ∷ lines)
+with_counted-with_warmup (Some n) v first lines lacks =
+    ap (with_counted (Some n)) (with_warmup-lines v (first ∷ lines)) ∙ with_counted-lines n first (lines ++ warmed v []) lacks
+
+pub refined_with_counted-with_warmup : (c : Option ℕ) (v : ℕ) (first second : List ℕ) (lines : List (List ℕ)) → Lacks 10 first → Lacks 10 second
+    → refined_with_counted c (with_warmup v (text_of (first ∷ second ∷ lines))) ≡ text_of (first ∷ second ∷ optional (codes "counted") c (lines ++ warmed v []))
+refined_with_counted-with_warmup None v first second lines lacks lacks' = with_warmup-lines v (first ∷ second ∷ lines)
+refined_with_counted-with_warmup (Some n) v first second lines lacks lacks' =
+    ap (refined_with_counted (Some n)) (with_warmup-lines v (first ∷ second ∷ lines)) ∙ refined_with_counted-lines n first second (lines ++ warmed v []) lacks lacks'

@@ -1,0 +1,105 @@
+-- A printed report can be read in one way only; each law is the contract of a function.
+use Rattle.std.specs.Prelude.{◌≡◌, ℕ, ◌^◌, ◌<◌, Bool, false, List, [], ◌∷◌, ◌++◌, All, Option, None, IfSome}
+use Rattle.cache_model.specs.declared.certificates.Header.{Header}
+use Rattle.cert_checker.specs.declared.verdict.Verdict.{Verdict}
+use Rattle.bound_report.specs.declared.facts.Window.TheVariants.{All as Whole, Steps}
+use Rattle.bound_report.specs.declared.facts.Mode.{Mode}
+use Rattle.bound_report.specs.declared.facts.Mode.TheVariants.{Flow, Constant, Infinite}
+use Rattle.bound_report.specs.declared.facts.BoundFacts.{BoundFacts}
+use Rattle.bound_report.specs.declared.demo.DemoFacts.{DemoFacts}
+use Rattle.bound_report.specs.declared.demo.PolicyReplays.{PolicyReplays}
+use Rattle.bound_report.specs.Counted.{refined_with_counted, with_counted}
+use Rattle.bound_report.specs.Demos.{demo_text}
+use Rattle.bound_report.specs.Refinements.{refined_text}
+use Rattle.bound_report.specs.Replays.{with_warmup}
+use Rattle.bound_report.specs.Reports.{report_text}
+use Rattle.bound_report.specs.Verdicts.{verdict_text}
+
+-- a number of at most 128 bits, as all numbers of a report are; a longer one may share its text with another
+abbrev pub IsPrintable : ℕ → Type 0
+IsPrintable n = n < 2 ^ 128
+
+-- how many requests count, if that is asked for, the warm-up, and the other numbers of a report
+abbrev pub ArePrintable : Option ℕ → ℕ → List ℕ → Type 0
+ArePrintable counted warmup numbers = IfSome counted IsPrintable × IsPrintable warmup × All IsPrintable numbers
+
+-- the numbers of a header that reports print
+abbrev pub header_numbers : Header → List ℕ
+header_numbers h = h.requests ∷ h.capacity ∷ h.unit ∷ h.denominator ∷ h.upper ∷ h.flow ∷ h.lower ∷ []
+
+-- the number of a mode, if a report prints one: the steps of a window, or the price
+abbrev pub mode_numbers : Mode → ℕ → List ℕ
+mode_numbers (Flow Whole) price = []
+mode_numbers (Flow (Steps w)) price = w ∷ []
+mode_numbers Constant price = price ∷ []
+mode_numbers Infinite price = []
+
+-- whether a report says that the form is exact, as only that of a flow can
+abbrev pub says_exact : Mode → Bool → Bool
+says_exact (Flow window) exact = exact
+says_exact Constant exact = false
+says_exact Infinite exact = false
+
+-- the numbers that a report of bounds prints
+abbrev pub bound_numbers : BoundFacts → List ℕ
+bound_numbers f = f.objects ∷ f.dropped ∷ f.intervals ∷ header_numbers f.header ++ mode_numbers f.mode f.price
+
+-- the same is printed of two bounds
+pub record SameBounds (f g : BoundFacts) : Type 0 where
+  pub numbers : bound_numbers f ≡ bound_numbers g
+  pub objective : f.header.objective ≡ g.header.objective
+  pub mode : f.mode ≡ g.mode
+  pub exact : says_exact f.mode f.header.exact ≡ says_exact g.mode g.header.exact
+
+-- two reports of bounds with one text print the same: v and w are their warm-ups, c and d how many requests count
+abbrev pub BoundsHaveOneReading : Type 0
+BoundsHaveOneReading =
+    (f g : BoundFacts) (v w : ℕ) (c d : Option ℕ)
+    → ArePrintable c v (bound_numbers f) → ArePrintable d w (bound_numbers g)
+    → with_counted c (with_warmup v (report_text f)) ≡ with_counted d (with_warmup w (report_text g))
+    → SameBounds f g × (v ≡ w) × (c ≡ d)
+
+-- the numbers that a check prints, with that of the dropped requests
+abbrev pub verdict_numbers : Verdict → ℕ → List ℕ
+verdict_numbers verdict dropped = verdict.objects ∷ dropped ∷ header_numbers verdict.header
+
+-- the same is printed of two verdicts, with m and n dropped requests
+pub record SameVerdicts (x y : Verdict) (m n : ℕ) : Type 0 where
+  pub numbers : verdict_numbers x m ≡ verdict_numbers y n
+  pub objective : x.header.objective ≡ y.header.objective
+  pub exact : x.header.exact ≡ y.header.exact
+
+-- two checks with one text print the same
+abbrev pub VerdictsHaveOneReading : Type 0
+VerdictsHaveOneReading =
+    (x y : Verdict) (m n v w : ℕ) (c d : Option ℕ)
+    → ArePrintable c v (verdict_numbers x m) → ArePrintable d w (verdict_numbers y n)
+    → with_counted c (with_warmup v (verdict_text x m)) ≡ with_counted d (with_warmup w (verdict_text y n))
+    → SameVerdicts x y m n × (v ≡ w) × (c ≡ d)
+
+-- and so do two refinements, which print the bound that was read too
+abbrev pub RefinementsHaveOneReading : Type 0
+RefinementsHaveOneReading =
+    (read other : ℕ) (x y : Verdict) (m n v w : ℕ) (c d : Option ℕ)
+    → ArePrintable c v (read ∷ verdict_numbers x m) → ArePrintable d w (other ∷ verdict_numbers y n)
+    → refined_with_counted c (with_warmup v (refined_text read x m)) ≡ refined_with_counted d (with_warmup w (refined_text other y n))
+    → (read ≡ other) × SameVerdicts x y m n × (v ≡ w) × (c ≡ d)
+
+-- the numbers that a demo prints beside those of its bounds
+abbrev pub demo_numbers : DemoFacts → PolicyReplays → List ℕ
+demo_numbers facts r =
+    facts.seed ∷ facts.requests ∷ facts.objects ∷ facts.capacity
+    ∷ r.lru.hits ∷ r.lru.bytes
+    ∷ r.fifo.hits ∷ r.fifo.bytes
+    ∷ r.clock.hits ∷ r.clock.bytes
+    ∷ r.lfu.hits ∷ r.lfu.bytes
+    ∷ r.belady.hits ∷ r.belady.bytes
+    ∷ []
+
+-- two demos with one text were asked the same, and have the same bounds and replays
+abbrev pub DemosHaveOneReading : Type 0
+DemosHaveOneReading =
+    (a b : DemoFacts) (f g : BoundFacts) (v w : ℕ) (r s : PolicyReplays)
+    → ArePrintable None v (demo_numbers a r ++ bound_numbers f) → ArePrintable None w (demo_numbers b s ++ bound_numbers g)
+    → demo_text a (with_warmup v (report_text f)) r ≡ demo_text b (with_warmup w (report_text g)) s
+    → (a ≡ b) × SameBounds f g × (v ≡ w) × (r ≡ s)
