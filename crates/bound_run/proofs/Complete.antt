@@ -165,15 +165,15 @@ module _ (format : Format) where
   module _ (source cert report : Device) (good : IsGoodTrace format source.before) (known_cert : IsSome cert.before)
       (source_works : ¬ (HasFailed source)) (cert_works : ¬ (HasFailed cert)) (report_works : ¬ (HasFailed report)) where
     check_complete : (status : Status) → CheckEnds format source cert report (ending_of status) → AnswersOf format source.before cert.before status
-    check_complete Done (verdict, dropped, accepted, all) = yes_at source.before cert.before accepted.requests dropped verdict.header accepted.records good known_cert accepted.loaded.read accepted.text accepted.valid
+    check_complete Done (text, said, all) = yes_at source.before cert.before said.accepted.requests said.dropped said.verdict.header said.accepted.records good known_cert said.accepted.loaded.read said.accepted.text said.accepted.valid
     check_complete (Invalid line kind) e = no_at source.before cert.before line kind good known_cert e.0.0
-    check_complete (BadLine line kind) e = absurd (not_refused_at source.before cert.before (trace.BadLine line kind) good known_cert e.0)
-    check_complete (Limit Requests) e = absurd (not_refused_at source.before cert.before trace.TooManyRequests good known_cert e.0)
-    check_complete (Limit TraceBytes) e = absurd (not_refused_at source.before cert.before trace.InputTooLong good known_cert e.0)
+    check_complete (BadLine line kind) e = absurd (not_refused_at source.before cert.before (trace.BadLine line kind) good known_cert e.0.0)
+    check_complete (Limit Requests) e = absurd (not_refused_at source.before cert.before trace.TooManyRequests good known_cert e.0.0)
+    check_complete (Limit TraceBytes) e = absurd (not_refused_at source.before cert.before trace.InputTooLong good known_cert e.0.0)
     check_complete (Limit Denominator) e = absurd e.0
     check_complete TraceFault e = absurd (source_works e.0)
     check_complete CertFault e = absurd (cert_works e.0)
-    check_complete ReportFault (verdict, dropped, accepted, failed) = absurd (report_works failed.0)
+    check_complete ReportFault (text, said, failed) = absurd (report_works failed.0)
     check_complete NoMemory e = free_at source.before cert.before
     check_complete (Words fault) e = absurd e.0
     check_complete MadeFault e = absurd e.0
@@ -185,9 +185,9 @@ module _ (format : Format) where
     refine_complete : (status : Status) → RefineEnds format width source cert report made (ending_of status) → AnswersOf format source.before cert.before status
     refine_complete Done (written, text, refined, all, printed) = yes_at source.before cert.before refined.requests refined.dropped refined.header refined.records good known_cert refined.read.loaded.read refined.read.text refined.read.valid
     refine_complete (Invalid line kind) e = no_at source.before cert.before line kind good known_cert e.0.0
-    refine_complete (BadLine line kind) e = absurd (not_refused_at source.before cert.before (trace.BadLine line kind) good known_cert e.0)
-    refine_complete (Limit Requests) e = absurd (not_refused_at source.before cert.before trace.TooManyRequests good known_cert e.0)
-    refine_complete (Limit TraceBytes) e = absurd (not_refused_at source.before cert.before trace.InputTooLong good known_cert e.0)
+    refine_complete (BadLine line kind) e = absurd (not_refused_at source.before cert.before (trace.BadLine line kind) good known_cert e.0.0)
+    refine_complete (Limit Requests) e = absurd (not_refused_at source.before cert.before trace.TooManyRequests good known_cert e.0.0)
+    refine_complete (Limit TraceBytes) e = absurd (not_refused_at source.before cert.before trace.InputTooLong good known_cert e.0.0)
     refine_complete (Limit Denominator) e = absurd e.0
     refine_complete TraceFault e = absurd (source_works e.0)
     refine_complete CertFault e = absurd (cert_works e.0)

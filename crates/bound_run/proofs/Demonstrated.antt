@@ -43,9 +43,9 @@ module _ (lines text : List ℕ) (lines_after text_after : Option (List ℕ)) (g
   -- a check of a valid certificate over sources in memory is refused only if memory runs out
   pub only_memory : (why : Refusal) → RefusesCheck Webcache (device (Some lines) lines_after 0 0) (device (Some text) text_after 0 0) why → why ≡ refusal.NoMemory
   only_memory (refusal.Invalid line kind) e = absurd (no_event (walks.Invalid line kind) e.0)
-  only_memory (refusal.BadLine line kind) e = absurd (no_event (walks.Refused (trace.BadLine line kind)) e)
-  only_memory (refusal.Limit Requests) e = absurd (no_event (walks.Refused trace.TooManyRequests) e)
-  only_memory (refusal.Limit TraceBytes) e = absurd (no_event (walks.Refused trace.InputTooLong) e)
+  only_memory (refusal.BadLine line kind) e = absurd (no_event (walks.Refused (trace.BadLine line kind)) e.0)
+  only_memory (refusal.Limit Requests) e = absurd (no_event (walks.Refused trace.TooManyRequests) e.0)
+  only_memory (refusal.Limit TraceBytes) e = absurd (no_event (walks.Refused trace.InputTooLong) e.0)
   only_memory (refusal.Limit Denominator) e = absurd e
   only_memory refusal.TraceFault e = absurd (no_fault e)
   only_memory refusal.CertFault e = absurd (no_fault e)
@@ -56,7 +56,7 @@ module _ (lines text : List ℕ) (lines_after text_after : Option (List ℕ)) (g
 
 -- the text of a demo, from its parts
 pub shown_by : (drawing : DrawSettings) (asked : BoundSettings) (trace : Trail) (cert report text : List ℕ) (replays : PolicyReplays) → trace ≡ trace_drawn drawing
-    → AreTexts asked trace 0 cert report → AreReplays asked.terms.capacity trace replays → text ≡ demo_text (demo_facts drawing asked) report replays → IsDemoText drawing asked text
+    → AreTexts Webcache asked trace 0 cert report → AreReplays asked.terms.capacity trace replays → text ≡ demo_text (demo_facts drawing asked) report replays → IsDemoText drawing asked text
 shown_by drawing asked trace cert report text replays drawn texts replayed is = record {
   price = texts.price;
   header = texts.header;
@@ -64,10 +64,10 @@ shown_by drawing asked trace cert report text replays drawn texts replayed is = 
   made = subst (λ xs. IsMade asked xs texts.price texts.header texts.records) drawn texts.made;
   replays = replays;
   replayed = subst (λ xs. AreReplays asked.terms.capacity xs replays) drawn replayed;
-  text_is = is ∙ (ap (λ r. demo_text (demo_facts drawing asked) r replays) texts.report_is ∙ ap (λ xs. demo_text (demo_facts drawing asked) (bounds_report asked xs 0 texts.price texts.header) replays) drawn);
+  text_is = is ∙ (ap (λ r. demo_text (demo_facts drawing asked) r replays) texts.report_is ∙ ap (λ xs. demo_text (demo_facts drawing asked) (bounds_report None asked xs 0 texts.price texts.header) replays) drawn);
 }
 
 -- what is made of a trace is certified by its lines
-pub certified_by_texts : (asked : BoundSettings) (requests : List Object) (lines cert report : List ℕ) → reading Webcache full_limits lines ≡ read_whole requests → AreTexts asked (all_count requests) 0 cert report → IsCertified Webcache lines cert
+pub certified_by_texts : (asked : BoundSettings) (requests : List Object) (lines cert report : List ℕ) → reading Webcache full_limits lines ≡ read_whole requests → AreTexts Webcache asked (all_count requests) 0 cert report → IsCertified Webcache lines cert
 certified_by_texts asked requests lines cert report read texts =
     record { header = texts.header; records = texts.records; text_is = texts.cert_is; valid = subst (λ (r : Reading). IsValid r.requests r.fills texts.header texts.records) (sym read) texts.made.valid }

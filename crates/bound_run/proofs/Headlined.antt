@@ -1,18 +1,23 @@
 -- What a run that ends well has shown.
-use Rattle.std.proofs.Common.{◌≡◌, ◌∙◌, ◌*◌, sym, ap, subst, List, Ok, Err}
+use Rattle.std.proofs.Common.{◌≡◌, ◌∙◌, ℕ, ◌*◌, sym, ap, subst, List, length, Ok, Err}
 use Rattle.std.specs.Prelude.{Result}
 use Rattle.std.specs.Io.KnownBytes.{Appends}
 use Rattle.cache_rules.specs.Stored.{Requests}
 use Rattle.cache_model.specs.declared.certificates.Header.{Header}
 use Rattle.cache_model.specs.declared.certificates.Record.{Record}
-use Rattle.cache_model.specs.Claim.{BoundsEveryPolicy}
-use Rattle.cache_model.specs.Certificates.{IsValid}
+use Rattle.cache_model.specs.Claim.{BoundsEveryPolicy, terms_of}
+use Rattle.cache_model.specs.Certificates.{IsValid, eligible_of, flows_of, prices_of, units_of}
+use Rattle.cache_model.proofs.Flows.{flow_value-le}
 use Rattle.bound_words.specs.declared.words.Plan.{Plan}
 use Rattle.bound_words.specs.declared.words.WordFault.{WordFault}
 use Rattle.bound_run.specs.declared.status.Status.{Status}
 use Rattle.bound_run.specs.declared.status.Status.TheVariants.{Done, Words}
+use Rattle.bound_report.specs.declared.facts.Mode.{Mode}
+use Rattle.bound_report.specs.declared.facts.Mode.TheVariants.{Flow, Constant, Infinite}
+use Rattle.interval_maker.specs.Timelines.{timeline_of}
+use Rattle.bound_run.specs.BoundsMade.{IsOfMode}
 use Rattle.bound_run.specs.Demos.{trace_drawn}
-use Rattle.bound_run.specs.Headline.{AreTrueBounds, Headline, Shows}
+use Rattle.bound_run.specs.Headline.{AreTrueBounds, Headline, IsPriceOf, Shows}
 use Rattle.bound_run.specs.Run.{Devices, RunEnds, CommandEnds}
 use Rattle.bound_run.specs.Statuses.{done, ending_of}
 use Rattle.bound_words.specs.declared.settings.Settings.{Settings}
@@ -27,8 +32,17 @@ true_bounds trace h records valid above = record {
   upper = above;
   schedule = valid.keeps;
   lower = sym valid.lower;
+  flow = λ e prices. rw (sym valid.flow) at (flow_value-le (eligible_of trace.objects trace.fills h) h.unit (units_of h) h.denominator e (flows_of (eligible_of trace.objects trace.fills h) records) prices valid.flows);
   equal_values = λ exact. (sym valid.upper, sym valid.flow ∙ sym (valid.exact_values exact));
 }
+
+-- prices of the mode constant are its price
+priced_in : (trace : Requests) (mode : Mode) (price units : ℕ) (h : Header) (records : List Record)
+    → IsOfMode mode (timeline_of (terms_of h trace.fills) trace.objects) h.unit units h.denominator (prices_of records) (flows_of (eligible_of trace.objects trace.fills h) records) price
+    → IsPriceOf mode price (length trace.objects) records
+priced_in trace (Flow window) price units h records is = tt
+priced_in trace Constant price units h records is = is.1
+priced_in trace Infinite price units h records is = tt
 
 -- refused words are no good end
 not_done : (fault : WordFault) → Done ≡ Words fault → ⊥
@@ -48,6 +62,8 @@ shown (Bounds format asked) d ((cert, text, ready, certified, printed), source, 
         printed = subst (λ t. Appends d.report.before d.report.after t) ready.texts.report_is printed;
         certified = subst (λ t. Appends d.made.before d.made.after t) ready.texts.cert_is certified;
         terms = made.terms;
+        version = made.version;
+        priced = priced_in ready.requests asked.mode ready.texts.price (units_of ready.texts.header) ready.texts.header ready.texts.records made.of_mode;
         bounds = true_bounds ready.requests ready.texts.header ready.texts.records made.valid made.bounds;
         exact = made.form;
         equal_sizes = λ size unwindowed same. (
@@ -56,16 +72,17 @@ shown (Bounds format asked) d ((cert, text, ready, certified, printed), source, 
         );
       },
     )
-shown (Check format) d ((verdict, dropped, accepted, printed), trace, cert, untouched) = (
-  accepted.requests,
-  dropped,
-  accepted.loaded,
+shown (Check format) d ((text, said, printed), trace, cert, untouched) = (
+  said.accepted.requests,
+  said.dropped,
+  said.accepted.loaded,
   record {
-    verdict = verdict;
-    records = accepted.records;
-    printed = printed;
-    certified = accepted.text;
-    bounds = true_bounds accepted.requests verdict.header accepted.records accepted.valid accepted.bounds;
+    verdict = said.verdict;
+    records = said.accepted.records;
+    printed = subst (λ t. Appends d.report.before d.report.after t) said.text_is printed;
+    certified = said.accepted.text;
+    objects = said.accepted.objects;
+    bounds = true_bounds said.accepted.requests said.verdict.header said.accepted.records said.accepted.valid said.accepted.bounds;
   },
 )
 shown (Replay format r) d ((text, replayed, printed), source, cert, made) = (
@@ -89,6 +106,7 @@ shown (Demo drawing asked) d ((text, shows, printed), trace, cert, made) =
       replays = shows.replays;
       printed = subst (λ t. Appends d.report.before d.report.after t) shows.text_is printed;
       terms = is.terms;
+      priced = priced_in (trace_drawn drawing) asked.mode shows.price (units_of shows.header) shows.header shows.records is.of_mode;
       bounds = true_bounds (trace_drawn drawing) shows.header shows.records is.valid is.bounds;
       exact = is.form;
       equal_sizes = λ size unwindowed same. (

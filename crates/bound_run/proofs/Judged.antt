@@ -21,7 +21,9 @@ use Rattle.cert_checker.specs.declared.walking.CheckFault.{CheckFault}
 use Rattle.cert_checker.specs.declared.walking.CheckFault.TheVariants as check
 use Rattle.cert_checker.specs.Checks.{Inputs, IsEvent, IsNear, IsPassed}
 use Rattle.cert_checker.specs.Keeping.{Checked, HasKept}
-use Rattle.bound_run.specs.Readings.{IsAccepted, IsLoaded}
+use Rattle.cert_checker.specs.Counting.{counted_in}
+use Rattle.bound_run.specs.Readings.{IsAccepted, IsLoaded, IsVerdictText}
+use Rattle.bound_run.specs.Reports.{verdict_report}
 use Rattle.bound_run.specs.Refusals.{RefusesCheck}
 use Rattle.bound_run.specs.Refined.{IsKept}
 use Rattle.bound_run.specs.Statuses.{refusal_of_check}
@@ -47,7 +49,7 @@ module _ (format : Format) (start end : Inputs) (new : start.reader ≡ fresh fo
   same_limits = ap (λ r. r.limits) new
 
   -- a yes is one over all that the sources had left
-  pub accepted : (verdict : Verdict) → IsPassed start end verdict
+  accepted : (verdict : Verdict) → IsPassed start end verdict
       → IsAccepted format (device start.trace end.trace start.trace_faults end.trace_faults) (device start.certificate end.certificate start.certificate_faults end.certificate_faults) verdict end.reader.dropped
   accepted verdict passed =
       record {
@@ -61,6 +63,18 @@ module _ (format : Format) (start end : Inputs) (new : start.reader ≡ fresh fo
         text = texts_of_whole start.certificate verdict.header passed.records passed.certificate;
         nothing_left = passed.certificate_end;
       }
+
+  -- and so is the text of it
+  pub said : (verdict : Verdict) (dropped : ℕ) (counted : Option ℕ) (text : List ℕ) (passed : IsPassed start end verdict) → end.reader.dropped ≡ dropped
+      → counted ≡ counted_in format verdict.header.warmup passed.requests → text ≡ verdict_report counted verdict dropped
+      → IsVerdictText format (device start.trace end.trace start.trace_faults end.trace_faults) (device start.certificate end.certificate start.certificate_faults end.certificate_faults) text
+  unfolding accepted
+  said verdict dropped counted text passed same number shown = record {
+    verdict = verdict;
+    dropped = end.reader.dropped;
+    accepted = accepted verdict passed;
+    text_is = shown ∙ ap (λ n. verdict_report n verdict dropped) number ∙ ap (verdict_report (counted_in format verdict.header.warmup passed.requests) verdict) (sym same);
+  }
 
   -- so is one of what is kept
   pub kept_all : (kept : Checked) → HasKept start end kept
@@ -81,7 +95,7 @@ module _ (format : Format) (start end : Inputs) (new : start.reader ≡ fresh fo
   -- and a no is the first event of the walk over it, with little read beyond its line
   pub refused : (fault : CheckFault) → IsEvent start end fault → IsNear start end fault
       → RefusesCheck format (device start.trace end.trace start.trace_faults end.trace_faults) (device start.certificate end.certificate start.certificate_faults end.certificate_faults) (refusal_of_check fault)
-  refused (check.Invalid line kind) e near = (rw (same_format, same_limits) at e, rw (same_format, same_limits) at near)
+  refused (check.Invalid line kind) e near = (rw (same_format, same_limits) at e.0, e.1, rw (same_format, same_limits) at near)
   refused (check.Trace (trace.BadLine line kind)) e near = rw (same_format, same_limits) at e
   refused (check.Trace trace.InputTooLong) e near = rw (same_format, same_limits) at e
   refused (check.Trace trace.TooManyRequests) e near = rw (same_format, same_limits) at e

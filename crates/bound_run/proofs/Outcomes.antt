@@ -71,7 +71,7 @@ not_loaded format before after faults_before faults_after trace.NoMemory why = t
 
 -- the bounds of a trace, once it is loaded
 pub ready_of : (format : Format) (asked : BoundSettings) (d : Device) (requests : Trail) (dropped : ℕ) (cert report : List ℕ)
-    → IsLoaded format d requests dropped → AreTexts asked requests dropped cert report → IsReady format asked d cert report
+    → IsLoaded format d requests dropped → AreTexts format asked requests dropped cert report → IsReady format asked d cert report
 ready_of format asked d requests dropped cert report loaded texts = record { requests = requests; dropped = dropped; loaded = loaded; texts = texts }
 
 -- what refuses the bounds of a trace that is loaded
@@ -115,8 +115,8 @@ module _ (AreReady : List ℕ → List ℕ → Type 0) (Refuses : Refusal → Ty
 module _ (format : Format) (source cert report : Device) where
   -- a check that said yes, or failed to
   pub check_written : (text : List ℕ) (ending : Ending) → IsVerdictText format source cert text → WritesReport report text ending → CheckEnds format source cert report ending
-  check_written text done yes_text all = (yes_text.verdict, yes_text.dropped, yes_text.accepted, rw yes_text.text_is at all)
-  check_written text unreported yes_text less = (yes_text.verdict, yes_text.dropped, yes_text.accepted, rw yes_text.text_is at less)
+  check_written text done yes_text all = (text, yes_text, all)
+  check_written text unreported yes_text less = (text, yes_text, less)
   check_written text (refused why) yes_text written = absurd written
 
 -- ---- replays

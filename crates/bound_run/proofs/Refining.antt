@@ -22,6 +22,7 @@ use Rattle.interval_maker.specs.Timelines.{Timeline, timeline_of}
 use Rattle.price_refine.specs.Blocks.{AreSettled}
 use Rattle.bound_report.specs.declared.refusal.Refusal.TheVariants as refusal
 use Rattle.bound_run.specs.Refusals.{RefusesCheck}
+use Rattle.cert_checker.specs.Counting.{counted_in}
 use Rattle.bound_run.specs.Refined.{AreRefinedTexts, IsRefinable, IsRefined, IsRefinement, RefinesPrices, verdict_on, with_price, with_prices, with_upper}
 use Rattle.bound_run.specs.Reports.{refined_report}
 use Rattle.bound_run.proofs.HeaderRanges.{still_in_range}
@@ -169,14 +170,14 @@ module _ (width : ℕ) (trace : Requests) (h : Header) (records : List Record) (
   }
 
   -- the texts of the certificate and the report
-  pub refined_texts : (dropped : ℕ) (cert report : List ℕ) → cert ≡ cert_text made refined → report ≡ refined_report h.upper (verdict_on trace made) dropped → AreRefinedTexts width trace dropped h records cert report
-  refined_texts dropped cert report cert_is report_is = record { made = made; refined = refined; refinement = refinement; cert_is = cert_is; report_is = report_is }
+  pub refined_texts : (format : Format) (dropped : ℕ) (cert report : List ℕ) → cert ≡ cert_text made refined → report ≡ refined_report (counted_in format h.warmup trace) h.upper (verdict_on trace made) dropped → AreRefinedTexts format width trace dropped h records cert report
+  refined_texts format dropped cert report cert_is report_is = record { made = made; refined = refined; refinement = refinement; cert_is = cert_is; report_is = report_is }
 
 -- ---- the run
 
 -- what comes of a certificate that was kept
 pub refined_all : (format : Format) (width : ℕ) (source cert : Device) (requests : Requests) (dropped : ℕ) (h : Header) (records : List Record) (written report : List ℕ)
-    → IsRefinable format source cert requests dropped h records → AreRefinedTexts width requests dropped h records written report → IsRefined format width source cert written report
+    → IsRefinable format source cert requests dropped h records → AreRefinedTexts format width requests dropped h records written report → IsRefined format width source cert written report
 refined_all format width source cert requests dropped h records written report read texts =
     record { requests = requests; dropped = dropped; header = h; records = records; read = read; texts = texts }
 

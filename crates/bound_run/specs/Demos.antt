@@ -1,5 +1,5 @@
 -- What a demo shows.
-use Rattle.std.specs.Prelude.{◌≡◌, ℕ, List}
+use Rattle.std.specs.Prelude.{◌≡◌, ℕ, List, None}
 use Rattle.cache_rules.specs.Stored.{Requests, all_count}
 use Rattle.cache_model.specs.declared.certificates.Header.{Header}
 use Rattle.cache_model.specs.declared.certificates.Record.{Record}
@@ -38,4 +38,4 @@ pub record IsDemoText (drawing : DrawSettings) (asked : BoundSettings) (text : L
   pub made : IsMade asked (trace_drawn drawing) price header records
   pub replays : PolicyReplays
   pub replayed : AreReplays asked.terms.capacity (trace_drawn drawing) replays
-  pub text_is : text ≡ demo_text (demo_facts drawing asked) (bounds_report asked (trace_drawn drawing) 0 price header) replays
+  pub text_is : text ≡ demo_text (demo_facts drawing asked) (bounds_report None asked (trace_drawn drawing) 0 price header) replays

@@ -1,15 +1,22 @@
 -- The headline: what is known of the numbers that a run printed, in the words of the trace and of contents alone.
-use Rattle.std.specs.Prelude.{◌≡◌, ◌↔◌, ℕ, ◌*◌, IsTrue, IfSome, List, [], length, All, Result, Ok, Err}
+use Rattle.std.specs.Prelude.{◌≡◌, ◌↔◌, ℕ, ◌*◌, ◌≤◌, IsTrue, IfSome, List, [], length, All, Result, Ok, Err, None}
 use Rattle.std.specs.Io.KnownBytes.{Appends}
 use Rattle.bound_io.specs.Devices.{Device}
 use Rattle.cache_rules.specs.Stored.{Requests}
 use Rattle.cache_model.specs.declared.certificates.Header.{Header}
 use Rattle.cache_model.specs.declared.certificates.Record.{Record}
-use Rattle.cache_model.specs.Certificates.{IsCertificate, IsValid, eligible_of, flow_of, keeps_of, upper_of}
+use Rattle.cache_model.specs.Certificates.{IsCertificate, IsValid, eligible_of, flow_of, keeps_of, prices_of, units_of, upper_of}
 use Rattle.cache_model.specs.Claim.{IsAllowed, marked, score, terms_of, BoundsEveryPolicy, contents_of}
+use Rattle.cache_model.specs.Objects.{objects_of}
 use Rattle.cache_model.specs.Texts.{cert_text}
+use Rattle.constant_price.specs.Constants.{constant_prices}
+use Rattle.bound_report.specs.declared.facts.Mode.{Mode}
+use Rattle.bound_report.specs.declared.facts.Mode.TheVariants.{Constant}
 use Rattle.cache_model.specs.Units.{HasWholeCosts}
+use Rattle.cache_model.specs.Intervals.{bound_of}
 use Rattle.cert_checker.specs.declared.verdict.Verdict.{Verdict}
+use Rattle.cert_checker.specs.Counting.{counted_in}
+use Rattle.trace_any.specs.declared.format.Format.{Format}
 use Rattle.bound_words.specs.declared.settings.BoundSettings.{BoundSettings}
 use Rattle.bound_words.specs.declared.settings.DrawSettings.{DrawSettings}
 use Rattle.bound_words.specs.declared.settings.ReplaySettings.{ReplaySettings}
@@ -30,46 +37,55 @@ use Rattle.bound_words.specs.declared.settings.Settings.{Settings}
 use Rattle.bound_words.specs.declared.settings.Settings.TheVariants.{Bounds, Check, Replay, Curve, Demo, Upgrade, Refine}
 use Rattle.bound_words.specs.Settings.{settings_of}
 
--- header and records are a certificate in range, with a record for each request, and its bounds are true of the trace: no allowed contents score more than the upper one, the keeps are allowed contents with the lower one as their score, and in the form exact prices and flows have the upper one as their value
+-- header and records are a certificate in range, with a record for each request, and its bounds are true of the trace: no allowed contents score more than the upper one, the keeps are allowed contents with the lower one as their score, no prices over any denominator have a bound below the flow, and in the form exact prices and flows have the upper one as their value
 pub record AreTrueBounds (trace : Requests) (h : Header) (records : List Record) : Type 0 where
   pub certificate : IsCertificate h records
   pub requests : h.requests ≡ length trace.objects
   pub upper : BoundsEveryPolicy trace.objects trace.fills h
   pub schedule : IsAllowed h.capacity trace.objects (contents_of trace.objects (keeps_of records))
   pub lower : score (terms_of h trace.fills) trace.objects (contents_of trace.objects (keeps_of records)) ≡ h.lower
+  pub flow : (e : ℕ) (prices : List ℕ) → e * h.flow ≤ h.denominator * bound_of (eligible_of trace.objects trace.fills h) h.unit (units_of h) e prices
   pub equal_values : IsTrue h.exact → (upper_of trace.objects trace.fills h records ≡ h.upper) × (flow_of trace.objects trace.fills h records ≡ h.upper)
 
+-- in mode constant the price that is printed is that of every step but the last
+abbrev pub IsPriceOf : Mode → ℕ → ℕ → List Record → Type 0
+IsPriceOf Constant price steps records = prices_of records ≡ constant_prices price steps
+IsPriceOf mode price steps records = Unit {0}
+
 -- bounds printed and certified true bounds at the capacity, for the objective and from the warm-up on that were asked for. With one window for all steps they have the form exact if no cost is rounded, and if all sizes are equal; in that last case they are one number
-pub record ShowsBounds (asked : BoundSettings) (trace : Requests) (dropped : ℕ) (report made : Device) : Type 0 where
+pub record ShowsBounds (format : Format) (asked : BoundSettings) (trace : Requests) (dropped : ℕ) (report made : Device) : Type 0 where
   pub header : Header
   pub records : List Record
   pub price : ℕ
-  pub printed : Appends report.before report.after (bounds_report asked trace dropped price header)
+  pub printed : Appends report.before report.after (bounds_report (counted_in format asked.terms.warmup trace) asked trace dropped price header)
   pub certified : Appends made.before made.after (cert_text header records)
   pub terms : terms_of header trace.fills ≡ marked asked.terms trace.fills
+  pub version : header.version ≡ asked.version
+  pub priced : IsPriceOf asked.mode price (length trace.objects) records
   pub bounds : AreTrueBounds trace header records
   pub exact : IsTrue header.exact ↔ (IsTrue (is_unwindowed asked.mode (length trace.objects)) × HasWholeCosts (eligible_of trace.objects trace.fills header) header.unit header.denominator)
   pub equal_sizes : (size : ℕ) → IsTrue (is_unwindowed asked.mode (length trace.objects)) → All (λ i. i.size ≡ size) (eligible_of trace.objects trace.fills header) → IsTrue header.exact × (header.upper ≡ header.denominator * header.lower)
 
 -- a check printed what the certificate states, which is the text of true bounds, whatever bytes it was given
-pub record ShowsCheck (trace : Requests) (dropped : ℕ) (cert report : Device) : Type 0 where
+pub record ShowsCheck (format : Format) (trace : Requests) (dropped : ℕ) (cert report : Device) : Type 0 where
   pub verdict : Verdict
   pub records : List Record
-  pub printed : Appends report.before report.after (verdict_report verdict dropped)
+  pub printed : Appends report.before report.after (verdict_report (counted_in format verdict.header.warmup trace) verdict dropped)
   pub certified : IfSome cert.before (λ text. text ≡ cert_text verdict.header records)
+  pub objects : verdict.objects ≡ length (objects_of trace.objects)
   pub bounds : AreTrueBounds trace verdict.header records
 
 -- a replay printed the hits of its rule's run, which no valid certificate of its capacity and no longer warm-up is below
-pub record ShowsReplay (r : ReplaySettings) (trace : Requests) (dropped : ℕ) (report : Device) : Type 0 where
+pub record ShowsReplay (format : Format) (r : ReplaySettings) (trace : Requests) (dropped : ℕ) (report : Device) : Type 0 where
   pub text : List ℕ
   pub printed : Appends report.before report.after text
-  pub replay : IsReplayText r trace dropped text
+  pub replay : IsReplayText format r trace dropped text
 
 -- a curve printed LRU's hits at every number of slots
-pub record ShowsCurve (trace : Requests) (dropped : ℕ) (report : Device) : Type 0 where
+pub record ShowsCurve (format : Format) (trace : Requests) (dropped : ℕ) (report : Device) : Type 0 where
   pub text : List ℕ
   pub printed : Appends report.before report.after text
-  pub curve : IsCurveText trace dropped text
+  pub curve : IsCurveText format trace dropped text
 
 -- a demo printed true bounds of the trace that it drew, and the hits of each rule's run on it, which no valid certificate is below
 pub record ShowsDemo (drawing : DrawSettings) (asked : BoundSettings) (report : Device) : Type 0 where
@@ -77,8 +93,9 @@ pub record ShowsDemo (drawing : DrawSettings) (asked : BoundSettings) (report : 
   pub records : List Record
   pub price : ℕ
   pub replays : PolicyReplays
-  pub printed : Appends report.before report.after (demo_text (demo_facts drawing asked) (bounds_report asked (trace_drawn drawing) 0 price header) replays)
+  pub printed : Appends report.before report.after (demo_text (demo_facts drawing asked) (bounds_report None asked (trace_drawn drawing) 0 price header) replays)
   pub terms : terms_of header [] ≡ marked asked.terms []
+  pub priced : IsPriceOf asked.mode price (length (trace_drawn drawing).objects) records
   pub bounds : AreTrueBounds (trace_drawn drawing) header records
   pub exact : IsTrue header.exact ↔ (IsTrue (is_unwindowed asked.mode (length (trace_drawn drawing).objects)) × HasWholeCosts (eligible_of (trace_drawn drawing).objects (trace_drawn drawing).fills header) header.unit header.denominator)
   pub equal_sizes : (size : ℕ) → IsTrue (is_unwindowed asked.mode (length (trace_drawn drawing).objects)) → All (λ i. i.size ≡ size) (eligible_of (trace_drawn drawing).objects (trace_drawn drawing).fills header) → IsTrue header.exact × (header.upper ≡ header.denominator * header.lower)
@@ -93,7 +110,7 @@ pub record ShowsUpgrade (source report made : Device) : Type 0 where
   pub upgraded : IsUpgraded source cert text
 
 -- a refinement printed true bounds, whose upper one is no greater than that of the certificate that was read, and certified them
-pub record ShowsRefinement (width : ℕ) (trace : Requests) (dropped : ℕ) (cert report made : Device) : Type 0 where
+pub record ShowsRefinement (format : Format) (width : ℕ) (trace : Requests) (dropped : ℕ) (cert report made : Device) : Type 0 where
   pub header : Header
   pub records : List Record
   pub refined : Header
@@ -101,19 +118,19 @@ pub record ShowsRefinement (width : ℕ) (trace : Requests) (dropped : ℕ) (cer
   pub read : IfSome cert.before (λ text. text ≡ cert_text header records)
   pub valid : IsValid trace.objects trace.fills header records
   pub certified : Appends made.before made.after (cert_text refined refined_records)
-  pub printed : Appends report.before report.after (refined_report header.upper (verdict_on trace refined) dropped)
+  pub printed : Appends report.before report.after (refined_report (counted_in format header.warmup trace) header.upper (verdict_on trace refined) dropped)
   pub refinement : IsRefinement width trace header records refined refined_records
   pub bounds : AreTrueBounds trace refined refined_records
 
 -- all that the trace source had left was read, or a trace was drawn, and the numbers that were printed are true of it
 abbrev pub Shows : Settings → Devices → Type 0
-Shows (Bounds format asked) d = (trace : Requests) × (dropped : ℕ) × IsLoaded format d.trace trace dropped × ShowsBounds asked trace dropped d.report d.made
-Shows (Check format) d = (trace : Requests) × (dropped : ℕ) × IsLoaded format d.trace trace dropped × ShowsCheck trace dropped d.cert d.report
-Shows (Replay format r) d = (trace : Requests) × (dropped : ℕ) × IsLoaded format d.trace trace dropped × ShowsReplay r trace dropped d.report
-Shows (Curve format) d = (trace : Requests) × (dropped : ℕ) × IsLoaded format d.trace trace dropped × ShowsCurve trace dropped d.report
+Shows (Bounds format asked) d = (trace : Requests) × (dropped : ℕ) × IsLoaded format d.trace trace dropped × ShowsBounds format asked trace dropped d.report d.made
+Shows (Check format) d = (trace : Requests) × (dropped : ℕ) × IsLoaded format d.trace trace dropped × ShowsCheck format trace dropped d.cert d.report
+Shows (Replay format r) d = (trace : Requests) × (dropped : ℕ) × IsLoaded format d.trace trace dropped × ShowsReplay format r trace dropped d.report
+Shows (Curve format) d = (trace : Requests) × (dropped : ℕ) × IsLoaded format d.trace trace dropped × ShowsCurve format trace dropped d.report
 Shows (Demo drawing asked) d = ShowsDemo drawing asked d.report
 Shows Upgrade d = ShowsUpgrade d.cert d.report d.made
-Shows (Refine format width) d = (trace : Requests) × (dropped : ℕ) × IsLoaded format d.trace trace dropped × ShowsRefinement width trace dropped d.cert d.report d.made
+Shows (Refine format width) d = (trace : Requests) × (dropped : ℕ) × IsLoaded format d.trace trace dropped × ShowsRefinement format width trace dropped d.cert d.report d.made
 
 -- Whatever trace is read and whatever the capacity, no allowed sequence of cache contents scores more than the printed
 -- upper bound, the certified schedule is allowed and scores exactly the lower bound, exact-form prices and flows have

@@ -14,6 +14,7 @@ use Rattle.trace_any.specs.declared.format.Format.{Format}
 use Rattle.trace_any.specs.Readings.{Reading, reading, full_limits}
 use Rattle.trace_any.specs.Readers.{IsWhole}
 use Rattle.cert_checker.specs.declared.verdict.Verdict.{Verdict}
+use Rattle.cert_checker.specs.Counting.{counted_in}
 use Rattle.cert_checker.specs.Walks.{Event, walk}
 use Rattle.bound_words.specs.declared.settings.BoundSettings.{BoundSettings}
 use Rattle.bound_words.specs.declared.settings.ReplaySettings.{ReplaySettings}
@@ -41,21 +42,21 @@ pub record IsReady (format : Format) (asked : BoundSettings) (source : Device) (
   pub requests : Requests
   pub dropped : ℕ
   pub loaded : IsLoaded format source requests dropped
-  pub texts : AreTexts asked requests dropped cert report
+  pub texts : AreTexts format asked requests dropped cert report
 
 -- the report of the replay of all that the source had left
 pub record IsReplayed (format : Format) (r : ReplaySettings) (source : Device) (text : List ℕ) : Type 0 where
   pub requests : Requests
   pub dropped : ℕ
   pub loaded : IsLoaded format source requests dropped
-  pub report : IsReplayText r requests dropped text
+  pub report : IsReplayText format r requests dropped text
 
 -- the report of the curve of all that the source had left
 pub record IsCurved (format : Format) (source : Device) (text : List ℕ) : Type 0 where
   pub requests : Requests
   pub dropped : ℕ
   pub loaded : IsLoaded format source requests dropped
-  pub report : IsCurveText requests dropped text
+  pub report : IsCurveText format requests dropped text
 
 -- all that the source had left was read, and two objects of it differ in size
 pub record IsUnequal (format : Format) (source : Device) (first other : ℕ) : Type 0 where
@@ -93,7 +94,7 @@ pub record IsVerdictText (format : Format) (source cert : Device) (text : List �
   pub verdict : Verdict
   pub dropped : ℕ
   pub accepted : IsAccepted format source cert verdict dropped
-  pub text_is : text ≡ verdict_report verdict dropped
+  pub text_is : text ≡ verdict_report (counted_in format verdict.header.warmup accepted.requests) verdict dropped
 
 -- the bytes are the text of a certificate that is valid for the trace
 pub record IsCertified (format : Format) (bytes text : List ℕ) : Type 0 where

@@ -10,6 +10,7 @@ use Rattle.cache_model.specs.Intervals.{bound_of}
 use Rattle.cache_model.specs.Objects.{objects_of}
 use Rattle.cache_model.specs.Texts.{cert_text}
 use Rattle.cert_checker.specs.declared.verdict.Verdict.{Verdict}
+use Rattle.cert_checker.specs.Counting.{counted_in}
 use Rattle.cert_checker.specs.Keeping.{Checked}
 use Rattle.price_refine.specs.Blocks.{AreSettled}
 use Rattle.price_refine.specs.Refinements.{Refinement}
@@ -54,12 +55,12 @@ abbrev pub verdict_on : Requests → Header → Verdict
 verdict_on trace h = record { header = h; objects = length (objects_of trace.objects) }
 
 -- the certificate and the report are the texts of a refinement of the certificate that was read
-pub record AreRefinedTexts (width : ℕ) (trace : Requests) (dropped : ℕ) (h : Header) (records : List Record) (cert report : List ℕ) : Type 0 where
+pub record AreRefinedTexts (format : Format) (width : ℕ) (trace : Requests) (dropped : ℕ) (h : Header) (records : List Record) (cert report : List ℕ) : Type 0 where
   pub made : Header
   pub refined : List Record
   pub refinement : IsRefinement width trace h records made refined
   pub cert_is : cert ≡ cert_text made refined
-  pub report_is : report ≡ refined_report h.upper (verdict_on trace made) dropped
+  pub report_is : report ≡ refined_report (counted_in format h.warmup trace) h.upper (verdict_on trace made) dropped
 
 -- all that the two sources had left was read, a trace and the text of a valid certificate of it, if their bytes are known
 pub record IsRefinable (format : Format) (source cert : Device) (trace : Requests) (dropped : ℕ)
@@ -76,7 +77,7 @@ pub record IsRefined (format : Format) (width : ℕ) (source cert : Device) (mad
   pub header : Header
   pub records : List Record
   pub read : IsRefinable format source cert requests dropped header records
-  pub texts : AreRefinedTexts width requests dropped header records made report
+  pub texts : AreRefinedTexts format width requests dropped header records made report
 
 -- a check has kept a certificate that can be refined, and the lines of the trace that were dropped
 abbrev pub IsKept : Format → Device → Device → Checked → ℕ → Type 0

@@ -6,7 +6,7 @@ use Rattle.trace_any.specs.declared.fault.TraceFault.TheVariants as trace
 use Rattle.trace_any.specs.declared.format.Format.{Format}
 use Rattle.trace_any.specs.Readings.{full_limits}
 use Rattle.cert_format.specs.Readings as certificates
-use Rattle.cert_checker.specs.Checks.{IsNearLine}
+use Rattle.cert_checker.specs.Checks.{IsNearLine, IsOfText}
 use Rattle.cert_checker.specs.Walks.{text_event}
 use Rattle.cert_checker.specs.Walks as walk
 use Rattle.bound_report.specs.declared.refusal.LimitName.TheVariants.{Requests, TraceBytes, Denominator}
@@ -42,12 +42,12 @@ abbrev pub RefusesCurve : Format → Device → Refusal → Type 0
 RefusesCurve format source (refusal.Unequal first other) = IsUnequal format source first other
 RefusesCurve format source r = RefusesLoading format source r
 
--- why a certificate is not accepted: the first event of the walk over both inputs, of which little was read beyond a line that fails, or a failed read of the certificate
+-- why a certificate is not accepted: the first event of the walk over both inputs, which its own input tells alone if that decides it, and little was read beyond a line that fails; or a failed read of the certificate
 abbrev pub RefusesCheck : Format → Device → Device → Refusal → Type 0
 RefusesCheck format source cert (refusal.Invalid line kind) =
-    IsFirstEvent format source cert (walk.Invalid line kind) × IsNearLine format full_limits line source cert
+    IsFirstEvent format source cert (walk.Invalid line kind) × IsOfText cert.before line kind × IsNearLine format full_limits line source cert
 RefusesCheck format source cert refusal.CertFault = HasFailed cert
-RefusesCheck format source cert r = RefusesReading (λ fault. IsFirstEvent format source cert (walk.Refused fault)) source r
+RefusesCheck format source cert r = RefusesReading (λ fault. IsFirstEvent format source cert (walk.Refused fault) × IsRefused format source fault) source r
 
 -- why there is no demo: the denominator that is asked for passes its limit, or memory ran out
 abbrev pub RefusesDemo : DrawSettings → BoundSettings → Refusal → Type 0

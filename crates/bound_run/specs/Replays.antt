@@ -14,7 +14,10 @@ use Rattle.policy_laws.specs.Laws.{HaveOneSize}
 use Rattle.belady_laws.specs.Best.{IsBest}
 use Rattle.replay_core.specs.declared.counts.Replay.{Replay}
 use Rattle.bound_report.specs.declared.replays.ReplayFacts.{ReplayFacts}
+use Rattle.bound_report.specs.Counted.{with_counted}
 use Rattle.bound_report.specs.Replays.{replay_text, with_warmup}
+use Rattle.cert_checker.specs.Counting.{counted_in}
+use Rattle.trace_any.specs.declared.format.Format.{Format}
 use Rattle.bound_words.specs.declared.settings.ReplaySettings.{ReplaySettings}
 
 -- what a replay earns by an objective
@@ -47,7 +50,7 @@ replay_facts r trace dropped replay =
     record { requests = length trace.objects; objects = objects; dropped = dropped; policy = r.policy; capacity = r.capacity; replay = replay }
 
 -- the text is the report of the replay that is asked for
-pub record IsReplayText (r : ReplaySettings) (trace : Requests) (dropped : ℕ) (text : List ℕ) : Type 0 where
+pub record IsReplayText (format : Format) (r : ReplaySettings) (trace : Requests) (dropped : ℕ) (text : List ℕ) : Type 0 where
   pub replay : Replay
   pub is_replay : IsReplay r.policy r.capacity r.warmup trace replay
-  pub text_is : text ≡ with_warmup r.warmup (replay_text (replay_facts r trace dropped replay))
+  pub text_is : text ≡ with_counted (counted_in format r.warmup trace) (with_warmup r.warmup (replay_text (replay_facts r trace dropped replay)))

@@ -12,7 +12,6 @@ use Rattle.bound_report.specs.declared.refusal.Refusal.{Refusal}
 use Rattle.bound_report.specs.declared.refusal.Refusal.TheVariants.{MadeFault}
 use Rattle.bound_report.specs.declared.refusal.Refusal.TheVariants as refusal
 use Rattle.bound_report.specs.Refusals.{refusal_line}
-use Rattle.cert_checker.specs.declared.verdict.Verdict.{Verdict}
 use Rattle.bound_words.specs.declared.settings.BoundSettings.{BoundSettings}
 use Rattle.bound_words.specs.declared.settings.DrawSettings.{DrawSettings}
 use Rattle.bound_words.specs.declared.settings.ReplaySettings.{ReplaySettings}
@@ -23,8 +22,7 @@ use Rattle.bound_run.specs.declared.status.Status.TheVariants.{Done, Invalid, Wo
 use Rattle.bound_run.specs.Demos.{IsDemoText, trace_drawn}
 use Rattle.bound_run.specs.Refusals.{RefusesDemo, RefusesBounds, RefusesCheck, RefusesCurve, RefusesLoading, RefusesUpgrade}
 use Rattle.bound_run.specs.BoundsMade.{RefusesDenominator}
-use Rattle.bound_run.specs.Readings.{HasDenominator, IsAccepted, IsCertified, IsGoodTrace, IsReady, IsReplayed, IsCurved}
-use Rattle.bound_run.specs.Reports.{verdict_report}
+use Rattle.bound_run.specs.Readings.{HasDenominator, IsCertified, IsGoodTrace, IsReady, IsReplayed, IsCurved, IsVerdictText}
 use Rattle.bound_run.specs.Refined.{IsRefined}
 use Rattle.bound_run.specs.Upgrades.{IsGoodCertificate, IsUpgraded}
 use Rattle.bound_run.specs.Statuses.{Ending, done, refused, unreported, ending_of}
@@ -66,10 +64,8 @@ RefineEnds format width source cert report made ending =
 
 -- how a check ends, and what the report got then
 abbrev pub CheckEnds : Format → Device → Device → Device → Ending → Type 0
-CheckEnds format source cert report done =
-    (verdict : Verdict) × (dropped : ℕ) × IsAccepted format source cert verdict dropped × GetsAll report (verdict_report verdict dropped)
-CheckEnds format source cert report unreported =
-    (verdict : Verdict) × (dropped : ℕ) × IsAccepted format source cert verdict dropped × GetsLess report (verdict_report verdict dropped)
+CheckEnds format source cert report done = (text : List ℕ) × IsVerdictText format source cert text × GetsAll report text
+CheckEnds format source cert report unreported = (text : List ℕ) × IsVerdictText format source cert text × GetsLess report text
 CheckEnds format source cert report (refused r) = RefusesCheck format source cert r × Gets report (refusal_line r)
 
 -- how a replay ends, and what the report got then

@@ -11,6 +11,7 @@ ghost use Rattle.bound_run.specs.BoundsFaults.{FailsBounds};
 ghost use Rattle.bound_run.specs.BoundsMade.{AreTexts, IsMade, is_unwindowed, records_of};
 ghost use Rattle.bound_run.specs.Records.{HasEach, records_in};
 
+use crate::counting::counted_in;
 use crate::relaxed::{Relaxed, relax, width_of};
 use crate::reports::bounds_report;
 use crate::writing::Texts;
@@ -24,6 +25,7 @@ use interval_maker::Intervals;
 use relaxation::{Denominator, Scale, denominator_for, unit_of};
 use schedule_round::Keeps;
 use std::alloc::Global;
+use trace_any::Format;
 
 /// Why there are no bounds.
 #[derive(Clone, Copy)]
@@ -225,6 +227,7 @@ impl Records for Bounds {
 // The texts of a certificate that is made of the trace.
 fn texts_with(
     alloc: Global,
+    format: Format,
     asked: &BoundSettings,
     trace: &Trace,
     dropped: u64,
@@ -233,7 +236,7 @@ fn texts_with(
     requires made { IsMade asked.now trace.now bounds.now.relaxed.price bounds.now.header (records_in bounds.now) }
     requires intervals { bounds.now.intervals.items ≡ eligible_of trace.now.objects trace.now.fills bounds.now.header }
     requires each { HasEach bounds.now }
-    ensures { IfOk result (λ texts. AreTexts asked.now trace.now dropped texts.cert.items texts.report.items) }
+    ensures { IfOk result (λ texts. AreTexts format asked.now trace.now dropped texts.cert.items texts.report.items) }
 {
     let facts = BoundFacts {
         header: bounds.header,
@@ -244,24 +247,26 @@ fn texts_with(
         intervals: bounds.intervals.as_slice().len() as u32,
     };
     let cert = cert_of(alloc, &bounds.header, bounds)?;
-    let report = bounds_report(alloc, &facts)?;
+    let counted = counted_in(format, asked.terms.warmup, trace);
+    let report = bounds_report(alloc, &facts, counted)?;
     Ok(Texts { cert, report })
 }
 
-/// The certificate and the report of a trace as asked for, with the number of lines of the trace that were dropped.
+/// The certificate and the report of a trace of this form as asked for, with the number of its lines that were dropped.
 pub(crate) fn texts_of(
     alloc: Global,
+    format: Format,
     asked: &BoundSettings,
     trace: &Trace,
     dropped: u64,
 ) -> Result<Texts, BoundsFault>
-    ensures texts { IfOk result (λ texts. AreTexts asked.now trace.now dropped texts.cert.items texts.report.items) }
+    ensures texts { IfOk result (λ texts. AreTexts format asked.now trace.now dropped texts.cert.items texts.report.items) }
     ensures refused { IfErr result (FailsBounds asked.now trace.now) }
 {
     // Dropped here, for the proof.
     let texts = {
         let bounds = bounds_of(alloc, asked, trace)?;
-        texts_with(alloc, asked, trace, dropped, &bounds)
+        texts_with(alloc, format, asked, trace, dropped, &bounds)
     };
     Ok(texts?)
 }

@@ -10,7 +10,7 @@ use crate::reports::verdict_report;
 use crate::status::refusal_of_check;
 use bound_io::Source;
 use bound_report::Refusal;
-use cert_checker::check_all;
+use cert_checker::check_counted;
 use std::alloc::Global;
 use trace_any::Format;
 
@@ -29,8 +29,8 @@ pub(crate) fn verdict_of<T: Source, Q: Source>(
     ensures trace_source { LosesPrefix (T.left trace.old) (T.left trace.new) }
     ensures cert_source { LosesPrefix (Q.left cert.old) (Q.left cert.new) }
 {
-    match check_all(alloc, format, trace, cert) {
-        Ok((verdict, dropped)) => Ok(verdict_report(alloc, &verdict, dropped)?),
+    match check_counted(alloc, format, trace, cert) {
+        Ok(passed) => Ok(verdict_report(alloc, &passed)?),
         Err(fault) => Err(refusal_of_check(fault)),
     }
 }

@@ -80,7 +80,7 @@ pub(crate) fn demo_report(
     ensures refused { IfErr result (RefusesDemo drawing asked.now) }
 {
     let trace = demo_trace(alloc, drawing.seed, drawing.requests, drawing.objects)?;
-    let texts = texts_of(alloc, asked, &trace, 0)?;
+    let texts = texts_of(alloc, Format::Webcache, asked, &trace, 0)?;
     let lines = webcache_text(alloc, &trace)?;
     check_made(alloc, lines, texts.cert)?;
     let replays = replays_of(alloc, &trace, asked)?;

@@ -5,6 +5,7 @@
 
 mod bounds;
 mod checking;
+mod counting;
 mod curves;
 mod demos;
 mod loading;

@@ -55,7 +55,7 @@ pub(crate) fn prepare<T: Source>(
     // Dropped here, for the proof.
     let texts = {
         let (requests, dropped) = load_all(alloc, format, trace)?;
-        texts_of(alloc, asked, &requests, dropped)
+        texts_of(alloc, format, asked, &requests, dropped)
     };
     Ok(texts?)
 }
@@ -75,7 +75,7 @@ pub(crate) fn replay_all<T: Source>(
     // Dropped here, for the proof.
     let text = {
         let (requests, dropped) = load_all(alloc, format, trace)?;
-        replay_report(alloc, r, &requests, dropped)
+        replay_report(alloc, format, r, &requests, dropped)
     };
     Ok(text?)
 }
@@ -94,7 +94,7 @@ pub(crate) fn curve_all<T: Source>(
     // Dropped here, for the proof.
     let text = {
         let (requests, dropped) = load_all(alloc, format, trace)?;
-        curve_report(alloc, &requests, dropped)
+        curve_report(alloc, format, &requests, dropped)
     };
     match text {
         Ok(text) => Ok(text),

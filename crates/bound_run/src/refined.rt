@@ -8,6 +8,7 @@ ghost use Rattle.bound_run.specs.Refusals.{RefusesCheck};
 ghost use Rattle.bound_run.specs.Refined.{AreRefinedTexts, IsKept, IsRefined, RefinesPrices, verdict_on, with_price, with_upper};
 
 use crate::bounds::intervals_of;
+use crate::counting::counted_in;
 use crate::reports::refined_report;
 use crate::status::refusal_of_check;
 use crate::writing::Texts;
@@ -15,7 +16,7 @@ use bound_base::NoMemory;
 use bound_io::Source;
 use bound_report::Refusal;
 use cache_model::{Header, Record, Terms};
-use cert_checker::{Kept, Verdict, keep_all};
+use cert_checker::{Kept, Passed, Verdict, keep_all};
 use cert_format::{Records, cert_of};
 use price_refine::{Refined, refine};
 use std::alloc::Global;
@@ -100,11 +101,17 @@ fn with_upper(verdict: &Verdict, upper: u128) -> Verdict
 }
 
 // The certificate and the report of a refinement of one that is valid for the trace.
-fn texts_of_kept(alloc: Global, kept: &Kept, dropped: u64, width: u32) -> Result<Texts, NoMemory>
+fn texts_of_kept(
+    alloc: Global,
+    format: Format,
+    kept: &Kept,
+    dropped: u64,
+    width: u32,
+) -> Result<Texts, NoMemory>
     requires valid { IsValid kept.now.trace.objects kept.now.trace.fills kept.now.verdict.header kept.now.records }
     requires verdict { kept.now.verdict ≡ verdict_on kept.now.trace kept.now.verdict.header }
     requires width { 1 ≤ width }
-    ensures { IfOk result (λ texts. AreRefinedTexts width kept.now.trace dropped
+    ensures { IfOk result (λ texts. AreRefinedTexts format width kept.now.trace dropped
         kept.now.verdict.header kept.now.records texts.cert.items texts.report.items) }
 {
     let refined = refine_kept(alloc, kept, width)?;
@@ -114,7 +121,13 @@ fn texts_of_kept(alloc: Global, kept: &Kept, dropped: u64, width: u32) -> Result
         prices: refined.prices(),
     };
     let cert = cert_of(alloc, &made.header, &records)?;
-    let report = refined_report(alloc, kept.verdict().header.upper, &made, dropped)?;
+    let read = kept.verdict().header;
+    let passed = Passed {
+        verdict: made,
+        dropped,
+        counted: counted_in(format, read.warmup, kept.trace()),
+    };
+    let report = refined_report(alloc, read.upper, &passed)?;
     Ok(Texts { cert, report })
 }
 
@@ -160,7 +173,7 @@ pub(crate) fn refine_all<T: Source, Q: Source>(
     // Dropped here, for the proof.
     let texts = {
         let (kept, dropped) = keep_read(alloc, format, trace, cert)?;
-        texts_of_kept(alloc, &kept, dropped, width)
+        texts_of_kept(alloc, format, &kept, dropped, width)
     };
     Ok(texts?)
 }

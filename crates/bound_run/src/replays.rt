@@ -5,8 +5,9 @@ ghost use Rattle.policy_model.specs.Runs.{AreScores};
 ghost use Rattle.replay_core.specs.Laws.{IsFresh, IsRunOf};
 ghost use Rattle.bound_run.specs.Replays.{IsReplay, IsReplayText, IsWithinBounds};
 
+use crate::counting::counted_in;
 use bound_base::NoMemory;
-use bound_report::{ReplayFacts, push_warmup, replay_text};
+use bound_report::{ReplayFacts, push_counted, push_warmup, replay_text};
 use bound_words::ReplaySettings;
 use cache_rules::Trace;
 use policy_model::PolicyName;
@@ -14,6 +15,7 @@ use replay_core::{Policy, Replay, replay};
 use replay_rank::{Belady, Lfu};
 use replay_recency::{Clock, Fifo, Lru};
 use std::alloc::Global;
+use trace_any::Format;
 
 /// Replays the trace, and counts the hits from request `warmup` on. Whatever the policy, no certificate that is valid for
 /// the trace, of the same capacity and no longer warm-up, has a smaller upper bound. It takes what a replay takes.
@@ -83,14 +85,15 @@ pub(crate) fn replay_by(alloc: Global, trace: &Trace, r: ReplaySettings) -> Resu
     }
 }
 
-/// The report of the replay of a trace, with the number of its lines that were dropped.
+/// The report of the replay of a trace of this form, with the number of its lines that were dropped.
 pub(crate) fn replay_report(
     alloc: Global,
+    format: Format,
     r: ReplaySettings,
     trace: &Trace,
     dropped: u64,
 ) -> Result<Vec<u8>, NoMemory>
-    ensures { IfOk result (λ text. IsReplayText r trace.now dropped text.items) }
+    ensures { IfOk result (λ text. IsReplayText format r trace.now dropped text.items) }
 {
     let replay = replay_by(alloc, trace, r)?;
     let facts = ReplayFacts {
@@ -103,5 +106,6 @@ pub(crate) fn replay_report(
     };
     let mut text = replay_text(alloc, &facts)?;
     push_warmup(&mut text, r.warmup)?;
+    push_counted(&mut text, counted_in(format, r.warmup, trace))?;
     Ok(text)
 }

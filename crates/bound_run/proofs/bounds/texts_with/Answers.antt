@@ -24,5 +24,5 @@ returns c = record {
   records = records_in c.args.bounds.now;
   made = c.requires.made;
   cert_is = c.in_ok-cert.ensures;
-  report_is = rw (c.asked.view_is, c.objects.ensures.different, c.as_slice.ensures.items, c.requires.intervals) at c.in_ok-report.ensures;
+  report_is = rw (c.counted_in-counted.ensures, c.asked.view_is, c.objects.ensures.different, c.as_slice.ensures.items, c.requires.intervals) at c.in_ok-report.ensures;
 }

@@ -1,5 +1,6 @@
 use Rattle.std.proofs.Common.{◌∙◌, ap, subst, sym}
 use Rattle.cache_rules.specs.Stored.{Requests, all_count}
+use Rattle.trace_any.specs.declared.format.Format.TheVariants.{Webcache}
 use Rattle.bound_run.specs.BoundsMade.{AreTexts}
 use Rattle.bound_report.specs.Demos.{demo_text}
 use Rattle.bound_run.specs.Demos.{demo_facts}
@@ -12,7 +13,7 @@ check_made-requires c =
     let drawn = c.in_ok-trace.ensures.requests in
     record {
       trace = ap (λ r. r.refused) read;
-      certified = certified_by_texts c.args.asked.now c.in_ok-trace.trace.objects c.in_ok-lines.lines.items c.in_ok-texts.texts.cert.items c.in_ok-texts.texts.report.items read (subst (λ made. AreTexts c.args.asked.now made 0 c.in_ok-texts.texts.cert.items c.in_ok-texts.texts.report.items) (drawn ∙ ap (λ (r : Requests). all_count r.objects) (sym drawn)) c.in_ok-texts.ensures.texts);
+      certified = certified_by_texts c.args.asked.now c.in_ok-trace.trace.objects c.in_ok-lines.lines.items c.in_ok-texts.texts.cert.items c.in_ok-texts.texts.report.items read (subst (λ made. AreTexts Webcache c.args.asked.now made 0 c.in_ok-texts.texts.cert.items c.in_ok-texts.texts.report.items) (drawn ∙ ap (λ (r : Requests). all_count r.objects) (sym drawn)) c.in_ok-texts.ensures.texts);
     }
 
 pub returns-clause-shown : goal.returns-clause-shown
