@@ -15,6 +15,7 @@ mod curves;
 mod demos;
 mod faults;
 mod flow;
+mod large;
 mod marks;
 mod modes;
 mod records;
@@ -22,6 +23,7 @@ mod refinements;
 mod replays;
 mod traces;
 mod upgrades;
+mod usage;
 mod warmups;
 mod words;
 
@@ -88,8 +90,25 @@ denominator 1\nform plain\nupper 3\nflow 0\nlower 2\nrecords\n0 1 0\n0 1 0\n0 0 
     ..GOOD
 };
 
-const ROWS: [Row<'static>; 5] = [
+// The bounds of the pair in mode flow: prices and a flow of one value.
+const FLOW_PAIR: Row<'static> = Row {
+    shows: "two requests of one object, whose flow is worth the bound",
+    words: "bounds t c format=webcache capacity=10",
+    report: b"trace requests 2 objects 1 dropped 0\ncapacity 10 objective object\n\
+mode flow window all form exact\nunit 4 units 2 denominator 1\nintervals 1\nupper 1/1 floor 1\nflow 1/1\nlower 1\n",
+    made: b"cache-bound-certificate 1\nobjective object\ncapacity 10\nrequests 2\nunit 4\n\
+denominator 1\nform exact\nupper 1\nflow 1\nlower 1\nrecords\n0 1 1\n0 0 0\nend\n",
+    ..GOOD
+};
+
+const ROWS: [Row<'static>; 7] = [
     GOOD,
+    FLOW_PAIR,
+    Row {
+        shows: "lines that end with CR LF, and no LF at the end",
+        trace: b"1 7 4\r\n2 7 4",
+        ..FLOW_PAIR
+    },
     CYCLE,
     Row {
         shows: "sizes with a common divisor, and one above the capacity",

@@ -23,10 +23,18 @@ const WHOLE: Row<'static> = Row {
     ..GOOD
 };
 
+const EXACT: Row<'static> = Row {
+    shows: "records in mode flow",
+    words: "bounds t c format=oracle capacity=10",
+    trace: RECORDS,
+    ..FLOW_PAIR
+};
+
 #[test]
 fn records_are_read_whatever_the_pieces(rt: HostRuntime) {
     for step in [1, 7, 48] {
         check_at(&rt, rt.alloc(), &WHOLE, step);
+        check_at(&rt, rt.alloc(), &EXACT, step);
     }
 }
 

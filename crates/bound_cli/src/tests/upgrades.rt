@@ -20,8 +20,20 @@ const UPGRADE: Row<'static> = Row {
     ..GOOD
 };
 
-const UPGRADES: [Row<'static>; 4] = [
+const UPGRADES: [Row<'static>; 5] = [
     UPGRADE,
+    Row {
+        shows: "records, and no end",
+        cert: b"cache-bound-certificate 1\nobjective object\ncapacity 2\nrequests 6\nunit 1\n\
+denominator 1\nform exact\nupper 2\nflow 2\nlower 2\nrecords\n0 1 1\n0 1 1\n1 0 0\n0 0 0\n0 0 0\n0 0 0\n",
+        status: Status::Invalid {
+            line: 18,
+            kind: InvalidKind::Truncated,
+        },
+        report: b"invalid line 18: truncated\n",
+        made: b"",
+        ..UPGRADE
+    },
     Row {
         shows: "the second version stays as it is",
         cert: SECOND,

@@ -1,0 +1,36 @@
+//! Runs of some size, whose numbers follow from the shape of their traces.
+use super::*;
+
+// Each interval covers the step between the two rounds, where 500,000 blocks fit.
+const TWICE: Row<'static> = Row {
+    shows: "600,000 blocks in order, and once more",
+    words: "bounds t c format=arc capacity=256000000 mode=infinite",
+    trace: b"0 600000\n0 600000\n",
+    report: b"trace requests 1200000 objects 600000 dropped 0\ncapacity 256000000 objective object\n\
+mode infinite form plain\nunit 512 units 500000 denominator 1\nintervals 600000\nupper 600000/1 floor 600000\n\
+flow 0/1\nlower 500000\n",
+    room: 1 << 24,
+    ..GOOD
+};
+
+// A schedule that goes through each step of each interval that it keeps would take hours.
+#[test]
+fn a_schedule_does_not_go_through_each_step(rt: HostRuntime) {
+    let ended = done(&rt, rt.alloc(), &TWICE);
+    same(TWICE.shows, ended.report.as_slice(), TWICE.report).expect(&rt, "a row");
+    drop(ended);
+}
+
+#[test]
+fn a_demo_of_some_size_ends_in_windows(rt: HostRuntime) {
+    let large = Row {
+        shows: "40 windows",
+        words: "demo requests=20000 objects=1000 window=500",
+        trace: b"",
+        ..GOOD
+    };
+    let begins = b"demo seed 1 requests 20000 objects 1000 capacity 65536\n";
+    let ended = done(&rt, rt.alloc(), &large);
+    holds(large.shows, ended.report.starts_with(begins)).expect(&rt, "a row");
+    drop(ended);
+}
