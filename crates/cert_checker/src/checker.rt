@@ -100,9 +100,15 @@ impl Checker {
         })
     }
 
-    // The next request, which only fills the cache or counts, and its record.
+    /// The next request, which only fills the cache or counts, and its record. The walk has this one call, so that all of a
+    /// step is compiled into it.
     #[inline(always)]
-    fn take(&mut self, object: Object, only: bool, entry: Record) -> Result<(), StepFault>
+    pub(crate) fn take(
+        &mut self,
+        object: Object,
+        only: bool,
+        entry: Record,
+    ) -> Result<(), StepFault>
         requires fewer { self.old.sums.steps < self.old.header.requests }
         requires size { (1 ≤ object.size) × (object.size ≤ 2 ^ 48) }
         requires range { IsRecordInRange entry }

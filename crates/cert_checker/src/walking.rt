@@ -2,16 +2,14 @@
 ghost use Rattle.std.specs.Prelude.{◌≡◌, ◌≤◌, ◌<◌, ◌+◌, ◌^◌, [], IfOk, IfErr, IfSome, None, OnOk, length};
 ghost use Rattle.bound_io.specs.Reading.{LosesPrefix};
 ghost use Rattle.cache_model.specs.Certificates.{IsRecordInRange};
-ghost use Rattle.cache_model.specs.Claim.{only_fills};
 ghost use Rattle.cert_checker.specs.declared.invalid.InvalidKind.TheVariants.{RequestCount};
 ghost use Rattle.cert_format.specs.Lines.{IsTaken};
 ghost use Rattle.cert_format.specs.Readers.{fresh};
 ghost use Rattle.cert_checker.specs.declared.walking.CheckFault.TheVariants.{Invalid};
 ghost use Rattle.cert_checker.specs.Checks.{ChecksNext, IsEvent, IsFresh, IsInSomeStep, IsInStep, IsNear, IsPassed, IsSteppedAt, KeepsAnswer, seen_cert, seen_inputs};
 ghost use Rattle.cert_checker.specs.Keeping.{ChecksLast, IsCheckEnd, no_requests};
-ghost use Rattle.cert_checker.specs.Summaries.{HoldsOfAll, IsSized};
+ghost use Rattle.cert_checker.specs.Summaries.{IsSized};
 ghost use Rattle.cert_checker.specs.Walks.{text_kind};
-ghost use Rattle.cert_checker.specs.Answers.{IsStepped};
 
 use crate::checker::{Checker, StepFault};
 use crate::invalid::InvalidKind;
@@ -117,32 +115,9 @@ fn records_read(header: &Header, cert: &CertReader) -> u64
     (header.requests - cert.left()) as u64
 }
 
-// The checker's own step with a request that only fills the cache, or counts, and its record.
-#[inline(always)]
-fn step_as(
-    alloc: Global,
-    checker: &mut Checker,
-    only: bool,
-    object: Object,
-    entry: Record,
-) -> Result<(), StepFault>
-    requires fewer { checker.old.sums.steps < checker.old.header.requests }
-    requires size { (1 ≤ object.size) × (object.size ≤ 2 ^ 48) }
-    requires range { IsRecordInRange entry }
-    ensures { HoldsOfAll checker.old (λ h fills trace records. only_fills fills (length trace) ≡ only
-        → IsStepped h fills trace records object entry checker.new result) }
-{
-    if only {
-        checker.step_filling(alloc, object, entry)
-    } else {
-        checker.step(alloc, object, entry)
-    }
-}
-
 // The step of the checker with a request that only fills the cache, or counts, and the record of this line.
 #[inline(always)]
 fn step(
-    alloc: Global,
     checker: &mut Checker,
     only: bool,
     object: Object,
@@ -154,7 +129,7 @@ fn step(
     requires range { IsRecordInRange entry }
     ensures stepped { IsSteppedAt line checker.old checker.new object only entry result }
 {
-    match step_as(alloc, checker, only, object, entry) {
+    match checker.take(object, only, entry) {
         Ok(()) => Ok(()),
         Err(StepFault::Rule(kind)) => Err(CheckFault::Invalid { line, kind }),
         Err(StepFault::NoMemory) => Err(CheckFault::NoMemory),
@@ -197,7 +172,7 @@ fn check_next<T: Source, Q: Source>(
         return Err(count_differs(header, cert.line(), read + 1));
     }
     let entry = cert.next_record(certificate)?;
-    step(alloc, checker, only, object, entry, cert.line())?;
+    step(checker, only, object, entry, cert.line())?;
     Ok(Some((object, entry)))
 }
 
