@@ -8,7 +8,7 @@ use Rattle.cache_model.specs.Claim.{holds}
 use Rattle.cache_model.proofs.Duality.{Follows, IsStep}
 use Rattle.cache_model.proofs.Sums.{sum_by-nothing}
 use Rattle.policy_model.specs.States.{Entry, State, has_entry}
-use Rattle.policy_model.specs.Steps.{policy_step, entries_after}
+use Rattle.policy_model.specs.Rules.{policy_step, entries_after}
 use Rattle.policy_model.specs.Asks.{Ask}
 use Rattle.policy_model.proofs.Entries.{over}
 use Rattle.policy_laws.proofs.Standing.{next_in, due, Ready, kept, steps}

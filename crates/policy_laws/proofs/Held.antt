@@ -1,12 +1,12 @@
 -- What any allowed contents stand to gain by the next requests.
-use Rattle.std.proofs.Common.{◌≡◌, ℕ, zero, suc, ◌+◌, ◌*◌, ◌/◌, ◌<◌, ◌≤◌, ◌∙◌, sym, refl, ap, subst, ⊎_elim, Bool, true, false, not, ◌||◌, cond, eqb, leb, List, [], ◌∷◌, arith, sum_by}
+use Rattle.std.proofs.Common.{◌≡◌, ℕ, zero, suc, ◌+◌, ◌*◌, ◌/◌, ◌<◌, ◌≤◌, ◌∙◌, sym, refl, ap, subst, ⊎_elim, Bool, true, false, cond, eqb, leb, List, [], ◌∷◌, arith, sum_by}
 use Rattle.std.specs.List.{AllByRecursion}
 use Rattle.std.proofs.Math.Nat.{div_self}
-use Rattle.std.proofs.lemmas.Bool.{eq-eqb, or_cases, or_left, or_right}
+use Rattle.std.proofs.lemmas.Bool.{eq-eqb, or_cases}
 use Rattle.std.proofs.lemmas.List.Sums.{sum_by-cons}
 use Rattle.cache_model.specs.declared.objects.Object.{Object}
 use Rattle.cache_model.specs.Claim.{same_object, holds}
-use Rattle.cache_model.proofs.Duality.{same_object-true, same_object-refl, without, hit-le, holds-without, inside-without, sum_by-subset, IsStep}
+use Rattle.cache_model.proofs.Duality.{same_object-true, without, hit-le, inside-without, sum_by-subset, IsStep}
 use Rattle.policy_laws.proofs.Standing.{due}
 
 -- ---- what an object stands to gain

@@ -6,13 +6,13 @@ use Rattle.cache_model.specs.Objects.{objects_of}
 use Rattle.cache_model.specs.Claim.{counts_past, request_at}
 use Rattle.policy_model.specs.declared.names.PolicyName.{PolicyName}
 use Rattle.policy_model.specs.States.{State, members_of, has_entry, used, start_of, IsFit}
-use Rattle.policy_model.specs.Steps.{entries_after}
+use Rattle.policy_model.specs.Rules.{entries_after}
 use Rattle.policy_model.specs.Asks.{ask_at, number_of, next_request}
 use Rattle.policy_model.specs.Runs.{Run, run_step, AreScores}
 use Rattle.policy_model.proofs.Holdings.{size-held}
-use Rattle.policy_model.proofs.MemberLemmas.{size-members, apart-members, enters-step, sizes-entries}
+use Rattle.policy_model.proofs.MemberLemmas.{size-members, apart-members, sizes-entries}
 use Rattle.policy_model.proofs.Replays.{AreScoresTo, IsAsked, played-none, played-more, played-all, run_to, run_to-more, run_to-all, has_entry-members}
-use Rattle.policy_model.proofs.Sound.{fit-step}
+use Rattle.policy_model.proofs.RulesSound.{fit-step, enters-step}
 use Rattle.policy_laws.specs.Laws.{RunsAreAllowed}
 use Rattle.policy_laws.proofs.Asked.{number_of-object}
 

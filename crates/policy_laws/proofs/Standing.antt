@@ -9,8 +9,9 @@ use Rattle.std.proofs.lemmas.List.Sums.{sum_by-cons}
 use Rattle.cache_model.specs.declared.objects.Object.{Object}
 use Rattle.cache_model.proofs.Sums.{sum_by-nothing}
 use Rattle.policy_model.specs.declared.names.PolicyName.TheVariants.{Belady}
-use Rattle.policy_model.specs.States.{Entry, State, used, has_entry}
-use Rattle.policy_model.specs.Steps.{make_room, without_entry, remove_foremost, foremost, is_farther, touched, touch, put_in, fresh_entry, entries_after}
+use Rattle.policy_model.specs.States.{Entry, State, used, has_entry, nothing_beside}
+use Rattle.policy_model.specs.Steps.{make_room, without_entry, remove_foremost, foremost, is_farther, touched, touch, put_in, fresh_entry}
+use Rattle.policy_model.specs.Rules.{entries_after}
 use Rattle.policy_model.proofs.Entries.{Apart, over, Sized, used-sized, Apart-put_in, All-put_in, sum_by-put_in, length-put_in, Apart-without, All-without, length-without, over-without, over-instead_none, over-instead_some, make_room-fits, make_room-over}
 use Rattle.policy_laws.proofs.Farthest.{is_before, farthest-before, foremost-is, foremost-there}
 
@@ -131,7 +132,7 @@ module _ (num : Object → ℕ) where
       pub room : used entries ≤ c
 
     abbrev pub kept : ℕ → List Entry → State
-    kept now entries = record { name = Belady; capacity = c; now = now; entries = entries }
+    kept now entries = record { name = Belady; capacity = c; now = now; entries = entries; beside = nothing_beside }
 
     -- contents that has k1 and stands to gain sum n by the next n requests is no better than hb and the entries
     abbrev pub IsBehind : ℕ → (ℕ → ℕ) → ℕ → List Object → List Entry → Type 0

@@ -8,3 +8,8 @@ pub mod Entries
 pub mod Removals
 pub mod Sound
 pub mod MemberLemmas
+pub mod Parts
+pub mod SieveSound
+pub mod S3FifoSound
+pub mod AgingSound
+pub mod RulesSound

@@ -5,7 +5,7 @@ use Rattle.cache_model.specs.declared.objects.Objective.TheVariants.{Object as H
 use Rattle.cache_model.specs.Claim.{IsAllowed, counts_past, score, terms_from}
 use Rattle.policy_model.specs.declared.names.PolicyName.{PolicyName}
 use Rattle.policy_model.specs.States.{State, start_of}
-use Rattle.policy_model.specs.Steps.{policy_step}
+use Rattle.policy_model.specs.Rules.{policy_step}
 use Rattle.policy_model.specs.Asks.{Ask, asks_of}
 
 -- a run so far: the state, and the hits and their bytes among the requests that count

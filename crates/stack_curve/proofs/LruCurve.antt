@@ -10,9 +10,9 @@ use Rattle.cache_model.proofs.Duality.{same_object-true, same_object-refl}
 use Rattle.cache_model.proofs.Streams.{sum_by-range_last}
 use Rattle.policy_model.specs.declared.names.PolicyName.{PolicyName}
 use Rattle.policy_model.specs.declared.names.PolicyName.TheVariants.{Lru}
-use Rattle.policy_model.specs.States.{State, start_of, has_entry}
+use Rattle.policy_model.specs.States.{State, start_of, has_entry, nothing_beside, Beside}
 use Rattle.policy_model.specs.Asks.{ask_at, number_of, object_numbered, next_request}
-use Rattle.policy_model.specs.Steps.{entries_after}
+use Rattle.policy_model.specs.Rules.{entries_after, beside_after}
 use Rattle.policy_model.specs.Runs.{Run, run_step}
 use Rattle.policy_model.proofs.Replays.{run_to, run_to-more, run_to-all}
 use Rattle.policy_laws.proofs.Asked.{number_of-object}
@@ -94,6 +94,7 @@ module _ (trace : List Object) where
     record Follows (t : ℕ) (run : Run) : Type 0 where
       pub name : run.state.name ≡ Lru
       pub same_capacity : run.state.capacity ≡ capacity
+      pub beside : run.state.beside ≡ nothing_beside
       pub kept : run.state.entries ≡ entries_of (number_of trace) (take (capacity / size) (recent (earlier trace t)))
       pub hits : run.hits ≡ hits_before trace fills (capacity / size) t
 
@@ -108,8 +109,9 @@ module _ (trace : List Object) where
         let told : IsToldApart num x h = all-earlier (λ y. eqb (num y) (num x) ≡ same_object x y) t (omega arith)
         (λ k low. same_numbers k t (omega arith) within) in
         let state : run.state ≡ lru_state num capacity run.state.now (entries_of num (take slots (recent h))) =
-        ap (λ (n : PolicyName). record { name = n; capacity = run.state.capacity; now = run.state.now; entries = run.state.entries }) so_far.name
-        ∙ ap (λ c. record { name = Lru; capacity = c; now = run.state.now; entries = run.state.entries }) so_far.same_capacity
+        ap (λ (n : PolicyName). record { name = n; capacity = run.state.capacity; now = run.state.now; entries = run.state.entries; beside = run.state.beside }) so_far.name
+        ∙ ap (λ c. record { name = Lru; capacity = c; now = run.state.now; entries = run.state.entries; beside = run.state.beside }) so_far.same_capacity
+        ∙ ap (λ (b : Beside). record { name = Lru; capacity = capacity; now = run.state.now; entries = run.state.entries; beside = b }) so_far.beside
         ∙ ap (lru_state num capacity run.state.now) so_far.kept in
         let hit : has_entry run.state.entries (num x) ≡ is_within slots (stack_distance trace t) =
         ap (λ es. has_entry es (num x)) so_far.kept ∙ has-entries num x (take slots (recent h)) (all-take _ slots (recent h) (all-recent _ h told)) ∙ sym (within-recent slots t) in
@@ -117,6 +119,7 @@ module _ (trace : List Object) where
         record {
           name = so_far.name;
           same_capacity = so_far.same_capacity;
+          beside = ap (λ (s : State). beside_after s (num x) x.size (next_request trace t)) state;
           kept = ap (λ (s : State). entries_after s (num x) x.size (next_request trace t)) state
               ∙ after-request num capacity size positive slots run.state.now (next_request trace t) x h refl own sizes told
               ∙ ap (λ g. entries_of num (take slots (recent g))) (sym (earlier-more t within));
@@ -128,7 +131,7 @@ module _ (trace : List Object) where
         }
 
     follows : (t : ℕ) → t ≤ length trace → Follows t (run_to (counts_past 0 fills) (start_of Lru capacity) trace t)
-    follows zero within = record { name = refl; same_capacity = refl; kept = sym (ap (entries_of (number_of trace)) (nothing (capacity / size))); hits = refl }
+    follows zero within = record { name = refl; same_capacity = refl; beside = refl; kept = sym (ap (entries_of (number_of trace)) (nothing (capacity / size))); hits = refl }
       where
         nothing : (k : ℕ) → take {A = Object} k [] ≡ []
         nothing zero = refl

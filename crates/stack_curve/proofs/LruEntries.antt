@@ -10,8 +10,9 @@ use Rattle.std.proofs.Math.Nat.{mul-le-mul_right, div-mul-le_self, lt-div-mul-ad
 use Rattle.cache_model.specs.declared.objects.Object.{Object}
 use Rattle.cache_model.specs.Claim.{same_object, no_object}
 use Rattle.policy_model.specs.declared.names.PolicyName.TheVariants.{Lru}
-use Rattle.policy_model.specs.States.{State, Entry, used, has_entry}
-use Rattle.policy_model.specs.Steps.{fresh_entry, entries_after, make_room, without_entry}
+use Rattle.policy_model.specs.States.{State, Entry, used, has_entry, nothing_beside}
+use Rattle.policy_model.specs.Steps.{fresh_entry, make_room, without_entry}
+use Rattle.policy_model.specs.Rules.{entries_after}
 use Rattle.policy_model.proofs.Entries.{make_room-fits, make_room-over}
 use Rattle.policy_model.proofs.Sound.{after-hit, after-small, after-large}
 use Rattle.stack_curve.proofs.Different.{asks_for}
@@ -73,7 +74,7 @@ module _ (num : Object → ℕ) where
 
   -- LRU with these entries
   abbrev pub lru_state : ℕ → ℕ → List Entry → State
-  lru_state capacity now entries = record { name = Lru; capacity = capacity; now = now; entries = entries }
+  lru_state capacity now entries = record { name = Lru; capacity = capacity; now = now; entries = entries; beside = nothing_beside }
 
   -- the number of y tells it from these
   abbrev pub IsToldApart : Object → List Object → Type 0

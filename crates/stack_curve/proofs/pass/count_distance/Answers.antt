@@ -1,4 +1,4 @@
-use Rattle.std.proofs.Common.{◌≡◌, ◌∙◌, ap, sym, cond, ◌+◌, None, Some, arith}
+use Rattle.std.proofs.Common.{◌∙◌, ap, sym, cond, ◌+◌, None, arith}
 use Rattle.stack_curve.specs.Distances.{stack_distance}
 use Rattle.stack_curve.proofs.CountLemmas.{distance_of, marks-long, counted-none, counted-some, count-fits, no_distance}
 use Rattle.stack_curve.proofs.pass.count_distance.Goals as goal
