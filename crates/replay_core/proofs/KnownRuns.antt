@@ -4,7 +4,7 @@ use Rattle.std.specs.declared.option.Option.{Option}
 use Rattle.cache_model.specs.declared.objects.Object.{Object}
 use Rattle.cache_model.specs.Claim.{counts_past}
 use Rattle.policy_model.specs.States.{Member, State, has_member, has_entry, start_of}
-use Rattle.policy_model.specs.Steps.{policy_step}
+use Rattle.policy_model.specs.Rules.{policy_step}
 use Rattle.policy_model.specs.Asks.{ask_at}
 use Rattle.policy_model.specs.Runs.{Run, run_step, policy_run}
 use Rattle.policy_model.proofs.Replays.{run_to, run_to-more, run_to-all, has_entry-members}

@@ -1,2 +1,3 @@
 pub mod KnownRuns
 pub mod Kept
+pub mod Tallies

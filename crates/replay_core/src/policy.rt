@@ -3,7 +3,7 @@ ghost use Rattle.std.specs.Prelude.{◌≡◌, ◌<◌, ◌≤◌, ◌⊎◌, �
 ghost use Rattle.std.specs.declared.option.Option.{Option};
 ghost use Rattle.policy_model.specs.States.{Member, State, member, has_member};
 ghost use Rattle.replay_core.specs.Outcomes.{is_hit};
-ghost use Rattle.replay_core.specs.Laws.{IsSound, StateFits, StepsBy};
+ghost use Rattle.replay_core.specs.Laws.{CountsAnswer, IsSound, StateFits, StepsBy, Tally};
 
 use bound_base::NoMemory;
 use std::alloc::Global;
@@ -17,8 +17,9 @@ pub enum Outcome {
 
 /// A cache under one rule of replacement. Objects are asked for by number, and sizes are in bytes.
 ///
-/// One that has a known state can be compared with the rules of the five policies; another may keep its own rule for
-/// itself, and the laws hold of it all the same.
+/// One that has a known state can be compared with the rules of `PolicyName`; another may keep its own rule for itself,
+/// and the laws hold of it all the same. If it counts its answers, a replay has had as many of them as the trace has
+/// requests, and its hits are no more than those that were answered as hits.
 pub trait Policy {
     /// What it holds.
     ghost contents: { Self → List Member };
@@ -31,6 +32,9 @@ pub trait Policy {
 
     /// Its state, if it is known.
     ghost known_state: { Self → Option State };
+
+    /// How many requests it has answered, and how many of them as hits, if it counts them.
+    ghost tally: { Self → Option Tally };
 
     /// The most bytes that it holds.
     fn capacity(&self) -> u64
@@ -59,6 +63,7 @@ pub trait Policy {
         ensures sound { IsSound (room self.new) (contents self.new) }
         ensures same_capacity { room self.new ≡ room self.old }
         ensures same_objects { objects self.new ≡ objects self.old }
+        ensures counted { IfOk result (λ o. CountsAnswer (tally self.old) (tally self.new) (is_hit o)) }
         ensures step { OnOk result (StepsBy (known_state self.old) (known_state self.new) object size next) };
 
     /// A state that is known is that of what is held.

@@ -1,9 +1,9 @@
 //! The replay of a trace through a policy.
-ghost use Rattle.std.specs.Prelude.{◌≡◌, ◌≤◌, ◌&&◌, [], length, IfOk, OnOk};
+ghost use Rattle.std.specs.Prelude.{◌≡◌, ◌≤◌, ◌&&◌, [], length, IfOk, IfSome, OnOk};
 ghost use Rattle.cache_model.specs.Claim.{counts_past};
 ghost use Rattle.cache_model.specs.Objects.{objects_of};
 ghost use Rattle.policy_model.specs.Runs.{AreScores};
-ghost use Rattle.replay_core.specs.Laws.{IsFresh, IsRunOf, IsStateAfter};
+ghost use Rattle.replay_core.specs.Laws.{IsFresh, IsRunOf, IsStateAfter, IsTallied};
 ghost use Rattle.replay_core.specs.Outcomes.{is_hit};
 
 use crate::counts::Replay;
@@ -33,6 +33,7 @@ pub fn replay<P: Policy>(
     requires fresh { IsFresh (P.known_state policy.old) }
     ensures played { IfOk result (λ r. AreScores (P.room policy.old) warmup trace.now.fills trace.now.objects r.hits r.bytes) }
     ensures run { IfOk result (λ r. IsRunOf (P.known_state policy.old) trace.now.objects warmup trace.now.fills r.hits r.bytes) }
+    ensures counted { IfOk result (λ r. IfSome (P.tally policy.old) (λ n. IsTallied n (P.tally policy.new) (length trace.now.objects) warmup trace.now.fills r.hits)) }
     ensures state { OnOk result (IsStateAfter (P.known_state policy.old) (P.known_state policy.new) trace.now.objects warmup trace.now.fills) }
 {
     let mut hits = 0;

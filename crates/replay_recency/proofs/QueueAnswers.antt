@@ -8,8 +8,9 @@ use Rattle.std.proofs.lemmas.List.Sums.{sum_by_push}
 use Rattle.lru.specs.LruCache.{lru_cache, promoted, put_entries}
 use Rattle.policy_model.specs.declared.names.PolicyName.{PolicyName}
 use Rattle.policy_model.specs.declared.names.PolicyName.TheVariants.{Lru, Fifo}
-use Rattle.policy_model.specs.States.{Member, Entry, member_of, members_of, used, has_entry, has_member}
-use Rattle.policy_model.specs.Steps.{make_room, without_entry, on_miss, fresh_entry}
+use Rattle.policy_model.specs.States.{Member, Entry, Stock, State, member_of, members_of, used, has_entry, has_member, nothing_beside}
+use Rattle.policy_model.specs.Steps.{make_room, without_entry, on_miss, fresh_entry, plain_after}
+use Rattle.policy_model.specs.Rules.{stock_after}
 use Rattle.policy_model.proofs.Entries.{Apart}
 use Rattle.policy_model.proofs.MemberLemmas.{sizes-entries, among-itself, among-members}
 use Rattle.policy_model.proofs.Replays.{has_entry-members}
@@ -22,7 +23,7 @@ use Rattle.replay_recency.specs.LruEntries.{entries_of, plain_entry, IsLru}
 use Rattle.replay_recency.proofs.LruLemmas.{length-entries, has_entry-lookup, lookup_entry-none, entries-promoted, entries-put}
 
 abbrev pub kept : ℕ → ℕ → ℕ → List (ℕ × ℕ) → Kept
-kept objects capacity requests pairs = record { objects = objects; capacity = capacity; now = requests; entries = entries_of pairs }
+kept objects capacity requests pairs = record { objects = objects; capacity = capacity; now = requests; entries = entries_of pairs; beside = nothing_beside }
 
 pub holds-member : (pairs : List (ℕ × ℕ)) (k : ℕ) → is_some (lookup (nat_eq k) pairs) ≡ has_member (members_of (entries_of pairs)) k
 holds-member pairs k = sym (has_entry-lookup pairs k) ∙ has_entry-members (entries_of pairs) k
@@ -66,15 +67,20 @@ module _ (objects capacity requests in_use cap : ℕ) (pairs : List (ℕ × ℕ)
         put : entries_of (put_entries nat_eq (lru_cache left cap) k size) ≡ entries_of left ++ plain_entry (k, size) ∷ []
         put = entries-put (lru_cache left cap) k size freed-none few
 
+-- a rule that keeps entries alone
+abbrev pub KeepsEntries : PolicyName → Type 0
+KeepsEntries name = (s : State) (object size : ℕ) (next : Option ℕ) → stock_after name s object size next ≡ record { entries = plain_after s object size next; beside = s.beside }
+
 -- the answers to it are one for both rules
-module _ (name : PolicyName) (objects capacity requests in_use cap : ℕ) (pairs : List (ℕ × ℕ)) (lru : IsLru capacity in_use cap pairs) (k size : ℕ)
+module _ (name : PolicyName) (alone : KeepsEntries name) (objects capacity requests in_use cap : ℕ) (pairs : List (ℕ × ℕ)) (lru : IsLru capacity in_use cap pairs) (k size : ℕ)
     (sizes : All (λ m. m.object ≡ k → m.size ≡ size) (members_of (entries_of pairs))) where
   module _ (none : is_some (lookup (nat_eq k) pairs) ≡ false) where
     pub large-answers : (next : Option ℕ) → capacity < size → Answers name (kept objects capacity requests pairs) (kept objects capacity (min (requests + 1) (2 ^ 64 - 1)) pairs) k size next Miss
     large-answers next large =
         answered name (kept objects capacity requests pairs) (kept objects capacity (min (requests + 1) (2 ^ 64 - 1)) pairs) k size next Miss
         (sym (has_entry-lookup pairs k ∙ none)) refl refl refl
-        (sym (after-large (state_of name (kept objects capacity requests pairs)) k size next (has_entry-lookup pairs k ∙ none) large))
+        (sym (ap (λ (x : Stock). x.entries) (alone (state_of name (kept objects capacity requests pairs)) k size next) ∙ after-large (state_of name (kept objects capacity requests pairs)) k size next (has_entry-lookup pairs k ∙ none) large))
+        (sym (ap (λ (x : Stock). x.beside) (alone (state_of name (kept objects capacity requests pairs)) k size next)))
 
     module _ (left : List (ℕ × ℕ)) (freed : entries_of left ≡ make_room (length pairs) (drop 1) capacity size (entries_of pairs)) where
       module _ (small : size ≤ capacity) (few : length left ≤ cap - 1)
@@ -84,7 +90,8 @@ module _ (name : PolicyName) (objects capacity requests in_use cap : ℕ) (pairs
             answered name (kept objects capacity requests pairs) (kept objects capacity (min (requests + 1) (2 ^ 64 - 1)) (put_entries nat_eq (lru_cache left cap) k size)) k size next Miss
             (sym (has_entry-lookup pairs k ∙ none)) refl refl refl
             (put objects capacity requests in_use cap pairs lru k size sizes none left freed small few ∙ ap (λ es. es ++ plain_entry (k, size) ∷ []) (freed ∙ ap (λ n. make_room n (drop 1) capacity size (entries_of pairs)) (sym (length-entries pairs)))
-            ∙ sym (miss_is next) ∙ sym (after-small (state_of name (kept objects capacity requests pairs)) k size next (has_entry-lookup pairs k ∙ none) small))
+            ∙ sym (miss_is next) ∙ sym (ap (λ (x : Stock). x.entries) (alone (state_of name (kept objects capacity requests pairs)) k size next) ∙ after-small (state_of name (kept objects capacity requests pairs)) k size next (has_entry-lookup pairs k ∙ none) small))
+            (sym (ap (λ (x : Stock). x.beside) (alone (state_of name (kept objects capacity requests pairs)) k size next)))
 
         pub miss-lru : (more : ℕ) → more ≡ used (entries_of left) + size → IsLru capacity more cap (put_entries nat_eq (lru_cache left cap) k size)
         miss-lru more sum = record {
@@ -101,7 +108,7 @@ module _ (objects capacity requests in_use cap : ℕ) (pairs : List (ℕ × ℕ)
   fifo-hit-answers there next =
       answered Fifo (kept objects capacity requests pairs) (kept objects capacity (min (requests + 1) (2 ^ 64 - 1)) pairs) k size next Hit
       (sym (has_entry-lookup pairs k ∙ there)) refl refl refl
-      (sym (after-hit (state_of Fifo (kept objects capacity requests pairs)) k size next (has_entry-lookup pairs k ∙ there)))
+      (sym (after-hit (state_of Fifo (kept objects capacity requests pairs)) k size next (has_entry-lookup pairs k ∙ there))) refl
 
   entry_sizes : AllByRecursion (λ e. e.object ≡ k → e.size ≡ size) (entries_of pairs)
   entry_sizes = sizes-entries k size (entries_of pairs) sizes
@@ -114,7 +121,7 @@ module _ (objects capacity requests in_use cap : ℕ) (pairs : List (ℕ × ℕ)
     lru-hit-answers next =
         answered Lru (kept objects capacity requests pairs) (kept objects capacity (min (requests + 1) (2 ^ 64 - 1)) (promoted (nat_eq k) pairs)) k size next Hit
         (sym (has_entry-lookup pairs k ∙ there)) refl refl refl
-        (moved ∙ sym (after-hit (state_of Lru (kept objects capacity requests pairs)) k size next (has_entry-lookup pairs k ∙ there)))
+        (moved ∙ sym (after-hit (state_of Lru (kept objects capacity requests pairs)) k size next (has_entry-lookup pairs k ∙ there))) refl
 
     pub lru-hit-fits : IsLru capacity in_use cap (promoted (nat_eq k) pairs)
     lru-hit-fits = record {

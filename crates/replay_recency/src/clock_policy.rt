@@ -1,5 +1,5 @@
 //! The rule of the clock: an object that was asked for since the hand last passed it is passed over once.
-ghost use Rattle.std.specs.Prelude.{◌≡◌, ◌≤◌, ◌<◌, ◌^◌, ◌+◌, ◌*◌, ◌++◌, ◌∷◌, [], ℕ, All, length, nat_eq, false, true, Some, is_some, IfOk, IsOk, OnOk, OnErr, refl};
+ghost use Rattle.std.specs.Prelude.{◌≡◌, ◌≤◌, ◌<◌, ◌^◌, ◌+◌, ◌*◌, ◌++◌, ◌∷◌, [], ℕ, All, length, nat_eq, false, true, Some, None, is_some, IfOk, IsOk, OnOk, OnErr, refl};
 ghost use Rattle.std.specs.declared.option.Option.{Option};
 ghost use Rattle.std.specs.HashMap.{get, Updates};
 ghost use Rattle.policy_model.specs.declared.names.PolicyName.TheVariants.{Clock as ByClock};
@@ -35,9 +35,10 @@ impl Model for Clock {
 
     ghost Value = { Kept };
 
+    ghost use Rattle.policy_model.specs.States.{nothing_beside};
     ghost use Rattle.replay_recency.specs.ClockEntries.{marked_entries, IsClock};
 
-    ghost view = { λ p. record { objects = p.objects; capacity = p.capacity; now = p.requests; entries = marked_entries p.marks p.queue.items } };
+    ghost view = { λ p. record { objects = p.objects; capacity = p.capacity; now = p.requests; entries = marked_entries p.marks p.queue.items; beside = nothing_beside } };
 
     ghost invariant = { λ p. IsClock p.capacity p.used p.queue.items p.marks };
 }
@@ -188,6 +189,8 @@ impl Policy for Clock {
     ghost room = { λ p. p.capacity };
 
     ghost known_state = { λ p. Some (state_of ByClock p) };
+
+    ghost tally = { λ _. None };
 
     fn capacity(&self) -> u64 {
         self.capacity

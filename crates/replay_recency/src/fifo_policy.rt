@@ -1,5 +1,5 @@
 //! The rule that gives up the object that entered longest ago.
-ghost use Rattle.std.specs.Prelude.{◌≡◌, ◌≤◌, ◌^◌, ℕ, All, Some, IfOk, OnOk, OnErr, refl};
+ghost use Rattle.std.specs.Prelude.{◌≡◌, ◌≤◌, ◌^◌, ℕ, All, Some, None, IfOk, OnOk, OnErr, refl};
 ghost use Rattle.std.specs.declared.option.Option.{Option};
 ghost use Rattle.policy_model.specs.declared.names.PolicyName.TheVariants.{Fifo as ByEntry};
 ghost use Rattle.replay_core.specs.Keeping.{Answers, GivesUp, nothing_kept, state_of, contents_of};
@@ -31,9 +31,10 @@ impl Model for Fifo {
 
     ghost Value = { Kept };
 
+    ghost use Rattle.policy_model.specs.States.{nothing_beside};
     ghost use Rattle.replay_recency.specs.LruEntries.{entries_of, IsLru};
 
-    ghost view = { λ p. record { objects = p.objects; capacity = p.capacity; now = p.requests; entries = entries_of p.entries.entries } };
+    ghost view = { λ p. record { objects = p.objects; capacity = p.capacity; now = p.requests; entries = entries_of p.entries.entries; beside = nothing_beside } };
 
     ghost invariant = { λ p. IsLru p.capacity p.used p.entries.cap p.entries.entries };
 }
@@ -87,6 +88,8 @@ impl Policy for Fifo {
     ghost room = { λ p. p.capacity };
 
     ghost known_state = { λ p. Some (state_of ByEntry p) };
+
+    ghost tally = { λ _. None };
 
     fn capacity(&self) -> u64 {
         self.capacity

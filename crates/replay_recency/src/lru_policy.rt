@@ -1,5 +1,5 @@
 //! The rule that gives up the object whose latest request is longest ago.
-ghost use Rattle.std.specs.Prelude.{◌≡◌, ◌≤◌, ◌^◌, ◌+◌, ℕ, All, length, drop, Some, IfOk, OnOk, OnErr, refl};
+ghost use Rattle.std.specs.Prelude.{◌≡◌, ◌≤◌, ◌^◌, ◌+◌, ℕ, All, length, drop, Some, None, IfOk, OnOk, OnErr, refl};
 ghost use Rattle.std.specs.declared.option.Option.{Option};
 ghost use Rattle.policy_model.specs.declared.names.PolicyName.TheVariants.{Lru as ByRecency};
 ghost use Rattle.policy_model.specs.States.{used};
@@ -32,9 +32,10 @@ impl Model for Lru {
 
     ghost Value = { Kept };
 
+    ghost use Rattle.policy_model.specs.States.{nothing_beside};
     ghost use Rattle.replay_recency.specs.LruEntries.{entries_of, IsLru};
 
-    ghost view = { λ p. record { objects = p.objects; capacity = p.capacity; now = p.requests; entries = entries_of p.entries.entries } };
+    ghost view = { λ p. record { objects = p.objects; capacity = p.capacity; now = p.requests; entries = entries_of p.entries.entries; beside = nothing_beside } };
 
     ghost invariant = { λ p. IsLru p.capacity p.used p.entries.cap p.entries.entries };
 }
@@ -114,6 +115,8 @@ impl Policy for Lru {
     ghost room = { λ p. p.capacity };
 
     ghost known_state = { λ p. Some (state_of ByRecency p) };
+
+    ghost tally = { λ _. None };
 
     fn capacity(&self) -> u64 {
         self.capacity

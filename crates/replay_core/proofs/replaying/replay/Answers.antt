@@ -1,4 +1,4 @@
-use Rattle.std.proofs.Common.{◌≡◌, ◌≤◌, ◌<◌, ◌+◌, ◌*◌, ◌^◌, ◌∙◌, ℕ, Bool, ◌&&◌, cond, true, false, add-zero, List, sym, ap, refl, arith, length}
+use Rattle.std.proofs.Common.{◌≡◌, ◌≤◌, ◌<◌, ◌+◌, ◌*◌, ◌^◌, ◌∙◌, ℕ, Bool, IfSome, subst, ◌&&◌, cond, true, false, add-zero, List, sym, ap, refl, arith, length}
 use Rattle.std.proofs.lemmas.Option.{get_or_from_slice_get}
 use Rattle.cache_model.specs.declared.objects.Object.{Object}
 use Rattle.cache_model.specs.Objects.{objects_of}
@@ -7,8 +7,9 @@ use Rattle.policy_model.specs.Asks.{object_numbered}
 use Rattle.policy_model.proofs.Numbers.{number_of-found, next_request-found}
 use Rattle.policy_model.proofs.Replays.{IsAsked, played-all, played-none, played-more}
 use Rattle.replay_core.specs.Outcomes.{is_hit}
-use Rattle.replay_core.specs.Laws.{IsSound}
+use Rattle.replay_core.specs.Laws.{IsSound, IsTallied}
 use Rattle.policy_model.specs.States.{has_member, members_size}
+use Rattle.replay_core.proofs.Tallies.{tally-none, tally-more}
 use Rattle.replay_core.proofs.KnownRuns.{run-none, run-more, run-all, state-all}
 use Rattle.replay_core.proofs.replaying.replay.Goals as goal
 use Rattle.replay_core.proofs.replaying.replay.Goals.{then-counts, else-counts}
@@ -24,6 +25,7 @@ loop-t-init g c = record {
   objects = refl;
   played = played-none (g.P.Policy.room c.args.policy.now) (counts_past c.args.warmup c.args.trace.now.fills) c.args.trace.now.objects (g.P.Policy.contents c.args.policy.now) c.requires.empty;
   run = run-none (g.P.Policy.known_state c.args.policy.now) (counts_past c.args.warmup c.args.trace.now.fills) c.args.trace.now.objects;
+  tallied = tally-none (g.P.Policy.tally c.args.policy.now) c.args.warmup c.args.trace.now.fills;
   few_hits = omega arith;
   few_bytes = omega arith;
 }
@@ -65,6 +67,8 @@ loop-t-preserved g c =
           (g.P.Policy.contents c.loop-t.policy) (g.P.Policy.room c.loop-t.policy) c.loop-t.hits c.loop-t.bytes c.if-counts.hits c.if-counts.bytes hit within
           (number_of-found trace (request_at trace t) k c.request-object.ensures.number) (sym size_is) (next_request-found trace t c.next.result within c.next.ensures.nearest)
           c.loop-t.invariant.run (g.met.P.Policy.state_fits c.loop-t.policy) c.in_ok-outcome.ensures.step hit_is hits_more bytes_more;
+      tallied = tally-more (g.P.Policy.tally c.args.policy.now) (g.P.Policy.tally c.loop-t.policy) (g.P.Policy.tally c.request.new.self) t c.args.warmup c.args.trace.now.fills c.loop-t.hits c.if-counts.hits hit
+          c.loop-t.invariant.tallied c.in_ok-outcome.ensures.counted hits_more;
       few_hits = (let most : cond counts 1 0 ≤ 1 = cond_le counts 1 in let few : c.loop-t.hits ≤ t = c.loop-t.invariant.few_hits in omega arith);
       few_bytes = (let most : cond counts size 0 ≤ size = cond_le counts size in let few : c.loop-t.bytes ≤ t * 2 ^ 48 = c.loop-t.invariant.few_bytes in
           let small : size ≤ 2 ^ 48 = c.size_of-size.ensures.range.1 in omega arith);
@@ -84,3 +88,7 @@ pub returns-clause-played : goal.returns-clause-played
 returns-clause-played g c =
     played-all (g.P.Policy.room c.args.policy.now) c.args.warmup c.args.trace.now.fills c.args.trace.now.objects (g.P.Policy.contents c.loop-t.policy) c.loop-t.t c.loop-t.hits c.loop-t.bytes
     (omega arith) c.loop-t.invariant.played
+
+pub returns-clause-counted : goal.returns-clause-counted
+returns-clause-counted g c =
+    subst (λ n. IfSome (g.P.Policy.tally c.args.policy.now) (λ before. IsTallied before (g.P.Policy.tally c.loop-t.policy) n c.args.warmup c.args.trace.now.fills c.loop-t.hits)) (omega arith) c.loop-t.invariant.tallied

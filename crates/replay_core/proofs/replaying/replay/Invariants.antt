@@ -1,6 +1,7 @@
-use Rattle.std.proofs.Common.{◌≡◌, ◌≤◌, ◌*◌, ◌^◌}
+use Rattle.std.proofs.Common.{◌≡◌, ◌≤◌, ◌*◌, ◌^◌, IfSome}
 use Rattle.cache_model.specs.Claim.{counts_past}
 use Rattle.policy_model.proofs.Replays.{AreScoresTo}
+use Rattle.replay_core.specs.Laws.{IsTallied}
 use Rattle.replay_core.proofs.KnownRuns.{IsRunTo}
 use Rattle.replay_core.proofs.replaying.replay.Given as goal
 
@@ -10,6 +11,7 @@ invariant-loop-t g l = record {
   objects : g.P.Policy.objects l.policy ≡ g.P.Policy.objects l.fn.policy;
   played : AreScoresTo (g.P.Policy.room l.fn.policy) (counts_past l.warmup l.trace.fills) l.trace.objects l.t (g.P.Policy.contents l.policy) l.hits l.bytes;
   run : IsRunTo (g.P.Policy.known_state l.fn.policy) (g.P.Policy.known_state l.policy) (counts_past l.warmup l.trace.fills) l.trace.objects l.t l.hits l.bytes;
+  tallied : IfSome (g.P.Policy.tally l.fn.policy) (λ n. IsTallied n (g.P.Policy.tally l.policy) l.t l.warmup l.trace.fills l.hits);
   few_hits : l.hits ≤ l.t;
   few_bytes : l.bytes ≤ l.t * 2 ^ 48;
 }
