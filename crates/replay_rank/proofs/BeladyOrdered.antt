@@ -11,7 +11,7 @@ use Rattle.std.specs.Ordering.{nat_cmp, is_lt, ordering_then, match_ordering}
 use Rattle.std.proofs.lemmas.Bool.{cases_order, eqb-true, eqb-false, eq-eqb, cond_both}
 use Rattle.policy_model.specs.declared.names.PolicyName.TheVariants.{Belady}
 use Rattle.policy_model.specs.States.{Entry, used, has_entry}
-use Rattle.policy_model.specs.Steps.{make_room, remove_foremost, is_farther, touch}
+use Rattle.policy_model.specs.Steps.{make_room, remove_foremost, is_farther, touched, touch}
 use Rattle.policy_model.proofs.Comparisons.{at-eqb, eqb-sym, cmp-less, cmp-equal}
 use Rattle.policy_model.proofs.Entries.{Apart}
 use Rattle.policy_model.proofs.Sound.{Apart-touch}
@@ -24,7 +24,7 @@ use Rattle.replay_rank.proofs.Foremost.{far}
 
 abbrev pub by_next : Ranking Held ℕ
 by_next = record {
-  fill = λ h. record { object = 0; size = h.size; mark = false; count = 0; last = 0; next = next_of h.next };
+  fill = λ h. record { object = 0; size = h.size; mark = false; count = 0; last = 0; next = next_of h.next; rank = 0 };
   rank_of = λ h. h.next;
   same_rank = eqb;
   rank_cmp = nat_cmp;
@@ -81,11 +81,11 @@ ranks_inserted (p ∷ ps) k held most ranks = at (nat_cmp k p.0) (ranks_inserted
 -- ---- the pairs
 -- the entry of a pair with another next request
 abbrev with_next : ℕ × Held → ℕ → Entry
-with_next p n = record { object = p.0; size = p.1.size; mark = false; count = 0; last = 0; next = next_of n }
+with_next p n = record { object = p.0; size = p.1.size; mark = false; count = 0; last = 0; next = next_of n; rank = 0 }
 
 -- and with another size
 abbrev with_size : ℕ × Held → ℕ → ℕ → Entry
-with_size p n size = record { object = p.0; size = size; mark = false; count = 0; last = 0; next = next_of n }
+with_size p n size = record { object = p.0; size = size; mark = false; count = 0; last = 0; next = next_of n; rank = 0 }
 
 module _ (pairs : List (ℕ × Held)) (order : BTreeSet (ℕ × ℕ)) (ordered : AreOrdered pairs order) where
   pub keys_follow : IsOrdered by_next pairs order
@@ -130,7 +130,7 @@ module _ (pairs : List (ℕ × Held)) (order : BTreeSet (ℕ × ℕ)) (ordered :
     module _ (held : Held) (is : lookup (is_at (nat_cmp k)) pairs ≡ Some held) where
       pub belady_entries : (now : ℕ) (renewed : Held) → IsStrictlySortedBy nat_cmp (keys_of pairs) → renewed.size ≡ held.size → entries_of (insert_entry nat_cmp pairs k renewed) ≡ touch Belady now (next_of renewed.next) k (entries_of pairs)
       belady_entries now renewed sorted same_size =
-          entries-renewed by_next.fill Belady now k (next_of renewed.next) renewed pairs sorted ordered.apart (has_entry-lookup by_next.fill pairs k ∙ ap is_some is)
+          entries-renewed by_next.fill (touched Belady now (next_of renewed.next)) k renewed pairs sorted ordered.apart (has_entry-lookup by_next.fill pairs k ∙ ap is_some is)
           (makes pairs (sizes-found by_next.fill pairs k held ordered.apart is))
         where
           makes : (ps : List (ℕ × Held)) → AllByRecursion (λ e. e.object ≡ k → e.size ≡ held.size) (entries_of ps) → AllByRecursion (λ p. eqb p.0 k ≡ true → with_size p renewed.next renewed.size ≡ with_size p renewed.next p.1.size) ps
@@ -147,7 +147,7 @@ module _ (pairs : List (ℕ × Held)) (order : BTreeSet (ℕ × ℕ)) (ordered :
 
 -- the next request that is there already
 pub belady_same : (pairs : List (ℕ × Held)) (now k next : ℕ) → AllByRecursion (λ p. eqb p.0 k ≡ true → p.1.next ≡ next) pairs → touch Belady now (next_of next) k (entries_of pairs) ≡ entries_of pairs
-belady_same pairs now k next each = entries-same by_next.fill Belady now k (next_of next) pairs (stays pairs each)
+belady_same pairs now k next each = entries-same by_next.fill (touched Belady now (next_of next)) k pairs (stays pairs each)
   where
     stays : (ps : List (ℕ × Held)) → AllByRecursion (λ p. eqb p.0 k ≡ true → p.1.next ≡ next) ps → AllByRecursion (λ p. eqb p.0 k ≡ true → with_next p next ≡ with_next p p.1.next) ps
     stays [] each = tt

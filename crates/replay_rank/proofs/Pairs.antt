@@ -1,5 +1,5 @@
 -- The pairs of a map from objects, and the entries that they are.
-use Rattle.std.proofs.Common.{◌≡◌, ℕ, ◌<◌, ◌∙◌, sym, refl, ap, subst, ⊎_elim, Bool, true, false, not, ◌||◌, cond, eqb, List, [], ◌∷◌, map, arith, Some, Option, is_some}
+use Rattle.std.proofs.Common.{◌≡◌, ℕ, ◌<◌, ◌∙◌, sym, refl, ap, subst, ⊎_elim, Bool, true, false, not, ◌||◌, cond, eqb, List, [], ◌∷◌, map, arith, Some, is_some}
 use Rattle.std.specs.declared.cmp.Ordering.TheVariants.{Less, Greater}
 use Rattle.std.specs.BTreeMap.{is_at, insert_entry}
 use Rattle.std.specs.List.{AllByRecursion}
@@ -8,9 +8,8 @@ use Rattle.std.specs.Map.{keys_of, lookup, remove_entry}
 use Rattle.std.specs.Ordering.{nat_cmp, match_ordering}
 use Rattle.std.proofs.lemmas.Bool.{cases_order, eqb-true, eqb-false, eq-eqb, ne_eqb, lt-ltb, le-ltb, or_parts, or_from, both_ways}
 use Rattle.std.proofs.lemmas.Map.Keys.{sorted_head, sorted_tail}
-use Rattle.policy_model.specs.declared.names.PolicyName.{PolicyName}
 use Rattle.policy_model.specs.States.{Entry, has_entry}
-use Rattle.policy_model.specs.Steps.{without_entry, put_in, touched, touch}
+use Rattle.policy_model.specs.Steps.{without_entry, put_in, change}
 use Rattle.policy_model.proofs.Comparisons.{at-eqb, cmp-less, cmp-equal, cmp-greater}
 use Rattle.policy_model.proofs.Entries.{Apart, without-none}
 
@@ -99,17 +98,17 @@ module _ {X : Type 0} (fill : X → Entry) where
       not_less a b high less = let greater : nat_cmp a b ≡ Greater = cmp-greater a b high in cc
 
   -- ---- a pair that is renewed
-  module _ (name : PolicyName) (now k : ℕ) (next : Option ℕ) where
-    touch-none : (entries : List Entry) → has_entry entries k ≡ false → touch name now next k entries ≡ entries
-    touch-none [] none = refl
-    touch-none (e ∷ rest) none =
+  module _ (by : Entry → Entry) (k : ℕ) where
+    change-none : (entries : List Entry) → has_entry entries k ≡ false → change by k entries ≡ entries
+    change-none [] none = refl
+    change-none (e ∷ rest) none =
         let parts : (eqb e.object k ≡ false) × (has_entry rest k ≡ false) = or_parts _ _ none in
-        ap (λ b. cond b (touched name now next e) e ∷ touch name now next k rest) parts.0 ∙ ap (λ es. e ∷ es) (touch-none rest parts.1)
+        ap (λ b. cond b (by e) e ∷ change by k rest) parts.0 ∙ ap (λ es. e ∷ es) (change-none rest parts.1)
 
     -- a hit that makes of each entry of the object what is put in
     pub entries-renewed : (x : X) (pairs : List (ℕ × X)) → IsStrictlySortedBy nat_cmp (keys_of pairs) → Apart (pair_entries pairs) → has_entry (pair_entries pairs) k ≡ true
-        → AllByRecursion (λ p. eqb p.0 k ≡ true → pair_entry (p.0, x) ≡ touched name now next (pair_entry p)) pairs
-        → pair_entries (insert_entry nat_cmp pairs k x) ≡ touch name now next k (pair_entries pairs)
+        → AllByRecursion (λ p. eqb p.0 k ≡ true → pair_entry (p.0, x) ≡ by (pair_entry p)) pairs
+        → pair_entries (insert_entry nat_cmp pairs k x) ≡ change by k (pair_entries pairs)
     entries-renewed x [] sorted apart there makes = cc
     entries-renewed x (p ∷ rest) sorted apart there makes =
         ⊎_elim
@@ -117,8 +116,8 @@ module _ {X : Type 0} (fill : X → Entry) where
         let none : has_entry (pair_entries rest) k ≡ false = ap (has_entry (pair_entries rest)) same ∙ apart.0 in
         ap (λ o. pair_entries (match_ordering o ((k, x) ∷ p ∷ rest) ((p.0, x) ∷ rest) (p ∷ insert_entry nat_cmp rest k x))) (cmp-equal k p.0 same)
         ∙ ap (λ (e : Entry). e ∷ pair_entries rest) (makes.0 (eq-eqb p.0 k (sym same)))
-        ∙ ap (λ es. touched name now next (pair_entry p) ∷ es) (sym (touch-none (pair_entries rest) none))
-        ∙ ap (λ b. cond b (touched name now next (pair_entry p)) (pair_entry p) ∷ touch name now next k (pair_entries rest)) (sym (eq-eqb p.0 k (sym same))))
+        ∙ ap (λ es. by (pair_entry p) ∷ es) (sym (change-none (pair_entries rest) none))
+        ∙ ap (λ b. cond b (by (pair_entry p)) (pair_entry p) ∷ change by k (pair_entries rest)) (sym (eq-eqb p.0 k (sym same))))
         (λ order. ⊎_elim
         (λ (low : k < p.0).
         let none : has_entry (pair_entries (p ∷ rest)) k ≡ false = or_from _ _ (ne_eqb p.0 k (λ same. omega arith)) (above-none rest p.0 k low (sorted_head nat_cmp p.0 (keys_of rest) sorted)) in
@@ -128,16 +127,16 @@ module _ {X : Type 0} (fill : X → Entry) where
         let later : has_entry (pair_entries rest) k ≡ true = ap (λ b. b || has_entry (pair_entries rest) k) (sym other) ∙ there in
         ap (λ o. pair_entries (match_ordering o ((k, x) ∷ p ∷ rest) ((p.0, x) ∷ rest) (p ∷ insert_entry nat_cmp rest k x))) (cmp-greater k p.0 high)
         ∙ ap (λ es. pair_entry p ∷ es) (entries-renewed x rest (sorted_tail nat_cmp p.0 (keys_of rest) sorted) apart.1 later makes.1)
-        ∙ ap (λ b. cond b (touched name now next (pair_entry p)) (pair_entry p) ∷ touch name now next k (pair_entries rest)) (sym other))
+        ∙ ap (λ b. cond b (by (pair_entry p)) (pair_entry p) ∷ change by k (pair_entries rest)) (sym other))
         order)
         (cases_order k p.0)
 
     -- a hit that changes nothing
-    pub entries-same : (pairs : List (ℕ × X)) → AllByRecursion (λ p. eqb p.0 k ≡ true → touched name now next (pair_entry p) ≡ pair_entry p) pairs → touch name now next k (pair_entries pairs) ≡ pair_entries pairs
+    pub entries-same : (pairs : List (ℕ × X)) → AllByRecursion (λ p. eqb p.0 k ≡ true → by (pair_entry p) ≡ pair_entry p) pairs → change by k (pair_entries pairs) ≡ pair_entries pairs
     entries-same [] each = refl
     entries-same (p ∷ ps) each =
-        ap (λ es. cond (eqb p.0 k) (touched name now next (pair_entry p)) (pair_entry p) ∷ es) (entries-same ps each.1) ∙ at (eqb p.0 k) refl
+        ap (λ es. cond (eqb p.0 k) (by (pair_entry p)) (pair_entry p) ∷ es) (entries-same ps each.1) ∙ at (eqb p.0 k) refl
       where
-        at : (t : Bool) → eqb p.0 k ≡ t → cond t (touched name now next (pair_entry p)) (pair_entry p) ∷ pair_entries ps ≡ pair_entry p ∷ pair_entries ps
+        at : (t : Bool) → eqb p.0 k ≡ t → cond t (by (pair_entry p)) (pair_entry p) ∷ pair_entries ps ≡ pair_entry p ∷ pair_entries ps
         at true e = ap (λ (f : Entry). f ∷ pair_entries ps) (each.0 e)
         at false e = refl

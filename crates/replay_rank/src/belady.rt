@@ -1,5 +1,5 @@
 //! The rule that gives up the object whose next request is farthest away.
-ghost use Rattle.std.specs.Prelude.{◌≡◌, ◌≤◌, ◌<◌, ◌^◌, ◌+◌, ℕ, All, length, false, Some, IsOk, IfOk, OnOk, OnErr, refl};
+ghost use Rattle.std.specs.Prelude.{◌≡◌, ◌≤◌, ◌<◌, ◌^◌, ◌+◌, ℕ, All, length, false, Some, None, IsOk, IfOk, OnOk, OnErr, refl};
 ghost use Rattle.std.specs.BTreeMap.{is_at};
 ghost use Rattle.std.specs.Map.{lookup};
 ghost use Rattle.std.specs.Ordering.{nat_cmp};
@@ -56,9 +56,10 @@ impl Model for Belady {
 
     ghost Value = { Kept };
 
+    ghost use Rattle.policy_model.specs.States.{nothing_beside};
     ghost use Rattle.replay_rank.specs.BeladyEntries.{entries_of, IsBelady};
 
-    ghost view = { λ p. record { objects = p.objects; capacity = p.capacity; now = p.requests; entries = entries_of p.entries.entries } };
+    ghost view = { λ p. record { objects = p.objects; capacity = p.capacity; now = p.requests; entries = entries_of p.entries.entries; beside = nothing_beside } };
 
     ghost invariant = { λ p. IsBelady p.capacity p.used p.entries.entries p.order };
 }
@@ -207,6 +208,8 @@ impl Policy for Belady {
     ghost room = { λ p. p.capacity };
 
     ghost known_state = { λ p. Some (state_of ByNext p) };
+
+    ghost tally = { λ _. None };
 
     fn capacity(&self) -> u64 {
         self.capacity

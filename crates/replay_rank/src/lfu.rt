@@ -44,9 +44,10 @@ impl Model for Lfu {
 
     ghost Value = { Kept };
 
+    ghost use Rattle.policy_model.specs.States.{nothing_beside};
     ghost use Rattle.replay_rank.specs.LfuEntries.{entries_of, IsLfu};
 
-    ghost view = { λ p. record { objects = p.objects; capacity = p.capacity; now = p.requests; entries = entries_of p.entries.entries } };
+    ghost view = { λ p. record { objects = p.objects; capacity = p.capacity; now = p.requests; entries = entries_of p.entries.entries; beside = nothing_beside } };
 
     ghost invariant = { λ p. IsLfu p.capacity p.used p.entries.entries p.order };
 }
@@ -214,6 +215,8 @@ impl Policy for Lfu {
     ghost room = { λ p. p.capacity };
 
     ghost known_state = { λ p. Some (state_of ByCount p) };
+
+    ghost tally = { λ _. None };
 
     fn capacity(&self) -> u64 {
         self.capacity
