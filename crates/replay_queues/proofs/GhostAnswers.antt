@@ -1,0 +1,282 @@
+-- The ghosts, as one is put in or taken out.
+use Rattle.std.proofs.Common.{◌≡◌, ℕ, zero, suc, ◌+◌, ◌-◌, ◌<◌, ◌≤◌, ◌∙◌, sym, refl, ap, subst, Bool, true, false, not, ◌||◌, cond, eqb, List, [], ◌∷◌, ◌++◌, length, filter, get_or, drop, arith, sum_by}
+use Rattle.std.specs.List.{AllByRecursion, IsDistinct, list_any}
+use Rattle.std.proofs.lemmas.Bool.{eqb-true, eq-eqb, ne_eqb, or_parts, or_from, or_left, cond_both}
+use Rattle.std.proofs.lemmas.Map.Steps.{length-le_from_distinct_below}
+use Rattle.std.proofs.lemmas.List.{length-append, map-append, get_or_read}
+use Rattle.std.proofs.lemmas.List.Sums.{sum_by-cons, sum_by_push}
+use Rattle.policy_model.specs.States.{Member, member, members_size, has_member}
+use Rattle.policy_model.proofs.Comparisons.{eqb-sym}
+use Rattle.cache_model.proofs.Eligible.{or_false}
+use Rattle.replay_queues.specs.declared.ghosts.Node.{Node}
+use Rattle.replay_queues.specs.GhostQueues.{GhostQueue}
+use Rattle.replay_queues.specs.Rings.{node_at, is_among, Distinct, Links, Joins, Notes, walk, ring_of, members_at, ghosts_of, IsRing}
+use Rattle.replay_queues.proofs.RingLemmas.{after, before, without, without-none, without-head, Links-same, last-beside, before-among, after-among, takes_last, goes_on, taken_out, walked, length-walk}
+
+abbrev pub size_at : List Node → ℕ → ℕ
+size_at nodes k = (node_at nodes k).size
+
+-- ---- the members of numbers
+pub members-among : (nodes : List Node) (numbers : List ℕ) (k : ℕ) → has_member (members_at nodes numbers) k ≡ is_among numbers k
+members-among nodes [] k = refl
+members-among nodes (j ∷ rest) k = ap (λ b. eqb j k || b) (members-among nodes rest k)
+
+members-but : (old new : List Node) (k : ℕ) → ((j : ℕ) → eqb j k ≡ false → size_at new j ≡ size_at old j) → (numbers : List ℕ) → is_among numbers k ≡ false → members_at new numbers ≡ members_at old numbers
+members-but old new k same [] none = refl
+members-but old new k same (j ∷ rest) none =
+    let parts : (eqb j k ≡ false) × (is_among rest k ≡ false) = or_parts _ _ none in
+    ap (λ s. member j s ∷ members_at new rest) (same j parts.0) ∙ ap (λ ms. member j (size_at old j) ∷ ms) (members-but old new k same rest parts.1)
+
+members-same : (old new : List Node) → ((j : ℕ) → size_at new j ≡ size_at old j) → (numbers : List ℕ) → members_at new numbers ≡ members_at old numbers
+members-same old new same [] = refl
+members-same old new same (j ∷ rest) = ap (λ s. member j s ∷ members_at new rest) (same j) ∙ ap (λ ms. member j (size_at old j) ∷ ms) (members-same old new same rest)
+
+members-without : (nodes : List Node) (k : ℕ) (numbers : List ℕ) → filter (λ m. not (eqb m.object k)) (members_at nodes numbers) ≡ members_at nodes (without k numbers)
+members-without nodes k [] = refl
+members-without nodes k (j ∷ rest) = at (eqb j k) (members-without nodes k rest)
+  where
+    at : (t : Bool) → filter (λ m. not (eqb m.object k)) (members_at nodes rest) ≡ members_at nodes (without k rest)
+        → cond (not t) (member j (size_at nodes j) ∷ filter (λ m. not (eqb m.object k)) (members_at nodes rest)) (filter (λ m. not (eqb m.object k)) (members_at nodes rest)) ≡ members_at nodes (cond (not t) (j ∷ without k rest) (without k rest))
+    at true later = later
+    at false later = ap (λ ms. member j (size_at nodes j) ∷ ms) later
+
+-- ---- without a number
+pub less-among : (k q : ℕ) (numbers : List ℕ) → is_among numbers q ≡ false → is_among (without k numbers) q ≡ false
+less-among k q [] none = none
+less-among k q (j ∷ rest) none =
+    let parts : (eqb j q ≡ false) × (is_among rest q ≡ false) = or_parts _ _ none in
+    cond_both (not (eqb j k)) (j ∷ without k rest) (without k rest) (λ js. is_among js q ≡ false) (λ _. or_from (eqb j q) (is_among (without k rest) q) parts.0 (less-among k q rest parts.1)) (λ _. less-among k q rest parts.1)
+
+more-among : (k q : ℕ) (numbers : List ℕ) → is_among (without k numbers) q ≡ true → is_among numbers q ≡ true
+more-among k q numbers there = at (is_among numbers q) refl
+  where
+    at : (t : Bool) → is_among numbers q ≡ t → is_among numbers q ≡ true
+    at true is = is
+    at false is = let clash : true ≡ false = sym there ∙ less-among k q numbers is in cc
+
+distinct-without : (k : ℕ) (numbers : List ℕ) → Distinct numbers → Distinct (without k numbers)
+distinct-without k [] apart = tt
+distinct-without k (j ∷ rest) apart =
+    cond_both (not (eqb j k)) (j ∷ without k rest) (without k rest) Distinct (λ _. (less-among k j rest apart.0, distinct-without k rest apart.1)) (λ _. distinct-without k rest apart.1)
+
+-- a sum loses its part
+sum-without : (f : ℕ → ℕ) (k : ℕ) (numbers : List ℕ) → Distinct numbers → is_among numbers k ≡ true → sum_by f (without k numbers) + f k ≡ sum_by f numbers
+sum-without f k [] apart there = cc
+sum-without f k (j ∷ rest) apart there = at (eqb j k) refl (sum-without f k rest apart.1)
+  where
+    at : (t : Bool) → eqb j k ≡ t → (is_among rest k ≡ true → sum_by f (without k rest) + f k ≡ sum_by f rest) → sum_by f (cond (not (eqb j k)) (j ∷ without k rest) (without k rest)) + f k ≡ sum_by f (j ∷ rest)
+    at true e more =
+        let same : j ≡ k = eqb-true j k e in
+        omega (
+          arith,
+          ap (λ b. sum_by f (cond (not b) (j ∷ without k rest) (without k rest))) e,
+          ap (sum_by f) (without-none k rest (ap (is_among rest) (sym same) ∙ apart.0)),
+          ap f same,
+          sum_by-cons f j rest,
+        )
+    at false e more =
+        omega (
+          arith,
+          ap (λ b. sum_by f (cond (not b) (j ∷ without k rest) (without k rest))) e,
+          more (ap (λ t. t || is_among rest k) (sym e) ∙ there),
+          sum_by-cons f j rest,
+          sum_by-cons f j (without k rest),
+        )
+
+ones : (numbers : List ℕ) → sum_by (λ j. 1) numbers ≡ length numbers
+ones [] = refl
+ones (j ∷ rest) = omega (arith, ones rest, sum_by-cons (λ (i : ℕ). 1) j rest)
+
+sizes : (nodes : List Node) (numbers : List ℕ) → members_size (members_at nodes numbers) ≡ sum_by (size_at nodes) numbers
+sizes nodes [] = refl
+sizes nodes (j ∷ rest) = omega (arith, sizes nodes rest, sum_by-cons (size_at nodes) j rest, sum_by-cons (λ (m : Member). m.size) (member j (size_at nodes j)) (members_at nodes rest))
+
+-- ---- with one more
+among-push : (numbers : List ℕ) (k q : ℕ) → is_among (numbers ++ k ∷ []) q ≡ (is_among numbers q || eqb k q)
+among-push [] k q = or_false (eqb k q)
+among-push (j ∷ rest) k q = ap (λ b. eqb j q || b) (among-push rest k q) ∙ assoc (eqb j q) (is_among rest q) (eqb k q)
+  where
+    assoc : (a b c : Bool) → (a || (b || c)) ≡ (a || b || c)
+    assoc true b c = refl
+    assoc false b c = refl
+
+distinct-push : (numbers : List ℕ) (k : ℕ) → Distinct numbers → is_among numbers k ≡ false → Distinct (numbers ++ k ∷ [])
+distinct-push [] k apart none = (refl, tt)
+distinct-push (j ∷ rest) k apart none =
+    let parts : (eqb j k ≡ false) × (is_among rest k ≡ false) = or_parts _ _ none in
+    (among-push rest k j ∙ or_from (is_among rest j) (eqb k j) apart.0 (eqb-sym k j ∙ parts.0), distinct-push rest k apart.1 parts.1)
+
+-- ---- how many there can be
+distinct-others : (k : ℕ) (rest : List ℕ) → is_among rest k ≡ false → AllByRecursion (λ y. eqb k y ≡ false) rest
+distinct-others k [] none = tt
+distinct-others k (j ∷ rest) none =
+    let parts : (eqb j k ≡ false) × (is_among rest k ≡ false) = or_parts _ _ none in
+    (eqb-sym k j ∙ parts.0, distinct-others k rest parts.1)
+
+is_distinct : (numbers : List ℕ) → Distinct numbers → IsDistinct eqb numbers
+unfolding IsDistinct
+is_distinct [] apart = tt
+is_distinct (j ∷ rest) apart = (distinct-others j rest apart.0, is_distinct rest apart.1)
+
+any-among : (numbers : List ℕ) (q : ℕ) → list_any (eqb q) numbers ≡ is_among numbers q
+any-among [] q = refl
+any-among (j ∷ rest) q = ap (λ b. b || list_any (eqb q) rest) (eqb-sym q j) ∙ ap (λ b. eqb j q || b) (any-among rest q)
+
+pub few : (numbers : List ℕ) (none : ℕ) → Distinct numbers → ((k : ℕ) → is_among numbers k ≡ true → k < none) → length numbers ≤ none
+few numbers none apart below = length-le_from_distinct_below numbers none (is_distinct numbers apart) (λ q there. below q (sym (any-among numbers q) ∙ there))
+
+-- ---- a ring of these numbers
+module _ (nodes : List Node) (none count bytes : ℕ) (numbers : List ℕ) (linked : Links nodes none numbers none) (counted : length numbers ≡ count) where
+  pub ring-is : ring_of nodes none count ≡ numbers
+  ring-is = ap (λ n. walk nodes n (after nodes none)) (sym counted) ∙ walked nodes none numbers none linked
+
+  pub ring-made : length nodes ≡ none + 1 → Distinct numbers → ((k : ℕ) → is_among numbers k ≡ true → k < none) → bytes ≡ members_size (members_at nodes numbers) → IsRing nodes none count bytes
+  ring-made each apart below bytes_are = record {
+    each_node = each;
+    linked = subst (λ js. Links nodes none js none) (sym ring-is) linked;
+    apart = subst Distinct (sym ring-is) apart;
+    below = λ k there. below k (ap (λ js. is_among js k) (sym ring-is) ∙ there);
+    bytes_are = bytes_are ∙ ap (λ js. members_size (members_at nodes js)) (sym ring-is);
+  }
+
+-- ---- what holds of a ring
+module _ (nodes : List Node) (none count bytes : ℕ) (ring : IsRing nodes none count bytes) where
+  abbrev numbers : List ℕ
+  numbers = ring_of nodes none count
+
+  pub none_apart : is_among numbers none ≡ false
+  none_apart = at (is_among numbers none) refl
+    where
+      at : (t : Bool) → is_among numbers none ≡ t → t ≡ false
+      at true is = absurd (let low : none < none = ring.below none is in omega arith)
+      at false is = refl
+
+  pub ghost-among : (k : ℕ) → has_member (ghosts_of nodes none count) k ≡ is_among numbers k
+  ghost-among k = members-among nodes numbers k
+
+  beside : (k : ℕ) → is_among (none ∷ numbers) k ≡ true → k < none + 1
+  beside k there = at (eqb none k) refl
+    where
+      at : (t : Bool) → eqb none k ≡ t → k < none + 1
+      at true is = let same : none ≡ k = eqb-true none k is in omega arith
+      at false is = let low : k < none = ring.below k (ap (λ t. t || is_among numbers k) (sym is) ∙ there) in omega arith
+
+  pub last-within : before nodes none < none + 1
+  last-within = beside (before nodes none) (last-beside nodes none numbers none ring.linked)
+
+  pub before-within : (k : ℕ) → is_among numbers k ≡ true → before nodes k < none + 1
+  before-within k there = beside (before nodes k) (before-among nodes none numbers none k ring.linked there)
+
+  pub after-within : (k : ℕ) → is_among numbers k ≡ true → after nodes k < none + 1
+  after-within k there = beside (after nodes k) (after-among nodes none numbers none k ring.linked there)
+
+  pub count-few : count ≤ none
+  count-few = omega (arith, few numbers none ring.apart ring.below, length-walk nodes count (after nodes none))
+
+-- ---- one is put in
+module _ (old noted mid new : List Node) (none count bytes k size : ℕ) (ring : IsRing old none count bytes) (within : k < none) (absent : is_among (ring_of old none count) k ≡ false)
+    (notes : Notes old noted k size) (first_join : Joins noted mid (before noted none) k) (second_join : Joins mid new k none) where
+  abbrev all : List ℕ
+  all = ring_of old none count
+
+  not_none : eqb none k ≡ false
+  not_none = ne_eqb none k (λ (same : none ≡ k). absurd (omega arith))
+
+  push-links : Links new none (all ++ k ∷ []) none
+  push-links =
+      goes_on mid new k none none all second_join not_none not_none absent (none_apart old none count bytes ring)
+      (takes_last noted mid k none none all first_join ring.apart (none_apart old none count bytes ring) absent
+      (Links-same old noted notes.follow_stay notes.before_stay none all none ring.linked))
+
+  push-size : (j : ℕ) → size_at new j ≡ cond (eqb j k) size (size_at old j)
+  push-size j = second_join.sizes_stay j ∙ first_join.sizes_stay j ∙ notes.size_is j
+
+  push-members : members_at new (all ++ k ∷ []) ≡ members_at old all ++ member k size ∷ []
+  push-members =
+      map-append (λ (j : ℕ). member j (size_at new j)) all (k ∷ [])
+      ∙ ap (λ ms. ms ++ member k (size_at new k) ∷ []) (members-but old new k (λ j other. push-size j ∙ ap (λ t. cond t size (size_at old j)) other) all absent)
+      ∙ ap (λ s. members_at old all ++ member k s ∷ []) (push-size k ∙ ap (λ t. cond t size (size_at old k)) (eq-eqb k k refl))
+
+  push-counted : length (all ++ k ∷ []) ≡ count + 1
+  push-counted = omega (arith, length-append all (k ∷ []), length-walk old count (after old none))
+
+  push-below : (q : ℕ) → is_among (all ++ k ∷ []) q ≡ true → q < none
+  push-below q there = at (eqb k q) refl
+    where
+      at : (t : Bool) → eqb k q ≡ t → q < none
+      at true is = let same : k ≡ q = eqb-true k q is in omega arith
+      at false is = ring.below q (sym (or_false (is_among all q)) ∙ ap (λ t. is_among all q || t) (sym is) ∙ sym (among-push all k q) ∙ there)
+
+  pub push-ring : IsRing new none (count + 1) (bytes + size)
+  push-ring =
+      ring-made new none (count + 1) (bytes + size) (all ++ k ∷ []) push-links push-counted
+      (second_join.nodes_stay ∙ first_join.nodes_stay ∙ notes.nodes_stay ∙ ring.each_node)
+      (distinct-push all k ring.apart absent) push-below
+      (let counted : bytes ≡ members_size (members_at old all) = ring.bytes_are in omega (arith, ap members_size push-members, sum_by_push (λ (m : Member). m.size) (members_at old all) (member k size)))
+
+  pub push-ghosts : ghosts_of new none (count + 1) ≡ ghosts_of old none count ++ member k size ∷ []
+  push-ghosts = ap (members_at new) (ring-is new none (count + 1) (bytes + size) (all ++ k ∷ []) push-links push-counted) ∙ push-members
+
+-- ---- one is taken out
+module _ (old : List Node) (none count bytes k : ℕ) (ring : IsRing old none count bytes) (there : is_among (ring_of old none count) k ≡ true) where
+  abbrev all_of : List ℕ
+  all_of = ring_of old none count
+
+  pub less-bytes : members_size (members_at old (without k all_of)) + size_at old k ≡ bytes
+  less-bytes =
+      let counted : bytes ≡ members_size (members_at old all_of) = ring.bytes_are in
+      omega (arith, sum-without (size_at old) k all_of ring.apart there, sizes old all_of, sizes old (without k all_of))
+
+  pub less-count : length (without k all_of) + 1 ≡ count
+  less-count = omega (arith, sum-without (λ (j : ℕ). 1) k all_of ring.apart there, ones all_of, ones (without k all_of), length-walk old count (after old none))
+
+  module _ (new : List Node) (joins : Joins old new (before old k) (after old k)) where
+    less-links : Links new none (without k all_of) none
+    less-links = taken_out old new k none all_of none joins ring.apart there (none_apart old none count bytes ring) (none_apart old none count bytes ring) ring.linked
+
+    less-members : members_at new (without k all_of) ≡ filter (λ m. not (eqb m.object k)) (members_at old all_of)
+    less-members = members-same old new joins.sizes_stay (without k all_of) ∙ sym (members-without old k all_of)
+
+    less-counted : length (without k all_of) ≡ count - 1
+    less-counted = omega (arith, less-count)
+
+    pub less-ring : IsRing new none (count - 1) (bytes - size_at old k)
+    less-ring =
+        ring-made new none (count - 1) (bytes - size_at old k) (without k all_of) less-links less-counted (joins.nodes_stay ∙ ring.each_node) (distinct-without k all_of ring.apart)
+        (λ q h. ring.below q (more-among k q all_of h))
+        (omega (arith, less-bytes, ap members_size (members-same old new joins.sizes_stay (without k all_of))))
+
+    pub less-ghosts : ghosts_of new none (count - 1) ≡ filter (λ m. not (eqb m.object k)) (ghosts_of old none count)
+    less-ghosts = ap (members_at new) (ring-is new none (count - 1) (bytes - size_at old k) (without k all_of) less-links less-counted) ∙ less-members
+
+-- the first of them
+module _ (nodes : List Node) (none bytes : ℕ) where
+  pub first-among : (count : ℕ) → 0 < length (ghosts_of nodes none count) → is_among (ring_of nodes none count) (after nodes none) ≡ true
+  first-among zero some = absurd (omega arith)
+  first-among (suc count) some = or_left (eqb (after nodes none) (after nodes none)) (is_among (walk nodes count (after nodes (after nodes none))) (after nodes none)) (eq-eqb (after nodes none) (after nodes none) refl)
+
+  pub first-object : (count : ℕ) → 0 < length (ghosts_of nodes none count) → (get_or (ghosts_of nodes none count) 0 (member 0 0)).object ≡ after nodes none
+  first-object zero some = absurd (omega arith)
+  first-object (suc count) some = refl
+
+  pub first-rest : (count : ℕ) → IsRing nodes none count bytes → 0 < length (ghosts_of nodes none count) → filter (λ m. not (eqb m.object (after nodes none))) (ghosts_of nodes none count) ≡ drop 1 (ghosts_of nodes none count)
+  first-rest zero ring some = absurd (omega arith)
+  first-rest (suc count) ring some =
+      let first : ℕ = after nodes none in
+      let rest : List ℕ = walk nodes count (after nodes first) in
+      members-without nodes first (first ∷ rest) ∙ ap (members_at nodes) (without-head first first rest (eq-eqb first first refl) ring.apart.0)
+
+  pub first-gone : (count : ℕ) → IsRing nodes none count bytes → 0 < length (ghosts_of nodes none count) → has_member (drop 1 (ghosts_of nodes none count)) (after nodes none) ≡ false
+  first-gone zero ring some = absurd (omega arith)
+  first-gone (suc count) ring some = members-among nodes (walk nodes count (after nodes (after nodes none))) (after nodes none) ∙ ring.apart.0
+
+-- ---- what is known of a ghost queue by its value
+pub node_read : (nodes : List Node) (k : ℕ) (n : Node) → k < length nodes → n ≡ get_or nodes k n → n ≡ node_at nodes k
+node_read nodes k n within read = get_or_read nodes k n within read (record { before = 0; after = 0; size = 0 })
+
+module _ (nodes : List Node) (none count bytes : ℕ) (old : GhostQueue) (ring : IsRing nodes none count bytes) (view : record { objects = none; members = ghosts_of nodes none count } ≡ old) (k : ℕ) where
+  pub view-below : k < old.objects → k < none
+  view-below low = subst (λ (g : GhostQueue). k < g.objects) (sym view) low
+
+  pub view-among : (t : Bool) → has_member old.members k ≡ t → is_among (ring_of nodes none count) k ≡ t
+  view-among t is = sym (ghost-among nodes none count bytes ring k) ∙ ap (λ (g : GhostQueue). has_member g.members k) view ∙ is

@@ -1,0 +1,75 @@
+use Rattle.std.proofs.Common.{◌≡◌, ℕ, ◌+◌, ◌-◌, ◌<◌, ◌∙◌, sym, ap, subst, true, not, eqb, List, filter, length, arith}
+use Rattle.policy_model.specs.States.{Member}
+use Rattle.replay_queues.specs.declared.ghosts.Node.{Node}
+use Rattle.replay_queues.specs.GhostQueues.{GhostQueue}
+use Rattle.replay_queues.specs.Rings.{node_at, is_among, Joins, ring_of, IsRing}
+use Rattle.replay_queues.proofs.RingLemmas.{after, before}
+use Rattle.replay_queues.proofs.GhostAnswers.{node_read, view-among, before-within, after-within, less-count, less-bytes, less-ring, less-ghosts}
+use Rattle.replay_queues.proofs.ghosts.Ghosts.remove.Goals as goal
+
+-- a ghost has a node
+node_within : (nodes : List Node) (none count bytes k : ℕ) → IsRing nodes none count bytes → is_among (ring_of nodes none count) k ≡ true → k < length nodes
+node_within nodes none count bytes k ring there =
+    let low : k < none = ring.below k there in
+    let each : length nodes ≡ none + 1 = ring.each_node in
+    omega arith
+
+pub index-requires : goal.index-requires
+index-requires c =
+    let p = c.self.inside in
+    let within : c.args.object < length p.nodes.items = node_within p.nodes.items p.objects p.count p.bytes c.args.object c.self.invariant (view-among p.nodes.items p.objects p.count p.bytes c.args.self.now c.self.invariant c.self.view_is c.args.object true c.requires.there) in
+    omega (arith, p.nodes.ok.0)
+
+pub join-requires-clause-before : goal.join-requires-clause-before
+join-requires-clause-before c =
+    let p = c.self.inside in
+    let there : is_among (ring_of p.nodes.items p.objects p.count) c.args.object ≡ true = view-among p.nodes.items p.objects p.count p.bytes c.args.self.now c.self.invariant c.self.view_is c.args.object true c.requires.there in
+    let is : c.index.result.now ≡ node_at p.nodes.items c.args.object =
+    node_read p.nodes.items c.args.object c.index.result.now (node_within p.nodes.items p.objects p.count p.bytes c.args.object c.self.invariant there) c.index.ensures in
+    let each : length p.nodes.items ≡ p.objects + 1 = c.self.invariant.each_node in
+    let low : before p.nodes.items c.args.object < p.objects + 1 = before-within p.nodes.items p.objects p.count p.bytes c.self.invariant c.args.object there in
+    omega (arith, ap (λ (m : Node). m.before) is)
+
+pub join-requires-clause-after : goal.join-requires-clause-after
+join-requires-clause-after c =
+    let p = c.self.inside in
+    let there : is_among (ring_of p.nodes.items p.objects p.count) c.args.object ≡ true = view-among p.nodes.items p.objects p.count p.bytes c.args.self.now c.self.invariant c.self.view_is c.args.object true c.requires.there in
+    let is : c.index.result.now ≡ node_at p.nodes.items c.args.object =
+    node_read p.nodes.items c.args.object c.index.result.now (node_within p.nodes.items p.objects p.count p.bytes c.args.object c.self.invariant there) c.index.ensures in
+    let each : length p.nodes.items ≡ p.objects + 1 = c.self.invariant.each_node in
+    let low : after p.nodes.items c.args.object < p.objects + 1 = after-within p.nodes.items p.objects p.count p.bytes c.self.invariant c.args.object there in
+    omega (arith, ap (λ (m : Node). m.after) is)
+
+pub overflow_sub-self : goal.overflow_sub-self
+overflow_sub-self c =
+    let p = c.self.inside in
+    let there : is_among (ring_of p.nodes.items p.objects p.count) c.args.object ≡ true = view-among p.nodes.items p.objects p.count p.bytes c.args.self.now c.self.invariant c.self.view_is c.args.object true c.requires.there in
+    omega (arith, less-count p.nodes.items p.objects p.count p.bytes c.args.object c.self.invariant there)
+
+pub overflow_sub-self-2 : goal.overflow_sub-self-2
+overflow_sub-self-2 c =
+    let p = c.self.inside in
+    let there : is_among (ring_of p.nodes.items p.objects p.count) c.args.object ≡ true = view-among p.nodes.items p.objects p.count p.bytes c.args.self.now c.self.invariant c.self.view_is c.args.object true c.requires.there in
+    let is : c.index.result.now ≡ node_at p.nodes.items c.args.object =
+    node_read p.nodes.items c.args.object c.index.result.now (node_within p.nodes.items p.objects p.count p.bytes c.args.object c.self.invariant there) c.index.ensures in
+    omega (arith, ap (λ (m : Node). m.size) is, less-bytes p.nodes.items p.objects p.count p.bytes c.args.object c.self.invariant there)
+
+pub invariant_of-self : goal.invariant_of-self
+invariant_of-self c =
+    let p = c.self.inside in
+    let there : is_among (ring_of p.nodes.items p.objects p.count) c.args.object ≡ true = view-among p.nodes.items p.objects p.count p.bytes c.args.self.now c.self.invariant c.self.view_is c.args.object true c.requires.there in
+    let is : c.index.result.now ≡ node_at p.nodes.items c.args.object =
+    node_read p.nodes.items c.args.object c.index.result.now (node_within p.nodes.items p.objects p.count p.bytes c.args.object c.self.invariant there) c.index.ensures in
+    subst (λ (s : ℕ). IsRing c.join.new.nodes.items p.objects (p.count - 1) (p.bytes - s)) (sym (ap (λ (m : Node). m.size) is))
+    (less-ring p.nodes.items p.objects p.count p.bytes c.args.object c.self.invariant there c.join.new.nodes.items (subst (λ (m : Node). Joins p.nodes.items c.join.new.nodes.items m.before m.after) is c.join.ensures.joined))
+
+pub returns : goal.returns
+returns c =
+    let p = c.self.inside in
+    let there : is_among (ring_of p.nodes.items p.objects p.count) c.args.object ≡ true = view-among p.nodes.items p.objects p.count p.bytes c.args.self.now c.self.invariant c.self.view_is c.args.object true c.requires.there in
+    let is : c.index.result.now ≡ node_at p.nodes.items c.args.object =
+    node_read p.nodes.items c.args.object c.index.result.now (node_within p.nodes.items p.objects p.count p.bytes c.args.object c.self.invariant there) c.index.ensures in
+    let queue : ℕ → List Member → GhostQueue = λ o ms. record { objects = o; members = ms } in
+    ap (queue p.objects)
+    (less-ghosts p.nodes.items p.objects p.count p.bytes c.args.object c.self.invariant there c.join.new.nodes.items (subst (λ (m : Node). Joins p.nodes.items c.join.new.nodes.items m.before m.after) is c.join.ensures.joined))
+    ∙ ap (λ (g : GhostQueue). queue g.objects (filter (λ m. not (eqb m.object c.args.object)) g.members)) c.self.view_is

@@ -1,0 +1,5 @@
+pub mod Items
+pub mod SieveQueues
+pub mod GhostQueues
+pub mod SmallAndMain
+pub mod Rings

@@ -1,0 +1,16 @@
+//! The policies that keep their objects in two queues: SIEVE and S3-FIFO.
+//!
+//! Their rules are those of docs/DEFINITIONS.md. Each keeps a byte for every object that it may be asked for, so that a
+//! hit touches no queue.
+#![tactic(auto)]
+
+mod ghosts;
+mod hand;
+mod room;
+mod s3fifo;
+mod sieve;
+mod table;
+mod three_queues;
+
+pub use s3fifo::S3Fifo;
+pub use sieve::Sieve;
