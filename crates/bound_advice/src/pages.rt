@@ -12,10 +12,11 @@ replacement policy can exceed, a schedule that reaches the lower bound, and a ce
 /// What stands for what, and five examples.
 pub const EXAMPLES: &str = "
 FORM is webcache, arc, msr or oracle, OBJECTIVE is object or bytes, MODE is flow, constant or infinite,
-POLICY is lru, fifo, clock, lfu or belady, VERSION is 1 or 2, COUNTED is all or reads.
+POLICY is lru, fifo, clock, lfu, belady, sieve, s3fifo, gdsf or lfuda,
+VERSION is 1 or 2, COUNTED is all or reads.
 A path - is the standard input or output. The report goes to the standard output.
 
-A demo draws a trace of its own and shows its bounds, that they are checked, and the hits of each policy.
+A demo draws a trace of its own and shows its bounds, that they are checked, and the hits of five policies.
 
 examples:
   bound_cli demo

@@ -15,7 +15,7 @@ fn values_of(name: &str) -> Option<&'static str> {
         "mode" => Some("flow, constant or infinite"),
         "window" => Some("all, or digits alone, from 1 to 33554432"),
         "denominator" => Some("auto, exact, or digits alone, from 1 to 281474976710656"),
-        "policy" => Some("lru, fifo, clock, lfu or belady"),
+        "policy" => Some("lru, fifo, clock, lfu, belady, sieve, s3fifo, gdsf or lfuda"),
         "warmup" => Some("digits alone, from 0 to 33554432"),
         "version" => Some("1 or 2"),
         "seed" => Some("digits alone, from 0 to 18446744073709551615"),

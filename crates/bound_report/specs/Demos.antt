@@ -6,7 +6,7 @@ use Rattle.policy_model.specs.declared.names.PolicyName.TheVariants.{Lru, Fifo, 
 use Rattle.replay_core.specs.declared.counts.Replay.{Replay}
 use Rattle.bound_report.specs.declared.demo.DemoFacts.{DemoFacts}
 use Rattle.bound_report.specs.declared.demo.PolicyReplays.{PolicyReplays}
-use Rattle.bound_report.specs.Replays.{policy_word}
+use Rattle.policy_model.specs.Names.{policy_word}
 
 -- what is asked of a demo
 abbrev pub demo_line : DemoFacts → List ℕ

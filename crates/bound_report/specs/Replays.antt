@@ -3,16 +3,8 @@ use Rattle.std.specs.Prelude.{ℕ, ◌==◌, if◌then◌else◌, List, [], ◌�
 use Rattle.cache_model.specs.Texts.{entry, line, text_of}
 use Rattle.bound_report.specs.Reports.{trace_line}
 use Rattle.policy_model.specs.declared.names.PolicyName.{PolicyName}
-use Rattle.policy_model.specs.declared.names.PolicyName.TheVariants.{Lru, Fifo, Clock, Lfu, Belady}
+use Rattle.policy_model.specs.Names.{policy_word}
 use Rattle.bound_report.specs.declared.replays.ReplayFacts.{ReplayFacts}
-
--- the word of a policy
-abbrev pub policy_word : PolicyName → List ℕ
-policy_word Lru = codes "lru"
-policy_word Fifo = codes "fifo"
-policy_word Clock = codes "clock"
-policy_word Lfu = codes "lfu"
-policy_word Belady = codes "belady"
 
 -- a policy and its capacity
 abbrev pub policy_line : PolicyName → ℕ → List ℕ

@@ -3,7 +3,6 @@ ghost use Rattle.std.specs.Prelude.{◌≡◌, ◌++◌, ◌∷◌, codes, IfOk,
 ghost use Rattle.cache_model.specs.Texts.{line, text_of};
 ghost use Rattle.bound_report.specs.Demos.{demo_line, demo_text, replay_line, replay_lines};
 
-use crate::replays::word_of_policy;
 use crate::report::{Line, append};
 use bound_base::NoMemory;
 use line_text::LineText;
@@ -47,7 +46,7 @@ fn replay_line(policy: PolicyName, replay: Replay) -> Line
 {
     let mut text = LineText::new();
     text.push(b"replay ");
-    text.push(word_of_policy(policy));
+    text.push(policy.word().as_bytes());
     text.push_entry(b" hits", replay.hits);
     text.push_entry_line(b" bytes", replay.bytes);
     text

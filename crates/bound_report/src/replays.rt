@@ -1,7 +1,7 @@
 //! The text of a replay.
-ghost use Rattle.std.specs.Prelude.{◌≡◌, ◌<◌, ◌≤◌, length, IfOk, OnErr, OnOk};
+ghost use Rattle.std.specs.Prelude.{◌≡◌, ◌<◌, IfOk, OnErr, OnOk};
 ghost use Rattle.cache_model.specs.Texts.{line};
-ghost use Rattle.bound_report.specs.Replays.{hits_line, policy_line, policy_word, replay_text, with_warmup};
+ghost use Rattle.bound_report.specs.Replays.{hits_line, policy_line, replay_text, with_warmup};
 
 use crate::report::{Line, append, entry_line, trace_line};
 use bound_base::NoMemory;
@@ -22,26 +22,12 @@ pub struct ReplayFacts {
     pub replay: Replay,
 }
 
-/// The word of a policy.
-pub(crate) fn word_of_policy(policy: PolicyName) -> &'static [u8]
-    ensures word { result.now ≡ policy_word policy }
-    ensures short { length result.now ≤ 6 }
-{
-    match policy {
-        PolicyName::Lru => b"lru",
-        PolicyName::Fifo => b"fifo",
-        PolicyName::Clock => b"clock",
-        PolicyName::Lfu => b"lfu",
-        PolicyName::Belady => b"belady",
-    }
-}
-
 fn policy_line(policy: PolicyName, capacity: u64) -> Line
     ensures { result ≡ line (policy_line policy capacity) }
 {
     let mut text = LineText::new();
     text.push(b"policy ");
-    text.push(word_of_policy(policy));
+    text.push(policy.word().as_bytes());
     text.push_entry_line(b" capacity", capacity);
     text
 }

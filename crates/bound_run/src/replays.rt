@@ -12,7 +12,8 @@ use bound_words::ReplaySettings;
 use cache_rules::Trace;
 use policy_model::PolicyName;
 use replay_core::{Policy, Replay, replay};
-use replay_rank::{Belady, Lfu};
+use replay_queues::{S3Fifo, Sieve};
+use replay_rank::{Belady, Gdsf, Lfu, Lfuda};
 use replay_recency::{Clock, Fifo, Lru};
 use std::alloc::Global;
 use trace_any::Format;
@@ -72,6 +73,34 @@ fn replay_belady(alloc: Global, trace: &Trace, r: ReplaySettings) -> Result<Repl
     bounded_replay(alloc, trace, r.warmup, &mut policy)
 }
 
+fn replay_sieve(alloc: Global, trace: &Trace, r: ReplaySettings) -> Result<Replay, NoMemory>
+    ensures { IfOk result (IsReplay PolicyName.Sieve r.capacity r.warmup trace.now) }
+{
+    let mut policy = Sieve::new(alloc, r.capacity, trace.objects())?;
+    bounded_replay(alloc, trace, r.warmup, &mut policy)
+}
+
+fn replay_s3fifo(alloc: Global, trace: &Trace, r: ReplaySettings) -> Result<Replay, NoMemory>
+    ensures { IfOk result (IsReplay PolicyName.S3Fifo r.capacity r.warmup trace.now) }
+{
+    let mut policy = S3Fifo::new(alloc, r.capacity, trace.objects())?;
+    bounded_replay(alloc, trace, r.warmup, &mut policy)
+}
+
+fn replay_gdsf(alloc: Global, trace: &Trace, r: ReplaySettings) -> Result<Replay, NoMemory>
+    ensures { IfOk result (IsReplay PolicyName.Gdsf r.capacity r.warmup trace.now) }
+{
+    let mut policy = Gdsf::new(alloc, r.capacity, trace.objects())?;
+    bounded_replay(alloc, trace, r.warmup, &mut policy)
+}
+
+fn replay_lfuda(alloc: Global, trace: &Trace, r: ReplaySettings) -> Result<Replay, NoMemory>
+    ensures { IfOk result (IsReplay PolicyName.Lfuda r.capacity r.warmup trace.now) }
+{
+    let mut policy = Lfuda::new(alloc, r.capacity, trace.objects())?;
+    bounded_replay(alloc, trace, r.warmup, &mut policy)
+}
+
 /// The replay of a policy.
 pub(crate) fn replay_by(alloc: Global, trace: &Trace, r: ReplaySettings) -> Result<Replay, NoMemory>
     ensures { IfOk result (IsReplay r.policy r.capacity r.warmup trace.now) }
@@ -82,6 +111,10 @@ pub(crate) fn replay_by(alloc: Global, trace: &Trace, r: ReplaySettings) -> Resu
         PolicyName::Clock => replay_clock(alloc, trace, r),
         PolicyName::Lfu => replay_lfu(alloc, trace, r),
         PolicyName::Belady => replay_belady(alloc, trace, r),
+        PolicyName::Sieve => replay_sieve(alloc, trace, r),
+        PolicyName::S3Fifo => replay_s3fifo(alloc, trace, r),
+        PolicyName::Gdsf => replay_gdsf(alloc, trace, r),
+        PolicyName::Lfuda => replay_lfuda(alloc, trace, r),
     }
 }
 

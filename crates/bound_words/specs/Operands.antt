@@ -12,11 +12,12 @@ use Rattle.bound_report.specs.declared.facts.Window.TheVariants.{All as Whole}
 use Rattle.relaxation.specs.declared.denominators.DenominatorChoice.{DenominatorChoice}
 use Rattle.trace_any.specs.declared.format.Format.{Format}
 use Rattle.policy_model.specs.declared.names.PolicyName.{PolicyName}
+use Rattle.policy_model.specs.Names.{policy_named}
 use Rattle.cache_model.specs.declared.version.TheConstants.{CERT_VERSION}
 use Rattle.bound_words.specs.declared.commands.Command.{Command}
 use Rattle.bound_words.specs.declared.commands.Command.TheVariants as command
 use Rattle.bound_words.specs.Named.{value_given}
-use Rattle.bound_words.specs.Values.{block_of, format_of, capacity_of, count_of, objective_of, width_of, window_of, mode_of, denominator_of, policy_of, reads_of, version_of, seed_of, drawn_of, usual_denominator}
+use Rattle.bound_words.specs.Values.{block_of, format_of, capacity_of, count_of, objective_of, width_of, window_of, mode_of, denominator_of, reads_of, version_of, seed_of, drawn_of, usual_denominator}
 
 -- whether the operand of this name may have this value
 abbrev pub is_value : List ℕ → List ℕ → Bool
@@ -29,7 +30,7 @@ is_value name value =
     else (if bytes_eq name (codes "mode") then is_some (mode_of value Whole)
     else (if bytes_eq name (codes "window") then is_some (window_of value)
     else (if bytes_eq name (codes "denominator") then is_some (denominator_of value)
-    else (if bytes_eq name (codes "policy") then is_some (policy_of value)
+    else (if bytes_eq name (codes "policy") then is_some (policy_named value)
     else (if bytes_eq name (codes "warmup") then is_some (count_of value)
     else (if bytes_eq name (codes "version") then is_some (version_of value)
     else (if bytes_eq name (codes "seed") then is_some (seed_of value)
@@ -79,7 +80,7 @@ denominator_given mode operands = unwrap_or (option_and_then denominator_of (val
 
 -- the policy that the operands give
 abbrev pub policy_given : List (List ℕ) → Option PolicyName
-policy_given operands = option_and_then policy_of (value_given (codes "policy") operands)
+policy_given operands = option_and_then policy_named (value_given (codes "policy") operands)
 
 -- the warm-up that the operands give, and 0 if they give none
 abbrev pub warmup_given : List (List ℕ) → ℕ

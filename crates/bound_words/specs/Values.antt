@@ -16,8 +16,6 @@ use Rattle.relaxation.specs.declared.denominators.DenominatorChoice.TheVariants.
 use Rattle.trace_any.specs.declared.format.Format.{Format}
 use Rattle.trace_any.specs.declared.format.Format.TheVariants.{Webcache, Arc, Msr, Oracle, MarkedWebcache, MsrReads}
 use Rattle.cache_model.specs.declared.version.TheConstants.{SHORT_VERSION}
-use Rattle.policy_model.specs.declared.names.PolicyName.{PolicyName}
-use Rattle.policy_model.specs.declared.names.PolicyName.TheVariants.{Lru, Fifo, Clock, Lfu, Belady}
 
 -- a number from 1 to the most that is allowed
 abbrev pub checked : ℕ → Result ℕ NumFault → Option ℕ
@@ -81,16 +79,6 @@ denominator_of value =
     if bytes_eq value (codes "auto") then Some Auto
     else (if bytes_eq value (codes "exact") then Some Exact
     else option_map Given (number_to (2 ^ 48) value))
-
--- the policy that a value names
-abbrev pub policy_of : List ℕ → Option PolicyName
-policy_of value =
-    if bytes_eq value (codes "lru") then Some Lru
-    else (if bytes_eq value (codes "fifo") then Some Fifo
-    else (if bytes_eq value (codes "clock") then Some Clock
-    else (if bytes_eq value (codes "lfu") then Some Lfu
-    else (if bytes_eq value (codes "belady") then Some Belady
-    else None))))
 
 -- a number that is at most 2^25
 abbrev pub few : Result ℕ NumFault → Option ℕ

@@ -11,7 +11,7 @@ use crate::commands::Command;
 use crate::named::value_given;
 use crate::values::{
     USUAL_BLOCK, block_of, capacity_of, count_of, denominator_of, drawn_of, format_of, is, mode_of,
-    objective_of, policy_of, reads_of, seed_of, usual_denominator, version_of, width_of, window_of,
+    objective_of, reads_of, seed_of, usual_denominator, version_of, width_of, window_of,
 };
 use bound_report::{Mode, Window};
 use cache_model::CERT_VERSION;
@@ -50,7 +50,7 @@ pub(crate) fn is_value(name: &str, value: &str) -> bool
     } else if is(name, "denominator") {
         denominator_of(value).is_some()
     } else if is(name, "policy") {
-        policy_of(value).is_some()
+        PolicyName::named(value).is_some()
     } else if is(name, "warmup") {
         count_of(value).is_some()
     } else if is(name, "version") {
@@ -158,7 +158,7 @@ pub(crate) fn denominator_given(mode: Mode, operands: &[String]) -> DenominatorC
 pub(crate) fn policy_given(operands: &[String]) -> Option<PolicyName>
     ensures { result ≡ policy_given (map string_bytes operands.now) }
 {
-    policy_of(value_given("policy", operands)?)
+    PolicyName::named(value_given("policy", operands)?)
 }
 
 pub(crate) fn warmup_given(operands: &[String]) -> u32

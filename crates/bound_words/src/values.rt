@@ -6,14 +6,13 @@ ghost use Rattle.relaxation.specs.Denominators.{IsChoice};
 ghost use Rattle.trace_any.specs.Readings.{IsFormat};
 ghost use Rattle.trace_any.specs.declared.format.Format.TheVariants.{Webcache, Msr, MarkedWebcache, MsrReads};
 ghost use Rattle.bound_words.specs.Ranges.{IsModeInRange};
-ghost use Rattle.bound_words.specs.Values.{block_of, capacity_of, count_of, denominator_of, drawn_of, format_of, mode_of, number_to, objective_of, policy_of, reads_of, seed_of, usual_denominator, version_of, width_of, window_of};
+ghost use Rattle.bound_words.specs.Values.{block_of, capacity_of, count_of, denominator_of, drawn_of, format_of, mode_of, number_to, objective_of, reads_of, seed_of, usual_denominator, version_of, width_of, window_of};
 ghost use Rattle.cache_model.specs.declared.version.TheConstants.{CERT_VERSION, SHORT_VERSION};
 
 use bound_base::read_u64;
 use bound_report::{Mode, Window};
 use cache_model::SHORT_VERSION;
 use cache_rules::Objective;
-use policy_model::PolicyName;
 use relaxation::DenominatorChoice;
 use trace_any::Format;
 
@@ -191,24 +190,6 @@ pub(crate) fn denominator_of(value: &str) -> Option<DenominatorChoice>
             Some(number) => Some(DenominatorChoice::Given(number)),
             None => None,
         }
-    }
-}
-
-pub(crate) fn policy_of(value: &str) -> Option<PolicyName>
-    ensures { result ≡ policy_of value.now }
-{
-    if is(value, "lru") {
-        Some(PolicyName::Lru)
-    } else if is(value, "fifo") {
-        Some(PolicyName::Fifo)
-    } else if is(value, "clock") {
-        Some(PolicyName::Clock)
-    } else if is(value, "lfu") {
-        Some(PolicyName::Lfu)
-    } else if is(value, "belady") {
-        Some(PolicyName::Belady)
-    } else {
-        None
     }
 }
 

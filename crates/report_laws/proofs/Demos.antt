@@ -11,7 +11,8 @@ use Rattle.bound_report.specs.declared.facts.BoundFacts.{BoundFacts}
 use Rattle.bound_report.specs.declared.demo.DemoFacts.{DemoFacts}
 use Rattle.bound_report.specs.declared.demo.PolicyReplays.{PolicyReplays}
 use Rattle.bound_report.specs.Demos.{demo_line, demo_text, replay_line, replay_lines}
-use Rattle.bound_report.specs.Replays.{policy_word, with_warmup}
+use Rattle.bound_report.specs.Replays.{with_warmup}
+use Rattle.policy_model.specs.Names.{policy_word}
 use Rattle.bound_report.specs.Reports.{report_lines, report_text}
 use Rattle.report_laws.specs.Laws.{ArePrintable, DemosHaveOneReading, IsPrintable, bound_numbers, demo_numbers}
 use Rattle.report_laws.proofs.Lines.{Lacks, Part, Small, is_part, line_lacks, named, numbers_apart}
@@ -32,24 +33,17 @@ asked_of numbers = record { seed = get_or numbers 0 0; requests = get_or numbers
 abbrev replay_parts : PolicyName → List Part
 replay_parts p = named (codes "replay " ++ policy_word p ++ codes " hits") ++ named (codes " bytes")
 
-are_parts : (p : PolicyName) → list_all is_part (replay_parts p) ≡ true
-are_parts Lru = refl
-are_parts Fifo = refl
-are_parts Clock = refl
-are_parts Lfu = refl
-are_parts Belady = refl
-
 abbrev counts : Replay → List ℕ
 counts r = r.hits ∷ r.bytes ∷ []
 
 abbrev counts_of : List ℕ → Replay
 counts_of numbers = record { hits = get_or numbers 0 0; bytes = get_or numbers 1 0 }
 
-replay_lacks : (p : PolicyName) (r : Replay) → Small (counts r) → Lacks 10 (replay_line p r)
-replay_lacks p r small = line_lacks (replay_parts p) (counts r) (are_parts p) small
+replay_lacks : (p : PolicyName) (r : Replay) → list_all is_part (replay_parts p) ≡ true → Small (counts r) → Lacks 10 (replay_line p r)
+replay_lacks p r are small = line_lacks (replay_parts p) (counts r) are small
 
-replay_apart : (p : PolicyName) (r s : Replay) → Small (counts r) → Small (counts s) → replay_line p r ≡ replay_line p s → r ≡ s
-replay_apart p r s small small' e = ap counts_of (numbers_apart (replay_parts p) (counts r) (counts s) (are_parts p) refl refl small small' e)
+replay_apart : (p : PolicyName) (r s : Replay) → list_all is_part (replay_parts p) ≡ true → Small (counts r) → Small (counts s) → replay_line p r ≡ replay_line p s → r ≡ s
+replay_apart p r s are small small' e = ap counts_of (numbers_apart (replay_parts p) (counts r) (counts s) are refl refl small small' e)
 
 -- the numbers of each line are small
 record SmallDemo (a : DemoFacts) (r : PolicyReplays) (f : BoundFacts) : Type 0 where
@@ -74,7 +68,7 @@ small_demo a r f (seed, (requests, (objects, (capacity, (h1, (b1, (h2, (b2, (h3,
 
 replays_lack : (a : DemoFacts) (r : PolicyReplays) (f : BoundFacts) → SmallDemo a r f → AllByRecursion (Lacks 10) (replay_lines r)
 replays_lack a r f small =
-    (replay_lacks Lru r.lru small.lru, (replay_lacks Fifo r.fifo small.fifo, (replay_lacks Clock r.clock small.clock, (replay_lacks Lfu r.lfu small.lfu, (replay_lacks Belady r.belady small.belady, tt)))))
+    (replay_lacks Lru r.lru refl small.lru, (replay_lacks Fifo r.fifo refl small.fifo, (replay_lacks Clock r.clock refl small.clock, (replay_lacks Lfu r.lfu refl small.lfu, (replay_lacks Belady r.belady refl small.belady, tt)))))
 
 replays_from : Replay → Replay → Replay → Replay → Replay → PolicyReplays
 replays_from a b c d e = record { lru = a; fifo = b; clock = c; lfu = d; belady = e }
@@ -82,11 +76,11 @@ replays_from a b c d e = record { lru = a; fifo = b; clock = c; lfu = d; belady 
 replays_apart : (a b : DemoFacts) (r s : PolicyReplays) (f g : BoundFacts) → SmallDemo a r f → SmallDemo b s g → replay_lines r ≡ replay_lines s → r ≡ s
 unfolding replays_from
 replays_apart a b r s f g small small' e =
-    let first : r.lru ≡ s.lru = replay_apart Lru r.lru s.lru small.lru small'.lru (at 0) in
-    let second : r.fifo ≡ s.fifo = replay_apart Fifo r.fifo s.fifo small.fifo small'.fifo (at 1) in
-    let third : r.clock ≡ s.clock = replay_apart Clock r.clock s.clock small.clock small'.clock (at 2) in
-    let fourth : r.lfu ≡ s.lfu = replay_apart Lfu r.lfu s.lfu small.lfu small'.lfu (at 3) in
-    let fifth : r.belady ≡ s.belady = replay_apart Belady r.belady s.belady small.belady small'.belady (at 4) in
+    let first : r.lru ≡ s.lru = replay_apart Lru r.lru s.lru refl small.lru small'.lru (at 0) in
+    let second : r.fifo ≡ s.fifo = replay_apart Fifo r.fifo s.fifo refl small.fifo small'.fifo (at 1) in
+    let third : r.clock ≡ s.clock = replay_apart Clock r.clock s.clock refl small.clock small'.clock (at 2) in
+    let fourth : r.lfu ≡ s.lfu = replay_apart Lfu r.lfu s.lfu refl small.lfu small'.lfu (at 3) in
+    let fifth : r.belady ≡ s.belady = replay_apart Belady r.belady s.belady refl small.belady small'.belady (at 4) in
     let all : replays_from r.lru r.fifo r.clock r.lfu r.belady ≡ replays_from s.lru s.fifo s.clock s.lfu s.belady = cc in
     all
   where

@@ -16,7 +16,11 @@ const LRU: Row<'static> = Row {
 // Sizes 2, 2, 2, 3, 2, 2 of objects 1, 2, 1, 3, 1, 2, and a line of size 0.
 const SIZES_TRACE: &[u8] = b"1 1 2\n2 2 2\n3 1 2\n4 3 3\n5 9 0\n6 1 2\n7 2 2\n";
 
-const REPLAYS: [Row<'static>; 9] = [
+// Sizes 5, 2, 4 and 1 of objects 0, 1, 3 and 2.
+const TODAY_TRACE: &[u8] =
+    b"1 0 5\n2 0 5\n3 1 2\n4 3 4\n5 1 2\n6 2 1\n7 3 4\n8 0 5\n9 1 2\n10 0 5\n11 0 5\n12 3 4\n";
+
+const REPLAYS: [Row<'static>; 14] = [
     LRU,
     Row {
         shows: "Belady's rule hits as much as the bound",
@@ -69,6 +73,41 @@ const REPLAYS: [Row<'static>; 9] = [
         words: "replay t format=webcache capacity=5 policy=belady",
         trace: SIZES_TRACE,
         report: b"trace requests 6 objects 3 dropped 1\npolicy belady capacity 5\nhits 3 bytes 6\n",
+        ..LRU
+    },
+    Row {
+        shows: "sizes by SIEVE",
+        words: "replay t format=webcache capacity=10 policy=sieve",
+        trace: TODAY_TRACE,
+        report: b"trace requests 12 objects 4 dropped 0\npolicy sieve capacity 10\nhits 3 bytes 14\n",
+        ..LRU
+    },
+    Row {
+        shows: "sizes by S3-FIFO",
+        words: "replay t format=webcache capacity=10 policy=s3fifo",
+        trace: TODAY_TRACE,
+        report: b"trace requests 12 objects 4 dropped 0\npolicy s3fifo capacity 10\nhits 5 bytes 21\n",
+        ..LRU
+    },
+    Row {
+        shows: "sizes by GDSF",
+        words: "replay t format=webcache capacity=10 policy=gdsf",
+        trace: TODAY_TRACE,
+        report: b"trace requests 12 objects 4 dropped 0\npolicy gdsf capacity 10\nhits 6 bytes 23\n",
+        ..LRU
+    },
+    Row {
+        shows: "sizes by LFUDA",
+        words: "replay t format=webcache capacity=10 policy=lfuda",
+        trace: TODAY_TRACE,
+        report: b"trace requests 12 objects 4 dropped 0\npolicy lfuda capacity 10\nhits 4 bytes 19\n",
+        ..LRU
+    },
+    Row {
+        shows: "GDSF after a warm-up",
+        words: "replay t format=webcache capacity=10 policy=gdsf warmup=6",
+        trace: TODAY_TRACE,
+        report: b"trace requests 12 objects 4 dropped 0\npolicy gdsf capacity 10\nhits 4 bytes 16\nwarmup 6\n",
         ..LRU
     },
 ];
