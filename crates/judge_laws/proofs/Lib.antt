@@ -1,0 +1,4 @@
+mod Flagged
+pub mod Possible
+pub mod Claimed
+mod Rows
