@@ -1,0 +1,5 @@
+pub mod Found
+pub mod FlaggedLoads
+pub mod FirstCause
+pub mod ClaimedSums
+mod Rows
