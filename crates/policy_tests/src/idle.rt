@@ -24,6 +24,8 @@ impl Policy for Idle {
 
     ghost known_state = { λ _. None };
 
+    ghost tally = { λ _. None };
+
     fn capacity(&self) -> u64 {
         self.capacity
     }
