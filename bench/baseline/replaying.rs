@@ -2,17 +2,20 @@
 //!
 //! `replaying TRACE CAPACITY POLICY WAY` reads a webcache trace, numbers its objects by the HashMap of std with its own
 //! hasher, keeps the number and the next request of each request, and replays the policy over them. It prints what
-//! `bound_cli replay` prints. `lru`, `fifo` and `clock` are lists linked by index, and their entries are found by a
-//! HashMap (`map`) or by an array over the objects (`array`). `lfu` and `belady` keep their order in a BTreeSet and their
-//! entries in a BTreeMap (`tree`), or both in a binary heap with an array of places (`heap`). `replaying TRACE` only
-//! reads and numbers.
+//! `bound_cli replay` prints. `lru`, `fifo`, `clock` and `sieve` are lists linked by index, and their entries are found by
+//! an array over the objects (`array`) or by a HashMap (`map`). `s3fifo` has queues that are linked in an array over the
+//! objects (`array`). `lfu`, `belady`, `gdsf` and `lfuda` keep entries in a binary heap with an array of places (`heap`);
+//! `lfu` and `belady` also their order in a BTreeSet and their entries in a BTreeMap (`tree`). `replaying TRACE` only reads
+//! and numbers.
 mod lines;
+mod queues;
 mod ranks;
 mod rings;
 mod webcache;
 
 use lines::each_line;
-use ranks::{Belady, Heap, Lfu, Order, Tree};
+use queues::S3Fifo;
+use ranks::{Aging, Belady, Heap, Lfu, Order, Tree};
 use rings::{Ring, Rule};
 use std::collections::HashMap;
 use std::error::Error;
@@ -83,54 +86,85 @@ fn replay(trace: &Trace, mut policy: impl Policy) -> (u64, u128) {
 
 fn replay_by(trace: &Trace, capacity: u64, policy: &str, way: &str) -> Option<(u64, u128)> {
     let objects = trace.sizes.len();
-    let rule = match policy {
-        "lru" => Rule::Lru,
-        "fifo" => Rule::Fifo,
-        _ => Rule::Clock,
-    };
     let used = 0;
-    Some(match (policy, way) {
-        ("lru" | "fifo" | "clock", "map") => replay(
-            trace,
-            Ring::<HashMap<u32, u32>>::new(rule, capacity, objects),
-        ),
-        ("lru" | "fifo" | "clock", "array") => {
-            replay(trace, Ring::<Vec<u32>>::new(rule, capacity, objects))
+    match (policy, way) {
+        ("lru" | "fifo" | "clock" | "sieve", _) => {
+            let rule = match policy {
+                "lru" => Rule::Lru,
+                "fifo" => Rule::Fifo,
+                "clock" => Rule::Clock,
+                _ => Rule::Sieve,
+            };
+            match way {
+                "array" => Some(replay(
+                    trace,
+                    Ring::<Vec<u32>>::new(rule, capacity, objects),
+                )),
+                "map" => Some(replay(
+                    trace,
+                    Ring::<HashMap<u32, u32>>::new(rule, capacity, objects),
+                )),
+                _ => None,
+            }
         }
-        ("lfu", "tree") => replay(
-            trace,
-            Lfu {
+        ("s3fifo", "array") => Some(replay(trace, S3Fifo::new(capacity, objects))),
+        ("lfu", "heap") => {
+            let order = Heap::new(objects);
+            Some(replay(
+                trace,
+                Lfu {
+                    capacity,
+                    used,
+                    order,
+                },
+            ))
+        }
+        ("lfu", "tree") => {
+            let order = Tree::new(objects);
+            Some(replay(
+                trace,
+                Lfu {
+                    capacity,
+                    used,
+                    order,
+                },
+            ))
+        }
+        ("belady", "heap") => {
+            let order = Heap::new(objects);
+            Some(replay(
+                trace,
+                Belady {
+                    capacity,
+                    used,
+                    order,
+                },
+            ))
+        }
+        ("belady", "tree") => {
+            let order = Tree::new(objects);
+            Some(replay(
+                trace,
+                Belady {
+                    capacity,
+                    used,
+                    order,
+                },
+            ))
+        }
+        ("gdsf" | "lfuda", "heap") => {
+            let aging = Aging {
                 capacity,
                 used,
-                order: Tree::new(objects),
-            },
-        ),
-        ("lfu", "heap") => replay(
-            trace,
-            Lfu {
-                capacity,
-                used,
+                by_size: policy == "gdsf",
+                floor: 0,
+                counts: vec![0; objects],
                 order: Heap::new(objects),
-            },
-        ),
-        ("belady", "tree") => replay(
-            trace,
-            Belady {
-                capacity,
-                used,
-                order: Tree::new(objects),
-            },
-        ),
-        ("belady", "heap") => replay(
-            trace,
-            Belady {
-                capacity,
-                used,
-                order: Heap::new(objects),
-            },
-        ),
-        _ => return None,
-    })
+            };
+            Some(replay(trace, aging))
+        }
+        _ => None,
+    }
 }
 
 fn main() -> Result<(), Box<dyn Error>> {

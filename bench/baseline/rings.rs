@@ -53,6 +53,7 @@ pub enum Rule {
     Lru,
     Fifo,
     Clock,
+    Sieve,
 }
 
 struct Link {
@@ -63,9 +64,11 @@ struct Link {
     size: u64,
 }
 
-/// Entries in a ring linked by index, the one to go first after entry 0, which stands for none.
+/// Entries in a ring linked by index, the oldest after entry 0, which stands for none.
 pub struct Ring<P> {
     rule: Rule,
+    // Of Sieve alone: the entry that is looked at next, or 0 for the oldest.
+    hand: u32,
     capacity: u64,
     used: u64,
     places: P,
@@ -84,6 +87,7 @@ impl<P: Places> Ring<P> {
         };
         Ring {
             rule,
+            hand: 0,
             capacity,
             used: 0,
             places: P::new(objects),
@@ -108,19 +112,43 @@ impl<P: Places> Ring<P> {
 
     fn free_until_fits(&mut self, size: u64) {
         while self.used + size > self.capacity {
-            let first = self.links[0].after;
-            self.unlink(first);
-            let link = &mut self.links[first as usize];
-            if link.marked {
-                link.marked = false;
-                self.link_last(first);
+            if self.rule == Rule::Sieve {
+                self.look_at_hand();
                 continue;
             }
-            self.used -= link.size;
-            let object = link.object;
-            self.places.remove(object);
-            self.unused.push(first);
+            let first = self.links[0].after;
+            if self.links[first as usize].marked {
+                self.links[first as usize].marked = false;
+                self.unlink(first);
+                self.link_last(first);
+            } else {
+                self.remove(first);
+            }
         }
+    }
+
+    // The hand goes on, from the youngest to the oldest. An entry without a mark is removed.
+    fn look_at_hand(&mut self) {
+        let place = if self.hand == 0 {
+            self.links[0].after
+        } else {
+            self.hand
+        };
+        let link = &mut self.links[place as usize];
+        self.hand = link.after;
+        if link.marked {
+            link.marked = false;
+        } else {
+            self.remove(place);
+        }
+    }
+
+    fn remove(&mut self, place: u32) {
+        self.unlink(place);
+        let Link { object, size, .. } = self.links[place as usize];
+        self.used -= size;
+        self.places.remove(object);
+        self.unused.push(place);
     }
 
     fn put(&mut self, object: u32, size: u64) {
@@ -155,7 +183,7 @@ impl<P: Places> Policy for Ring<P> {
                 self.unlink(place);
                 self.link_last(place);
             }
-            (Some(place), Rule::Clock) => self.links[place as usize].marked = true,
+            (Some(place), Rule::Clock | Rule::Sieve) => self.links[place as usize].marked = true,
             (Some(_), Rule::Fifo) => {}
             (None, _) if size <= self.capacity => {
                 self.free_until_fits(size);
