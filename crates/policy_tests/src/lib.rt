@@ -3,6 +3,8 @@
 #![tactic(auto)]
 
 #[cfg(test)]
+mod all_contents;
+#[cfg(test)]
 mod counting;
 #[cfg(test)]
 mod curves;
@@ -11,8 +13,10 @@ mod idle;
 #[cfg(test)]
 mod judged;
 #[cfg(test)]
-mod marks;
+mod made;
 #[cfg(test)]
 mod rows;
+#[cfg(test)]
+mod simulations;
 #[cfg(test)]
 mod today;

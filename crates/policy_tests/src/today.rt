@@ -8,8 +8,8 @@ use replay_rank::{Gdsf, Lfuda};
 use std::alloc::Global;
 use std::process::Abort;
 
-// The replays of the four, in the order of their names above.
-fn replays(
+/// The replays of the four, in the order of their names above.
+pub fn replays(
     rt: &impl Abort,
     alloc: Global,
     trace: &Trace,

@@ -1,5 +1,5 @@
 use Rattle.std.proofs.Common.{◌≡◌, true}
-use Rattle.policy_tests.proofs.marks.trace_of.Given as goal
+use Rattle.policy_tests.proofs.made.trace_of.Given as goal
 
 -- marks are kept
 abbrev pub invariant-loop-ask : goal.invariant-loop-ask
