@@ -1,5 +1,5 @@
 -- What is to come of a reader, after one line more and after one request more.
-use Rattle.std.proofs.Common.{◌≡◌, ℕ, zero, suc, ◌+◌, ◌-◌, ◌≤◌, ◌<◌, ◌∙◌, sym, refl, ap, List, [], ◌∷◌, ◌++◌, append_assoc, append-nil, length, drop, subst, arith, not, fold, Option, Some, None, Result, Ok, Err, IfSome, Bool, true, false}
+use Rattle.std.proofs.Common.{◌≡◌, ℕ, zero, suc, ◌+◌, ◌-◌, ◌≤◌, ◌<◌, ◌∙◌, sym, refl, ap, List, [], ◌∷◌, ◌++◌, append_assoc, append-nil, length, drop, subst, arith, not, fold, min, nat_lt, if◌then◌else◌, Option, Some, None, Result, Ok, Err, IfSome, Bool, true, false}
 use Rattle.std.specs.Result.{IsErr, IsErrAnd, is_ok}
 use Rattle.std.proofs.lemmas.List.{drop-drop}
 use Rattle.std.proofs.lemmas.Bool.{le-ltb, lt-ltb, false≢true, true≢false}
@@ -17,11 +17,11 @@ use Rattle.trace_lines.specs.declared.line.LineKind.TheVariants.{TooLong}
 use Rattle.trace_any.specs.declared.fault.TraceFault.{TraceFault}
 use Rattle.trace_any.specs.declared.fault.TraceFault.TheVariants.{BadLine, InputTooLong, TooManyRequests}
 use Rattle.trace_any.specs.Volumes.{Volume}
-use Rattle.trace_any.specs.Readings.{is_marked, LineContents, Reading, has_records, marks_of, spanned, stopped, requested, text_content, with_line, read_line, read_on, reading, nothing_read, fault_of}
+use Rattle.trace_any.specs.Readings.{blocks, is_marked, LineContents, Reading, has_records, marks_of, spanned, stopped, requested, text_content, with_line, read_line, read_on, reading, nothing_read, fault_of}
 use Rattle.trace_any.specs.declared.format.Format.{Format}
 use Rattle.trace_any.specs.declared.format.Limits.{Limits}
 use Rattle.bound_io.specs.Reading.{LosesPrefix}
-use Rattle.trace_any.specs.Readers.{Reader, Ahead, fresh, last_mark, room_left, so_far, to_come, onto, after, with_ahead_by, ahead_by, with_named_by, number_by, bytes_after, GoesOn, GivesNone, IsOver, IsStopped, IsWhole, LineTaken}
+use Rattle.trace_any.specs.Readers.{Reader, Ahead, fresh, last_mark, room_left, so_far, to_come, onto, after, with_ahead, with_ahead_by, ahead_by, with_named_by, number_by, bytes_after, GoesOn, GivesNone, IsOver, IsStopped, IsWhole, LineTaken}
 use Rattle.trace_any.specs.FirstLines.{coming_in}
 use Rattle.trace_any.specs.NextPieces.{GivesNext, IsNextRefused, NextPiece, after_next, next_size, next_text}
 use Rattle.trace_any.proofs.NextPieces.{is_given, next_size-le, next_text-le, past_next, refused_past_limit, refused_too_long}
@@ -208,6 +208,29 @@ no_room r bytes full some =
     let stop : to_come r bytes ≡ stopped now TooManyRequests = ap (λ s. read_on r.format (room_left r) s bytes) start ∙ read_on-stopped r.format (room_left r) now TooManyRequests bytes in
     record { requests = ap (λ s. s.requests) stop; marks = ap (λ s. s.fills) stop; dropped_lines = ap (λ s. s.dropped) stop; stop = ap (λ s. s.refused) stop }
 
+-- requests before the others of a reading
+abbrev pub after_all : Requests → Reading → Reading
+after_all given = after given.objects given.fills
+
+-- more requests are left of the last line than there is room for
+pub past_room : (r : Reader) (bytes : List ℕ) → nat_lt (r.limits.requests - r.given) r.ahead.count ≡ true → (to_come r bytes).refused ≡ Some TooManyRequests
+past_room r bytes past =
+    let most = r.limits.requests - r.given - 0 in
+    let same : most ≡ r.limits.requests - r.given = omega arith in
+    let next = blocks r.ahead.volume r.ahead.first (min r.ahead.count most) r.ahead.size in
+    let taken : Reading = record (so_far r) { requests = next; fills = marks_of (last_mark r) next } in
+    let start : with_ahead r ≡ stopped taken TooManyRequests = ap (λ b. if b then stopped taken TooManyRequests else taken) (ap (λ m. nat_lt m r.ahead.count) same ∙ past) in
+    ap (λ s. s.refused) (ap (λ s. read_on r.format (room_left r) s bytes) start ∙ read_on-stopped r.format (room_left r) taken TooManyRequests bytes)
+
+-- and so nothing is loaded
+pub loads_past : (first second third : Reader) (given : Requests) (x : Object) (mark : Option Bool) (before between later : Option (List ℕ)) → IfSome before (λ bytes. GoesOn (after_all given) first second bytes between)
+    → IfSome between (λ bytes. GoesOn (onto x mark) second third bytes later) → ((bytes : List ℕ) → (to_come third bytes).refused ≡ Some TooManyRequests)
+    → IfSome before (λ bytes. (to_come first bytes).refused ≡ Some TooManyRequests)
+loads_past first second third given x mark None between later one other past = tt
+loads_past first second third given x mark (Some bytes) between later one other past =
+    let next = rw (one.rest) at other in
+    ap (λ s. s.refused) one.coming ∙ (ap (λ s. s.refused) next.coming ∙ past (bytes_after second third (bytes_after first second bytes)))
+
 -- a fault of the lines is that fault of the trace
 pub lines_refused : (r new : Reader) (before : Option (List ℕ)) (faults_before faults_after : ℕ) (fault : LineFault) → r.ahead.count ≡ 0 → r.lines.limit ≡ r.limits.bytes → r.lines.consumed ≤ r.limits.bytes → new.dropped ≡ r.dropped
     → IsNextRefused (has_records r.format) r.lines before faults_before faults_after fault → IsStopped r new before faults_before faults_after (fault_of fault)
@@ -299,10 +322,6 @@ loads_one first second third given fills x mark (Some bytes) between later one o
       rest = next.rest ∙ ap (λ rest. Some rest) same;
       coming = one.coming ∙ (ap (after given fills) next.coming ∙ (after-onto given fills x mark coming ∙ ap (λ rest. after (given ++ x ∷ []) (fills ++ marks_of mark (x ∷ [])) (to_come third rest)) same));
     }
-
--- requests before the others of a reading
-abbrev pub after_all : Requests → Reading → Reading
-after_all given = after given.objects given.fills
 
 -- one request more after those of a trace
 pub loads_more : (first second third : Reader) (given : Requests) (x : Object) (mark : Option Bool) (before between later : Option (List ℕ)) → IfSome before (λ bytes. GoesOn (after_all given) first second bytes between)

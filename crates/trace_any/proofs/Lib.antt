@@ -6,3 +6,4 @@ pub mod Coming
 pub mod Through
 pub mod VolumeSteps
 pub mod Marks
+pub mod Loads

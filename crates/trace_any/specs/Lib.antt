@@ -4,3 +4,4 @@ pub mod LineContent
 pub mod Readers
 pub mod NextPieces
 pub mod FirstLines
+pub mod Loads

@@ -14,5 +14,5 @@ mod volumes;
 
 pub use fault::TraceFault;
 pub use format::{Format, Limits};
-pub use loading::load;
+pub use loading::{builder_for, load, push_given};
 pub use requests::RequestReader;

@@ -12,8 +12,8 @@ use bound_io::Source;
 use cache_rules::{Builder, Object, Trace};
 use std::alloc::Global;
 
-// A builder without requests, which keeps marks if the form of the reader has them.
-fn builder_for(alloc: Global, reader: &RequestReader) -> Result<Builder, NoMemory>
+/// A builder without requests, which keeps marks if the form of the reader has them.
+pub fn builder_for(alloc: Global, reader: &RequestReader) -> Result<Builder, NoMemory>
     ensures { IfOk result (λ b. b ≡ record { requests = record { objects = []; fills = [] }; marks = is_marked reader.now.format }) }
 {
     if reader.is_marked() {
@@ -23,8 +23,8 @@ fn builder_for(alloc: Global, reader: &RequestReader) -> Result<Builder, NoMemor
     }
 }
 
-// Appends the request that the reader has just given, with its mark if its form has marks.
-fn push_given(
+/// Appends the request that the reader has just given, with its mark if its form has marks.
+pub fn push_given(
     requests: &mut Builder,
     reader: &RequestReader,
     object: Object,
@@ -45,7 +45,8 @@ fn push_given(
 /// The trace of all that the reader has still to give, with marks if it takes them, and how many lines of it were
 /// dropped in all. A reader that has answered a fault answers it again, unless there is no memory to begin with.
 ///
-/// It takes memory for the requests, the different objects and the hosts of the volumes, and none for the text.
+/// A line that asks for more requests than there is room for is refused before any of them is taken. It takes memory for
+/// the requests, the different objects and the hosts of the volumes, and none for the text.
 pub fn load<S: Source>(
     alloc: Global,
     reader: &mut RequestReader,
@@ -63,6 +64,9 @@ pub fn load<S: Source>(
 {
     let mut requests = builder_for(alloc, reader)?;
     while let Some(object) = reader.next(alloc, source)? {
+        if reader.passes_limit() {
+            return Err(reader.refuse_rest());
+        }
         push_given(&mut requests, reader, object)?;
     }
     Ok((requests.finish(), reader.dropped()))

@@ -1,5 +1,5 @@
 //! How far the reading of a trace has come.
-ghost use Rattle.std.specs.Prelude.{List, ℕ, ◌≡◌, ◌+◌, ◌≤◌, ◌<◌, ◌^◌, ◌&&◌, None, Some, Err, true, false, length, IfOk, IfErr, IfSome, IfNone, OnOk};
+ghost use Rattle.std.specs.Prelude.{List, ℕ, ◌≡◌, ◌+◌, ◌-◌, ◌≤◌, ◌<◌, ◌^◌, ◌&&◌, None, Some, Err, true, false, length, nat_lt, IfOk, IfErr, IfSome, IfNone, OnOk};
 ghost use Rattle.bound_io.specs.Causes.{HasNewFault};
 ghost use Rattle.bound_io.specs.Reading.{LosesPrefix};
 ghost use Rattle.std.specs.Option.{option_map};
@@ -132,6 +132,13 @@ impl Progress {
         ensures { result ≡ (is_marked self.now.format && self.now.ahead.fills) }
     {
         self.format.is_marked() && self.ahead.fills
+    }
+
+    /// Whether the blocks that are left of the last line are more than there is room for.
+    pub fn passes_limit(&self) -> bool
+        ensures { result ≡ nat_lt (self.now.limits.requests - self.now.given) self.now.ahead.count }
+    {
+        self.ahead.count > (self.limits.requests - self.given) as u64
     }
 
     // Takes up the next line, and says whether there was one.

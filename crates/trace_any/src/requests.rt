@@ -1,5 +1,5 @@
 //! A reader of requests.
-ghost use Rattle.std.specs.Prelude.{◌≡◌, ◌≤◌, ◌^◌, ◌&&◌, true, false, None, Some, Err, IfOk, IfErr, IfSome, OnOk, length};
+ghost use Rattle.std.specs.Prelude.{◌≡◌, ◌-◌, ◌≤◌, ◌^◌, ◌&&◌, true, false, None, Some, Err, IfOk, IfErr, IfSome, OnOk, length, nat_lt};
 ghost use Rattle.bound_io.specs.Reading.{LosesPrefix};
 ghost use Rattle.trace_any.specs.Readings.{IsFormat, NamesVolumes, is_marked};
 
@@ -38,7 +38,7 @@ impl Model for RequestReader {
 
 impl RequestReader {
     ghost use Rattle.trace_any.specs.FirstLines.{GoesNoFurther};
-    ghost use Rattle.trace_any.specs.Readers.{NextRequest, err_of, fresh, known, last_mark, onto};
+    ghost use Rattle.trace_any.specs.Readers.{NextRequest, err_of, fresh, known, last_mark, onto, with_fault};
 
     /// A reader of a trace of this form, within these limits. It takes its buffer here, and later memory for each volume
     /// alone.
@@ -103,5 +103,21 @@ impl RequestReader {
             self.fault = Some(fault);
         }
         found
+    }
+
+    // Whether the blocks that are left of the last line are more than there is room for.
+    pub(crate) fn passes_limit(&self) -> bool
+        ensures { result ≡ nat_lt (self.now.limits.requests - self.now.given) self.now.ahead.count }
+    {
+        self.progress.passes_limit()
+    }
+
+    // Refuses what is left of the last line.
+    pub(crate) fn refuse_rest(&mut self) -> TraceFault
+        ensures fault { result ≡ TraceFault.TooManyRequests }
+        ensures kept { self.new ≡ with_fault self.old (Some TraceFault.TooManyRequests) }
+    {
+        self.fault = Some(TraceFault::TooManyRequests);
+        TraceFault::TooManyRequests
     }
 }

@@ -1,7 +1,7 @@
 use Rattle.std.proofs.Common.{◌≡◌, ◌∙◌, refl, sym, ap, arith, length-append, None, [], ◌∷◌}
 use Rattle.bound_io.proofs.KnownLemmas.{loses_then}
 use Rattle.trace_any.specs.Readers.{last_mark}
-use Rattle.trace_any.proofs.Coming.{goes_nowhere, loads_all, loads_more, loads_to_end, loses_nothing, no_error, no_fault, of_any_fault}
+use Rattle.trace_any.proofs.Coming.{goes_nowhere, loads_all, loads_more, loads_past, loads_to_end, loses_nothing, no_error, no_fault, of_any_fault, past_room}
 use Rattle.trace_any.proofs.loading.load.Goals as goal
 
 pub loop-requests-init : goal.loop-requests-init
@@ -66,3 +66,13 @@ returns-clause-end g c =
     let i = c.loop-requests.invariant in λ fresh.
     let next = rw (c.in_default.is) at (c.in_ok-object.ensures.next (i.fault ∙ fresh)) in
     loads_to_end c.args.reader.now c.loop-requests.reader c.next.new.self c.loop-requests.requests.requests.objects c.loop-requests.requests.requests.fills _ _ _ (i.goes_on fresh) next
+
+pub returns-then-passes_limit-clause-refused : goal.returns-then-passes_limit-clause-refused
+returns-then-passes_limit-clause-refused g c =
+    let i = c.loop-requests.invariant in λ fresh.
+    let next = rw (c.in-Some.is) at (c.in_ok-object.ensures.next (i.fault ∙ fresh)) in
+    let past = sym c.passes_limit.ensures ∙ c.if-passes_limit.true in
+    rw (c.refuse_rest.ensures.fault) (loads_past c.args.reader.now c.loop-requests.reader c.next.new.self c.loop-requests.requests.requests c.in-Some.object (last_mark c.next.new.self) _ _ _ (i.goes_on fresh) (next.1) (λ bytes. past_room c.next.new.self bytes past))
+
+pub returns-then-passes_limit-clause-source : goal.returns-then-passes_limit-clause-source
+returns-then-passes_limit-clause-source g c = loses_then _ _ _ (c.next.ensures.source.0) (c.loop-requests.invariant.source) (c.next.ensures.source.1)

@@ -3,7 +3,7 @@ use Rattle.trace_any.specs.Readers.{LineTaken, IsOver, GoesOn, Ahead, known, to_
 use Rattle.trace_any.specs.LineContent.{answer_of, content_by, volume_of}
 use Rattle.std.specs.Option.{option_map}
 use Rattle.trace_any.specs.declared.progress.Range.{Range}
-use Rattle.trace_any.specs.Readings.{is_marked, fault_of}
+use Rattle.trace_any.specs.Readings.{fault_of}
 use Rattle.trace_any.specs.declared.fault.TraceFault.TheVariants.{BadLine}
 use Rattle.trace_any.specs.contracts.progress.Progress.{the_view}
 use Rattle.trace_any.proofs.Coming.{lines_refused, goes_onward, taken_err, takes_up, refused_line, goes_blank, goes_asked, is_asked, with_lines}

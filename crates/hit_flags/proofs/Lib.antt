@@ -1,0 +1,2 @@
+pub mod FlagLines
+pub mod Ends

@@ -1,0 +1,126 @@
+use Rattle.std.proofs.Common.{◌≡◌, ◌∙◌, ap, subst, arith, length-append, Some, None, [], ◌∷◌, ◌++◌}
+use Rattle.std.proofs.lemmas.Result.{err_from_is_err_and}
+use Rattle.bit_list.specs.Bits.{bits_of}
+use Rattle.bound_io.specs.Devices.{seen}
+use Rattle.bound_io.specs.Lines.{stands_in}
+use Rattle.bound_io.proofs.KnownLemmas.{loses_then}
+use Rattle.trace_any.specs.Readers.{IsStopped, IsWhole, last_mark, known as trace_known}
+use Rattle.trace_any.proofs.Coming.{loads_all, loads_more, loads_to_end}
+use Rattle.trace_any.proofs.Loads.{from_start, nothing_left}
+use Rattle.hit_flags.proofs.Ends.{all_flags, flag_unread, more_flags, more_unread, none_follows, one_follows, over_at_end, trace_unread}
+use Rattle.hit_flags.proofs.claims.read_turns.Goals as goal
+
+pub returns-in_err-object-clause-unread : goal.returns-in_err-object-clause-unread
+returns-in_err-object-clause-unread g c =
+    let i = c.loop-flags.invariant in
+    let p = err_from_is_err_and c.from_residual-in_err-object.result c.from_residual-in_err-object.ensures.1 in
+    let trace = seen g.T.Source.left g.T.Source.faults c.args.trace.now c.next.new.source in
+    let hits = seen g.H.Source.left g.H.Source.faults c.args.hits.now c.loop-flags.hits in
+    let why = subst (λ n. IsStopped c.loop-flags.reader c.next.new.self (trace_known c.loop-flags.reader (g.T.Source.left c.loop-flags.trace)) n (g.T.Source.faults c.next.new.source) c.in_err-object.field-0.0) i.trace_faults (c.in_err-object.ensures.next i.fault) in
+    rw (p.1, p.2) (trace_unread c.args.reader.now.format trace hits c.args.reader.now c.loop-flags.reader c.next.new.self c.loop-flags.requests.requests (bits_of c.loop-flags.flags) c.loop-flags.lines _ _ c.in_err-object.field-0.0 c.requires.reader i.goes_on i.as_many i.flagged why)
+
+pub returns-in_err-object-clause-trace_source : goal.returns-in_err-object-clause-trace_source
+returns-in_err-object-clause-trace_source g c = loses_then _ _ _ (c.next.ensures.source.0) (c.loop-flags.invariant.trace_source) (c.next.ensures.source.1)
+
+pub returns-in_err-flag-clause-unread : goal.returns-in_err-flag-clause-unread
+returns-in_err-flag-clause-unread g c =
+    let i = c.loop-flags.invariant in
+    let p = err_from_is_err_and c.from_residual-in_err-flag.result c.from_residual-in_err-flag.ensures.1 in
+    let trace = seen g.T.Source.left g.T.Source.faults c.args.trace.now c.next.new.source in
+    let hits = seen g.H.Source.left g.H.Source.faults c.args.hits.now c.flag_for.new.hits in
+    let object = c.in-Some.object in
+    let next = rw (c.in-Some.is) at (c.in_ok-object.ensures.next i.fault) in
+    let remains = one_follows c.args.reader.now.format c.args.reader.now c.loop-flags.reader c.next.new.self c.loop-flags.requests.requests object (last_mark c.next.new.self) _ _ _ c.requires.reader i.goes_on next.1 in
+    rw (p.1, p.2) (flag_unread c.args.reader.now.format trace hits c.loop-flags.requests.requests.objects (bits_of c.loop-flags.flags) c.loop-flags.lines _ object _ c.in_err-flag.field-0.0 remains i.as_many i.flagged i.line i.hits_faults c.in_err-flag.ensures.stopped)
+
+pub returns-in_err-flag-clause-trace_source : goal.returns-in_err-flag-clause-trace_source
+returns-in_err-flag-clause-trace_source g c = loses_then _ _ _ (c.next.ensures.source.0) (c.loop-flags.invariant.trace_source) (c.next.ensures.source.1)
+
+pub returns-in_err-flag-clause-hits_source : goal.returns-in_err-flag-clause-hits_source
+returns-in_err-flag-clause-hits_source g c = loses_then _ _ _ (c.flag_for.ensures.source.0) (c.loop-flags.invariant.hits_source) (c.flag_for.ensures.source.1)
+
+pub returns-in_err-make_room-clause-trace_source : goal.returns-in_err-make_room-clause-trace_source
+returns-in_err-make_room-clause-trace_source g c = loses_then _ _ _ (c.next.ensures.source.0) (c.loop-flags.invariant.trace_source) (c.next.ensures.source.1)
+
+pub returns-in_err-make_room-clause-hits_source : goal.returns-in_err-make_room-clause-hits_source
+returns-in_err-make_room-clause-hits_source g c = loses_then _ _ _ (c.flag_for.ensures.source.0) (c.loop-flags.invariant.hits_source) (c.flag_for.ensures.source.1)
+
+pub returns-in_err-push_given-clause-trace_source : goal.returns-in_err-push_given-clause-trace_source
+returns-in_err-push_given-clause-trace_source g c = loses_then _ _ _ (c.next.ensures.source.0) (c.loop-flags.invariant.trace_source) (c.next.ensures.source.1)
+
+pub returns-in_err-push_given-clause-hits_source : goal.returns-in_err-push_given-clause-hits_source
+returns-in_err-push_given-clause-hits_source g c = loses_then _ _ _ (c.flag_for.ensures.source.0) (c.loop-flags.invariant.hits_source) (c.flag_for.ensures.source.1)
+
+pub loop-flags-preserved : goal.loop-flags-preserved
+loop-flags-preserved g c =
+    let i = c.loop-flags.invariant in
+    let n = c.next.ensures in
+    let object = c.in-Some.object in
+    let flag = c.in_ok-flag.flag in
+    let given = c.loop-flags.requests.requests in
+    let next = rw (c.in-Some.is) at (c.in_ok-object.ensures.next i.fault) in
+    let pushed = c.in_ok-push_given.ensures.ok in
+    let bits : bits_of c.push_reserved.new.self ≡ bits_of c.loop-flags.flags ++ flag ∷ [] = c.push_reserved.ensures.bits ∙ ap (λ b. b ++ flag ∷ []) c.make_room.ensures.bits in
+    record {
+      format = n.format ∙ i.format;
+      kept = ap (λ b. b.marks) pushed ∙ i.kept;
+      limits = n.few.0 ∙ i.limits;
+      fault = c.in_ok-object.ensures.fault i.fault;
+      given = rw pushed (omega (arith, next.0, i.given, length-append given.objects (object ∷ [])));
+      few = rw pushed (omega (arith, next.0, i.given, n.few.1, n.few.2, length-append given.objects (object ∷ [])));
+      goes_on = rw pushed (loads_more c.args.reader.now c.loop-flags.reader c.next.new.self given object (last_mark c.next.new.self) _ _ _ i.goes_on next.1);
+      going = c.in_ok-flag.ensures.line.1;
+      line = rw pushed (omega (arith, c.in_ok-flag.ensures.line.0, i.line, length-append given.objects (object ∷ [])));
+      as_many = rw (pushed, bits) (omega (arith, i.as_many, length-append given.objects (object ∷ []), length-append (bits_of c.loop-flags.flags) (flag ∷ [])));
+      flagged = rw bits (more_flags (bits_of c.loop-flags.flags) flag c.loop-flags.lines c.flag_for.new.lines _ _ _ c.in_ok-flag.ensures.line.0 i.flagged c.in_ok-flag.ensures.given);
+      trace_source = loses_then _ _ _ (n.source.0) i.trace_source (n.source.1);
+      hits_source = loses_then _ _ _ (c.flag_for.ensures.source.0) i.hits_source (c.flag_for.ensures.source.1);
+      trace_faults = c.in_ok-object.ensures.none_failed ∙ i.trace_faults;
+      hits_faults = c.in_ok-flag.ensures.none_failed ∙ i.hits_faults;
+    }
+
+pub no_more-requires-clause-few : goal.no_more-requires-clause-few
+no_more-requires-clause-few g c = omega (arith, c.loop-flags.invariant.few, c.loop-flags.invariant.line)
+
+pub returns-in_err-no_more-clause-unread : goal.returns-in_err-no_more-clause-unread
+returns-in_err-no_more-clause-unread g c =
+    let i = c.loop-flags.invariant in
+    let p = err_from_is_err_and c.from_residual-in_err-no_more.result c.from_residual-in_err-no_more.ensures.1 in
+    let trace = seen g.T.Source.left g.T.Source.faults c.args.trace.now c.next.new.source in
+    let hits = seen g.H.Source.left g.H.Source.faults c.args.hits.now c.no_more.new.hits in
+    let next = rw (c.in_default.is) at (c.in_ok-object.ensures.next i.fault) in
+    let remains = none_follows c.args.reader.now.format c.args.reader.now c.loop-flags.reader c.loop-flags.requests.requests _ _ c.next.new.self.dropped None c.requires.reader i.goes_on (over_at_end c.loop-flags.reader c.next.new.self _ _ next) in
+    rw (p.1, p.2) (more_unread c.args.reader.now.format trace hits c.loop-flags.requests.requests.objects (bits_of c.loop-flags.flags) c.loop-flags.lines _ _ c.in_err-no_more.field-0.0 remains i.as_many i.flagged i.line i.hits_faults c.in_err-no_more.ensures.stopped)
+
+pub returns-in_err-no_more-clause-trace_source : goal.returns-in_err-no_more-clause-trace_source
+returns-in_err-no_more-clause-trace_source g c = loses_then _ _ _ (c.next.ensures.source.0) (c.loop-flags.invariant.trace_source) (c.next.ensures.source.1)
+
+pub returns-in_err-no_more-clause-hits_source : goal.returns-in_err-no_more-clause-hits_source
+returns-in_err-no_more-clause-hits_source g c = loses_then _ _ _ (c.no_more.ensures.source.0) (c.loop-flags.invariant.hits_source) (c.no_more.ensures.source.1)
+
+pub returns-clause-read : goal.returns-clause-read
+returns-clause-read g c =
+    let i = c.loop-flags.invariant in
+    let format = c.args.reader.now.format in
+    let given = c.loop-flags.requests.requests in
+    let next = rw (c.in_default.is) at (c.in_ok-object.ensures.next i.fault) in
+    let whole = loads_all c.args.reader.now c.loop-flags.reader c.next.new.self given.objects given.fills _ _ _ i.goes_on next in
+    let end = loads_to_end c.args.reader.now c.loop-flags.reader c.next.new.self given.objects given.fills _ _ _ i.goes_on next in
+    let flags = all_flags (bits_of c.loop-flags.flags) c.loop-flags.lines _ _ _ i.flagged c.in_ok-no_more.ensures.end in
+    rw (c.finish.ensures, c.dropped.ensures) (record {
+      loaded = record {
+        read = from_start format c.args.reader.now (g.T.Source.left c.args.trace.now) (λ r. IsWhole r given c.next.new.self.dropped) c.requires.reader whole;
+        nothing_left = nothing_left (g.T.Source.left c.args.trace.now) (g.T.Source.left c.next.new.source) c.next.new.self.lines.held (from_start format c.args.reader.now (g.T.Source.left c.args.trace.now) (λ _. stands_in c.next.new.self.lines.held (g.T.Source.left c.next.new.source) ≡ Some []) c.requires.reader end);
+      };
+      flags_are = record {
+        lines = flags.0;
+        nothing_left = nothing_left (g.H.Source.left c.args.hits.now) (g.H.Source.left c.no_more.new.hits) c.no_more.new.lines.held flags.1;
+      };
+      as_many = i.as_many;
+    })
+
+pub returns-clause-trace_source : goal.returns-clause-trace_source
+returns-clause-trace_source g c = loses_then _ _ _ (c.next.ensures.source.0) (c.loop-flags.invariant.trace_source) (c.next.ensures.source.1)
+
+pub returns-clause-hits_source : goal.returns-clause-hits_source
+returns-clause-hits_source g c = loses_then _ _ _ (c.no_more.ensures.source.0) (c.loop-flags.invariant.hits_source) (c.no_more.ensures.source.1)

@@ -1,0 +1,39 @@
+-- What comes of reading a trace and the flags beside it.
+use Rattle.std.specs.Prelude.{◌≡◌, ℕ, Bool, List, [], length, map, Some, IfSome}
+use Rattle.bound_io.specs.Devices.{Device, HasFailed}
+use Rattle.cache_rules.specs.Stored.{Requests}
+use Rattle.trace_any.specs.declared.fault.TraceFault.TheVariants as of_trace
+use Rattle.trace_any.specs.declared.format.Format.{Format}
+use Rattle.trace_any.specs.Readings.{reading, full_limits}
+use Rattle.trace_any.specs.Loads.{IsLoaded}
+use Rattle.hit_flags.specs.declared.fault.FlagFault.{FlagFault}
+use Rattle.hit_flags.specs.declared.fault.FlagFault.TheVariants.{Trace, NotFlag, Count, ReadFault, NoMemory}
+use Rattle.hit_flags.specs.Flags.{flags_in, stop_of}
+
+-- the bytes are known and were read to their end, and each line of them has the flag of a request
+pub record AreFlags (hits : Device) (flags : List Bool) : Type 0 where
+  pub lines : IfSome hits.before (λ bytes. flags_in bytes ≡ map (λ flag. Some flag) flags)
+  pub nothing_left : IfSome hits.before (λ _. hits.after ≡ Some [])
+
+-- all that the two sources had left was read: a trace, and a flag for each of its requests
+pub record AreRead (format : Format) (trace hits : Device) (requests : Requests) (dropped : ℕ) (flags : List Bool) : Type 0 where
+  pub loaded : IsLoaded format trace requests dropped
+  pub flags_are : AreFlags hits flags
+  pub as_many : length flags ≡ length requests.objects
+
+-- this stops the reading of all that the two sources had left, if the bytes of both are known
+abbrev pub IsStop : Format → Device → Device → FlagFault → Type 0
+IsStop format trace hits fault =
+    IfSome trace.before (λ bytes. IfSome hits.before (λ text. stop_of (reading format full_limits bytes) (flags_in text) ≡ Some fault))
+
+-- why no claims are read: this stops the reading, or a source has a new fault; running out of memory is free
+abbrev pub AreUnread : Format → Device → Device → FlagFault → Type 0
+AreUnread format trace hits (Trace (of_trace.BadLine line kind)) = IsStop format trace hits (Trace (of_trace.BadLine line kind))
+AreUnread format trace hits (Trace of_trace.InputTooLong) = IsStop format trace hits (Trace of_trace.InputTooLong)
+AreUnread format trace hits (Trace of_trace.TooManyRequests) = IsStop format trace hits (Trace of_trace.TooManyRequests)
+AreUnread format trace hits (Trace of_trace.ReadFault) = HasFailed trace
+AreUnread format trace hits (Trace of_trace.NoMemory) = Unit {0}
+AreUnread format trace hits (NotFlag line) = IsStop format trace hits (NotFlag line)
+AreUnread format trace hits (Count flags requests) = IsStop format trace hits (Count flags requests)
+AreUnread format trace hits ReadFault = HasFailed hits
+AreUnread format trace hits NoMemory = Unit {0}

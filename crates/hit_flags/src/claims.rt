@@ -1,0 +1,80 @@
+//! The claims of a simulator, read whole.
+ghost use Rattle.std.specs.Prelude.{◌≡◌, ◌≤◌, None, IfOk, IfErr};
+ghost use Rattle.bit_list.specs.Bits.{bits_of};
+ghost use Rattle.bound_io.specs.Devices.{seen};
+ghost use Rattle.bound_io.specs.Reading.{LosesPrefix};
+ghost use Rattle.trace_any.specs.Readers.{fresh};
+ghost use Rattle.trace_any.specs.Readings.{IsFormat, full_limits};
+ghost use Rattle.hit_flags.specs.Claims.{AreRead, AreUnread};
+ghost use Rattle.hit_flags.specs.Lines.{nothing_read};
+
+use crate::fault::FlagFault;
+use crate::line::{flag_for, no_more};
+use bit_list::BitList;
+use bound_io::{LineReader, Source};
+use cache_rules::Trace;
+use std::alloc::Global;
+use trace_any::{Format, Limits, RequestReader, builder_for, push_given};
+
+// The most bytes of flags that a reader of lines takes. The lines of all flags have less.
+const MOST_BYTES: u64 = 1 << 36;
+
+/// A trace, how many lines of it were dropped, and a flag for each request: whether a simulator counted a hit.
+#[derive(Debug, Drop)]
+pub struct Claims {
+    pub trace: Trace,
+    pub dropped: u64,
+    pub flags: BitList,
+}
+
+// The claims of two readers that have read nothing, by turns: a request, and then its flag.
+fn read_turns<T: Source, H: Source>(
+    alloc: Global,
+    reader: &mut RequestReader,
+    trace: &mut T,
+    lines: &mut LineReader,
+    hits: &mut H,
+) -> Result<Claims, FlagFault>
+    requires reader { reader.old ≡ fresh reader.old.format full_limits }
+    requires lines { lines.old ≡ nothing_read }
+    ensures read { IfOk result (λ c. AreRead reader.old.format (seen T.left T.faults trace.old trace.new) (seen H.left H.faults hits.old hits.new) c.trace c.dropped (bits_of c.flags)) }
+    ensures unread { IfErr result (AreUnread reader.old.format (seen T.left T.faults trace.old trace.new) (seen H.left H.faults hits.old hits.new)) }
+    ensures trace_source { LosesPrefix (T.left trace.old) (T.left trace.new) }
+    ensures hits_source { LosesPrefix (H.left hits.old) (H.left hits.new) }
+{
+    let mut requests = builder_for(alloc, reader)?;
+    let mut flags = BitList::new(alloc);
+    while let Some(object) = reader.next(alloc, trace)? {
+        let flag = flag_for(lines, hits)?;
+        flags.make_room()?;
+        push_given(&mut requests, reader, object)?;
+        flags.push_reserved(flag);
+    }
+    no_more(lines, hits)?;
+    Ok(Claims {
+        trace: requests.finish(),
+        dropped: reader.dropped(),
+        flags,
+    })
+}
+
+/// The claims of all that two sources have left: a trace of this form, and the flags of its requests, `1` or `0` on a line
+/// of its own for each. The two are read by turns, a request first, and what comes first stops the reading.
+///
+/// It takes the memory of `load`, two buffers, and a bit for each request.
+pub fn read_claims<T: Source, H: Source>(
+    alloc: Global,
+    format: Format,
+    trace: &mut T,
+    hits: &mut H,
+) -> Result<Claims, FlagFault>
+    requires { IsFormat format }
+    ensures read { IfOk result (λ c. AreRead format (seen T.left T.faults trace.old trace.new) (seen H.left H.faults hits.old hits.new) c.trace c.dropped (bits_of c.flags)) }
+    ensures unread { IfErr result (AreUnread format (seen T.left T.faults trace.old trace.new) (seen H.left H.faults hits.old hits.new)) }
+    ensures trace_source { LosesPrefix (T.left trace.old) (T.left trace.new) }
+    ensures hits_source { LosesPrefix (H.left hits.old) (H.left hits.new) }
+{
+    let mut lines = LineReader::new(alloc, MOST_BYTES)?;
+    let mut reader = RequestReader::new(alloc, format, Limits::full())?;
+    read_turns(alloc, &mut reader, trace, &mut lines, hits)
+}

@@ -1,0 +1,43 @@
+-- What is left, and what was read, once a reader that began with a source is at its end.
+use Rattle.std.proofs.Common.{◌≡◌, ℕ, ap, subst, arith, length, length-append, List, [], ◌++◌, Option, Some, None, IfSome}
+use Rattle.std.specs.Option.{is_some, unwrap_or}
+use Rattle.std.proofs.lemmas.Bool.{false≢true}
+use Rattle.std.proofs.lemmas.List.{nil_from_length}
+use Rattle.bound_io.specs.Lines.{stands_in}
+use Rattle.bound_io.specs.Devices.{device}
+use Rattle.cache_rules.specs.Stored.{Requests}
+use Rattle.trace_any.specs.declared.format.Format.{Format}
+use Rattle.trace_any.specs.Readings.{Reading, full_limits, reading}
+use Rattle.trace_any.specs.Readers.{Reader, IsWhole, fresh, to_come, known}
+use Rattle.trace_any.specs.Loads.{IsLoaded}
+use Rattle.trace_any.proofs.Coming.{fresh_to_come}
+
+-- where nothing is left to stand in, the source has nothing left
+left_nothing : (held : List ℕ) (left : Option (List ℕ)) → stands_in held left ≡ Some [] → left ≡ Some []
+left_nothing held None end = absurd (false≢true (ap is_some end))
+left_nothing held (Some rest) end =
+    let all : held ++ rest ≡ [] = ap (λ o. unwrap_or o []) end in
+    ap (λ l. Some l) (nil_from_length rest (omega (arith, length-append held rest, ap length all)))
+
+pub nothing_left : (before left : Option (List ℕ)) (held : List ℕ) → IfSome before (λ _. stands_in held left ≡ Some []) → IfSome before (λ _. left ≡ Some [])
+nothing_left None left held end = tt
+nothing_left (Some bytes) left held end = left_nothing held left end
+
+-- of a reader that has read nothing, what is to come of the bytes in which it stands is the reading of all that its source has left
+pub from_start : (format : Format) (r : Reader) (left : Option (List ℕ)) (P : Reading → Type 0) → r ≡ fresh format full_limits → IfSome (known r left) (λ bytes. P (to_come r bytes)) → IfSome left (λ bytes. P (reading format full_limits bytes))
+from_start format r left P new holds = by left (subst (λ (s : Reader). IfSome (known s left) (λ bytes. P (to_come s bytes))) new holds)
+  where
+    by : (before : Option (List ℕ)) → IfSome (known (fresh format full_limits) before) (λ bytes. P (to_come (fresh format full_limits) bytes)) → IfSome before (λ bytes. P (reading format full_limits bytes))
+    by None h = tt
+    by (Some bytes) h = subst P (fresh_to_come format full_limits bytes) h
+
+-- and it stands in what its source has left
+pub known-start : (format : Format) (r : Reader) (left : Option (List ℕ)) (P : Type 0) → r ≡ fresh format full_limits → IfSome (known r left) (λ bytes. P) → IfSome left (λ bytes. P)
+known-start format r left P new holds = from_start format r left (λ _. P) new holds
+
+-- what a reader that has read nothing loads is the trace of all that the source had left
+pub loaded_all : (format : Format) (before after : Option (List ℕ)) (faults_before faults_after : ℕ) (requests : Requests) (dropped : ℕ)
+    → IfSome (known (fresh format full_limits) before) (λ bytes. IsWhole (to_come (fresh format full_limits) bytes) requests dropped)
+    → IfSome (known (fresh format full_limits) before) (λ bytes. after ≡ Some []) → IsLoaded format (device before after faults_before faults_after) requests dropped
+loaded_all format None after faults_before faults_after requests dropped whole end = record { read = tt; nothing_left = tt }
+loaded_all format (Some bytes) after faults_before faults_after requests dropped whole end = record { read = rw (fresh_to_come) at whole; nothing_left = end }

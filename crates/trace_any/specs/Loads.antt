@@ -1,0 +1,17 @@
+-- What comes of reading all that a source has left.
+use Rattle.std.specs.Prelude.{◌≡◌, ℕ, [], Some, IfSome}
+use Rattle.bound_io.specs.Devices.{Device}
+use Rattle.cache_rules.specs.Stored.{Requests}
+use Rattle.trace_any.specs.declared.fault.TraceFault.{TraceFault}
+use Rattle.trace_any.specs.declared.format.Format.{Format}
+use Rattle.trace_any.specs.Readings.{reading, full_limits}
+use Rattle.trace_any.specs.Readers.{IsWhole}
+
+-- all that the source had left was read, and is a trace of these requests and this many dropped lines, if its bytes are known
+pub record IsLoaded (format : Format) (source : Device) (requests : Requests) (dropped : ℕ) : Type 0 where
+  pub read : IfSome source.before (λ bytes. IsWhole (reading format full_limits bytes) requests dropped)
+  pub nothing_left : IfSome source.before (λ bytes. source.after ≡ Some [])
+
+-- what the source had left is refused so, if its bytes are known
+abbrev pub IsRefused : Format → Device → TraceFault → Type 0
+IsRefused format source fault = IfSome source.before (λ bytes. (reading format full_limits bytes).refused ≡ Some fault)
