@@ -1,5 +1,6 @@
 -- The pairs of a map from objects, and the entries that they are.
-use Rattle.std.proofs.Common.{◌≡◌, ℕ, ◌<◌, ◌∙◌, sym, refl, ap, subst, ⊎_elim, Bool, true, false, not, ◌||◌, cond, eqb, List, [], ◌∷◌, map, arith, Some, is_some}
+use Rattle.std.proofs.Common.{◌≡◌, ℕ, ◌<◌, ◌∙◌, sym, refl, ap, subst, ⊎_elim, Bool, true, false, not, ◌||◌, cond, eqb, List, [], ◌∷◌, map, arith, Some, None, Option, is_some}
+use Rattle.std.specs.declared.cmp.Ordering.{Ordering}
 use Rattle.std.specs.declared.cmp.Ordering.TheVariants.{Less, Greater}
 use Rattle.std.specs.BTreeMap.{is_at, insert_entry}
 use Rattle.std.specs.List.{AllByRecursion}
@@ -10,8 +11,39 @@ use Rattle.std.proofs.lemmas.Bool.{cases_order, eqb-true, eqb-false, eq-eqb, ne_
 use Rattle.std.proofs.lemmas.Map.Keys.{sorted_head, sorted_tail}
 use Rattle.policy_model.specs.States.{Entry, has_entry}
 use Rattle.policy_model.specs.Steps.{without_entry, put_in, change}
-use Rattle.policy_model.proofs.Comparisons.{at-eqb, cmp-less, cmp-equal, cmp-greater}
+use Rattle.policy_model.proofs.Comparisons.{at-eqb, eqb-sym, cmp-less, cmp-equal, cmp-greater}
 use Rattle.policy_model.proofs.Entries.{Apart, without-none}
+
+-- what is looked up after one was put in or renewed
+pub lookup-inserted : {X : Type 0} (pairs : List (ℕ × X)) (k q : ℕ) (x : X) → lookup (is_at (nat_cmp q)) (insert_entry nat_cmp pairs k x) ≡ cond (eqb k q) (Some x) (lookup (is_at (nat_cmp q)) pairs)
+lookup-inserted [] k q x = ap (λ b. cond b (Some x) None) (at-eqb q k)
+lookup-inserted (p ∷ rest) k q x =
+    let whole : Ordering → Option _ = λ o. lookup (is_at (nat_cmp q)) (match_ordering o ((k, x) ∷ p ∷ rest) ((p.0, x) ∷ rest) (p ∷ insert_entry nat_cmp rest k x)) in
+    ⊎_elim
+    (λ (same : k ≡ p.0). ap whole (cmp-equal k p.0 same) ∙ ap (λ b. cond b (Some x) (lookup (is_at (nat_cmp q)) rest)) (at-eqb q p.0 ∙ ap (λ j. eqb j q) (sym same)) ∙ instead same (eqb k q) refl)
+    (λ order. ⊎_elim
+    (λ (low : k < p.0). ap whole (cmp-less k p.0 low) ∙ ap (λ b. cond b (Some x) (lookup (is_at (nat_cmp q)) (p ∷ rest))) (at-eqb q k))
+    (λ (high : p.0 < k). ap whole (cmp-greater k p.0 high) ∙ ap (λ o. cond (is_at (nat_cmp q) p.0) (Some p.1) o) (lookup-inserted rest k q x) ∙ behind high (eqb k q) refl)
+    order)
+    (cases_order k p.0)
+  where
+    instead : k ≡ p.0 → (t : Bool) → eqb k q ≡ t → cond (eqb k q) (Some x) (lookup (is_at (nat_cmp q)) rest) ≡ cond (eqb k q) (Some x) (cond (is_at (nat_cmp q) p.0) (Some p.1) (lookup (is_at (nat_cmp q)) rest))
+    instead same true e =
+        ap (λ b. cond b (Some x) (lookup (is_at (nat_cmp q)) rest)) e ∙ ap (λ b. cond b (Some x) (cond (is_at (nat_cmp q) p.0) (Some p.1) (lookup (is_at (nat_cmp q)) rest))) (sym e)
+    instead same false e =
+        ap (λ o. cond (eqb k q) (Some x) o) (sym (ap (λ b. cond b (Some p.1) (lookup (is_at (nat_cmp q)) rest)) (at-eqb q p.0 ∙ ap (λ j. eqb j q) (sym same) ∙ e)))
+
+    behind : p.0 < k → (t : Bool) → eqb k q ≡ t
+        → cond (is_at (nat_cmp q) p.0) (Some p.1) (cond (eqb k q) (Some x) (lookup (is_at (nat_cmp q)) rest)) ≡ cond (eqb k q) (Some x) (cond (is_at (nat_cmp q) p.0) (Some p.1) (lookup (is_at (nat_cmp q)) rest))
+    behind high true e =
+        let same : k ≡ q = eqb-true k q e in
+        let other : is_at (nat_cmp q) p.0 ≡ false = at-eqb q p.0 ∙ ne_eqb p.0 q (λ one. omega arith) in
+        ap (λ b. cond b (Some p.1) (cond (eqb k q) (Some x) (lookup (is_at (nat_cmp q)) rest))) other
+        ∙ ap (λ b. cond b (Some x) (lookup (is_at (nat_cmp q)) rest)) e
+        ∙ ap (λ b. cond b (Some x) (cond (is_at (nat_cmp q) p.0) (Some p.1) (lookup (is_at (nat_cmp q)) rest))) (sym e)
+    behind high false e =
+        ap (λ b. cond (is_at (nat_cmp q) p.0) (Some p.1) (cond b (Some x) (lookup (is_at (nat_cmp q)) rest))) e
+        ∙ ap (λ b. cond b (Some x) (cond (is_at (nat_cmp q) p.0) (Some p.1) (lookup (is_at (nat_cmp q)) rest))) (sym e)
 
 -- the fill is the entry of what is kept of an object, but for its number
 module _ {X : Type 0} (fill : X → Entry) where
@@ -70,6 +102,61 @@ module _ {X : Type 0} (fill : X → Entry) where
           ap (λ b. pair_entries (cond b rest (p ∷ remove_entry (is_at (nat_cmp k)) rest))) (at-eqb k p.0 ∙ e)
           ∙ ap (λ es. pair_entry p ∷ es) more
           ∙ ap (λ b. cond (not b) (pair_entry p ∷ without_entry k (pair_entries rest)) (without_entry k (pair_entries rest))) (sym e)
+
+  -- ---- what is looked up
+  pub lookup-removed : (pairs : List (ℕ × X)) (k q : ℕ) → Apart (pair_entries pairs) → lookup (is_at (nat_cmp q)) (remove_entry (is_at (nat_cmp k)) pairs) ≡ cond (eqb k q) None (lookup (is_at (nat_cmp q)) pairs)
+  lookup-removed [] k q apart = at (eqb k q)
+    where
+      nothing : Option X
+      nothing = None
+
+      at : (t : Bool) → nothing ≡ cond t None nothing
+      at true = refl
+      at false = refl
+  lookup-removed (p ∷ rest) k q apart = at (eqb p.0 k) (eqb k q) refl refl (lookup-removed rest k q apart.1)
+    where
+      at : (t u : Bool) → eqb p.0 k ≡ t → eqb k q ≡ u → lookup (is_at (nat_cmp q)) (remove_entry (is_at (nat_cmp k)) rest) ≡ cond (eqb k q) None (lookup (is_at (nat_cmp q)) rest)
+          → lookup (is_at (nat_cmp q)) (cond (is_at (nat_cmp k) p.0) rest (p ∷ remove_entry (is_at (nat_cmp k)) rest)) ≡ cond (eqb k q) None (cond (is_at (nat_cmp q) p.0) (Some p.1) (lookup (is_at (nat_cmp q)) rest))
+      at true true e f more =
+          let object : p.0 ≡ q = eqb-true p.0 k e ∙ eqb-true k q f in
+          let none : has_entry (pair_entries rest) q ≡ false = ap (has_entry (pair_entries rest)) (sym object) ∙ apart.0 in
+          ap (λ b. lookup (is_at (nat_cmp q)) (cond b rest (p ∷ remove_entry (is_at (nat_cmp k)) rest))) (at-eqb k p.0 ∙ e)
+          ∙ none_found (lookup (is_at (nat_cmp q)) rest) (sym (has_entry-lookup rest q) ∙ none)
+          ∙ ap (λ b. cond b None (cond (is_at (nat_cmp q) p.0) (Some p.1) (lookup (is_at (nat_cmp q)) rest))) (sym f)
+        where
+          none_found : (o : Option X) → is_some o ≡ false → o ≡ None
+          none_found None e = refl
+          none_found (Some x) e = cc
+      at true false e f more =
+          let other : eqb p.0 q ≡ false = ap (λ j. eqb j q) (eqb-true p.0 k e) ∙ f in
+          ap (λ b. lookup (is_at (nat_cmp q)) (cond b rest (p ∷ remove_entry (is_at (nat_cmp k)) rest))) (at-eqb k p.0 ∙ e)
+          ∙ ap (λ b. cond b (Some p.1) (lookup (is_at (nat_cmp q)) rest)) (sym (at-eqb q p.0 ∙ other))
+          ∙ ap (λ b. cond b None (cond (is_at (nat_cmp q) p.0) (Some p.1) (lookup (is_at (nat_cmp q)) rest))) (sym f)
+      at false true e f more =
+          let other : eqb p.0 q ≡ false = ap (eqb p.0) (sym (eqb-true k q f)) ∙ e in
+          ap (λ b. lookup (is_at (nat_cmp q)) (cond b rest (p ∷ remove_entry (is_at (nat_cmp k)) rest))) (at-eqb k p.0 ∙ e)
+          ∙ ap (λ b. cond b (Some p.1) (lookup (is_at (nat_cmp q)) (remove_entry (is_at (nat_cmp k)) rest))) (at-eqb q p.0 ∙ other)
+          ∙ more
+          ∙ ap (λ b. cond b None (lookup (is_at (nat_cmp q)) rest)) f
+          ∙ ap (λ b. cond b None (cond (is_at (nat_cmp q) p.0) (Some p.1) (lookup (is_at (nat_cmp q)) rest))) (sym f)
+      at false false e f more =
+          ap (λ b. lookup (is_at (nat_cmp q)) (cond b rest (p ∷ remove_entry (is_at (nat_cmp k)) rest))) (at-eqb k p.0 ∙ e)
+          ∙ ap (λ o. cond (is_at (nat_cmp q) p.0) (Some p.1) o) (more ∙ ap (λ b. cond b None (lookup (is_at (nat_cmp q)) rest)) f)
+          ∙ ap (λ b. cond b None (cond (is_at (nat_cmp q) p.0) (Some p.1) (lookup (is_at (nat_cmp q)) rest))) (sym f)
+
+  -- each pair is found by its number
+  pub lookups-own : (pairs : List (ℕ × X)) → Apart (pair_entries pairs) → AllByRecursion (λ p. lookup (is_at (nat_cmp p.0)) pairs ≡ Some p.1) pairs
+  lookups-own [] apart = tt
+  lookups-own (p ∷ rest) apart = (
+    ap (λ b. cond b (Some p.1) (lookup (is_at (nat_cmp p.0)) rest)) (at-eqb p.0 p.0 ∙ eq-eqb p.0 p.0 refl),
+    behind rest apart.0 (lookups-own rest apart.1),
+  )
+    where
+      behind : (ps : List (ℕ × X)) → has_entry (pair_entries ps) p.0 ≡ false → AllByRecursion (λ q. lookup (is_at (nat_cmp q.0)) rest ≡ Some q.1) ps → AllByRecursion (λ q. lookup (is_at (nat_cmp q.0)) (p ∷ rest) ≡ Some q.1) ps
+      behind [] none own = tt
+      behind (q ∷ ps) none own =
+          let parts : (eqb q.0 p.0 ≡ false) × (has_entry (pair_entries ps) p.0 ≡ false) = or_parts _ _ none in
+          (ap (λ b. cond b (Some p.1) (lookup (is_at (nat_cmp q.0)) rest)) (at-eqb q.0 p.0 ∙ (eqb-sym p.0 q.0 ∙ parts.0)) ∙ own.0, behind ps parts.1 own.1)
 
   -- ---- a pair that is put in
   pub entries-put : (pairs : List (ℕ × X)) (k : ℕ) (x : X) → has_entry (pair_entries pairs) k ≡ false → pair_entries (insert_entry nat_cmp pairs k x) ≡ put_in (pair_entry (k, x)) (pair_entries pairs)

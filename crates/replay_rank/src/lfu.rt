@@ -1,7 +1,9 @@
 //! The rule that gives up the object with the fewest hits since it entered, and of those the one used longest ago.
-ghost use Rattle.std.specs.Prelude.{◌≡◌, ◌≤◌, ◌<◌, ◌^◌, ◌+◌, ℕ, All, length, false, Some, None, IsOk, IfOk, OnOk, OnErr, refl};
+ghost use Rattle.std.specs.Prelude.{◌≡◌, ◌≤◌, ◌<◌, ◌^◌, ◌+◌, ◌∷◌, ℕ, All, length, false, Some, None, IsOk, IfOk, OnOk, OnErr, IsPermutation, refl};
 ghost use Rattle.std.specs.declared.option.Option.{Option};
+ghost use Rattle.std.specs.declared.cmp.Reverse.{Reverse};
 ghost use Rattle.std.specs.BTreeMap.{is_at};
+ghost use Rattle.std.specs.BinaryHeap.{heap_items, heap_len, heap_capacity, KeepsHeap};
 ghost use Rattle.std.specs.Map.{lookup};
 ghost use Rattle.std.specs.Ordering.{nat_cmp};
 ghost use Rattle.policy_model.specs.declared.names.PolicyName.TheVariants.{Lfu as ByCount};
@@ -9,37 +11,41 @@ ghost use Rattle.policy_model.specs.States.{used, has_entry};
 ghost use Rattle.policy_model.specs.Steps.{make_room, remove_foremost, is_less_used, touch, put_in};
 ghost use Rattle.replay_core.specs.Keeping.{Answers, GivesUp, nothing_kept, state_of, contents_of};
 ghost use Rattle.replay_core.specs.Laws.{IsSound};
-ghost use Rattle.replay_rank.specs.LfuEntries.{entry_of, entries_of, same_rank, AreOrdered};
+ghost use Rattle.replay_rank.specs.LfuEntries.{entry_of, entries_of, same_rank, at_most, item_cmp, AreOrdered};
 
+use crate::holdings::{Held, Holdings};
 use bound_base::NoMemory;
 use replay_core::{Outcome, Policy};
 use std::alloc::Global;
-use std::collections::{BTreeMap, BTreeSet};
+use std::cmp::Reverse;
+use std::collections::BinaryHeap;
 use std::marker::Model;
 
-/// What is kept of an object: its size in bytes, its hits since it entered, and the number of requests before its last.
+/// The hits of an object since it entered, and the number of requests before its last.
 #[derive(Clone, Copy, Debug, PartialEq, Eq)]
-struct Counted {
-    size: u64,
+struct Uses {
     count: u64,
     last: u64,
 }
 
 /// The object with the fewest hits since it entered is given up first, and of those the one that was used longest ago.
 ///
-/// A request takes time logarithmic in the number of entries, for itself and for each entry that is given up. It takes
-/// memory for each entry.
+/// A hit changes what is held and leaves the heap as it is, whose items stand for no more uses than there were. An item
+/// that comes out of it with fewer goes back with all of them. So a request takes time logarithmic in the number of
+/// entries, for itself and for each entry that is given up. It takes memory for each object with the first entry, and for
+/// each entry.
 #[derive(Drop)]
 pub struct Lfu {
     capacity: u64,
     objects: u32,
     requests: u64,
     used: u64,
-    entries: BTreeMap<u32, Counted>,
-    order: BTreeSet<((u64, u64), u32)>,
+    holdings: Holdings<Uses>,
+    order: BinaryHeap<Reverse<((u64, u64), u32)>>,
 }
 
 impl Model for Lfu {
+    ghost use Rattle.std.specs.BinaryHeap.{heap_items};
     ghost use Rattle.replay_core.specs.Keeping.{Kept};
 
     ghost Value = { Kept };
@@ -47,9 +53,9 @@ impl Model for Lfu {
     ghost use Rattle.policy_model.specs.States.{nothing_beside};
     ghost use Rattle.replay_rank.specs.LfuEntries.{entries_of, IsLfu};
 
-    ghost view = { λ p. record { objects = p.objects; capacity = p.capacity; now = p.requests; entries = entries_of p.entries.entries; beside = nothing_beside } };
+    ghost view = { λ p. record { objects = p.objects; capacity = p.capacity; now = p.requests; entries = entries_of p.holdings; beside = nothing_beside } };
 
-    ghost invariant = { λ p. IsLfu p.capacity p.used p.entries.entries p.order };
+    ghost invariant = { λ p. IsLfu p.capacity p.used p.holdings (heap_items p.order) };
 }
 
 // Whether two ranks are one.
@@ -59,91 +65,119 @@ fn is_same(former: (u64, u64), now: (u64, u64)) -> bool
     former.0 == now.0 && former.1 == now.1
 }
 
+// Whether a rank goes no later than another.
+fn is_at_most(former: (u64, u64), now: (u64, u64)) -> bool
+    ensures { result ≡ at_most former now }
+{
+    former.0 < now.0 || (former.0 == now.0 && former.1 <= now.1)
+}
+
 // Counts a hit of an object that is held.
 fn count_hit(
-    entries: &mut BTreeMap<u32, Counted>,
-    order: &mut BTreeSet<((u64, u64), u32)>,
+    holdings: &mut Holdings<Uses>,
+    order: &mut BinaryHeap<Reverse<((u64, u64), u32)>>,
     object: u32,
-    counted: Counted,
+    held: Held<Uses>,
     now: u64,
 ) -> Result<(), NoMemory>
-    requires counted { lookup (is_at (nat_cmp object)) entries.old.entries ≡ Some counted }
-    requires ordered { AreOrdered entries.old.entries order.old }
-    ensures entries { OnOk result (entries_of entries.new.entries ≡ touch ByCount now None object (entries_of entries.old.entries)) }
-    ensures ordered { AreOrdered entries.new.entries order.new }
-    ensures err { OnErr result (entries_of entries.new.entries ≡ entries_of entries.old.entries) }
+    requires held { lookup (is_at (nat_cmp object)) holdings.old ≡ Some held }
+    requires size { 1 ≤ held.size }
+    requires ordered { AreOrdered holdings.old (heap_items order.old) }
+    ensures entries { OnOk result (entries_of holdings.new ≡ touch ByCount now None object (entries_of holdings.old)) }
+    ensures ordered { AreOrdered holdings.new (heap_items order.new) }
+    ensures err { OnErr result (entries_of holdings.new ≡ entries_of holdings.old) }
 {
-    let count = counted.count.saturating_add(1);
-    let former = (counted.count, counted.last);
-    if is_same((count, now), former) {
-        return Ok(());
+    let count = held.kept.count.saturating_add(1);
+    if !is_at_most((held.kept.count, held.kept.last), (count, now)) {
+        order.push(Reverse(((count, now), object)))?;
     }
-    order.insert(((count, now), object))?;
-    let key = (former, object);
-    order.remove(&key);
-    let size = counted.size;
-    entries.insert(
+    let kept = Uses { count, last: now };
+    holdings.renew(
         object,
-        Counted {
-            size,
-            count,
-            last: now,
+        Held {
+            size: held.size,
+            kept,
         },
-    )?;
+    );
     Ok(())
 }
 
 // Puts in an object that is not held.
 fn put(
-    entries: &mut BTreeMap<u32, Counted>,
-    order: &mut BTreeSet<((u64, u64), u32)>,
+    holdings: &mut Holdings<Uses>,
+    order: &mut BinaryHeap<Reverse<((u64, u64), u32)>>,
+    objects: u32,
     object: u32,
-    counted: Counted,
+    held: Held<Uses>,
 ) -> Result<(), NoMemory>
-    requires absent { has_entry (entries_of entries.old.entries) object ≡ false }
-    requires ordered { AreOrdered entries.old.entries order.old }
-    ensures entries { OnOk result (entries_of entries.new.entries ≡ put_in (entry_of (object, counted)) (entries_of entries.old.entries)) }
-    ensures ordered { AreOrdered entries.new.entries order.new }
-    ensures err { OnErr result (entries_of entries.new.entries ≡ entries_of entries.old.entries) }
+    requires known { object < objects }
+    requires absent { has_entry (entries_of holdings.old) object ≡ false }
+    requires size { 1 ≤ held.size }
+    requires ordered { AreOrdered holdings.old (heap_items order.old) }
+    ensures entries { OnOk result (entries_of holdings.new ≡ put_in (entry_of (object, held)) (entries_of holdings.old)) }
+    ensures ordered { AreOrdered holdings.new (heap_items order.new) }
+    ensures err { OnErr result (entries_of holdings.new ≡ entries_of holdings.old) }
 {
-    let key = ((counted.count, counted.last), object);
-    order.insert(key)?;
-    match entries.insert(object, counted) {
-        Ok(_) => Ok(()),
-        Err(_) => {
-            order.remove(&key);
-            Err(NoMemory)
+    order.push(Reverse(((held.kept.count, held.kept.last), object)))?;
+    holdings.put(objects, object, held)?;
+    Ok(())
+}
+
+// Puts an item into the room of one that came out.
+fn put_back(order: &mut BinaryHeap<Reverse<((u64, u64), u32)>>, item: Reverse<((u64, u64), u32)>)
+    requires room { heap_len order.old < heap_capacity order.old }
+    ensures items { IsPermutation (item ∷ heap_items order.old) (heap_items order.new) }
+    ensures heap { KeepsHeap item_cmp (heap_items order.old) (heap_items order.new) }
+{
+    let _ = order.push(item);
+}
+
+// Gives up the least used entry, and says its size in bytes.
+fn give_up_least(
+    holdings: &mut Holdings<Uses>,
+    order: &mut BinaryHeap<Reverse<((u64, u64), u32)>>,
+) -> u64
+    requires some { 0 < used (entries_of holdings.old) }
+    requires ordered { AreOrdered holdings.old (heap_items order.old) }
+    ensures entries { entries_of holdings.new ≡ remove_foremost is_less_used (entries_of holdings.old) }
+    ensures fewer { length holdings.new + 1 ≡ length holdings.old }
+    ensures size { used (entries_of holdings.new) + result ≡ used (entries_of holdings.old) }
+    ensures ordered { AreOrdered holdings.new (heap_items order.new) }
+{
+    while let Some(Reverse((rank, object))) = order.pop() {
+        if let Some(held) = holdings.get(object) {
+            let now = (held.kept.count, held.kept.last);
+            if is_same(rank, now) {
+                holdings.remove(object);
+                return held.size;
+            }
+            put_back(order, Reverse((now, object)));
         }
     }
+    0
 }
 
 // Gives up the least used entries until this many bytes fit, and says how many bytes are still used.
 fn free_least_used(
-    entries: &mut BTreeMap<u32, Counted>,
-    order: &mut BTreeSet<((u64, u64), u32)>,
+    holdings: &mut Holdings<Uses>,
+    order: &mut BinaryHeap<Reverse<((u64, u64), u32)>>,
     in_use: u64,
     capacity: u64,
     size: u64,
 ) -> u64
-    requires in_use { in_use ≡ used (entries_of entries.old.entries) }
+    requires in_use { in_use ≡ used (entries_of holdings.old) }
     requires within { in_use ≤ capacity }
     requires small { size ≤ capacity }
     requires range { capacity ≤ 2 ^ 56 }
-    requires ordered { AreOrdered entries.old.entries order.old }
-    ensures entries { entries_of entries.new.entries ≡ make_room (length entries.old.entries) (remove_foremost is_less_used) capacity size (entries_of entries.old.entries) }
-    ensures in_use { result ≡ used (entries_of entries.new.entries) }
-    ensures ordered { AreOrdered entries.new.entries order.new }
+    requires ordered { AreOrdered holdings.old (heap_items order.old) }
+    ensures entries { entries_of holdings.new ≡ make_room (length holdings.old) (remove_foremost is_less_used) capacity size (entries_of holdings.old) }
+    ensures in_use { result ≡ used (entries_of holdings.new) }
+    ensures ordered { AreOrdered holdings.new (heap_items order.new) }
     ensures room { result + size ≤ capacity }
 {
     let mut left = in_use;
     while left + size > capacity {
-        let Some((_, object)) = order.pop_first() else {
-            return left;
-        };
-        let Some(counted) = entries.remove(&object) else {
-            return left;
-        };
-        left -= counted.size;
+        left -= give_up_least(holdings, order);
     }
     left
 }
@@ -160,25 +194,27 @@ impl Lfu {
             objects,
             requests: 0,
             used: 0,
-            entries: BTreeMap::new(alloc),
-            order: BTreeSet::new(alloc),
+            holdings: Holdings::new(alloc),
+            order: BinaryHeap::new(alloc),
         })
     }
 
     // One request, as the rule says.
     fn ask(&mut self, object: u32, size: u64) -> Result<Outcome, NoMemory>
+        requires known { object < self.old.objects }
+        requires size { 1 ≤ size }
         requires kept_size { All (λ m. m.object ≡ object → m.size ≡ size) (contents_of self.old) }
         ensures answers { IfOk result (λ outcome. (next : Option ℕ) → Answers ByCount self.old self.new object size next outcome) }
         ensures fits { OnOk result (IsSound self.new.capacity (contents_of self.new)) }
         ensures gives_up { OnErr result (GivesUp self.old self.new) }
     {
         let requests = self.requests.saturating_add(1);
-        if let Some(counted) = self.entries.get(&object).copied() {
+        if let Some(held) = self.holdings.get(object) {
             count_hit(
-                &mut self.entries,
+                &mut self.holdings,
                 &mut self.order,
                 object,
-                counted,
+                held,
                 self.requests,
             )?;
             self.requests = requests;
@@ -189,18 +225,23 @@ impl Lfu {
             return Ok(Outcome::Miss);
         }
         self.used = free_least_used(
-            &mut self.entries,
+            &mut self.holdings,
             &mut self.order,
             self.used,
             self.capacity,
             size,
         );
-        let counted = Counted {
-            size,
+        let kept = Uses {
             count: 0,
             last: self.requests,
         };
-        put(&mut self.entries, &mut self.order, object, counted)?;
+        put(
+            &mut self.holdings,
+            &mut self.order,
+            self.objects,
+            object,
+            Held { size, kept },
+        )?;
         self.used += size;
         self.requests = requests;
         Ok(Outcome::Miss)
@@ -223,7 +264,7 @@ impl Policy for Lfu {
     }
 
     fn holds(&self, object: u32) -> bool {
-        self.entries.contains_key(&object)
+        self.holdings.get(object).is_some()
     }
 
     fn request(

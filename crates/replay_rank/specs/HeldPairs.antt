@@ -1,0 +1,17 @@
+-- The objects that an array holds, with their numbers, and the items of a heap that stand for them.
+use Rattle.std.specs.Prelude.{◌≡◌, ℕ, ◌+◌, ◌==◌, ◌&&◌, nat_lt, Bool, true, if◌then◌else◌, List, [], ◌∷◌, Some}
+use Rattle.std.specs.BTreeMap.{is_at}
+use Rattle.std.specs.List.{list_any}
+use Rattle.std.specs.Map.{lookup}
+use Rattle.std.specs.Ordering.{nat_cmp}
+use Rattle.replay_rank.specs.declared.holdings.Held.{Held}
+
+-- the cells of a size above 0, each with its number, if the first has this number
+abbrev pub pairs_from : {X : Type 0} → ℕ → List (Held X) → List (ℕ × Held X)
+pairs_from object [] = []
+pairs_from object (held ∷ rest) = if nat_lt 0 held.size then (object, held) ∷ pairs_from (object + 1) rest else pairs_from (object + 1) rest
+
+-- each object that is held has an item, of a rank and its number, that goes no later than its own rank
+abbrev pub Covers : {H R I : Type 0} → (H → R) → (R → R → Bool) → (I → R × ℕ) → List (ℕ × H) → List I → Type 0
+Covers rank_of no_later key_of pairs items =
+    (object : ℕ) (held : _) → lookup (is_at (nat_cmp object)) pairs ≡ Some held → list_any (λ i. no_later (key_of i).0 (rank_of held) && ((key_of i).1 == object)) items ≡ true
