@@ -1,8 +1,8 @@
--- What GDSF and LFUDA answer, by the pairs that their map holds.
+-- What GDSF and LFUDA answer, by the pairs that they hold.
 use Rattle.std.proofs.Common.{◌≡◌, ℕ, ◌+◌, ◌-◌, ◌^◌, ◌<◌, ◌≤◌, ◌∙◌, sym, refl, ap, subst, true, false, Bool, cond, eqb, min, List, [], ◌∷◌, length, Some, None, is_some, All, Contains, Result, Ok, Err, OnErr}
 use Rattle.std.specs.declared.option.Option.{Option}
 use Rattle.std.specs.BTreeMap.{is_at}
-use Rattle.std.specs.BTreeSet.{BTreeSet}
+use Rattle.std.specs.declared.cmp.Reverse.{Reverse}
 use Rattle.std.specs.List.{AllByRecursion}
 use Rattle.std.specs.Map.{lookup}
 use Rattle.std.specs.Ordering.{nat_cmp}
@@ -26,6 +26,7 @@ use Rattle.replay_core.specs.declared.policy.Outcome.{Outcome}
 use Rattle.replay_core.specs.declared.policy.Outcome.TheVariants.{Hit, Miss}
 use Rattle.replay_core.specs.Keeping.{Kept, state_of, contents_of, Answers, GivesUp}
 use Rattle.replay_core.proofs.Kept.{answered, answers-fit, gives_up}
+use Rattle.replay_rank.specs.declared.holdings.Held.{Held}
 use Rattle.replay_rank.specs.declared.aging.Ranked.{Ranked}
 use Rattle.replay_rank.specs.LfuEntries.{Key}
 use Rattle.replay_rank.specs.AgingEntries.{entry_of, entries_of, name_of, AreOrdered, IsAging}
@@ -35,7 +36,7 @@ use Rattle.replay_rank.proofs.AgingOrdered.{by_rank}
 abbrev pub keeping : ℕ → ℕ → ℕ → ℕ → List Entry → Kept
 keeping objects capacity requests floor entries = record { objects = objects; capacity = capacity; now = requests; entries = entries; beside = floored floor }
 
-pub holds-member : (pairs : List (ℕ × Ranked)) (k : ℕ) → is_some (lookup (is_at (nat_cmp k)) pairs) ≡ has_member (members_of (entries_of pairs)) k
+pub holds-member : (pairs : List (ℕ × Held Ranked)) (k : ℕ) → is_some (lookup (is_at (nat_cmp k)) pairs) ≡ has_member (members_of (entries_of pairs)) k
 holds-member pairs k = sym (has_entry-lookup by_rank.fill pairs k) ∙ has_entry-members (entries_of pairs) k
 
 -- what is held after a request that failed was held before
@@ -48,7 +49,7 @@ stock-is : (by : Objective) (s : State) (object size : ℕ) (next : Option ℕ) 
 stock-is Hits s object size next = refl
 stock-is Bytes s object size next = refl
 
-module _ (by : Objective) (objects capacity requests floor in_use : ℕ) (pairs : List (ℕ × Ranked)) (order : BTreeSet Key) (b : IsAging capacity in_use pairs order) (k size : ℕ)
+module _ (by : Objective) (objects capacity requests floor in_use : ℕ) (pairs : List (ℕ × Held Ranked)) (items : List (Reverse Key)) (b : IsAging capacity in_use pairs items) (k size : ℕ)
     (sizes : All (λ m. m.object ≡ k → m.size ≡ size) (members_of (entries_of pairs))) where
   abbrev before : Kept
   before = keeping objects capacity requests floor (entries_of pairs)
@@ -69,10 +70,10 @@ module _ (by : Objective) (objects capacity requests floor in_use : ℕ) (pairs 
   any_entry = ranked_entry (name_of by) floor requests k size
 
   -- the size of what is held is that of the request
-  pub held-size : (held : Ranked) → lookup (is_at (nat_cmp k)) pairs ≡ Some held → held.size ≡ size
+  pub held-size : (held : Held Ranked) → lookup (is_at (nat_cmp k)) pairs ≡ Some held → held.size ≡ size
   held-size held is = at pairs (sizes-entries k size (entries_of pairs) sizes) is
     where
-      at : (ps : List (ℕ × Ranked)) → AllByRecursion (λ e. e.object ≡ k → e.size ≡ size) (entries_of ps) → lookup (is_at (nat_cmp k)) ps ≡ Some held → held.size ≡ size
+      at : (ps : List (ℕ × Held Ranked)) → AllByRecursion (λ e. e.object ≡ k → e.size ≡ size) (entries_of ps) → lookup (is_at (nat_cmp k)) ps ≡ Some held → held.size ≡ size
       at [] each is = cc
       at (p ∷ ps) each is = split (eqb p.0 k) refl (at ps each.1)
         where
@@ -80,17 +81,17 @@ module _ (by : Objective) (objects capacity requests floor in_use : ℕ) (pairs 
           split true e more =
               let first : Some p.1 ≡ Some held = sym (ap (λ b. cond b (Some p.1) (lookup (is_at (nat_cmp k)) ps)) (at-eqb k p.0 ∙ e)) ∙ is in
               let same : held ≡ p.1 = cc in
-              ap (λ (h : Ranked). h.size) same ∙ each.0 (eqb-true p.0 k e)
+              ap (λ (h : Held Ranked). h.size) same ∙ each.0 (eqb-true p.0 k e)
           split false e more = more (sym (ap (λ b. cond b (Some p.1) (lookup (is_at (nat_cmp k)) ps)) (at-eqb k p.0 ∙ e)) ∙ is)
 
   -- what is held is renewed by the rule, if it is raised by what a request of this size is worth
-  pub renewed-by : (held : Ranked) → lookup (is_at (nat_cmp k)) pairs ≡ Some held → (now : Ranked) (worth : ℕ) → worth ≡ worth_of (name_of by) size
+  pub renewed-by : (held : Held Ranked) → lookup (is_at (nat_cmp k)) pairs ≡ Some held → (now : Held Ranked) (worth : ℕ) → worth ≡ worth_of (name_of by) size
       → ((aim : Objective) (object : ℕ) → worth ≡ worth_of (name_of aim) held.size → entry_of (object, now) ≡ raised (name_of aim) floor requests (entry_of (object, held)))
-      → (left : List (ℕ × Ranked)) → ((f : Entry → Entry) → f (entry_of (k, held)) ≡ entry_of (k, now) → entries_of left ≡ change f k (entries_of pairs))
+      → (left : List (ℕ × Held Ranked)) → ((f : Entry → Entry) → f (entry_of (k, held)) ≡ entry_of (k, now) → entries_of left ≡ change f k (entries_of pairs))
       → entries_of left ≡ change (raised (name_of by) floor requests) k (entries_of pairs)
   renewed-by held is now worth is_worth made left whole = whole (raised (name_of by) floor requests) (sym (made by k (is_worth ∙ ap (worth_of (name_of by)) (sym (held-size held is)))))
 
-  module _ (held : Ranked) (is : lookup (is_at (nat_cmp k)) pairs ≡ Some held) (left : List (ℕ × Ranked)) (renewed : entries_of left ≡ change (raised (name_of by) floor requests) k (entries_of pairs)) where
+  module _ (held : Held Ranked) (is : lookup (is_at (nat_cmp k)) pairs ≡ Some held) (left : List (ℕ × Held Ranked)) (renewed : entries_of left ≡ change (raised (name_of by) floor requests) k (entries_of pairs)) where
     there : has_entry (entries_of pairs) k ≡ true
     there = has_entry-lookup by_rank.fill pairs k ∙ ap is_some is
 
@@ -105,7 +106,7 @@ module _ (by : Objective) (objects capacity requests floor in_use : ℕ) (pairs 
     pub hit-fit : IsFit capacity (entries_of left)
     hit-fit = answers-fit (name_of by) before (keeping objects capacity (min (requests + 1) (2 ^ 64 - 1)) floor (entries_of left)) k size None Hit (hit-answers None) sizes b.fits
 
-    pub hit-aging : (after : BTreeSet Key) → AreOrdered left after → IsAging capacity in_use left after
+    pub hit-aging : (after : List (Reverse Key)) → AreOrdered left after → IsAging capacity in_use left after
     hit-aging after ordered = record {
       range = b.range;
       in_use_is = b.in_use_is ∙ sym (ap used renewed ∙ weight-change (raised (name_of by) floor requests) (raised-object (name_of by) floor requests) (raised-size (name_of by) floor requests) k (λ o n. n) (entries_of pairs));
@@ -125,7 +126,7 @@ module _ (by : Objective) (objects capacity requests floor in_use : ℕ) (pairs 
         answered (name_of by) before (keeping objects capacity (min (requests + 1) (2 ^ 64 - 1)) floor (entries_of pairs)) k size next Miss (sym absent) refl refl refl
         (sym (ap (λ (x : Stock). x.entries) (large-stock next large))) (sym (ap (λ (x : Stock). x.beside) (large-stock next large)))
 
-    module _ (left : List (ℕ × Ranked)) (level : ℕ) (freed : over_floor level (entries_of left) ≡ until_fits age stock_used capacity size (length pairs) (over_floor floor (entries_of pairs))) where
+    module _ (left : List (ℕ × Held Ranked)) (level : ℕ) (freed : over_floor level (entries_of left) ≡ until_fits age stock_used capacity size (length pairs) (over_floor floor (entries_of pairs))) where
       turned : over_floor level (entries_of left) ≡ reached
       turned = freed ∙ ap (λ n. until_fits age stock_used capacity size n (over_floor floor (entries_of pairs))) (sym (length-map pairs entry_of))
 
@@ -140,7 +141,7 @@ module _ (by : Objective) (objects capacity requests floor in_use : ℕ) (pairs 
           gives_up before (keeping objects capacity requests level entries) fit
           (λ m c. part-members (entries_of left) (entries_of pairs) freed-part m (subst (λ es. Contains (members_of es) m) same c)) refl refl
 
-      module _ (small : size ≤ capacity) (after : List (ℕ × Ranked)) (put : entries_of after ≡ put_in (ranked_entry (name_of by) level requests k size) (entries_of left)) where
+      module _ (small : size ≤ capacity) (after : List (ℕ × Held Ranked)) (put : entries_of after ≡ put_in (ranked_entry (name_of by) level requests k size) (entries_of left)) where
         missed : (next : Option ℕ) → stock_after (name_of by) state k size next ≡ over_floor level (entries_of after)
         missed next =
             stock-is by state k size next ∙ served-small state k size on_hit on_miss any_entry absent small

@@ -2,21 +2,21 @@
 use Rattle.std.proofs.Common.{◌≡◌, ℕ, ◌+◌, ◌<◌, inl, inr, ◌∙◌, sym, refl, ap, subst, Bool, true, false, ◌||◌, ◌&&◌, cond, eqb, List, [], ◌∷◌, length, arith, Some, None, Option, is_some, is_lt}
 use Rattle.std.specs.declared.cmp.Ordering.{Ordering}
 use Rattle.std.specs.BTreeMap.{is_at, insert_entry}
-use Rattle.std.specs.BinaryHeap.{IsUpperBound}
+use Rattle.std.specs.BinaryHeap.{IsHeap, IsUpperBound}
 use Rattle.std.specs.List.{AllByRecursion, list_any, sum_by}
 use Rattle.std.specs.List.Sorted.{IsPermutation}
 use Rattle.std.specs.Map.{lookup, remove_entry}
 use Rattle.std.specs.Ordering.{nat_cmp}
 use Rattle.std.proofs.lemmas.Bool.{eqb-true, eq-eqb, or_left, or_right, and_parts, and_right, and_from}
 use Rattle.std.proofs.lemmas.List.{length-map}
-use Rattle.std.proofs.lemmas.List.Sorted.{list_any-IsPermutation, length_permutation, sum_by_pushed, sum_by_popped}
+use Rattle.std.proofs.lemmas.List.Sorted.{IsPermutation-refl, list_any-IsPermutation, length_permutation, sum_by_pushed, sum_by_popped}
 use Rattle.policy_model.specs.States.{Entry, used, has_entry}
 use Rattle.policy_model.specs.Steps.{without_entry, remove_foremost}
 use Rattle.policy_model.proofs.Comparisons.{at-eqb}
-use Rattle.policy_model.proofs.Entries.{Apart, length-without}
+use Rattle.policy_model.proofs.Entries.{Apart, Apart-put_in, Apart-without, length-without}
 use Rattle.policy_model.proofs.Sound.{sum-without}
-use Rattle.replay_rank.specs.HeldPairs.{Covers}
-use Rattle.replay_rank.proofs.Pairs.{pair_entry, pair_entries, has_entry-lookup, sizes-found, entries-removed, lookup-inserted, lookup-removed, lookups-own}
+use Rattle.replay_rank.specs.HeldPairs.{Covers, StandFor}
+use Rattle.replay_rank.proofs.Pairs.{pair_entry, pair_entries, has_entry-lookup, sizes-found, entries-put, entries-removed, lookup-inserted, lookup-removed, lookups-own}
 use Rattle.replay_rank.proofs.Foremost.{IsBeaten, Among, foremost-beats}
 
 -- what is held of an object, as an entry but for its number, its rank, and the items of a heap that stand for it
@@ -57,7 +57,7 @@ module _ {H R I : Type 0} (by : Ranks H R I) where
   moved items after moves k h e = sym (list_any-IsPermutation (stands k h) items after moves) ∙ e
 
   -- ---- a pair is put in or renewed
-  pub covered_put : (pairs : List (ℕ × H)) (items after : List I) (k : ℕ) (h : H) → Covered pairs items → IsPermutation items after → list_any (stands k h) items ≡ true → Covered (insert_entry nat_cmp pairs k h) after
+  covered_put : (pairs : List (ℕ × H)) (items after : List I) (k : ℕ) (h : H) → Covered pairs items → IsPermutation items after → list_any (stands k h) items ≡ true → Covered (insert_entry nat_cmp pairs k h) after
   covered_put pairs items after k h covered moves here = λ j g e. at j g (eqb k j) refl (sym (lookup-inserted pairs k j h) ∙ e)
     where
       at : (j : ℕ) (g : H) (t : Bool) → eqb k j ≡ t → cond (eqb k j) (Some h) (lookup (is_at (nat_cmp j)) pairs) ≡ Some g → list_any (stands j g) after ≡ true
@@ -70,16 +70,16 @@ module _ {H R I : Type 0} (by : Ranks H R I) where
           moved items after moves j g (covered j g (sym (ap (λ b. cond b (Some h) (lookup (is_at (nat_cmp j)) pairs)) other) ∙ e))
 
   -- with an item of its own
-  pub covered_pushed : (pairs : List (ℕ × H)) (items after : List I) (k : ℕ) (h : H) (i : I) → Covered pairs items → IsPermutation (i ∷ items) after → by.key_of i ≡ (by.rank_of h, k) → Covered (insert_entry nat_cmp pairs k h) after
+  covered_pushed : (pairs : List (ℕ × H)) (items after : List I) (k : ℕ) (h : H) (i : I) → Covered pairs items → IsPermutation (i ∷ items) after → by.key_of i ≡ (by.rank_of h, k) → Covered (insert_entry nat_cmp pairs k h) after
   covered_pushed pairs items after k h i covered moves own =
       covered_put pairs (i ∷ items) after k h (λ j g e. or_right (stands j g i) (list_any (stands j g) items) (covered j g e)) moves (or_left (stands k h i) (list_any (stands k h) items) (own_stands k h i own))
 
   -- an item more
-  pub covered_more : (pairs : List (ℕ × H)) (items after : List I) (i : I) → Covered pairs items → IsPermutation (i ∷ items) after → Covered pairs after
+  covered_more : (pairs : List (ℕ × H)) (items after : List I) (i : I) → Covered pairs items → IsPermutation (i ∷ items) after → Covered pairs after
   covered_more pairs items after i covered moves = λ j g e. moved (i ∷ items) after moves j g (or_right (stands j g i) (list_any (stands j g) items) (covered j g e))
 
   -- where the rank went no earlier
-  pub covered_later : (pairs : List (ℕ × H)) (items : List I) (k : ℕ) (former h : H) → Covered pairs items → lookup (is_at (nat_cmp k)) pairs ≡ Some former
+  covered_later : (pairs : List (ℕ × H)) (items : List I) (k : ℕ) (former h : H) → Covered pairs items → lookup (is_at (nat_cmp k)) pairs ≡ Some former
       → ((r : R) → by.no_later r (by.rank_of former) ≡ true → by.no_later r (by.rank_of h) ≡ true) → list_any (stands k h) items ≡ true
   covered_later pairs items k former h covered is later = some items (covered k former is)
     where
@@ -100,7 +100,7 @@ module _ {H R I : Type 0} (by : Ranks H R I) where
         sym (ap (λ b. b || list_any (stands j g) rest) (and_right (by.no_later (by.key_of q).0 (by.rank_of g)) (eqb (by.key_of q).1 j) other)) ∙ moved items (q ∷ rest) moves j g (covered j g e)
 
     -- of an object that is not held
-    pub covered_gone : lookup (is_at (nat_cmp (by.key_of q).1)) pairs ≡ None → Covered pairs rest
+    covered_gone : lookup (is_at (nat_cmp (by.key_of q).1)) pairs ≡ None → Covered pairs rest
     covered_gone none = λ j g e. at j g (eqb (by.key_of q).1 j) refl e
       where
         at : (j : ℕ) (g : H) (t : Bool) → eqb (by.key_of q).1 j ≡ t → lookup (is_at (nat_cmp j)) pairs ≡ Some g → list_any (stands j g) rest ≡ true
@@ -110,7 +110,7 @@ module _ {H R I : Type 0} (by : Ranks H R I) where
         at j g false other e = others j g other e
 
     -- and its object goes
-    pub covered_left : Apart (pair_entries by.fill pairs) → Covered (remove_entry (is_at (nat_cmp (by.key_of q).1)) pairs) rest
+    covered_left : Apart (pair_entries by.fill pairs) → Covered (remove_entry (is_at (nat_cmp (by.key_of q).1)) pairs) rest
     covered_left apart = λ j g e. at j g (eqb (by.key_of q).1 j) refl (sym (lookup-removed by.fill pairs (by.key_of q).1 j apart) ∙ e)
       where
         at : (j : ℕ) (g : H) (t : Bool) → eqb (by.key_of q).1 j ≡ t → cond (eqb (by.key_of q).1 j) None (lookup (is_at (nat_cmp j)) pairs) ≡ Some g → list_any (stands j g) rest ≡ true
@@ -120,7 +120,7 @@ module _ {H R I : Type 0} (by : Ranks H R I) where
         at j g false other e = others j g other (sym (ap (λ b. cond b None (lookup (is_at (nat_cmp j)) pairs)) other) ∙ e)
 
     -- and one of its object's rank goes in
-    pub covered_again : (h : H) → lookup (is_at (nat_cmp (by.key_of q).1)) pairs ≡ Some h → (i : I) → by.key_of i ≡ (by.rank_of h, (by.key_of q).1) → (after : List I) → IsPermutation (i ∷ rest) after → Covered pairs after
+    covered_again : (h : H) → lookup (is_at (nat_cmp (by.key_of q).1)) pairs ≡ Some h → (i : I) → by.key_of i ≡ (by.rank_of h, (by.key_of q).1) → (after : List I) → IsPermutation (i ∷ rest) after → Covered pairs after
     covered_again h is i own after back = λ j g e. moved (i ∷ rest) after back j g (at j g (eqb (by.key_of q).1 j) refl e)
       where
         at : (j : ℕ) (g : H) (t : Bool) → eqb (by.key_of q).1 j ≡ t → lookup (is_at (nat_cmp j)) pairs ≡ Some g → (stands j g i || list_any (stands j g) rest) ≡ true
@@ -128,6 +128,58 @@ module _ {H R I : Type 0} (by : Ranks H R I) where
             let one : h ≡ g = one_found (lookup (is_at (nat_cmp j)) pairs) h g (subst (λ (n : ℕ). lookup (is_at (nat_cmp n)) pairs ≡ Some h) (eqb-true (by.key_of q).1 j same) is) e in
             or_left (stands j g i) (list_any (stands j g) rest) (own_stands j g i (own ∙ ap (λ (x : H). (by.rank_of x, (by.key_of q).1)) one ∙ ap (λ (n : ℕ). (by.rank_of g, n)) (eqb-true (by.key_of q).1 j same)))
         at j g false other e = or_right (stands j g i) (list_any (stands j g) rest) (others j g other e)
+
+  -- ---- a heap of items
+  abbrev pub IsOrdered : List (ℕ × H) → List I → Type 0
+  IsOrdered pairs items = StandFor (pair_entry by.fill) by.rank_of by.no_later by.key_of by.item_cmp pairs items
+
+  module _ (pairs : List (ℕ × H)) (items : List I) (ordered : IsOrdered pairs items) where
+    -- an item comes out
+    module _ (rest : List I) (q : I) (moves : IsPermutation items (q ∷ rest)) (heap : IsHeap by.item_cmp rest) where
+      -- of an object that is not held
+      pub item_gone : lookup (is_at (nat_cmp (by.key_of q).1)) pairs ≡ None → IsOrdered pairs rest
+      item_gone none = record { apart = ordered.apart; heap = heap; covered = covered_gone pairs items rest q ordered.covered moves none }
+
+      -- and one of its object's rank goes in
+      pub item_again : (held : H) → lookup (is_at (nat_cmp (by.key_of q).1)) pairs ≡ Some held → (i : I) → by.key_of i ≡ (by.rank_of held, (by.key_of q).1)
+          → (after : List I) → IsPermutation (i ∷ rest) after → IsHeap by.item_cmp after → IsOrdered pairs after
+      item_again held is i own after back heap_after = record { apart = ordered.apart; heap = heap_after; covered = covered_again pairs items rest q ordered.covered moves held is i own after back }
+
+      -- and its object goes
+      pub item_left : IsOrdered (remove_entry (is_at (nat_cmp (by.key_of q).1)) pairs) rest
+      item_left = record {
+        apart = subst Apart (sym (entries-removed by.fill pairs (by.key_of q).1 ordered.apart)) (Apart-without (by.key_of q).1 (pair_entries by.fill pairs) ordered.apart);
+        heap = heap;
+        covered = covered_left pairs items rest q ordered.covered moves ordered.apart;
+      }
+
+    -- an item goes in
+    module _ (i : I) (after : List I) (moves : IsPermutation (i ∷ items) after) (heap : IsHeap by.item_cmp after) where
+      -- and nothing else
+      pub item_more : IsOrdered pairs after
+      item_more = record { apart = ordered.apart; heap = heap; covered = covered_more pairs items after i ordered.covered moves }
+
+      module _ (k : ℕ) (held : H) (own : by.key_of i ≡ (by.rank_of held, k)) where
+        -- with its object
+        pub item_put : has_entry (pair_entries by.fill pairs) k ≡ false → IsOrdered (insert_entry nat_cmp pairs k held) after
+        item_put absent = record {
+          apart = subst Apart (sym (entries-put by.fill pairs k held absent)) (Apart-put_in (pair_entries by.fill pairs) (pair_entry by.fill (k, held)) ordered.apart absent);
+          heap = heap;
+          covered = covered_pushed pairs items after k held i ordered.covered moves own;
+        }
+
+        -- and its object is renewed
+        pub item_renewed : Apart (pair_entries by.fill (insert_entry nat_cmp pairs k held)) → IsOrdered (insert_entry nat_cmp pairs k held) after
+        item_renewed apart = record { apart = apart; heap = heap; covered = covered_pushed pairs items after k held i ordered.covered moves own }
+
+    -- an object is renewed, whose rank goes no earlier
+    pub items_stay : (k : ℕ) (former held : H) → lookup (is_at (nat_cmp k)) pairs ≡ Some former → ((r : R) → by.no_later r (by.rank_of former) ≡ true → by.no_later r (by.rank_of held) ≡ true)
+        → Apart (pair_entries by.fill (insert_entry nat_cmp pairs k held)) → IsOrdered (insert_entry nat_cmp pairs k held) items
+    items_stay k former held is later apart = record {
+      apart = apart;
+      heap = ordered.heap;
+      covered = covered_put pairs items items k held ordered.covered (IsPermutation-refl items) (covered_later pairs items k former held ordered.covered is later);
+    }
 
   -- ---- how much is left to settle: the items, and once more those that are not of their object's rank
   of_found : R → Option H → ℕ

@@ -1,38 +1,43 @@
 //! Entries whose ranks are a floor plus what their requests are worth, as GDSF has them for hits and LFUDA for bytes.
-ghost use Rattle.std.specs.Prelude.{◌≡◌, ◌≤◌, ◌<◌, ◌^◌, ◌+◌, ℕ, All, length, false, Some, None, IsOk, IfOk, OnOk, OnErr, refl};
+ghost use Rattle.std.specs.Prelude.{◌≡◌, ◌≤◌, ◌<◌, ◌^◌, ◌+◌, ◌∷◌, ℕ, All, length, false, Some, None, IsOk, IfOk, OnOk, OnErr, IsPermutation, refl};
 ghost use Rattle.std.specs.declared.option.Option.{Option};
+ghost use Rattle.std.specs.declared.cmp.Reverse.{Reverse};
 ghost use Rattle.std.specs.BTreeMap.{is_at};
+ghost use Rattle.std.specs.BinaryHeap.{heap_items, heap_len, heap_capacity, KeepsHeap};
 ghost use Rattle.std.specs.Map.{lookup};
 ghost use Rattle.std.specs.Ordering.{nat_cmp};
 ghost use Rattle.policy_model.specs.States.{used, has_entry, has_member};
 ghost use Rattle.policy_model.specs.Steps.{put_in};
-ghost use Rattle.policy_model.specs.Aging.{rank_over, worth_of};
+ghost use Rattle.policy_model.specs.Aging.{age_at, over_floor, rank_over, worth_of};
 ghost use Rattle.replay_core.specs.Keeping.{Answers, GivesUp, nothing_kept, state_of, contents_of};
 ghost use Rattle.replay_core.specs.Laws.{IsSound};
 ghost use Rattle.replay_rank.specs.AgingEntries.{entry_of, entries_of, name_of, AreOrdered, FreesLeast, IsEntered, IsRaised, Renews};
-ghost use Rattle.replay_rank.specs.LfuEntries.{same_rank};
+ghost use Rattle.replay_rank.specs.LfuEntries.{same_rank, at_most, item_cmp};
 
+use crate::holdings::{Held, Holdings};
 use bound_base::NoMemory;
 use cache_model::Objective;
 use replay_core::Outcome;
 use std::alloc::Global;
-use std::collections::{BTreeMap, BTreeSet};
+use std::cmp::Reverse;
+use std::collections::BinaryHeap;
 use std::marker::Model;
 
 // No rank is above this one.
 const MOST_RANK: u128 = 1 << 127;
 
-/// What is kept of an object: its size in bytes, its requests since it entered, the number of requests before its last,
-/// and its rank.
+/// The requests of an object since it entered, the number of requests before its last, and its rank.
 #[derive(Clone, Copy, Debug, PartialEq, Eq)]
 struct Ranked {
-    size: u64,
     count: u64,
     last: u64,
     rank: u128,
 }
 
-/// The entries by object and by rank, and the floor, which is the rank of what was given up last.
+/// What is held, by object and by rank, and the floor, which is the rank of what was given up last.
+///
+/// A hit that raises a rank leaves the heap as it is, whose items stand for no greater ranks than those of the objects. An
+/// item that comes out of it with a lesser rank goes back with that of its object.
 #[derive(Drop)]
 pub(crate) struct Aging {
     capacity: u64,
@@ -40,11 +45,12 @@ pub(crate) struct Aging {
     requests: u64,
     used: u64,
     floor: u128,
-    entries: BTreeMap<u32, Ranked>,
-    order: BTreeSet<((u128, u64), u32)>,
+    holdings: Holdings<Ranked>,
+    order: BinaryHeap<Reverse<((u128, u64), u32)>>,
 }
 
 impl Model for Aging {
+    ghost use Rattle.std.specs.BinaryHeap.{heap_items};
     ghost use Rattle.replay_core.specs.Keeping.{Kept};
 
     ghost Value = { Kept };
@@ -52,9 +58,9 @@ impl Model for Aging {
     ghost use Rattle.policy_model.specs.Aging.{floored};
     ghost use Rattle.replay_rank.specs.AgingEntries.{entries_of, IsAging};
 
-    ghost view = { λ p. record { objects = p.objects; capacity = p.capacity; now = p.requests; entries = entries_of p.entries.entries; beside = floored p.floor } };
+    ghost view = { λ p. record { objects = p.objects; capacity = p.capacity; now = p.requests; entries = entries_of p.holdings; beside = floored p.floor } };
 
-    ghost invariant = { λ p. IsAging p.capacity p.used p.entries.entries p.order };
+    ghost invariant = { λ p. IsAging p.capacity p.used p.holdings (heap_items p.order) };
 }
 
 // What one request of an object of this size is worth: by hits the more the smaller it is, by bytes one.
@@ -77,31 +83,34 @@ fn rank(floor: u128, count: u64, worth: u64) -> u128
         .min(MOST_RANK)
 }
 
-// What is kept of an object after a hit.
-fn raise(ranked: Ranked, floor: u128, worth: u64, now: u64) -> Ranked
-    ensures entry { IsRaised ranked result floor worth now }
-    ensures size { result.size ≡ ranked.size }
+// What is held of an object after a hit.
+fn raise(held: Held<Ranked>, floor: u128, worth: u64, now: u64) -> Held<Ranked>
+    ensures entry { IsRaised held result floor worth now }
+    ensures size { result.size ≡ held.size }
 {
-    let count = ranked.count.saturating_add(1);
-    Ranked {
-        size: ranked.size,
+    let count = held.kept.count.saturating_add(1);
+    let kept = Ranked {
         count,
         last: now,
         rank: rank(floor, count, worth),
+    };
+    Held {
+        size: held.size,
+        kept,
     }
 }
 
-// What is kept of an object that comes in.
-fn enter(size: u64, floor: u128, worth: u64, now: u64) -> Ranked
+// What is held of an object that comes in.
+fn enter(size: u64, floor: u128, worth: u64, now: u64) -> Held<Ranked>
     ensures entry { IsEntered size result floor worth now }
     ensures size { result.size ≡ size }
 {
-    Ranked {
-        size,
+    let kept = Ranked {
         count: 1,
         last: now,
         rank: rank(floor, 1, worth),
-    }
+    };
+    Held { size, kept }
 }
 
 // Whether two ranks with their last uses are one.
@@ -111,54 +120,90 @@ fn is_same(former: (u128, u64), now: (u128, u64)) -> bool
     former.0 == now.0 && former.1 == now.1
 }
 
-// Renews what is kept of an object that is held.
-fn renew(
-    entries: &mut BTreeMap<u32, Ranked>,
-    order: &mut BTreeSet<((u128, u64), u32)>,
-    object: u32,
-    former: Ranked,
-    now: Ranked,
-) -> Result<(), NoMemory>
-    requires held { lookup (is_at (nat_cmp object)) entries.old.entries ≡ Some former }
-    requires ordered { AreOrdered entries.old.entries order.old }
-    requires size { now.size ≡ former.size }
-    ensures entries { OnOk result (Renews entries.old.entries entries.new.entries object former now) }
-    ensures ordered { AreOrdered entries.new.entries order.new }
-    ensures err { OnErr result (entries_of entries.new.entries ≡ entries_of entries.old.entries) }
+// Whether a rank goes no later than another.
+fn is_at_most(former: (u128, u64), now: (u128, u64)) -> bool
+    ensures { result ≡ at_most former now }
 {
-    let key = (now.rank, now.last);
-    let old = (former.rank, former.last);
-    if !is_same(key, old) {
-        order.insert((key, object))?;
-        let gone = (old, object);
-        order.remove(&gone);
+    former.0 < now.0 || (former.0 == now.0 && former.1 <= now.1)
+}
+
+// Renews what is held of an object.
+fn renew(
+    holdings: &mut Holdings<Ranked>,
+    order: &mut BinaryHeap<Reverse<((u128, u64), u32)>>,
+    object: u32,
+    former: Held<Ranked>,
+    now: Held<Ranked>,
+) -> Result<(), NoMemory>
+    requires held { lookup (is_at (nat_cmp object)) holdings.old ≡ Some former }
+    requires ordered { AreOrdered holdings.old (heap_items order.old) }
+    requires some { 1 ≤ now.size }
+    requires size { now.size ≡ former.size }
+    ensures entries { OnOk result (Renews holdings.old holdings.new object former now) }
+    ensures ordered { AreOrdered holdings.new (heap_items order.new) }
+    ensures err { OnErr result (entries_of holdings.new ≡ entries_of holdings.old) }
+{
+    let key = (now.kept.rank, now.kept.last);
+    if !is_at_most((former.kept.rank, former.kept.last), key) {
+        order.push(Reverse((key, object)))?;
     }
-    entries.insert(object, now)?;
+    holdings.renew(object, now);
     Ok(())
 }
 
 // Puts in an object that is not held.
 fn put(
-    entries: &mut BTreeMap<u32, Ranked>,
-    order: &mut BTreeSet<((u128, u64), u32)>,
+    holdings: &mut Holdings<Ranked>,
+    order: &mut BinaryHeap<Reverse<((u128, u64), u32)>>,
+    objects: u32,
     object: u32,
-    ranked: Ranked,
+    held: Held<Ranked>,
 ) -> Result<(), NoMemory>
-    requires absent { has_entry (entries_of entries.old.entries) object ≡ false }
-    requires ordered { AreOrdered entries.old.entries order.old }
-    ensures entries { OnOk result (entries_of entries.new.entries ≡ put_in (entry_of (object, ranked)) (entries_of entries.old.entries)) }
-    ensures ordered { AreOrdered entries.new.entries order.new }
-    ensures err { OnErr result (entries_of entries.new.entries ≡ entries_of entries.old.entries) }
+    requires known { object < objects }
+    requires absent { has_entry (entries_of holdings.old) object ≡ false }
+    requires size { 1 ≤ held.size }
+    requires ordered { AreOrdered holdings.old (heap_items order.old) }
+    ensures entries { OnOk result (entries_of holdings.new ≡ put_in (entry_of (object, held)) (entries_of holdings.old)) }
+    ensures ordered { AreOrdered holdings.new (heap_items order.new) }
+    ensures err { OnErr result (entries_of holdings.new ≡ entries_of holdings.old) }
 {
-    let key = ((ranked.rank, ranked.last), object);
-    order.insert(key)?;
-    match entries.insert(object, ranked) {
-        Ok(_) => Ok(()),
-        Err(_) => {
-            order.remove(&key);
-            Err(NoMemory)
+    order.push(Reverse(((held.kept.rank, held.kept.last), object)))?;
+    holdings.put(objects, object, held)?;
+    Ok(())
+}
+
+// Puts an item into the room of one that came out.
+fn put_back(order: &mut BinaryHeap<Reverse<((u128, u64), u32)>>, item: Reverse<((u128, u64), u32)>)
+    requires room { heap_len order.old < heap_capacity order.old }
+    ensures items { IsPermutation (item ∷ heap_items order.old) (heap_items order.new) }
+    ensures heap { KeepsHeap item_cmp (heap_items order.old) (heap_items order.new) }
+{
+    let _ = order.push(item);
+}
+
+// Gives up the entry of the least rank, and says what was held of it.
+fn give_up_least(
+    holdings: &mut Holdings<Ranked>,
+    order: &mut BinaryHeap<Reverse<((u128, u64), u32)>>,
+) -> Held<Ranked>
+    requires some { 0 < used (entries_of holdings.old) }
+    requires ordered { AreOrdered holdings.old (heap_items order.old) }
+    ensures stock { (floor : ℕ) → over_floor result.kept.rank (entries_of holdings.new) ≡ age_at floor (entries_of holdings.old) }
+    ensures fewer { length holdings.new + 1 ≡ length holdings.old }
+    ensures size { used (entries_of holdings.new) + result.size ≡ used (entries_of holdings.old) }
+    ensures ordered { AreOrdered holdings.new (heap_items order.new) }
+{
+    while let Some(Reverse((rank, object))) = order.pop() {
+        if let Some(held) = holdings.get(object) {
+            let now = (held.kept.rank, held.kept.last);
+            if is_same(rank, now) {
+                holdings.remove(object);
+                return held;
+            }
+            put_back(order, Reverse((now, object)));
         }
     }
+    enter(0, 0, 0, 0)
 }
 
 /// The bytes that are still used, and the floor.
@@ -170,33 +215,28 @@ struct Left {
 
 // Gives up the entries of the least ranks until this many bytes fit. The floor rises to the rank of each.
 fn free_least(
-    entries: &mut BTreeMap<u32, Ranked>,
-    order: &mut BTreeSet<((u128, u64), u32)>,
+    holdings: &mut Holdings<Ranked>,
+    order: &mut BinaryHeap<Reverse<((u128, u64), u32)>>,
     before: Left,
     capacity: u64,
     size: u64,
 ) -> Left
-    requires in_use { before.used ≡ used (entries_of entries.old.entries) }
+    requires in_use { before.used ≡ used (entries_of holdings.old) }
     requires within { before.used ≤ capacity }
     requires small { size ≤ capacity }
     requires range { capacity ≤ 2 ^ 56 }
-    requires ordered { AreOrdered entries.old.entries order.old }
-    ensures stock { FreesLeast before.floor result.floor capacity size entries.old.entries entries.new.entries }
-    ensures in_use { result.used ≡ used (entries_of entries.new.entries) }
-    ensures ordered { AreOrdered entries.new.entries order.new }
+    requires ordered { AreOrdered holdings.old (heap_items order.old) }
+    ensures stock { FreesLeast before.floor result.floor capacity size holdings.old holdings.new }
+    ensures in_use { result.used ≡ used (entries_of holdings.new) }
+    ensures ordered { AreOrdered holdings.new (heap_items order.new) }
     ensures room { result.used + size ≤ capacity }
 {
     let mut left = before;
     while left.used + size > capacity {
-        let Some(((rank, _), object)) = order.pop_first() else {
-            return left;
-        };
-        let Some(ranked) = entries.remove(&object) else {
-            return left;
-        };
+        let gone = give_up_least(holdings, order);
         left = Left {
-            used: left.used - ranked.size,
-            floor: rank,
+            used: left.used - gone.size,
+            floor: gone.kept.rank,
         };
     }
     left
@@ -214,8 +254,8 @@ impl Aging {
             requests: 0,
             used: 0,
             floor: 0,
-            entries: BTreeMap::new(alloc),
-            order: BTreeSet::new(alloc),
+            holdings: Holdings::new(alloc),
+            order: BinaryHeap::new(alloc),
         }
     }
 
@@ -230,11 +270,12 @@ impl Aging {
     pub(crate) fn holds(&self, object: u32) -> bool
         ensures { result ≡ has_member (contents_of self.now) object }
     {
-        self.entries.contains_key(&object)
+        self.holdings.get(object).is_some()
     }
 
     // One request, as the rule says, whatever the next request is.
     pub(crate) fn ask(&mut self, by: Objective, object: u32, size: u64) -> Result<Outcome, NoMemory>
+        requires known { object < self.old.objects }
         requires size { 1 ≤ size }
         requires kept_size { All (λ m. m.object ≡ object → m.size ≡ size) (contents_of self.old) }
         ensures answers { IfOk result (λ outcome. (next : Option ℕ) → Answers (name_of by) self.old self.new object size next outcome) }
@@ -243,9 +284,9 @@ impl Aging {
     {
         let requests = self.requests.saturating_add(1);
         let worth = worth(by, size);
-        if let Some(former) = self.entries.get(&object).copied() {
+        if let Some(former) = self.holdings.get(object) {
             let now = raise(former, self.floor, worth, self.requests);
-            renew(&mut self.entries, &mut self.order, object, former, now)?;
+            renew(&mut self.holdings, &mut self.order, object, former, now)?;
             self.requests = requests;
             return Ok(Outcome::Hit);
         }
@@ -258,7 +299,7 @@ impl Aging {
             floor: self.floor,
         };
         let left = free_least(
-            &mut self.entries,
+            &mut self.holdings,
             &mut self.order,
             before,
             self.capacity,
@@ -267,7 +308,13 @@ impl Aging {
         self.used = left.used;
         self.floor = left.floor;
         let ranked = enter(size, self.floor, worth, self.requests);
-        put(&mut self.entries, &mut self.order, object, ranked)?;
+        put(
+            &mut self.holdings,
+            &mut self.order,
+            self.objects,
+            object,
+            ranked,
+        )?;
         self.used += size;
         self.requests = requests;
         Ok(Outcome::Miss)

@@ -1,4 +1,4 @@
-use Rattle.std.proofs.Common.{◌≡◌, ◌≤◌, length}
+use Rattle.std.proofs.Common.{◌≡◌, ◌≤◌, length, heap_items}
 use Rattle.policy_model.specs.States.{used}
 use Rattle.policy_model.specs.Steps.{until_fits}
 use Rattle.policy_model.specs.Aging.{age, over_floor, stock_used}
@@ -7,12 +7,12 @@ use Rattle.replay_rank.proofs.aging.free_least.Given as goal
 
 abbrev pub invariant-loop-left : goal.invariant-loop-left
 invariant-loop-left l = record {
-  left : l.left.used ≡ used (entries_of l.entries.entries);
+  left : l.left.used ≡ used (entries_of l.holdings);
   within : l.left.used ≤ l.capacity;
-  ordered : AreOrdered l.entries.entries l.order;
-  turns : until_fits age stock_used l.capacity l.size (length l.entries.entries) (over_floor l.left.floor (entries_of l.entries.entries))
-      ≡ until_fits age stock_used l.capacity l.size (length l.initial.entries.entries) (over_floor l.initial.left.floor (entries_of l.initial.entries.entries));
+  ordered : AreOrdered l.holdings (heap_items l.order);
+  turns : until_fits age stock_used l.capacity l.size (length l.holdings) (over_floor l.left.floor (entries_of l.holdings))
+      ≡ until_fits age stock_used l.capacity l.size (length l.initial.holdings) (over_floor l.initial.left.floor (entries_of l.initial.holdings));
 }
 
 abbrev pub decreases-loop-left : goal.decreases-loop-left
-decreases-loop-left l = length l.entries.entries
+decreases-loop-left l = length l.holdings

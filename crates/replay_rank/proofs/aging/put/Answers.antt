@@ -1,19 +1,21 @@
-use Rattle.std.proofs.Common.{◌∙◌, sym, ap, subst}
-use Rattle.replay_rank.specs.AgingEntries.{entries_of, AreOrdered}
+use Rattle.std.proofs.Common.{◌∙◌, sym, refl, ap, subst, heap_items}
+use Rattle.replay_rank.specs.AgingEntries.{entries_of, rank_of, AreOrdered}
 use Rattle.replay_rank.proofs.Pairs.{entries-put}
-use Rattle.replay_rank.proofs.AgingOrdered.{by_rank, aging_put, aging_back}
+use Rattle.replay_rank.proofs.Items.{item_put, item_more}
+use Rattle.replay_rank.proofs.AgingOrdered.{by_rank}
 use Rattle.replay_rank.proofs.aging.put.Goals as goal
 
-pub returns-in-Ok-clause-entries : goal.returns-in-Ok-clause-entries
-returns-in-Ok-clause-entries c =
-    ap (λ ps. entries_of ps) c.in-Ok.ensures.entries ∙ entries-put by_rank.fill c.args.entries.now.entries c.args.object c.args.ranked c.requires.absent
+pub returns-clause-entries : goal.returns-clause-entries
+returns-clause-entries c = ap entries_of c.in_ok-put.ensures.put ∙ entries-put by_rank.fill c.args.holdings.now c.args.object c.args.held c.requires.absent
 
-pub returns-in-Ok-clause-ordered : goal.returns-in-Ok-clause-ordered
-returns-in-Ok-clause-ordered c =
-    subst (λ ps. AreOrdered ps c.insert.new.self) (sym c.in-Ok.ensures.entries)
-    (aging_put c.args.entries.now.entries c.args.order.now c.requires.ordered c.args.object c.requires.absent c.args.ranked c.insert.new.self c.insert-2.ensures.was_ordered c.in_ok-insert.ensures.updates)
+pub returns-clause-ordered : goal.returns-clause-ordered
+returns-clause-ordered c =
+    subst (λ ps. AreOrdered ps (heap_items c.push.new.self)) (sym c.in_ok-put.ensures.put)
+    (item_put by_rank c.args.holdings.now (heap_items c.args.order.now) c.requires.ordered (record { 0 = (rank_of c.args.held, c.args.object) }) (heap_items c.push.new.self) c.in_ok-push.ensures.permutation
+    (c.in_ok-push.ensures.heap_order c.requires.ordered.heap) c.args.object c.args.held refl c.requires.absent)
 
-pub returns-in-Err-clause-ordered : goal.returns-in-Err-clause-ordered
-returns-in-Err-clause-ordered c =
-    subst (λ ps. AreOrdered ps c.remove.new.self) (sym c.in-Err.ensures.err)
-    (aging_back c.args.entries.now.entries c.args.order.now c.requires.ordered c.args.object c.requires.absent c.args.ranked c.insert.new.self c.remove.new.self c.in_ok-insert.ensures.updates c.remove.ensures.updates)
+pub returns-in_err-put-clause-ordered : goal.returns-in_err-put-clause-ordered
+returns-in_err-put-clause-ordered c =
+    subst (λ ps. AreOrdered ps (heap_items c.push.new.self)) (sym c.in_err-put.ensures.stays)
+    (item_more by_rank c.args.holdings.now (heap_items c.args.order.now) c.requires.ordered (record { 0 = (rank_of c.args.held, c.args.object) }) (heap_items c.push.new.self) c.in_ok-push.ensures.permutation
+    (c.in_ok-push.ensures.heap_order c.requires.ordered.heap))

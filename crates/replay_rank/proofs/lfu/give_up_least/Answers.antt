@@ -1,25 +1,25 @@
-use Rattle.std.proofs.Common.{◌≡◌, ℕ, ◌+◌, ◌<◌, ◌∙◌, sym, refl, ap, subst, true, false, List, length, arith, Some, None, heap_items}
+use Rattle.std.proofs.Common.{◌≡◌, ℕ, ◌+◌, ◌<◌, ◌∙◌, sym, refl, ap, subst, List, length, arith, Some, None, heap_items}
 use Rattle.std.specs.declared.option.Option.{Option}
 use Rattle.std.specs.BTreeMap.{is_at}
-use Rattle.std.specs.Map.{lookup, remove_entry}
+use Rattle.std.specs.Map.{lookup}
 use Rattle.std.specs.Ordering.{nat_cmp}
 use Rattle.policy_model.specs.States.{used}
 use Rattle.policy_model.specs.Steps.{remove_foremost, is_less_used}
 use Rattle.replay_rank.specs.declared.holdings.Held.{Held}
 use Rattle.replay_rank.specs.declared.lfu.Uses.{Uses}
-use Rattle.replay_rank.specs.LfuEntries.{entries_of, rank_of, same_rank, AreOrdered}
-use Rattle.replay_rank.proofs.Items.{some_item, used-left, fewer-left, fewer_gone, fewer_again}
-use Rattle.replay_rank.proofs.LfuOrdered.{by_use, same_rank-refl, exact_use, lfu_gone, lfu_again, lfu_left, lfu_removes}
+use Rattle.replay_rank.specs.LfuEntries.{entries_of, rank_of, AreOrdered}
+use Rattle.replay_rank.proofs.Items.{some_item, used-left, fewer-left, fewer_gone, fewer_again, item_gone, item_again, item_left}
+use Rattle.replay_rank.proofs.LfuOrdered.{by_use, same_rank-refl, exact_use, lfu_removes}
 use Rattle.replay_rank.proofs.lfu.give_up_least.Goals as goal
 
 pub returns-then-is_same-clause-entries : goal.returns-then-is_same-clause-entries
 returns-then-is_same-clause-entries c =
     let pairs : List (ℕ × Held Uses) = c.loop-rank.holdings in
     let is : lookup (is_at (nat_cmp c.in-Some.field-0.0.1)) pairs ≡ Some c.in-Some-get.held = sym c.get.ensures.found ∙ c.in-Some-get.is in
-    let true_rank : rank_of c.in-Some-get.held ≡ c.in-Some.field-0.0.0 = sym (exact_use c.in-Some.field-0.0.0 (rank_of c.in-Some-get.held) (sym c.is_same.ensures ∙ c.if-is_same.true)) in
+    let own : ℕ × ℕ → (ℕ × ℕ) × ℕ = λ r. (r, c.in-Some.field-0.0.1) in
+    let true_rank : (rank_of c.in-Some-get.held, c.in-Some.field-0.0.1) ≡ c.in-Some.field-0.0 = ap own (sym (exact_use c.in-Some.field-0.0.0 (rank_of c.in-Some-get.held) (sym c.is_same.ensures ∙ c.if-is_same.true))) in
     ap entries_of c.remove.ensures
-    ∙ lfu_removes pairs (heap_items c.loop-rank.order) c.loop-rank.invariant.ordered (heap_items c.pop.new.self) c.in-Some.field-0.0.0 c.in-Some.field-0.0.1 c.in-Some.field-0 refl c.in-Some.ensures.permutation
-    (c.in-Some.ensures.heap_order c.loop-rank.invariant.ordered.heap).0 c.in-Some-get.held is true_rank (c.in-Some.ensures.heap_order c.loop-rank.invariant.ordered.heap).1
+    ∙ lfu_removes pairs (heap_items c.loop-rank.order) c.loop-rank.invariant.ordered c.in-Some.field-0.0.1 c.in-Some-get.held is c.in-Some.field-0 true_rank (c.in-Some.ensures.heap_order c.loop-rank.invariant.ordered.heap).1
     ∙ ap (λ ps. remove_foremost is_less_used (entries_of ps)) c.loop-rank.invariant.same
 
 pub returns-then-is_same-clause-fewer : goal.returns-then-is_same-clause-fewer
@@ -38,10 +38,9 @@ returns-then-is_same-clause-size c =
 
 pub returns-then-is_same-clause-ordered : goal.returns-then-is_same-clause-ordered
 returns-then-is_same-clause-ordered c =
-    let is : lookup (is_at (nat_cmp c.in-Some.field-0.0.1)) c.loop-rank.holdings ≡ Some c.in-Some-get.held = sym c.get.ensures.found ∙ c.in-Some-get.is in
     subst (λ ps. AreOrdered ps (heap_items c.pop.new.self)) (sym c.remove.ensures)
-    (lfu_left c.loop-rank.holdings (heap_items c.loop-rank.order) c.loop-rank.invariant.ordered (heap_items c.pop.new.self) c.in-Some.field-0.0.0 c.in-Some.field-0.0.1 c.in-Some.field-0 refl c.in-Some.ensures.permutation
-    (c.in-Some.ensures.heap_order c.loop-rank.invariant.ordered.heap).0 c.in-Some-get.held is)
+    (item_left by_use c.loop-rank.holdings (heap_items c.loop-rank.order) c.loop-rank.invariant.ordered (heap_items c.pop.new.self) c.in-Some.field-0 c.in-Some.ensures.permutation
+    (c.in-Some.ensures.heap_order c.loop-rank.invariant.ordered.heap).0)
 
 pub loop-rank-smaller-in-Some-get : goal.loop-rank-smaller-in-Some-get
 loop-rank-smaller-in-Some-get c =
@@ -55,8 +54,8 @@ loop-rank-preserved-in-Some-get c =
     let heap = (c.in-Some.ensures.heap_order c.loop-rank.invariant.ordered.heap).0 in
     record {
       same = c.loop-rank.invariant.same;
-      ordered = lfu_again c.loop-rank.holdings (heap_items c.loop-rank.order) c.loop-rank.invariant.ordered (heap_items c.pop.new.self) c.in-Some.field-0.0.0 c.in-Some.field-0.0.1 c.in-Some.field-0 refl c.in-Some.ensures.permutation
-          heap c.in-Some-get.held is (record { 0 = (rank_of c.in-Some-get.held, c.in-Some.field-0.0.1) }) refl (heap_items c.put_back.new.order) c.put_back.ensures.items (c.put_back.ensures.heap heap);
+      ordered = item_again by_use c.loop-rank.holdings (heap_items c.loop-rank.order) c.loop-rank.invariant.ordered (heap_items c.pop.new.self) c.in-Some.field-0 c.in-Some.ensures.permutation heap c.in-Some-get.held is
+          (record { 0 = (rank_of c.in-Some-get.held, c.in-Some.field-0.0.1) }) refl (heap_items c.put_back.new.order) c.put_back.ensures.items (c.put_back.ensures.heap heap);
     }
 
 pub loop-rank-smaller : goal.loop-rank-smaller
@@ -70,7 +69,7 @@ not_held (Some h) none = absurd (none h refl)
 pub loop-rank-preserved : goal.loop-rank-preserved
 loop-rank-preserved c = record {
   same = c.loop-rank.invariant.same;
-  ordered = lfu_gone c.loop-rank.holdings (heap_items c.loop-rank.order) c.loop-rank.invariant.ordered (heap_items c.pop.new.self) c.in-Some.field-0.0.0 c.in-Some.field-0.0.1 c.in-Some.field-0 refl c.in-Some.ensures.permutation
+  ordered = item_gone by_use c.loop-rank.holdings (heap_items c.loop-rank.order) c.loop-rank.invariant.ordered (heap_items c.pop.new.self) c.in-Some.field-0 c.in-Some.ensures.permutation
       (c.in-Some.ensures.heap_order c.loop-rank.invariant.ordered.heap).0 (sym c.get.ensures.found ∙ not_held c.get.result c.in_default-get.not-Some);
 }
 
@@ -81,11 +80,11 @@ empty c =
     some_item by_use c.loop-rank.holdings (heap_items c.loop-rank.order) c.loop-rank.invariant.ordered.covered (subst (λ ps. 0 < used (entries_of ps)) (sym c.loop-rank.invariant.same) c.requires.some) in
     omega (arith, some, c.in_default.ensures.none, c.loop-rank.order.data.ok.0)
 
-pub returns-clause-entries : goal.returns-clause-entries
-returns-clause-entries c = absurd (empty c)
-
 pub returns-clause-fewer : goal.returns-clause-fewer
 returns-clause-fewer c = absurd (empty c)
 
 pub returns-clause-size : goal.returns-clause-size
 returns-clause-size c = absurd (empty c)
+
+pub returns-clause-entries : goal.returns-clause-entries
+returns-clause-entries c = absurd (empty c)

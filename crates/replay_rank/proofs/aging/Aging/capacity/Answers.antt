@@ -7,4 +7,4 @@ use Rattle.replay_rank.proofs.aging.Aging.capacity.Goals as goal
 
 pub returns-clause-sound : goal.returns-clause-sound
 returns-clause-sound c =
-    subst (λ (p : Kept). IsSound p.capacity (contents_of p)) c.self.view_is (fit-sound c.self.inside.capacity (entries_of c.self.inside.entries.entries) c.self.invariant.fits)
+    subst (λ (p : Kept). IsSound p.capacity (contents_of p)) c.self.view_is (fit-sound c.self.inside.capacity (entries_of c.self.inside.holdings) c.self.invariant.fits)

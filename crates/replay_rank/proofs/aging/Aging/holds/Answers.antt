@@ -1,4 +1,4 @@
-use Rattle.std.proofs.Common.{ap, ◌∙◌}
+use Rattle.std.proofs.Common.{ap, is_some, ◌∙◌}
 use Rattle.policy_model.specs.States.{has_member}
 use Rattle.replay_core.specs.Keeping.{Kept, contents_of}
 use Rattle.replay_rank.proofs.AgingAnswers.{holds-member}
@@ -6,4 +6,4 @@ use Rattle.replay_rank.proofs.aging.Aging.holds.Goals as goal
 
 pub returns : goal.returns
 returns c =
-    c.contains_key.ensures ∙ holds-member c.self.inside.entries.entries c.args.object ∙ ap (λ (p : Kept). has_member (contents_of p) c.args.object) c.self.view_is
+    c.is_some.ensures ∙ ap is_some c.get.ensures.found ∙ holds-member c.self.inside.holdings c.args.object ∙ ap (λ (p : Kept). has_member (contents_of p) c.args.object) c.self.view_is
