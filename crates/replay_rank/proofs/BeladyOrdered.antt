@@ -1,35 +1,33 @@
 -- The pairs of Belady's rule are ranked by their next requests, and the farthest goes first.
-use Rattle.std.proofs.Common.{◌≡◌, ℕ, ◌<◌, ◌≤◌, ◌⊎◌, inl, inr, ◌∙◌, sym, refl, ap, subst, ⊎_elim, Bool, true, false, cond, eqb, List, [], ◌∷◌, length, arith, Some, is_some}
-use Rattle.std.specs.declared.cmp.Ordering.{Ordering}
-use Rattle.std.specs.declared.cmp.Ordering.TheVariants.{Less, Equal, Greater}
+use Rattle.std.proofs.Common.{◌≡◌, ℕ, ◌<◌, ◌≤◌, ◌⊎◌, inl, inr, ◌∙◌, sym, refl, ap, subst, ⊎_elim, Bool, true, false, cond, eqb, List, [], ◌∷◌, Some, None, is_some, is_lt}
 use Rattle.std.specs.BTreeMap.{is_at, insert_entry}
-use Rattle.std.specs.BTreeSet.{BTreeSet, contains, IsUpperBound, Updates}
-use Rattle.std.specs.List.{AllByRecursion}
-use Rattle.std.specs.List.Sorted.{IsStrictlySortedBy}
+use Rattle.std.specs.BinaryHeap.{IsHeap, IsUpperBound}
+use Rattle.std.specs.List.{AllByRecursion, filter}
+use Rattle.std.specs.List.Sorted.{IsStrictlySortedBy, IsPermutation}
 use Rattle.std.specs.Map.{keys_of, lookup, remove_entry}
-use Rattle.std.specs.Ordering.{nat_cmp, is_lt, ordering_then, match_ordering}
-use Rattle.std.proofs.lemmas.Bool.{cases_order, eqb-true, eqb-false, eq-eqb, cond_both}
+use Rattle.std.specs.Ordering.{nat_cmp, ordering_then}
+use Rattle.std.proofs.lemmas.Bool.{cases_order, eqb-true, eqb-false, eq-eqb}
 use Rattle.policy_model.specs.declared.names.PolicyName.TheVariants.{Belady}
-use Rattle.policy_model.specs.States.{Entry, used, has_entry}
-use Rattle.policy_model.specs.Steps.{make_room, remove_foremost, is_farther, touched, touch}
-use Rattle.policy_model.proofs.Comparisons.{at-eqb, eqb-sym, cmp-less, cmp-equal}
+use Rattle.policy_model.specs.States.{Entry, has_entry}
+use Rattle.policy_model.specs.Steps.{remove_foremost, is_farther, touched, touch}
+use Rattle.policy_model.proofs.Comparisons.{cmp-less, cmp-equal}
 use Rattle.policy_model.proofs.Entries.{Apart}
 use Rattle.policy_model.proofs.Sound.{Apart-touch}
-use Rattle.replay_rank.specs.declared.belady.Held.{Held}
-use Rattle.replay_rank.specs.BeladyEntries.{entries_of, next_of, never, key_cmp, AreOrdered}
-use Rattle.replay_rank.proofs.Pairs.{has_entry-lookup, sizes-found, entries-renewed, entries-same}
-use Rattle.replay_rank.proofs.Keys.{Ranking}
-use Rattle.replay_rank.proofs.Ordered.{IsOrdered, rank_is, turn, ordered_left, ordered_put, ordered_back, ordered_renewed, Beaten}
+use Rattle.replay_rank.specs.declared.holdings.Held.{Held}
+use Rattle.replay_rank.specs.BeladyEntries.{entries_of, next_of, never, key_cmp, has_next, is_current, AreOrdered}
+use Rattle.replay_rank.proofs.Pairs.{has_entry-lookup, sizes-found, entries-renewed, lookup-inserted, lookup-removed}
+use Rattle.replay_rank.proofs.Items.{Ranks, GoesBefore, removes, item_vain, item_left, item_more, item_put, item_renewed, items_kept}
 use Rattle.replay_rank.proofs.Foremost.{far}
 
-abbrev pub by_next : Ranking Held ℕ
+abbrev pub by_next : Ranks (Held ℕ) ℕ (ℕ × ℕ)
 by_next = record {
-  fill = λ h. record { object = 0; size = h.size; mark = false; count = 0; last = 0; next = next_of h.next; rank = 0 };
-  rank_of = λ h. h.next;
+  fill = λ h. record { object = 0; size = h.size; mark = false; count = 0; last = 0; next = next_of h.kept; rank = 0 };
+  rank_of = λ h. h.kept;
   same_rank = eqb;
-  rank_cmp = nat_cmp;
-  ranks_at = λ r s. at-eqb r s ∙ eqb-sym s r;
-  refl_rank = λ r. eq-eqb r r refl;
+  no_later = eqb;
+  key_of = λ i. i;
+  item_cmp = key_cmp;
+  refl_later = λ r. eq-eqb r r refl;
   exact_rank = λ r s. eqb-true r s;
 }
 
@@ -52,103 +50,73 @@ key-before r o s j above other =
     order)
     (cases_order r s)
 
--- ---- the ranks
-most_of : (k : ℕ) (held : Held) (ps : List (ℕ × Held)) → AllByRecursion (λ p. p.1.next ≤ never) ps → lookup (is_at (nat_cmp k)) ps ≡ Some held → held.next ≤ never
-most_of k held [] ranks at = cc
-most_of k held (p ∷ ps) ranks at = split (is_at (nat_cmp k) p.0) refl (most_of k held ps ranks.1)
-  where
-    split : (t : Bool) → is_at (nat_cmp k) p.0 ≡ t → (lookup (is_at (nat_cmp k)) ps ≡ Some held → held.next ≤ never) → held.next ≤ never
-    split true e more =
-        let first : Some p.1 ≡ Some held = sym (ap (λ b. cond b (Some p.1) (lookup (is_at (nat_cmp k)) ps)) e) ∙ at in
-        let same : p.1 ≡ held = cc in
-        subst (λ (h : Held). h.next ≤ never) same ranks.0
-    split false e more = more (sym (ap (λ b. cond b (Some p.1) (lookup (is_at (nat_cmp k)) ps)) e) ∙ at)
+module _ (pairs : List (ℕ × Held ℕ)) (items : List (ℕ × ℕ)) (ordered : AreOrdered pairs items) where
+  ranks_left : (k : ℕ) (j : ℕ) (g : Held ℕ) → lookup (is_at (nat_cmp j)) (remove_entry (is_at (nat_cmp k)) pairs) ≡ Some g → g.kept ≤ never
+  ranks_left k j g e = at (eqb k j) (sym (lookup-removed by_next.fill pairs k j ordered.stand.apart) ∙ e)
+    where
+      at : (t : Bool) → cond t None (lookup (is_at (nat_cmp j)) pairs) ≡ Some g → g.kept ≤ never
+      at true e = cc
+      at false e = ordered.ranks j g e
 
-ranks_left : (k : ℕ) (ps : List (ℕ × Held)) → AllByRecursion (λ p. p.1.next ≤ never) ps → AllByRecursion (λ p. p.1.next ≤ never) (remove_entry (is_at (nat_cmp k)) ps)
-ranks_left k [] ranks = tt
-ranks_left k (p ∷ ps) ranks =
-    cond_both (is_at (nat_cmp k) p.0) ps (p ∷ remove_entry (is_at (nat_cmp k)) ps) (AllByRecursion (λ q. q.1.next ≤ never)) (λ _. ranks.1) (λ _. (ranks.0, ranks_left k ps ranks.1))
+  ranks_inserted : (k : ℕ) (held : Held ℕ) → held.kept ≤ never → (j : ℕ) (g : Held ℕ) → lookup (is_at (nat_cmp j)) (insert_entry nat_cmp pairs k held) ≡ Some g → g.kept ≤ never
+  ranks_inserted k held most j g e = at (eqb k j) (sym (lookup-inserted pairs k j held) ∙ e)
+    where
+      at : (t : Bool) → cond t (Some held) (lookup (is_at (nat_cmp j)) pairs) ≡ Some g → g.kept ≤ never
+      at true e = let same : held ≡ g = cc in subst (λ (h : Held ℕ). h.kept ≤ never) same most
+      at false e = ordered.ranks j g e
 
-ranks_inserted : (pairs : List (ℕ × Held)) (k : ℕ) (held : Held) → held.next ≤ never → AllByRecursion (λ p. p.1.next ≤ never) pairs → AllByRecursion (λ p. p.1.next ≤ never) (insert_entry nat_cmp pairs k held)
-ranks_inserted [] k held most ranks = (most, tt)
-ranks_inserted (p ∷ ps) k held most ranks = at (nat_cmp k p.0) (ranks_inserted ps k held most ranks.1)
-  where
-    at : (o : Ordering) → AllByRecursion (λ q. q.1.next ≤ never) (insert_entry nat_cmp ps k held) → AllByRecursion (λ q. q.1.next ≤ never) (match_ordering o ((k, held) ∷ p ∷ ps) ((p.0, held) ∷ ps) (p ∷ insert_entry nat_cmp ps k held))
-    at Less rest = (most, ranks)
-    at Equal rest = (most, ranks.1)
-    at Greater rest = (ranks.0, rest)
+  -- ---- an item comes out
+  module _ (rest : List (ℕ × ℕ)) (q : ℕ × ℕ) (moves : IsPermutation items (q ∷ rest)) (heap : IsHeap key_cmp rest) where
+    -- of no next request
+    pub belady_vain : ((g : Held ℕ) → lookup (is_at (nat_cmp q.1)) pairs ≡ Some g → eqb q.0 g.kept ≡ false) → AreOrdered pairs rest
+    belady_vain none = record { stand = item_vain by_next pairs items ordered.stand rest q moves heap none; ranks = ordered.ranks }
 
--- ---- the pairs
--- the entry of a pair with another next request
-abbrev with_next : ℕ × Held → ℕ → Entry
-with_next p n = record { object = p.0; size = p.1.size; mark = false; count = 0; last = 0; next = next_of n; rank = 0 }
+    pub belady_left : AreOrdered (remove_entry (is_at (nat_cmp q.1)) pairs) rest
+    belady_left = record { stand = item_left by_next pairs items ordered.stand rest q moves heap; ranks = ranks_left q.1 }
 
--- and with another size
-abbrev with_size : ℕ × Held → ℕ → ℕ → Entry
-with_size p n size = record { object = p.0; size = size; mark = false; count = 0; last = 0; next = next_of n; rank = 0 }
+  -- the items of next requests are kept
+  pub belady_kept : (after : List (ℕ × ℕ)) → IsPermutation (filter (is_current pairs) items) after → IsHeap key_cmp after → AreOrdered pairs after
+  belady_kept after moves heap = record { stand = items_kept by_next pairs items ordered.stand (is_current pairs) passes after moves heap; ranks = ordered.ranks }
+    where
+      passes : (i : ℕ × ℕ) (g : Held ℕ) → lookup (is_at (nat_cmp i.1)) pairs ≡ Some g → eqb i.0 g.kept ≡ true → is_current pairs i ≡ true
+      passes i g e same = ap (λ o. has_next o i.0) e ∙ eq-eqb g.kept i.0 (sym (eqb-true i.0 g.kept same))
 
-module _ (pairs : List (ℕ × Held)) (order : BTreeSet (ℕ × ℕ)) (ordered : AreOrdered pairs order) where
-  pub keys_follow : IsOrdered by_next pairs order
-  keys_follow = record { apart = ordered.apart; same_keys = ordered.same_keys }
+  -- ---- an item goes in
+  module _ (i : ℕ × ℕ) (after : List (ℕ × ℕ)) (moves : IsPermutation (i ∷ items) after) (heap : IsHeap key_cmp after) where
+    pub belady_more : AreOrdered pairs after
+    belady_more = record { stand = item_more by_next pairs items ordered.stand i after moves heap; ranks = ordered.ranks }
 
-  module _ (r k : ℕ) (member : contains key_cmp order (r, k) ≡ true) (held : Held) (is : lookup (is_at (nat_cmp k)) pairs ≡ Some held) where
-    pub belady_left : (after : BTreeSet (ℕ × ℕ)) → Updates key_cmp order after (r, k) false → AreOrdered (remove_entry (is_at (nat_cmp k)) pairs) after
-    belady_left after updates =
-        let left : IsOrdered by_next (remove_entry (is_at (nat_cmp k)) pairs) after = ordered_left by_next pairs order keys_follow r k member held is after updates in
-        record { apart = left.apart; ranks = ranks_left k pairs ordered.ranks; same_keys = left.same_keys }
+    pub belady_put : (k : ℕ) (held : Held ℕ) → i ≡ (held.kept, k) → has_entry (entries_of pairs) k ≡ false → held.kept ≤ never → AreOrdered (insert_entry nat_cmp pairs k held) after
+    belady_put k held own absent most = record { stand = item_put by_next pairs items ordered.stand i after moves heap k held own absent; ranks = ranks_inserted k held most }
 
-    -- the greatest key is that of the entry whose next request is farthest
-    module _ (greatest : IsUpperBound key_cmp order (r, k)) where
-      beaten : (ps : List (ℕ × Held)) → AllByRecursion (λ p. p.1.next ≤ never) ps → AllByRecursion (Beaten by_next pairs order keys_follow r k member held is is_farther) ps
-      beaten [] ranks = tt
-      beaten (p ∷ ps) ranks = (goes, beaten ps ranks.1)
+  module _ (k : ℕ) (held : Held ℕ) (is : lookup (is_at (nat_cmp k)) pairs ≡ Some held) where
+    -- the first item, if it is of its object's next request, is that of the farthest
+    pub belady_removes : (q : ℕ × ℕ) → (held.kept, k) ≡ q → IsUpperBound key_cmp q items → entries_of (remove_entry (is_at (nat_cmp k)) pairs) ≡ remove_foremost is_farther (entries_of pairs)
+    belady_removes q own bound =
+        removes by_next (λ h. h.kept ≤ never) is_farther pairs items ordered.stand.apart ordered.stand.covered ordered.ranks q bound k held is goes
+      where
+        goes : (i : ℕ × ℕ) (g : Held ℕ) → is_lt (key_cmp q i) ≡ false → eqb i.0 g.kept ≡ true → g.kept ≤ never → eqb i.1 k ≡ false
+            → GoesBefore by_next (λ h. h.kept ≤ never) is_farther pairs items ordered.stand.apart ordered.stand.covered ordered.ranks q bound k held is i.1 g
+        goes i g above same most other =
+            let before : (i.0 < held.kept) ⊎ ((i.0 ≡ held.kept) × (i.1 < k)) = key-before held.kept k i.0 i.1 (subst (λ (key : ℕ × ℕ). is_lt (key_cmp key i) ≡ false) (sym own) above) other in
+            far k i.1 held.kept g.kept (ordered.ranks k held is) most (subst (λ n. (n < held.kept) ⊎ ((n ≡ held.kept) × (i.1 < k))) (eqb-true i.0 g.kept same) before)
+
+    -- a hit
+    module _ (renewed : Held ℕ) (sorted : IsStrictlySortedBy nat_cmp (keys_of pairs)) (same_size : renewed.size ≡ held.size) where
+      pub belady_entries : (now : ℕ) → entries_of (insert_entry nat_cmp pairs k renewed) ≡ touch Belady now (next_of renewed.kept) k (entries_of pairs)
+      belady_entries now =
+          entries-renewed by_next.fill (touched Belady now (next_of renewed.kept)) k renewed pairs sorted ordered.stand.apart (has_entry-lookup by_next.fill pairs k ∙ ap is_some is)
+          (makes pairs (sizes-found by_next.fill pairs k held ordered.stand.apart is))
         where
-          goes : Beaten by_next pairs order keys_follow r k member held is is_farther p
-          goes there other =
-              let before : (p.1.next < r) ⊎ ((p.1.next ≡ r) × (p.0 < k)) = key-before r k p.1.next p.0 (greatest (p.1.next, p.0) there) other in
-              let rank : r ≡ held.next = sym (rank_is by_next pairs order keys_follow r k member held is) in
-              far k p.0 held.next p.1.next (most_of k held pairs ordered.ranks is) ranks.0 (subst (λ n. (p.1.next < n) ⊎ ((p.1.next ≡ n) × (p.0 < k))) rank before)
+          with_size : ℕ × Held ℕ → ℕ → Entry
+          with_size p size = record { object = p.0; size = size; mark = false; count = 0; last = 0; next = next_of renewed.kept; rank = 0 }
 
-      pub belady_turn : (capacity : ℕ) → capacity < used (entries_of pairs)
-          → make_room (length (remove_entry (is_at (nat_cmp k)) pairs)) (remove_foremost is_farther) capacity 0 (entries_of (remove_entry (is_at (nat_cmp k)) pairs))
-          ≡ make_room (length pairs) (remove_foremost is_farther) capacity 0 (entries_of pairs)
-      belady_turn capacity full = turn by_next pairs order keys_follow r k member held is is_farther (beaten pairs ordered.ranks) capacity 0 (omega arith)
-
-  module _ (k : ℕ) where
-    module _ (absent : has_entry (entries_of pairs) k ≡ false) (held : Held) where
-      pub belady_put : (after : BTreeSet (ℕ × ℕ)) → IsStrictlySortedBy nat_cmp (keys_of pairs) → held.next ≤ never → Updates key_cmp order after (held.next, k) true
-          → AreOrdered (insert_entry nat_cmp pairs k held) after
-      belady_put after sorted most updates =
-          let more : IsOrdered by_next (insert_entry nat_cmp pairs k held) after = ordered_put by_next pairs order keys_follow k absent held after sorted updates in
-          record { apart = more.apart; ranks = ranks_inserted pairs k held most ordered.ranks; same_keys = more.same_keys }
-
-      pub belady_back : (mid after : BTreeSet (ℕ × ℕ)) → Updates key_cmp order mid (held.next, k) true → Updates key_cmp mid after (held.next, k) false → AreOrdered pairs after
-      belady_back mid after in_it out_it =
-          let back : IsOrdered by_next pairs after = ordered_back by_next pairs order keys_follow k absent held mid after in_it out_it in
-          record { apart = back.apart; ranks = ordered.ranks; same_keys = back.same_keys }
-
-    module _ (held : Held) (is : lookup (is_at (nat_cmp k)) pairs ≡ Some held) where
-      pub belady_entries : (now : ℕ) (renewed : Held) → IsStrictlySortedBy nat_cmp (keys_of pairs) → renewed.size ≡ held.size → entries_of (insert_entry nat_cmp pairs k renewed) ≡ touch Belady now (next_of renewed.next) k (entries_of pairs)
-      belady_entries now renewed sorted same_size =
-          entries-renewed by_next.fill (touched Belady now (next_of renewed.next)) k renewed pairs sorted ordered.apart (has_entry-lookup by_next.fill pairs k ∙ ap is_some is)
-          (makes pairs (sizes-found by_next.fill pairs k held ordered.apart is))
-        where
-          makes : (ps : List (ℕ × Held)) → AllByRecursion (λ e. e.object ≡ k → e.size ≡ held.size) (entries_of ps) → AllByRecursion (λ p. eqb p.0 k ≡ true → with_size p renewed.next renewed.size ≡ with_size p renewed.next p.1.size) ps
+          makes : (ps : List (ℕ × Held ℕ)) → AllByRecursion (λ e. e.object ≡ k → e.size ≡ held.size) (entries_of ps) → AllByRecursion (λ p. eqb p.0 k ≡ true → with_size p renewed.size ≡ with_size p p.1.size) ps
           makes [] sizes = tt
-          makes (p ∷ ps) sizes = ((λ same. ap (with_size p renewed.next) (same_size ∙ sym (sizes.0 (eqb-true p.0 k same)))), makes ps sizes.1)
+          makes (p ∷ ps) sizes = ((λ same. ap (with_size p) (same_size ∙ sym (sizes.0 (eqb-true p.0 k same)))), makes ps sizes.1)
 
-      -- a renewed pair has its new key in place of the former one
-      pub belady_renewed : (renewed : Held) (mid after : BTreeSet (ℕ × ℕ)) → IsStrictlySortedBy nat_cmp (keys_of pairs) → renewed.size ≡ held.size → renewed.next ≤ never → eqb renewed.next held.next ≡ false
-          → Updates key_cmp order mid (renewed.next, k) true → Updates key_cmp mid after (held.next, k) false → AreOrdered (insert_entry nat_cmp pairs k renewed) after
-      belady_renewed renewed mid after sorted same_size most other in_it out_it =
-          let apart : Apart (entries_of (insert_entry nat_cmp pairs k renewed)) = subst Apart (sym (belady_entries 0 renewed sorted same_size)) (Apart-touch Belady 0 (next_of renewed.next) k (entries_of pairs) ordered.apart) in
-          let keys : IsOrdered by_next (insert_entry nat_cmp pairs k renewed) after = ordered_renewed by_next pairs order keys_follow k held is renewed mid after sorted apart other in_it out_it in
-          record { apart = keys.apart; ranks = ranks_inserted pairs k renewed most ordered.ranks; same_keys = keys.same_keys }
-
--- the next request that is there already
-pub belady_same : (pairs : List (ℕ × Held)) (now k next : ℕ) → AllByRecursion (λ p. eqb p.0 k ≡ true → p.1.next ≡ next) pairs → touch Belady now (next_of next) k (entries_of pairs) ≡ entries_of pairs
-belady_same pairs now k next each = entries-same by_next.fill (touched Belady now (next_of next)) k pairs (stays pairs each)
-  where
-    stays : (ps : List (ℕ × Held)) → AllByRecursion (λ p. eqb p.0 k ≡ true → p.1.next ≡ next) ps → AllByRecursion (λ p. eqb p.0 k ≡ true → with_next p next ≡ with_next p p.1.next) ps
-    stays [] each = tt
-    stays (p ∷ ps) each = ((λ same. ap (with_next p) (sym (each.0 same))), stays ps each.1)
+      -- the renewed pair has an item of its own
+      pub belady_renewed : renewed.kept ≤ never → (i : ℕ × ℕ) → i ≡ (renewed.kept, k) → (after : List (ℕ × ℕ)) → IsPermutation (i ∷ items) after → IsHeap key_cmp after → AreOrdered (insert_entry nat_cmp pairs k renewed) after
+      belady_renewed most i own after moves heap =
+          let apart : Apart (entries_of (insert_entry nat_cmp pairs k renewed)) = subst Apart (sym (belady_entries 0)) (Apart-touch Belady 0 (next_of renewed.kept) k (entries_of pairs) ordered.stand.apart) in
+          record { stand = item_renewed by_next pairs items ordered.stand i after moves heap k renewed own apart; ranks = ranks_inserted k renewed most }

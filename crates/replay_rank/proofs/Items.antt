@@ -3,11 +3,11 @@ use Rattle.std.proofs.Common.{◌≡◌, ℕ, ◌+◌, ◌<◌, inl, inr, ◌∙
 use Rattle.std.specs.declared.cmp.Ordering.{Ordering}
 use Rattle.std.specs.BTreeMap.{is_at, insert_entry}
 use Rattle.std.specs.BinaryHeap.{IsHeap, IsUpperBound}
-use Rattle.std.specs.List.{AllByRecursion, list_any, sum_by}
+use Rattle.std.specs.List.{AllByRecursion, filter, list_any, sum_by}
 use Rattle.std.specs.List.Sorted.{IsPermutation}
 use Rattle.std.specs.Map.{lookup, remove_entry}
 use Rattle.std.specs.Ordering.{nat_cmp}
-use Rattle.std.proofs.lemmas.Bool.{eqb-true, eq-eqb, or_left, or_right, and_parts, and_right, and_from}
+use Rattle.std.proofs.lemmas.Bool.{eqb-true, eq-eqb, or_left, or_right, and_parts, and_left, and_right, and_from, both_ways}
 use Rattle.std.proofs.lemmas.List.{length-map}
 use Rattle.std.proofs.lemmas.List.Sorted.{IsPermutation-refl, list_any-IsPermutation, length_permutation, sum_by_pushed, sum_by_popped}
 use Rattle.policy_model.specs.States.{Entry, used, has_entry}
@@ -39,7 +39,10 @@ passing {I = I} P f (i ∷ items) each some = at (f i) refl (passing P f items e
     at true e more = (i, (each.0, e))
     at false e more = more (sym (ap (λ b. b || list_any f items) e) ∙ some)
 
-one_found : {H : Type 0} (o : Option H) (g h : H) → o ≡ Some g → o ≡ Some h → g ≡ h
+none_some : {H : Type 0} (o : Option H) (g : H) → o ≡ None → o ≡ Some g → ⊥
+none_some o g e f = cc
+
+pub one_found : {H : Type 0} (o : Option H) (g h : H) → o ≡ Some g → o ≡ Some h → g ≡ h
 one_found o g h e f = cc
 
 module _ {H R I : Type 0} (by : Ranks H R I) where
@@ -99,14 +102,14 @@ module _ {H R I : Type 0} (by : Ranks H R I) where
     others j g other e =
         sym (ap (λ b. b || list_any (stands j g) rest) (and_right (by.no_later (by.key_of q).0 (by.rank_of g)) (eqb (by.key_of q).1 j) other)) ∙ moved items (q ∷ rest) moves j g (covered j g e)
 
-    -- of an object that is not held
-    covered_gone : lookup (is_at (nat_cmp (by.key_of q).1)) pairs ≡ None → Covered pairs rest
+    -- that stands for nothing
+    covered_gone : ((g : H) → lookup (is_at (nat_cmp (by.key_of q).1)) pairs ≡ Some g → by.no_later (by.key_of q).0 (by.rank_of g) ≡ false) → Covered pairs rest
     covered_gone none = λ j g e. at j g (eqb (by.key_of q).1 j) refl e
       where
         at : (j : ℕ) (g : H) (t : Bool) → eqb (by.key_of q).1 j ≡ t → lookup (is_at (nat_cmp j)) pairs ≡ Some g → list_any (stands j g) rest ≡ true
         at j g true same e =
-            let no_such : lookup (is_at (nat_cmp j)) pairs ≡ None = subst (λ (n : ℕ). lookup (is_at (nat_cmp n)) pairs ≡ None) (eqb-true (by.key_of q).1 j same) none in
-            cc
+            let own : by.no_later (by.key_of q).0 (by.rank_of g) ≡ false = none g (subst (λ (n : ℕ). lookup (is_at (nat_cmp n)) pairs ≡ Some g) (sym (eqb-true (by.key_of q).1 j same)) e) in
+            sym (ap (λ b. b || list_any (stands j g) rest) (and_left (by.no_later (by.key_of q).0 (by.rank_of g)) (eqb (by.key_of q).1 j) own)) ∙ moved items (q ∷ rest) moves j g (covered j g e)
         at j g false other e = others j g other e
 
     -- and its object goes
@@ -136,9 +139,13 @@ module _ {H R I : Type 0} (by : Ranks H R I) where
   module _ (pairs : List (ℕ × H)) (items : List I) (ordered : IsOrdered pairs items) where
     -- an item comes out
     module _ (rest : List I) (q : I) (moves : IsPermutation items (q ∷ rest)) (heap : IsHeap by.item_cmp rest) where
+      -- that stands for nothing
+      pub item_vain : ((g : H) → lookup (is_at (nat_cmp (by.key_of q).1)) pairs ≡ Some g → by.no_later (by.key_of q).0 (by.rank_of g) ≡ false) → IsOrdered pairs rest
+      item_vain none = record { apart = ordered.apart; heap = heap; covered = covered_gone pairs items rest q ordered.covered moves none }
+
       -- of an object that is not held
       pub item_gone : lookup (is_at (nat_cmp (by.key_of q).1)) pairs ≡ None → IsOrdered pairs rest
-      item_gone none = record { apart = ordered.apart; heap = heap; covered = covered_gone pairs items rest q ordered.covered moves none }
+      item_gone none = item_vain (λ g e. absurd (none_some (lookup (is_at (nat_cmp (by.key_of q).1)) pairs) g none e))
 
       -- and one of its object's rank goes in
       pub item_again : (held : H) → lookup (is_at (nat_cmp (by.key_of q).1)) pairs ≡ Some held → (i : I) → by.key_of i ≡ (by.rank_of held, (by.key_of q).1)
@@ -180,6 +187,23 @@ module _ {H R I : Type 0} (by : Ranks H R I) where
       heap = ordered.heap;
       covered = covered_put pairs items items k held ordered.covered (IsPermutation-refl items) (covered_later pairs items k former held ordered.covered is later);
     }
+
+    -- the items that stand for something are kept
+    pub items_kept : (test : I → Bool) → ((i : I) (g : H) → lookup (is_at (nat_cmp (by.key_of i).1)) pairs ≡ Some g → by.no_later (by.key_of i).0 (by.rank_of g) ≡ true → test i ≡ true)
+        → (after : List I) → IsPermutation (filter test items) after → IsHeap by.item_cmp after → IsOrdered pairs after
+    items_kept test passes after moves heap = record { apart = ordered.apart; heap = heap; covered = λ j g e. moved (filter test items) after moves j g (some j g e items (ordered.covered j g e)) }
+      where
+        some : (j : ℕ) (g : H) → lookup (is_at (nat_cmp j)) pairs ≡ Some g → (is : List I) → list_any (stands j g) is ≡ true → list_any (stands j g) (filter test is) ≡ true
+        some j g e [] any = cc
+        some j g e (i ∷ is) any = at (test i) (stands j g i) refl refl (some j g e is)
+          where
+            at : (t s : Bool) → test i ≡ t → stands j g i ≡ s → (list_any (stands j g) is ≡ true → list_any (stands j g) (filter test is) ≡ true) → list_any (stands j g) (cond t (i ∷ filter test is) (filter test is)) ≡ true
+            at true true kept here more = or_left (stands j g i) (list_any (stands j g) (filter test is)) here
+            at true false kept here more = or_right (stands j g i) (list_any (stands j g) (filter test is)) (more (sym (ap (λ b. b || list_any (stands j g) is) here) ∙ any))
+            at false true kept here more =
+                let parts : (by.no_later (by.key_of i).0 (by.rank_of g) ≡ true) × (eqb (by.key_of i).1 j ≡ true) = and_parts _ _ here in
+                absurd (both_ways (test i) kept (passes i g (subst (λ (n : ℕ). lookup (is_at (nat_cmp n)) pairs ≡ Some g) (sym (eqb-true (by.key_of i).1 j parts.1)) e) parts.0))
+            at false false kept here more = more (sym (ap (λ b. b || list_any (stands j g) is) here) ∙ any)
 
   -- ---- how much is left to settle: the items, and once more those that are not of their object's rank
   of_found : R → Option H → ℕ

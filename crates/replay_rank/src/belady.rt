@@ -1,6 +1,7 @@
 //! The rule that gives up the object whose next request is farthest away.
 ghost use Rattle.std.specs.Prelude.{◌≡◌, ◌≤◌, ◌<◌, ◌^◌, ◌+◌, ℕ, All, length, false, Some, None, IsOk, IfOk, OnOk, OnErr, refl};
 ghost use Rattle.std.specs.BTreeMap.{is_at};
+ghost use Rattle.std.specs.BinaryHeap.{heap_items};
 ghost use Rattle.std.specs.Map.{lookup};
 ghost use Rattle.std.specs.Ordering.{nat_cmp};
 ghost use Rattle.policy_model.specs.declared.names.PolicyName.TheVariants.{Belady as ByNext};
@@ -8,23 +9,20 @@ ghost use Rattle.policy_model.specs.States.{used, has_entry};
 ghost use Rattle.policy_model.specs.Steps.{make_room, remove_foremost, is_farther, touch, put_in};
 ghost use Rattle.replay_core.specs.Keeping.{Answers, GivesUp, nothing_kept, state_of, contents_of};
 ghost use Rattle.replay_core.specs.Laws.{IsSound};
-ghost use Rattle.replay_rank.specs.BeladyEntries.{entry_of, entries_of, next_of, never, AreOrdered};
+ghost use Rattle.replay_rank.specs.BeladyEntries.{entry_of, entries_of, next_of, never, is_current, AreOrdered};
 
+use crate::holdings::{Held, Holdings};
 use bound_base::NoMemory;
 use replay_core::{Outcome, Policy};
 use std::alloc::Global;
-use std::collections::{BTreeMap, BTreeSet};
+use std::collections::BinaryHeap;
 use std::marker::Model;
 
 // How far the next request of an object is that has none: past each request's number.
 const NEVER: u64 = 1 << 32;
 
-/// What is kept of an object: its size in bytes, and the number of its next request, or `NEVER`.
-#[derive(Clone, Copy, Debug, PartialEq, Eq)]
-struct Held {
-    size: u64,
-    next: u64,
-}
+// The fewest items among which those that stand for no next request are looked for.
+const FEW: usize = 64;
 
 // The number of the next request, or `NEVER`.
 fn rank(next: Option<u32>) -> u64
@@ -39,19 +37,24 @@ fn rank(next: Option<u32>) -> u64
 
 /// The object whose next request is farthest away is given up first, and one that has none before all others.
 ///
-/// A request takes time logarithmic in the number of entries, for itself and for each entry that is given up. It takes
-/// memory for each entry.
+/// A hit puts an item of the new next request into a heap, and that of the former one stays. When there are more than
+/// twice as many items as were left when such ones were last thrown away, they are thrown away again. So a request takes
+/// time logarithmic in the number of entries, but for a few, for itself and for each entry that is given up. It takes
+/// memory for each object with the first entry, and for each entry.
 #[derive(Drop)]
 pub struct Belady {
     capacity: u64,
     objects: u32,
     requests: u64,
     used: u64,
-    entries: BTreeMap<u32, Held>,
-    order: BTreeSet<(u64, u32)>,
+    holdings: Holdings<u64>,
+    order: BinaryHeap<(u64, u32)>,
+    // How many items the heap has when it is next looked through.
+    limit: usize,
 }
 
 impl Model for Belady {
+    ghost use Rattle.std.specs.BinaryHeap.{heap_items};
     ghost use Rattle.replay_core.specs.Keeping.{Kept};
 
     ghost Value = { Kept };
@@ -59,91 +62,115 @@ impl Model for Belady {
     ghost use Rattle.policy_model.specs.States.{nothing_beside};
     ghost use Rattle.replay_rank.specs.BeladyEntries.{entries_of, IsBelady};
 
-    ghost view = { λ p. record { objects = p.objects; capacity = p.capacity; now = p.requests; entries = entries_of p.entries.entries; beside = nothing_beside } };
+    ghost view = { λ p. record { objects = p.objects; capacity = p.capacity; now = p.requests; entries = entries_of p.holdings; beside = nothing_beside } };
 
-    ghost invariant = { λ p. IsBelady p.capacity p.used p.entries.entries p.order };
+    ghost invariant = { λ p. IsBelady p.capacity p.used p.holdings (heap_items p.order) };
+}
+
+// Whether an item is that of its object's next request.
+fn is_current(holdings: &Holdings<u64>, item: &(u64, u32)) -> bool
+    ensures { result ≡ is_current holdings.now item.now }
+{
+    match holdings.get(item.1) {
+        Some(held) => held.kept == item.0,
+        None => false,
+    }
+}
+
+// Throws the items away that stand for no next request, if there are this many items, and says at how many to do it again.
+fn throw_away(holdings: &Holdings<u64>, order: &mut BinaryHeap<(u64, u32)>, limit: usize) -> usize
+    requires ordered { AreOrdered holdings.now (heap_items order.old) }
+    ensures ordered { AreOrdered holdings.now (heap_items order.new) }
+{
+    if order.len() < limit {
+        return limit;
+    }
+    order.retain(|item| is_current(holdings, item));
+    order.len().saturating_mul(2).max(FEW)
 }
 
 // Renews the next request of an object that is held.
 fn renew(
-    entries: &mut BTreeMap<u32, Held>,
-    order: &mut BTreeSet<(u64, u32)>,
+    holdings: &mut Holdings<u64>,
+    order: &mut BinaryHeap<(u64, u32)>,
     object: u32,
-    held: Held,
+    held: Held<u64>,
     next: u64,
 ) -> Result<(), NoMemory>
-    requires held { lookup (is_at (nat_cmp object)) entries.old.entries ≡ Some held }
-    requires ordered { AreOrdered entries.old.entries order.old }
+    requires held { lookup (is_at (nat_cmp object)) holdings.old ≡ Some held }
+    requires size { 1 ≤ held.size }
+    requires ordered { AreOrdered holdings.old (heap_items order.old) }
     requires rank { next ≤ never }
-    ensures entries { OnOk result ((now : ℕ) → entries_of entries.new.entries ≡ touch ByNext now (next_of next) object (entries_of entries.old.entries)) }
-    ensures ordered { AreOrdered entries.new.entries order.new }
-    ensures err { OnErr result (entries_of entries.new.entries ≡ entries_of entries.old.entries) }
+    ensures entries { OnOk result ((now : ℕ) → entries_of holdings.new ≡ touch ByNext now (next_of next) object (entries_of holdings.old)) }
+    ensures ordered { AreOrdered holdings.new (heap_items order.new) }
+    ensures err { OnErr result (entries_of holdings.new ≡ entries_of holdings.old) }
 {
-    if next == held.next {
-        return Ok(());
-    }
-    order.insert((next, object))?;
-    let former = (held.next, object);
-    order.remove(&former);
-    entries.insert(
-        object,
-        Held {
-            size: held.size,
-            next,
-        },
-    )?;
+    order.push((next, object))?;
+    let size = held.size;
+    holdings.renew(object, Held { size, kept: next });
     Ok(())
 }
 
 // Puts in an object that is not held.
 fn put(
-    entries: &mut BTreeMap<u32, Held>,
-    order: &mut BTreeSet<(u64, u32)>,
+    holdings: &mut Holdings<u64>,
+    order: &mut BinaryHeap<(u64, u32)>,
+    objects: u32,
     object: u32,
-    held: Held,
+    held: Held<u64>,
 ) -> Result<(), NoMemory>
-    requires absent { has_entry (entries_of entries.old.entries) object ≡ false }
-    requires ordered { AreOrdered entries.old.entries order.old }
-    requires rank { held.next ≤ never }
-    ensures entries { OnOk result (entries_of entries.new.entries ≡ put_in (entry_of (object, held)) (entries_of entries.old.entries)) }
-    ensures ordered { AreOrdered entries.new.entries order.new }
-    ensures err { OnErr result (entries_of entries.new.entries ≡ entries_of entries.old.entries) }
+    requires known { object < objects }
+    requires absent { has_entry (entries_of holdings.old) object ≡ false }
+    requires size { 1 ≤ held.size }
+    requires ordered { AreOrdered holdings.old (heap_items order.old) }
+    requires rank { held.kept ≤ never }
+    ensures entries { OnOk result (entries_of holdings.new ≡ put_in (entry_of (object, held)) (entries_of holdings.old)) }
+    ensures ordered { AreOrdered holdings.new (heap_items order.new) }
+    ensures err { OnErr result (entries_of holdings.new ≡ entries_of holdings.old) }
 {
-    let key = (held.next, object);
-    order.insert(key)?;
-    match entries.insert(object, held) {
-        Ok(_) => Ok(()),
-        Err(_) => {
-            order.remove(&key);
-            Err(NoMemory)
+    order.push((held.kept, object))?;
+    holdings.put(objects, object, held)?;
+    Ok(())
+}
+
+// Gives up the entry whose next request is farthest, and says its size in bytes.
+fn give_up_farthest(holdings: &mut Holdings<u64>, order: &mut BinaryHeap<(u64, u32)>) -> u64
+    requires some { 0 < used (entries_of holdings.old) }
+    requires ordered { AreOrdered holdings.old (heap_items order.old) }
+    ensures entries { entries_of holdings.new ≡ remove_foremost is_farther (entries_of holdings.old) }
+    ensures fewer { length holdings.new + 1 ≡ length holdings.old }
+    ensures size { used (entries_of holdings.new) + result ≡ used (entries_of holdings.old) }
+    ensures ordered { AreOrdered holdings.new (heap_items order.new) }
+{
+    while let Some((next, object)) = order.pop() {
+        if let Some(held) = holdings.get(object) {
+            if held.kept == next {
+                holdings.remove(object);
+                return held.size;
+            }
         }
     }
+    0
 }
 
 // Gives up the entries whose next requests are farthest, until the rest is within the capacity, and says how many bytes
 // are still used.
 fn free_farthest(
-    entries: &mut BTreeMap<u32, Held>,
-    order: &mut BTreeSet<(u64, u32)>,
+    holdings: &mut Holdings<u64>,
+    order: &mut BinaryHeap<(u64, u32)>,
     in_use: u64,
     capacity: u64,
 ) -> u64
-    requires in_use { in_use ≡ used (entries_of entries.old.entries) }
-    requires ordered { AreOrdered entries.old.entries order.old }
-    ensures entries { entries_of entries.new.entries ≡ make_room (length entries.old.entries) (remove_foremost is_farther) capacity 0 (entries_of entries.old.entries) }
-    ensures in_use { result ≡ used (entries_of entries.new.entries) }
-    ensures ordered { AreOrdered entries.new.entries order.new }
+    requires in_use { in_use ≡ used (entries_of holdings.old) }
+    requires ordered { AreOrdered holdings.old (heap_items order.old) }
+    ensures entries { entries_of holdings.new ≡ make_room (length holdings.old) (remove_foremost is_farther) capacity 0 (entries_of holdings.old) }
+    ensures in_use { result ≡ used (entries_of holdings.new) }
+    ensures ordered { AreOrdered holdings.new (heap_items order.new) }
     ensures room { result ≤ capacity }
 {
     let mut left = in_use;
     while left > capacity {
-        let Some((_, object)) = order.pop_last() else {
-            return left;
-        };
-        let Some(held) = entries.remove(&object) else {
-            return left;
-        };
-        left -= held.size;
+        left -= give_up_farthest(holdings, order);
     }
     left
 }
@@ -160,13 +187,16 @@ impl Belady {
             objects,
             requests: 0,
             used: 0,
-            entries: BTreeMap::new(alloc),
-            order: BTreeSet::new(alloc),
+            holdings: Holdings::new(alloc),
+            order: BinaryHeap::new(alloc),
+            limit: FEW,
         })
     }
 
     // One request, as the rule says.
     fn ask(&mut self, object: u32, size: u64, next: Option<u32>) -> Result<Outcome, NoMemory>
+        requires known { object < self.old.objects }
+        requires size { 1 ≤ size }
         requires kept_size { All (λ m. m.object ≡ object → m.size ≡ size) (contents_of self.old) }
         ensures answers { IfOk result (λ outcome. Answers ByNext self.old self.new object size next outcome) }
         ensures fits { OnOk result (IsSound self.new.capacity (contents_of self.new)) }
@@ -174,8 +204,9 @@ impl Belady {
     {
         let requests = self.requests.saturating_add(1);
         let next = rank(next);
-        if let Some(held) = self.entries.get(&object).copied() {
-            renew(&mut self.entries, &mut self.order, object, held, next)?;
+        self.limit = throw_away(&self.holdings, &mut self.order, self.limit);
+        if let Some(held) = self.holdings.get(object) {
+            renew(&mut self.holdings, &mut self.order, object, held, next)?;
             self.requests = requests;
             return Ok(Outcome::Hit);
         }
@@ -184,13 +215,14 @@ impl Belady {
             return Ok(Outcome::Miss);
         }
         put(
-            &mut self.entries,
+            &mut self.holdings,
             &mut self.order,
+            self.objects,
             object,
-            Held { size, next },
+            Held { size, kept: next },
         )?;
         self.used = free_farthest(
-            &mut self.entries,
+            &mut self.holdings,
             &mut self.order,
             self.used + size,
             self.capacity,
@@ -216,7 +248,7 @@ impl Policy for Belady {
     }
 
     fn holds(&self, object: u32) -> bool {
-        self.entries.contains_key(&object)
+        self.holdings.get(object).is_some()
     }
 
     fn request(

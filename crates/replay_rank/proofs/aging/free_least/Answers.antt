@@ -1,4 +1,4 @@
-use Rattle.std.proofs.Common.{◌≡◌, ℕ, ◌≤◌, ◌∙◌, arith}
+use Rattle.std.proofs.Common.{◌≡◌, ◌≤◌, ◌∙◌, arith}
 use Rattle.policy_model.specs.States.{used}
 use Rattle.replay_rank.specs.AgingEntries.{entries_of}
 use Rattle.replay_rank.proofs.AgingOrdered.{aging_turn}
