@@ -14,8 +14,8 @@ use std::marker::Model;
 /// The object of the least rank is given up first: the floor at its last request, plus its requests times 2^48 over its
 /// size. The floor rises to the rank of what is given up (Greedy-Dual-Size with Frequency, Cherkasova 1998).
 ///
-/// A request takes time logarithmic in the number of entries, for itself and for each entry that is given up. It takes
-/// memory for each entry.
+/// Requests take, one with another, time logarithmic in the number of entries, for themselves and for each entry that is
+/// given up. It takes memory for each object with the first entry, and for each entry.
 #[derive(Drop)]
 pub struct Gdsf {
     aging: Aging,
@@ -77,8 +77,8 @@ impl Policy for Gdsf {
 /// The object of the least rank is given up first: the floor at its last request, plus its requests. The floor rises to
 /// the rank of what is given up (LFU with Dynamic Aging, Arlitt and others 2000).
 ///
-/// A request takes time logarithmic in the number of entries, for itself and for each entry that is given up. It takes
-/// memory for each entry.
+/// Requests take, one with another, time logarithmic in the number of entries, for themselves and for each entry that is
+/// given up. It takes memory for each object with the first entry, and for each entry.
 #[derive(Drop)]
 pub struct Lfuda {
     aging: Aging,

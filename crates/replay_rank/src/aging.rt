@@ -203,7 +203,7 @@ fn give_up_least(
             put_back(order, Reverse((now, object)));
         }
     }
-    enter(0, 0, 0, 0)
+    unreachable()
 }
 
 /// The bytes that are still used, and the floor.

@@ -37,10 +37,10 @@ fn rank(next: Option<u32>) -> u64
 
 /// The object whose next request is farthest away is given up first, and one that has none before all others.
 ///
-/// A hit puts an item of the new next request into a heap, and that of the former one stays. When there are more than
-/// twice as many items as were left when such ones were last thrown away, they are thrown away again. So a request takes
-/// time logarithmic in the number of entries, but for a few, for itself and for each entry that is given up. It takes
-/// memory for each object with the first entry, and for each entry.
+/// A hit puts an item of the new next request into a heap, and that of the former one stays there. When there are twice as
+/// many items as were left when such ones were last thrown away, they are thrown away again. So requests take, one with
+/// another, time logarithmic in the number of entries, for themselves and for each entry that is given up. It takes memory
+/// for each object with the first entry, and for each entry.
 #[derive(Drop)]
 pub struct Belady {
     capacity: u64,
@@ -150,7 +150,7 @@ fn give_up_farthest(holdings: &mut Holdings<u64>, order: &mut BinaryHeap<(u64, u
             }
         }
     }
-    0
+    unreachable()
 }
 
 // Gives up the entries whose next requests are farthest, until the rest is within the capacity, and says how many bytes

@@ -31,9 +31,9 @@ struct Uses {
 /// The object with the fewest hits since it entered is given up first, and of those the one that was used longest ago.
 ///
 /// A hit changes what is held and leaves the heap as it is, whose items stand for no more uses than there were. An item
-/// that comes out of it with fewer goes back with all of them. So a request takes time logarithmic in the number of
-/// entries, for itself and for each entry that is given up. It takes memory for each object with the first entry, and for
-/// each entry.
+/// that comes out of it with fewer goes back with all of them. So requests take, one with another, time logarithmic in the
+/// number of entries, for themselves and for each entry that is given up. It takes memory for each object with the first
+/// entry, and for each entry.
 #[derive(Drop)]
 pub struct Lfu {
     capacity: u64,
@@ -154,7 +154,7 @@ fn give_up_least(
             put_back(order, Reverse((now, object)));
         }
     }
-    0
+    unreachable()
 }
 
 // Gives up the least used entries until this many bytes fit, and says how many bytes are still used.

@@ -12,20 +12,11 @@ use Rattle.replay_rank.proofs.BeladyOrdered.{by_next, belady_vain, belady_left, 
 use Rattle.replay_rank.proofs.belady.give_up_farthest.Goals as goal
 
 -- the heap is not empty while bytes are used
-empty : (c : goal.In_default) → ⊥
-empty c =
+pub unreachable-requires : goal.unreachable-requires
+unreachable-requires c =
     let some : 0 < length (heap_items c.loop-next.order) =
     some_item by_next c.loop-next.holdings (heap_items c.loop-next.order) c.loop-next.invariant.ordered.stand.covered (subst (λ ps. 0 < used (entries_of ps)) (sym c.loop-next.invariant.same) c.requires.some) in
     omega (arith, some, c.in_default.ensures.none, c.loop-next.order.data.ok.0)
-
-pub returns-clause-entries : goal.returns-clause-entries
-returns-clause-entries c = absurd (empty c)
-
-pub returns-clause-fewer : goal.returns-clause-fewer
-returns-clause-fewer c = absurd (empty c)
-
-pub returns-clause-size : goal.returns-clause-size
-returns-clause-size c = absurd (empty c)
 
 pub returns-then-held-next-clause-entries : goal.returns-then-held-next-clause-entries
 returns-then-held-next-clause-entries c =

@@ -74,17 +74,8 @@ loop-rank-preserved c = record {
 }
 
 -- the heap is not empty while bytes are used
-empty : (c : goal.In_default) → ⊥
-empty c =
+pub unreachable-requires : goal.unreachable-requires
+unreachable-requires c =
     let some : 0 < length (heap_items c.loop-rank.order) =
     some_item by_use c.loop-rank.holdings (heap_items c.loop-rank.order) c.loop-rank.invariant.ordered.covered (subst (λ ps. 0 < used (entries_of ps)) (sym c.loop-rank.invariant.same) c.requires.some) in
     omega (arith, some, c.in_default.ensures.none, c.loop-rank.order.data.ok.0)
-
-pub returns-clause-fewer : goal.returns-clause-fewer
-returns-clause-fewer c = absurd (empty c)
-
-pub returns-clause-size : goal.returns-clause-size
-returns-clause-size c = absurd (empty c)
-
-pub returns-clause-entries : goal.returns-clause-entries
-returns-clause-entries c = absurd (empty c)
