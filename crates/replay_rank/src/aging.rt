@@ -26,6 +26,9 @@ use std::marker::Model;
 // No rank is above this one.
 const MOST_RANK: u128 = 1 << 127;
 
+// The item of the least pair of rank and last use comes out first, and of equal pairs that of the least object number.
+type Items = BinaryHeap<Reverse<((u128, u64), u32)>>;
+
 /// The requests of an object since it entered, the number of requests before its last, and its rank.
 #[derive(Clone, Copy, Debug, PartialEq, Eq)]
 struct Ranked {
@@ -46,7 +49,7 @@ pub(crate) struct Aging {
     used: u64,
     floor: u128,
     holdings: Holdings<Ranked>,
-    order: BinaryHeap<Reverse<((u128, u64), u32)>>,
+    order: Items,
 }
 
 impl Model for Aging {
@@ -130,7 +133,7 @@ fn is_at_most(former: (u128, u64), now: (u128, u64)) -> bool
 // Renews what is held of an object.
 fn renew(
     holdings: &mut Holdings<Ranked>,
-    order: &mut BinaryHeap<Reverse<((u128, u64), u32)>>,
+    order: &mut Items,
     object: u32,
     former: Held<Ranked>,
     now: Held<Ranked>,
@@ -154,7 +157,7 @@ fn renew(
 // Puts in an object that is not held.
 fn put(
     holdings: &mut Holdings<Ranked>,
-    order: &mut BinaryHeap<Reverse<((u128, u64), u32)>>,
+    order: &mut Items,
     objects: u32,
     object: u32,
     held: Held<Ranked>,
@@ -173,7 +176,7 @@ fn put(
 }
 
 // Puts an item into the room of one that came out.
-fn put_back(order: &mut BinaryHeap<Reverse<((u128, u64), u32)>>, item: Reverse<((u128, u64), u32)>)
+fn put_back(order: &mut Items, item: Reverse<((u128, u64), u32)>)
     requires room { heap_len order.old < heap_capacity order.old }
     ensures items { IsPermutation (item ∷ heap_items order.old) (heap_items order.new) }
     ensures heap { KeepsHeap item_cmp (heap_items order.old) (heap_items order.new) }
@@ -182,10 +185,7 @@ fn put_back(order: &mut BinaryHeap<Reverse<((u128, u64), u32)>>, item: Reverse<(
 }
 
 // Gives up the entry of the least rank, and says what was held of it.
-fn give_up_least(
-    holdings: &mut Holdings<Ranked>,
-    order: &mut BinaryHeap<Reverse<((u128, u64), u32)>>,
-) -> Held<Ranked>
+fn give_up_least(holdings: &mut Holdings<Ranked>, order: &mut Items) -> Held<Ranked>
     requires some { 0 < used (entries_of holdings.old) }
     requires ordered { AreOrdered holdings.old (heap_items order.old) }
     ensures stock { (floor : ℕ) → over_floor result.kept.rank (entries_of holdings.new) ≡ age_at floor (entries_of holdings.old) }
@@ -216,7 +216,7 @@ struct Left {
 // Gives up the entries of the least ranks until this many bytes fit. The floor rises to the rank of each.
 fn free_least(
     holdings: &mut Holdings<Ranked>,
-    order: &mut BinaryHeap<Reverse<((u128, u64), u32)>>,
+    order: &mut Items,
     before: Left,
     capacity: u64,
     size: u64,

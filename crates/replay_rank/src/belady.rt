@@ -35,6 +35,9 @@ fn rank(next: Option<u32>) -> u64
     }
 }
 
+// The item of the farthest next request comes out first, and of equally far ones that of the greatest object number.
+type Items = BinaryHeap<(u64, u32)>;
+
 /// The object whose next request is farthest away is given up first, and one that has none before all others.
 ///
 /// A hit puts an item of the new next request into a heap, and that of the former one stays there. When there are twice as
@@ -48,7 +51,7 @@ pub struct Belady {
     requests: u64,
     used: u64,
     holdings: Holdings<u64>,
-    order: BinaryHeap<(u64, u32)>,
+    order: Items,
     // How many items the heap has when it is next looked through.
     limit: usize,
 }
@@ -78,7 +81,7 @@ fn is_current(holdings: &Holdings<u64>, item: &(u64, u32)) -> bool
 }
 
 // Throws the items away that stand for no next request, if there are this many items, and says at how many to do it again.
-fn throw_away(holdings: &Holdings<u64>, order: &mut BinaryHeap<(u64, u32)>, limit: usize) -> usize
+fn throw_away(holdings: &Holdings<u64>, order: &mut Items, limit: usize) -> usize
     requires ordered { AreOrdered holdings.now (heap_items order.old) }
     ensures ordered { AreOrdered holdings.now (heap_items order.new) }
 {
@@ -92,7 +95,7 @@ fn throw_away(holdings: &Holdings<u64>, order: &mut BinaryHeap<(u64, u32)>, limi
 // Renews the next request of an object that is held.
 fn renew(
     holdings: &mut Holdings<u64>,
-    order: &mut BinaryHeap<(u64, u32)>,
+    order: &mut Items,
     object: u32,
     held: Held<u64>,
     next: u64,
@@ -114,7 +117,7 @@ fn renew(
 // Puts in an object that is not held.
 fn put(
     holdings: &mut Holdings<u64>,
-    order: &mut BinaryHeap<(u64, u32)>,
+    order: &mut Items,
     objects: u32,
     object: u32,
     held: Held<u64>,
@@ -134,7 +137,7 @@ fn put(
 }
 
 // Gives up the entry whose next request is farthest, and says its size in bytes.
-fn give_up_farthest(holdings: &mut Holdings<u64>, order: &mut BinaryHeap<(u64, u32)>) -> u64
+fn give_up_farthest(holdings: &mut Holdings<u64>, order: &mut Items) -> u64
     requires some { 0 < used (entries_of holdings.old) }
     requires ordered { AreOrdered holdings.old (heap_items order.old) }
     ensures entries { entries_of holdings.new ≡ remove_foremost is_farther (entries_of holdings.old) }
@@ -155,12 +158,7 @@ fn give_up_farthest(holdings: &mut Holdings<u64>, order: &mut BinaryHeap<(u64, u
 
 // Gives up the entries whose next requests are farthest, until the rest is within the capacity, and says how many bytes
 // are still used.
-fn free_farthest(
-    holdings: &mut Holdings<u64>,
-    order: &mut BinaryHeap<(u64, u32)>,
-    in_use: u64,
-    capacity: u64,
-) -> u64
+fn free_farthest(holdings: &mut Holdings<u64>, order: &mut Items, in_use: u64, capacity: u64) -> u64
     requires in_use { in_use ≡ used (entries_of holdings.old) }
     requires ordered { AreOrdered holdings.old (heap_items order.old) }
     ensures entries { entries_of holdings.new ≡ make_room (length holdings.old) (remove_foremost is_farther) capacity 0 (entries_of holdings.old) }

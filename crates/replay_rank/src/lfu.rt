@@ -21,6 +21,9 @@ use std::cmp::Reverse;
 use std::collections::BinaryHeap;
 use std::marker::Model;
 
+// The item of the least pair of count and last use comes out first, and of equal pairs that of the least object number.
+type Items = BinaryHeap<Reverse<((u64, u64), u32)>>;
+
 /// The hits of an object since it entered, and the number of requests before its last.
 #[derive(Clone, Copy, Debug, PartialEq, Eq)]
 struct Uses {
@@ -41,7 +44,7 @@ pub struct Lfu {
     requests: u64,
     used: u64,
     holdings: Holdings<Uses>,
-    order: BinaryHeap<Reverse<((u64, u64), u32)>>,
+    order: Items,
 }
 
 impl Model for Lfu {
@@ -75,7 +78,7 @@ fn is_at_most(former: (u64, u64), now: (u64, u64)) -> bool
 // Counts a hit of an object that is held.
 fn count_hit(
     holdings: &mut Holdings<Uses>,
-    order: &mut BinaryHeap<Reverse<((u64, u64), u32)>>,
+    order: &mut Items,
     object: u32,
     held: Held<Uses>,
     now: u64,
@@ -105,7 +108,7 @@ fn count_hit(
 // Puts in an object that is not held.
 fn put(
     holdings: &mut Holdings<Uses>,
-    order: &mut BinaryHeap<Reverse<((u64, u64), u32)>>,
+    order: &mut Items,
     objects: u32,
     object: u32,
     held: Held<Uses>,
@@ -124,7 +127,7 @@ fn put(
 }
 
 // Puts an item into the room of one that came out.
-fn put_back(order: &mut BinaryHeap<Reverse<((u64, u64), u32)>>, item: Reverse<((u64, u64), u32)>)
+fn put_back(order: &mut Items, item: Reverse<((u64, u64), u32)>)
     requires room { heap_len order.old < heap_capacity order.old }
     ensures items { IsPermutation (item ∷ heap_items order.old) (heap_items order.new) }
     ensures heap { KeepsHeap item_cmp (heap_items order.old) (heap_items order.new) }
@@ -133,10 +136,7 @@ fn put_back(order: &mut BinaryHeap<Reverse<((u64, u64), u32)>>, item: Reverse<((
 }
 
 // Gives up the least used entry, and says its size in bytes.
-fn give_up_least(
-    holdings: &mut Holdings<Uses>,
-    order: &mut BinaryHeap<Reverse<((u64, u64), u32)>>,
-) -> u64
+fn give_up_least(holdings: &mut Holdings<Uses>, order: &mut Items) -> u64
     requires some { 0 < used (entries_of holdings.old) }
     requires ordered { AreOrdered holdings.old (heap_items order.old) }
     ensures entries { entries_of holdings.new ≡ remove_foremost is_less_used (entries_of holdings.old) }
@@ -160,7 +160,7 @@ fn give_up_least(
 // Gives up the least used entries until this many bytes fit, and says how many bytes are still used.
 fn free_least_used(
     holdings: &mut Holdings<Uses>,
-    order: &mut BinaryHeap<Reverse<((u64, u64), u32)>>,
+    order: &mut Items,
     in_use: u64,
     capacity: u64,
     size: u64,
