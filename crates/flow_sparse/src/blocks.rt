@@ -13,6 +13,12 @@ use std::alloc::Global;
 /// At most this many blocks are settled first. With more of them most arcs of a long trace would be in many.
 const MOST_BLOCKS: u32 = 64;
 
+/// With fewer steps than this many blocks of the greatest first width there are at least this many blocks.
+const FEWEST_BLOCKS: u32 = 16;
+
+/// Where there are few blocks, the first ones have at most this many steps. Narrower ones cost more turns than they save.
+const FIRST_STEPS: u32 = 32768;
+
 /// How many steps a block at least has. With fewer it would cost more to make than it saves.
 const FEWEST_STEPS: u32 = 1024;
 
@@ -142,6 +148,14 @@ fn settle_level(
     Ok(())
 }
 
+// How many steps the first blocks have.
+fn first_width(steps: u32) -> u32
+    ensures { 0 < result }
+{
+    let few = FIRST_STEPS.min(steps / FEWEST_BLOCKS);
+    FEWEST_STEPS.max(few).max(steps / MOST_BLOCKS)
+}
+
 /// First prices of the instance: a constant price on some steps, then those of blocks, and then of blocks that are wider and
 /// wider. The last are thirds of the steps, so that the ends of the blocks before lie within them.
 pub fn first_prices(alloc: Global, instance: &Instance) -> Result<Vec<u128>, NoMemory>
@@ -154,7 +168,7 @@ pub fn first_prices(alloc: Global, instance: &Instance) -> Result<Vec<u128>, NoM
         return Ok(prices);
     }
     let mut sums = vec![in alloc; 0; steps as usize + 1]?;
-    let mut width = FEWEST_STEPS.max(steps / MOST_BLOCKS);
+    let mut width = first_width(steps);
     while width <= steps / 2 {
         settle_level(alloc, instance, width, &mut sums, &mut prices)?;
         width *= WIDER;
