@@ -4,7 +4,6 @@ use Rattle.std.proofs.lemmas.Bool.{cases_lt}
 use Rattle.std.proofs.lemmas.List.{get_or_past}
 use Rattle.flow_model.specs.Instances.{Instance, IsInstance, IsArc, no_arc, arc_at, price_over}
 use Rattle.flow_model.proofs.Equal.{telescope}
-use Rattle.flow_sparse.specs.Ranges.{Ranges}
 use Rattle.flow_sparse.specs.States.{State}
 use Rattle.flow_sparse.specs.Contractions.{AreOpen, IsSlack}
 use Rattle.flow_sparse.specs.Rooms.{HasRoom}
@@ -35,18 +34,15 @@ small_fitted whole falls flows fits wide fitted i h = omega (arith, (fitted i (o
 pub shut_priced : (whole : Instance) (opens : List Bool) (prices : List ℕ) → length prices ≡ whole.steps → ((t : ℕ) → t < whole.steps → slice_index_or opens t false ≡ false → slice_index prices t ≡ 0) → AreOpen opens prices
 shut_priced whole opens prices long shut t is_shut = ⊎_elim (λ (h : t < whole.steps). shut t h is_shut) (λ (h : whole.steps ≤ t). get_or_past prices t 0 (omega (arith, h, long))) (cases_lt t whole.steps)
 
-pub room_fitted : (whole : Instance) (old new : State) (lists : Ranges) (nodes steps_of : ℕ) → HasRoom whole old lists nodes steps_of → new ≡ record old { flows = record { outer = new.flows.outer; inner = old.flows.inner } }
-    → length new.flows.outer ≡ length old.flows.outer → HasRoom whole new lists nodes steps_of
-room_fitted whole old new lists nodes steps_of room is same =
+pub room_fitted : (whole : Instance) (old new : State) (nodes steps_of : ℕ) → HasRoom whole old nodes steps_of → new ≡ record old { flows = record { outer = new.flows.outer; inner = old.flows.inner } }
+    → length new.flows.outer ≡ length old.flows.outer → HasRoom whole new nodes steps_of
+room_fitted whole old new nodes steps_of room is same =
     record {
       sized = record {
         units = ap (λ (s : State). s.instance.units) is ∙ room.sized.units;
         arcs = ap (λ (s : State). length s.instance.arcs) is ∙ room.sized.arcs;
         outer = same ∙ room.sized.outer;
       };
-      numbers = room.numbers;
-      slacks = room.slacks;
-      are_edges = room.are_edges;
       nodes_fit = room.nodes_fit;
       steps_fit = room.steps_fit;
     }

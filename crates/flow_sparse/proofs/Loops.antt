@@ -1,67 +1,85 @@
 -- Outer edges that lead from a node to itself stand in no node's list, and are settled at any distances.
-use Rattle.std.proofs.Common.{◌≡◌, ◌≢◌, ◌∙◌, ℕ, ◌*◌, ◌<◌, ◌≤◌, ap, refl, cond, List, length, map, arith, ⊎_elim, slice_index}
-use Rattle.std.proofs.lemmas.Bool.{cases_lt, lt-ltb, le-ltb}
-use Rattle.std.proofs.lemmas.List.{get_or-map, length-map}
-use Rattle.flow_model.specs.declared.arcs.OuterArc.{OuterArc}
+use Rattle.std.proofs.Common.{◌≡◌, ◌≢◌, ◌∙◌, ℕ, ◌+◌, ◌*◌, ◌<◌, ◌≤◌, ◌==◌, ap, refl, cond, List, length, arith, ⊎_elim, slice_index}
+use Rattle.std.proofs.lemmas.Bool.{cases_eq, eq-eqb, ne_eqb}
 use Rattle.flow_model.specs.declared.edges.Edge.{Edge}
 use Rattle.flow_model.specs.declared.edges.Edge.TheVariants.{Inner, InnerBack, Outer, OuterBack}
-use Rattle.flow_model.specs.Instances.{Instance, no_arc, arc_at}
-use Rattle.flow_model.specs.Networks.{IsEdge, tail, head}
+use Rattle.flow_model.specs.Instances.{Instance, no_arc}
+use Rattle.flow_model.specs.Networks.{IsEdge, tail, head, residual}
 use Rattle.flow_parts.specs.OuterEdges.{edge_of, tail_of}
 use Rattle.flow_parts.proofs.EdgeLists.{is_edge_of}
 use Rattle.flow_sparse.specs.States.{State, IsNetwork, IsReady, IsSettled}
-use Rattle.flow_sparse.specs.Searches.{without_loop}
+use Rattle.flow_sparse.specs.Searches.{list_of, list_of_edge}
 
-kept : (past : ℕ) (arc : OuterArc) → arc.start < arc.end → without_loop past arc ≡ arc
-kept past arc h = ap (λ b. cond b arc (record arc { start = past; end = past })) (lt-ltb arc.start arc.end h)
+-- an edge that leads back to its node stands in the list past all
+pub list_of-loop : (s : State) (e : Edge) → tail s.instance.arcs e ≡ head s.instance.arcs e → list_of_edge s e ≡ s.instance.steps + 1
+unfolding list_of_edge
+list_of-loop s e same =
+    ap (λ b. cond b (s.instance.steps + 1) (cond (residual s.instance s.flows e == 0) (s.instance.steps + 1) (tail s.instance.arcs e))) (eq-eqb (tail s.instance.arcs e) (head s.instance.arcs e) same)
 
-moved : (past : ℕ) (arc : OuterArc) → arc.end ≤ arc.start → without_loop past arc ≡ record arc { start = past; end = past }
-moved past arc h = ap (λ b. cond b arc (record arc { start = past; end = past })) (le-ltb arc.start arc.end h)
+-- an edge without room stands in the list past all
+pub list_of-shut : (s : State) (e : Edge) → residual s.instance s.flows e ≡ 0 → list_of_edge s e ≡ s.instance.steps + 1
+unfolding list_of_edge
+list_of-shut s e none =
+    ⊎_elim
+    (λ (same : tail s.instance.arcs e ≡ head s.instance.arcs e). list_of-loop s e same)
+    (λ (apart : tail s.instance.arcs e ≢ head s.instance.arcs e).
+    ap (λ b. cond b (s.instance.steps + 1) (cond (residual s.instance s.flows e == 0) (s.instance.steps + 1) (tail s.instance.arcs e))) (ne_eqb (tail s.instance.arcs e) (head s.instance.arcs e) apart)
+    ∙ ap (λ b. cond b (s.instance.steps + 1) (tail s.instance.arcs e)) (eq-eqb (residual s.instance s.flows e) 0 none))
+    (cases_eq (tail s.instance.arcs e) (head s.instance.arcs e))
 
-at : (past : ℕ) (arcs : List OuterArc) (i : ℕ) → i < length arcs → arc_at (map (without_loop past) arcs) i ≡ without_loop past (arc_at arcs i)
-at past arcs i h = get_or-map (without_loop past) arcs i no_arc no_arc h
+-- any other stands in that of its tail
+pub list_of-kept : (s : State) (e : Edge) → tail s.instance.arcs e ≢ head s.instance.arcs e → residual s.instance s.flows e ≢ 0 → list_of_edge s e ≡ tail s.instance.arcs e
+unfolding list_of_edge
+list_of-kept s e apart some =
+    ap (λ b. cond b (s.instance.steps + 1) (cond (residual s.instance s.flows e == 0) (s.instance.steps + 1) (tail s.instance.arcs e))) (ne_eqb (tail s.instance.arcs e) (head s.instance.arcs e) apart)
+    ∙ ap (λ b. cond b (s.instance.steps + 1) (tail s.instance.arcs e)) (ne_eqb (residual s.instance s.flows e) 0 some)
 
-tail_kept : (instance : Instance) (past : ℕ) (e : Edge) → IsNetwork instance → IsEdge instance e → tail instance.arcs e ≢ head instance.arcs e → tail (map (without_loop past) instance.arcs) e ≡ tail instance.arcs e
-tail_kept instance past (Inner t) fits is apart = refl
-tail_kept instance past (InnerBack t) fits is apart = refl
-tail_kept instance past (Outer i) fits is apart =
-    let order = (fits.arcs_fit i no_arc is).order in
-    let h : (arc_at instance.arcs i).start < (arc_at instance.arcs i).end = ⊎_elim (λ (h : (arc_at instance.arcs i).start < (arc_at instance.arcs i).end). h) (λ (h : (arc_at instance.arcs i).end ≤ (arc_at instance.arcs i).start). absurd (apart (omega (arith, h, order)))) (cases_lt (arc_at instance.arcs i).start (arc_at instance.arcs i).end) in
-    ap (λ (a : OuterArc). a.start) (at past instance.arcs i is ∙ kept past (arc_at instance.arcs i) h)
-tail_kept instance past (OuterBack i) fits is apart =
-    let order = (fits.arcs_fit i no_arc is).order in
-    let h : (arc_at instance.arcs i).start < (arc_at instance.arcs i).end = ⊎_elim (λ (h : (arc_at instance.arcs i).start < (arc_at instance.arcs i).end). h) (λ (h : (arc_at instance.arcs i).end ≤ (arc_at instance.arcs i).start). absurd (apart (omega (arith, h, order)))) (cases_lt (arc_at instance.arcs i).start (arc_at instance.arcs i).end) in
-    ap (λ (a : OuterArc). a.end) (at past instance.arcs i is ∙ kept past (arc_at instance.arcs i) h)
-
-tail_moved : (instance : Instance) (past : ℕ) (e : Edge) → IsEdge instance e → tail instance.arcs e ≡ head instance.arcs e → tail (map (without_loop past) instance.arcs) e ≡ past
-tail_moved instance past (Inner t) is same = absurd (omega (arith, same))
-tail_moved instance past (InnerBack t) is same = absurd (omega (arith, same))
-tail_moved instance past (Outer i) is same = ap (λ (a : OuterArc). a.start) (at past instance.arcs i is ∙ moved past (arc_at instance.arcs i) (omega (arith, same)))
-tail_moved instance past (OuterBack i) is same = ap (λ (a : OuterArc). a.end) (at past instance.arcs i is ∙ moved past (arc_at instance.arcs i) (omega (arith, same)))
-
--- the number names the same edge
-same_edge : (instance : Instance) (past k : ℕ) → tail_of (map (without_loop past) instance.arcs) k ≡ tail (map (without_loop past) instance.arcs) (edge_of (length instance.arcs) k)
-same_edge instance past k = ap (λ n. tail (map (without_loop past) instance.arcs) (edge_of n k)) (length-map instance.arcs (without_loop past))
-
--- an edge that leads elsewhere stands in the list of its tail
-pub list_kept : (instance : Instance) (past k : ℕ) → IsNetwork instance → k < 2 * length instance.arcs → tail_of instance.arcs k ≢ head instance.arcs (edge_of (length instance.arcs) k)
-    → tail_of (map (without_loop past) instance.arcs) k ≡ tail_of instance.arcs k
-list_kept instance past k fits h apart = same_edge instance past k ∙ tail_kept instance past (edge_of (length instance.arcs) k) fits (is_edge_of instance k h) apart
-
--- and one that leads back stands past all
-pub list_moved : (instance : Instance) (past k : ℕ) → k < 2 * length instance.arcs → tail_of instance.arcs k ≡ head instance.arcs (edge_of (length instance.arcs) k)
-    → tail_of (map (without_loop past) instance.arcs) k ≡ past
-list_moved instance past k h same = same_edge instance past k ∙ tail_moved instance past (edge_of (length instance.arcs) k) (is_edge_of instance k h) same
+-- of a number it is the list of its edge
+pub list_of-number : (s : State) (k : ℕ) → list_of s k ≡ list_of_edge s (edge_of (length s.instance.arcs) k)
+unfolding list_of
+list_of-number s k = refl
 
 -- the edge leads out of a node of the instance
+pub tail_within_edge : (instance : Instance) (e : Edge) → IsNetwork instance → IsEdge instance e → tail instance.arcs e ≤ instance.steps
+tail_within_edge instance (Inner t) fits is = omega (arith, is)
+tail_within_edge instance (InnerBack t) fits is = omega (arith, is)
+tail_within_edge instance (Outer i) fits is = let a = fits.arcs_fit i no_arc is in omega (arith, a.order, a.within)
+tail_within_edge instance (OuterBack i) fits is = (fits.arcs_fit i no_arc is).within
+
+-- and to one
+pub head_within_edge : (instance : Instance) (e : Edge) → IsNetwork instance → IsEdge instance e → head instance.arcs e ≤ instance.steps
+head_within_edge instance (Inner t) fits is = omega (arith, is)
+head_within_edge instance (InnerBack t) fits is = omega (arith, is)
+head_within_edge instance (Outer i) fits is = (fits.arcs_fit i no_arc is).within
+head_within_edge instance (OuterBack i) fits is = let a = fits.arcs_fit i no_arc is in omega (arith, a.order, a.within)
+
 pub tail_within : (instance : Instance) (k : ℕ) → IsNetwork instance → k < 2 * length instance.arcs → tail_of instance.arcs k ≤ instance.steps
-tail_within instance k fits h = of_edge (edge_of (length instance.arcs) k) (is_edge_of instance k h)
-  where
-    of_edge : (e : Edge) → IsEdge instance e → tail instance.arcs e ≤ instance.steps
-    of_edge (Inner t) is = omega (arith, is)
-    of_edge (InnerBack t) is = omega (arith, is)
-    of_edge (Outer i) is = let a = fits.arcs_fit i no_arc is in omega (arith, a.order, a.within)
-    of_edge (OuterBack i) is = (fits.arcs_fit i no_arc is).within
+tail_within instance k fits h = tail_within_edge instance (edge_of (length instance.arcs) k) fits (is_edge_of instance k h)
+
+pub head_within : (instance : Instance) (k : ℕ) → IsNetwork instance → k < 2 * length instance.arcs → head instance.arcs (edge_of (length instance.arcs) k) ≤ instance.steps
+head_within instance k fits h = head_within_edge instance (edge_of (length instance.arcs) k) fits (is_edge_of instance k h)
+
+-- the edge stands in the list of a node, so it has room and leads from that to another
+pub record IsKept (s : State) (k : ℕ) : Type 0 where
+  pub room : 0 < residual s.instance s.flows (edge_of (length s.instance.arcs) k)
+  pub list_is : list_of s k ≡ tail_of s.instance.arcs k
+
+pub kept_low : (s : State) (k : ℕ) → list_of s k ≤ s.instance.steps → IsKept s k
+kept_low s k low =
+    let e : Edge = edge_of (length s.instance.arcs) k in
+    ⊎_elim
+    (λ (same : tail s.instance.arcs e ≡ head s.instance.arcs e). absurd (omega (arith, low, list_of-number s k, list_of-loop s e same)))
+    (λ (apart : tail s.instance.arcs e ≢ head s.instance.arcs e).
+    ⊎_elim
+    (λ (none : residual s.instance s.flows e ≡ 0). absurd (omega (arith, low, list_of-number s k, list_of-shut s e none)))
+    (λ (some : residual s.instance s.flows e ≢ 0). record { room = omega (arith, some); list_is = list_of-number s k ∙ list_of-kept s e apart some })
+    (cases_eq (residual s.instance s.flows e) 0))
+    (cases_eq (tail s.instance.arcs e) (head s.instance.arcs e))
+
+-- an edge with room to another node stands in the list of its tail
+pub list_kept : (s : State) (k : ℕ) → tail_of s.instance.arcs k ≢ head s.instance.arcs (edge_of (length s.instance.arcs) k) → 0 < residual s.instance s.flows (edge_of (length s.instance.arcs) k)
+    → list_of s k ≡ tail_of s.instance.arcs k
+list_kept s k apart room = list_of-number s k ∙ list_of-kept s (edge_of (length s.instance.arcs) k) apart (λ none. omega (arith, room, none))
 
 -- an edge that leads back to its node is settled
 pub loop_settled : (state : State) (distances : List ℕ) (limit : ℕ) (e : Edge) → IsReady state → IsEdge state.instance e → tail state.instance.arcs e ≡ head state.instance.arcs e → IsSettled state distances limit e

@@ -1,16 +1,12 @@
 -- What a solver works on.
-use Rattle.std.specs.Prelude.{◌≡◌, ℕ, ◌+◌, ◌*◌, ◌<◌, ◌≤◌, Bool, List, length, slice_index}
+use Rattle.std.specs.Prelude.{◌≡◌, ℕ, ◌+◌, ◌≤◌, Bool, List, length}
 use Rattle.flow_model.specs.Instances.{Instance}
-use Rattle.flow_sparse.specs.Ranges.{Ranges}
 use Rattle.flow_sparse.specs.States.{State}
 use Rattle.flow_sparse.specs.Contractions.{AreFull, AreOpen, IsSized, IsSlack}
 
 -- there is room for all steps and arcs
-pub record HasRoom (whole : Instance) (state : State) (lists : Ranges) (nodes steps_of : ℕ) : Type 0 where
+pub record HasRoom (whole : Instance) (state : State) (nodes steps_of : ℕ) : Type 0 where
   pub sized : IsSized whole state
-  pub numbers : length lists.numbers ≡ 2 * length whole.arcs
-  pub slacks : length lists.slacks ≡ 2 * length whole.arcs
-  pub are_edges : (place : ℕ) → place < length lists.numbers → slice_index lists.numbers place < 2 * length whole.arcs
   pub nodes_fit : nodes ≡ whole.steps + 1
   pub steps_fit : whole.steps ≤ steps_of
 

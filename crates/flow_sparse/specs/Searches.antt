@@ -1,13 +1,11 @@
 -- A search for the distance of nodes from one of them, as far as the nearest that has units over.
-use Rattle.std.specs.Prelude.{◌≡◌, ◌≢◌, ◌⊎◌, ℕ, ◌+◌, ◌*◌, ◌^◌, ◌<◌, ◌≤◌, if◌then◌else◌, List, length, nat_lt, slice_index, sum}
-use Rattle.flow_model.specs.declared.arcs.OuterArc.{OuterArc}
+use Rattle.std.specs.Prelude.{◌≡◌, ◌≢◌, ◌⊎◌, ℕ, ◌+◌, ◌*◌, ◌^◌, ◌<◌, ◌≤◌, ◌==◌, if◌then◌else◌, List, length, slice_index, sum}
 use Rattle.flow_model.specs.declared.edges.Edge.{Edge}
-use Rattle.flow_model.specs.Instances.{Instance}
 use Rattle.flow_model.specs.Networks.{tail, head, gain, loss, residual, IsEdge, IsTight}
-use Rattle.flow_model.specs.Pushes.{edge_at, opposite}
+use Rattle.flow_model.specs.Pushes.{edge_at}
 use Rattle.flow_parts.specs.Queues.{Waiting, Waits, IsPlaced, IsQueue}
 use Rattle.flow_parts.specs.OuterEdges.{edge_of, tail_of}
-use Rattle.flow_sparse.specs.Ranges.{AreHeads, Ranges, number_of}
+use Rattle.flow_sparse.specs.Ranges.{Ranges, IsPlacedAt, IsSound, AreRising, AreChained, WasWoken, listed_at}
 use Rattle.flow_sparse.specs.States.{State, IsSettled, lowered}
 
 -- how far each node is by a walk that was found, the last edge of that walk, the nodes that wait for their edges to be looked
@@ -98,48 +96,33 @@ pub record KeepsRoom (old new : Found) : Type 0 where
   pub placed : IsPlaced new.waiting
   pub none_waits : new.waiting.count ≡ 0
 
--- the arc, or where it leads from a node to itself, one that does so from the node past all
-abbrev pub without_loop : ℕ → OuterArc → OuterArc
-without_loop past arc = if nat_lt arc.start arc.end then arc else record arc { start = past; end = past }
+-- the node in whose list the edge stands: the one that it leads out of; or if it has no room or leads back to that node, the
+-- one past all
+unfoldable pub list_of_edge : State → Edge → ℕ
+list_of_edge state e =
+    if tail state.instance.arcs e == head state.instance.arcs e
+    then state.instance.steps + 1
+    else (if residual state.instance state.flows e == 0 then state.instance.steps + 1 else tail state.instance.arcs e)
 
--- the edge of that number stands in the range of the node
-abbrev pub IsPlacedAt : Ranges → ℕ → ℕ → Type 0
-IsPlacedAt lists node number =
-    (place : ℕ) × (slice_index lists.first node ≤ place) × (place < slice_index lists.first (node + 1)) × (slice_index lists.numbers place ≡ number)
+-- the node in whose list the outer edge of that number stands
+unfoldable pub list_of : State → ℕ → ℕ
+list_of state number = list_of_edge state (edge_of (length state.instance.arcs) number)
 
--- each node has a range of places with the numbers of edges, and each outer edge to another node stands in that of its tail
-pub record IsListed (instance : Instance) (lists : Ranges) : Type 0 where
-  pub few : instance.steps + 1 < length lists.first
-  pub order : (node : ℕ) → node ≤ instance.steps → slice_index lists.first node ≤ slice_index lists.first (node + 1)
-  pub within : (node : ℕ) → node ≤ instance.steps → slice_index lists.first (node + 1) ≤ length lists.numbers
-  pub are_edges : (place : ℕ) → place < length lists.numbers → slice_index lists.numbers place < 2 * length instance.arcs
-  pub listed : (k : ℕ) → k < 2 * length instance.arcs → tail_of instance.arcs k ≢ head instance.arcs (edge_of (length instance.arcs) k) → IsPlacedAt lists (tail_of instance.arcs k) k
-
--- if the edge has room, it is at least that long
-abbrev pub IsLong : State → ℕ → Edge → Type 0
-IsLong state slack e =
-    0 < residual state.instance state.flows e
-    → slack + (gain state.instance.arcs e + slice_index state.potentials (head state.instance.arcs e)) ≤ loss state.instance.arcs e + slice_index state.potentials (tail state.instance.arcs e)
-
--- where the opposite of the edge is listed there is no slack
-abbrev pub IsWoken : Instance → Ranges → Edge → Type 0
-IsWoken instance lists e =
-    (place : ℕ) → slice_index lists.first (head instance.arcs e) ≤ place → place < slice_index lists.first (head instance.arcs e + 1)
-    → slice_index lists.numbers place ≡ number_of (length instance.arcs) (opposite e) → slice_index lists.slacks place ≡ 0
-
--- no listed edge with room is shorter than its slack, less what the potential of its tail fell by since it was marked
-pub record IsBounded (state : State) (lists : Ranges) : Type 0 where
-  pub few : length lists.slacks ≤ 2 ^ 27
-  pub each_slack : length lists.slacks ≡ length lists.numbers
+-- each node has a range of places with edges, their slacks rising, and each outer edge with room to another node stands in
+-- that of its tail, or was woken; and no potential is above its mark
+pub record IsListed (state : State) (lists : Ranges) : Type 0 where
+  pub few : state.instance.steps + 1 < length lists.first
+  pub order : (node : ℕ) → node ≤ state.instance.steps → slice_index lists.first node ≤ slice_index lists.first (node + 1)
+  pub within : (node : ℕ) → node ≤ state.instance.steps → slice_index lists.first (node + 1) ≤ length lists.edges
+  pub sound : (place : ℕ) → place < length lists.edges → IsSound state.instance (listed_at lists.edges place)
+  pub rising : (node : ℕ) → node ≤ state.instance.steps → AreRising lists.edges (slice_index lists.first node) (slice_index lists.first (node + 1))
   pub each_mark : state.instance.steps + 1 ≤ length lists.marks
-  pub heads : AreHeads lists.slacks
   pub falls : (node : ℕ) → node ≤ state.instance.steps → slice_index state.potentials node ≤ slice_index lists.marks node
   pub small : (node : ℕ) → node ≤ state.instance.steps → slice_index lists.marks node ≤ 2 ^ 124
-  pub bounds : (node place : ℕ) → node ≤ state.instance.steps → slice_index lists.first node ≤ place → place < slice_index lists.first (node + 1)
-      → tail_of state.instance.arcs (slice_index lists.numbers place) ≡ node
-      → 0 < residual state.instance state.flows (edge_of (length state.instance.arcs) (slice_index lists.numbers place))
-      → slice_index lists.slacks place + (gain state.instance.arcs (edge_of (length state.instance.arcs) (slice_index lists.numbers place)) + slice_index state.potentials (head state.instance.arcs (edge_of (length state.instance.arcs) (slice_index lists.numbers place))))
-      ≤ loss state.instance.arcs (edge_of (length state.instance.arcs) (slice_index lists.numbers place)) + slice_index lists.marks node
+  pub chained : AreChained state.instance lists.last lists.woken
+  pub listed : (k : ℕ) → k < 2 * length state.instance.arcs → tail_of state.instance.arcs k ≢ head state.instance.arcs (edge_of (length state.instance.arcs) k)
+      → 0 < residual state.instance state.flows (edge_of (length state.instance.arcs) k)
+      → IsPlacedAt state.instance lists.first lists.edges lists.marks (tail_of state.instance.arcs k) k ⊎ WasWoken lists.woken k
 
 -- under the lowered potentials the edge is tight, and leads to the node from one within the limit that was found before
 pub record IsHop (state : State) (found : Found) (times : ℕ → ℕ) (e : Edge) (node : ℕ) : Type 0 where

@@ -10,7 +10,9 @@
 #![tactic(auto)]
 
 mod blocks;
+mod edges;
 mod grain;
+mod listing;
 mod lists;
 mod loads;
 mod network;

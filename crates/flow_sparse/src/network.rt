@@ -1,10 +1,9 @@
 //! The network of the open steps.
-ghost use Rattle.std.specs.Prelude.{◌≡◌, ◌⊎◌, ℕ, ◌+◌, ◌-◌, ◌*◌, ◌≤◌, ◌<◌, ◌^◌, All, length, map, slice_index, slice_set};
+ghost use Rattle.std.specs.Prelude.{◌≡◌, ℕ, ◌+◌, ◌-◌, ◌*◌, ◌≤◌, ◌<◌, ◌^◌, All, length, slice_index, slice_set};
 ghost use Rattle.flow_model.specs.Networks.{IsEdge, residual, tail, head, gain, loss};
 ghost use Rattle.flow_model.specs.Pushes.{IsSimple, push_path};
-ghost use Rattle.flow_parts.specs.OuterEdges.{tail_of};
 ghost use Rattle.flow_model.specs.Instances.{IsInstance, arc_at, load_at};
-ghost use Rattle.flow_sparse.specs.Searches.{without_loop};
+ghost use Rattle.flow_sparse.specs.Searches.{list_of};
 ghost use Rattle.flow_sparse.specs.Starts.{IsFitted};
 ghost use Rattle.flow_sparse.specs.States.{CanPush, HasRoomFor, IsHigh, IsNetwork, IsReady, IsState, pushed};
 
@@ -32,7 +31,6 @@ pub struct Network {
 }
 
 impl Model for Network {
-    ghost use Rattle.flow_parts.specs.OuterEdges.{tail_of};
     ghost use Rattle.flow_sparse.specs.States.{State};
 
     ghost Value = { State };
@@ -121,18 +119,29 @@ impl Network {
         }
     }
 
-    /// The node that the outer edge of that number leads out of, or the one past all where it leads back to it.
-    pub fn list_of(&self, number: u32, past: u32) -> u32
-        requires fits { IsNetwork self.now.instance }
+    /// The node in whose list the outer edge of that number stands: the one that it leads out of; or if it has no room, or
+    /// leads back to that node, the one past all.
+    #[inline(always)]
+    pub fn list_of(&self, number: u32) -> u32
+        requires fits { IsState self.now }
         requires number { number < 2 * length self.now.instance.arcs }
-        ensures list { result ≡ tail_of (map (without_loop past) self.now.instance.arcs) number }
-        ensures within { (result ≤ self.now.instance.steps) ⊎ (result ≡ past) }
+        ensures list { result ≡ list_of self.now number }
+        ensures within { result ≤ self.now.instance.steps + 1 }
     {
-        let hop = self.hop(outer_edge(self.arc_count(), number));
-        if hop.tail == hop.head { past } else { hop.tail }
+        let past = self.steps() + 1;
+        let edge = outer_edge(self.arc_count(), number);
+        let hop = self.hop(edge);
+        if hop.tail == hop.head {
+            return past;
+        }
+        if self.residual(edge) == 0 {
+            return past;
+        }
+        hop.tail
     }
 
     /// How long the edge is, as far as 64 bits hold that; and the most that they hold if it has no room.
+    #[inline(always)]
     pub fn slack(&self, edge: Edge) -> u64
         requires ready { IsReady self.now }
         requires high { IsHigh self.now }
@@ -155,6 +164,13 @@ impl Network {
         ensures { result ≡ slice_index self.now.potentials node }
     {
         self.potentials[node as usize]
+    }
+
+    /// The potential of each node.
+    pub fn potentials(&self) -> &[u128]
+        ensures { result.now ≡ self.now.potentials }
+    {
+        &self.potentials
     }
 
     /// Sets the potential of the node, and of no other.

@@ -2,15 +2,16 @@
 ghost use Rattle.std.specs.Prelude.{◌≡◌, ℕ, ◌+◌, ◌-◌, ◌*◌, ◌≤◌, ◌<◌, IsTrue, length, slice_index};
 ghost use Rattle.flow_model.specs.declared.edges.Edge.{Edge as FlowEdge};
 ghost use Rattle.flow_model.specs.declared.edges.Edge.TheVariants.{Inner, InnerBack};
-ghost use Rattle.flow_model.specs.Networks.{IsEdge, tail};
+ghost use Rattle.flow_model.specs.Networks.{IsEdge, head, tail};
 ghost use Rattle.flow_parts.specs.OuterEdges.{edge_of, tail_of};
+ghost use Rattle.flow_sparse.specs.Ranges.{IsEntry, IsPlacedAt, IsSound, WasWoken};
 ghost use Rattle.flow_sparse.specs.States.{IsReady, IsHigh, IsSettled};
-ghost use Rattle.flow_sparse.specs.Searches.{IsBounded, IsListed, IsSearch, Nears, Rests, far};
+ghost use Rattle.flow_sparse.specs.Searches.{IsListed, IsSearch, Nears, Rests, far};
 
+use crate::edges::{ListedEdge, WokenEdge};
 use crate::lists::EdgeLists;
 use crate::network::Network;
 use crate::search::Search;
-use crate::sorting::head_of;
 use flow_model::Edge;
 use flow_parts::outer_edge;
 
@@ -40,94 +41,116 @@ impl Search {
         self.enqueue(hop.head);
     }
 
-    // Whether an edge out of the node with the slack at the place is too long to matter.
+    // Whether an edge out of the node with that slack is too long to matter.
     #[inline(always)]
-    fn is_past(&self, network: &Network, lists: &EdgeLists, node: u32, place: u32) -> bool
+    fn is_past(&self, network: &Network, lists: &EdgeLists, node: u32, slack: u64) -> bool
         requires ready { IsReady network.now }
         requires small { self.now.limit ≤ far }
-        requires bounded { IsBounded network.now lists.now }
+        requires lists { IsListed network.now lists.now }
         requires node { node ≤ network.now.instance.steps }
         requires distance { node < length self.now.distances }
         requires near { slice_index self.now.distances node ≤ far }
-        requires place { place < length lists.now.slacks }
-        ensures { IsTrue result → self.now.limit + (slice_index lists.now.marks node - slice_index network.now.potentials node) ≤ slice_index self.now.distances node + slice_index lists.now.slacks place }
+        ensures { IsTrue result → self.now.limit + (slice_index lists.now.marks node - slice_index network.now.potentials node) ≤ slice_index self.now.distances node + slack }
     {
         let reach = self.limit() + (lists.mark(node) - network.potential(node));
-        self.distance(node) + lists.slack(place) as u128 >= reach
+        self.distance(node) + slack as u128 >= reach
     }
 
-    // Relaxes the edge at the place, which is of the node's range, unless it is too long.
+    // Whether the head of an edge out of the node is as near without the edge. Its length is its slack, but for what the
+    // potentials of its ends fell by since.
     #[inline(always)]
-    fn relax_place(
+    fn is_near(&self, network: &Network, lists: &EdgeLists, node: u32, edge: ListedEdge) -> bool
+        requires ready { IsReady network.now }
+        requires lists { IsListed network.now lists.now }
+        requires node { node ≤ network.now.instance.steps }
+        requires head { edge.head ≤ network.now.instance.steps }
+        requires each { network.now.instance.steps < length self.now.distances }
+        requires near { (v : ℕ) → v ≤ network.now.instance.steps → slice_index self.now.distances v ≤ far }
+        ensures { IsTrue result → slice_index self.now.distances edge.head + (slice_index lists.now.marks node - slice_index network.now.potentials node) ≤ slice_index self.now.distances node + edge.slack + (slice_index lists.now.marks edge.head - slice_index network.now.potentials edge.head) }
+    {
+        let near = self.distance(edge.head) + (lists.mark(node) - network.potential(node));
+        let fell = lists.mark(edge.head) - network.potential(edge.head);
+        self.distance(node) + edge.slack as u128 + fell >= near
+    }
+
+    // Relaxes the listed edge out of the node, unless its head is as near without it.
+    #[inline(always)]
+    fn relax_near(
         &mut self,
         network: &Network,
         lists: &EdgeLists,
         from: u32,
         node: u32,
-        place: u32,
+        edge: ListedEdge,
     )
         requires ready { IsReady network.now }
         requires high { IsHigh network.now }
         requires search { IsSearch network.now from self.old }
-        requires lists { IsListed network.now.instance lists.now }
-        requires bounded { IsBounded network.now lists.now }
+        requires lists { IsListed network.now lists.now }
         requires node { node ≤ network.now.instance.steps }
-        requires place { (slice_index lists.now.first node ≤ place) × (place < slice_index lists.now.first (node + 1)) }
+        requires sound { IsSound network.now.instance edge }
         ensures nears { Nears network.now from self.old self.new }
-        ensures settled { tail_of network.now.instance.arcs (slice_index lists.now.numbers place) ≡ node → IsSettled network.now self.new.distances self.new.limit (edge_of (length network.now.instance.arcs) (slice_index lists.now.numbers place)) }
+        ensures settled { IsEntry network.now.instance lists.now.marks edge edge.number → tail_of network.now.instance.arcs edge.number ≡ node → IsSettled network.now self.new.distances self.new.limit (edge_of (length network.now.instance.arcs) edge.number) }
     {
-        if self.is_past(network, lists, node, place) {
+        if self.is_near(network, lists, node, edge) {
             return;
         }
-        let edge = outer_edge(network.arc_count(), lists.number(place));
-        self.relax(network, from, edge);
+        self.relax(network, from, outer_edge(network.arc_count(), edge.number));
     }
 
-    // Relaxes the edge at the place, or passes over those up to the end of its block, if all are too long. It answers the
-    // place after them.
-    #[inline(always)]
-    fn relax_next(
-        &mut self,
-        network: &Network,
-        lists: &EdgeLists,
-        from: u32,
-        node: u32,
-        place: u32,
-    ) -> u32
+    // Relaxes the listed edges out of the node, as far as the first that is too long.
+    fn relax_listed(&mut self, network: &Network, lists: &EdgeLists, from: u32, node: u32)
         requires ready { IsReady network.now }
         requires high { IsHigh network.now }
         requires search { IsSearch network.now from self.old }
-        requires lists { IsListed network.now.instance lists.now }
-        requires bounded { IsBounded network.now lists.now }
+        requires lists { IsListed network.now lists.now }
         requires node { node ≤ network.now.instance.steps }
-        requires place { (slice_index lists.now.first node ≤ place) × (place < slice_index lists.now.first (node + 1)) }
         ensures nears { Nears network.now from self.old self.new }
-        ensures next { place < result }
-        ensures settled { (p : ℕ) → place ≤ p → p < result → p < slice_index lists.now.first (node + 1) → tail_of network.now.instance.arcs (slice_index lists.now.numbers p) ≡ node → IsSettled network.now self.new.distances self.new.limit (edge_of (length network.now.instance.arcs) (slice_index lists.now.numbers p)) }
+        ensures settled { Rests self.new node → (k : ℕ) → tail_of network.now.instance.arcs k ≡ node → IsPlacedAt network.now.instance lists.now.first lists.now.edges lists.now.marks node k → IsSettled network.now self.new.distances self.new.limit (edge_of (length network.now.instance.arcs) k) }
     {
-        let head = head_of(place);
-        if self.is_past(network, lists, node, head) {
-            return head + 32;
+        for place in lists.first(node)..lists.first(node + 1) {
+            let edge = lists.edge(place);
+            if self.is_past(network, lists, node, edge.slack) {
+                return;
+            }
+            self.relax_near(network, lists, from, node, edge);
         }
-        self.relax_place(network, lists, from, node, place);
-        place + 1
     }
 
-    // Relaxes the outer edges that lead out of the node.
-    fn relax_outer(&mut self, network: &Network, lists: &EdgeLists, from: u32, node: u32)
+    // Relaxes the woken edge out of the node, unless its head is no farther: no edge with room is shorter than 0.
+    #[inline(always)]
+    fn relax_woken(&mut self, network: &Network, from: u32, node: u32, edge: WokenEdge)
         requires ready { IsReady network.now }
         requires high { IsHigh network.now }
         requires search { IsSearch network.now from self.old }
-        requires lists { IsListed network.now.instance lists.now }
-        requires bounded { IsBounded network.now lists.now }
+        requires node { node ≤ network.now.instance.steps }
+        requires is_edge { edge.number < 2 * length network.now.instance.arcs }
+        requires head { edge.head ≡ head network.now.instance.arcs (edge_of (length network.now.instance.arcs) edge.number) }
+        requires tail { tail_of network.now.instance.arcs edge.number ≡ node }
+        ensures nears { Nears network.now from self.old self.new }
+        ensures settled { IsSettled network.now self.new.distances self.new.limit (edge_of (length network.now.instance.arcs) edge.number) }
+    {
+        if self.distance(edge.head) <= self.distance(node) {
+            return;
+        }
+        self.relax(network, from, outer_edge(network.arc_count(), edge.number));
+    }
+
+    // Relaxes the woken edges out of the node.
+    fn relax_chain(&mut self, network: &Network, lists: &EdgeLists, from: u32, node: u32)
+        requires ready { IsReady network.now }
+        requires high { IsHigh network.now }
+        requires search { IsSearch network.now from self.old }
+        requires lists { IsListed network.now lists.now }
         requires node { node ≤ network.now.instance.steps }
         ensures nears { Nears network.now from self.old self.new }
-        ensures settled { Rests self.new node → (k : ℕ) → k < 2 * length network.now.instance.arcs → tail_of network.now.instance.arcs k ≡ node → IsSettled network.now self.new.distances self.new.limit (edge_of (length network.now.instance.arcs) k) }
+        ensures settled { Rests self.new node → (k : ℕ) → tail_of network.now.instance.arcs k ≡ node → WasWoken lists.now.woken k → IsSettled network.now self.new.distances self.new.limit (edge_of (length network.now.instance.arcs) k) }
     {
-        let past = lists.first(node + 1);
-        let mut place = lists.first(node);
-        while place < past {
-            place = self.relax_next(network, lists, from, node, place);
+        let mut left = lists.last(node);
+        while left > 0 {
+            let edge = lists.woken(left - 1);
+            self.relax_woken(network, from, node, edge);
+            left = edge.before;
         }
     }
 
@@ -165,14 +188,14 @@ impl Search {
         requires ready { IsReady network.now }
         requires high { IsHigh network.now }
         requires search { IsSearch network.now from self.old }
-        requires lists { IsListed network.now.instance lists.now }
-        requires bounded { IsBounded network.now lists.now }
+        requires lists { IsListed network.now lists.now }
         requires node { node ≤ network.now.instance.steps }
         ensures nears { Nears network.now from self.old self.new }
         ensures settled { Rests self.new node → (e : FlowEdge) → IsEdge network.now.instance e → tail network.now.instance.arcs e ≡ node → IsSettled network.now self.new.distances self.new.limit e }
     {
         self.relax_on(network, from, node);
-        self.relax_outer(network, lists, from, node);
+        self.relax_chain(network, lists, from, node);
+        self.relax_listed(network, lists, from, node);
         self.relax_back(network, from, node);
     }
 }

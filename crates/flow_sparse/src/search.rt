@@ -6,7 +6,7 @@ ghost use Rattle.flow_model.specs.Networks.{IsEdge};
 ghost use Rattle.flow_model.specs.Pushes.{edge_at};
 ghost use Rattle.flow_parts.specs.Queues.{IsQueue, IsQueueBut, Joins, Leaves, Waits};
 ghost use Rattle.flow_sparse.specs.States.{IsReady, IsHigh, IsSettled};
-ghost use Rattle.flow_sparse.specs.Searches.{AreSettled, IsAimed, IsBounded, IsIdle, IsListed, IsSearch, KeepsRoom, far};
+ghost use Rattle.flow_sparse.specs.Searches.{AreSettled, IsAimed, IsIdle, IsListed, IsSearch, KeepsRoom, far};
 
 use crate::lists::EdgeLists;
 use crate::network::Network;
@@ -225,8 +225,7 @@ impl Search {
         requires high { IsHigh network.now }
         requires search { IsSearch network.now from self.old }
         requires settled { AreSettled network.now self.old }
-        requires lists { IsListed network.now.instance lists.now }
-        requires bounded { IsBounded network.now lists.now }
+        requires lists { IsListed network.now lists.now }
         ensures search { IsSearch network.now from self.new }
         ensures settled { (e : FlowEdge) → IsEdge network.now.instance e → IsSettled network.now self.new.distances self.new.limit e }
         ensures each_distance { length self.new.distances ≡ length self.old.distances }
@@ -245,8 +244,7 @@ impl Search {
         requires ready { IsReady network.now }
         requires high { IsHigh network.now }
         requires idle { IsIdle network.now.instance.steps self.old }
-        requires lists { IsListed network.now.instance lists.now }
-        requires bounded { IsBounded network.now lists.now }
+        requires lists { IsListed network.now lists.now }
         requires from { from ≤ network.now.instance.steps }
         ensures search { IsSearch network.now from self.new }
         ensures settled { (e : FlowEdge) → IsEdge network.now.instance e → IsSettled network.now self.new.distances self.new.limit e }

@@ -17,7 +17,7 @@ use flow_model::{Edge, Instance};
 use std::alloc::Global;
 
 // Makes prices and flows suit each other where the steps are open that the flags say, each of which is then within the units, and full
-// if it has a price. It takes memory for the nodes between the open steps, and gives it back.
+// if it has a price. It takes memory for the nodes between the open steps and for the edges with room, and gives it back.
 fn turn(
     alloc: Global,
     instance: &Instance,
@@ -27,27 +27,24 @@ fn turn(
     nodes: &mut [u32],
     steps_of: &mut [u32],
     network: &mut Network,
-    lists: &mut EdgeLists,
 ) -> Result<(), NoMemory>
     requires fits { IsInstance instance.now }
-    requires room { HasRoom instance.now network.old lists.old (length nodes.old) (length steps_of.old) }
+    requires room { HasRoom instance.now network.old (length nodes.old) (length steps_of.old) }
     requires each { length opens.now ≡ instance.now.steps }
     requires slack { IsSlack instance.now prices.old network.old.flows.outer }
     requires shut { AreOpen opens.now prices.old }
     requires small { (t : ℕ) → t < instance.now.steps → slice_index prices.old t ≤ 2 ^ 97 }
     requires loads { (instance.now.steps ≤ length loads.now) × ((t : ℕ) → t < instance.now.steps → slice_index loads.now t ≡ load_at instance.now.arcs network.old.flows.outer t) }
-    ensures room { IfOk result (λ done. HasRoom instance.now network.new lists.new (length nodes.new) (length steps_of.new)) }
+    ensures room { IfOk result (λ done. HasRoom instance.now network.new (length nodes.new) (length steps_of.new)) }
     ensures rests { IfOk result (λ done. IsAtRest instance.now opens.now prices.new network.new.flows.outer) }
 {
     let count = number(opens, nodes, steps_of);
     network.make_room(alloc, count)?;
-    lists.make_room(alloc, count)?;
     let mut search = Search::new(alloc, count)?;
     let mut path = vec![in alloc; Edge::Inner(0); count as usize]?;
     network.open(instance, opens, loads, prices, nodes, steps_of, count);
-    lists.relist(network);
-    lists.bound(network);
-    repair(network, lists, &mut search, &mut path);
+    let mut lists = EdgeLists::new(alloc, network)?;
+    repair(network, &mut lists, &mut search, &mut path)?;
     network.write_prices(nodes, prices);
     Ok(())
 }
@@ -89,10 +86,9 @@ fn open_all(
     nodes: &mut [u32],
     steps_of: &mut [u32],
     network: &mut Network,
-    lists: &mut EdgeLists,
 ) -> Result<(), NoMemory>
     requires fits { IsInstance instance.now }
-    requires room { HasRoom instance.now network.old lists.old (length nodes.old) (length steps_of.old) }
+    requires room { HasRoom instance.now network.old (length nodes.old) (length steps_of.old) }
     requires rests { IsAtRest instance.now opens.old prices.old network.old.flows.outer }
     requires each_start { length loads.old ≡ instance.now.steps + 1 }
     requires each_end { length ending.old ≡ instance.now.steps + 1 }
@@ -100,7 +96,7 @@ fn open_all(
 {
     while open_more(instance, network, opens, ending, loads) {
         turn(
-            alloc, instance, opens, loads, prices, nodes, steps_of, network, lists,
+            alloc, instance, opens, loads, prices, nodes, steps_of, network,
         )?;
     }
     Ok(())
@@ -117,10 +113,9 @@ pub fn settle(
     nodes: &mut [u32],
     steps_of: &mut [u32],
     network: &mut Network,
-    lists: &mut EdgeLists,
 ) -> Result<(), NoMemory>
     requires fits { IsInstance instance.now }
-    requires room { HasRoom instance.now network.old lists.old (length nodes.old) (length steps_of.old) }
+    requires room { HasRoom instance.now network.old (length nodes.old) (length steps_of.old) }
     requires each_step { length prices.old ≡ instance.now.steps }
     requires each_open { length opens.old ≡ instance.now.steps }
     requires each_start { length loads.old ≡ instance.now.steps + 1 }
@@ -133,9 +128,9 @@ pub fn settle(
     network.fit(instance, loads);
     network.write_loads(instance, ending, loads);
     turn(
-        alloc, instance, opens, loads, prices, nodes, steps_of, network, lists,
+        alloc, instance, opens, loads, prices, nodes, steps_of, network,
     )?;
     open_all(
-        alloc, instance, opens, ending, loads, prices, nodes, steps_of, network, lists,
+        alloc, instance, opens, ending, loads, prices, nodes, steps_of, network,
     )
 }
