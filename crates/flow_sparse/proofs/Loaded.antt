@@ -1,5 +1,5 @@
 -- Loads from what starts and ends at nodes.
-use Rattle.std.proofs.Common.{◌≡◌, ◌≢◌, ℕ, suc, zero, ◌+◌, ◌^◌, ◌<◌, ◌≤◌, ◌∙◌, refl, ap, Bool, true, false, cond, List, [], ◌∷◌, length, take, set, arith, ⊎_elim, zip, get_or, get_or-set_same, sum}
+use Rattle.std.proofs.Common.{◌≡◌, ◌≢◌, ℕ, suc, zero, ◌+◌, ◌-◌, ◌^◌, ◌<◌, ◌≤◌, ◌∙◌, refl, sym, ap, Bool, cond, List, [], ◌∷◌, length, take, set, arith, ⊎_elim, zip, get_or, get_or-set_same, length-set, sum}
 use Rattle.std.proofs.lemmas.Bool.{cases_lt, cases_eq, eq-eqb, ne_eqb}
 use Rattle.std.proofs.lemmas.List.{take-set-le}
 use Rattle.std.proofs.lemmas.List.Sums.{sum_by-cons}
@@ -158,23 +158,34 @@ pub few_flow_all : (test : OuterArc → Bool) (arcs : List OuterArc) (flows : Li
     → flow_where test arcs flows ≤ 2 ^ 74
 few_flow_all test arcs flows same small few = omega (arith, flow_where-le test arcs flows (2 ^ 48) (λ j h. small j (omega (arith, same, h))), few)
 
--- the flow of one arc was added at its node
-pub added : (test : ℕ → OuterArc → Bool) (arcs : List OuterArc) (flows xs : List ℕ) (i n bound : ℕ) → i < length arcs → i < length flows → n < length xs
-    → (test n (arc_at arcs i) ≡ true) → ((t : ℕ) → t ≢ n → test t (arc_at arcs i) ≡ false)
-    → ((t : ℕ) → t ≤ bound → get_or xs t 0 ≡ flow_where (test t) arcs (take i flows))
-    → (t : ℕ) → t ≤ bound → get_or (set xs n (get_or xs n 0 + get_or flows i 0)) t 0 ≡ flow_where (test t) arcs (take (i + 1) flows)
-added test arcs flows xs i n bound within inside room hit miss before t h =
+-- the flow of one arc was added at its start, and taken at its end
+pub changed : (arcs : List OuterArc) (flows xs : List ℕ) (i start end bound : ℕ) → i < length arcs → i < length flows → end < length xs → start < end → (arc_at arcs i).start ≡ start → (arc_at arcs i).end ≡ end
+    → get_or flows i 0 ≤ get_or xs end 0
+    → ((t : ℕ) → t ≤ bound → get_or xs t 0 + flow_where (ends_at t) arcs (take i flows) ≡ 2 ^ 100 + flow_where (starts_at t) arcs (take i flows))
+    → (t : ℕ) → t ≤ bound
+    → get_or (set (set xs start (get_or xs start 0 + get_or flows i 0)) end (get_or (set xs start (get_or xs start 0 + get_or flows i 0)) end 0 - get_or flows i 0)) t 0 + flow_where (ends_at t) arcs (take (i + 1) flows)
+    ≡ 2 ^ 100 + flow_where (starts_at t) arcs (take (i + 1) flows)
+changed arcs flows xs i start end bound within inside room order starts ends enough before t h =
     let f : ℕ = get_or flows i 0 in
-    let at = set_at xs n t (get_or xs n 0 + f) room in
+    let risen : List ℕ = set xs start (get_or xs start 0 + f) in
+    let at_start = set_at xs start t (get_or xs start 0 + f) (omega (arith, room, order)) in
+    let kept = (set_at xs start end (get_or xs start 0 + f) (omega (arith, room, order))).1 (λ same. omega (arith, same, order)) in
+    let at_end = set_at risen end t (get_or risen end 0 - f) (omega (arith, room, length-set xs start (get_or xs start 0 + f))) in
+    let more_ends = flow_where-more (ends_at t) arcs flows i within inside in
+    let more_starts = flow_where-more (starts_at t) arcs flows i within inside in
     ⊎_elim
-    (λ (e : t ≡ n).
-    omega (
-      arith,
-      at.0 e,
-      before t h,
-      ap (λ k. get_or xs k 0) e,
-      flow_where-more (test t) arcs flows i within inside,
-      ap (λ b. cond b f 0) (ap (λ k. test k (arc_at arcs i)) e ∙ hit),
-    ))
-    (λ (m : t ≢ n). omega (arith, at.1 m, before t h, flow_where-more (test t) arcs flows i within inside, ap (λ b. cond b f 0) (miss t m)))
-    (cases_eq t n)
+    (λ (e : t ≡ end).
+    let here = eq-eqb (arc_at arcs i).end t (ends ∙ sym e) in
+    let other = ne_eqb (arc_at arcs i).start t (λ same. omega (arith, same, starts, e, order)) in
+    omega (arith, at_end.0 e, kept, enough, before t h, ap (λ k. get_or xs k 0) e, more_ends, more_starts, ap (λ b. cond b f 0) here, ap (λ b. cond b f 0) other))
+    (λ (n : t ≢ end).
+    let other = ne_eqb (arc_at arcs i).end t (λ same. n (sym same ∙ ends)) in
+    ⊎_elim
+    (λ (e : t ≡ start).
+    let here = eq-eqb (arc_at arcs i).start t (starts ∙ sym e) in
+    omega (arith, at_end.1 n, at_start.0 e, before t h, ap (λ k. get_or xs k 0) e, more_ends, more_starts, ap (λ b. cond b f 0) other, ap (λ b. cond b f 0) here))
+    (λ (m : t ≢ start).
+    let none = ne_eqb (arc_at arcs i).start t (λ same. m (sym same ∙ starts)) in
+    omega (arith, at_end.1 n, at_start.1 m, before t h, more_ends, more_starts, ap (λ b. cond b f 0) other, ap (λ b. cond b f 0) none))
+    (cases_eq t start))
+    (cases_eq t end)

@@ -6,70 +6,65 @@ ghost use Rattle.flow_sparse.specs.Loads.{AreBalanced, starts_at};
 
 use flow_model::Instance;
 
-// Sets all to 0.
-fn clear(list: &mut [u128])
-    ensures zeros { (t : ℕ) → t < length list.old → slice_index list.new t ≡ 0 }
-    ensures each { length list.new ≡ length list.old }
+/// What stands for a load that neither rises nor falls, so that no number is below 0 where loads fall.
+const LEVEL: u128 = 1 << 100;
+
+// Lets no load rise or fall.
+fn level(changes: &mut [u128])
+    ensures levels { (t : ℕ) → t < length changes.old → slice_index changes.new t ≡ 2 ^ 100 }
+    ensures each { length changes.new ≡ length changes.old }
 {
-    for place in 0..list.len() {
-        list[place] = 0;
+    for place in 0..changes.len() {
+        changes[place] = LEVEL;
     }
 }
 
-// Adds the flow of each arc at its start and at its end.
-fn add_ends(instance: &Instance, flows: &[u64], starting: &mut [u128], ending: &mut [u128])
+// Lets the load rise by the flow of each arc at its start, and fall by it at its end.
+fn add_changes(instance: &Instance, flows: &[u64], changes: &mut [u128])
     requires each_arc { length flows.now ≡ length instance.now.arcs }
     requires small { (i : ℕ) → i < length flows.now → slice_index flows.now i ≤ 2 ^ 48 }
-    requires starting { (length starting.old ≡ instance.now.steps + 1) × ((t : ℕ) → t < length starting.old → slice_index starting.old t ≡ 0) }
-    requires ending { (length ending.old ≡ instance.now.steps + 1) × ((t : ℕ) → t < length ending.old → slice_index ending.old t ≡ 0) }
-    ensures starting { (t : ℕ) → t ≤ instance.now.steps → slice_index starting.new t ≡ flow_where (starts_at t) instance.now.arcs flows.now }
-    ensures ending { (t : ℕ) → t ≤ instance.now.steps → slice_index ending.new t ≡ flow_where (ends_at t) instance.now.arcs flows.now }
-    ensures each_start { length starting.new ≡ length starting.old }
-    ensures each_end { length ending.new ≡ length ending.old }
+    requires levels { (length changes.old ≡ instance.now.steps + 1) × ((t : ℕ) → t < length changes.old → slice_index changes.old t ≡ 2 ^ 100) }
+    ensures changes { (t : ℕ) → t ≤ instance.now.steps → slice_index changes.new t + flow_where (ends_at t) instance.now.arcs flows.now ≡ 2 ^ 100 + flow_where (starts_at t) instance.now.arcs flows.now }
+    ensures each { length changes.new ≡ length changes.old }
 {
     let arcs = instance.arcs();
     for number in 0..flows.len() {
         let arc = arcs[number];
         let flow = flows[number] as u128;
-        starting[arc.start as usize] += flow;
-        ending[arc.end as usize] += flow;
+        changes[arc.start as usize] += flow;
+        changes[arc.end as usize] -= flow;
     }
 }
 
-// Turns what starts at each step into its load.
-fn sum_up(instance: &Instance, flows: &[u64], ending: &[u128], loads: &mut [u128])
+// Turns the change of the load at each step into the load.
+fn sum_up(instance: &Instance, flows: &[u64], loads: &mut [u128])
     requires fits { IsInstance instance.now }
     requires each_arc { length flows.now ≡ length instance.now.arcs }
     requires small { (i : ℕ) → i < length flows.now → slice_index flows.now i ≤ 2 ^ 48 }
     requires each_start { length loads.old ≡ instance.now.steps + 1 }
-    requires each_end { length ending.now ≡ instance.now.steps + 1 }
-    requires starting { (t : ℕ) → t ≤ instance.now.steps → slice_index loads.old t ≡ flow_where (starts_at t) instance.now.arcs flows.now }
-    requires ending { (t : ℕ) → t ≤ instance.now.steps → slice_index ending.now t ≡ flow_where (ends_at t) instance.now.arcs flows.now }
+    requires changes { (t : ℕ) → t ≤ instance.now.steps → slice_index loads.old t + flow_where (ends_at t) instance.now.arcs flows.now ≡ 2 ^ 100 + flow_where (starts_at t) instance.now.arcs flows.now }
     ensures loads { (t : ℕ) → t < instance.now.steps → slice_index loads.new t ≡ load_at instance.now.arcs flows.now t }
     ensures each { length loads.new ≡ length loads.old }
 {
     let mut load = 0;
     for step in 0..instance.steps() as usize {
-        load = load + loads[step] - ending[step];
+        load = load + loads[step] - LEVEL;
         loads[step] = load;
     }
 }
 
 /// Writes the load of each step.
-pub fn write_loads(instance: &Instance, flows: &[u64], ending: &mut [u128], loads: &mut [u128])
+pub fn write_loads(instance: &Instance, flows: &[u64], loads: &mut [u128])
     requires fits { IsInstance instance.now }
     requires each_arc { length flows.now ≡ length instance.now.arcs }
     requires small { (i : ℕ) → i < length flows.now → slice_index flows.now i ≤ 2 ^ 48 }
     requires each_start { length loads.old ≡ instance.now.steps + 1 }
-    requires each_end { length ending.old ≡ instance.now.steps + 1 }
     ensures loads { (t : ℕ) → t < instance.now.steps → slice_index loads.new t ≡ load_at instance.now.arcs flows.now t }
     ensures each { length loads.new ≡ length loads.old }
-    ensures each_end { length ending.new ≡ length ending.old }
 {
-    clear(loads);
-    clear(ending);
-    add_ends(instance, flows, loads, ending);
-    sum_up(instance, flows, ending, loads);
+    level(loads);
+    add_changes(instance, flows, loads);
+    sum_up(instance, flows, loads);
 }
 
 // What flows beside the arcs over an open step: none if it has a price.

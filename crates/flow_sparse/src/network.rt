@@ -254,17 +254,15 @@ impl Network {
     }
 
     /// Writes the load of each step.
-    pub fn write_loads(&self, instance: &Instance, ending: &mut [u128], loads: &mut [u128])
+    pub fn write_loads(&self, instance: &Instance, loads: &mut [u128])
         requires fits { IsInstance instance.now }
         requires each_arc { length self.now.flows.outer ≡ length instance.now.arcs }
         requires small { (i : ℕ) → i < length self.now.flows.outer → slice_index self.now.flows.outer i ≤ 2 ^ 48 }
         requires each_start { length loads.old ≡ instance.now.steps + 1 }
-        requires each_end { length ending.old ≡ instance.now.steps + 1 }
         ensures loads { (t : ℕ) → t < instance.now.steps → slice_index loads.new t ≡ load_at instance.now.arcs self.now.flows.outer t }
         ensures each { length loads.new ≡ length loads.old }
-        ensures each_end { length ending.new ≡ length ending.old }
     {
-        write_loads(instance, &self.outer, ending, loads);
+        write_loads(instance, &self.outer, loads);
     }
 
     /// The flow of each arc. The rest of the network is given back.

@@ -35,7 +35,7 @@ fn network_of(alloc: Global, instance: &Instance) -> Result<Network, NoMemory>
     })
 }
 
-/// A solution of the instance, found from these prices: the nearer they are to those of a solution, the sooner. It takes 57
+/// A solution of the instance, found from these prices: the nearer they are to those of a solution, the sooner. It takes 41
 /// bytes for each step, 40 for each arc, 16 for each edge with room, and 132 for each step that has a price or is opened.
 pub fn solve_from(
     alloc: Global,
@@ -51,12 +51,10 @@ pub fn solve_from(
     let mut nodes = vec![in alloc; 0; steps + 1]?;
     let mut steps_of = vec![in alloc; 0; steps]?;
     let mut loads = vec![in alloc; 0; steps + 1]?;
-    let mut ending = vec![in alloc; 0; steps + 1]?;
     settle(
         alloc,
         instance,
         &mut opens,
-        &mut ending,
         &mut loads,
         &mut prices,
         &mut nodes,

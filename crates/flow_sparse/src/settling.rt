@@ -50,28 +50,20 @@ fn turn(
 }
 
 // Opens steps over which more flows than fits, and answers whether there are any.
-fn open_more(
-    instance: &Instance,
-    network: &Network,
-    opens: &mut [bool],
-    ending: &mut [u128],
-    loads: &mut [u128],
-) -> bool
+fn open_more(instance: &Instance, network: &Network, opens: &mut [bool], loads: &mut [u128]) -> bool
     requires fits { IsInstance instance.now }
     requires each { length opens.old ≡ instance.now.steps }
     requires each_arc { length network.now.flows.outer ≡ length instance.now.arcs }
     requires small { (i : ℕ) → i < length network.now.flows.outer → slice_index network.now.flows.outer i ≤ 2 ^ 48 }
     requires each_start { length loads.old ≡ instance.now.steps + 1 }
-    requires each_end { length ending.old ≡ instance.now.steps + 1 }
     ensures opens { Opens opens.old opens.new }
     ensures less { IsTrue result → shut_steps opens.new < shut_steps opens.old }
     ensures same { (IsTrue result → ⊥) → opens.new ≡ opens.old }
     ensures fit { (IsTrue result → ⊥) → (t : ℕ) → t < instance.now.steps → slice_index_or opens.new t false ≡ false → load_at instance.now.arcs network.now.flows.outer t ≤ instance.now.units }
     ensures loads { (t : ℕ) → t < instance.now.steps → slice_index loads.new t ≡ load_at instance.now.arcs network.now.flows.outer t }
     ensures each_start { length loads.new ≡ length loads.old }
-    ensures each_end { length ending.new ≡ length ending.old }
 {
-    network.write_loads(instance, ending, loads);
+    network.write_loads(instance, loads);
     open_fullest(instance.units(), loads, opens)
 }
 
@@ -80,7 +72,6 @@ fn open_all(
     alloc: Global,
     instance: &Instance,
     opens: &mut [bool],
-    ending: &mut [u128],
     loads: &mut [u128],
     prices: &mut [u128],
     nodes: &mut [u32],
@@ -91,10 +82,9 @@ fn open_all(
     requires room { HasRoom instance.now network.old (length nodes.old) (length steps_of.old) }
     requires rests { IsAtRest instance.now opens.old prices.old network.old.flows.outer }
     requires each_start { length loads.old ≡ instance.now.steps + 1 }
-    requires each_end { length ending.old ≡ instance.now.steps + 1 }
     ensures { IfOk result (λ done. IsSolution instance.now prices.new network.new.flows.outer) }
 {
-    while open_more(instance, network, opens, ending, loads) {
+    while open_more(instance, network, opens, loads) {
         turn(
             alloc, instance, opens, loads, prices, nodes, steps_of, network,
         )?;
@@ -107,7 +97,6 @@ pub fn settle(
     alloc: Global,
     instance: &Instance,
     opens: &mut [bool],
-    ending: &mut [u128],
     loads: &mut [u128],
     prices: &mut [u128],
     nodes: &mut [u32],
@@ -119,18 +108,17 @@ pub fn settle(
     requires each_step { length prices.old ≡ instance.now.steps }
     requires each_open { length opens.old ≡ instance.now.steps }
     requires each_start { length loads.old ≡ instance.now.steps + 1 }
-    requires each_end { length ending.old ≡ instance.now.steps + 1 }
     ensures { IfOk result (λ done. IsSolution instance.now prices.new network.new.flows.outer) }
 {
     cut_prices(prices);
     open_priced(prices, opens);
     write_falls(prices, loads);
     network.fit(instance, loads);
-    network.write_loads(instance, ending, loads);
+    network.write_loads(instance, loads);
     turn(
         alloc, instance, opens, loads, prices, nodes, steps_of, network,
     )?;
     open_all(
-        alloc, instance, opens, ending, loads, prices, nodes, steps_of, network,
+        alloc, instance, opens, loads, prices, nodes, steps_of, network,
     )
 }

@@ -28,7 +28,7 @@ impl<'a> Model for Solver<'a> {
 
 impl<'a> Solver<'a> {
     /// A solver of the instance. It takes all memory that is needed, and opens steps until all fit, from first prices that
-    /// are near those of a solution: so it takes the time of the solver, and only what the open steps need. That is 57 bytes
+    /// are near those of a solution: so it takes the time of the solver, and only what the open steps need. That is 41 bytes
     /// for each step, 40 for each arc, 16 for each edge with room, of which an arc has one or two, and 132 for each open step.
     pub fn new(alloc: Global, instance: &'a Instance) -> Result<Solver<'a>, NoMemory>
         ensures { IfOk result (λ solver. solver ≡ instance.now) }
