@@ -11,7 +11,7 @@ use Rattle.flow_parts.specs.OuterEdges.{edge_of, tail_of}
 use Rattle.flow_parts.proofs.EdgeLists.{edge_of-arc, edge_of-back}
 use Rattle.flow_sparse.specs.declared.edges.WokenEdge.{WokenEdge}
 use Rattle.flow_sparse.specs.Ranges.{Ranges, AreChained, IsPlacedAt, IsSound, WasWoken, listed_at, number_of, woken_at, woken_tail, no_woken}
-use Rattle.flow_sparse.specs.Searches.{IsListed}
+use Rattle.flow_sparse.specs.Searches.{IsListed, IsWokenIfShut}
 use Rattle.flow_sparse.specs.States.{State, CanPush, IsReady, IsHigh, pushed}
 use Rattle.flow_sparse.proofs.Pushed.{pushed_rises}
 
@@ -217,8 +217,7 @@ listed_after old new lists is same falls wakes =
 pub listed_pushed : (s : State) (from to amount : ℕ) (potentials : List ℕ) (path : List Edge) (lists : Ranges) → IsReady (record s { potentials = potentials }) → IsHigh (record s { potentials = potentials })
     → CanPush (record s { potentials = potentials }) from to path amount → IsListed s lists
     → ((node : ℕ) → node ≤ s.instance.steps → slice_index potentials node ≤ slice_index s.potentials node)
-    → ((j : ℕ) → j < length path → residual s.instance s.flows (opposite (edge_at path j)) ≤ 0 → number_of (length s.instance.arcs) (opposite (edge_at path j)) < 2 * length s.instance.arcs
-    → WasWoken lists.woken (number_of (length s.instance.arcs) (opposite (edge_at path j))))
+    → ((j : ℕ) → j < length path → IsWokenIfShut s lists.woken (opposite (edge_at path j)))
     → IsListed (pushed (record s { potentials = potentials }) from to path amount) lists
 listed_pushed s from to amount potentials path lists ready high can is falls wakes =
     let low : State = record s { potentials = potentials } in

@@ -5,7 +5,8 @@ use Rattle.flow_model.specs.Networks.{tail, head, gain, loss, residual, IsEdge, 
 use Rattle.flow_model.specs.Pushes.{edge_at}
 use Rattle.flow_parts.specs.Queues.{Waiting, Waits, IsPlaced, IsQueue}
 use Rattle.flow_parts.specs.OuterEdges.{edge_of, tail_of}
-use Rattle.flow_sparse.specs.Ranges.{Ranges, IsPlacedAt, IsSound, AreRising, AreChained, WasWoken, listed_at}
+use Rattle.flow_sparse.specs.declared.edges.WokenEdge.{WokenEdge}
+use Rattle.flow_sparse.specs.Ranges.{Ranges, IsPlacedAt, IsSound, AreRising, AreChained, WasWoken, listed_at, number_of}
 use Rattle.flow_sparse.specs.States.{State, IsSettled, lowered}
 
 -- how far each node is by a walk that was found, the last edge of that walk, the nodes that wait for their edges to be looked
@@ -123,6 +124,12 @@ pub record IsListed (state : State) (lists : Ranges) : Type 0 where
   pub listed : (k : ℕ) → k < 2 * length state.instance.arcs → tail_of state.instance.arcs k ≢ head state.instance.arcs (edge_of (length state.instance.arcs) k)
       → 0 < residual state.instance state.flows (edge_of (length state.instance.arcs) k)
       → IsPlacedAt state.instance lists.first lists.edges lists.marks (tail_of state.instance.arcs k) k ⊎ WasWoken lists.woken k
+
+-- an outer edge without room was woken
+abbrev pub IsWokenIfShut : State → List WokenEdge → Edge → Type 0
+IsWokenIfShut state woken e =
+    residual state.instance state.flows e ≤ 0 → number_of (length state.instance.arcs) e < 2 * length state.instance.arcs
+    → WasWoken woken (number_of (length state.instance.arcs) e)
 
 -- under the lowered potentials the edge is tight, and leads to the node from one within the limit that was found before
 pub record IsHop (state : State) (found : Found) (times : ℕ → ℕ) (e : Edge) (node : ℕ) : Type 0 where

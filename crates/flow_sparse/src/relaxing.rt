@@ -1,5 +1,5 @@
 //! Edges are looked at: what they make nearer.
-ghost use Rattle.std.specs.Prelude.{◌≡◌, ℕ, ◌+◌, ◌-◌, ◌*◌, ◌≤◌, ◌<◌, IsTrue, length, slice_index};
+ghost use Rattle.std.specs.Prelude.{◌≡◌, ℕ, ◌+◌, ◌-◌, ◌*◌, ◌≤◌, ◌<◌, IsTrue, length, min, slice_index};
 ghost use Rattle.flow_model.specs.declared.edges.Edge.{Edge as FlowEdge};
 ghost use Rattle.flow_model.specs.declared.edges.Edge.TheVariants.{Inner, InnerBack};
 ghost use Rattle.flow_model.specs.Networks.{IsEdge, head, tail};
@@ -56,8 +56,8 @@ impl Search {
         self.distance(node) + slack as u128 >= reach
     }
 
-    // Whether the head of an edge out of the node is as near without the edge. Its length is its slack, but for what the
-    // potentials of its ends fell by since.
+    // Whether the head of an edge out of the node is as near without the edge, or past the limit along it. The length of the
+    // edge is its slack, but for what the potentials of its ends fell by since.
     #[inline(always)]
     fn is_near(&self, network: &Network, lists: &EdgeLists, node: u32, edge: ListedEdge) -> bool
         requires ready { IsReady network.now }
@@ -66,14 +66,15 @@ impl Search {
         requires head { edge.head ≤ network.now.instance.steps }
         requires each { network.now.instance.steps < length self.now.distances }
         requires near { (v : ℕ) → v ≤ network.now.instance.steps → slice_index self.now.distances v ≤ far }
-        ensures { IsTrue result → slice_index self.now.distances edge.head + (slice_index lists.now.marks node - slice_index network.now.potentials node) ≤ slice_index self.now.distances node + edge.slack + (slice_index lists.now.marks edge.head - slice_index network.now.potentials edge.head) }
+        ensures { IsTrue result → min self.now.limit (slice_index self.now.distances edge.head) + (slice_index lists.now.marks node - slice_index network.now.potentials node) ≤ slice_index self.now.distances node + edge.slack + (slice_index lists.now.marks edge.head - slice_index network.now.potentials edge.head) }
     {
-        let near = self.distance(edge.head) + (lists.mark(node) - network.potential(node));
+        let near = self.limit().min(self.distance(edge.head));
+        let reach = near + (lists.mark(node) - network.potential(node));
         let fell = lists.mark(edge.head) - network.potential(edge.head);
-        self.distance(node) + edge.slack as u128 + fell >= near
+        self.distance(node) + edge.slack as u128 + fell >= reach
     }
 
-    // Relaxes the listed edge out of the node, unless its head is as near without it.
+    // Relaxes the listed edge out of the node, unless that brings its head no nearer.
     #[inline(always)]
     fn relax_near(
         &mut self,

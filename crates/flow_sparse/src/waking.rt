@@ -1,9 +1,9 @@
 //! Edges that get room are chained to their nodes.
 ghost use Rattle.std.specs.Prelude.{◌≡◌, ℕ, ◌+◌, ◌*◌, ◌<◌, ◌≤◌, All, IfOk, MatchOption, length};
-ghost use Rattle.flow_model.specs.Networks.{IsEdge, residual};
+ghost use Rattle.flow_model.specs.Networks.{IsEdge};
 ghost use Rattle.flow_model.specs.Pushes.{edge_at, opposite};
 ghost use Rattle.flow_sparse.specs.Ranges.{WasWoken, number_of};
-ghost use Rattle.flow_sparse.specs.Searches.{IsListed};
+ghost use Rattle.flow_sparse.specs.Searches.{IsListed, IsWokenIfShut};
 ghost use Rattle.flow_sparse.specs.States.{IsState};
 
 use crate::lists::EdgeLists;
@@ -33,7 +33,7 @@ impl EdgeLists {
         requires lists { IsListed network.now self.old }
         ensures lists { IfOk result (λ done. IsListed network.now self.new) }
         ensures stays { IfOk result (λ done. (k : ℕ) → WasWoken self.old.woken k → WasWoken self.new.woken k) }
-        ensures woken { IfOk result (λ done. residual network.now.instance network.now.flows edge ≤ 0 → number_of (length network.now.instance.arcs) edge < 2 * length network.now.instance.arcs → WasWoken self.new.woken (number_of (length network.now.instance.arcs) edge)) }
+        ensures woken { IfOk result (λ done. IsWokenIfShut network.now self.new.woken edge) }
     {
         if network.residual(edge) > 0 {
             return Ok(());
@@ -50,7 +50,7 @@ impl EdgeLists {
         requires edges { All (IsEdge network.now.instance) path.now }
         requires lists { IsListed network.now self.old }
         ensures lists { IfOk result (λ done. IsListed network.now self.new) }
-        ensures woken { IfOk result (λ done. (j : ℕ) → j < length path.now → residual network.now.instance network.now.flows (opposite (edge_at path.now j)) ≤ 0 → number_of (length network.now.instance.arcs) (opposite (edge_at path.now j)) < 2 * length network.now.instance.arcs → WasWoken self.new.woken (number_of (length network.now.instance.arcs) (opposite (edge_at path.now j)))) }
+        ensures woken { IfOk result (λ done. (j : ℕ) → j < length path.now → IsWokenIfShut network.now self.new.woken (opposite (edge_at path.now j))) }
     {
         for at in 0..path.len() {
             self.wake_shut(network, opposite(path[at]))?;
