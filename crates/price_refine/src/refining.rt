@@ -20,6 +20,9 @@ use std::alloc::Global;
 /// The most rounds.
 const ROUNDS: u32 = 64;
 
+/// All rounds together meet at most so many intervals for each interval and step.
+const WORK: u64 = 4;
+
 /// A round that lowers the bound by less than this part of it is the last one.
 const LEAST_PART: u128 = 128;
 
@@ -79,8 +82,23 @@ fn first_prices(
     Ok(Refined { prices, upper })
 }
 
-// Goes through the blocks in rounds, until one lowers the bound by less than a part of it. If one block has all
-// steps there are none. The bound is that of the prices, before and after. The result is whether the last round has not
+// How many rounds may be made: all blocks together meet an interval as often as its steps reach into blocks, and narrow
+// blocks meet a long one many times.
+fn rounds_within(items: &[Interval], steps: u32, width: u32) -> u32
+    requires { 1 ≤ width }
+    ensures { result ≤ 64 }
+{
+    let mut met: u64 = 0;
+    for interval in items {
+        let blocks = interval.end.saturating_sub(interval.start) as u64 / width as u64 + 1;
+        met = met.saturating_add(blocks);
+    }
+    let most = WORK.saturating_mul((items.len() as u64).saturating_add(steps as u64));
+    (most / met.max(1)).min(ROUNDS as u64) as u32
+}
+
+// Goes through the blocks in rounds, until one lowers the bound by less than a part of it, or until that was work enough.
+// If one block has all steps there are none. The bound is that of the prices, before and after. The result is whether the last round has not
 // lowered it, so that all blocks are settled.
 fn settle_rounds(
     alloc: Global,
@@ -100,7 +118,7 @@ fn settle_rounds(
     if whole.end <= width / 2 {
         return Ok(false);
     }
-    for _round in 0..ROUNDS {
+    for _round in 0..rounds_within(items, whole.end, width) {
         let least = *bound / LEAST_PART;
         let fall = settle_round(alloc, items, whole, width, pricing)?;
         *bound -= fall;
@@ -175,8 +193,8 @@ fn settled_prices(
 /// Prices that are settled for the blocks of a width, and give no greater bound than those that are given. There is one
 /// price for each step, over the denominator, for this many units of `unit` bytes.
 ///
-/// The blocks are settled in rounds, as long as a round lowers the bound by a 128th of it. If the last one lowered it at
-/// all, the steps but the last one are then settled as one block, which settles every block. It takes 48 bytes for each
+/// The blocks are settled in rounds, as long as a round lowers the bound by a 128th of it, and all rounds together meet at
+/// most four intervals for each interval and step. If the last one lowered it at all, or there is none, the steps but the last one are then settled as one block, which settles every block. It takes 48 bytes for each
 /// step, 24 for each interval that is open at a block, and for one block at a time 64 for each interval that meets it,
 /// with the memory of the solver.
 pub fn refine(
