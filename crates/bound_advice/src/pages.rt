@@ -9,12 +9,13 @@ pub const PURPOSE: &str =
 replacement policy can exceed, a schedule that reaches the lower bound, and a certificate of both.
 ";
 
-/// What stands for what, and five examples.
+/// What stands for what, and six examples.
 pub const EXAMPLES: &str = "
 FORM is webcache, arc, msr or oracle, OBJECTIVE is object or bytes, MODE is flow, constant or infinite,
 POLICY is lru, fifo, clock, lfu, belady, sieve, s3fifo, gdsf or lfuda,
 VERSION is 1 or 2, COUNTED is all or reads.
 A path - is the standard input or output. The report goes to the standard output.
+HITS has a line for each request: 1 if a simulator of your own counted a hit, and 0 if not.
 
 A demo draws a trace of its own and shows its bounds, that they are checked, and the hits of five policies.
 
@@ -24,12 +25,13 @@ examples:
   bound_cli check examples/build-files.webcache build.cert format=webcache
   bound_cli replay examples/build-files.webcache format=webcache capacity=8388608 policy=lru
   bound_cli curve examples/database-blocks.msr format=msr block=8192
+  bound_cli judge examples/build-files.webcache hits format=webcache capacity=8388608
 
-docs/GUIDE.md goes from a trace to a decision; man -l docs/bound_cli.1 has every operand.";
+docs/GUIDE.md goes from a trace to a decision, docs/REFERENCE.md and man -l docs/bound_cli.1 have every operand.";
 
 /// The commands in the order of the help.
-pub const COMMANDS: [&str; 8] = [
-    "bounds", "check", "replay", "curve", "demo", "upgrade", "refine", "help",
+pub const COMMANDS: [&str; 9] = [
+    "bounds", "check", "replay", "curve", "judge", "demo", "upgrade", "refine", "help",
 ];
 
 /// How a command is called, a line each; of no command one line on where to look.
@@ -46,6 +48,10 @@ pub fn usage_of(command: &str) -> &'static [&'static str] {
             "    [count=COUNTED] [warmup=REQUESTS]",
         ],
         "curve" => &["bound_cli curve TRACE format=FORM [block=BYTES] [count=COUNTED]"],
+        "judge" => &[
+            "bound_cli judge TRACE HITS format=FORM capacity=BYTES [block=BYTES] [count=COUNTED]",
+            "    [warmup=REQUESTS]",
+        ],
         "demo" => &[
             "bound_cli demo [seed=NUMBER] [requests=NUMBER] [objects=NUMBER] [capacity=BYTES]",
             "    [objective=OBJECTIVE] [mode=MODE] [window=STEPS] [denominator=NUMBER]",

@@ -3,7 +3,7 @@ use crate::certificates::certificate_advice;
 use crate::devices::{Seen, device_advice};
 use crate::traces::BadLine;
 use crate::words::{Words, word_advice};
-use bound_report::{LimitName, Refusal, refusal_text};
+use bound_report::{Impossible, LimitName, Refusal, refusal_text};
 use std::alloc::{AllocError, Global};
 
 /// What was seen of a run beside its words: its devices, how the trace begins, and the refused line if there is one.
@@ -40,6 +40,21 @@ fn limit_advice(name: LimitName) -> &'static str {
     }
 }
 
+// What a simulator may do wrong whose hits are not possible.
+fn impossible_advice(cause: Impossible) -> &'static str {
+    match cause {
+        Impossible::First { .. } => {
+            "nothing is held before it is asked for: an object of another size is another object, and one that is fetched ahead is no hit"
+        }
+        Impossible::Size { .. } => {
+            "an object above the capacity can't be held: compare the capacity and the sizes in bytes of the simulator"
+        }
+        Impossible::Load { .. } => {
+            "what these hits need does not fit in the capacity at this step: look for a size that is left out, or an object that entered when it was not asked for"
+        }
+    }
+}
+
 /// What to do about a refusal, if something is known to do.
 pub fn advice_on(
     alloc: Global,
@@ -72,6 +87,13 @@ pub fn advice_on(
             "a curve needs one size; cut the objects into blocks, or replay the capacities of interest"
         }
         Refusal::Limit(name) => limit_advice(name),
+        Refusal::NotFlag { .. } => {
+            "each line of the hits is 1 or 0, without a blank or a carriage return"
+        }
+        Refusal::FlagCount { .. } => {
+            "the hits need a line for each request of the trace, and none for a line of size 0"
+        }
+        Refusal::Impossible { cause, .. } => impossible_advice(cause),
         Refusal::Invalid { kind, .. } => certificate_advice(kind).unwrap_or(""),
         Refusal::NoMemory => "",
     };

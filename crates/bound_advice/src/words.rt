@@ -223,11 +223,8 @@ fn bad_value(alloc: Global, words: Words<'_>, place: u64) -> Result<String, Allo
     if word.is_empty() {
         return String::from_str(alloc, "a path is empty");
     }
-    if words.path_at(place).is_some() {
-        return String::from_str(
-            alloc,
-            "trace and certificate can't both be the standard input",
-        );
+    if let Some(path) = words.path_at(place) {
+        return format!(in alloc; "trace and {path} can't both be the standard input");
     }
     let (name, value) = word.split_once('=').unwrap_or((word, ""));
     let values = values_for(words.command(), name).unwrap_or("");

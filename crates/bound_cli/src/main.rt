@@ -1,6 +1,6 @@
 //! Bounds on the score of offline caching, in hits or in bytes, with certificates.
 //!
-//! The words, the files and the texts are described in docs/GUIDE.md, and what a run does stands in bound_run.
+//! The words, the files and the texts are described in docs/REFERENCE.md, and what a run does stands in bound_run.
 #![tactic(auto)]
 
 ghost use Rattle.std.specs.Prelude.{◌≡◌, ◌⊎◌, map, string_bytes, IfErr};

@@ -31,6 +31,9 @@ fn refusal_of(status: Status) -> Option<Refusal> {
         Status::MadeFault => Some(Refusal::MadeFault),
         Status::NoMemory => Some(Refusal::NoMemory),
         Status::Unequal { first, other } => Some(Refusal::Unequal { first, other }),
+        Status::NotFlag { line } => Some(Refusal::NotFlag { line }),
+        Status::FlagCount { flags, requests } => Some(Refusal::FlagCount { flags, requests }),
+        Status::Impossible { cause, capacity } => Some(Refusal::Impossible { cause, capacity }),
     }
 }
 

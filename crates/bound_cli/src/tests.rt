@@ -15,6 +15,7 @@ mod curves;
 mod demos;
 mod faults;
 mod flow;
+mod judgements;
 mod large;
 mod marks;
 mod modes;

@@ -7,3 +7,4 @@ pub mod Refinements
 pub mod Replays
 pub mod Demos
 pub mod Counted
+pub mod Judged

@@ -1,8 +1,10 @@
 -- The line that tells why a run stopped.
-use Rattle.std.specs.Prelude.{ℕ, List, ◌++◌, codes, decimal}
+use Rattle.std.specs.Prelude.{ℕ, List, ◌++◌, codes, decimal, max}
 use Rattle.cache_model.specs.Texts.{entry}
 use Rattle.cert_checker.specs.declared.invalid.InvalidKind.{InvalidKind}
 use Rattle.cert_checker.specs.declared.invalid.InvalidKind.TheVariants as invalid
+use Rattle.hit_judge.specs.declared.causes.Impossible.{Impossible}
+use Rattle.hit_judge.specs.declared.causes.Impossible.TheVariants.{First, Size, Load}
 use Rattle.trace_lines.specs.declared.line.LineKind.{LineKind}
 use Rattle.trace_lines.specs.declared.line.LineKind.TheVariants.{TooFewWords, BadNumber, SizeTooLarge, BadRange, BadType, QuoteByte, TooLong, PartRecord}
 use Rattle.bound_report.specs.declared.refusal.LimitName.{LimitName}
@@ -10,7 +12,7 @@ use Rattle.bound_report.specs.declared.refusal.LimitName.TheVariants.{Requests, 
 use Rattle.bound_report.specs.declared.refusal.WordKind.{WordKind}
 use Rattle.bound_report.specs.declared.refusal.WordKind.TheVariants.{Missing, Unknown, Twice, BadValue}
 use Rattle.bound_report.specs.declared.refusal.Refusal.{Refusal}
-use Rattle.bound_report.specs.declared.refusal.Refusal.TheVariants.{Invalid, Words, BadLine, Limit, Unequal, TraceFault, CertFault, MadeFault, NoMemory}
+use Rattle.bound_report.specs.declared.refusal.Refusal.TheVariants.{Invalid, NotFlag, FlagCount, Impossible as ImpossibleHits, Words, BadLine, Limit, Unequal, TraceFault, CertFault, MadeFault, NoMemory}
 
 -- why a word is refused, and the end of the line
 abbrev pub word_kind_text : WordKind → List ℕ
@@ -58,9 +60,18 @@ invalid_kind_text (invalid.FlowDiffers written counted) = entry (entry (codes "f
 invalid_kind_text (invalid.LowerDiffers written counted) = entry (entry (codes "lower differs") written) counted
 invalid_kind_text (invalid.ExactGap upper flow) = entry (entry (codes "exact gap") upper) flow
 
--- the line that tells why a run stopped
+-- why flagged requests are no possible hits at a capacity, and the end of the line
+abbrev pub impossible_text : Impossible → ℕ → List ℕ
+impossible_text (First request) capacity = entry (codes "request") request ++ codes ": first of its object\n"
+impossible_text (Size request size) capacity = entry (entry (entry (codes "request") request ++ codes ": size") size ++ codes " above") capacity ++ codes "\n"
+impossible_text (Load step load) capacity = entry (entry (entry (codes "step") step ++ codes ": load") load ++ codes " above") capacity ++ codes "\n"
+
+-- the line that tells why a run stopped; of flags that are too few or too many it names the first line that is missing or too many
 abbrev pub refusal_line : Refusal → List ℕ
 refusal_line (Invalid line kind) = codes "invalid line " ++ decimal line ++ codes ": " ++ invalid_kind_text kind ++ codes "\n"
+refusal_line (NotFlag line) = entry (codes "invalid line") line ++ codes ": flag\n"
+refusal_line (FlagCount flags requests) = entry (codes "invalid line") (max flags requests) ++ entry (entry (codes ": request count") flags) requests ++ codes "\n"
+refusal_line (ImpossibleHits cause capacity) = codes "impossible " ++ impossible_text cause capacity
 refusal_line (Words place kind) = codes "words: place " ++ decimal place ++ codes ": " ++ word_kind_text kind
 refusal_line (BadLine line kind) = codes "bad line " ++ decimal line ++ codes ": " ++ line_kind_text kind
 refusal_line (Limit name) = codes "limit: " ++ limit_text name

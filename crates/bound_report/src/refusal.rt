@@ -1,10 +1,11 @@
 //! The line that tells why a run stopped. It takes no memory.
 ghost use Rattle.std.specs.Prelude.{◌≡◌, ◌+◌, ◌≤◌, ◌++◌, length};
 ghost use Rattle.cache_model.specs.Texts.{entry};
-ghost use Rattle.bound_report.specs.Refusals.{invalid_kind_text, limit_text, line_kind_text, refusal_line, word_kind_text};
+ghost use Rattle.bound_report.specs.Refusals.{impossible_text, invalid_kind_text, limit_text, line_kind_text, refusal_line, word_kind_text};
 
 use bound_base::NoMemory;
 use cert_checker::InvalidKind;
+use hit_judge::Impossible;
 use line_text::LineText;
 use trace_lines::LineKind;
 
@@ -37,6 +38,12 @@ pub enum LimitName {
 pub enum Refusal {
     /// The certificate isn't valid for the trace. Lines of it count from 1.
     Invalid { line: u64, kind: InvalidKind },
+    /// A line of the flags is none. Lines of them count from 1.
+    NotFlag { line: u64 },
+    /// There are this many flags and requests, where the first of the two ends.
+    FlagCount { flags: u64, requests: u64 },
+    /// The flagged requests are no possible hits at this capacity, in bytes.
+    Impossible { cause: Impossible, capacity: u64 },
     /// A word of the command line is refused. Places count from 1.
     Words { place: u64, kind: WordKind },
     /// A line of the trace is refused. Lines count from 1.
@@ -177,6 +184,31 @@ fn push_invalid_kind(text: &mut RefusalText, kind: InvalidKind)
     }
 }
 
+// Why flagged requests are no possible hits.
+fn push_impossible(text: &mut RefusalText, cause: Impossible, capacity: u64)
+    requires { length text.old ≤ 20 }
+    ensures { text.new ≡ text.old ++ impossible_text cause capacity }
+{
+    match cause {
+        Impossible::First { request } => {
+            text.push_entry(b"request", request as u128);
+            text.push(b": first of its object\n");
+        }
+        Impossible::Size { request, size } => {
+            text.push_entry(b"request", request as u128);
+            text.push_entry(b": size", size as u128);
+            text.push_entry(b" above", capacity as u128);
+            text.push(b"\n");
+        }
+        Impossible::Load { step, load } => {
+            text.push_entry(b"step", step as u128);
+            text.push_entry(b": load", load);
+            text.push_entry(b" above", capacity as u128);
+            text.push(b"\n");
+        }
+    }
+}
+
 /// The line that tells why a run stopped, with its end.
 pub fn refusal_text(refusal: &Refusal) -> RefusalText
     ensures { result ≡ refusal_line refusal.now }
@@ -189,6 +221,24 @@ pub fn refusal_text(refusal: &Refusal) -> RefusalText
             text.push(b": ");
             push_invalid_kind(&mut text, *kind);
             text.push(b"\n");
+        }
+        Refusal::NotFlag { line } => {
+            text.push_entry(b"invalid line", *line as u128);
+            text.push(b": flag\n");
+        }
+        Refusal::FlagCount { flags, requests } => {
+            text.push_entry(b"invalid line", (*flags).max(*requests) as u128);
+            push_pair(
+                &mut text,
+                b": request count",
+                *flags as u128,
+                *requests as u128,
+            );
+            text.push(b"\n");
+        }
+        Refusal::Impossible { cause, capacity } => {
+            text.push(b"impossible ");
+            push_impossible(&mut text, *cause, *capacity);
         }
         Refusal::Words { place, kind } => {
             text.push(b"words: place ");

@@ -32,12 +32,13 @@ fn policy_line(policy: PolicyName, capacity: u64) -> Line
     text
 }
 
-fn hits_line(replay: Replay) -> Line
-    ensures { result ≡ line (hits_line replay.hits replay.bytes) }
+/// The hits and their bytes.
+pub(crate) fn hits_line(hits: u64, bytes: u128) -> Line
+    ensures { result ≡ line (hits_line hits bytes) }
 {
     let mut text = LineText::new();
-    text.push_entry(b"hits", replay.hits);
-    text.push_entry_line(b" bytes", replay.bytes);
+    text.push_entry(b"hits", hits);
+    text.push_entry_line(b" bytes", bytes);
     text
 }
 
@@ -51,7 +52,7 @@ pub fn replay_text(alloc: Global, facts: &ReplayFacts) -> Result<Vec<u8>, NoMemo
         &trace_line(facts.requests, facts.objects, facts.dropped),
     )?;
     append(&mut text, &policy_line(facts.policy, facts.capacity))?;
-    append(&mut text, &hits_line(facts.replay))?;
+    append(&mut text, &hits_line(facts.replay.hits, facts.replay.bytes))?;
     Ok(text)
 }
 

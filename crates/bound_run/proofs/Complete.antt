@@ -34,15 +34,16 @@ use Rattle.bound_words.specs.declared.settings.ReplaySettings.{ReplaySettings}
 use Rattle.bound_words.specs.declared.words.Plan.{Plan}
 use Rattle.bound_words.specs.declared.words.WordFault.{WordFault}
 use Rattle.bound_run.specs.declared.status.Status.{Status}
-use Rattle.bound_run.specs.declared.status.Status.TheVariants.{Done, Invalid, Words, BadLine, Limit, TraceFault, CertFault, ReportFault, MadeFault, NoMemory, Unequal}
+use Rattle.bound_run.specs.declared.status.Status.TheVariants.{Done, Invalid, Words, BadLine, Limit, TraceFault, CertFault, ReportFault, MadeFault, NoMemory, Unequal, NotFlag, FlagCount, Impossible}
 use Rattle.bound_run.specs.Demos.{trace_drawn}
 use Rattle.bound_run.specs.BoundsMade.{RefusesDenominator}
 use Rattle.bound_run.specs.Readings.{HasDenominator, IsGoodTrace, trace_in}
 use Rattle.bound_run.specs.Run.{AnswersCurve, AnswersCurveOf, AnswersOf, Answers, AreGoodInputs, BoundsEnd, CheckEnds, CurveEnds, Completes, DemoEnds, Devices, NoneFails, RefineEnds, ReplayEnds, RunEnds, CommandEnds, UpgradeEnds}
 use Rattle.bound_run.specs.Upgrades.{IsGoodCertificate}
 use Rattle.bound_run.specs.Statuses.{ending_of}
+use Rattle.bound_run.proofs.Claimed.{judge_complete}
 use Rattle.bound_words.specs.declared.settings.Settings.{Settings}
-use Rattle.bound_words.specs.declared.settings.Settings.TheVariants.{Bounds, Check, Replay, Curve, Demo, Upgrade, Refine}
+use Rattle.bound_words.specs.declared.settings.Settings.TheVariants.{Bounds, Check, Replay, Curve, Judge, Demo, Upgrade, Refine}
 use Rattle.bound_words.specs.Settings.{settings_of}
 
 -- ---- the walk over a trace that isn't refused
@@ -132,6 +133,9 @@ module _ (format : Format) (asked : BoundSettings) (source report made : Device)
   bounds_complete (Words fault) e = absurd e.0
   bounds_complete CertFault e = absurd e.0
   bounds_complete (Unequal first other) e = absurd e.0
+  bounds_complete (NotFlag line) e = absurd e.0
+  bounds_complete (FlagCount flags requests) e = absurd e.0
+  bounds_complete (Impossible cause capacity) e = absurd e.0
 
 -- ---- checks
 
@@ -178,6 +182,9 @@ module _ (format : Format) where
     check_complete (Words fault) e = absurd e.0
     check_complete MadeFault e = absurd e.0
     check_complete (Unequal first other) e = absurd e.0
+    check_complete (NotFlag line) e = absurd e.0
+    check_complete (FlagCount flags requests) e = absurd e.0
+    check_complete (Impossible cause capacity) e = absurd e.0
 
   -- a refinement answers as the check of its certificate
   module _ (width : ℕ) (source cert report made : Device) (good : IsGoodTrace format source.before) (known_cert : IsSome cert.before)
@@ -196,6 +203,9 @@ module _ (format : Format) where
     refine_complete NoMemory e = free_at source.before cert.before
     refine_complete (Words fault) e = absurd e.0
     refine_complete (Unequal first other) e = absurd e.0
+    refine_complete (NotFlag line) e = absurd e.0
+    refine_complete (FlagCount flags requests) e = absurd e.0
+    refine_complete (Impossible cause capacity) e = absurd e.0
 
 -- ---- replays
 
@@ -219,6 +229,9 @@ module _ (format : Format) (r : ReplaySettings) (source report : Device) (good :
   replay_complete (Words fault) e = absurd e.0
   replay_complete CertFault e = absurd e.0
   replay_complete (Unequal first other) e = absurd e.0
+  replay_complete (NotFlag line) e = absurd e.0
+  replay_complete (FlagCount flags requests) e = absurd e.0
+  replay_complete (Impossible cause capacity) e = absurd e.0
 
 -- ---- curves
 
@@ -252,6 +265,9 @@ module _ (format : Format) (source report : Device) (good : IsGoodTrace format s
   curve_complete (Invalid line kind) e = absurd e.0
   curve_complete (Words fault) e = absurd e.0
   curve_complete CertFault e = absurd e.0
+  curve_complete (NotFlag line) e = absurd e.0
+  curve_complete (FlagCount flags requests) e = absurd e.0
+  curve_complete (Impossible cause capacity) e = absurd e.0
 
 -- ---- demos
 
@@ -270,6 +286,9 @@ module _ (drawing : DrawSettings) (asked : BoundSettings) (report : Device) (den
   demo_complete (Words fault) e = absurd e.0
   demo_complete CertFault e = absurd e.0
   demo_complete (Unequal first other) e = absurd e.0
+  demo_complete (NotFlag line) e = absurd e.0
+  demo_complete (FlagCount flags requests) e = absurd e.0
+  demo_complete (Impossible cause capacity) e = absurd e.0
 
 -- ---- upgrades
 
@@ -291,6 +310,9 @@ module _ (source report made : Device) (good : IsGoodCertificate source.before) 
   upgrade_complete TraceFault e = absurd e.0
   upgrade_complete (Words fault) e = absurd e.0
   upgrade_complete (Unequal first other) e = absurd e.0
+  upgrade_complete (NotFlag line) e = absurd e.0
+  upgrade_complete (FlagCount flags requests) e = absurd e.0
+  upgrade_complete (Impossible cause capacity) e = absurd e.0
 
 -- ---- a whole run
 
@@ -300,6 +322,7 @@ module _ (d : Devices) (status : Status) (works : NoneFails d) where
   command_complete (Bounds format asked) e inputs = bounds_complete format asked d.trace d.report d.made inputs.0 inputs.1 works.trace works.report works.made status e.0
   command_complete (Replay format r) e inputs = replay_complete format r d.trace d.report inputs works.trace works.report status e.0
   command_complete (Curve format) e inputs = curve_complete format d.trace d.report inputs works.trace works.report status e.0
+  command_complete (Judge format asked) e inputs = judge_complete format asked d.trace d.cert d.report inputs.0 inputs.1 works.trace works.cert works.report status e.0
   command_complete Upgrade e inputs = upgrade_complete d.cert d.report d.made inputs works.cert works.report works.made status e.0
   command_complete (Check format) e inputs = check_complete format d.trace d.cert d.report inputs.0 inputs.1 works.trace works.cert works.report status e.0
   command_complete (Refine format width) e inputs = refine_complete format width d.trace d.cert d.report d.made inputs.0 inputs.1 works.trace works.cert works.report works.made status e.0

@@ -51,6 +51,9 @@ module _ (lines text : List ℕ) (lines_after text_after : Option (List ℕ)) (g
   only_memory refusal.CertFault e = absurd (no_fault e)
   only_memory (refusal.Unequal first other) e = absurd e
   only_memory refusal.MadeFault e = absurd e
+  only_memory (refusal.NotFlag line) e = absurd e
+  only_memory (refusal.FlagCount flags requests) e = absurd e
+  only_memory (refusal.Impossible cause capacity) e = absurd e
   only_memory (refusal.Words place kind) e = absurd e
   only_memory refusal.NoMemory e = refl
 

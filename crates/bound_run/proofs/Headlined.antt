@@ -20,8 +20,10 @@ use Rattle.bound_run.specs.Demos.{trace_drawn}
 use Rattle.bound_run.specs.Headline.{AreTrueBounds, Headline, IsPriceOf, Shows}
 use Rattle.bound_run.specs.Run.{Devices, RunEnds, CommandEnds}
 use Rattle.bound_run.specs.Statuses.{done, ending_of}
+use Rattle.judge_laws.proofs.Possible.{possible_is_allowed}
+use Rattle.bound_run.proofs.Claimed.{claims_bounded}
 use Rattle.bound_words.specs.declared.settings.Settings.{Settings}
-use Rattle.bound_words.specs.declared.settings.Settings.TheVariants.{Bounds, Check, Replay, Curve, Demo, Upgrade, Refine}
+use Rattle.bound_words.specs.declared.settings.Settings.TheVariants.{Bounds, Check, Replay, Curve, Judge, Demo, Upgrade, Refine}
 use Rattle.bound_words.specs.Settings.{settings_of}
 
 -- a valid certificate has true bounds
@@ -96,6 +98,19 @@ shown (Curve format) d ((text, curved, printed), source, cert, made) = (
   curved.dropped,
   curved.loaded,
   record { text = text; printed = printed; curve = curved.report },
+)
+shown (Judge format asked) d ((text, judged, printed), trace, hits, made) = (
+  judged.requests,
+  judged.dropped,
+  judged.read.loaded,
+  record {
+    flags = judged.flags;
+    flags_are = judged.read.flags_are;
+    as_many = judged.read.as_many;
+    printed = subst (λ t. Appends d.report.before d.report.after t) judged.text_is printed;
+    possible = possible_is_allowed asked.capacity judged.requests.objects judged.flags judged.possible;
+    bounded = claims_bounded asked judged.requests judged.flags judged.possible;
+  },
 )
 shown (Demo drawing asked) d ((text, shows, printed), trace, cert, made) =
     let is = shows.made in

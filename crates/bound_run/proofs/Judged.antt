@@ -22,7 +22,8 @@ use Rattle.cert_checker.specs.declared.walking.CheckFault.TheVariants as check
 use Rattle.cert_checker.specs.Checks.{Inputs, IsEvent, IsNear, IsPassed}
 use Rattle.cert_checker.specs.Keeping.{Checked, HasKept}
 use Rattle.cert_checker.specs.Counting.{counted_in}
-use Rattle.bound_run.specs.Readings.{IsAccepted, IsLoaded, IsVerdictText}
+use Rattle.trace_any.specs.Loads.{IsLoaded}
+use Rattle.bound_run.specs.Readings.{IsAccepted, IsVerdictText}
 use Rattle.bound_run.specs.Reports.{verdict_report}
 use Rattle.bound_run.specs.Refusals.{RefusesCheck}
 use Rattle.bound_run.specs.Refined.{IsKept}

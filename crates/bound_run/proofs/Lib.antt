@@ -1,4 +1,5 @@
 pub mod Outcomes
+pub mod Claimed
 pub mod Complete
 pub mod Judged
 pub mod RecordsOf

@@ -30,28 +30,14 @@ use Rattle.bound_report.specs.Refusals.{refusal_line}
 use Rattle.bound_run.specs.Statuses.{Ending, done, refused, unreported, ending_of, refusal_of, refusal_of_bounds, refusal_of_curve, status_of}
 use Rattle.bound_run.specs.Demos.{IsDemoText, trace_drawn}
 use Rattle.bound_run.specs.Refusals.{RefusesDemo, RefusesBounds, RefusesCurve, RefusesLoading}
-use Rattle.bound_run.specs.Readings.{IsLoaded, IsReady, IsRefused, IsReplayed, IsCurved, IsVerdictText}
-use Rattle.bound_run.specs.Run.{CheckEnds, CurveEnds, DemoEnds, MakesEnd, ReplayEnds}
+use Rattle.trace_any.specs.Loads.{IsLoaded, IsRefused}
+use Rattle.bound_run.specs.Readings.{IsReady, IsReplayed, IsCurved, IsVerdictText}
+use Rattle.bound_words.specs.declared.settings.JudgeSettings.{JudgeSettings}
+use Rattle.bound_run.specs.Judgements.{IsJudged}
+use Rattle.bound_run.specs.Run.{CheckEnds, CurveEnds, DemoEnds, JudgeEnds, MakesEnd, ReplayEnds}
 use Rattle.bound_run.specs.Writings.{WritesOut, WritesReport}
 
--- where nothing is left to stand in, the source has nothing left
-left_nothing : (held : List ℕ) (left : Option (List ℕ)) → stands_in held left ≡ Some [] → left ≡ Some []
-left_nothing held None end = absurd (false≢true (ap is_some end))
-left_nothing held (Some rest) end =
-    let all : held ++ rest ≡ [] = ap (λ o. unwrap_or o []) end in
-    ap (λ l. Some l) (nil_from_length rest (omega (arith, length-append held rest, ap length all)))
-
-pub nothing_left : (before left : Option (List ℕ)) (held : List ℕ) → IfSome before (λ _. stands_in held left ≡ Some []) → IfSome before (λ _. left ≡ Some [])
-nothing_left None left held end = tt
-nothing_left (Some bytes) left held end = left_nothing held left end
-
--- what a reader that has read nothing loads is the trace of all that the source had left
-pub loaded_all : (format : Format) (before after : Option (List ℕ)) (faults_before faults_after : ℕ) (requests : Trail) (dropped : ℕ)
-    → IfSome (known (fresh format full_limits) before) (λ bytes. IsWhole (to_come (fresh format full_limits) bytes) requests dropped)
-    → IfSome (known (fresh format full_limits) before) (λ bytes. after ≡ Some []) → IsLoaded format (device before after faults_before faults_after) requests dropped
-loaded_all format None after faults_before faults_after requests dropped whole end = record { read = tt; nothing_left = tt }
-loaded_all format (Some bytes) after faults_before faults_after requests dropped whole end = record { read = rw (fresh_to_come) at whole; nothing_left = end }
-
+-- what a reader that has read nothing refuses is what the reading of all is refused for
 refused_all : (format : Format) (before after : Option (List ℕ)) (faults_before faults_after : ℕ) (fault : FaultOfTrace)
     → IfSome (known (fresh format full_limits) before) (λ bytes. (to_come (fresh format full_limits) bytes).refused ≡ Some fault) → IsRefused format (device before after faults_before faults_after) fault
 refused_all format None after faults_before faults_after fault why = tt
@@ -88,6 +74,9 @@ loading_refuses format asked d why e = e
 -- a refusal is what its status tells
 pub ending_of-status_of : (why : Refusal) → ending_of (status_of why) ≡ refused why
 ending_of-status_of (refusal.Invalid line kind) = refl
+ending_of-status_of (refusal.NotFlag line) = refl
+ending_of-status_of (refusal.FlagCount flags requests) = refl
+ending_of-status_of (refusal.Impossible cause capacity) = refl
 ending_of-status_of (refusal.Words place kind) = refl
 ending_of-status_of (refusal.BadLine line kind) = refl
 ending_of-status_of (refusal.Limit name) = refl
@@ -146,6 +135,15 @@ module _ (format : Format) (source report : Device) where
   pub curve_refused : (requests : Trail) (dropped : ℕ) (fault : CurveFault) → IsLoaded format source requests dropped → IsCause requests.objects fault → RefusesCurve format source (refusal_of_curve fault)
   curve_refused requests dropped (curve.Unequal first other) loaded why = record { requests = requests; dropped = dropped; loaded = loaded; clash = why }
   curve_refused requests dropped curve.NoMemory loaded why = tt
+
+-- ---- judgements
+
+module _ (format : Format) (asked : JudgeSettings) (source hits report : Device) where
+  -- a judgement that was reported, or failed to be
+  pub judge_written : (text : List ℕ) (ending : Ending) → IsJudged format asked source hits text → WritesReport report text ending → JudgeEnds format asked source hits report ending
+  judge_written text done judged all = (text, judged, all)
+  judge_written text unreported judged less = (text, judged, less)
+  judge_written text (refused why) judged written = absurd written
 
 -- ---- demos
 

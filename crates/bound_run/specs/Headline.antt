@@ -1,5 +1,5 @@
 -- The headline: what is known of the numbers that a run printed, in the words of the trace and of contents alone.
-use Rattle.std.specs.Prelude.{◌≡◌, ◌↔◌, ℕ, ◌*◌, ◌≤◌, IsTrue, IfSome, List, [], length, All, Result, Ok, Err, None}
+use Rattle.std.specs.Prelude.{◌≡◌, ◌↔◌, ℕ, ◌*◌, ◌≤◌, Bool, IsTrue, IfSome, List, [], length, All, Result, Ok, Err, None}
 use Rattle.std.specs.Io.KnownBytes.{Appends}
 use Rattle.bound_io.specs.Devices.{Device}
 use Rattle.cache_rules.specs.Stored.{Requests}
@@ -26,15 +26,21 @@ use Rattle.bound_report.specs.declared.demo.PolicyReplays.{PolicyReplays}
 use Rattle.bound_report.specs.Demos.{demo_text}
 use Rattle.bound_run.specs.Demos.{AreReplays, demo_facts, trace_drawn}
 use Rattle.bound_run.specs.Curves.{IsCurveText}
-use Rattle.bound_run.specs.Readings.{IsLoaded}
+use Rattle.trace_any.specs.Loads.{IsLoaded}
+use Rattle.hit_flags.specs.Claims.{AreFlags}
+use Rattle.judge_laws.specs.Flags.{HitsFlagged}
+use Rattle.cache_model.specs.declared.objects.Object.{Object}
+use Rattle.cache_model.specs.declared.objects.Objective.TheVariants.{Object as Hits, Bytes}
+use Rattle.bound_run.specs.Judgements.{claimed_by, judged_report}
+use Rattle.bound_words.specs.declared.settings.JudgeSettings.{JudgeSettings}
 use Rattle.bound_run.specs.BoundsMade.{is_unwindowed}
 use Rattle.bound_run.specs.Refined.{IsRefinement, verdict_on}
-use Rattle.bound_run.specs.Replays.{IsReplayText}
+use Rattle.bound_run.specs.Replays.{IsReplayText, IsWithinBounds}
 use Rattle.bound_run.specs.Reports.{bounds_report, refined_report, verdict_report}
 use Rattle.bound_run.specs.Upgrades.{IsUpgraded}
 use Rattle.bound_run.specs.Run.{Devices}
 use Rattle.bound_words.specs.declared.settings.Settings.{Settings}
-use Rattle.bound_words.specs.declared.settings.Settings.TheVariants.{Bounds, Check, Replay, Curve, Demo, Upgrade, Refine}
+use Rattle.bound_words.specs.declared.settings.Settings.TheVariants.{Bounds, Check, Replay, Curve, Judge, Demo, Upgrade, Refine}
 use Rattle.bound_words.specs.Settings.{settings_of}
 
 -- header and records are a certificate in range, with a record for each request, and its bounds are true of the trace: no allowed contents score more than the upper one, the keeps are allowed contents with the lower one as their score, no prices over any denominator have a bound below the flow, and in the form exact prices and flows have the upper one as their value
@@ -87,6 +93,15 @@ pub record ShowsCurve (format : Format) (trace : Requests) (dropped : ℕ) (repo
   pub printed : Appends report.before report.after text
   pub curve : IsCurveText format trace dropped text
 
+-- a judgement printed the hits that the flags claim: some allowed contents hit at each flagged request, and no valid certificate of the capacity and no longer warm-up is below the claim
+pub record ShowsJudgement (format : Format) (asked : JudgeSettings) (trace : Requests) (dropped : ℕ) (hits report : Device) : Type 0 where
+  pub flags : List Bool
+  pub flags_are : AreFlags hits flags
+  pub as_many : length flags ≡ length trace.objects
+  pub printed : Appends report.before report.after (judged_report format asked trace dropped flags)
+  pub possible : (contents : List (List Object)) × IsAllowed asked.capacity trace.objects contents × HitsFlagged trace.objects contents flags
+  pub bounded : IsWithinBounds asked.capacity asked.warmup trace (claimed_by Hits asked trace flags) (claimed_by Bytes asked trace flags)
+
 -- a demo printed true bounds of the trace that it drew, and the hits of each rule's run on it, which no valid certificate is below
 pub record ShowsDemo (drawing : DrawSettings) (asked : BoundSettings) (report : Device) : Type 0 where
   pub header : Header
@@ -128,6 +143,7 @@ Shows (Bounds format asked) d = (trace : Requests) × (dropped : ℕ) × IsLoade
 Shows (Check format) d = (trace : Requests) × (dropped : ℕ) × IsLoaded format d.trace trace dropped × ShowsCheck format trace dropped d.cert d.report
 Shows (Replay format r) d = (trace : Requests) × (dropped : ℕ) × IsLoaded format d.trace trace dropped × ShowsReplay format r trace dropped d.report
 Shows (Curve format) d = (trace : Requests) × (dropped : ℕ) × IsLoaded format d.trace trace dropped × ShowsCurve format trace dropped d.report
+Shows (Judge format asked) d = (trace : Requests) × (dropped : ℕ) × IsLoaded format d.trace trace dropped × ShowsJudgement format asked trace dropped d.cert d.report
 Shows (Demo drawing asked) d = ShowsDemo drawing asked d.report
 Shows Upgrade d = ShowsUpgrade d.cert d.report d.made
 Shows (Refine format width) d = (trace : Requests) × (dropped : ℕ) × IsLoaded format d.trace trace dropped × ShowsRefinement format width trace dropped d.cert d.report d.made

@@ -13,5 +13,6 @@ pub mod Demos
 pub mod Refusals
 pub mod Writings
 pub mod Run
+pub mod Judgements
 pub mod Headline
 pub mod Replays

@@ -9,10 +9,9 @@ use Rattle.cache_model.specs.Claim.{BoundsEveryPolicy}
 use Rattle.cache_model.specs.Certificates.{IsLeastOverAll, IsValid}
 use Rattle.cache_model.specs.Objects.{objects_of}
 use Rattle.cache_model.specs.Texts.{cert_text}
-use Rattle.trace_any.specs.declared.fault.TraceFault.{TraceFault as FaultOfTrace}
 use Rattle.trace_any.specs.declared.format.Format.{Format}
 use Rattle.trace_any.specs.Readings.{Reading, reading, full_limits}
-use Rattle.trace_any.specs.Readers.{IsWhole}
+use Rattle.trace_any.specs.Loads.{IsLoaded}
 use Rattle.cert_checker.specs.declared.verdict.Verdict.{Verdict}
 use Rattle.cert_checker.specs.Counting.{counted_in}
 use Rattle.cert_checker.specs.Walks.{Event, walk}
@@ -27,15 +26,6 @@ use Rattle.bound_run.specs.Reports.{verdict_report}
 -- the requests of a reading, with their marks
 abbrev pub trace_in : Reading → Requests
 trace_in r = record { objects = r.requests; fills = r.fills }
-
--- all that the source had left was read, and is a trace of these requests and this many dropped lines, if its bytes are known
-pub record IsLoaded (format : Format) (source : Device) (requests : Requests) (dropped : ℕ) : Type 0 where
-  pub read : IfSome source.before (λ bytes. IsWhole (reading format full_limits bytes) requests dropped)
-  pub nothing_left : IfSome source.before (λ bytes. source.after ≡ Some [])
-
--- what the source had left is refused so, if its bytes are known
-abbrev pub IsRefused : Format → Device → FaultOfTrace → Type 0
-IsRefused format source fault = IfSome source.before (λ bytes. (reading format full_limits bytes).refused ≡ Some fault)
 
 -- the certificate and the report of all that the source had left
 pub record IsReady (format : Format) (asked : BoundSettings) (source : Device) (cert report : List ℕ) : Type 0 where

@@ -15,7 +15,7 @@ use Rattle.cert_checker.specs.Keeping.{Checked}
 use Rattle.price_refine.specs.Blocks.{AreSettled}
 use Rattle.price_refine.specs.Refinements.{Refinement}
 use Rattle.trace_any.specs.declared.format.Format.{Format}
-use Rattle.bound_run.specs.Readings.{IsLoaded}
+use Rattle.trace_any.specs.Loads.{IsLoaded}
 use Rattle.bound_run.specs.Reports.{refined_report}
 
 -- the header with another upper bound

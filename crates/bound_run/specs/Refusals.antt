@@ -14,9 +14,14 @@ use Rattle.bound_report.specs.declared.refusal.Refusal.{Refusal}
 use Rattle.bound_report.specs.declared.refusal.Refusal.TheVariants as refusal
 use Rattle.bound_words.specs.declared.settings.BoundSettings.{BoundSettings}
 use Rattle.bound_words.specs.declared.settings.DrawSettings.{DrawSettings}
+use Rattle.bound_words.specs.declared.settings.JudgeSettings.{JudgeSettings}
 use Rattle.bound_run.specs.BoundsMade.{RefusesDenominator}
 use Rattle.bound_run.specs.Demos.{trace_drawn}
-use Rattle.bound_run.specs.Readings.{IsFirstEvent, IsPastDenominator, IsRefused, IsUnequal}
+use Rattle.trace_any.specs.Loads.{IsRefused}
+use Rattle.hit_flags.specs.Claims.{IsStop}
+use Rattle.hit_flags.specs.declared.fault.FlagFault.TheVariants as flag
+use Rattle.bound_run.specs.Judgements.{IsImpossible}
+use Rattle.bound_run.specs.Readings.{IsFirstEvent, IsPastDenominator, IsUnequal}
 use Rattle.bound_run.specs.Upgrades.{IsNearLineOf}
 
 -- why a trace is not read to its end, if it is refused for the faults that it has: a bad line, a passed limit, a failed read, or no memory
@@ -48,6 +53,14 @@ RefusesCheck format source cert (refusal.Invalid line kind) =
     IsFirstEvent format source cert (walk.Invalid line kind) × IsOfText cert.before line kind × IsNearLine format full_limits line source cert
 RefusesCheck format source cert refusal.CertFault = HasFailed cert
 RefusesCheck format source cert r = RefusesReading (λ fault. IsFirstEvent format source cert (walk.Refused fault) × IsRefused format source fault) source r
+
+-- why claimed hits are refused: what stops the reading of the trace and the flags by turns, a failed read of either, or the first cause why the flags are not possible
+abbrev pub RefusesJudge : Format → JudgeSettings → Device → Device → Refusal → Type 0
+RefusesJudge format asked source hits (refusal.NotFlag line) = IsStop format source hits (flag.NotFlag line)
+RefusesJudge format asked source hits (refusal.FlagCount flags requests) = IsStop format source hits (flag.Count flags requests)
+RefusesJudge format asked source hits (refusal.Impossible cause capacity) = IsImpossible format asked source hits cause capacity
+RefusesJudge format asked source hits refusal.CertFault = HasFailed hits
+RefusesJudge format asked source hits r = RefusesReading (λ fault. IsStop format source hits (flag.Trace fault)) source r
 
 -- why there is no demo: the denominator that is asked for passes its limit, or memory ran out
 abbrev pub RefusesDemo : DrawSettings → BoundSettings → Refusal → Type 0

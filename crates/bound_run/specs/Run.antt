@@ -14,20 +14,22 @@ use Rattle.bound_report.specs.declared.refusal.Refusal.TheVariants as refusal
 use Rattle.bound_report.specs.Refusals.{refusal_line}
 use Rattle.bound_words.specs.declared.settings.BoundSettings.{BoundSettings}
 use Rattle.bound_words.specs.declared.settings.DrawSettings.{DrawSettings}
+use Rattle.bound_words.specs.declared.settings.JudgeSettings.{JudgeSettings}
 use Rattle.bound_words.specs.declared.settings.ReplaySettings.{ReplaySettings}
 use Rattle.bound_words.specs.declared.words.Plan.{Plan}
 use Rattle.bound_words.specs.declared.words.WordFault.{WordFault}
 use Rattle.bound_run.specs.declared.status.Status.{Status}
-use Rattle.bound_run.specs.declared.status.Status.TheVariants.{Done, Invalid, Words, NoMemory, Unequal}
+use Rattle.bound_run.specs.declared.status.Status.TheVariants.{Done, Invalid, Words, BadLine, Limit, NoMemory, Unequal, NotFlag, FlagCount, Impossible}
 use Rattle.bound_run.specs.Demos.{IsDemoText, trace_drawn}
-use Rattle.bound_run.specs.Refusals.{RefusesDemo, RefusesBounds, RefusesCheck, RefusesCurve, RefusesLoading, RefusesUpgrade}
+use Rattle.bound_run.specs.Refusals.{RefusesDemo, RefusesBounds, RefusesCheck, RefusesCurve, RefusesJudge, RefusesLoading, RefusesUpgrade}
 use Rattle.bound_run.specs.BoundsMade.{RefusesDenominator}
+use Rattle.bound_run.specs.Judgements.{ArePossible, IsJudged}
 use Rattle.bound_run.specs.Readings.{HasDenominator, IsCertified, IsGoodTrace, IsReady, IsReplayed, IsCurved, IsVerdictText}
 use Rattle.bound_run.specs.Refined.{IsRefined}
 use Rattle.bound_run.specs.Upgrades.{IsGoodCertificate, IsUpgraded}
 use Rattle.bound_run.specs.Statuses.{Ending, done, refused, unreported, ending_of}
 use Rattle.bound_words.specs.declared.settings.Settings.{Settings}
-use Rattle.bound_words.specs.declared.settings.Settings.TheVariants.{Bounds, Check, Replay, Curve, Demo, Upgrade, Refine}
+use Rattle.bound_words.specs.declared.settings.Settings.TheVariants.{Bounds, Check, Replay, Curve, Judge, Demo, Upgrade, Refine}
 use Rattle.bound_words.specs.Settings.{settings_of}
 
 -- what is seen of the four devices of a run
@@ -80,6 +82,12 @@ CurveEnds format source report done = (text : List ℕ) × IsCurved format sourc
 CurveEnds format source report unreported = (text : List ℕ) × IsCurved format source text × GetsLess report text
 CurveEnds format source report (refused why) = RefusesCurve format source why × Gets report (refusal_line why)
 
+-- how a judgement ends, and what the report got then
+abbrev pub JudgeEnds : Format → JudgeSettings → Device → Device → Device → Ending → Type 0
+JudgeEnds format asked source hits report done = (text : List ℕ) × IsJudged format asked source hits text × GetsAll report text
+JudgeEnds format asked source hits report unreported = (text : List ℕ) × IsJudged format asked source hits text × GetsLess report text
+JudgeEnds format asked source hits report (refused why) = RefusesJudge format asked source hits why × Gets report (refusal_line why)
+
 -- how a demo ends, and what the report got then
 abbrev pub DemoEnds : DrawSettings → BoundSettings → Device → Ending → Type 0
 DemoEnds drawing asked report done = (text : List ℕ) × IsDemoText drawing asked text × GetsAll report text
@@ -96,6 +104,7 @@ CommandEnds (Bounds format asked) d ending = BoundsEnd format asked d.trace d.re
 CommandEnds (Check format) d ending = CheckEnds format d.trace d.cert d.report ending × IsReadFrom d.trace × IsReadFrom d.cert × IsUntouched d.made
 CommandEnds (Replay format r) d ending = ReplayEnds format r d.trace d.report ending × IsReadFrom d.trace × IsUntouched d.cert × IsUntouched d.made
 CommandEnds (Curve format) d ending = CurveEnds format d.trace d.report ending × IsReadFrom d.trace × IsUntouched d.cert × IsUntouched d.made
+CommandEnds (Judge format asked) d ending = JudgeEnds format asked d.trace d.cert d.report ending × IsReadFrom d.trace × IsReadFrom d.cert × IsUntouched d.made
 CommandEnds (Demo drawing asked) d ending = DemoEnds drawing asked d.report ending × IsUntouched d.trace × IsUntouched d.cert × IsUntouched d.made
 CommandEnds Upgrade d ending = UpgradeEnds d.cert d.report d.made ending × IsReadFrom d.cert × IsUntouched d.trace
 CommandEnds (Refine format width) d ending = RefineEnds format width d.trace d.cert d.report d.made ending × IsReadFrom d.trace × IsReadFrom d.cert
@@ -120,6 +129,7 @@ AreGoodInputs (Bounds format asked) d = IsGoodTrace format d.trace.before × Has
 AreGoodInputs (Check format) d = IsGoodTrace format d.trace.before × IsSome d.cert.before
 AreGoodInputs (Replay format r) d = IsGoodTrace format d.trace.before
 AreGoodInputs (Curve format) d = IsGoodTrace format d.trace.before
+AreGoodInputs (Judge format asked) d = IsSome d.trace.before × IsSome d.cert.before
 AreGoodInputs (Demo drawing asked) d = ¬ (RefusesDenominator asked (trace_drawn drawing))
 AreGoodInputs Upgrade d = IsGoodCertificate d.cert.before
 AreGoodInputs (Refine format width) d = IsGoodTrace format d.trace.before × IsSome d.cert.before
@@ -143,12 +153,24 @@ abbrev pub AnswersCurveOf : Format → Option (List ℕ) → Status → Type 0
 AnswersCurveOf format (Some bytes) status = AnswersCurve (reading format full_limits bytes).requests status
 AnswersCurveOf format None status = ⊥
 
+-- what a judgement answers of bytes that are known: Done if they are a trace and flags of possible hits, and else a refusal of either
+abbrev pub AnswersJudge : Format → JudgeSettings → Option (List ℕ) → Option (List ℕ) → Status → Type 0
+AnswersJudge format asked (Some bytes) (Some text) Done = ArePossible format asked bytes text
+AnswersJudge format asked (Some bytes) (Some text) (BadLine line kind) = ¬ (ArePossible format asked bytes text)
+AnswersJudge format asked (Some bytes) (Some text) (Limit name) = ¬ (ArePossible format asked bytes text)
+AnswersJudge format asked (Some bytes) (Some text) (NotFlag line) = ¬ (ArePossible format asked bytes text)
+AnswersJudge format asked (Some bytes) (Some text) (FlagCount flags requests) = ¬ (ArePossible format asked bytes text)
+AnswersJudge format asked (Some bytes) (Some text) (Impossible cause capacity) = ¬ (ArePossible format asked bytes text)
+AnswersJudge format asked before hits NoMemory = Unit {0}
+AnswersJudge format asked before hits status = ⊥
+
 -- what is answered of good inputs, unless memory ran out
 abbrev pub Answers : Settings → Devices → Status → Type 0
 Answers (Bounds format asked) d status = (status ≡ Done) ⊎ (status ≡ NoMemory)
 Answers (Check format) d status = AnswersOf format d.trace.before d.cert.before status
 Answers (Replay format r) d status = (status ≡ Done) ⊎ (status ≡ NoMemory)
 Answers (Curve format) d status = AnswersCurveOf format d.trace.before status
+Answers (Judge format asked) d status = AnswersJudge format asked d.trace.before d.cert.before status
 Answers (Demo drawing asked) d status = (status ≡ Done) ⊎ (status ≡ NoMemory)
 Answers Upgrade d status = (status ≡ Done) ⊎ (status ≡ NoMemory)
 Answers (Refine format width) d status = AnswersOf format d.trace.before d.cert.before status

@@ -9,10 +9,12 @@ use Rattle.cert_checker.specs.declared.walking.CheckFault.{CheckFault}
 use Rattle.cert_checker.specs.declared.walking.CheckFault.TheVariants as check
 use Rattle.stack_curve.specs.declared.pass.CurveFault.{CurveFault}
 use Rattle.stack_curve.specs.declared.pass.CurveFault.TheVariants as curve
+use Rattle.hit_flags.specs.declared.fault.FlagFault.{FlagFault}
+use Rattle.hit_flags.specs.declared.fault.FlagFault.TheVariants as flag
 use Rattle.bound_run.specs.declared.bounds.BoundsFault.{BoundsFault}
 use Rattle.bound_run.specs.declared.bounds.BoundsFault.TheVariants as bounds
 use Rattle.bound_run.specs.declared.status.Status.{Status}
-use Rattle.bound_run.specs.declared.status.Status.TheVariants.{Done, Invalid, Words, BadLine, Limit, TraceFault, CertFault, ReportFault, MadeFault, NoMemory, Unequal}
+use Rattle.bound_run.specs.declared.status.Status.TheVariants.{Done, Invalid, Words, BadLine, Limit, TraceFault, CertFault, ReportFault, MadeFault, NoMemory, Unequal, NotFlag, FlagCount, Impossible}
 
 -- the exit status of the program
 abbrev pub code_of : Status → ℕ
@@ -27,6 +29,9 @@ code_of ReportFault = 7
 code_of MadeFault = 8
 code_of NoMemory = 9
 code_of (Unequal first other) = 10
+code_of (NotFlag line) = 1
+code_of (FlagCount flags requests) = 1
+code_of (Impossible cause capacity) = 13
 
 -- how a run ended: all was done, it was refused, or its report could not be written
 pub data Ending : Type 0 where
@@ -47,6 +52,9 @@ ending_of ReportFault = unreported
 ending_of MadeFault = refused refusal.MadeFault
 ending_of NoMemory = refused refusal.NoMemory
 ending_of (Unequal first other) = refused (refusal.Unequal first other)
+ending_of (NotFlag line) = refused (refusal.NotFlag line)
+ending_of (FlagCount flags requests) = refused (refusal.FlagCount flags requests)
+ending_of (Impossible cause capacity) = refused (refusal.Impossible cause capacity)
 
 -- the status that a refusal ends in
 abbrev pub status_of : Refusal → Status
@@ -59,6 +67,9 @@ status_of refusal.CertFault = CertFault
 status_of refusal.MadeFault = MadeFault
 status_of refusal.NoMemory = NoMemory
 status_of (refusal.Unequal first other) = Unequal first other
+status_of (refusal.NotFlag line) = NotFlag line
+status_of (refusal.FlagCount flags requests) = FlagCount flags requests
+status_of (refusal.Impossible cause capacity) = Impossible cause capacity
 
 -- the refusal that a fault of the trace leads to
 abbrev pub refusal_of : FaultOfTrace → Refusal
@@ -84,3 +95,11 @@ refusal_of_bounds bounds.NoMemory = refusal.NoMemory
 abbrev pub refusal_of_curve : CurveFault → Refusal
 refusal_of_curve (curve.Unequal first other) = refusal.Unequal first other
 refusal_of_curve curve.NoMemory = refusal.NoMemory
+
+-- the refusal that a fault of claimed hits leads to
+abbrev pub refusal_of_flags : FlagFault → Refusal
+refusal_of_flags (flag.Trace fault) = refusal_of fault
+refusal_of_flags (flag.NotFlag line) = refusal.NotFlag line
+refusal_of_flags (flag.Count flags requests) = refusal.FlagCount flags requests
+refusal_of_flags flag.ReadFault = refusal.CertFault
+refusal_of_flags flag.NoMemory = refusal.NoMemory

@@ -8,6 +8,7 @@ mod checking;
 mod counting;
 mod curves;
 mod demos;
+mod judging;
 mod loading;
 mod prices;
 mod refined;

@@ -3,7 +3,8 @@ ghost use Rattle.std.specs.Prelude.{IfOk, IfErr};
 ghost use Rattle.bound_io.specs.Devices.{seen};
 ghost use Rattle.bound_io.specs.Reading.{LosesPrefix};
 ghost use Rattle.trace_any.specs.Readings.{IsFormat};
-ghost use Rattle.bound_run.specs.Readings.{IsCurved, IsLoaded, IsReady, IsReplayed};
+ghost use Rattle.trace_any.specs.Loads.{IsLoaded};
+ghost use Rattle.bound_run.specs.Readings.{IsCurved, IsReady, IsReplayed};
 ghost use Rattle.bound_run.specs.Refusals.{RefusesBounds, RefusesCurve, RefusesLoading};
 
 use crate::bounds::texts_of;

@@ -1,11 +1,12 @@
 //! How a run ends.
 ghost use Rattle.std.specs.Prelude.{◌≡◌};
-ghost use Rattle.bound_run.specs.Statuses.{code_of, refusal_of, refusal_of_check, refusal_of_curve};
+ghost use Rattle.bound_run.specs.Statuses.{code_of, refusal_of, refusal_of_check, refusal_of_curve, refusal_of_flags};
 
 use crate::bounds::BoundsFault;
-use bound_report::{InvalidKind, LimitName, Refusal};
+use bound_report::{Impossible, InvalidKind, LimitName, Refusal};
 use bound_words::WordFault;
 use cert_checker::CheckFault;
+use hit_flags::FlagFault;
 use stack_curve::CurveFault;
 use trace_any::TraceFault;
 use trace_lines::LineKind;
@@ -36,6 +37,12 @@ pub enum Status {
     /// Two objects of the trace differ in size: the size of its first object, and that of the first object which differs,
     /// in bytes.
     Unequal { first: u64, other: u64 },
+    /// A line of the flags is none. Lines of them count from 1.
+    NotFlag { line: u64 },
+    /// There are this many flags and requests, where the first of the two ends.
+    FlagCount { flags: u64, requests: u64 },
+    /// The flagged requests are no possible hits at this capacity, in bytes.
+    Impossible { cause: Impossible, capacity: u64 },
 }
 
 impl Status {
@@ -45,7 +52,7 @@ impl Status {
     {
         match self {
             Status::Done => 0,
-            Status::Invalid { .. } => 1,
+            Status::Invalid { .. } | Status::NotFlag { .. } | Status::FlagCount { .. } => 1,
             Status::Words(_) => 2,
             Status::BadLine { .. } => 3,
             Status::Limit(_) => 4,
@@ -55,6 +62,7 @@ impl Status {
             Status::MadeFault => 8,
             Status::NoMemory => 9,
             Status::Unequal { .. } => 10,
+            Status::Impossible { .. } => 13,
         }
     }
 }
@@ -68,6 +76,9 @@ impl From<Refusal> for Status {
     fn from(refusal: Refusal) -> Self {
         match refusal {
             Refusal::Invalid { line, kind } => Status::Invalid { line, kind },
+            Refusal::NotFlag { line } => Status::NotFlag { line },
+            Refusal::FlagCount { flags, requests } => Status::FlagCount { flags, requests },
+            Refusal::Impossible { cause, capacity } => Status::Impossible { cause, capacity },
             Refusal::Words { place, kind } => Status::Words(WordFault { place, kind }),
             Refusal::BadLine { line, kind } => Status::BadLine { line, kind },
             Refusal::Limit(name) => Status::Limit(name),
@@ -126,5 +137,18 @@ pub(crate) fn refusal_of_curve(fault: CurveFault) -> Refusal
     match fault {
         CurveFault::Unequal { first, other } => Refusal::Unequal { first, other },
         CurveFault::NoMemory => Refusal::NoMemory,
+    }
+}
+
+/// The refusal that a fault of claimed hits leads to.
+pub(crate) fn refusal_of_flags(fault: FlagFault) -> Refusal
+    ensures { result ≡ refusal_of_flags fault }
+{
+    match fault {
+        FlagFault::Trace(fault) => refusal_of(fault),
+        FlagFault::NotFlag { line } => Refusal::NotFlag { line },
+        FlagFault::Count { flags, requests } => Refusal::FlagCount { flags, requests },
+        FlagFault::ReadFault => Refusal::CertFault,
+        FlagFault::NoMemory => Refusal::NoMemory,
     }
 }

@@ -4,13 +4,14 @@ ghost use Rattle.bound_io.specs.Devices.{seen};
 ghost use Rattle.bound_io.specs.Reading.{LosesPrefix};
 ghost use Rattle.trace_any.specs.Readings.{IsFormat};
 ghost use Rattle.bound_run.specs.Headline.{Headline};
-ghost use Rattle.bound_run.specs.Run.{BoundsEnd, CheckEnds, Completes, CurveEnds, DemoEnds, RefineEnds, ReplayEnds, RunEnds, UpgradeEnds, devices};
+ghost use Rattle.bound_run.specs.Run.{BoundsEnd, CheckEnds, Completes, CurveEnds, DemoEnds, JudgeEnds, RefineEnds, ReplayEnds, RunEnds, UpgradeEnds, devices};
 ghost use Rattle.bound_run.specs.Statuses.{ending_of};
 ghost use Rattle.bound_words.specs.Settings.{IsPlanInRange};
 ghost use Rattle.bound_words.specs.Words.{plan};
 
 use crate::checking::verdict_of;
 use crate::demos::demo_report;
+use crate::judging::judge_all;
 use crate::loading::{curve_all, prepare, replay_all};
 use crate::refined::refine_all;
 use crate::status::Status;
@@ -19,7 +20,8 @@ use crate::writing::{refuse, write_out, write_report};
 use bound_io::{Sink, Source};
 use bound_report::Refusal;
 use bound_words::{
-    BoundSettings, DrawSettings, Plan, ReplaySettings, Settings, WordFault, plan_of, settings_of,
+    BoundSettings, DrawSettings, JudgeSettings, Plan, ReplaySettings, Settings, WordFault, plan_of,
+    settings_of,
 };
 use std::alloc::Global;
 use trace_any::Format;
@@ -107,6 +109,29 @@ fn run_curve<T: Source, R: Sink>(
     }
 }
 
+// Reads the trace and the flags of its requests, and writes what they claim if it is possible.
+fn run_judge<T: Source, H: Source, R: Sink>(
+    alloc: Global,
+    format: Format,
+    asked: JudgeSettings,
+    trace: &mut T,
+    hits: &mut H,
+    report: &mut R,
+) -> Status
+    requires format { IsFormat format }
+    ensures ends { JudgeEnds format asked
+        (seen T.left T.faults trace.old trace.new)
+        (seen H.left H.faults hits.old hits.new)
+        (seen R.written R.faults report.old report.new) (ending_of result) }
+    ensures trace_source { LosesPrefix (T.left trace.old) (T.left trace.new) }
+    ensures hits_source { LosesPrefix (H.left hits.old) (H.left hits.new) }
+{
+    match judge_all(alloc, format, asked, trace, hits) {
+        Ok(judged) => write_report(report, &judged),
+        Err(refusal) => refuse(report, refusal),
+    }
+}
+
 // Writes the report of a demo.
 fn run_demo<R: Sink>(
     alloc: Global,
@@ -190,6 +215,7 @@ fn run_plan<T: Source, Q: Source, R: Sink, K: Sink>(
         Settings::Check(format) => run_check(alloc, format, trace, cert, report),
         Settings::Replay(format, asked) => run_replay(alloc, format, asked, trace, report),
         Settings::Curve(format) => run_curve(alloc, format, trace, report),
+        Settings::Judge(format, asked) => run_judge(alloc, format, asked, trace, cert, report),
         Settings::Demo(drawing, asked) => run_demo(alloc, drawing, &asked, report),
         Settings::Upgrade => run_upgrade(alloc, cert, report, made),
         Settings::Refine(format, width) => {
@@ -200,6 +226,7 @@ fn run_plan<T: Source, Q: Source, R: Sink, K: Sink>(
 
 /// Does all that the program does. It reads the words, and for bounds the trace, and writes the certificate and then
 /// the report; for a check it reads the trace and the certificate side by side, for a replay or a curve the trace, and
+/// writes the report; for claimed hits it reads the trace and, in place of the certificate, their flags by turns, and
 /// writes the report; for a demo it reads nothing and writes the report; for an upgrade it reads the certificate, and
 /// writes it in the second version of its text and then the report; for a refinement it reads the trace and the
 /// certificate, and writes the certificate with refined prices and then the report.

@@ -33,6 +33,10 @@ needed command.Replay words operands =
     given _ _ (value_given (codes "capacity") operands) _ _ (λ capacity.
     given _ _ (value_given (codes "policy") operands) _ _ (λ policy. refl)))
 needed command.Curve words operands = given _ _ (value_given (codes "format") operands) _ _ (λ format. refl)
+needed command.Judge words operands =
+    given _ _ (value_given (codes "format") operands) _ _ (λ format.
+    given _ _ (value_given (codes "capacity") operands) _ _ (λ capacity.
+    behind (passed (inputs_fault (places_of command.Judge).trace (places_of command.Judge).cert words)) _ _ (λ apart. refl)))
 needed command.Demo words operands = refl
 needed command.Upgrade words operands = refl
 needed command.Refine words operands =

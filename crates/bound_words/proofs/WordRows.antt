@@ -5,7 +5,7 @@ use Rattle.bound_report.specs.declared.facts.Mode.TheVariants.{Constant, Flow, I
 use Rattle.bound_report.specs.declared.facts.Window.TheVariants.{All as Whole}
 use Rattle.relaxation.specs.declared.denominators.DenominatorChoice.TheVariants.{Auto, Exact, Given}
 use Rattle.trace_any.specs.declared.format.Format.TheVariants.{Webcache, Arc, Msr, Oracle, MarkedWebcache, MsrReads}
-use Rattle.bound_words.specs.declared.words.Plan.TheVariants.{Bounds, Check, Curve, Demo, Upgrade}
+use Rattle.bound_words.specs.declared.words.Plan.TheVariants.{Bounds, Check, Curve, Judge, Demo, Upgrade}
 use Rattle.bound_report.specs.declared.refusal.WordKind.TheVariants.{Missing, Unknown, Twice, BadValue}
 use Rattle.bound_words.specs.Words.{fault, plan}
 
@@ -123,6 +123,19 @@ large_seed = refl
 no_request : plan (codes "demo" ∷ codes "requests=0" ∷ []) ≡ Err (fault 2 BadValue)
 unfolding plan
 no_request = refl
+
+-- claimed hits are judged at a capacity, and stand on one of the two inputs alone
+a_judgement : plan (codes "judge" ∷ codes "t" ∷ codes "-" ∷ codes "format=arc" ∷ codes "capacity=7" ∷ codes "warmup=3" ∷ []) ≡ Ok (Judge Arc 7 3)
+unfolding plan
+a_judgement = refl
+
+judged_without_capacity : plan (codes "judge" ∷ codes "t" ∷ codes "h" ∷ codes "format=arc" ∷ []) ≡ Err (fault 5 Missing)
+unfolding plan
+judged_without_capacity = refl
+
+both_inputs : plan (codes "judge" ∷ codes "-" ∷ codes "-" ∷ codes "format=arc" ∷ codes "capacity=7" ∷ []) ≡ Err (fault 3 BadValue)
+unfolding plan
+both_inputs = refl
 
 -- a curve takes the form of the trace and no more
 a_curve : plan (codes "curve" ∷ codes "t" ∷ codes "format=msr" ∷ []) ≡ Ok (Curve (Msr 4096))

@@ -14,10 +14,11 @@ command_named word =
     else (if bytes_eq word (codes "check") then Some command.Check
     else (if bytes_eq word (codes "replay") then Some command.Replay
     else (if bytes_eq word (codes "curve") then Some command.Curve
+    else (if bytes_eq word (codes "judge") then Some command.Judge
     else (if bytes_eq word (codes "demo") then Some command.Demo
     else (if bytes_eq word (codes "upgrade") then Some command.Upgrade
     else (if bytes_eq word (codes "refine") then Some command.Refine
-    else None))))))
+    else None)))))))
 
 -- where the paths of a command stand among its words, of which the command is word 0
 abbrev pub places_of : Command → PathPlaces
@@ -25,6 +26,7 @@ places_of command.Bounds = record { count = 2; trace = Some 1; cert = Some 2; ma
 places_of command.Check = record { count = 2; trace = Some 1; cert = Some 2; made = None }
 places_of command.Replay = record { count = 1; trace = Some 1; cert = None; made = None }
 places_of command.Curve = record { count = 1; trace = Some 1; cert = None; made = None }
+places_of command.Judge = record { count = 2; trace = Some 1; cert = Some 2; made = None }
 places_of command.Demo = record { count = 0; trace = None; cert = None; made = None }
 places_of command.Upgrade = record { count = 2; trace = None; cert = Some 1; made = Some 2 }
 places_of command.Refine = record { count = 3; trace = Some 1; cert = Some 2; made = Some 3 }
@@ -39,6 +41,7 @@ needed_names command.Bounds = codes "format" ∷ codes "capacity" ∷ []
 needed_names command.Check = codes "format" ∷ []
 needed_names command.Replay = codes "format" ∷ codes "capacity" ∷ codes "policy" ∷ []
 needed_names command.Curve = codes "format" ∷ []
+needed_names command.Judge = codes "format" ∷ codes "capacity" ∷ []
 needed_names command.Demo = []
 needed_names command.Upgrade = []
 needed_names command.Refine = codes "format" ∷ codes "window" ∷ []
@@ -50,6 +53,7 @@ other_names command.Bounds =
 other_names command.Check = codes "block" ∷ codes "count" ∷ []
 other_names command.Replay = codes "block" ∷ codes "count" ∷ codes "warmup" ∷ []
 other_names command.Curve = codes "block" ∷ codes "count" ∷ []
+other_names command.Judge = codes "block" ∷ codes "count" ∷ codes "warmup" ∷ []
 other_names command.Demo =
     codes "seed" ∷ codes "requests" ∷ codes "objects" ∷ codes "capacity"
     ∷ codes "objective" ∷ codes "mode" ∷ codes "window" ∷ codes "denominator" ∷ []

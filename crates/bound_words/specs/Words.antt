@@ -5,7 +5,7 @@ use Rattle.std.specs.Option.{is_some, option_map, option_or}
 use Rattle.std.specs.List.{list_all}
 use Rattle.std.specs.Str.{bytes_eq}
 use Rattle.bound_words.specs.declared.words.Plan.{Plan}
-use Rattle.bound_words.specs.declared.words.Plan.TheVariants.{Bounds, Check, Replay, Curve, Demo, Upgrade, Refine}
+use Rattle.bound_words.specs.declared.words.Plan.TheVariants.{Bounds, Check, Replay, Curve, Judge, Demo, Upgrade, Refine}
 use Rattle.bound_words.specs.declared.commands.Command.{Command}
 use Rattle.bound_words.specs.declared.commands.PathPlaces.{PathPlaces}
 use Rattle.bound_words.specs.declared.words.WordFault.{WordFault}
@@ -158,6 +158,14 @@ check_plan places words operands = do
   apart ← passed (inputs_fault places.trace places.cert words)
   Ok (Check format)
 
+-- the plan of claimed hits, if the operands are accepted
+abbrev pub judge_plan : PathPlaces → List (List ℕ) → List (List ℕ) → Result Plan WordFault
+judge_plan places words operands = do
+  format ← required (length words + 1) (format_given operands)
+  capacity ← required (length words + 1) (capacity_given operands)
+  apart ← passed (inputs_fault places.trace places.cert words)
+  Ok (Judge format capacity (warmup_given operands))
+
 -- the plan of a refinement, if the operands are accepted
 abbrev pub refine_plan : PathPlaces → List (List ℕ) → List (List ℕ) → Result Plan WordFault
 refine_plan places words operands = do
@@ -172,6 +180,7 @@ plan_of_command command.Bounds words operands = bounds_plan (length words + 1) o
 plan_of_command command.Check words operands = check_plan (places_of command.Check) words operands
 plan_of_command command.Replay words operands = replay_plan (length words + 1) operands
 plan_of_command command.Curve words operands = curve_plan (length words + 1) operands
+plan_of_command command.Judge words operands = judge_plan (places_of command.Judge) words operands
 plan_of_command command.Demo words operands = Ok (demo_plan operands)
 plan_of_command command.Upgrade words operands = Ok Upgrade
 plan_of_command command.Refine words operands = refine_plan (places_of command.Refine) words operands

@@ -17,6 +17,8 @@ pub enum Command {
     Replay,
     /// LRU's hits on a trace at every number of slots.
     Curve,
+    /// Whether the hits that a simulator claims on a trace are possible.
+    Judge,
     /// Bounds, their check and replays on a trace that is made.
     Demo,
     /// A certificate in the second version of its text.
@@ -36,11 +38,12 @@ pub(crate) struct PathPlaces {
 
 impl Command {
     /// Each command, in the order of the help.
-    pub const ALL: [Command; 7] = [
+    pub const ALL: [Command; 8] = [
         Command::Bounds,
         Command::Check,
         Command::Replay,
         Command::Curve,
+        Command::Judge,
         Command::Demo,
         Command::Upgrade,
         Command::Refine,
@@ -55,6 +58,7 @@ impl Command {
             Command::Check => "check",
             Command::Replay => "replay",
             Command::Curve => "curve",
+            Command::Judge => "judge",
             Command::Demo => "demo",
             Command::Upgrade => "upgrade",
             Command::Refine => "refine",
@@ -68,6 +72,7 @@ impl Command {
         match self {
             Command::Bounds | Command::Check => &["trace", "certificate"],
             Command::Replay | Command::Curve => &["trace"],
+            Command::Judge => &["trace", "hits"],
             Command::Demo => &[],
             Command::Upgrade => &["certificate", "new certificate"],
             Command::Refine => &["trace", "certificate", "new certificate"],
@@ -93,6 +98,7 @@ impl Command {
             ],
             Command::Check | Command::Curve => &["format", "block", "count"],
             Command::Replay => &["format", "capacity", "policy", "block", "count", "warmup"],
+            Command::Judge => &["format", "capacity", "block", "count", "warmup"],
             Command::Demo => &[
                 "seed",
                 "requests",
@@ -113,7 +119,7 @@ impl Command {
         ensures { result ≡ length (needed_names self) }
     {
         match self {
-            Command::Bounds | Command::Refine => 2,
+            Command::Bounds | Command::Judge | Command::Refine => 2,
             Command::Check | Command::Curve => 1,
             Command::Replay => 3,
             Command::Demo | Command::Upgrade => 0,
@@ -131,7 +137,7 @@ impl Command {
                 cert: Some(2),
                 made: Some(2),
             },
-            Command::Check => PathPlaces {
+            Command::Check | Command::Judge => PathPlaces {
                 count: 2,
                 trace: Some(1),
                 cert: Some(2),
@@ -198,6 +204,8 @@ pub fn command_named(word: &str) -> Option<Command>
         Some(Command::Replay)
     } else if is(word, "curve") {
         Some(Command::Curve)
+    } else if is(word, "judge") {
+        Some(Command::Judge)
     } else if is(word, "demo") {
         Some(Command::Demo)
     } else if is(word, "upgrade") {

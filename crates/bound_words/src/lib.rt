@@ -15,5 +15,7 @@ mod words;
 
 pub use commands::{Command, command_named};
 pub use paths::{Paths, paths_of};
-pub use settings::{BoundSettings, DrawSettings, ReplaySettings, Settings, settings_of};
+pub use settings::{
+    BoundSettings, DrawSettings, JudgeSettings, ReplaySettings, Settings, settings_of,
+};
 pub use words::{Plan, WordFault, plan_of};

@@ -2,7 +2,7 @@
 ghost use Rattle.std.specs.Prelude.{◌≡◌, ◌≤◌, map, string_bytes, IfOk};
 ghost use Rattle.std.specs.Option.{ForSome, option_copied};
 ghost use Rattle.bound_words.specs.Settings.{IsPlanInRange};
-ghost use Rattle.bound_words.specs.Words.{bounds_plan, check_plan, curve_plan, demo_plan, inputs_fault, is_dash, plan_of_command, refine_plan, replay_plan, required};
+ghost use Rattle.bound_words.specs.Words.{bounds_plan, check_plan, curve_plan, demo_plan, inputs_fault, is_dash, judge_plan, plan_of_command, refine_plan, replay_plan, required};
 
 use crate::commands::{Command, PathPlaces};
 use crate::operands::{
@@ -79,6 +79,22 @@ fn check_plan(places: PathPlaces, words: &[String], operands: &[String]) -> Resu
     Ok(Plan::Check { format })
 }
 
+// The plan of claimed hits that these words give, of which the operands are accepted.
+fn judge_plan(places: PathPlaces, words: &[String], operands: &[String]) -> Result<Plan, WordFault>
+    requires { ForSome places.cert (λ at. at ≤ 9) }
+    ensures plan { result ≡ judge_plan places (map string_bytes words.now) (map string_bytes operands.now) }
+    ensures range { IfOk result IsPlanInRange }
+{
+    let format = required(words.len() as u64 + 1, format_given(operands))?;
+    let capacity = required(words.len() as u64 + 1, capacity_given(operands))?;
+    passed(inputs_fault(places, words))?;
+    Ok(Plan::Judge {
+        format,
+        capacity,
+        warmup: warmup_given(operands),
+    })
+}
+
 // The plan of a refinement that these words give, of which the operands are accepted.
 fn refine_plan(places: PathPlaces, words: &[String], operands: &[String]) -> Result<Plan, WordFault>
     requires { ForSome places.cert (λ at. at ≤ 9) }
@@ -147,6 +163,7 @@ pub(crate) fn plan_of_command(
         Command::Check => check_plan(command.places(), words, operands),
         Command::Replay => replay_plan(words.len() as u64 + 1, operands),
         Command::Curve => curve_plan(words.len() as u64 + 1, operands),
+        Command::Judge => judge_plan(command.places(), words, operands),
         Command::Demo => Ok(demo_plan(operands)),
         Command::Upgrade => Ok(Plan::Upgrade),
         Command::Refine => refine_plan(command.places(), words, operands),

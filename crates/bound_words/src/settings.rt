@@ -1,4 +1,4 @@
-//! What a plan asks for: the settings of bounds, of a replay and of a drawn trace, each number in its range.
+//! What a plan asks for: the settings of bounds, of a replay, of claimed hits and of a drawn trace, each number in its range.
 //!
 //! Clauses and definitions see the fields as they are. The ranges are the invariant of a model and no part of its value,
 //! so that a definition takes settings from any plan.
@@ -32,6 +32,13 @@ pub struct ReplaySettings {
     pub warmup: u32,
 }
 
+/// At which capacity in bytes hits are judged, and the request from which they count.
+#[derive(Clone, Copy)]
+pub struct JudgeSettings {
+    pub capacity: u64,
+    pub warmup: u32,
+}
+
 /// Which trace is drawn: the seed of its generator, how many requests it has, and how many objects they are drawn from.
 #[derive(Clone, Copy)]
 pub struct DrawSettings {
@@ -47,6 +54,7 @@ pub enum Settings {
     Check(Format),
     Replay(Format, ReplaySettings),
     Curve(Format),
+    Judge(Format, JudgeSettings),
     Demo(DrawSettings, BoundSettings),
     Upgrade,
     Refine(Format, u32),
@@ -172,6 +180,11 @@ pub fn settings_of(plan: Plan) -> Settings
             warmup,
         } => Settings::Replay(format, ReplaySettings::new(policy, capacity, warmup)),
         Plan::Curve { format } => Settings::Curve(format),
+        Plan::Judge {
+            format,
+            capacity,
+            warmup,
+        } => Settings::Judge(format, JudgeSettings { capacity, warmup }),
         Plan::Demo {
             seed,
             requests,

@@ -51,6 +51,13 @@ pub enum Plan {
     Curve {
         format: Format,
     },
+    /// Whether hits that are claimed on a trace of this form are possible at a capacity in bytes, counted from request
+    /// `warmup` on.
+    Judge {
+        format: Format,
+        capacity: u64,
+        warmup: u32,
+    },
     /// Bounds, their check and replays, at a capacity in bytes, on a trace that is drawn from a seed.
     Demo {
         seed: u64,

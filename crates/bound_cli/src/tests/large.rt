@@ -1,5 +1,6 @@
 //! Runs of some size, whose numbers follow from the shape of their traces.
 use super::*;
+use bound_report::LimitName;
 
 // Each interval covers the step between the two rounds, where 500,000 blocks fit.
 const TWICE: Row<'static> = Row {
@@ -33,4 +34,20 @@ fn a_demo_of_some_size_ends_in_windows(rt: HostRuntime) {
     let ended = done(&rt, rt.alloc(), &large);
     holds(large.shows, ended.report.starts_with(begins)).expect(&rt, "a row");
     drop(ended);
+}
+
+// 2^61 blocks, of which none is numbered.
+const TOO_MANY: Row<'static> = Row {
+    shows: "a line that asks for more blocks than a trace may have",
+    words: "replay t format=arc capacity=512 policy=lru",
+    trace: b"0 2305843009213693952\n",
+    status: Status::Limit(LimitName::Requests),
+    report: b"limit: requests 33554432\n",
+    made: b"",
+    ..GOOD
+};
+
+#[test]
+fn a_line_past_the_limit_is_refused_at_once(rt: HostRuntime) {
+    check(&rt, rt.alloc(), &TOO_MANY);
 }

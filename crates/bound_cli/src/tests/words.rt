@@ -200,6 +200,29 @@ fn a_replay_takes_a_policy_and_a_warmup(rt: HostRuntime) {
     }
 }
 
+// Words of a judgement, and its capacity and warm-up.
+const JUDGEMENTS: [(&str, u64, u32); 3] = [
+    ("judge t h format=arc capacity=7", 7, 0),
+    ("judge - h warmup=3 capacity=1 format=arc", 1, 3),
+    (
+        "judge t - format=arc capacity=72057594037927936",
+        1 << 56,
+        0,
+    ),
+];
+
+#[test]
+fn a_judgement_takes_a_capacity_and_a_warmup(rt: HostRuntime) {
+    for (text, capacity, warmup) in &JUDGEMENTS {
+        let plan = Plan::Judge {
+            format: Format::Arc,
+            capacity: *capacity,
+            warmup: *warmup,
+        };
+        check_plan(&rt, rt.alloc(), text, Ok(plan));
+    }
+}
+
 // Words of a curve, and the form of the trace that they name.
 const CURVES: [(&str, Format); 3] = [
     ("curve t format=webcache", Format::Webcache),
@@ -300,13 +323,14 @@ const NO_PATHS: Paths<'static> = Paths {
 };
 
 // Words, and the paths of the trace, the certificate and what is made.
-const PATHS: [(&str, [&str; 3]); 12] = [
+const PATHS: [(&str, [&str; 3]); 13] = [
     ("bounds t c", ["t", "c", "c"]),
     ("check t c", ["t", "c", "-"]),
     ("check t", ["t", "-", "-"]),
     ("bounds", ["-"; 3]),
     ("replay t c", ["t", "-", "-"]),
     ("curve t c", ["t", "-", "-"]),
+    ("judge t h", ["t", "h", "-"]),
     ("upgrade c d", ["-", "c", "d"]),
     ("refine t c m", ["t", "c", "m"]),
     ("refine t c", ["t", "c", "-"]),

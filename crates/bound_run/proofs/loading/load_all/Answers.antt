@@ -2,7 +2,8 @@ use Rattle.std.proofs.Common.{◌≡◌, ◌∙◌, ap, subst, IfSome, None, Som
 use Rattle.std.proofs.lemmas.Result.{err_from_is_err_and}
 use Rattle.trace_any.specs.Readings.{full_limits}
 use Rattle.trace_any.specs.Readers.{IsNotLoaded, IsWhole, fresh, known, to_come}
-use Rattle.bound_run.proofs.Outcomes.{loaded_all, not_loaded, nothing_left}
+use Rattle.trace_any.proofs.Loads.{loaded_all, nothing_left}
+use Rattle.bound_run.proofs.Outcomes.{not_loaded}
 use Rattle.bound_run.proofs.loading.load_all.Goals as goal
 
 pub returns-in-Ok-clause-loaded : goal.returns-in-Ok-clause-loaded

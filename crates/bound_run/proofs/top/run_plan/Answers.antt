@@ -24,3 +24,6 @@ returns-in-Upgrade g c = rw (c.in-Ok.is, ← c.in-Upgrade.ensures) (c.run_upgrad
 
 pub returns-in-Refine : goal.returns-in-Refine
 returns-in-Refine g c = rw (c.in-Ok.is, ← c.in-Refine.ensures) (c.run_refine.ensures.ends, c.run_refine.ensures.trace_source, c.run_refine.ensures.cert_source)
+
+pub returns-in-Judge : goal.returns-in-Judge
+returns-in-Judge g c = rw (c.in-Ok.is, ← c.in-Judge.ensures) (c.run_judge.ensures.ends, c.run_judge.ensures.trace_source, c.run_judge.ensures.hits_source, (refl, refl))

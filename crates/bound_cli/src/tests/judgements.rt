@@ -1,0 +1,265 @@
+//! Claimed hits: their reports, and why they are refused. The hits and loads were counted by hand.
+use super::{Device, GOOD, Row, check_all, check_reads, check_report_writes};
+use bound_report::{Impossible, WordKind};
+use bound_run::{Status, WordFault};
+use trace_lines::LineKind;
+
+// Objects 1 and 2 of 2 and 3 bytes: each is asked for twice, and the two intervals overlap.
+const JUDGED: Row<'static> = Row {
+    shows: "two hits that fit just so",
+    words: "judge t h format=webcache capacity=5",
+    trace: b"1 1 2\n2 2 3\n3 1 2\n4 2 3\n",
+    cert: b"0\n0\n1\n1\n",
+    report: b"trace requests 4 objects 2 dropped 0\njudged capacity 5\nhits 2 bytes 5\npossible\n",
+    made: b"",
+    ..GOOD
+};
+
+const JUDGEMENTS: [Row<'static>; 6] = [
+    JUDGED,
+    Row {
+        shows: "a last line without LF",
+        cert: b"0\n0\n0\n1",
+        report: b"trace requests 4 objects 2 dropped 0\njudged capacity 5\nhits 1 bytes 3\npossible\n",
+        ..JUDGED
+    },
+    Row {
+        shows: "no request and no flag",
+        trace: b"",
+        cert: b"",
+        report: b"trace requests 0 objects 0 dropped 0\njudged capacity 5\nhits 0 bytes 0\npossible\n",
+        ..JUDGED
+    },
+    Row {
+        shows: "a dropped line has no flag",
+        trace: b"1 1 2\n2 9 0\n3 1 2\n",
+        cert: b"0\n1\n",
+        report: b"trace requests 2 objects 1 dropped 1\njudged capacity 5\nhits 1 bytes 2\npossible\n",
+        ..JUDGED
+    },
+    Row {
+        shows: "a hit in the warm-up must be possible, and gains nothing",
+        words: "judge t h format=webcache capacity=5 warmup=3",
+        report: b"trace requests 4 objects 2 dropped 0\njudged capacity 5\nhits 1 bytes 3\npossible\nwarmup 3\n",
+        ..JUDGED
+    },
+    Row {
+        shows: "the hit of a write gains nothing",
+        words: "judge t h format=webcache capacity=5 count=reads",
+        trace: b"1 1 2 r\n2 2 3 r\n3 1 2 w\n4 2 3 r\n",
+        report: b"trace requests 4 objects 2 dropped 0\ncounted 3\njudged capacity 5\nhits 1 bytes 3\npossible\n",
+        ..JUDGED
+    },
+];
+
+#[test]
+fn possible_hits_are_counted(rt: HostRuntime) {
+    check_all(&rt, rt.alloc(), &JUDGEMENTS);
+}
+
+const IMPOSSIBLE: [Row<'static>; 5] = [
+    Row {
+        shows: "a capacity that is one byte too small",
+        words: "judge t h format=webcache capacity=4",
+        status: Status::Impossible {
+            cause: Impossible::Load { step: 1, load: 5 },
+            capacity: 4,
+        },
+        report: b"impossible step 1: load 5 above 4\n",
+        ..JUDGED
+    },
+    Row {
+        shows: "an object that was never asked for",
+        cert: b"0\n1\n0\n0\n",
+        status: Status::Impossible {
+            cause: Impossible::First { request: 1 },
+            capacity: 5,
+        },
+        report: b"impossible request 1: first of its object\n",
+        ..JUDGED
+    },
+    Row {
+        shows: "an object above the capacity",
+        words: "judge t h format=webcache capacity=2",
+        status: Status::Impossible {
+            cause: Impossible::Size {
+                request: 3,
+                size: 3,
+            },
+            capacity: 2,
+        },
+        report: b"impossible request 3: size 3 above 2\n",
+        ..JUDGED
+    },
+    Row {
+        shows: "of a first request above the capacity the size is named",
+        words: "judge t h format=webcache capacity=1",
+        cert: b"1\n0\n0\n0\n",
+        status: Status::Impossible {
+            cause: Impossible::Size {
+                request: 0,
+                size: 2,
+            },
+            capacity: 1,
+        },
+        report: b"impossible request 0: size 2 above 1\n",
+        ..JUDGED
+    },
+    Row {
+        shows: "a hit in the warm-up must be possible",
+        words: "judge t h format=webcache capacity=4 warmup=4",
+        status: Status::Impossible {
+            cause: Impossible::Load { step: 1, load: 5 },
+            capacity: 4,
+        },
+        report: b"impossible step 1: load 5 above 4\n",
+        ..JUDGED
+    },
+];
+
+#[test]
+fn impossible_hits_are_named(rt: HostRuntime) {
+    check_all(&rt, rt.alloc(), &IMPOSSIBLE);
+}
+
+const BAD_LINE: Status = Status::BadLine {
+    line: 2,
+    kind: LineKind::TooFewWords,
+};
+
+const REFUSED: [Row<'static>; 10] = [
+    Row {
+        shows: "flags that end early",
+        cert: b"0\n0\n1\n",
+        status: Status::FlagCount {
+            flags: 3,
+            requests: 4,
+        },
+        report: b"invalid line 4: request count 3 4\n",
+        ..JUDGED
+    },
+    Row {
+        shows: "flags that go on",
+        cert: b"0\n0\n1\n1\n0\n0\n",
+        status: Status::FlagCount {
+            flags: 5,
+            requests: 4,
+        },
+        report: b"invalid line 5: request count 5 4\n",
+        ..JUDGED
+    },
+    Row {
+        shows: "what follows the last flag is none",
+        cert: b"0\n0\n1\n1\n\n",
+        status: Status::NotFlag { line: 5 },
+        report: b"invalid line 5: flag\n",
+        ..JUDGED
+    },
+    Row {
+        shows: "a carriage return",
+        cert: b"0\r\n0\r\n1\r\n1\r\n",
+        status: Status::NotFlag { line: 1 },
+        report: b"invalid line 1: flag\n",
+        ..JUDGED
+    },
+    Row {
+        shows: "another byte",
+        cert: b"0\n2\n1\n1\n",
+        status: Status::NotFlag { line: 2 },
+        report: b"invalid line 2: flag\n",
+        ..JUDGED
+    },
+    Row {
+        shows: "a request is read before its flag",
+        trace: b"1 1 2\n2 2\n",
+        cert: b"0\nx\n",
+        status: BAD_LINE,
+        report: b"bad line 2: too few words\n",
+        ..JUDGED
+    },
+    Row {
+        shows: "a flag is read before the next request",
+        trace: b"1 1 2\n2 2\n",
+        cert: b"x\n",
+        status: Status::NotFlag { line: 1 },
+        report: b"invalid line 1: flag\n",
+        ..JUDGED
+    },
+    Row {
+        shows: "a missing flag comes before the next request",
+        trace: b"1 1 2\n2 2\n",
+        cert: b"",
+        status: Status::FlagCount {
+            flags: 0,
+            requests: 1,
+        },
+        report: b"invalid line 1: request count 0 1\n",
+        ..JUDGED
+    },
+    Row {
+        shows: "no capacity",
+        words: "judge t h format=webcache",
+        status: Status::Words(WordFault {
+            place: 5,
+            kind: WordKind::Missing,
+        }),
+        report: b"words: place 5: missing\n",
+        ..JUDGED
+    },
+    Row {
+        shows: "one standard input for both",
+        words: "judge - - format=webcache capacity=5",
+        status: Status::Words(WordFault {
+            place: 3,
+            kind: WordKind::BadValue,
+        }),
+        report: b"words: place 3: bad value\n",
+        ..JUDGED
+    },
+];
+
+#[test]
+fn claims_are_refused_at_their_first_fault(rt: HostRuntime) {
+    check_all(&rt, rt.alloc(), &REFUSED);
+}
+
+#[test]
+fn a_failed_read_of_the_flags_is_theirs(rt: HostRuntime) {
+    let failing = Row {
+        status: Status::CertFault,
+        report: b"certificate fault\n",
+        ..JUDGED
+    };
+    check_reads(
+        &rt,
+        rt.alloc(),
+        Device::Cert,
+        JUDGED.cert.len() + 1,
+        &failing,
+    );
+}
+
+#[test]
+fn a_failed_read_is_the_traces_fault(rt: HostRuntime) {
+    let failing = Row {
+        status: Status::TraceFault,
+        report: b"trace fault\n",
+        ..JUDGED
+    };
+    check_reads(
+        &rt,
+        rt.alloc(),
+        Device::Trace,
+        JUDGED.trace.len() + 1,
+        &failing,
+    );
+}
+
+#[test]
+fn a_failed_write_is_the_reports_fault(rt: HostRuntime) {
+    let failing = Row {
+        status: Status::ReportFault,
+        ..JUDGED
+    };
+    check_report_writes(&rt, rt.alloc(), &failing);
+}

@@ -1,0 +1,71 @@
+-- What comes of judging the hits that a simulator claims.
+use Rattle.std.specs.Prelude.{◌≡◌, ℕ, Bool, List, length, map, Some, None}
+use Rattle.std.specs.declared.option.Option.{Option}
+use Rattle.bound_io.specs.Devices.{Device}
+use Rattle.cache_rules.specs.Stored.{Requests}
+use Rattle.cache_model.specs.declared.objects.Objective.{Objective}
+use Rattle.cache_model.specs.declared.objects.Objective.TheVariants.{Object as Hits, Bytes}
+use Rattle.cache_model.specs.declared.certificates.Header.{Header}
+use Rattle.cache_model.specs.declared.certificates.Record.{Record}
+use Rattle.cache_model.specs.Certificates.{IsValid}
+use Rattle.cache_model.specs.Claim.{terms_from}
+use Rattle.cache_model.specs.Objects.{objects_of}
+use Rattle.judge_laws.specs.Flags.{IsPossible, claimed}
+use Rattle.hit_judge.specs.declared.causes.Impossible.{Impossible}
+use Rattle.hit_judge.specs.Causes.{first_cause}
+use Rattle.hit_flags.specs.Claims.{AreRead}
+use Rattle.hit_flags.specs.Flags.{flags_in}
+use Rattle.trace_any.specs.declared.format.Format.{Format}
+use Rattle.trace_any.specs.Readings.{full_limits, reading}
+use Rattle.cert_checker.specs.Counting.{counted_in}
+use Rattle.bound_report.specs.declared.judged.JudgedFacts.{JudgedFacts}
+use Rattle.bound_report.specs.Counted.{with_counted}
+use Rattle.bound_report.specs.Judged.{judged_text}
+use Rattle.bound_report.specs.Replays.{with_warmup}
+use Rattle.bound_words.specs.declared.settings.JudgeSettings.{JudgeSettings}
+
+-- what flags claim by an objective, of the requests that count from the warm-up on
+abbrev pub claimed_by : Objective → JudgeSettings → Requests → List Bool → ℕ
+claimed_by objective asked trace flags = claimed (terms_from objective asked.capacity asked.warmup trace.fills) trace.objects flags
+
+-- what the report of possible hits states
+abbrev pub judged_facts : JudgeSettings → Requests → ℕ → List Bool → JudgedFacts
+judged_facts asked trace dropped flags = record {
+  requests = length trace.objects;
+  objects = length (objects_of trace.objects);
+  dropped = dropped;
+  capacity = asked.capacity;
+  claimed = record { hits = claimed_by Hits asked trace flags; bytes = claimed_by Bytes asked trace flags };
+}
+
+-- the report of possible hits
+abbrev pub judged_report : Format → JudgeSettings → Requests → ℕ → List Bool → List ℕ
+judged_report format asked trace dropped flags =
+    with_counted (counted_in format asked.warmup trace) (with_warmup asked.warmup (judged_text (judged_facts asked trace dropped flags)))
+
+-- all that the two sources had left is a trace and flags of its requests, which are possible, and this is their report
+pub record IsJudged (format : Format) (asked : JudgeSettings) (trace hits : Device) (text : List ℕ) : Type 0 where
+  pub requests : Requests
+  pub dropped : ℕ
+  pub flags : List Bool
+  pub read : AreRead format trace hits requests dropped flags
+  pub possible : IsPossible asked.capacity requests.objects flags
+  pub text_is : text ≡ judged_report format asked requests dropped flags
+
+-- all that the two sources had left is a trace and flags of its requests, which are not possible for this first cause
+pub record IsImpossible (format : Format) (asked : JudgeSettings) (trace hits : Device) (cause : Impossible) (capacity : ℕ) : Type 0 where
+  pub requests : Requests
+  pub dropped : ℕ
+  pub flags : List Bool
+  pub read : AreRead format trace hits requests dropped flags
+  pub impossible : ¬ (IsPossible asked.capacity requests.objects flags)
+  pub cause_is : first_cause asked.capacity requests.objects flags ≡ Some cause
+  pub capacity_is : capacity ≡ asked.capacity
+
+-- the bytes are a trace and the text a flag for each of its requests, and the flagged ones are possible hits
+pub record ArePossible (format : Format) (asked : JudgeSettings) (bytes text : List ℕ) : Type 0 where
+  pub flags : List Bool
+  pub whole : (reading format full_limits bytes).refused ≡ None
+  pub lines : flags_in text ≡ map (λ flag. Some flag) flags
+  pub as_many : length flags ≡ length (reading format full_limits bytes).requests
+  pub possible : IsPossible asked.capacity (reading format full_limits bytes).requests flags

@@ -1,0 +1,72 @@
+//! The judgement of hits that a simulator claims, and its report.
+ghost use Rattle.std.specs.Prelude.{◌≡◌, IfErr, IfOk};
+ghost use Rattle.bit_list.specs.Bits.{bits_of};
+ghost use Rattle.bound_io.specs.Devices.{seen};
+ghost use Rattle.bound_io.specs.Reading.{LosesPrefix};
+ghost use Rattle.cache_model.specs.declared.objects.Objective.TheVariants.{Object as Hits, Bytes};
+ghost use Rattle.trace_any.specs.Readings.{IsFormat};
+ghost use Rattle.bound_run.specs.Judgements.{IsJudged, claimed_by, judged_report};
+ghost use Rattle.bound_run.specs.Refusals.{RefusesJudge};
+
+use crate::counting::counted_in;
+use crate::status::refusal_of_flags;
+use bound_base::NoMemory;
+use bound_io::Source;
+use bound_report::{JudgedFacts, Refusal, judged_text, push_counted, push_warmup};
+use bound_words::JudgeSettings;
+use hit_flags::{Claims, read_claims};
+use hit_judge::{Claimed, judge};
+use std::alloc::Global;
+use trace_any::Format;
+
+// The report of possible hits, of a trace of this form.
+fn judged_report(
+    alloc: Global,
+    format: Format,
+    asked: JudgeSettings,
+    claims: &Claims,
+    claimed: Claimed,
+) -> Result<Vec<u8>, NoMemory>
+    requires hits { claimed.hits ≡ claimed_by Hits asked claims.now.trace (bits_of claims.now.flags) }
+    requires bytes { claimed.bytes ≡ claimed_by Bytes asked claims.now.trace (bits_of claims.now.flags) }
+    ensures { IfOk result (λ text. text.items ≡ judged_report format asked claims.now.trace claims.now.dropped (bits_of claims.now.flags)) }
+{
+    let facts = JudgedFacts {
+        requests: claims.trace.len(),
+        objects: claims.trace.objects(),
+        dropped: claims.dropped,
+        capacity: asked.capacity,
+        claimed,
+    };
+    let mut text = judged_text(alloc, &facts)?;
+    push_warmup(&mut text, asked.warmup)?;
+    push_counted(&mut text, counted_in(format, asked.warmup, &claims.trace))?;
+    Ok(text)
+}
+
+/// The report of the claimed hits of all that the two sources have left, if they are possible.
+pub(crate) fn judge_all<T: Source, H: Source>(
+    alloc: Global,
+    format: Format,
+    asked: JudgeSettings,
+    trace: &mut T,
+    hits: &mut H,
+) -> Result<Vec<u8>, Refusal>
+    requires format { IsFormat format }
+    ensures judged { IfOk result (λ text. IsJudged format asked (seen T.left T.faults trace.old trace.new) (seen H.left H.faults hits.old hits.new) text.items) }
+    ensures refused { IfErr result (RefusesJudge format asked (seen T.left T.faults trace.old trace.new) (seen H.left H.faults hits.old hits.new)) }
+    ensures trace_source { LosesPrefix (T.left trace.old) (T.left trace.new) }
+    ensures hits_source { LosesPrefix (H.left hits.old) (H.left hits.new) }
+{
+    let claims = match read_claims(alloc, format, trace, hits) {
+        Ok(claims) => claims,
+        Err(fault) => return Err(refusal_of_flags(fault)),
+    };
+    match judge(&claims.trace, &claims.flags, asked.capacity, asked.warmup) {
+        Ok(claimed) => Ok(judged_report(alloc, format, asked, &claims, claimed)?),
+        Err(cause) => Err(Refusal::Impossible {
+            cause,
+            capacity: asked.capacity,
+        }),
+    }
+}
