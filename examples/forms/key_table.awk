@@ -20,14 +20,14 @@ function column_of(role, given,  i, found) {
         if (found) refuse("line 1 has two columns of a " role "; give the number of one, as -v " role "=" i)
         found = i
     }
-    if (!found) refuse("line 1 must be a heading with time, key and size, or give their columns: -v time=1 -v key=2 -v size=3")
+    if (!found) refuse("line 1 has no column of a " role "; it must be a heading with time, key and size, or give their numbers: -v time=1 -v key=2 -v size=3")
     return found
 }
 BEGIN {
     FS = "[ \t]*,[ \t]*"
     names["time"] = " time timestamp ts date datetime epoch "
     names["key"] = " key id url uri path object object_id obj_id name "
-    names["size"] = " size bytes length size_bytes object_size obj_size content_length "
+    names["size"] = " size bytes length value_size size_bytes object_size obj_size content_length "
 }
 { sub(/^[ \t]+/, ""); sub(/[ \t]*\r?$/, "") }
 FNR == 1 {
