@@ -1,0 +1,5 @@
+pub mod Weights
+pub mod Fitting
+pub mod FittingEntries
+pub mod LruBytes
+mod Rows
