@@ -1,5 +1,5 @@
 -- What LRU keeps: of the most recently used objects that are no larger than the capacity as many as fit, from the latest on.
-use Rattle.std.proofs.Common.{◌≡◌, ℕ, zero, suc, ◌+◌, ◌-◌, ◌<◌, ◌≤◌, ◌∙◌, sym, refl, ap, ⊎_elim, Bool, true, false, not, ◌||◌, cond, eqb, leb, List, [], ◌∷◌, ◌++◌, length, take, drop, map, filter, reverse, get_or, arith, append-nil, None}
+use Rattle.std.proofs.Common.{◌≡◌, ℕ, zero, suc, ◌+◌, ◌-◌, ◌<◌, ◌≤◌, ◌∙◌, sym, refl, ap, ⊎_elim, Bool, true, false, not, cond, eqb, List, [], ◌∷◌, ◌++◌, length, take, drop, map, filter, reverse, get_or, arith, append-nil}
 use Rattle.std.specs.declared.option.Option.{Option}
 use Rattle.std.specs.List.{AllByRecursion}
 use Rattle.std.proofs.lemmas.Bool.{cases_Bool, cases_lt, le-leb, lt-leb}
@@ -8,9 +8,8 @@ use Rattle.std.proofs.lemmas.List.Elements.{filter-append}
 use Rattle.std.proofs.lemmas.List.Sums.{sum_by-append, sum_by-cons, sum_by_push}
 use Rattle.cache_model.specs.declared.objects.Object.{Object}
 use Rattle.cache_model.specs.Claim.{same_object, no_object, total_size}
-use Rattle.policy_model.specs.declared.names.PolicyName.TheVariants.{Lru}
 use Rattle.policy_model.specs.States.{State, Entry, used, has_entry}
-use Rattle.policy_model.specs.Steps.{fresh_entry, make_room, without_entry}
+use Rattle.policy_model.specs.Steps.{make_room, without_entry}
 use Rattle.policy_model.specs.Rules.{entries_after}
 use Rattle.policy_model.proofs.Entries.{make_room-fits, make_room-over}
 use Rattle.policy_model.proofs.Sound.{after-hit, after-small, after-large}

@@ -2,4 +2,8 @@ pub mod Weights
 pub mod Fitting
 pub mod FittingEntries
 pub mod LruBytes
+pub mod TreeLemmas
+pub mod LatestBytes
+pub mod FoundLemmas
+pub mod PassLemmas
 mod Rows

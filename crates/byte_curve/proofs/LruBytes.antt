@@ -1,5 +1,5 @@
 -- The hits and bytes of LRU's run are those of the distances in bytes.
-use Rattle.std.proofs.Common.{◌≡◌, ℕ, zero, suc, ◌+◌, ◌-◌, ◌<◌, ◌≤◌, ◌∙◌, sym, refl, ap, subst, ⊎_elim, Bool, true, false, not, ◌&&◌, cond, eqb, leb, List, [], ◌∷◌, length, take, reverse, filter, get_or, arith, Some, None, count_by, sum_by}
+use Rattle.std.proofs.Common.{◌≡◌, ℕ, zero, suc, ◌+◌, ◌-◌, ◌<◌, ◌≤◌, ◌∙◌, sym, refl, ap, subst, ⊎_elim, Bool, true, false, ◌&&◌, cond, eqb, leb, List, [], ◌∷◌, length, take, filter, get_or, arith, Some, None, sum_by}
 use Rattle.std.specs.List.{AllByRecursion, range_with_len}
 use Rattle.std.proofs.lemmas.Bool.{cases_Bool, cases_lt, le-leb, lt-leb, eqb-true, eq-eqb, false_from_ne_true}
 use Rattle.std.proofs.lemmas.List.{length-reverse, length-take-le, get_or-take, get_or-reverse}
@@ -21,7 +21,7 @@ use Rattle.stack_curve.proofs.Different.{asks_for, since-without}
 use Rattle.stack_curve.proofs.Recent.{recent, asks-recent, since-recent}
 use Rattle.stack_curve.proofs.LruCurve.{earlier-more}
 use Rattle.stack_curve.proofs.LruEntries.{entries_of, lru_state, IsToldApart, has-entries}
-use Rattle.byte_curve.specs.Distances.{fits_in, bytes_asked, byte_distance, is_hit, is_counted_hit}
+use Rattle.byte_curve.specs.Distances.{fits_in, bytes_asked, is_hit, is_counted_hit}
 use Rattle.byte_curve.specs.Laws.{DistancesAreOfLru}
 use Rattle.byte_curve.proofs.Weights.{weigh, passed, sum-objects, sum-recent, sum-filter, weigh-filter, asks-filter, since-filter}
 use Rattle.byte_curve.proofs.Fitting.{down_to, asks-fitting, fitting-large}
@@ -31,9 +31,13 @@ by_index : (P : Object → Type 0) (xs : List Object) → ((k : ℕ) → k < len
 by_index P [] each = tt
 by_index P (x ∷ xs) each = (each 0 (omega arith), by_index P xs (λ k low. each (suc k) (omega arith)))
 
--- the bytes asked for since the latest request of x, with its own, are the sizes down to x
-bytes-down_to : (capacity : ℕ) (x : Object) (h : List Object) → x.size ≤ capacity → bytes_asked capacity (x ∷ since x h) ≡ down_to x (recent_small capacity h)
-bytes-down_to capacity x h small =
+-- one more request in a sum
+pub sum-more : (f : ℕ → ℕ) (t : ℕ) → sum_by f (range_with_len 0 (t + 1)) ≡ sum_by f (range_with_len 0 t) + f t
+sum-more f t = let one : t + 1 ≡ suc t = omega arith in ap (λ n. sum_by f (range_with_len 0 n)) one ∙ sum_by-range_last f t
+
+-- the bytes asked for since the latest request of x, with its own
+pub bytes-weigh : (capacity : ℕ) (x : Object) (h : List Object) → x.size ≤ capacity → bytes_asked capacity (x ∷ since x h) ≡ x.size + weigh (λ z. z.size) (filter (fits_in capacity) (since x h))
+bytes-weigh capacity x h small =
     let p : Object → Bool = fits_in capacity in
     let size : Object → ℕ = λ z. z.size in
     let own : p x ≡ true = le-leb x.size capacity small in
@@ -41,9 +45,17 @@ bytes-down_to capacity x h small =
     ∙ sum-objects (passed p size) (x ∷ since x h)
     ∙ ap (λ b. cond b (weigh (passed p size) (since x h)) (passed p size x + weigh (passed p size) (since x h))) (since-without x h)
     ∙ ap (λ b. cond b x.size 0 + weigh (passed p size) (since x h)) own
+    ∙ ap (λ n. x.size + n) (weigh-filter p size (since x h))
+
+-- they are the sizes down to x
+bytes-down_to : (capacity : ℕ) (x : Object) (h : List Object) → x.size ≤ capacity → bytes_asked capacity (x ∷ since x h) ≡ down_to x (recent_small capacity h)
+bytes-down_to capacity x h small =
+    let p : Object → Bool = fits_in capacity in
+    let size : Object → ℕ = λ z. z.size in
+    bytes-weigh capacity x h small
     ∙ ap (λ n. x.size + n)
-    (weigh-filter p size (since x h) ∙ sym (sum-recent size (filter p (since x h)))
-    ∙ ap (λ zs. total_size (recent zs)) (sym (since-filter p x h own)) ∙ ap total_size (sym (since-recent x (filter p h))))
+    (sym (sum-recent size (filter p (since x h)))
+    ∙ ap (λ zs. total_size (recent zs)) (sym (since-filter p x h (le-leb x.size capacity small))) ∙ ap total_size (sym (since-recent x (filter p h))))
     ∙ swap x.size (total_size (since x (recent_small capacity h)))
   where
     swap : (m n : ℕ) → m + n ≡ n + m
@@ -51,7 +63,7 @@ bytes-down_to capacity x h small =
 
 module _ (trace : List Object) where
   -- what holds of each request holds of those before one
-  all-earlier : (P : Object → Type 0) (t : ℕ) → t ≤ length trace → ((k : ℕ) → k < t → P (request_at trace k)) → AllByRecursion P (earlier trace t)
+  pub all-earlier : (P : Object → Type 0) (t : ℕ) → t ≤ length trace → ((k : ℕ) → k < t → P (request_at trace k)) → AllByRecursion P (earlier trace t)
   all-earlier P t within each =
       by_index P (earlier trace t) (λ k low.
       let short : length (take t trace) ≡ t = length-take-le t trace within in
@@ -108,9 +120,6 @@ module _ (trace : List Object) where
         pub kept : run.state.entries ≡ entries_of (number_of trace) (kept_of capacity (earlier trace t))
         pub hits : run.hits ≡ sum_by (λ u. cond (is_counted_hit capacity warmup trace fills u) 1 0) (range_with_len 0 t)
         pub bytes : run.bytes ≡ sum_by (λ u. cond (is_counted_hit capacity warmup trace fills u) (request_at trace u).size 0) (range_with_len 0 t)
-
-      sum-more : (f : ℕ → ℕ) (t : ℕ) → sum_by f (range_with_len 0 (t + 1)) ≡ sum_by f (range_with_len 0 t) + f t
-      sum-more f t = let one : t + 1 ≡ suc t = omega arith in ap (λ n. sum_by f (range_with_len 0 n)) one ∙ sum_by-range_last f t
 
       one_more : (t : ℕ) (run : Run) → t < length trace → Follows t run → Follows (t + 1) (run_step (counts_past warmup fills) run (ask_at trace t))
       one_more t run within so_far =

@@ -1,5 +1,5 @@
 -- Distances in bytes of a small trace of mixed sizes, computed.
-use Rattle.std.proofs.Common.{◌≡◌, ℕ, Bool, true, false, List, [], ◌∷◌, map, refl, Some, None}
+use Rattle.std.proofs.Common.{◌≡◌, ℕ, true, false, List, [], ◌∷◌, map, refl, Some, None}
 use Rattle.std.specs.declared.option.Option.{Option}
 use Rattle.cache_model.specs.declared.objects.Object.{Object}
 use Rattle.cache_model.specs.Objects.{numbers_of}

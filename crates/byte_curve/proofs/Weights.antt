@@ -1,17 +1,17 @@
 -- Sums over the different objects of a list of requests, each counted at its last place.
-use Rattle.std.proofs.Common.{◌≡◌, ℕ, zero, suc, ◌+◌, ◌<◌, ◌≤◌, ◌∙◌, sym, refl, ap, ⊎_elim, Bool, true, false, not, ◌||◌, cond, List, [], ◌∷◌, ◌++◌, length, take, filter, arith, sum_by}
+use Rattle.std.proofs.Common.{◌≡◌, ℕ, zero, suc, ◌+◌, ◌<◌, ◌≤◌, ◌∙◌, sym, refl, ap, ⊎_elim, Bool, true, false, not, ◌||◌, cond, List, [], ◌∷◌, ◌++◌, length, take, reverse, filter, arith, sum_by}
 use Rattle.std.proofs.lemmas.Bool.{cases_Bool}
-use Rattle.std.proofs.lemmas.List.{take_more, take_all}
+use Rattle.std.proofs.lemmas.List.{take_more, take_all, reverse-append}
 use Rattle.std.proofs.lemmas.List.Sums.{sum_by-cons, sum_by_push}
 use Rattle.cache_model.specs.declared.objects.Object.{Object}
-use Rattle.cache_model.specs.Claim.{same_object, request_at, no_object, total_size}
+use Rattle.cache_model.specs.Claim.{same_object, request_at, no_object}
 use Rattle.cache_model.specs.Objects.{objects_of, IsFirst, IsNext}
 use Rattle.cache_model.proofs.Duality.{same_object-true}
 use Rattle.cache_model.proofs.Pairs.{same_object-sym}
 use Rattle.cache_model.proofs.Scores.{first_or_next}
 use Rattle.cache_model.proofs.DifferentObjects.{objects_of-pushed_new, objects_of-pushed_again}
 use Rattle.stack_curve.specs.Distances.{since}
-use Rattle.stack_curve.proofs.Different.{asks_for, asks-last, asks-first, asks-next, new-at, latest-at, since-here, since-other}
+use Rattle.stack_curve.proofs.Different.{asks_for, asks-last, asks-reverse, asks-first, asks-next, new-at, latest-at, since-here, since-other}
 use Rattle.stack_curve.proofs.Recent.{less, recent, Distinct, Distinct-recent, asks-recent, less-none}
 
 -- the sum of f over the different objects, each taken where no later request is for it
@@ -49,6 +49,19 @@ weigh-last f (x ∷ xs) y =
     two true false w m n = refl
     two false true w m n = refl
     two false false w m n = omega arith
+
+-- the order of the requests plays no part
+pub weigh-reverse : (f : Object → ℕ) (xs : List Object) → weigh f (reverse xs) ≡ weigh f xs
+weigh-reverse f [] = refl
+weigh-reverse f (y ∷ ys) =
+    ap (weigh f) (reverse-append (y ∷ []) ys) ∙ weigh-last f (reverse ys) y
+    ∙ ap (λ b. cond b (weigh f (reverse ys)) (weigh f (reverse ys) + f y)) (asks-reverse y ys)
+    ∙ ap (λ w. cond (asks_for y ys) w (w + f y)) (weigh-reverse f ys)
+    ∙ at (asks_for y ys) (weigh f ys) (f y)
+  where
+    at : (b : Bool) (w n : ℕ) → cond b w (w + n) ≡ cond b w (n + w)
+    at true w n = refl
+    at false w n = omega arith
 
 -- ---- the objects of a list
 module _ (f : Object → ℕ) (trace : List Object) where

@@ -1,2 +1,6 @@
+pub mod Counts
+pub mod Curves
 pub mod Distances
 pub mod Laws
+pub mod Sizes
+pub mod Trees

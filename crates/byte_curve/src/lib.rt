@@ -5,5 +5,10 @@
 #![tactic(auto)]
 
 mod laws;
+mod pass;
+mod sums;
+mod tree;
 
 pub use laws::distances_are_of_lru;
+pub use pass::{Hits, greatest_size, lru_hits};
+pub use sums::ByteSums;
