@@ -1,5 +1,5 @@
 //! Tests of replays over small traces: of policy_model, replay_core, replay_recency, replay_rank, replay_queues, belady_laws,
-//! stack_curve and hit_judge. They stand apart, since a crate with tests is proved twice.
+//! stack_curve, byte_curve and hit_judge. They stand apart, since a crate with tests is proved twice.
 #![tactic(auto)]
 
 #[cfg(test)]
