@@ -9,13 +9,16 @@ pub const PURPOSE: &str =
 replacement policy can exceed, a schedule that reaches the lower bound, and a certificate of both.
 ";
 
-/// What stands for what, and six examples.
-pub const EXAMPLES: &str = "
+/// What stands for what, but for the policies.
+pub const WORDS: &str = "
 FORM is webcache, arc, msr or oracle, OBJECTIVE is object or bytes, MODE is flow, constant or infinite,
-POLICY is lru, fifo, clock, lfu, belady, sieve, s3fifo, gdsf or lfuda,
-VERSION is 1 or 2, COUNTED is all or reads.
-A path - is the standard input or output. The report goes to the standard output.
+VERSION is 1 or 2, COUNTED is all or reads, LIST is BYTES,BYTES,.. from the smallest to the largest.";
+
+/// What else is to know, and seven examples.
+pub const EXAMPLES: &str =
+    "A path - is the standard input or output. The report goes to the standard output.
 HITS has a line for each request: 1 if a simulator of your own counted a hit, and 0 if not.
+A curve takes an objective, a denominator and a warm-up with capacities alone.
 
 A demo draws a trace of its own and shows its bounds, that they are checked, and the hits of five policies.
 
@@ -25,6 +28,7 @@ examples:
   bound_cli check examples/build-files.webcache build.cert format=webcache
   bound_cli replay examples/build-files.webcache format=webcache capacity=8388608 policy=lru
   bound_cli curve examples/database-blocks.msr format=msr block=8192
+  bound_cli curve examples/build-files.webcache format=webcache capacities=4194304,8388608,16777216
   bound_cli judge examples/build-files.webcache hits format=webcache capacity=8388608
 
 docs/GUIDE.md goes from a trace to a decision, docs/REFERENCE.md and man -l docs/bound_cli.1 have every operand.";
@@ -47,7 +51,10 @@ pub fn usage_of(command: &str) -> &'static [&'static str] {
             "bound_cli replay TRACE format=FORM capacity=BYTES policy=POLICY [block=BYTES]",
             "    [count=COUNTED] [warmup=REQUESTS]",
         ],
-        "curve" => &["bound_cli curve TRACE format=FORM [block=BYTES] [count=COUNTED]"],
+        "curve" => &[
+            "bound_cli curve TRACE format=FORM [capacities=LIST] [block=BYTES] [count=COUNTED]",
+            "    [objective=OBJECTIVE] [denominator=NUMBER] [warmup=REQUESTS]",
+        ],
         "judge" => &[
             "bound_cli judge TRACE HITS format=FORM capacity=BYTES [block=BYTES] [count=COUNTED]",
             "    [warmup=REQUESTS]",

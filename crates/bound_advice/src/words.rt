@@ -1,7 +1,7 @@
 //! What is wrong with a word of the command line, and what may stand there.
 use crate::sizes::size_of;
-use bound_report::WordKind;
-use bound_words::{Command, command_named};
+use bound_report::{PolicyName, WordKind};
+use bound_words::{Command, command_asked};
 use std::alloc::{AllocError, Global};
 
 // What an operand's value may be.
@@ -10,12 +10,15 @@ fn values_of(name: &str) -> Option<&'static str> {
         "format" => Some("webcache, arc, msr or oracle"),
         "block" => Some("digits alone, from 1 to 281474976710656"),
         "count" => Some("all or reads"),
+        "capacities" => Some(
+            "1 to 1000 numbers from 1 to 72057594037927936 with commas between, each more than the one before",
+        ),
         "capacity" => Some("digits alone, from 1 to 72057594037927936"),
         "objective" => Some("object or bytes"),
         "mode" => Some("flow, constant or infinite"),
         "window" => Some("all, or digits alone, from 1 to 33554432"),
         "denominator" => Some("auto, exact, or digits alone, from 1 to 281474976710656"),
-        "policy" => Some("lru, fifo, clock, lfu, belady, sieve, s3fifo, gdsf or lfuda"),
+        "policy" => Some("the word of a policy"),
         "warmup" => Some("digits alone, from 0 to 33554432"),
         "version" => Some("1 or 2"),
         "seed" => Some("digits alone, from 0 to 18446744073709551615"),
@@ -50,6 +53,15 @@ fn commands_listed(alloc: Global, before_last: &str) -> Result<String, AllocErro
     listed(alloc, &names, before_last)
 }
 
+// The policies.
+fn policies_listed(alloc: Global) -> Result<String, AllocError> {
+    let mut names = Vec::new(alloc);
+    for policy in PolicyName::ALL {
+        names.push(policy.word())?;
+    }
+    listed(alloc, &names, " or ")
+}
+
 /// The words of a command line: the command first.
 #[derive(Clone, Copy)]
 pub(crate) struct Words<'a> {
@@ -76,15 +88,16 @@ impl<'a> Words<'a> {
 
     // What the paths of the command are called, in their order.
     fn paths(&self) -> &'static [&'static str] {
-        match command_named(self.command()) {
+        match command_asked(self.words) {
             Some(command) => command.paths(),
             None => &[],
         }
     }
 
-    // The names of the operands that the command has, those that it needs first.
+    // The names of the operands that the command may have, those that it needs first.
     fn operand_names(&self) -> &'static [&'static str] {
-        match command_named(self.command()) {
+        match command_asked(self.words) {
+            Some(Command::Curve) => Command::CapacityCurve.operands(),
             Some(command) => command.operands(),
             None => &[],
         }
@@ -108,7 +121,7 @@ impl<'a> Words<'a> {
 
     // The first operand that the command needs and that isn't given.
     fn first_missing(&self) -> Option<&'static str> {
-        let command = command_named(self.command())?;
+        let command = command_asked(self.words)?;
         let needed = command.operands().iter().take(command.needed());
         needed.copied().find(|name| self.value_of(name).is_none())
     }
@@ -147,7 +160,16 @@ fn name_of(word: &str) -> &str {
 fn values_for(command: &str, name: &str) -> Option<&'static str> {
     match (command, name) {
         ("refine", "window") => Some("digits alone, from 1 to 33554432"),
+        ("curve", "denominator") => Some("digits alone, from 1 to 281474976710656"),
         _ => values_of(name),
+    }
+}
+
+// What the value of an operand of a command may be, as it is said.
+fn values_said(alloc: Global, command: &str, name: &str) -> Result<String, AllocError> {
+    match name {
+        "policy" => policies_listed(alloc),
+        _ => String::from_str(alloc, values_for(command, name).unwrap_or("")),
     }
 }
 
@@ -162,7 +184,8 @@ fn missing(alloc: Global, words: Words<'_>, place: u64) -> Result<String, AllocE
         return format!(in alloc; "the path of the {path} is missing");
     }
     let name = words.first_missing().unwrap_or("format");
-    let values = values_for(words.command(), name).unwrap_or("");
+    let values = values_said(alloc, words.command(), name)?;
+    let values = values.as_str();
     format!(in alloc; "{name} is missing: {values}")
 }
 
@@ -178,6 +201,9 @@ fn unsuited(alloc: Global, words: Words<'_>, word: &str) -> Result<String, Alloc
             format!(in alloc;
                 "{word}: reads are told apart with format=webcache or format=msr alone"
             )
+        }
+        "objective" | "denominator" | "warmup" if command == "curve" => {
+            format!(in alloc; "{word}: it goes with capacities=LIST alone")
         }
         "window" if command == "bounds" || command == "demo" => {
             format!(in alloc; "{word}: a window goes with mode=flow alone")
@@ -227,7 +253,8 @@ fn bad_value(alloc: Global, words: Words<'_>, place: u64) -> Result<String, Allo
         return format!(in alloc; "trace and {path} can't both be the standard input");
     }
     let (name, value) = word.split_once('=').unwrap_or((word, ""));
-    let values = values_for(words.command(), name).unwrap_or("");
+    let values = values_said(alloc, words.command(), name)?;
+    let values = values.as_str();
     match size_of(value) {
         Some(size) if size >= 1 && size <= most_of(name) => {
             format!(in alloc; "{word}: {values}, as {name}={size}")

@@ -9,9 +9,11 @@ ghost use Rattle.bound_words.specs.Words.{plan};
 use crate::saying::{say_oddities, say_refusal, say_report_fault, say_unplaced};
 use crate::streams::{fill_closed, spared_files};
 use bound_advice::{
-    COMMANDS, Devices, EXAMPLES, PURPOSE, Page, Seen, Told, VERSION, Watched, page_of, usage_of,
+    COMMANDS, Devices, EXAMPLES, PURPOSE, Page, Seen, Told, VERSION, WORDS, Watched, page_of,
+    usage_of,
 };
 use bound_io::{FileSink, FileSource};
+use bound_report::PolicyName;
 use bound_run::{Status, paths_of, run};
 use std::alloc::Global;
 use std::io::ErrorKind;
@@ -135,6 +137,21 @@ fn print_usage<R: Print>(rt: &R, start: &str, command: &str) -> io::Result<()> {
     Ok(())
 }
 
+// The words of the policies.
+fn print_policies<R: Print>(rt: &R) -> io::Result<()> {
+    let last = PolicyName::ALL.len() - 1;
+    for (at, policy) in PolicyName::ALL.iter().enumerate() {
+        let gap = match at {
+            0 => "POLICY is ",
+            at if at == last => " or ",
+            _ => ", ",
+        };
+        let word = policy.word();
+        print!(rt; "{gap}{word}")?;
+    }
+    println!(rt; ".")
+}
+
 // How the program is called.
 fn print_help<R: Print>(rt: &R) -> io::Result<()> {
     println!(rt; "{PURPOSE}")?;
@@ -142,6 +159,8 @@ fn print_help<R: Print>(rt: &R) -> io::Result<()> {
         let start = if at == 0 { "usage: " } else { "       " };
         print_usage(rt, start, command)?;
     }
+    println!(rt; "{WORDS}")?;
+    print_policies(rt)?;
     println!(rt; "{EXAMPLES}")
 }
 

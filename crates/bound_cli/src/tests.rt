@@ -9,6 +9,7 @@ use compared::{holds, same};
 use std::alloc::Global;
 use std::process::Abort;
 
+mod capacities;
 mod checks;
 mod command_line;
 mod curves;

@@ -1,3 +1,4 @@
+pub mod CapacityCurves
 pub mod Curves
 pub mod Upgrades
 pub mod Reports

@@ -1,9 +1,10 @@
-//! Texts for people: the report of bounds, what a check says of a valid certificate, the texts of a replay, of a
-//! curve, of a demo and of a refinement, and the line that tells why a run stopped.
+//! Texts for people: the report of bounds, what a check says of a valid certificate, the texts of a replay, of both
+//! curves, of a demo and of a refinement, and the line that tells why a run stopped.
 //!
 //! The rules are "Report of bounds", "Verdict" and "Refusal" in docs/DEFINITIONS.md.
 #![tactic(auto)]
 
+mod capacity_curves;
 mod counted;
 mod curves;
 mod demo;
@@ -15,6 +16,7 @@ mod replays;
 mod report;
 mod upgrade;
 
+pub use capacity_curves::{CapacityCurveFacts, capacity_curve_text};
 pub use cert_checker::{InvalidKind, Verdict};
 pub use counted::{push_counted, push_refined_counted};
 pub use curves::{CurveFacts, curve_text};

@@ -12,13 +12,13 @@ use line_text::LineText;
 use std::alloc::Global;
 
 /// The most bytes that a line of a report has.
-const ROOM: usize = 192;
+const ROOM: usize = 256;
 
 /// A line of a report, with its end.
 pub(crate) type Line = LineText<ROOM>;
 
-// The word of an objective.
-fn word_of_objective(objective: Objective) -> &'static [u8]
+/// The word of an objective.
+pub(crate) fn word_of_objective(objective: Objective) -> &'static [u8]
     ensures word { result.now ≡ objective_word objective }
     ensures short { length result.now ≤ 6 }
 {
@@ -108,7 +108,7 @@ fn unit_line(header: &Header) -> Line
 
 /// A word and a value over the denominator.
 pub(crate) fn push_ratio(text: &mut Line, word: &[u8], value: u128, denominator: u64)
-    requires { length text.old + length word.now ≤ 100 }
+    requires { length text.old + length word.now ≤ 180 }
     ensures text { text.new ≡ text.old ++ ratio word.now value denominator }
     ensures short { length text.new ≤ length text.old + length word.now + 61 }
 {

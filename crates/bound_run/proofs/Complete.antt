@@ -37,13 +37,14 @@ use Rattle.bound_run.specs.declared.status.Status.{Status}
 use Rattle.bound_run.specs.declared.status.Status.TheVariants.{Done, Invalid, Words, BadLine, Limit, TraceFault, CertFault, ReportFault, MadeFault, NoMemory, Unequal, NotFlag, FlagCount, Impossible}
 use Rattle.bound_run.specs.Demos.{trace_drawn}
 use Rattle.bound_run.specs.BoundsMade.{RefusesDenominator}
-use Rattle.bound_run.specs.Readings.{HasDenominator, IsGoodTrace, trace_in}
-use Rattle.bound_run.specs.Run.{AnswersCurve, AnswersCurveOf, AnswersOf, Answers, AreGoodInputs, BoundsEnd, CheckEnds, CurveEnds, Completes, DemoEnds, Devices, NoneFails, RefineEnds, ReplayEnds, RunEnds, CommandEnds, UpgradeEnds}
+use Rattle.bound_run.specs.Readings.{HasDenominator, IsCapacityCurved, IsGoodTrace, IsReplayed, trace_in}
+use Rattle.bound_run.specs.Run.{AnswersCurve, AnswersCurveOf, AnswersOf, Answers, AreGoodInputs, BoundsEnd, CheckEnds, CurveEnds, Completes, DemoEnds, Devices, NoneFails, RefineEnds, ReportsEnd, RunEnds, CommandEnds, UpgradeEnds}
+use Rattle.bound_run.specs.Refusals.{RefusesLoading}
 use Rattle.bound_run.specs.Upgrades.{IsGoodCertificate}
 use Rattle.bound_run.specs.Statuses.{ending_of}
 use Rattle.bound_run.proofs.Claimed.{judge_complete}
 use Rattle.bound_words.specs.declared.settings.Settings.{Settings}
-use Rattle.bound_words.specs.declared.settings.Settings.TheVariants.{Bounds, Check, Replay, Curve, Judge, Demo, Upgrade, Refine}
+use Rattle.bound_words.specs.declared.settings.Settings.TheVariants.{Bounds, Check, Replay, Curve, CapacityCurve, Judge, Demo, Upgrade, Refine}
 use Rattle.bound_words.specs.Settings.{settings_of}
 
 -- ---- the walk over a trace that isn't refused
@@ -207,31 +208,31 @@ module _ (format : Format) where
     refine_complete (FlagCount flags requests) e = absurd e.0
     refine_complete (Impossible cause capacity) e = absurd e.0
 
--- ---- replays
+-- ---- replays, and curves over capacities
 
-module _ (format : Format) (r : ReplaySettings) (source report : Device) (good : IsGoodTrace format source.before)
+module _ (format : Format) (IsText : List ℕ → Type 0) (source report : Device) (good : IsGoodTrace format source.before)
     (source_works : ¬ (HasFailed source)) (report_works : ¬ (HasFailed report)) where
   loading_works : (before : Option (List ℕ)) (fault : FaultOfTrace) → IsGoodTrace format before → IfSome before (λ bytes. (reading format full_limits bytes).refused ≡ Some fault) → ⊥
   loading_works None fault known_trace why = known_trace
   loading_works (Some bytes) fault known_trace why = some_is_not_none fault _ why known_trace
 
-  replay_complete : (status : Status) → ReplayEnds format r source report (ending_of status) → (status ≡ Done) ⊎ (status ≡ NoMemory)
-  replay_complete Done e = inl refl
-  replay_complete NoMemory e = inr refl
-  replay_complete (BadLine line kind) e = absurd (loading_works source.before (trace.BadLine line kind) good e.0)
-  replay_complete (Limit Requests) e = absurd (loading_works source.before trace.TooManyRequests good e.0)
-  replay_complete (Limit TraceBytes) e = absurd (loading_works source.before trace.InputTooLong good e.0)
-  replay_complete (Limit Denominator) e = absurd e.0
-  replay_complete TraceFault e = absurd (source_works e.0)
-  replay_complete ReportFault (text, replayed, failed) = absurd (report_works failed.0)
-  replay_complete MadeFault e = absurd e.0
-  replay_complete (Invalid line kind) e = absurd e.0
-  replay_complete (Words fault) e = absurd e.0
-  replay_complete CertFault e = absurd e.0
-  replay_complete (Unequal first other) e = absurd e.0
-  replay_complete (NotFlag line) e = absurd e.0
-  replay_complete (FlagCount flags requests) e = absurd e.0
-  replay_complete (Impossible cause capacity) e = absurd e.0
+  report_complete : (status : Status) → ReportsEnd IsText (RefusesLoading format source) report (ending_of status) → (status ≡ Done) ⊎ (status ≡ NoMemory)
+  report_complete Done e = inl refl
+  report_complete NoMemory e = inr refl
+  report_complete (BadLine line kind) e = absurd (loading_works source.before (trace.BadLine line kind) good e.0)
+  report_complete (Limit Requests) e = absurd (loading_works source.before trace.TooManyRequests good e.0)
+  report_complete (Limit TraceBytes) e = absurd (loading_works source.before trace.InputTooLong good e.0)
+  report_complete (Limit Denominator) e = absurd e.0
+  report_complete TraceFault e = absurd (source_works e.0)
+  report_complete ReportFault (text, replayed, failed) = absurd (report_works failed.0)
+  report_complete MadeFault e = absurd e.0
+  report_complete (Invalid line kind) e = absurd e.0
+  report_complete (Words fault) e = absurd e.0
+  report_complete CertFault e = absurd e.0
+  report_complete (Unequal first other) e = absurd e.0
+  report_complete (NotFlag line) e = absurd e.0
+  report_complete (FlagCount flags requests) e = absurd e.0
+  report_complete (Impossible cause capacity) e = absurd e.0
 
 -- ---- curves
 
@@ -318,16 +319,18 @@ module _ (source report made : Device) (good : IsGoodCertificate source.before) 
 
 -- a command whose inputs are good ends in its answer
 module _ (d : Devices) (status : Status) (works : NoneFails d) where
-  command_complete : (settings : Settings) → CommandEnds settings d (ending_of status) → AreGoodInputs settings d → Answers settings d status
-  command_complete (Bounds format asked) e inputs = bounds_complete format asked d.trace d.report d.made inputs.0 inputs.1 works.trace works.report works.made status e.0
-  command_complete (Replay format r) e inputs = replay_complete format r d.trace d.report inputs works.trace works.report status e.0
-  command_complete (Curve format) e inputs = curve_complete format d.trace d.report inputs works.trace works.report status e.0
-  command_complete (Judge format asked) e inputs = judge_complete format asked d.trace d.cert d.report inputs.0 inputs.1 works.trace works.cert works.report status e.0
-  command_complete Upgrade e inputs = upgrade_complete d.cert d.report d.made inputs works.cert works.report works.made status e.0
-  command_complete (Check format) e inputs = check_complete format d.trace d.cert d.report inputs.0 inputs.1 works.trace works.cert works.report status e.0
-  command_complete (Refine format width) e inputs = refine_complete format width d.trace d.cert d.report d.made inputs.0 inputs.1 works.trace works.cert works.report works.made status e.0
-  command_complete (Demo drawing asked) e inputs = demo_complete drawing asked d.report inputs works.report status e.0
+  command_complete : (capacities : List ℕ) (settings : Settings) → CommandEnds capacities settings d (ending_of status) → AreGoodInputs settings d → Answers settings d status
+  command_complete capacities (Bounds format asked) e inputs = bounds_complete format asked d.trace d.report d.made inputs.0 inputs.1 works.trace works.report works.made status e.0
+  command_complete capacities (Replay format r) e inputs = report_complete format (IsReplayed format r d.trace) d.trace d.report inputs works.trace works.report status e.0
+  command_complete capacities (Curve format) e inputs = curve_complete format d.trace d.report inputs works.trace works.report status e.0
+  command_complete capacities (CapacityCurve format asked) e inputs =
+      report_complete format (IsCapacityCurved format asked capacities d.trace) d.trace d.report inputs works.trace works.report status e.0
+  command_complete capacities (Judge format asked) e inputs = judge_complete format asked d.trace d.cert d.report inputs.0 inputs.1 works.trace works.cert works.report status e.0
+  command_complete capacities Upgrade e inputs = upgrade_complete d.cert d.report d.made inputs works.cert works.report works.made status e.0
+  command_complete capacities (Check format) e inputs = check_complete format d.trace d.cert d.report inputs.0 inputs.1 works.trace works.cert works.report status e.0
+  command_complete capacities (Refine format width) e inputs = refine_complete format width d.trace d.cert d.report d.made inputs.0 inputs.1 works.trace works.cert works.report works.made status e.0
+  command_complete capacities (Demo drawing asked) e inputs = demo_complete drawing asked d.report inputs works.report status e.0
 
-pub complete : (read : Result Plan WordFault) (d : Devices) (status : Status) → RunEnds read d status → Completes read d status
-complete (Ok plan) d status ends = λ good works. command_complete d status works (settings_of plan) ends good
-complete (Err fault) d status ends = tt
+pub complete : (read : Result Plan WordFault) (capacities : List ℕ) (d : Devices) (status : Status) → RunEnds read capacities d status → Completes read d status
+complete (Ok plan) capacities d status ends = λ good works. command_complete d status works capacities (settings_of plan) ends good
+complete (Err fault) capacities d status ends = tt

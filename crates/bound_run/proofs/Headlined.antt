@@ -23,7 +23,7 @@ use Rattle.bound_run.specs.Statuses.{done, ending_of}
 use Rattle.judge_laws.proofs.Possible.{possible_is_allowed}
 use Rattle.bound_run.proofs.Claimed.{claims_bounded}
 use Rattle.bound_words.specs.declared.settings.Settings.{Settings}
-use Rattle.bound_words.specs.declared.settings.Settings.TheVariants.{Bounds, Check, Replay, Curve, Judge, Demo, Upgrade, Refine}
+use Rattle.bound_words.specs.declared.settings.Settings.TheVariants.{Bounds, Check, Replay, Curve, CapacityCurve, Judge, Demo, Upgrade, Refine}
 use Rattle.bound_words.specs.Settings.{settings_of}
 
 -- a valid certificate has true bounds
@@ -51,8 +51,8 @@ not_done : (fault : WordFault) → Done ≡ Words fault → ⊥
 not_done fault is = cc
 
 -- each command that ends well has shown what it printed
-shown : (settings : Settings) (d : Devices) → CommandEnds settings d done → Shows settings d
-shown (Bounds format asked) d ((cert, text, ready, certified, printed), source, untouched) =
+shown : (capacities : List ℕ) (settings : Settings) (d : Devices) → CommandEnds capacities settings d done → Shows capacities settings d
+shown capacities (Bounds format asked) d ((cert, text, ready, certified, printed), source, untouched) =
     let made = ready.texts.made in (
       ready.requests,
       ready.dropped,
@@ -74,7 +74,7 @@ shown (Bounds format asked) d ((cert, text, ready, certified, printed), source, 
         );
       },
     )
-shown (Check format) d ((text, said, printed), trace, cert, untouched) = (
+shown capacities (Check format) d ((text, said, printed), trace, cert, untouched) = (
   said.accepted.requests,
   said.dropped,
   said.accepted.loaded,
@@ -87,19 +87,25 @@ shown (Check format) d ((text, said, printed), trace, cert, untouched) = (
     bounds = true_bounds said.accepted.requests said.verdict.header said.accepted.records said.accepted.valid said.accepted.bounds;
   },
 )
-shown (Replay format r) d ((text, replayed, printed), source, cert, made) = (
+shown capacities (Replay format r) d ((text, replayed, printed), source, cert, made) = (
   replayed.requests,
   replayed.dropped,
   replayed.loaded,
   record { text = text; printed = printed; replay = replayed.report },
 )
-shown (Curve format) d ((text, curved, printed), source, cert, made) = (
+shown capacities (Curve format) d ((text, curved, printed), source, cert, made) = (
   curved.requests,
   curved.dropped,
   curved.loaded,
   record { text = text; printed = printed; curve = curved.report },
 )
-shown (Judge format asked) d ((text, judged, printed), trace, hits, made) = (
+shown capacities (CapacityCurve format asked) d ((text, curved, printed), source, cert, made) = (
+  curved.requests,
+  curved.dropped,
+  curved.loaded,
+  record { text = text; printed = printed; curve = curved.report },
+)
+shown capacities (Judge format asked) d ((text, judged, printed), trace, hits, made) = (
   judged.requests,
   judged.dropped,
   judged.read.loaded,
@@ -112,7 +118,7 @@ shown (Judge format asked) d ((text, judged, printed), trace, hits, made) = (
     bounded = claims_bounded asked judged.requests judged.flags judged.possible;
   },
 )
-shown (Demo drawing asked) d ((text, shows, printed), trace, cert, made) =
+shown capacities (Demo drawing asked) d ((text, shows, printed), trace, cert, made) =
     let is = shows.made in
     record {
       header = shows.header;
@@ -130,8 +136,8 @@ shown (Demo drawing asked) d ((text, shows, printed), trace, cert, made) =
       );
       replayed = shows.replayed;
     }
-shown Upgrade d ((cert, text, ready, certified, printed), source, untouched) = record { cert = cert; text = text; certified = certified; printed = printed; upgraded = ready }
-shown (Refine format width) d ((cert, text, ready, certified, printed), trace, read) =
+shown capacities Upgrade d ((cert, text, ready, certified, printed), source, untouched) = record { cert = cert; text = text; certified = certified; printed = printed; upgraded = ready }
+shown capacities (Refine format width) d ((cert, text, ready, certified, printed), trace, read) =
     let texts = ready.texts in (
       ready.requests,
       ready.dropped,
@@ -150,6 +156,6 @@ shown (Refine format width) d ((cert, text, ready, certified, printed), trace, r
       },
     )
 
-pub headlined : (read : Result Plan WordFault) (d : Devices) (status : Status) → RunEnds read d status → status ≡ Done → Headline read d
-headlined (Ok plan) d status ends is = shown (settings_of plan) d (subst (λ s. CommandEnds (settings_of plan) d (ending_of s)) is ends)
-headlined (Err fault) d status ends is = not_done fault (sym is ∙ ends.0)
+pub headlined : (read : Result Plan WordFault) (capacities : List ℕ) (d : Devices) (status : Status) → RunEnds read capacities d status → status ≡ Done → Headline read capacities d
+headlined (Ok plan) capacities d status ends is = shown capacities (settings_of plan) d (subst (λ s. CommandEnds capacities (settings_of plan) d (ending_of s)) is ends)
+headlined (Err fault) capacities d status ends is = not_done fault (sym is ∙ ends.0)

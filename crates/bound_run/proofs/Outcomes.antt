@@ -34,7 +34,7 @@ use Rattle.trace_any.specs.Loads.{IsLoaded, IsRefused}
 use Rattle.bound_run.specs.Readings.{IsReady, IsReplayed, IsCurved, IsVerdictText}
 use Rattle.bound_words.specs.declared.settings.JudgeSettings.{JudgeSettings}
 use Rattle.bound_run.specs.Judgements.{IsJudged}
-use Rattle.bound_run.specs.Run.{CheckEnds, CurveEnds, DemoEnds, JudgeEnds, MakesEnd, ReplayEnds}
+use Rattle.bound_run.specs.Run.{MakesEnd, ReportsEnd}
 use Rattle.bound_run.specs.Writings.{WritesOut, WritesReport}
 
 -- what a reader that has read nothing refuses is what the reading of all is refused for
@@ -99,33 +99,16 @@ module _ (AreReady : List ℕ → List ℕ → Type 0) (Refuses : Refusal → Ty
   makes_refused refusal.MadeFault never e untouched line = absurd (never e)
   makes_refused why never e untouched line = (e, line, untouched)
 
--- ---- checks
-
-module _ (format : Format) (source cert report : Device) where
-  -- a check that said yes, or failed to
-  pub check_written : (text : List ℕ) (ending : Ending) → IsVerdictText format source cert text → WritesReport report text ending → CheckEnds format source cert report ending
-  check_written text done yes_text all = (text, yes_text, all)
-  check_written text unreported yes_text less = (text, yes_text, less)
-  check_written text (refused why) yes_text written = absurd written
-
--- ---- replays
-
-module _ (format : Format) (r : ReplaySettings) (source report : Device) where
-  -- a replay that was reported, or failed to be
-  pub replay_written : (text : List ℕ) (ending : Ending) → IsReplayed format r source text → WritesReport report text ending → ReplayEnds format r source report ending
-  replay_written text done replayed all = (text, replayed, all)
-  replay_written text unreported replayed less = (text, replayed, less)
-  replay_written text (refused why) replayed written = absurd written
+-- a report that was written, or failed to be
+pub reports_written : (IsText : List ℕ → Type 0) (Refuses : Refusal → Type 0) (report : Device) (text : List ℕ) (ending : Ending)
+    → IsText text → WritesReport report text ending → ReportsEnd IsText Refuses report ending
+reports_written IsText Refuses report text done is all = (text, is, all)
+reports_written IsText Refuses report text unreported is less = (text, is, less)
+reports_written IsText Refuses report text (refused why) is written = absurd written
 
 -- ---- curves
 
-module _ (format : Format) (source report : Device) where
-  -- a curve that was reported, or failed to be
-  pub curve_written : (text : List ℕ) (ending : Ending) → IsCurved format source text → WritesReport report text ending → CurveEnds format source report ending
-  curve_written text done curved all = (text, curved, all)
-  curve_written text unreported curved less = (text, curved, less)
-  curve_written text (refused why) curved written = absurd written
-
+module _ (format : Format) (source : Device) where
   -- what refuses the trace refuses its curve
   pub loading_refuses_curve : (why : Refusal) → RefusesLoading format source why → RefusesCurve format source why
   loading_refuses_curve (refusal.Unequal first other) e = absurd e
@@ -136,23 +119,7 @@ module _ (format : Format) (source report : Device) where
   curve_refused requests dropped (curve.Unequal first other) loaded why = record { requests = requests; dropped = dropped; loaded = loaded; clash = why }
   curve_refused requests dropped curve.NoMemory loaded why = tt
 
--- ---- judgements
-
-module _ (format : Format) (asked : JudgeSettings) (source hits report : Device) where
-  -- a judgement that was reported, or failed to be
-  pub judge_written : (text : List ℕ) (ending : Ending) → IsJudged format asked source hits text → WritesReport report text ending → JudgeEnds format asked source hits report ending
-  judge_written text done judged all = (text, judged, all)
-  judge_written text unreported judged less = (text, judged, less)
-  judge_written text (refused why) judged written = absurd written
-
 -- ---- demos
-
-module _ (drawing : DrawSettings) (asked : BoundSettings) (report : Device) where
-  -- a demo that was reported, or failed to be
-  pub demo_written : (text : List ℕ) (ending : Ending) → IsDemoText drawing asked text → WritesReport report text ending → DemoEnds drawing asked report ending
-  demo_written text done shows all = (text, shows, all)
-  demo_written text unreported shows less = (text, shows, less)
-  demo_written text (refused why) shows written = absurd written
 
 -- what refuses the bounds of the trace refuses the demo
 pub demo_refused : (drawing : DrawSettings) (asked : BoundSettings) (fault : BoundsFault) → FailsBounds asked (trace_drawn drawing) fault → RefusesDemo drawing asked (refusal_of_bounds fault)

@@ -25,6 +25,8 @@ use Rattle.bound_words.specs.declared.words.WordFault.{WordFault}
 use Rattle.bound_report.specs.declared.demo.PolicyReplays.{PolicyReplays}
 use Rattle.bound_report.specs.Demos.{demo_text}
 use Rattle.bound_run.specs.Demos.{AreReplays, demo_facts, trace_drawn}
+use Rattle.capacity_curve.specs.declared.points.CurveTerms.{CurveTerms}
+use Rattle.bound_run.specs.CapacityCurves.{IsCapacityCurveText}
 use Rattle.bound_run.specs.Curves.{IsCurveText}
 use Rattle.trace_any.specs.Loads.{IsLoaded}
 use Rattle.hit_flags.specs.Claims.{AreFlags}
@@ -40,7 +42,7 @@ use Rattle.bound_run.specs.Reports.{bounds_report, refined_report, verdict_repor
 use Rattle.bound_run.specs.Upgrades.{IsUpgraded}
 use Rattle.bound_run.specs.Run.{Devices}
 use Rattle.bound_words.specs.declared.settings.Settings.{Settings}
-use Rattle.bound_words.specs.declared.settings.Settings.TheVariants.{Bounds, Check, Replay, Curve, Judge, Demo, Upgrade, Refine}
+use Rattle.bound_words.specs.declared.settings.Settings.TheVariants.{Bounds, Check, Replay, Curve, CapacityCurve, Judge, Demo, Upgrade, Refine}
 use Rattle.bound_words.specs.Settings.{settings_of}
 
 -- header and records are a certificate in range, with a record for each request, and its bounds are true of the trace: no allowed contents score more than the upper one, the keeps are allowed contents with the lower one as their score, no prices over any denominator have a bound below the flow, and in the form exact prices and flows have the upper one as their value
@@ -93,6 +95,12 @@ pub record ShowsCurve (format : Format) (trace : Requests) (dropped : ℕ) (repo
   pub printed : Appends report.before report.after text
   pub curve : IsCurveText format trace dropped text
 
+-- a curve over capacities printed at each LRU's hits, and a bound that no policy passes
+pub record ShowsCapacityCurve (format : Format) (asked : CurveTerms) (capacities : List ℕ) (trace : Requests) (dropped : ℕ) (report : Device) : Type 0 where
+  pub text : List ℕ
+  pub printed : Appends report.before report.after text
+  pub curve : IsCapacityCurveText format asked capacities trace dropped text
+
 -- a judgement printed the hits that the flags claim: some allowed contents hit at each flagged request, and no valid certificate of the capacity and no longer warm-up is below the claim
 pub record ShowsJudgement (format : Format) (asked : JudgeSettings) (trace : Requests) (dropped : ℕ) (hits report : Device) : Type 0 where
   pub flags : List Bool
@@ -137,21 +145,28 @@ pub record ShowsRefinement (format : Format) (width : ℕ) (trace : Requests) (d
   pub refinement : IsRefinement width trace header records refined refined_records
   pub bounds : AreTrueBounds trace refined refined_records
 
--- all that the trace source had left was read, or a trace was drawn, and the numbers that were printed are true of it
-abbrev pub Shows : Settings → Devices → Type 0
-Shows (Bounds format asked) d = (trace : Requests) × (dropped : ℕ) × IsLoaded format d.trace trace dropped × ShowsBounds format asked trace dropped d.report d.made
-Shows (Check format) d = (trace : Requests) × (dropped : ℕ) × IsLoaded format d.trace trace dropped × ShowsCheck format trace dropped d.cert d.report
-Shows (Replay format r) d = (trace : Requests) × (dropped : ℕ) × IsLoaded format d.trace trace dropped × ShowsReplay format r trace dropped d.report
-Shows (Curve format) d = (trace : Requests) × (dropped : ℕ) × IsLoaded format d.trace trace dropped × ShowsCurve format trace dropped d.report
-Shows (Judge format asked) d = (trace : Requests) × (dropped : ℕ) × IsLoaded format d.trace trace dropped × ShowsJudgement format asked trace dropped d.cert d.report
-Shows (Demo drawing asked) d = ShowsDemo drawing asked d.report
-Shows Upgrade d = ShowsUpgrade d.cert d.report d.made
-Shows (Refine format width) d = (trace : Requests) × (dropped : ℕ) × IsLoaded format d.trace trace dropped × ShowsRefinement format width trace dropped d.cert d.report d.made
+-- the same of the commands that make and check no bounds of a trace, at these capacities if the words give some
+abbrev pub ShowsElse : List ℕ → Settings → Devices → Type 0
+ShowsElse capacities (Replay format r) d = (trace : Requests) × (dropped : ℕ) × IsLoaded format d.trace trace dropped × ShowsReplay format r trace dropped d.report
+ShowsElse capacities (Curve format) d = (trace : Requests) × (dropped : ℕ) × IsLoaded format d.trace trace dropped × ShowsCurve format trace dropped d.report
+ShowsElse capacities (CapacityCurve format asked) d =
+    (trace : Requests) × (dropped : ℕ) × IsLoaded format d.trace trace dropped × ShowsCapacityCurve format asked capacities trace dropped d.report
+ShowsElse capacities (Judge format asked) d = (trace : Requests) × (dropped : ℕ) × IsLoaded format d.trace trace dropped × ShowsJudgement format asked trace dropped d.cert d.report
+ShowsElse capacities (Demo drawing asked) d = ShowsDemo drawing asked d.report
+ShowsElse capacities Upgrade d = ShowsUpgrade d.cert d.report d.made
+ShowsElse capacities (Refine format width) d = (trace : Requests) × (dropped : ℕ) × IsLoaded format d.trace trace dropped × ShowsRefinement format width trace dropped d.cert d.report d.made
+ShowsElse capacities settings d = ⊥
+
+-- all that the trace source had left was read, and the numbers that were printed are true of it
+abbrev pub Shows : List ℕ → Settings → Devices → Type 0
+Shows capacities (Bounds format asked) d = (trace : Requests) × (dropped : ℕ) × IsLoaded format d.trace trace dropped × ShowsBounds format asked trace dropped d.report d.made
+Shows capacities (Check format) d = (trace : Requests) × (dropped : ℕ) × IsLoaded format d.trace trace dropped × ShowsCheck format trace dropped d.cert d.report
+Shows capacities settings d = ShowsElse capacities settings d
 
 -- Whatever trace is read and whatever the capacity, no allowed sequence of cache contents scores more than the printed
 -- upper bound, the certified schedule is allowed and scores exactly the lower bound, exact-form prices and flows have
 -- equal value, equal sizes make both bounds one under an unwindowed flow, and the checker's yes on any file implies the
 -- bounds it prints.
-abbrev pub Headline : Result Plan WordFault → Devices → Type 0
-Headline (Ok plan) d = Shows (settings_of plan) d
-Headline (Err fault) d = ⊥
+abbrev pub Headline : Result Plan WordFault → List ℕ → Devices → Type 0
+Headline (Ok plan) capacities d = Shows capacities (settings_of plan) d
+Headline (Err fault) capacities d = ⊥

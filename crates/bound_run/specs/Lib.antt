@@ -5,6 +5,7 @@ pub mod BoundsMade
 pub mod Relaxations
 pub mod Records
 pub mod BoundsFaults
+pub mod CapacityCurves
 pub mod Curves
 pub mod Upgrades
 pub mod Readings

@@ -18,6 +18,8 @@ use Rattle.cert_checker.specs.Walks.{Event, walk}
 use Rattle.bound_words.specs.declared.settings.BoundSettings.{BoundSettings}
 use Rattle.bound_words.specs.declared.settings.ReplaySettings.{ReplaySettings}
 use Rattle.stack_curve.specs.Curves.{IsClash}
+use Rattle.capacity_curve.specs.declared.points.CurveTerms.{CurveTerms}
+use Rattle.bound_run.specs.CapacityCurves.{IsCapacityCurveText}
 use Rattle.bound_run.specs.Curves.{IsCurveText}
 use Rattle.bound_run.specs.BoundsMade.{AreTexts, RefusesDenominator}
 use Rattle.bound_run.specs.Replays.{IsReplayText}
@@ -47,6 +49,13 @@ pub record IsCurved (format : Format) (source : Device) (text : List ℕ) : Type
   pub dropped : ℕ
   pub loaded : IsLoaded format source requests dropped
   pub report : IsCurveText format requests dropped text
+
+-- the report of the curve over these capacities of all that the source had left
+pub record IsCapacityCurved (format : Format) (asked : CurveTerms) (capacities : List ℕ) (source : Device) (text : List ℕ) : Type 0 where
+  pub requests : Requests
+  pub dropped : ℕ
+  pub loaded : IsLoaded format source requests dropped
+  pub report : IsCapacityCurveText format asked capacities requests dropped text
 
 -- all that the source had left was read, and two objects of it differ in size
 pub record IsUnequal (format : Format) (source : Device) (first other : ℕ) : Type 0 where

@@ -7,6 +7,7 @@ use Rattle.cache_model.specs.declared.objects.Object.{Object}
 use Rattle.trace_any.specs.Readings.{reading, full_limits}
 use Rattle.stack_curve.specs.Curves.{IsClash, first_size}
 use Rattle.stack_curve.specs.Laws.{HaveSize}
+use Rattle.capacity_curve.specs.declared.points.CurveTerms.{CurveTerms}
 use Rattle.trace_any.specs.declared.format.Format.{Format}
 use Rattle.bound_report.specs.declared.refusal.Refusal.{Refusal}
 use Rattle.bound_report.specs.declared.refusal.Refusal.TheVariants.{MadeFault}
@@ -24,12 +25,12 @@ use Rattle.bound_run.specs.Demos.{IsDemoText, trace_drawn}
 use Rattle.bound_run.specs.Refusals.{RefusesDemo, RefusesBounds, RefusesCheck, RefusesCurve, RefusesJudge, RefusesLoading, RefusesUpgrade}
 use Rattle.bound_run.specs.BoundsMade.{RefusesDenominator}
 use Rattle.bound_run.specs.Judgements.{ArePossible, IsJudged}
-use Rattle.bound_run.specs.Readings.{HasDenominator, IsCertified, IsGoodTrace, IsReady, IsReplayed, IsCurved, IsVerdictText}
+use Rattle.bound_run.specs.Readings.{HasDenominator, IsCertified, IsGoodTrace, IsReady, IsReplayed, IsCurved, IsCapacityCurved, IsVerdictText}
 use Rattle.bound_run.specs.Refined.{IsRefined}
 use Rattle.bound_run.specs.Upgrades.{IsGoodCertificate, IsUpgraded}
 use Rattle.bound_run.specs.Statuses.{Ending, done, refused, unreported, ending_of}
 use Rattle.bound_words.specs.declared.settings.Settings.{Settings}
-use Rattle.bound_words.specs.declared.settings.Settings.TheVariants.{Bounds, Check, Replay, Curve, Judge, Demo, Upgrade, Refine}
+use Rattle.bound_words.specs.declared.settings.Settings.TheVariants.{Bounds, Check, Replay, Curve, CapacityCurve, Judge, Demo, Upgrade, Refine}
 use Rattle.bound_words.specs.Settings.{settings_of}
 
 -- what is seen of the four devices of a run
@@ -64,55 +65,58 @@ abbrev pub RefineEnds : Format → ℕ → Device → Device → Device → Devi
 RefineEnds format width source cert report made ending =
     MakesEnd (IsRefined format width source cert) (RefusesCheck format source cert) report made ending
 
+-- how a run ends that writes a report alone, and what the report got then: which texts it may be, and which refusals are written in its place
+abbrev pub ReportsEnd : (List ℕ → Type 0) → (Refusal → Type 0) → Device → Ending → Type 0
+ReportsEnd IsText Refuses report done = (text : List ℕ) × IsText text × GetsAll report text
+ReportsEnd IsText Refuses report unreported = (text : List ℕ) × IsText text × GetsLess report text
+ReportsEnd IsText Refuses report (refused why) = Refuses why × Gets report (refusal_line why)
+
 -- how a check ends, and what the report got then
 abbrev pub CheckEnds : Format → Device → Device → Device → Ending → Type 0
-CheckEnds format source cert report done = (text : List ℕ) × IsVerdictText format source cert text × GetsAll report text
-CheckEnds format source cert report unreported = (text : List ℕ) × IsVerdictText format source cert text × GetsLess report text
-CheckEnds format source cert report (refused r) = RefusesCheck format source cert r × Gets report (refusal_line r)
+CheckEnds format source cert report ending = ReportsEnd (IsVerdictText format source cert) (RefusesCheck format source cert) report ending
 
 -- how a replay ends, and what the report got then
 abbrev pub ReplayEnds : Format → ReplaySettings → Device → Device → Ending → Type 0
-ReplayEnds format r source report done = (text : List ℕ) × IsReplayed format r source text × GetsAll report text
-ReplayEnds format r source report unreported = (text : List ℕ) × IsReplayed format r source text × GetsLess report text
-ReplayEnds format r source report (refused why) = RefusesLoading format source why × Gets report (refusal_line why)
+ReplayEnds format r source report ending = ReportsEnd (IsReplayed format r source) (RefusesLoading format source) report ending
 
 -- how a curve ends, and what the report got then
 abbrev pub CurveEnds : Format → Device → Device → Ending → Type 0
-CurveEnds format source report done = (text : List ℕ) × IsCurved format source text × GetsAll report text
-CurveEnds format source report unreported = (text : List ℕ) × IsCurved format source text × GetsLess report text
-CurveEnds format source report (refused why) = RefusesCurve format source why × Gets report (refusal_line why)
+CurveEnds format source report ending = ReportsEnd (IsCurved format source) (RefusesCurve format source) report ending
+
+-- how a curve over capacities ends, and what the report got then
+abbrev pub CapacityCurveEnds : Format → CurveTerms → List ℕ → Device → Device → Ending → Type 0
+CapacityCurveEnds format asked capacities source report ending =
+    ReportsEnd (IsCapacityCurved format asked capacities source) (RefusesLoading format source) report ending
 
 -- how a judgement ends, and what the report got then
 abbrev pub JudgeEnds : Format → JudgeSettings → Device → Device → Device → Ending → Type 0
-JudgeEnds format asked source hits report done = (text : List ℕ) × IsJudged format asked source hits text × GetsAll report text
-JudgeEnds format asked source hits report unreported = (text : List ℕ) × IsJudged format asked source hits text × GetsLess report text
-JudgeEnds format asked source hits report (refused why) = RefusesJudge format asked source hits why × Gets report (refusal_line why)
+JudgeEnds format asked source hits report ending = ReportsEnd (IsJudged format asked source hits) (RefusesJudge format asked source hits) report ending
 
 -- how a demo ends, and what the report got then
 abbrev pub DemoEnds : DrawSettings → BoundSettings → Device → Ending → Type 0
-DemoEnds drawing asked report done = (text : List ℕ) × IsDemoText drawing asked text × GetsAll report text
-DemoEnds drawing asked report unreported = (text : List ℕ) × IsDemoText drawing asked text × GetsLess report text
-DemoEnds drawing asked report (refused why) = RefusesDemo drawing asked why × Gets report (refusal_line why)
+DemoEnds drawing asked report ending = ReportsEnd (IsDemoText drawing asked) (RefusesDemo drawing asked) report ending
 
 -- the source has lost no more than a prefix
 abbrev pub IsReadFrom : Device → Type 0
 IsReadFrom source = LosesPrefix source.before source.after
 
--- how a command ends: what it doesn't need is left alone, and what it reads loses no more than a prefix
-abbrev pub CommandEnds : Settings → Devices → Ending → Type 0
-CommandEnds (Bounds format asked) d ending = BoundsEnd format asked d.trace d.report d.made ending × IsReadFrom d.trace × IsUntouched d.cert
-CommandEnds (Check format) d ending = CheckEnds format d.trace d.cert d.report ending × IsReadFrom d.trace × IsReadFrom d.cert × IsUntouched d.made
-CommandEnds (Replay format r) d ending = ReplayEnds format r d.trace d.report ending × IsReadFrom d.trace × IsUntouched d.cert × IsUntouched d.made
-CommandEnds (Curve format) d ending = CurveEnds format d.trace d.report ending × IsReadFrom d.trace × IsUntouched d.cert × IsUntouched d.made
-CommandEnds (Judge format asked) d ending = JudgeEnds format asked d.trace d.cert d.report ending × IsReadFrom d.trace × IsReadFrom d.cert × IsUntouched d.made
-CommandEnds (Demo drawing asked) d ending = DemoEnds drawing asked d.report ending × IsUntouched d.trace × IsUntouched d.cert × IsUntouched d.made
-CommandEnds Upgrade d ending = UpgradeEnds d.cert d.report d.made ending × IsReadFrom d.cert × IsUntouched d.trace
-CommandEnds (Refine format width) d ending = RefineEnds format width d.trace d.cert d.report d.made ending × IsReadFrom d.trace × IsReadFrom d.cert
+-- how a command ends, if its words give these capacities: what it doesn't need is left alone, and what it reads loses no more than a prefix
+abbrev pub CommandEnds : List ℕ → Settings → Devices → Ending → Type 0
+CommandEnds capacities (Bounds format asked) d ending = BoundsEnd format asked d.trace d.report d.made ending × IsReadFrom d.trace × IsUntouched d.cert
+CommandEnds capacities (Check format) d ending = CheckEnds format d.trace d.cert d.report ending × IsReadFrom d.trace × IsReadFrom d.cert × IsUntouched d.made
+CommandEnds capacities (Replay format r) d ending = ReplayEnds format r d.trace d.report ending × IsReadFrom d.trace × IsUntouched d.cert × IsUntouched d.made
+CommandEnds capacities (Curve format) d ending = CurveEnds format d.trace d.report ending × IsReadFrom d.trace × IsUntouched d.cert × IsUntouched d.made
+CommandEnds capacities (CapacityCurve format asked) d ending =
+    CapacityCurveEnds format asked capacities d.trace d.report ending × IsReadFrom d.trace × IsUntouched d.cert × IsUntouched d.made
+CommandEnds capacities (Judge format asked) d ending = JudgeEnds format asked d.trace d.cert d.report ending × IsReadFrom d.trace × IsReadFrom d.cert × IsUntouched d.made
+CommandEnds capacities (Demo drawing asked) d ending = DemoEnds drawing asked d.report ending × IsUntouched d.trace × IsUntouched d.cert × IsUntouched d.made
+CommandEnds capacities Upgrade d ending = UpgradeEnds d.cert d.report d.made ending × IsReadFrom d.cert × IsUntouched d.trace
+CommandEnds capacities (Refine format width) d ending = RefineEnds format width d.trace d.cert d.report d.made ending × IsReadFrom d.trace × IsReadFrom d.cert
 
 -- how a run ends: the command of its plan does, or its words are refused and all but the report is left alone
-abbrev pub RunEnds : Result Plan WordFault → Devices → Status → Type 0
-RunEnds (Ok plan) d status = CommandEnds (settings_of plan) d (ending_of status)
-RunEnds (Err fault) d status =
+abbrev pub RunEnds : Result Plan WordFault → List ℕ → Devices → Status → Type 0
+RunEnds (Ok plan) capacities d status = CommandEnds capacities (settings_of plan) d (ending_of status)
+RunEnds (Err fault) capacities d status =
     (status ≡ Words fault) × Gets d.report (refusal_line (refusal.Words fault.place fault.kind))
     × IsUntouched d.trace × IsUntouched d.cert × IsUntouched d.made
 
@@ -129,6 +133,7 @@ AreGoodInputs (Bounds format asked) d = IsGoodTrace format d.trace.before × Has
 AreGoodInputs (Check format) d = IsGoodTrace format d.trace.before × IsSome d.cert.before
 AreGoodInputs (Replay format r) d = IsGoodTrace format d.trace.before
 AreGoodInputs (Curve format) d = IsGoodTrace format d.trace.before
+AreGoodInputs (CapacityCurve format asked) d = IsGoodTrace format d.trace.before
 AreGoodInputs (Judge format asked) d = IsSome d.trace.before × IsSome d.cert.before
 AreGoodInputs (Demo drawing asked) d = ¬ (RefusesDenominator asked (trace_drawn drawing))
 AreGoodInputs Upgrade d = IsGoodCertificate d.cert.before
@@ -170,6 +175,7 @@ Answers (Bounds format asked) d status = (status ≡ Done) ⊎ (status ≡ NoMem
 Answers (Check format) d status = AnswersOf format d.trace.before d.cert.before status
 Answers (Replay format r) d status = (status ≡ Done) ⊎ (status ≡ NoMemory)
 Answers (Curve format) d status = AnswersCurveOf format d.trace.before status
+Answers (CapacityCurve format asked) d status = (status ≡ Done) ⊎ (status ≡ NoMemory)
 Answers (Judge format asked) d status = AnswersJudge format asked d.trace.before d.cert.before status
 Answers (Demo drawing asked) d status = (status ≡ Done) ⊎ (status ≡ NoMemory)
 Answers Upgrade d status = (status ≡ Done) ⊎ (status ≡ NoMemory)

@@ -1,11 +1,18 @@
-//! The curve of a trace, and its report.
-ghost use Rattle.std.specs.Prelude.{IfOk, IfErr};
+//! The curves of a trace, and their reports.
+ghost use Rattle.std.specs.Prelude.{◌≤◌, ◌^◌, All, IfOk, IfErr};
 ghost use Rattle.stack_curve.specs.Curves.{IsCause};
+ghost use Rattle.std.specs.List.Sorted.{IsNonDecreasing};
+ghost use Rattle.capacity_curve.specs.Points.{IsInRange};
+ghost use Rattle.bound_run.specs.CapacityCurves.{IsCapacityCurveText};
 ghost use Rattle.bound_run.specs.Curves.{IsCurveText};
 
 use crate::counting::counted_in;
-use bound_report::{CurveFacts, curve_text, push_counted};
+use bound_base::NoMemory;
+use bound_report::{
+    CapacityCurveFacts, CurveFacts, capacity_curve_text, curve_text, push_counted, push_warmup,
+};
 use cache_rules::Trace;
+use capacity_curve::{CurveTerms, points_at};
 use stack_curve::{CurveFault, curve};
 use std::alloc::Global;
 use trace_any::Format;
@@ -29,5 +36,32 @@ pub(crate) fn curve_report(
     };
     let mut text = curve_text(alloc, &facts, &curve)?;
     push_counted(&mut text, counted_in(format, 0, trace))?;
+    Ok(text)
+}
+
+/// The report of the curve over capacities of a trace of this form, with the number of its lines that were dropped.
+pub(crate) fn capacity_curve_report(
+    alloc: Global,
+    format: Format,
+    asked: &CurveTerms,
+    capacities: &[u64],
+    trace: &Trace,
+    dropped: u64,
+) -> Result<Vec<u8>, NoMemory>
+    requires ascending { IsNonDecreasing capacities.now }
+    requires range { All IsInRange capacities.now }
+    requires denominator { (1 ≤ asked.now.denominator) × (asked.now.denominator ≤ 2 ^ 48) }
+    ensures { IfOk result (λ text. IsCapacityCurveText format asked.now capacities.now trace.now dropped text.items) }
+{
+    let points = points_at(alloc, trace, capacities, asked)?;
+    let facts = CapacityCurveFacts {
+        requests: trace.len(),
+        objects: trace.objects(),
+        dropped,
+        asked: *asked,
+    };
+    let mut text = capacity_curve_text(alloc, &facts, &points)?;
+    push_warmup(&mut text, asked.warmup)?;
+    push_counted(&mut text, counted_in(format, asked.warmup, trace))?;
     Ok(text)
 }

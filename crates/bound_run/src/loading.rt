@@ -1,21 +1,23 @@
 //! What comes of reading the whole trace.
-ghost use Rattle.std.specs.Prelude.{IfOk, IfErr};
+ghost use Rattle.std.specs.Prelude.{◌≤◌, ◌^◌, IfOk, IfErr, map, string_bytes};
 ghost use Rattle.bound_io.specs.Devices.{seen};
 ghost use Rattle.bound_io.specs.Reading.{LosesPrefix};
 ghost use Rattle.trace_any.specs.Readings.{IsFormat};
 ghost use Rattle.trace_any.specs.Loads.{IsLoaded};
-ghost use Rattle.bound_run.specs.Readings.{IsCurved, IsReady, IsReplayed};
+ghost use Rattle.bound_words.specs.Capacities.{capacities_given};
+ghost use Rattle.bound_run.specs.Readings.{IsCapacityCurved, IsCurved, IsReady, IsReplayed};
 ghost use Rattle.bound_run.specs.Refusals.{RefusesBounds, RefusesCurve, RefusesLoading};
 
 use crate::bounds::texts_of;
-use crate::curves::curve_report;
+use crate::curves::{capacity_curve_report, curve_report};
 use crate::replays::replay_report;
 use crate::status::{refusal_of, refusal_of_curve};
 use crate::writing::Texts;
 use bound_io::Source;
 use bound_report::Refusal;
-use bound_words::{BoundSettings, ReplaySettings};
+use bound_words::{BoundSettings, ReplaySettings, capacities_given};
 use cache_rules::Trace;
+use capacity_curve::CurveTerms;
 use std::alloc::Global;
 use trace_any::{Format, Limits, RequestReader, load};
 
@@ -101,4 +103,28 @@ pub(crate) fn curve_all<T: Source>(
         Ok(text) => Ok(text),
         Err(fault) => Err(refusal_of_curve(fault)),
     }
+}
+
+/// The report of the curve over the capacities that the words give, of all that the source has left.
+pub(crate) fn capacity_curve_all<T: Source>(
+    alloc: Global,
+    format: Format,
+    asked: &CurveTerms,
+    words: &[String],
+    trace: &mut T,
+) -> Result<Vec<u8>, Refusal>
+    requires format { IsFormat format }
+    requires denominator { (1 ≤ asked.now.denominator) × (asked.now.denominator ≤ 2 ^ 48) }
+    ensures curved { IfOk result (λ text. IsCapacityCurved format asked.now (capacities_given (map string_bytes words.now))
+        (seen T.left T.faults trace.old trace.new) text.items) }
+    ensures refused { IfErr result (RefusesLoading format (seen T.left T.faults trace.old trace.new)) }
+    ensures source { LosesPrefix (T.left trace.old) (T.left trace.new) }
+{
+    let capacities = capacities_given(alloc, words)?;
+    // Dropped here, for the proof.
+    let text = {
+        let (requests, dropped) = load_all(alloc, format, trace)?;
+        capacity_curve_report(alloc, format, asked, &capacities, &requests, dropped)
+    };
+    Ok(text?)
 }

@@ -1,18 +1,19 @@
 //! All that the program does, over any sources and sinks.
-ghost use Rattle.std.specs.Prelude.{◌≡◌, ◌≤◌, map, string_bytes, Result, Ok, IfOk};
+ghost use Rattle.std.specs.Prelude.{◌≡◌, ◌≤◌, ◌^◌, map, string_bytes, Result, Ok, IfOk};
 ghost use Rattle.bound_io.specs.Devices.{seen};
 ghost use Rattle.bound_io.specs.Reading.{LosesPrefix};
 ghost use Rattle.trace_any.specs.Readings.{IsFormat};
 ghost use Rattle.bound_run.specs.Headline.{Headline};
-ghost use Rattle.bound_run.specs.Run.{BoundsEnd, CheckEnds, Completes, CurveEnds, DemoEnds, JudgeEnds, RefineEnds, ReplayEnds, RunEnds, UpgradeEnds, devices};
+ghost use Rattle.bound_run.specs.Run.{BoundsEnd, CapacityCurveEnds, CheckEnds, Completes, CurveEnds, DemoEnds, JudgeEnds, RefineEnds, ReplayEnds, RunEnds, UpgradeEnds, devices};
 ghost use Rattle.bound_run.specs.Statuses.{ending_of};
+ghost use Rattle.bound_words.specs.Capacities.{capacities_given};
 ghost use Rattle.bound_words.specs.Settings.{IsPlanInRange};
 ghost use Rattle.bound_words.specs.Words.{plan};
 
 use crate::checking::verdict_of;
 use crate::demos::demo_report;
 use crate::judging::judge_all;
-use crate::loading::{curve_all, prepare, replay_all};
+use crate::loading::{capacity_curve_all, curve_all, prepare, replay_all};
 use crate::refined::refine_all;
 use crate::status::Status;
 use crate::upgrades::upgrade_all;
@@ -23,6 +24,7 @@ use bound_words::{
     BoundSettings, DrawSettings, JudgeSettings, Plan, ReplaySettings, Settings, WordFault, plan_of,
     settings_of,
 };
+use capacity_curve::CurveTerms;
 use std::alloc::Global;
 use trace_any::Format;
 
@@ -104,6 +106,28 @@ fn run_curve<T: Source, R: Sink>(
     ensures source { LosesPrefix (T.left trace.old) (T.left trace.new) }
 {
     match curve_all(alloc, format, trace) {
+        Ok(curved) => write_report(report, &curved),
+        Err(refusal) => refuse(report, refusal),
+    }
+}
+
+// Reads the trace, and writes the report of its curve over the capacities that the words give.
+fn run_capacity_curve<T: Source, R: Sink>(
+    alloc: Global,
+    format: Format,
+    asked: &CurveTerms,
+    words: &[String],
+    trace: &mut T,
+    report: &mut R,
+) -> Status
+    requires format { IsFormat format }
+    requires denominator { (1 ≤ asked.now.denominator) × (asked.now.denominator ≤ 2 ^ 48) }
+    ensures ends { CapacityCurveEnds format asked.now (capacities_given (map string_bytes words.now))
+        (seen T.left T.faults trace.old trace.new)
+        (seen R.written R.faults report.old report.new) (ending_of result) }
+    ensures source { LosesPrefix (T.left trace.old) (T.left trace.new) }
+{
+    match capacity_curve_all(alloc, format, asked, words, trace) {
         Ok(curved) => write_report(report, &curved),
         Err(refusal) => refuse(report, refusal),
     }
@@ -196,13 +220,14 @@ fn run_refine<T: Source, Q: Source, R: Sink, K: Sink>(
 fn run_plan<T: Source, Q: Source, R: Sink, K: Sink>(
     alloc: Global,
     plan: Result<Plan, WordFault>,
+    words: &[String],
     trace: &mut T,
     cert: &mut Q,
     report: &mut R,
     made: &mut K,
 ) -> Status
     requires { IfOk plan IsPlanInRange }
-    ensures { RunEnds plan (devices
+    ensures { RunEnds plan (capacities_given (map string_bytes words.now)) (devices
         (seen T.left T.faults trace.old trace.new) (seen Q.left Q.faults cert.old cert.new)
         (seen R.written R.faults report.old report.new) (seen K.written K.faults made.old made.new)) result }
 {
@@ -215,6 +240,9 @@ fn run_plan<T: Source, Q: Source, R: Sink, K: Sink>(
         Settings::Check(format) => run_check(alloc, format, trace, cert, report),
         Settings::Replay(format, asked) => run_replay(alloc, format, asked, trace, report),
         Settings::Curve(format) => run_curve(alloc, format, trace, report),
+        Settings::CapacityCurve(format, asked) => {
+            run_capacity_curve(alloc, format, &asked, words, trace, report)
+        }
         Settings::Judge(format, asked) => run_judge(alloc, format, asked, trace, cert, report),
         Settings::Demo(drawing, asked) => run_demo(alloc, drawing, &asked, report),
         Settings::Upgrade => run_upgrade(alloc, cert, report, made),
@@ -239,15 +267,15 @@ pub fn run<T: Source, Q: Source, R: Sink, K: Sink>(
     report: &mut R,
     made: &mut K,
 ) -> Status
-    ensures headline { result ≡ Status.Done → Headline (plan (map string_bytes words.now)) (devices
+    ensures headline { result ≡ Status.Done → Headline (plan (map string_bytes words.now)) (capacities_given (map string_bytes words.now)) (devices
         (seen T.left T.faults trace.old trace.new) (seen Q.left Q.faults cert.old cert.new)
         (seen R.written R.faults report.old report.new) (seen K.written K.faults made.old made.new)) }
-    ensures explains { RunEnds (plan (map string_bytes words.now)) (devices
+    ensures explains { RunEnds (plan (map string_bytes words.now)) (capacities_given (map string_bytes words.now)) (devices
         (seen T.left T.faults trace.old trace.new) (seen Q.left Q.faults cert.old cert.new)
         (seen R.written R.faults report.old report.new) (seen K.written K.faults made.old made.new)) result }
     ensures completes { Completes (plan (map string_bytes words.now)) (devices
         (seen T.left T.faults trace.old trace.new) (seen Q.left Q.faults cert.old cert.new)
         (seen R.written R.faults report.old report.new) (seen K.written K.faults made.old made.new)) result }
 {
-    run_plan(alloc, plan_of(words), trace, cert, report, made)
+    run_plan(alloc, plan_of(words), words, trace, cert, report, made)
 }

@@ -1,4 +1,5 @@
 pub mod GivenByName
 pub mod NamesLemmas
 pub mod Needed
+pub mod RisingLists
 pub mod WordRows

@@ -5,7 +5,7 @@ use Rattle.bound_report.specs.declared.facts.Mode.TheVariants.{Constant, Flow, I
 use Rattle.bound_report.specs.declared.facts.Window.TheVariants.{All as Whole}
 use Rattle.relaxation.specs.declared.denominators.DenominatorChoice.TheVariants.{Auto, Exact, Given}
 use Rattle.trace_any.specs.declared.format.Format.TheVariants.{Webcache, Arc, Msr, Oracle, MarkedWebcache, MsrReads}
-use Rattle.bound_words.specs.declared.words.Plan.TheVariants.{Bounds, Check, Curve, Judge, Demo, Upgrade}
+use Rattle.bound_words.specs.declared.words.Plan.TheVariants.{Bounds, Check, Curve, CapacityCurve, Judge, Demo, Upgrade}
 use Rattle.bound_report.specs.declared.refusal.WordKind.TheVariants.{Missing, Unknown, Twice, BadValue}
 use Rattle.bound_words.specs.Words.{fault, plan}
 
@@ -145,6 +145,52 @@ a_curve = refl
 curve_without_form : plan (codes "curve" ∷ codes "-" ∷ []) ≡ Err (fault 3 Missing)
 unfolding plan
 curve_without_form = refl
+
+-- with capacities it takes an objective, a denominator and a warm-up too
+a_curve_over : plan (codes "curve" ∷ codes "t" ∷ codes "format=arc" ∷ codes "capacities=1,20,0300" ∷ []) ≡ Ok (CapacityCurve Arc Hits 281474976710656 0)
+unfolding plan
+a_curve_over = refl
+
+curve_over_last : plan (codes "curve" ∷ codes "t" ∷ codes "warmup=7" ∷ codes "denominator=5" ∷ codes "objective=bytes" ∷ codes "format=arc" ∷ codes "capacities=9" ∷ []) ≡ Ok (CapacityCurve Arc Bytes 5 7)
+unfolding plan
+curve_over_last = refl
+
+curve_with_warmup : plan (codes "curve" ∷ codes "t" ∷ codes "format=arc" ∷ codes "warmup=7" ∷ []) ≡ Err (fault 4 Unknown)
+unfolding plan
+curve_with_warmup = refl
+
+curve_of_objective : plan (codes "curve" ∷ codes "t" ∷ codes "objective=none" ∷ codes "format=x" ∷ []) ≡ Err (fault 3 Unknown)
+unfolding plan
+curve_of_objective = refl
+
+-- capacities ascend, without blanks or empty words
+same_capacity : plan (codes "curve" ∷ codes "t" ∷ codes "capacities=5,5" ∷ []) ≡ Err (fault 3 BadValue)
+unfolding plan
+same_capacity = refl
+
+empty_list : plan (codes "curve" ∷ codes "t" ∷ codes "capacities=" ∷ []) ≡ Err (fault 3 BadValue)
+unfolding plan
+empty_list = refl
+
+last_comma : plan (codes "curve" ∷ codes "t" ∷ codes "capacities=1,2," ∷ []) ≡ Err (fault 3 BadValue)
+unfolding plan
+last_comma = refl
+
+zero_capacity : plan (codes "curve" ∷ codes "t" ∷ codes "capacities=0,2" ∷ []) ≡ Err (fault 3 BadValue)
+unfolding plan
+zero_capacity = refl
+
+chosen_over : plan (codes "curve" ∷ codes "t" ∷ codes "capacities=2" ∷ codes "denominator=exact" ∷ []) ≡ Err (fault 4 BadValue)
+unfolding plan
+chosen_over = refl
+
+twice_over : plan (codes "curve" ∷ codes "t" ∷ codes "capacities=2" ∷ codes "capacities=1" ∷ []) ≡ Err (fault 4 Twice)
+unfolding plan
+twice_over = refl
+
+over_without_form : plan (codes "curve" ∷ codes "t" ∷ codes "capacities=2" ∷ []) ≡ Err (fault 4 Missing)
+unfolding plan
+over_without_form = refl
 
 curve_at_no_capacity : plan (codes "curve" ∷ codes "t" ∷ codes "format=arc" ∷ codes "capacity=2" ∷ []) ≡ Err (fault 4 Unknown)
 unfolding plan

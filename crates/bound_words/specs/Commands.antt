@@ -20,12 +20,18 @@ command_named word =
     else (if bytes_eq word (codes "refine") then Some command.Refine
     else None)))))))
 
+-- the command that a command's word names: a curve over capacities has the word of a curve
+abbrev pub plain : Command → Command
+plain command.CapacityCurve = command.Curve
+plain asked = asked
+
 -- where the paths of a command stand among its words, of which the command is word 0
 abbrev pub places_of : Command → PathPlaces
 places_of command.Bounds = record { count = 2; trace = Some 1; cert = Some 2; made = Some 2 }
 places_of command.Check = record { count = 2; trace = Some 1; cert = Some 2; made = None }
 places_of command.Replay = record { count = 1; trace = Some 1; cert = None; made = None }
 places_of command.Curve = record { count = 1; trace = Some 1; cert = None; made = None }
+places_of command.CapacityCurve = record { count = 1; trace = Some 1; cert = None; made = None }
 places_of command.Judge = record { count = 2; trace = Some 1; cert = Some 2; made = None }
 places_of command.Demo = record { count = 0; trace = None; cert = None; made = None }
 places_of command.Upgrade = record { count = 2; trace = None; cert = Some 1; made = Some 2 }
@@ -41,6 +47,7 @@ needed_names command.Bounds = codes "format" ∷ codes "capacity" ∷ []
 needed_names command.Check = codes "format" ∷ []
 needed_names command.Replay = codes "format" ∷ codes "capacity" ∷ codes "policy" ∷ []
 needed_names command.Curve = codes "format" ∷ []
+needed_names command.CapacityCurve = codes "format" ∷ codes "capacities" ∷ []
 needed_names command.Judge = codes "format" ∷ codes "capacity" ∷ []
 needed_names command.Demo = []
 needed_names command.Upgrade = []
@@ -53,6 +60,7 @@ other_names command.Bounds =
 other_names command.Check = codes "block" ∷ codes "count" ∷ []
 other_names command.Replay = codes "block" ∷ codes "count" ∷ codes "warmup" ∷ []
 other_names command.Curve = codes "block" ∷ codes "count" ∷ []
+other_names command.CapacityCurve = codes "block" ∷ codes "count" ∷ codes "objective" ∷ codes "denominator" ∷ codes "warmup" ∷ []
 other_names command.Judge = codes "block" ∷ codes "count" ∷ codes "warmup" ∷ []
 other_names command.Demo =
     codes "seed" ∷ codes "requests" ∷ codes "objects" ∷ codes "capacity"

@@ -1,3 +1,4 @@
+pub mod Capacities
 pub mod Ranges
 pub mod Settings
 pub mod Commands

@@ -1,5 +1,5 @@
 -- The operands: which values each may have, and what it gives.
-use Rattle.std.specs.Prelude.{ℕ, List, Bool, false, ◌&&◌, ◌||◌, if◌then◌else◌, codes, unwrap_or, option_and_then}
+use Rattle.std.specs.Prelude.{ℕ, ◌^◌, List, Bool, false, ◌&&◌, ◌||◌, if◌then◌else◌, codes, unwrap_or, option_and_then}
 use Rattle.std.specs.declared.option.Option.{Option}
 use Rattle.std.specs.Option.{is_some}
 use Rattle.std.specs.Str.{bytes_eq}
@@ -16,8 +16,9 @@ use Rattle.policy_model.specs.Names.{policy_named}
 use Rattle.cache_model.specs.declared.version.TheConstants.{CERT_VERSION}
 use Rattle.bound_words.specs.declared.commands.Command.{Command}
 use Rattle.bound_words.specs.declared.commands.Command.TheVariants as command
+use Rattle.bound_words.specs.Capacities.{capacities_of}
 use Rattle.bound_words.specs.Named.{value_given}
-use Rattle.bound_words.specs.Values.{block_of, format_of, capacity_of, count_of, objective_of, width_of, window_of, mode_of, denominator_of, reads_of, version_of, seed_of, drawn_of, usual_denominator}
+use Rattle.bound_words.specs.Values.{block_of, format_of, capacity_of, count_of, objective_of, width_of, window_of, mode_of, denominator_of, number_to, reads_of, version_of, seed_of, drawn_of, usual_denominator}
 
 -- whether the operand of this name may have this value
 abbrev pub is_value : List ℕ → List ℕ → Bool
@@ -36,9 +37,13 @@ is_value name value =
     else (if bytes_eq name (codes "seed") then is_some (seed_of value)
     else (bytes_eq name (codes "requests") || bytes_eq name (codes "objects")) && is_some (drawn_of value))))))))))))
 
--- whether an operand of the command may have this value: the window of a refinement is a number of steps
+-- whether an operand of the command may have this value: the window of a refinement is a number of steps, and over capacities the denominator is a number
 abbrev pub takes_value : Command → List ℕ → List ℕ → Bool
 takes_value command.Refine name value = if bytes_eq name (codes "window") then is_some (width_of value) else is_value name value
+takes_value command.CapacityCurve name value =
+    if bytes_eq name (codes "capacities") then is_some (capacities_of value)
+    else (if bytes_eq name (codes "denominator") then is_some (number_to (2 ^ 48) value)
+    else is_value name value)
 takes_value command name value = is_value name value
 
 -- the bytes of a block that the operands give, and 4096 where they give none
@@ -77,6 +82,10 @@ mode_given operands =
 -- the denominator that the operands give, and the usual one of the mode where they give none
 abbrev pub denominator_given : Mode → List (List ℕ) → DenominatorChoice
 denominator_given mode operands = unwrap_or (option_and_then denominator_of (value_given (codes "denominator") operands)) (usual_denominator mode)
+
+-- the denominator that the operands of a curve over capacities give, and 2^48 where they give none
+abbrev pub number_given : List (List ℕ) → ℕ
+number_given operands = unwrap_or (option_and_then (number_to (2 ^ 48)) (value_given (codes "denominator") operands)) (2 ^ 48)
 
 -- the policy that the operands give
 abbrev pub policy_given : List (List ℕ) → Option PolicyName

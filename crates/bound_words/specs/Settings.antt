@@ -7,7 +7,7 @@ use Rattle.trace_any.specs.Readings.{IsFormat}
 use Rattle.bound_report.specs.declared.facts.Mode.{Mode}
 use Rattle.bound_words.specs.declared.settings.BoundSettings.{BoundSettings}
 use Rattle.bound_words.specs.declared.settings.Settings.{Settings}
-use Rattle.bound_words.specs.declared.settings.Settings.TheVariants.{Bounds, Check, Replay, Curve, Judge, Demo, Upgrade, Refine}
+use Rattle.bound_words.specs.declared.settings.Settings.TheVariants.{Bounds, Check, Replay, Curve, CapacityCurve, Judge, Demo, Upgrade, Refine}
 use Rattle.bound_words.specs.declared.words.Plan.{Plan}
 use Rattle.bound_words.specs.declared.words.Plan.TheVariants as plan
 use Rattle.bound_words.specs.Ranges.{AreBoundSettingsInRange, AreDrawSettingsInRange, AreReplaySettingsInRange}
@@ -24,6 +24,8 @@ settings_of (plan.Bounds format capacity objective mode denominator warmup versi
 settings_of (plan.Check format) = Check format
 settings_of (plan.Replay format capacity policy warmup) = Replay format (record { policy = policy; capacity = capacity; warmup = warmup })
 settings_of (plan.Curve format) = Curve format
+settings_of (plan.CapacityCurve format objective denominator warmup) =
+    CapacityCurve format (record { objective = objective; denominator = denominator; warmup = warmup })
 settings_of (plan.Judge format capacity warmup) = Judge format (record { capacity = capacity; warmup = warmup })
 settings_of (plan.Demo seed requests objects capacity objective mode denominator) =
     Demo (record { seed = seed; requests = requests; objects = objects }) (bound_settings capacity objective mode denominator 0 CERT_VERSION)
@@ -36,6 +38,7 @@ AreSettingsInRange (Bounds format asked) = IsFormat format × AreBoundSettingsIn
 AreSettingsInRange (Check format) = IsFormat format
 AreSettingsInRange (Replay format asked) = IsFormat format × AreReplaySettingsInRange asked
 AreSettingsInRange (Curve format) = IsFormat format
+AreSettingsInRange (CapacityCurve format asked) = IsFormat format × (1 ≤ asked.denominator) × (asked.denominator ≤ 2 ^ 48)
 AreSettingsInRange (Judge format asked) = IsFormat format
 AreSettingsInRange (Demo drawing asked) = AreDrawSettingsInRange drawing × AreBoundSettingsInRange asked
 AreSettingsInRange Upgrade = Unit {0}

@@ -5,7 +5,7 @@ use Rattle.std.specs.Option.{is_some, option_map, option_or}
 use Rattle.std.specs.List.{list_all}
 use Rattle.std.specs.Str.{bytes_eq}
 use Rattle.bound_words.specs.declared.words.Plan.{Plan}
-use Rattle.bound_words.specs.declared.words.Plan.TheVariants.{Bounds, Check, Replay, Curve, Judge, Demo, Upgrade, Refine}
+use Rattle.bound_words.specs.declared.words.Plan.TheVariants.{Bounds, Check, Replay, Curve, CapacityCurve, Judge, Demo, Upgrade, Refine}
 use Rattle.bound_words.specs.declared.commands.Command.{Command}
 use Rattle.bound_words.specs.declared.commands.PathPlaces.{PathPlaces}
 use Rattle.bound_words.specs.declared.words.WordFault.{WordFault}
@@ -14,7 +14,7 @@ use Rattle.bound_report.specs.declared.refusal.WordKind.TheVariants.{Missing, Un
 use Rattle.bound_words.specs.declared.commands.Command.TheVariants as command
 use Rattle.bound_words.specs.Commands.{command_named, has_operand, needed_names, places_of, operands_at, operands_of}
 use Rattle.bound_words.specs.Named.{has_equals, name_of, value_of, value_given, place_given}
-use Rattle.bound_words.specs.Operands.{takes_value, format_given, capacity_given, objective_given, mode_given, denominator_given, policy_given, warmup_given, version_given, seed_given, requests_given, objects_given, capacity_or_usual, reads_given, width_given}
+use Rattle.bound_words.specs.Operands.{takes_value, format_given, capacity_given, objective_given, mode_given, denominator_given, number_given, policy_given, warmup_given, version_given, seed_given, requests_given, objects_given, capacity_or_usual, reads_given, width_given}
 
 -- go on with the value, or stop at the fault
 infixl 10 ◌>>=◌
@@ -35,6 +35,15 @@ known_command (Some command) = Ok command
 abbrev pub command_of : Option (List ℕ) → Result Command WordFault
 command_of None = Err (fault 1 Missing)
 command_of (Some word) = known_command (command_named word)
+
+-- what is asked for by a command with these operands: a curve with capacities is one over capacities
+abbrev pub command_with : Command → List (List ℕ) → Command
+command_with command.Curve operands = if is_some (value_given (codes "capacities") operands) then command.CapacityCurve else command.Curve
+command_with named operands = named
+
+-- what the words ask for, if they begin with a command
+abbrev pub command_asked : List (List ℕ) → Option Command
+command_asked words = option_map (λ named. command_with named (operands_of named words)) (option_and_then command_named (slice_get words 0))
 
 -- a path is any word but the empty one
 abbrev pub path : ℕ → Option (List ℕ) → Result (Unit {0}) WordFault
@@ -134,6 +143,13 @@ curve_plan end operands = do
   format ← required end (format_given operands)
   Ok (Curve format)
 
+-- the plan of a curve over capacities that accepted operands give, if the words end before this place
+abbrev pub capacity_curve_plan : ℕ → List (List ℕ) → Result Plan WordFault
+capacity_curve_plan end operands = do
+  format ← required end (format_given operands)
+  capacities ← required end (value_given (codes "capacities") operands)
+  Ok (CapacityCurve format (objective_given operands) (number_given operands) (warmup_given operands))
+
 -- the plan of a demo that accepted operands give, none of which is required
 abbrev pub demo_plan : List (List ℕ) → Plan
 demo_plan operands =
@@ -180,6 +196,7 @@ plan_of_command command.Bounds words operands = bounds_plan (length words + 1) o
 plan_of_command command.Check words operands = check_plan (places_of command.Check) words operands
 plan_of_command command.Replay words operands = replay_plan (length words + 1) operands
 plan_of_command command.Curve words operands = curve_plan (length words + 1) operands
+plan_of_command command.CapacityCurve words operands = capacity_curve_plan (length words + 1) operands
 plan_of_command command.Judge words operands = judge_plan (places_of command.Judge) words operands
 plan_of_command command.Demo words operands = Ok (demo_plan operands)
 plan_of_command command.Upgrade words operands = Ok Upgrade
@@ -195,9 +212,9 @@ plan_of_operands asked first words operands = do
 -- what the words ask for, or the first fault in them
 unfoldable pub plan : List (List ℕ) → Result Plan WordFault
 plan words = do
-  asked ← command_of (slice_get words 0)
-  named ← paths 1 (places_of asked).count words
-  plan_of_operands asked (operands_at asked + 1) words (operands_of asked words)
+  named ← command_of (slice_get words 0)
+  there ← paths 1 (places_of named).count words
+  plan_of_operands (command_with named (operands_of named words)) (operands_at named + 1) words (operands_of named words)
 
 -- whether these operands give each one that the command needs
 abbrev pub has_needed : Command → List (List ℕ) → Bool
@@ -205,7 +222,7 @@ has_needed asked operands = list_all (λ name. is_some (value_given name operand
 
 -- if the words begin with a command, they give each operand that it needs
 abbrev pub HasNeeded : List (List ℕ) → Type 0
-HasNeeded words = IfSome (option_and_then command_named (slice_get words 0)) (λ asked. IsTrue (has_needed asked (operands_of asked words)))
+HasNeeded words = IfSome (command_asked words) (λ asked. IsTrue (has_needed asked (operands_of asked words)))
 
 -- the word, or a dash if there is none
 abbrev pub word_or_dash : Option (List ℕ) → List ℕ

@@ -2,7 +2,7 @@
 ghost use Rattle.std.specs.Prelude.{◌≡◌, ◌≤◌, length, map, Some};
 ghost use Rattle.std.specs.List.{list_any};
 ghost use Rattle.std.specs.Str.{bytes_eq};
-ghost use Rattle.bound_words.specs.Commands.{command_named, has_operand, needed_names, operand_names, operands_at, places_of};
+ghost use Rattle.bound_words.specs.Commands.{command_named, has_operand, needed_names, operand_names, operands_at, places_of, plain};
 
 use crate::values::is;
 
@@ -17,6 +17,8 @@ pub enum Command {
     Replay,
     /// LRU's hits on a trace at every number of slots.
     Curve,
+    /// LRU's hits on a trace, and a bound, at each of some capacities: a curve with the operand `capacities`.
+    CapacityCurve,
     /// Whether the hits that a simulator claims on a trace are possible.
     Judge,
     /// Bounds, their check and replays on a trace that is made.
@@ -37,7 +39,7 @@ pub(crate) struct PathPlaces {
 }
 
 impl Command {
-    /// Each command, in the order of the help.
+    /// Each command that a word names, in the order of the help.
     pub const ALL: [Command; 8] = [
         Command::Bounds,
         Command::Check,
@@ -51,13 +53,13 @@ impl Command {
 
     /// Its word.
     pub fn word(self) -> &'static str
-        ensures { command_named result.now ≡ Some self }
+        ensures { command_named result.now ≡ Some (plain self) }
     {
         match self {
             Command::Bounds => "bounds",
             Command::Check => "check",
             Command::Replay => "replay",
-            Command::Curve => "curve",
+            Command::Curve | Command::CapacityCurve => "curve",
             Command::Judge => "judge",
             Command::Demo => "demo",
             Command::Upgrade => "upgrade",
@@ -71,7 +73,7 @@ impl Command {
     {
         match self {
             Command::Bounds | Command::Check => &["trace", "certificate"],
-            Command::Replay | Command::Curve => &["trace"],
+            Command::Replay | Command::Curve | Command::CapacityCurve => &["trace"],
             Command::Judge => &["trace", "hits"],
             Command::Demo => &[],
             Command::Upgrade => &["certificate", "new certificate"],
@@ -98,6 +100,15 @@ impl Command {
             ],
             Command::Check | Command::Curve => &["format", "block", "count"],
             Command::Replay => &["format", "capacity", "policy", "block", "count", "warmup"],
+            Command::CapacityCurve => &[
+                "format",
+                "capacities",
+                "block",
+                "count",
+                "objective",
+                "denominator",
+                "warmup",
+            ],
             Command::Judge => &["format", "capacity", "block", "count", "warmup"],
             Command::Demo => &[
                 "seed",
@@ -119,7 +130,7 @@ impl Command {
         ensures { result ≡ length (needed_names self) }
     {
         match self {
-            Command::Bounds | Command::Judge | Command::Refine => 2,
+            Command::Bounds | Command::CapacityCurve | Command::Judge | Command::Refine => 2,
             Command::Check | Command::Curve => 1,
             Command::Replay => 3,
             Command::Demo | Command::Upgrade => 0,
@@ -143,7 +154,7 @@ impl Command {
                 cert: Some(2),
                 made: None,
             },
-            Command::Replay | Command::Curve => PathPlaces {
+            Command::Replay | Command::Curve | Command::CapacityCurve => PathPlaces {
                 count: 1,
                 trace: Some(1),
                 cert: None,

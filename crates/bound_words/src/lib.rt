@@ -4,6 +4,7 @@
 //! operands a command has.
 #![tactic(auto)]
 
+mod capacities;
 mod commands;
 mod named;
 mod operands;
@@ -13,9 +14,10 @@ mod settings;
 mod values;
 mod words;
 
+pub use capacities::capacities_given;
 pub use commands::{Command, command_named};
 pub use paths::{Paths, paths_of};
 pub use settings::{
     BoundSettings, DrawSettings, JudgeSettings, ReplaySettings, Settings, settings_of,
 };
-pub use words::{Plan, WordFault, plan_of};
+pub use words::{Plan, WordFault, command_asked, plan_of};

@@ -3,15 +3,18 @@ ghost use Rattle.std.specs.Prelude.{◌≡◌, ◌≤◌, ◌^◌, map, string_b
 ghost use Rattle.bound_report.specs.declared.facts.Mode.TheVariants.{Flow};
 ghost use Rattle.relaxation.specs.Denominators.{IsChoice};
 ghost use Rattle.trace_any.specs.Readings.{IsFormat};
+ghost use Rattle.bound_words.specs.declared.commands.Command.{Command};
 ghost use Rattle.bound_words.specs.Ranges.{IsModeInRange};
-ghost use Rattle.bound_words.specs.Operands.{block_given, capacity_given, capacity_or_usual, denominator_given, drawn_given, format_given, is_value, mode_given, objective_given, objects_given, policy_given, reads_given, requests_given, seed_given, takes_value, version_given, warmup_given, width_given, window_given};
+ghost use Rattle.bound_words.specs.Operands.{block_given, capacity_given, capacity_or_usual, denominator_given, drawn_given, format_given, is_value, mode_given, number_given, objective_given, objects_given, policy_given, reads_given, requests_given, seed_given, takes_value, version_given, warmup_given, width_given, window_given};
 ghost use Rattle.cache_model.specs.declared.version.TheConstants.{CERT_VERSION, SHORT_VERSION};
 
+use crate::capacities::are_capacities;
 use crate::commands::Command;
 use crate::named::value_given;
 use crate::values::{
-    USUAL_BLOCK, block_of, capacity_of, count_of, denominator_of, drawn_of, format_of, is, mode_of,
-    objective_of, reads_of, seed_of, usual_denominator, version_of, width_of, window_of,
+    MOST_DENOMINATOR, USUAL_BLOCK, block_of, capacity_of, count_of, denominator_of, drawn_of,
+    format_of, is, mode_of, number_of, objective_of, reads_of, seed_of, usual_denominator,
+    version_of, width_of, window_of,
 };
 use bound_report::{Mode, Window};
 use cache_model::CERT_VERSION;
@@ -62,12 +65,27 @@ pub(crate) fn is_value(name: &str, value: &str) -> bool
     }
 }
 
-/// Whether an operand of a command may have this value. A refinement has a number of steps for its window.
+// Whether an operand of a curve over capacities may have this value.
+fn takes_over_capacities(name: &str, value: &str) -> bool
+    ensures { result ≡ takes_value Command.CapacityCurve name.now value.now }
+{
+    if is(name, "capacities") {
+        are_capacities(value)
+    } else if is(name, "denominator") {
+        number_of(value).is_some()
+    } else {
+        is_value(name, value)
+    }
+}
+
+/// Whether an operand of a command may have this value. A refinement has a number of steps for its window, and a curve
+/// over capacities has a number for its denominator.
 pub(crate) fn takes_value(command: Command, name: &str, value: &str) -> bool
     ensures { result ≡ takes_value command name.now value.now }
 {
     match command {
         Command::Refine if is(name, "window") => width_of(value).is_some(),
+        Command::CapacityCurve => takes_over_capacities(name, value),
         _ => is_value(name, value),
     }
 }
@@ -152,6 +170,17 @@ pub(crate) fn denominator_given(mode: Mode, operands: &[String]) -> DenominatorC
     match value_given("denominator", operands) {
         Some(value) => denominator_of(value).unwrap_or(usual_denominator(mode)),
         None => usual_denominator(mode),
+    }
+}
+
+/// The denominator of a curve over capacities.
+pub(crate) fn number_given(operands: &[String]) -> u64
+    ensures value { result ≡ number_given (map string_bytes operands.now) }
+    ensures range { (1 ≤ result) × (result ≤ 2 ^ 48) }
+{
+    match value_given("denominator", operands) {
+        Some(value) => number_of(value).unwrap_or(MOST_DENOMINATOR),
+        None => MOST_DENOMINATOR,
     }
 }
 

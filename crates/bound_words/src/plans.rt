@@ -2,11 +2,12 @@
 ghost use Rattle.std.specs.Prelude.{◌≡◌, ◌≤◌, map, string_bytes, IfOk};
 ghost use Rattle.std.specs.Option.{ForSome, option_copied};
 ghost use Rattle.bound_words.specs.Settings.{IsPlanInRange};
-ghost use Rattle.bound_words.specs.Words.{bounds_plan, check_plan, curve_plan, demo_plan, inputs_fault, is_dash, judge_plan, plan_of_command, refine_plan, replay_plan, required};
+ghost use Rattle.bound_words.specs.Words.{bounds_plan, capacity_curve_plan, check_plan, curve_plan, demo_plan, inputs_fault, is_dash, judge_plan, plan_of_command, refine_plan, replay_plan, required};
 
 use crate::commands::{Command, PathPlaces};
+use crate::named::value_given;
 use crate::operands::{
-    capacity_given, capacity_or_usual, denominator_given, format_given, mode_given,
+    capacity_given, capacity_or_usual, denominator_given, format_given, mode_given, number_given,
     objective_given, objects_given, policy_given, requests_given, seed_given, version_given,
     warmup_given, width_given,
 };
@@ -132,6 +133,21 @@ fn curve_plan(end: u64, operands: &[String]) -> Result<Plan, WordFault>
     Ok(Plan::Curve { format })
 }
 
+// The plan of a curve over capacities that accepted operands give, if the words end before a place.
+fn capacity_curve_plan(end: u64, operands: &[String]) -> Result<Plan, WordFault>
+    ensures plan { result ≡ capacity_curve_plan end (map string_bytes operands.now) }
+    ensures range { IfOk result IsPlanInRange }
+{
+    let format = required(end, format_given(operands))?;
+    required(end, value_given("capacities", operands))?;
+    Ok(Plan::CapacityCurve {
+        format,
+        objective: objective_given(operands),
+        denominator: number_given(operands),
+        warmup: warmup_given(operands),
+    })
+}
+
 // The plan of a demo that accepted operands give. Each has a usual value.
 fn demo_plan(operands: &[String]) -> Plan
     ensures plan { result ≡ demo_plan (map string_bytes operands.now) }
@@ -163,6 +179,7 @@ pub(crate) fn plan_of_command(
         Command::Check => check_plan(command.places(), words, operands),
         Command::Replay => replay_plan(words.len() as u64 + 1, operands),
         Command::Curve => curve_plan(words.len() as u64 + 1, operands),
+        Command::CapacityCurve => capacity_curve_plan(words.len() as u64 + 1, operands),
         Command::Judge => judge_plan(command.places(), words, operands),
         Command::Demo => Ok(demo_plan(operands)),
         Command::Upgrade => Ok(Plan::Upgrade),

@@ -10,6 +10,7 @@ use crate::words::Plan;
 use bound_report::Mode;
 use cache_model::{CERT_VERSION, Terms};
 use cache_rules::Objective;
+use capacity_curve::CurveTerms;
 use policy_model::PolicyName;
 use relaxation::DenominatorChoice;
 use std::marker::Model;
@@ -54,6 +55,7 @@ pub enum Settings {
     Check(Format),
     Replay(Format, ReplaySettings),
     Curve(Format),
+    CapacityCurve(Format, CurveTerms),
     Judge(Format, JudgeSettings),
     Demo(DrawSettings, BoundSettings),
     Upgrade,
@@ -180,6 +182,19 @@ pub fn settings_of(plan: Plan) -> Settings
             warmup,
         } => Settings::Replay(format, ReplaySettings::new(policy, capacity, warmup)),
         Plan::Curve { format } => Settings::Curve(format),
+        Plan::CapacityCurve {
+            format,
+            objective,
+            denominator,
+            warmup,
+        } => Settings::CapacityCurve(
+            format,
+            CurveTerms {
+                objective,
+                denominator,
+                warmup,
+            },
+        ),
         Plan::Judge {
             format,
             capacity,

@@ -31,8 +31,8 @@ const MOST_REQUESTS: u64 = 1 << 25;
 // The most requests of a demo, and the most objects.
 const MOST_DRAWN: u64 = 1 << 25;
 
-// The largest denominator.
-const MOST_DENOMINATOR: u64 = 1 << 48;
+/// The largest denominator.
+pub(crate) const MOST_DENOMINATOR: u64 = 1 << 48;
 
 /// The bytes of a block if no operand gives them.
 pub(crate) const USUAL_BLOCK: u64 = 4096;
@@ -177,6 +177,14 @@ pub(crate) fn mode_of(value: &str, window: Window) -> Option<Mode>
     }
 }
 
+/// A denominator that is a number.
+pub(crate) fn number_of(value: &str) -> Option<u64>
+    ensures value { result ≡ number_to (2 ^ 48) value.now }
+    ensures range { IfSome result (λ n. (1 ≤ n) × (n ≤ 2 ^ 48)) }
+{
+    number_to(MOST_DENOMINATOR, value)
+}
+
 pub(crate) fn denominator_of(value: &str) -> Option<DenominatorChoice>
     ensures value { result ≡ denominator_of value.now }
     ensures range { IfSome result IsChoice }
@@ -186,7 +194,7 @@ pub(crate) fn denominator_of(value: &str) -> Option<DenominatorChoice>
     } else if is(value, "exact") {
         Some(DenominatorChoice::Exact)
     } else {
-        match number_to(MOST_DENOMINATOR, value) {
+        match number_of(value) {
             Some(number) => Some(DenominatorChoice::Given(number)),
             None => None,
         }

@@ -3,7 +3,7 @@ ghost use Rattle.std.specs.Prelude.{◌≡◌, ◌≤◌, [], map, slice_get, st
 ghost use Rattle.std.specs.Option.{option_copied};
 ghost use Rattle.bound_words.specs.Settings.{IsPlanInRange};
 ghost use Rattle.bound_words.specs.Commands.{operands_of, places_of};
-ghost use Rattle.bound_words.specs.Words.{HasNeeded, beside_fault, block_fault, command_of, count_fault, earlier, has_no_writes, operand_fault, operands_fault, passed, path, paths, plan, plan_of_operands, unknown_operand, window_fault};
+ghost use Rattle.bound_words.specs.Words.{HasNeeded, beside_fault, block_fault, command_asked, command_of, command_with, count_fault, earlier, has_no_writes, operand_fault, operands_fault, passed, path, paths, plan, plan_of_operands, unknown_operand, window_fault};
 
 use crate::commands::{Command, command_named, has_operand};
 use crate::named::{has_equals, name_of, place_given, value_given, value_of};
@@ -50,6 +50,14 @@ pub enum Plan {
     /// LRU's hits at every number of slots on a trace of this form.
     Curve {
         format: Format,
+    },
+    /// LRU's hits on a trace of this form, and bounds over the denominator, from request `warmup` on, at each of the
+    /// capacities that `capacities_given` reads.
+    CapacityCurve {
+        format: Format,
+        objective: Objective,
+        denominator: u64,
+        warmup: u32,
     },
     /// Whether hits that are claimed on a trace of this form are possible at a capacity in bytes, counted from request
     /// `warmup` on.
@@ -102,6 +110,24 @@ fn command_of(word: Option<&str>) -> Result<Command, WordFault>
     }
 }
 
+// What is asked for by a command with these operands.
+fn command_with(named: Command, operands: &[String]) -> Command
+    ensures { result ≡ command_with named (map string_bytes operands.now) }
+{
+    match named {
+        Command::Curve if value_given("capacities", operands).is_some() => Command::CapacityCurve,
+        _ => named,
+    }
+}
+
+/// What the words ask for, if they begin with a command.
+pub fn command_asked(words: &[String]) -> Option<Command>
+    ensures { result ≡ command_asked (map string_bytes words.now) }
+{
+    let named = command_named(word_at(words, 0)?)?;
+    Some(command_with(named, operands_of(named, words)))
+}
+
 fn expect_path(place: u64, word: Option<&str>) -> Result<(), WordFault>
     ensures { result ≡ path place (option_copied word.entry) }
 {
@@ -139,7 +165,7 @@ fn check_paths(command: Command, words: &[String]) -> Result<(), WordFault>
     Ok(())
 }
 
-fn operands_of(command: Command, words: &[String]) -> &[String]
+pub(crate) fn operands_of(command: Command, words: &[String]) -> &[String]
     ensures { map string_bytes result.now ≡ operands_of command (map string_bytes words.now) }
 {
     words.get(command.operands_at()..).unwrap_or(&[])
@@ -266,8 +292,9 @@ pub fn plan_of(words: &[String]) -> Result<Plan, WordFault>
     ensures range { IfOk result IsPlanInRange }
     ensures needed { IfOk result (λ plan. HasNeeded (map string_bytes words.now)) }
 {
-    let command = command_of(word_at(words, 0))?;
-    check_paths(command, words)?;
-    let first = command.operands_at() as u64 + 1;
-    plan_of_operands(command, first, words, operands_of(command, words))
+    let named = command_of(word_at(words, 0))?;
+    check_paths(named, words)?;
+    let first = named.operands_at() as u64 + 1;
+    let operands = operands_of(named, words);
+    plan_of_operands(command_with(named, operands), first, words, operands)
 }

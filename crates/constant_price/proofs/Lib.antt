@@ -1,3 +1,4 @@
+pub mod Bracketed
 pub mod Convex
 pub mod Falls
 pub mod Bounds

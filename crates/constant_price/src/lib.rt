@@ -4,8 +4,9 @@
 #![tactic(auto)]
 
 mod bound;
+mod near;
 mod search;
 mod tangents;
 
 pub use bound::bound_at;
-pub use search::least;
+pub use search::{least, least_from};

@@ -1,12 +1,15 @@
 //! The search for the least price.
-ghost use Rattle.std.specs.Prelude.{◌≡◌, ℕ, ◌<◌, ◌≤◌, ◌^◌, ◌*◌, ◌+◌, length, sum, All};
+ghost use Rattle.std.specs.Prelude.{◌≡◌, ℕ, ◌<◌, ◌≤◌, ◌^◌, ◌*◌, ◌+◌, length, sum, All, IfOk};
 ghost use Rattle.interval_maker.specs.Timelines.{IsInterval};
 ghost use Rattle.constant_price.specs.Constants.{IsLeastConstant, constant_prices};
 ghost use Rattle.constant_price.specs.Surpluses.{fall_of};
 
+use crate::near::least_near;
 use crate::tangents::{TOP_PRICE, Tangent, meeting, tangent_at};
+use bound_base::NoMemory;
 use cache_model::Interval;
 use interval_maker::Intervals;
+use std::alloc::Global;
 
 // The part that is searched first has one interval in this many.
 const PARTS: usize = 64;
@@ -32,9 +35,9 @@ fn price_between(low: Tangent, high: Tangent, guess: u128, turn: u8) -> u128
     aim.clamp(low.price + 1, high.price - 1)
 }
 
-// The least price from which the surplus falls by no more than the growth, whatever the guess. The fall passes the
-// growth at the low price, and is within it at the high one.
-fn least_within(
+/// The least price from which the surplus falls by no more than the growth, whatever the guess. The fall passes the
+/// growth at the low price, and is within it at the high one.
+pub(crate) fn least_within(
     intervals: &[Interval],
     unit: u64,
     denominator: u64,
@@ -72,6 +75,24 @@ fn least_within(
     high.price
 }
 
+// A guess at the least price of all, which is that of a part of the intervals, sought from a price.
+fn guess_from(
+    intervals: &[Interval],
+    unit: u64,
+    denominator: u64,
+    growth: u128,
+    start: u128,
+) -> u128
+    requires few { length intervals.now ≤ 2 ^ 25 }
+    requires intervals { All (IsInterval (2 ^ 25)) intervals.now }
+    requires unit { 1 ≤ unit }
+    requires denominator { denominator ≤ 2 ^ 48 }
+{
+    let middle = intervals.len() / 2;
+    let part = &intervals[middle..middle + intervals.len() / PARTS];
+    least_within(part, unit, denominator, growth / PARTS as u128, start)
+}
+
 /// The least price of those that make the bound least, when it is the price of every step but the last. It takes
 /// no memory. It goes over the intervals some fifteen times, and first over a part of them, whose least price is a
 /// guess at that of all.
@@ -84,8 +105,29 @@ pub fn least(intervals: &Intervals, unit: u64, units: u64, denominator: u64) -> 
 {
     let items = intervals.as_slice();
     let growth = u128::from(units) * u128::from(intervals.steps().saturating_sub(1));
-    let middle = items.len() / 2;
-    let part = &items[middle..middle + items.len() / PARTS];
-    let guess = least_within(part, unit, denominator, growth / PARTS as u128, 0);
+    let guess = guess_from(items, unit, denominator, growth, 0);
     least_within(items, unit, denominator, growth, guess)
+}
+
+/// The same price, whatever the one from which it is sought. From one that is near it goes over the intervals some
+/// four times. It takes memory for those whose surplus ends near the least price, 24 bytes each.
+pub fn least_from(
+    alloc: Global,
+    intervals: &Intervals,
+    unit: u64,
+    units: u64,
+    denominator: u64,
+    start: u128,
+) -> Result<u128, NoMemory>
+    requires unit { 1 ≤ unit }
+    requires denominator { denominator ≤ 2 ^ 48 }
+    ensures least { IfOk result (λ price. IsLeastConstant intervals.now unit units denominator price) }
+    ensures price { IfOk result (λ price. price ≤ 2 ^ 96) }
+    ensures sum { IfOk result (λ price. units * sum (constant_prices price intervals.now.steps) ≤ 2 ^ 121) }
+{
+    let items = intervals.as_slice();
+    let growth = u128::from(units) * u128::from(intervals.steps().saturating_sub(1));
+    let guess = guess_from(items, unit, denominator, growth, start);
+    let price = least_near(alloc, items, unit, denominator, growth, guess)?;
+    Ok(price)
 }

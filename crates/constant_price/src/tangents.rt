@@ -24,9 +24,17 @@ fn weight_of(size: u64, unit: u64) -> u64
     if unit == 1 { size } else { size / unit }
 }
 
-// The surplus of an interval, and how much of it the next price takes away. What pays more than `most` at price 1
-// pays more than any gain.
-fn surplus_and_fall(
+/// The greatest charge that a price takes no further than the greatest price: what pays more passes any gain.
+pub(crate) fn most_charge(price: u128) -> u128
+    ensures most { result * price ≤ TOP_PRICE }
+    ensures more { (n : ℕ) → result < n → n < TOP_PRICE → TOP_PRICE ≤ n * price }
+{
+    TOP_PRICE / price.max(1)
+}
+
+/// The surplus of an interval, and how much of it the next price takes away. What pays more than `most` at price 1
+/// pays more than any gain.
+pub(crate) fn surplus_and_fall(
     interval: &Interval,
     unit: u64,
     denominator: u64,
@@ -67,7 +75,7 @@ pub(crate) fn tangent_at(
     ensures surplus { result.surplus ≡ surplus_of unit denominator price intervals.now }
     ensures fall { result.fall ≡ fall_of unit denominator price intervals.now }
 {
-    let most = TOP_PRICE / price.max(1);
+    let most = most_charge(price);
     let mut surplus = 0;
     let mut fall = 0;
     for interval in intervals {

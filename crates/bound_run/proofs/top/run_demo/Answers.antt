@@ -1,10 +1,10 @@
 use Rattle.bound_run.specs.Statuses.{ending_of}
-use Rattle.bound_run.proofs.Outcomes.{demo_written, ending_of-status_of}
+use Rattle.bound_run.proofs.Outcomes.{ending_of-status_of, reports_written}
 use Rattle.bound_run.proofs.top.run_demo.Goals as goal
 
 pub returns-in-Ok : goal.returns-in-Ok
 returns-in-Ok g c =
-    demo_written c.args.drawing c.args.asked.now _ c.in-Ok.shown.items (ending_of c.write_report.result) c.in-Ok.ensures.shown (rw c.deref.ensures.value at c.write_report.ensures)
+    reports_written _ _ _ c.in-Ok.shown.items (ending_of c.write_report.result) c.in-Ok.ensures.shown (rw c.deref.ensures.value at c.write_report.ensures)
 
 pub returns-in-Err : goal.returns-in-Err
 returns-in-Err g c = rw (c.refuse.ensures.status, ending_of-status_of c.in-Err.refusal) (c.in-Err.ensures.refused, c.refuse.ensures.reported)

@@ -19,6 +19,9 @@ returns-in-Demo g c = rw (c.in-Ok.is, ← c.in-Demo.ensures) (c.run_demo.ensures
 pub returns-in-Curve : goal.returns-in-Curve
 returns-in-Curve g c = rw (c.in-Ok.is, ← c.in-Curve.ensures) (c.run_curve.ensures.ends, c.run_curve.ensures.source, (refl, refl), (refl, refl))
 
+pub returns-in-CapacityCurve : goal.returns-in-CapacityCurve
+returns-in-CapacityCurve g c = rw (c.in-Ok.is, ← c.in-CapacityCurve.ensures) (c.run_capacity_curve.ensures.ends, c.run_capacity_curve.ensures.source, (refl, refl), (refl, refl))
+
 pub returns-in-Upgrade : goal.returns-in-Upgrade
 returns-in-Upgrade g c = rw (c.in-Ok.is, ← c.in-Upgrade.ensures) (c.run_upgrade.ensures.ends, c.run_upgrade.ensures.source, (refl, refl))
 

@@ -1,27 +1,10 @@
-use Rattle.std.proofs.Common.{◌≡◌, ℕ, ◌+◌, ◌*◌, ◌/◌, ◌^◌, ◌<◌, ◌≤◌, ⊎_elim, max, arith}
-use Rattle.std.proofs.lemmas.Bool.{cases_lt}
-use Rattle.std.proofs.lemmas.Nat.{mul-le}
+use Rattle.std.proofs.Common.{◌≡◌, ℕ, ◌+◌, ◌*◌, ◌^◌, ◌<◌, ◌≤◌, arith}
 use Rattle.std.proofs.lemmas.List.Sums.{sum_by_more}
 use Rattle.cache_model.specs.declared.intervals.Interval.{Interval}
 use Rattle.interval_maker.specs.Timelines.{IsInterval, no_interval}
 use Rattle.constant_price.specs.Surpluses.{surplus_at, fall_at}
 use Rattle.constant_price.proofs.Falls.{gain_within}
 use Rattle.constant_price.proofs.tangents.tangent_at.Goals as goal
-
--- a quotient by the price, or by 1, is the most that the price takes no further
-within_top : (top price m : ℕ) → m ≡ max price 1 → top / m * price ≤ top
-within_top top price m is = omega (arith, mul-le (top / m) price (top / m) m (omega arith) (omega (arith, is)))
-
-past_quotient : (top m n : ℕ) → 0 < m → top / m < n → top ≤ n * m
-past_quotient top m n some more = omega (arith, mul-le (top / m + 1) m n m (omega (arith, more)) (omega arith))
-
-past_top : (top price m n : ℕ) → m ≡ max price 1 → top / m < n → n < top → top ≤ n * price
-past_top top price m n is more below =
-    let past = past_quotient top m n (omega (arith, is)) more in
-    ⊎_elim
-    (λ (none : price < 1). let one : m ≡ 1 = omega (arith, is, none) in let past' : top ≤ n * 1 = rw one at past in absurd (omega (arith, past', below)))
-    (λ (some : 1 ≤ price). let same : m ≡ price = omega (arith, is, some) in rw same at past)
-    (cases_lt price 1)
 
 -- neither the surplus nor the fall of an interval passes the greatest price
 each_within : (unit denominator price : ℕ) (i : Interval) → denominator ≤ 2 ^ 48 → IsInterval (2 ^ 25) i → (surplus_at unit denominator price i ≤ 2 ^ 96) × (fall_at unit denominator price i ≤ 2 ^ 96)
@@ -32,12 +15,6 @@ each_within unit denominator price i small is =
 
 pub surplus_and_fall-left-requires-clause-interval : goal.surplus_and_fall-left-requires-clause-interval
 surplus_and_fall-left-requires-clause-interval c = c.requires.intervals _ _ c.loop-interval-test.true
-
-pub surplus_and_fall-left-requires-clause-most : goal.surplus_and_fall-left-requires-clause-most
-surplus_and_fall-left-requires-clause-most c = within_top (2 ^ 96) c.args.price c.max-most.result c.max-most.ensures
-
-pub surplus_and_fall-left-requires-clause-more : goal.surplus_and_fall-left-requires-clause-more
-surplus_and_fall-left-requires-clause-more c n more below = past_top (2 ^ 96) c.args.price c.max-most.result n c.max-most.ensures more below
 
 -- the parts of this interval
 within : (c : goal.After-surplus_and_fall-left) → (c.surplus_and_fall-left.result.0 ≤ 2 ^ 96) × (c.surplus_and_fall-left.result.1 ≤ 2 ^ 96)

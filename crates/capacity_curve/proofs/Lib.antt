@@ -1,0 +1,2 @@
+mod Capacities
+mod PointLemmas
