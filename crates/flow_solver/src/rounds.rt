@@ -1,9 +1,9 @@
 //! Rounds: each pushes units along a path on which nothing is lost.
-ghost use Rattle.std.specs.Prelude.{◌≡◌, ℕ, ◌+◌, ◌*◌, ◌≤◌, ◌<◌, min, length, slice_index};
+ghost use Rattle.std.specs.Prelude.{◌≡◌, ◌+◌, ◌*◌, ◌<◌, length};
 ghost use Rattle.flow_network.specs.States.{IsState};
 ghost use Rattle.flow_parts.specs.OuterEdges.{AreListed};
 ghost use Rattle.flow_solver.specs.Rounds.{Advances};
-ghost use Rattle.flow_solver.specs.Searches.{HasRoom, IsReady, limit_of, lowered};
+ghost use Rattle.flow_solver.specs.Searches.{AreLoweredToLast, CanLowerToLast, HasRoom, IsReady};
 
 use crate::onward::{DeadEnds, push_onward};
 use crate::route::trace;
@@ -15,9 +15,8 @@ use flow_parts::OuterEdges;
 fn lower(network: &mut Network, search: &Search)
     requires fits { IsState network.old }
     requires each_distance { length search.now.distances ≡ network.old.instance.steps + 1 }
-    requires enough { (node : ℕ) → node ≤ network.old.instance.steps
-        → limit_of network.old search.now.distances ≤ slice_index network.old.potentials node + min (limit_of network.old search.now.distances) (slice_index search.now.distances node) }
-    ensures lowered { (node : ℕ) → node ≤ network.old.instance.steps → slice_index network.new.potentials node ≡ lowered network.old search.now.distances node }
+    requires enough { CanLowerToLast network.old search.now.distances }
+    ensures lowered { AreLoweredToLast network.old search.now.distances network.new.potentials }
     ensures same { network.new ≡ record network.old { potentials = network.new.potentials } }
     ensures fits { IsState network.new }
 {

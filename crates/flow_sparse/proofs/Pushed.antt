@@ -6,10 +6,9 @@ use Rattle.flow_model.specs.declared.edges.Edge.TheVariants.{Inner, InnerBack, O
 use Rattle.flow_model.specs.Instances.{Instance, no_arc}
 use Rattle.flow_model.specs.Networks.{Flows, IsEdge, IsPotential, tail, head, gain, loss, residual}
 use Rattle.flow_model.specs.Pushes.{opposite, push_path, edge_at}
-use Rattle.flow_model.proofs.Pushes.{HasLengths, Pushed, beyond, push_path-rises}
+use Rattle.flow_model.proofs.Pushes.{HasLengths, Pushed, beyond, opposite_tight, push_path-rises, push_path-totals}
 use Rattle.flow_sparse.specs.States.{State, IsState, IsReady, IsHigh, CanPush, HasRoomFor, pushed, first_sum}
 use Rattle.flow_sparse.proofs.Sums.{first_sum-less, first_sum-le, less_at}
-use Rattle.flow_sparse.proofs.Totals.{push_path-totals}
 
 -- the instance with as many steps as there is room for
 abbrev pub wide : State → Instance
@@ -27,15 +26,6 @@ wide_room s flows (Inner t) = refl
 wide_room s flows (InnerBack t) = refl
 wide_room s flows (Outer i) = refl
 wide_room s flows (OuterBack i) = refl
-
--- the opposite of a tight edge has no positive reduced cost
-opposite_tight : (instance : Instance) (potential : ℕ → ℕ) (e : Edge)
-    → gain instance.arcs e + potential (head instance.arcs e) ≡ loss instance.arcs e + potential (tail instance.arcs e)
-    → gain instance.arcs (opposite e) + potential (head instance.arcs (opposite e)) ≤ loss instance.arcs (opposite e) + potential (tail instance.arcs (opposite e))
-opposite_tight instance potential (Inner t) tight = omega arith
-opposite_tight instance potential (InnerBack t) tight = omega arith
-opposite_tight instance potential (Outer i) tight = omega arith
-opposite_tight instance potential (OuterBack i) tight = omega arith
 
 -- a step is before a node, or the node is before the next step
 parts : (amount t node : ℕ) → beyond amount t node + cond (nat_lt node (t + 1)) amount 0 ≡ amount

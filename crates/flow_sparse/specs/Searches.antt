@@ -5,9 +5,10 @@ use Rattle.flow_model.specs.Networks.{tail, head, gain, loss, residual, IsEdge, 
 use Rattle.flow_model.specs.Pushes.{edge_at}
 use Rattle.flow_parts.specs.Queues.{Waiting, Waits, IsPlaced, IsQueue}
 use Rattle.flow_parts.specs.OuterEdges.{edge_of, tail_of}
+use Rattle.flow_parts.specs.Searches.{IsSettled, IsTree, LeadsBack, lowered}
 use Rattle.flow_sparse.specs.declared.edges.WokenEdge.{WokenEdge}
 use Rattle.flow_sparse.specs.Ranges.{Ranges, IsPlacedAt, IsSound, AreRising, AreChained, WasWoken, listed_at, number_of}
-use Rattle.flow_sparse.specs.States.{State, IsSettled, lowered}
+use Rattle.flow_sparse.specs.States.{State}
 
 -- how far each node is by a walk that was found, the last edge of that walk, the nodes that wait for their edges to be looked
 -- at, and the nearest node with units over, with its distance as the limit beyond which no other matters
@@ -26,32 +27,9 @@ Rests found node = slice_index found.waiting.places node ≡ 0
 abbrev pub far : ℕ
 far = 2 ^ 125
 
--- the distance and the potential at the edge's tail, with what the edge gives up
-abbrev pub at_tail : State → List ℕ → Edge → ℕ
-at_tail state distances e = slice_index distances (tail state.instance.arcs e) + (loss state.instance.arcs e + slice_index state.potentials (tail state.instance.arcs e))
-
--- the distance and the potential at the edge's head, with what the edge earns
-abbrev pub at_head : State → List ℕ → Edge → ℕ
-at_head state distances e = slice_index distances (head state.instance.arcs e) + (gain state.instance.arcs e + slice_index state.potentials (head state.instance.arcs e))
-
--- the edge leads to the node, with room; the node was no nearer than along it when it was found, and if it still is not,
--- the tail was found before
-pub record IsParent (state : State) (distances : List ℕ) (times : ℕ → ℕ) (e : Edge) (node : ℕ) : Type 0 where
-  pub is_edge : IsEdge state.instance e
-  pub room : 0 < residual state.instance state.flows e
-  pub leads : head state.instance.arcs e ≡ node
-  pub along : at_tail state distances e ≤ at_head state distances e
-  pub earlier : at_tail state distances e ≡ at_head state distances e → times (tail state.instance.arcs e) < times node
-
--- each node that was found, but the first, was found by its parent, at some time
-pub record IsTree (state : State) (from : ℕ) (distances : List ℕ) (parents : List Edge) : Type 0 where
-  pub each_distance : state.instance.steps + 1 ≤ length distances
-  pub each_parent : state.instance.steps + 1 ≤ length parents
-  pub from_within : from ≤ state.instance.steps
-  pub start : slice_index distances from ≡ 0
-  pub small : (node : ℕ) → node ≤ state.instance.steps → slice_index distances node ≤ far
-  pub found_by : (times : ℕ → ℕ)
-      × ((node : ℕ) → node ≢ from → node ≤ state.instance.steps → slice_index distances node < far → IsParent state distances times (edge_at parents node) node)
+-- within the limit the edge makes its head no nearer
+abbrev pub IsSettledBy : State → Found → Edge → Type 0
+IsSettledBy state found e = IsSettled state.instance state.flows state.potentials found.distances found.limit e
 
 -- the goal has units over, and is as far as the limit
 pub record IsGoal (state : State) (found : Found) : Type 0 where
@@ -61,7 +39,7 @@ pub record IsGoal (state : State) (found : Found) : Type 0 where
 
 -- a tree of the nodes that were found, a queue by their distances, and the nearest with units over, if one was found
 pub record IsSearch (state : State) (from : ℕ) (found : Found) : Type 0 where
-  pub tree : IsTree state from found.distances found.parents
+  pub tree : IsTree state.instance state.flows state.potentials from far found.distances found.parents
   pub queue : IsQueue found.waiting found.distances
   pub waits : (node : ℕ) → Waits found.waiting node → node ≤ state.instance.steps
   pub small : found.limit ≤ far
@@ -70,13 +48,13 @@ pub record IsSearch (state : State) (from : ℕ) (found : Found) : Type 0 where
 
 -- the edges out of nodes that don't wait are settled
 abbrev pub AreSettled : State → Found → Type 0
-AreSettled state found = (e : Edge) → IsEdge state.instance e → Rests found (tail state.instance.arcs e) → IsSettled state found.distances found.limit e
+AreSettled state found = (e : Edge) → IsEdge state.instance e → Rests found (tail state.instance.arcs e) → IsSettledBy state found e
 
 -- distances and the limit only fell, and the nodes whose distance fell wait; so edges out of nodes that rest stay settled
 pub record Nears (state : State) (from : ℕ) (old new : Found) : Type 0 where
   pub search : IsSearch state from new
   pub rests : (node : ℕ) → Rests new node → Rests old node
-  pub stays : (e : Edge) → IsEdge state.instance e → Rests new (tail state.instance.arcs e) → IsSettled state old.distances old.limit e → IsSettled state new.distances new.limit e
+  pub stays : (e : Edge) → IsEdge state.instance e → Rests new (tail state.instance.arcs e) → IsSettledBy state old e → IsSettledBy state new e
   pub falls : 2 * sum new.distances + new.waiting.count ≤ 2 * sum old.distances + old.waiting.count
   pub each_distance : length new.distances ≡ length old.distances
   pub each_parent : length new.parents ≡ length old.parents
@@ -131,19 +109,13 @@ IsWokenIfShut state woken e =
     residual state.instance state.flows e ≤ 0 → number_of (length state.instance.arcs) e < 2 * length state.instance.arcs
     → WasWoken woken (number_of (length state.instance.arcs) e)
 
--- under the lowered potentials the edge is tight, and leads to the node from one within the limit that was found before
-pub record IsHop (state : State) (found : Found) (times : ℕ → ℕ) (e : Edge) (node : ℕ) : Type 0 where
-  pub tight : IsTight state.instance state.flows (lowered state found.distances found.limit) e
-  pub leads : head state.instance.arcs e ≡ node
-  pub near : slice_index found.distances (tail state.instance.arcs e) ≤ found.limit
-  pub earlier : times (tail state.instance.arcs e) < times node
+-- the edge is tight under the lowered potentials
+abbrev pub IsTightLowered : State → Found → Edge → Type 0
+IsTightLowered state found e = IsTight state.instance state.flows (lowered state.potentials found.distances found.limit) e
 
--- tight edges lead back to where the search began from each node within the limit
-pub record LeadsBack (state : State) (from : ℕ) (found : Found) : Type 0 where
-  pub from_within : from ≤ state.instance.steps
-  pub each_parent : state.instance.steps + 1 ≤ length found.parents
-  pub hops : (times : ℕ → ℕ)
-      × ((node : ℕ) → node ≢ from → node ≤ state.instance.steps → slice_index found.distances node ≤ found.limit → IsHop state found times (edge_at found.parents node) node)
+-- edges that are tight under the lowered potentials lead back to where the search began from each node within the limit
+abbrev pub LeadsBackLowered : State → ℕ → Found → Type 0
+LeadsBackLowered state from found = LeadsBack state.instance state.flows (lowered state.potentials found.distances found.limit) from found.limit found.distances found.parents
 
 -- the nearest with units over after a node was found at the distance
 pub record IsAimed (state : State) (old_limit old_goal : ℕ) (distances : List ℕ) (node limit goal : ℕ) : Type 0 where
