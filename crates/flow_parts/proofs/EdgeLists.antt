@@ -6,7 +6,7 @@ use Rattle.flow_model.specs.declared.edges.Edge.TheVariants.{Inner, InnerBack, O
 use Rattle.flow_model.specs.Instances.{Instance, IsInstance, arc_at, no_arc}
 use Rattle.flow_model.specs.Networks.{tail, head, IsEdge}
 use Rattle.flow_model.proofs.Lists.{set_at}
-use Rattle.flow_parts.specs.OuterEdges.{edge_of, tail_of, Lists, AreListed}
+use Rattle.flow_parts.specs.OuterEdges.{edge_of, tail_of, Lists, AreListed, one_more}
 
 -- each edge leads from a node to another
 abbrev pub HasEnds : Instance → Type 0
@@ -46,9 +46,6 @@ none_listed instance lists each_node zeros =
     }
 
 -- the next edge at the beginning of its list
-abbrev pub one_more : Lists → ℕ → ℕ → Lists
-one_more lists count node = record { first = set lists.first node (count + 1); next = set lists.next count (get_or lists.first node 0) }
-
 pub one_more_listed : (instance : Instance) (lists : Lists) (count node : ℕ) → AreListed instance lists count → count < length lists.next → node ≤ instance.steps → tail_of instance.arcs count ≡ node
     → AreListed instance (one_more lists count node) (count + 1)
 one_more_listed instance lists count node listed room within own =
