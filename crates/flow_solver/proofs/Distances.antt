@@ -14,13 +14,6 @@ use Rattle.flow_parts.specs.Searches.{IsTree, at_tail}
 use Rattle.flow_parts.proofs.Trees.{tree_more}
 use Rattle.flow_solver.specs.Searches.{FoundToLast, WaitsNowhere, IsReady, IsSearchToLast, IsSettledToLast, AreSettledToLast, Enters, NearsToLast, above_first, limit_of}
 
--- no potential is above the first
-pub below_first : (state : State) (node : ℕ) → IsReady state → node ≤ state.instance.steps → get_or state.potentials node 0 ≤ get_or state.potentials 0 0
-below_first state zero ready h = omega arith
-below_first state (suc k) ready h =
-    let next : k + 1 ≡ suc k = omega arith in
-    omega (arith, below_first state k ready (omega arith), ready.valid (Inner k) (omega arith) ready.fits.in_range.some_units, ap (λ n. get_or state.potentials n 0) next)
-
 -- the tree of a search from the first node
 abbrev pub IsTreeFromFirst : State → List ℕ → List Edge → Type 0
 IsTreeFromFirst state distances parents = IsTree state.instance state.flows state.potentials 0 (above_first state) distances parents

@@ -21,13 +21,13 @@ pub record FoundToLast : Type 0 where
 abbrev pub found_at : FoundToLast → ℕ → ℕ → Edge → FoundToLast
 found_at found node distance e = record found { distances = slice_set found.distances node distance; parents = slice_set found.parents node e }
 
--- the node does not wait
+-- the node waits neither in the queue nor at the front of the list
 pub record WaitsNowhere (found : FoundToLast) (node : ℕ) : Type 0 where
   pub unqueued : slice_index found.waiting.places node ≡ 0
   pub unstacked : (p : ℕ) → p < found.depth → slice_index found.stack p ≢ node
 
 -- a distance, a parent and a place for each node of this many steps
-pub record HasRoom (steps : ℕ) (found : FoundToLast) : Type 0 where
+pub record HasSearchRoom (steps : ℕ) (found : FoundToLast) : Type 0 where
   pub distances : length found.distances ≡ steps + 1
   pub parents : length found.parents ≡ steps + 1
   pub nodes : length found.waiting.nodes ≡ steps + 1
@@ -91,7 +91,7 @@ AreArcsDoneAt state found node =
 abbrev pub work_left : FoundToLast → ℕ
 work_left found = 2 * sum found.distances + (found.waiting.count + found.depth)
 
--- distances only fell, and the nodes whose distance fell wait; so edges out of nodes that rest stay settled
+-- distances only fell, and the nodes whose distance fell wait; so edges out of nodes that wait nowhere stay settled
 pub record NearsToLast (state : State) (old new : FoundToLast) : Type 0 where
   pub search : IsSearchToLast state new
   pub rests : (node : ℕ) → WaitsNowhere new node → WaitsNowhere old node

@@ -3,7 +3,7 @@ ghost use Rattle.std.specs.Prelude.{◌≡◌, ◌+◌, ◌*◌, ◌<◌, length
 ghost use Rattle.flow_network.specs.States.{IsState};
 ghost use Rattle.flow_parts.specs.OuterEdges.{AreListed};
 ghost use Rattle.flow_solver.specs.Rounds.{Advances};
-ghost use Rattle.flow_solver.specs.Searches.{AreLoweredToLast, CanLowerToLast, HasRoom, IsReady};
+ghost use Rattle.flow_solver.specs.Searches.{AreLoweredToLast, CanLowerToLast, HasSearchRoom, IsReady};
 
 use crate::onward::{DeadEnds, push_onward};
 use crate::route::trace;
@@ -42,12 +42,12 @@ pub fn augment(
 )
     requires ready { IsReady network.old }
     requires edges { AreListed network.old.instance edges.now (2 * length network.old.instance.arcs) }
-    requires room { HasRoom network.old.instance.steps search.old }
+    requires room { HasSearchRoom network.old.instance.steps search.old }
     requires marks { length dead.old ≡ network.old.instance.steps + 1 }
     requires each_hop { length path.old ≡ network.old.instance.steps }
     requires left { network.old.pushed < network.old.instance.units }
     ensures advances { Advances network.old network.new }
-    ensures room { HasRoom network.old.instance.steps search.new }
+    ensures room { HasSearchRoom network.old.instance.steps search.new }
     ensures marks { length dead.new ≡ length dead.old }
 {
     search.run(network, edges);

@@ -6,7 +6,7 @@ ghost use Rattle.flow_model.specs.Networks.{IsEdge};
 ghost use Rattle.flow_model.specs.Pushes.{edge_at};
 ghost use Rattle.flow_parts.specs.OuterEdges.{AreListed};
 ghost use Rattle.flow_parts.specs.Queues.{IsQueue, IsQueueBut, Leaves, Waits};
-ghost use Rattle.flow_solver.specs.Searches.{AreArcsDoneAt, AreSettledToLast, Enters, HasRoom, IsDoneAt, IsReady, IsSearchToLast, IsSettledToLast, NearsToLast, above_first, found_at, work_left};
+ghost use Rattle.flow_solver.specs.Searches.{AreArcsDoneAt, AreSettledToLast, Enters, HasSearchRoom, IsDoneAt, IsReady, IsSearchToLast, IsSettledToLast, NearsToLast, above_first, found_at, work_left};
 
 use bound_base::NoMemory;
 use flow_network::{Edge, Network};
@@ -41,7 +41,7 @@ impl Search {
     /// Room for a search over this many steps. It takes 32 bytes for each.
     pub fn new(alloc: Global, steps: u32) -> Result<Search, NoMemory>
         requires { steps ≤ 2 ^ 25 }
-        ensures { IfOk result (λ found. HasRoom steps found) }
+        ensures { IfOk result (λ found. HasSearchRoom steps found) }
     {
         let nodes = steps as usize + 1;
         let distances = vec![in alloc; 0; nodes]?;
@@ -77,7 +77,7 @@ impl Search {
     // Finds the first node alone.
     fn begin(&mut self, network: &Network)
         requires ready { IsReady network.now }
-        requires room { HasRoom network.now.instance.steps self.old }
+        requires room { HasSearchRoom network.now.instance.steps self.old }
         ensures search { IsSearchToLast network.now self.new }
         ensures waits { Waits self.new.waiting 0 }
         ensures depth { self.new.depth ≡ 0 }
@@ -260,7 +260,7 @@ impl Search {
     /// it, until that node is no nearer than the last.
     pub fn run(&mut self, network: &Network, edges: &OuterEdges)
         requires ready { IsReady network.now }
-        requires room { HasRoom network.now.instance.steps self.old }
+        requires room { HasSearchRoom network.now.instance.steps self.old }
         requires edges { AreListed network.now.instance edges.now (2 * length network.now.instance.arcs) }
         ensures search { IsSearchToLast network.now self.new }
         ensures settled { (e : FlowEdge) → IsEdge network.now.instance e → IsSettledToLast network.now self.new.distances e }

@@ -1,11 +1,12 @@
 -- A search for the distance of nodes from one of them, as far as the nearest that has units over.
-use Rattle.std.specs.Prelude.{◌≡◌, ◌≢◌, ◌⊎◌, ℕ, ◌+◌, ◌*◌, ◌^◌, ◌<◌, ◌≤◌, ◌==◌, if◌then◌else◌, List, length, slice_index, sum}
+use Rattle.std.specs.Prelude.{◌≡◌, ◌≢◌, ◌⊎◌, ℕ, ◌+◌, ◌-◌, ◌*◌, ◌^◌, ◌<◌, ◌≤◌, ◌==◌, if◌then◌else◌, min, List, length, slice_index, sum}
 use Rattle.flow_model.specs.declared.edges.Edge.{Edge}
 use Rattle.flow_model.specs.Networks.{tail, head, gain, loss, residual, IsEdge, IsTight}
-use Rattle.flow_model.specs.Pushes.{edge_at}
+use Rattle.flow_model.specs.Pushes.{edge_at, opposite}
 use Rattle.flow_parts.specs.Queues.{Waiting, Waits, IsPlaced, IsQueue}
 use Rattle.flow_parts.specs.OuterEdges.{edge_of, tail_of}
 use Rattle.flow_parts.specs.Searches.{IsSettled, IsTree, LeadsBack, lowered}
+use Rattle.flow_sparse.specs.declared.edges.ListedEdge.{ListedEdge}
 use Rattle.flow_sparse.specs.declared.edges.WokenEdge.{WokenEdge}
 use Rattle.flow_sparse.specs.Ranges.{Ranges, IsPlacedAt, IsSound, AreRising, AreChained, WasWoken, listed_at, number_of}
 use Rattle.flow_sparse.specs.States.{State}
@@ -108,6 +109,39 @@ abbrev pub IsWokenIfShut : State → List WokenEdge → Edge → Type 0
 IsWokenIfShut state woken e =
     residual state.instance state.flows e ≤ 0 → number_of (length state.instance.arcs) e < 2 * length state.instance.arcs
     → WasWoken woken (number_of (length state.instance.arcs) e)
+
+-- the edges the other way than those of the path are woken, if they have no room
+abbrev pub AreWaysBackWoken : State → List WokenEdge → List Edge → Type 0
+AreWaysBackWoken state woken path = (j : ℕ) → j < length path → IsWokenIfShut state woken (opposite (edge_at path j))
+
+-- what the potential of the node fell by since it was marked
+abbrev pub fall_since : State → Ranges → ℕ → ℕ
+fall_since state lists node = slice_index lists.marks node - slice_index state.potentials node
+
+-- by its slack, the listed edge out of the node makes its head no nearer within the limit
+abbrev pub BringsNoNearer : State → Ranges → Found → ℕ → ListedEdge → Type 0
+BringsNoNearer state lists found node edge =
+    min found.limit (slice_index found.distances edge.head) + fall_since state lists node
+    ≤ slice_index found.distances node + edge.slack + fall_since state lists edge.head
+
+-- if the outer edge of that number leads out of the node, it is settled
+abbrev pub IsDoneFrom : State → Found → ℕ → ℕ → Type 0
+IsDoneFrom state found node number = tail_of state.instance.arcs number ≡ node → IsSettledBy state found (edge_of (length state.instance.arcs) number)
+
+-- once the node rests, the edges in its range are settled
+abbrev pub AreListedDone : State → Ranges → Found → ℕ → Type 0
+AreListedDone state lists found node =
+    Rests found node → (k : ℕ) → tail_of state.instance.arcs k ≡ node → IsPlacedAt state.instance lists.first lists.edges lists.marks node k
+    → IsSettledBy state found (edge_of (length state.instance.arcs) k)
+
+-- once the node rests, the woken edges out of it are settled
+abbrev pub AreWokenDone : State → Ranges → Found → ℕ → Type 0
+AreWokenDone state lists found node =
+    Rests found node → (k : ℕ) → tail_of state.instance.arcs k ≡ node → WasWoken lists.woken k → IsSettledBy state found (edge_of (length state.instance.arcs) k)
+
+-- once the node rests, all edges out of it are settled
+abbrev pub AreAllDone : State → Found → ℕ → Type 0
+AreAllDone state found node = Rests found node → (e : Edge) → IsEdge state.instance e → tail state.instance.arcs e ≡ node → IsSettledBy state found e
 
 -- the edge is tight under the lowered potentials
 abbrev pub IsTightLowered : State → Found → Edge → Type 0

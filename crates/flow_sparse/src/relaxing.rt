@@ -6,7 +6,7 @@ ghost use Rattle.flow_model.specs.Networks.{IsEdge, head, tail};
 ghost use Rattle.flow_parts.specs.OuterEdges.{edge_of, tail_of};
 ghost use Rattle.flow_sparse.specs.Ranges.{IsEntry, IsPlacedAt, IsSound, WasWoken};
 ghost use Rattle.flow_sparse.specs.States.{IsReady, IsHigh};
-ghost use Rattle.flow_sparse.specs.Searches.{IsListed, IsSearch, Nears, Rests, far, IsSettledBy};
+ghost use Rattle.flow_sparse.specs.Searches.{IsListed, IsSearch, Nears, Rests, far, IsSettledBy, fall_since, BringsNoNearer, IsDoneFrom, AreListedDone, AreWokenDone, AreAllDone};
 
 use crate::edges::{ListedEdge, WokenEdge};
 use crate::lists::EdgeLists;
@@ -50,7 +50,7 @@ impl Search {
         requires node { node ≤ network.now.instance.steps }
         requires distance { node < length self.now.distances }
         requires near { slice_index self.now.distances node ≤ far }
-        ensures { IsTrue result → self.now.limit + (slice_index lists.now.marks node - slice_index network.now.potentials node) ≤ slice_index self.now.distances node + slack }
+        ensures { IsTrue result → self.now.limit + fall_since network.now lists.now node ≤ slice_index self.now.distances node + slack }
     {
         let reach = self.limit() + (lists.mark(node) - network.potential(node));
         self.distance(node) + slack as u128 >= reach
@@ -66,7 +66,7 @@ impl Search {
         requires head { edge.head ≤ network.now.instance.steps }
         requires each { network.now.instance.steps < length self.now.distances }
         requires near { (v : ℕ) → v ≤ network.now.instance.steps → slice_index self.now.distances v ≤ far }
-        ensures { IsTrue result → min self.now.limit (slice_index self.now.distances edge.head) + (slice_index lists.now.marks node - slice_index network.now.potentials node) ≤ slice_index self.now.distances node + edge.slack + (slice_index lists.now.marks edge.head - slice_index network.now.potentials edge.head) }
+        ensures { IsTrue result → BringsNoNearer network.now lists.now self.now node edge }
     {
         let near = self.limit().min(self.distance(edge.head));
         let reach = near + (lists.mark(node) - network.potential(node));
@@ -91,7 +91,7 @@ impl Search {
         requires node { node ≤ network.now.instance.steps }
         requires sound { IsSound network.now.instance edge }
         ensures nears { Nears network.now from self.old self.new }
-        ensures settled { IsEntry network.now.instance lists.now.marks edge edge.number → tail_of network.now.instance.arcs edge.number ≡ node → IsSettledBy network.now self.new (edge_of (length network.now.instance.arcs) edge.number) }
+        ensures settled { IsEntry network.now.instance lists.now.marks edge edge.number → IsDoneFrom network.now self.new node edge.number }
     {
         if self.is_near(network, lists, node, edge) {
             return;
@@ -107,7 +107,7 @@ impl Search {
         requires lists { IsListed network.now lists.now }
         requires node { node ≤ network.now.instance.steps }
         ensures nears { Nears network.now from self.old self.new }
-        ensures settled { Rests self.new node → (k : ℕ) → tail_of network.now.instance.arcs k ≡ node → IsPlacedAt network.now.instance lists.now.first lists.now.edges lists.now.marks node k → IsSettledBy network.now self.new (edge_of (length network.now.instance.arcs) k) }
+        ensures settled { AreListedDone network.now lists.now self.new node }
     {
         for place in lists.first(node)..lists.first(node + 1) {
             let edge = lists.edge(place);
@@ -145,7 +145,7 @@ impl Search {
         requires lists { IsListed network.now lists.now }
         requires node { node ≤ network.now.instance.steps }
         ensures nears { Nears network.now from self.old self.new }
-        ensures settled { Rests self.new node → (k : ℕ) → tail_of network.now.instance.arcs k ≡ node → WasWoken lists.now.woken k → IsSettledBy network.now self.new (edge_of (length network.now.instance.arcs) k) }
+        ensures settled { AreWokenDone network.now lists.now self.new node }
     {
         let mut left = lists.last(node);
         while left > 0 {
@@ -192,7 +192,7 @@ impl Search {
         requires lists { IsListed network.now lists.now }
         requires node { node ≤ network.now.instance.steps }
         ensures nears { Nears network.now from self.old self.new }
-        ensures settled { Rests self.new node → (e : FlowEdge) → IsEdge network.now.instance e → tail network.now.instance.arcs e ≡ node → IsSettledBy network.now self.new e }
+        ensures settled { AreAllDone network.now self.new node }
     {
         self.relax_on(network, from, node);
         self.relax_chain(network, lists, from, node);
