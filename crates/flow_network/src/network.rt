@@ -1,5 +1,5 @@
 //! A network: the flows over an instance, and the potentials of its nodes.
-ghost use Rattle.std.specs.Prelude.{◌≡◌, pos, ◌+ℤ◌, ◌+◌, ◌≤◌, ◌^◌, [], ◌∷◌, IfOk, slice_index, slice_set};
+ghost use Rattle.std.specs.Prelude.{◌≡◌, pos, ◌+ℤ◌, ◌+◌, ◌≤◌, ◌^◌, IfOk, slice_index, slice_set};
 ghost use Rattle.flow_model.specs.Networks.{IsEdge, residual, tail, head, gain, loss};
 ghost use Rattle.flow_model.specs.Pushes.{CanPush, push_path};
 ghost use Rattle.flow_network.specs.States.{IsState, unused};

@@ -1,5 +1,5 @@
 //! The outer edges that lead out of each node.
-ghost use Rattle.std.specs.Prelude.{◌≡◌, ◌+◌, ◌*◌, ◌<◌, ◌≤◌, ◌^◌, IfOk, length, slice_index, slice_set};
+ghost use Rattle.std.specs.Prelude.{◌≡◌, ◌*◌, ◌<◌, ◌≤◌, ◌^◌, IfOk, length, slice_index};
 ghost use Rattle.flow_parts.specs.OuterEdges.{AreListed, edge_of, tail_of, one_more};
 
 use bound_base::NoMemory;

@@ -1,8 +1,7 @@
 -- A search for the distance of each node from the first: the length of an edge with room is its negated reduced cost.
-use Rattle.std.specs.Prelude.{◌≡◌, ◌≢◌, ℕ, ◌+◌, ◌-◌, ◌*◌, ◌^◌, ◌<◌, ◌≤◌, ◌⊎◌, min, List, length, slice_index, slice_set, sum}
+use Rattle.std.specs.Prelude.{◌≡◌, ◌≢◌, ℕ, ◌+◌, ◌*◌, ◌^◌, ◌<◌, ◌≤◌, ◌⊎◌, min, List, length, slice_index, slice_set, sum}
 use Rattle.flow_model.specs.declared.edges.Edge.{Edge}
-use Rattle.flow_model.specs.Networks.{tail, head, gain, loss, residual, IsEdge, IsPotential, IsTight}
-use Rattle.flow_model.specs.Pushes.{edge_at}
+use Rattle.flow_model.specs.Networks.{tail, IsEdge, IsPotential}
 use Rattle.flow_network.specs.States.{State, IsState}
 use Rattle.flow_parts.specs.OuterEdges.{edge_of, tail_of}
 use Rattle.flow_parts.specs.Queues.{Waiting, IsQueue}

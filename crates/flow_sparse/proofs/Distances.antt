@@ -1,13 +1,12 @@
 -- Searches: how one begins, and what it keeps where a node is found nearer.
-use Rattle.std.proofs.Common.{◌≡◌, ◌≢◌, ℕ, ◌+◌, ◌-◌, ◌/◌, ◌<◌, ◌≤◌, ◌∙◌, sym, refl, ap, subst, cond, ◌==◌, List, length, arith, ⊎_elim, get_or, set, sum, length-set, get_or-set_same, get_or-set_other, slice_index}
-use Rattle.std.proofs.lemmas.Bool.{cases_eq, cases_lt, eq-eqb, ne_eqb}
+use Rattle.std.proofs.Common.{◌≡◌, ◌≢◌, ℕ, ◌+◌, ◌<◌, ◌≤◌, ◌∙◌, sym, refl, ap, subst, List, length, arith, ⊎_elim, get_or, set, sum, length-set, slice_index}
+use Rattle.std.proofs.lemmas.Bool.{cases_eq, cases_lt}
 use Rattle.std.proofs.lemmas.List.Sums.{sum_by-set}
 use Rattle.flow_model.specs.declared.edges.Edge.{Edge}
-use Rattle.flow_model.specs.declared.edges.Edge.TheVariants.{Inner}
 use Rattle.flow_model.specs.Networks.{tail, head, gain, residual, IsEdge}
 use Rattle.flow_model.specs.Pushes.{edge_at}
 use Rattle.flow_model.proofs.Lists.{set_at}
-use Rattle.flow_parts.specs.Queues.{Waiting, Waits, IsQueue, IsQueueBut, Joins, Leaves}
+use Rattle.flow_parts.specs.Queues.{Waits, IsQueue, Joins, Leaves}
 use Rattle.flow_parts.proofs.Trees.{first_tree, tree_more, parent_is_hop}
 use Rattle.flow_parts.specs.Searches.{lowered, IsHop, IsTree, at_tail}
 use Rattle.flow_sparse.specs.States.{State, IsReady, IsHigh, IsReached}

@@ -2,8 +2,7 @@
 use Rattle.std.proofs.Common.{◌≡◌, ◌≢◌, ◌∙◌, ℕ, ◌+◌, ◌*◌, ◌<◌, ◌≤◌, ◌==◌, ap, refl, cond, List, length, arith, ⊎_elim, slice_index}
 use Rattle.std.proofs.lemmas.Bool.{cases_eq, eq-eqb, ne_eqb}
 use Rattle.flow_model.specs.declared.edges.Edge.{Edge}
-use Rattle.flow_model.specs.declared.edges.Edge.TheVariants.{Inner, InnerBack, Outer, OuterBack}
-use Rattle.flow_model.specs.Instances.{Instance, no_arc}
+use Rattle.flow_model.specs.Instances.{Instance}
 use Rattle.flow_model.specs.Networks.{IsEdge, tail, head, residual}
 use Rattle.flow_parts.specs.OuterEdges.{edge_of, tail_of}
 use Rattle.flow_parts.proofs.EdgeLists.{is_edge_of}

@@ -1,7 +1,7 @@
 -- A search for the distance of nodes from one of them, as far as the nearest that has units over.
 use Rattle.std.specs.Prelude.{◌≡◌, ◌≢◌, ◌⊎◌, ℕ, ◌+◌, ◌-◌, ◌*◌, ◌^◌, ◌<◌, ◌≤◌, ◌==◌, if◌then◌else◌, min, List, length, slice_index, sum}
 use Rattle.flow_model.specs.declared.edges.Edge.{Edge}
-use Rattle.flow_model.specs.Networks.{tail, head, gain, loss, residual, IsEdge, IsTight}
+use Rattle.flow_model.specs.Networks.{tail, head, residual, IsEdge, IsTight}
 use Rattle.flow_model.specs.Pushes.{edge_at, opposite}
 use Rattle.flow_parts.specs.Queues.{Waiting, Waits, IsPlaced, IsQueue}
 use Rattle.flow_parts.specs.OuterEdges.{edge_of, tail_of}

@@ -1,8 +1,7 @@
 //! The loads of steps, and what they leave over at nodes.
-ghost use Rattle.std.specs.Prelude.{◌≡◌, ℕ, ◌+◌, ◌-◌, ◌<◌, ◌≤◌, ◌^◌, IsTrue, min, length, slice_index, slice_set};
+ghost use Rattle.std.specs.Prelude.{◌≡◌, ℕ, ◌+◌, ◌-◌, ◌<◌, ◌≤◌, ◌^◌, min, length, slice_index, slice_set};
 ghost use Rattle.flow_model.specs.Instances.{IsInstance, load_at};
-ghost use Rattle.flow_uniform.specs.Cuts.{ends_at, flow_where};
-ghost use Rattle.flow_sparse.specs.Loads.{AreBalanced, starts_at, HaveLoads, AreChanges};
+ghost use Rattle.flow_sparse.specs.Loads.{AreBalanced, HaveLoads, AreChanges};
 
 use flow_model::Instance;
 

@@ -1,12 +1,12 @@
 //! The network of the open steps.
-ghost use Rattle.std.specs.Prelude.{◌≡◌, ℕ, ◌+◌, ◌-◌, ◌*◌, ◌≤◌, ◌<◌, ◌^◌, All, length, slice_index, slice_set};
+ghost use Rattle.std.specs.Prelude.{◌≡◌, ℕ, ◌+◌, ◌*◌, ◌≤◌, ◌<◌, ◌^◌, All, length, slice_index, slice_set};
 ghost use Rattle.flow_model.specs.Networks.{IsEdge, residual, tail, head, gain, loss};
 ghost use Rattle.flow_model.specs.Pushes.{IsSimple, push_path};
-ghost use Rattle.flow_model.specs.Instances.{IsInstance, arc_at, load_at};
+ghost use Rattle.flow_model.specs.Instances.{IsInstance, load_at};
 ghost use Rattle.flow_sparse.specs.Contractions.{AreFalls, NeverRises};
 ghost use Rattle.flow_sparse.specs.Ranges.{IsAsLong};
 ghost use Rattle.flow_sparse.specs.Searches.{list_of};
-ghost use Rattle.flow_sparse.specs.Starts.{IsFitted, AreFitted};
+ghost use Rattle.flow_sparse.specs.Starts.{AreFitted};
 ghost use Rattle.flow_sparse.specs.States.{CanPush, HasRoomFor, IsHigh, IsNetwork, IsReady, IsState, pushed, with_less};
 
 use crate::loads::write_loads;

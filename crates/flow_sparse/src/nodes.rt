@@ -1,5 +1,5 @@
 //! The network takes the nodes between the open steps.
-ghost use Rattle.std.specs.Prelude.{◌≡◌, ℕ, ◌+◌, ◌-◌, ◌≤◌, ◌<◌, ◌^◌, IfOk, length, map, slice_index};
+ghost use Rattle.std.specs.Prelude.{◌≡◌, ℕ, ◌+◌, ◌≤◌, ◌<◌, ◌^◌, IfOk, length, map, slice_index};
 ghost use Rattle.flow_model.specs.Instances.{IsInstance, load_at};
 ghost use Rattle.flow_sparse.specs.Loads.{AreBalanced, HaveLoads};
 ghost use Rattle.flow_sparse.specs.Contractions.{AreOpen, HasNodes, IsNumbering, IsSized, IsSlack, between, contracted, AreFallsOfOpen};

@@ -1,7 +1,6 @@
 //! The nodes of times.
-ghost use Rattle.std.specs.Prelude.{◌≡◌, ℕ, ◌+◌, ◌<◌, ◌≤◌, ◌^◌, false, length, map, slice_index, slice_index_or};
-ghost use Rattle.flow_model.specs.Instances.{IsInstance, arc_at};
-ghost use Rattle.flow_sparse.specs.Contractions.{AreFalls, IsNumbering, IsOpen, between, NeverRises, AreFallsOfOpen};
+ghost use Rattle.std.specs.Prelude.{◌≡◌, ℕ, ◌+◌, ◌<◌, ◌≤◌, ◌^◌, length, map, slice_index};
+ghost use Rattle.flow_sparse.specs.Contractions.{AreFalls, IsNumbering, between, NeverRises, AreFallsOfOpen};
 
 use flow_model::{Instance, OuterArc};
 

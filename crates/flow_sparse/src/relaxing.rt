@@ -1,12 +1,11 @@
 //! Edges are looked at: what they make nearer.
-ghost use Rattle.std.specs.Prelude.{◌≡◌, ℕ, ◌+◌, ◌-◌, ◌*◌, ◌≤◌, ◌<◌, IsTrue, length, min, slice_index};
-ghost use Rattle.flow_model.specs.declared.edges.Edge.{Edge as FlowEdge};
+ghost use Rattle.std.specs.Prelude.{◌≡◌, ℕ, ◌+◌, ◌-◌, ◌*◌, ◌≤◌, ◌<◌, IsTrue, length, slice_index};
 ghost use Rattle.flow_model.specs.declared.edges.Edge.TheVariants.{Inner, InnerBack};
 ghost use Rattle.flow_model.specs.Networks.{IsEdge, head, tail};
 ghost use Rattle.flow_parts.specs.OuterEdges.{edge_of, tail_of};
-ghost use Rattle.flow_sparse.specs.Ranges.{IsEntry, IsPlacedAt, IsSound, WasWoken};
+ghost use Rattle.flow_sparse.specs.Ranges.{IsEntry, IsSound};
 ghost use Rattle.flow_sparse.specs.States.{IsReady, IsHigh};
-ghost use Rattle.flow_sparse.specs.Searches.{IsListed, IsSearch, Nears, Rests, far, IsSettledBy, fall_since, BringsNoNearer, IsDoneFrom, AreListedDone, AreWokenDone, AreAllDone};
+ghost use Rattle.flow_sparse.specs.Searches.{IsListed, IsSearch, Nears, far, IsSettledBy, fall_since, BringsNoNearer, IsDoneFrom, AreListedDone, AreWokenDone, AreAllDone};
 
 use crate::edges::{ListedEdge, WokenEdge};
 use crate::lists::EdgeLists;

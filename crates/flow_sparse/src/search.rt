@@ -1,7 +1,6 @@
 //! The search for the distances of nodes from one of them, nearest first, as far as the nearest that has units over.
-ghost use Rattle.std.specs.Prelude.{◌≡◌, ℕ, ◌+◌, ◌-◌, ◌≤◌, ◌<◌, ◌^◌, ◌↔◌, ◌≢◌, IfNone, IfOk, IfSome, IsNone, length, slice_index, slice_set};
+ghost use Rattle.std.specs.Prelude.{◌≡◌, ℕ, ◌≤◌, ◌<◌, ◌^◌, ◌↔◌, ◌≢◌, IfNone, IfOk, IfSome, IsNone, length, slice_index, slice_set};
 ghost use Rattle.flow_model.specs.declared.edges.Edge.{Edge as FlowEdge};
-ghost use Rattle.flow_model.specs.declared.edges.Edge.TheVariants.{Inner};
 ghost use Rattle.flow_model.specs.Networks.{IsEdge};
 ghost use Rattle.flow_model.specs.Pushes.{edge_at};
 ghost use Rattle.flow_parts.specs.Queues.{IsQueue, IsQueueBut, Joins, Leaves, Waits};

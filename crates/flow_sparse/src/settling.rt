@@ -1,5 +1,5 @@
 //! Turns: steps open, and the network of the open steps is repaired, until all steps fit.
-ghost use Rattle.std.specs.Prelude.{◌≡◌, ℕ, ◌+◌, ◌<◌, ◌≤◌, ◌^◌, IfOk, IsTrue, false, length, slice_index, slice_index_or};
+ghost use Rattle.std.specs.Prelude.{◌≡◌, ℕ, ◌+◌, ◌<◌, ◌≤◌, ◌^◌, IfOk, IsTrue, length, slice_index};
 ghost use Rattle.flow_model.specs.Instances.{IsInstance, IsSolution, load_at};
 ghost use Rattle.flow_sparse.specs.Contractions.{AreOpen, IsSlack};
 ghost use Rattle.flow_sparse.specs.Openings.{Opens, shut_steps, ShutStepsFit};

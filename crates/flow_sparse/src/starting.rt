@@ -1,6 +1,5 @@
 //! Start prices: the steps that have one are open, and the flows suit them.
 ghost use Rattle.std.specs.Prelude.{◌≡◌, ℕ, ◌+◌, ◌<◌, ◌≤◌, ◌^◌, false, length, slice_index, slice_index_or};
-ghost use Rattle.flow_model.specs.Instances.{IsInstance, arc_at};
 ghost use Rattle.flow_sparse.specs.Starts.{IsFitted, AreFitted};
 
 use flow_model::Instance;

@@ -1,7 +1,7 @@
 //! Edges that get room are chained to their nodes.
-ghost use Rattle.std.specs.Prelude.{◌≡◌, ℕ, ◌+◌, ◌*◌, ◌<◌, ◌≤◌, All, IfNone, IfOk, IfSome, length};
+ghost use Rattle.std.specs.Prelude.{◌≡◌, ℕ, ◌*◌, ◌<◌, All, IfNone, IfOk, IfSome, length};
 ghost use Rattle.flow_model.specs.Networks.{IsEdge};
-ghost use Rattle.flow_model.specs.Pushes.{edge_at, opposite};
+ghost use Rattle.flow_model.specs.Pushes.{opposite};
 ghost use Rattle.flow_sparse.specs.Ranges.{WasWoken, number_of};
 ghost use Rattle.flow_sparse.specs.Searches.{IsListed, IsWokenIfShut, AreWaysBackWoken};
 ghost use Rattle.flow_sparse.specs.States.{IsState};

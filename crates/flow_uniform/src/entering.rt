@@ -1,5 +1,5 @@
 //! Arcs that enter at the step at which they start.
-ghost use Rattle.std.specs.Prelude.{◌≡◌, ◌≢◌, ℕ, ◌+◌, ◌*◌, ◌<◌, ◌≤◌, ◌^◌, length, slice_index, slice_set};
+ghost use Rattle.std.specs.Prelude.{◌≡◌, ℕ, ◌+◌, ◌<◌, length, slice_index, slice_set};
 ghost use Rattle.flow_model.specs.Instances.{IsInstance, arc_at, load_at};
 ghost use Rattle.flow_parts.specs.OuterEdges.{AreListed};
 ghost use Rattle.flow_uniform.specs.Holdings.{IsHeld, EntersOne, Enter, holding_of};

@@ -1,6 +1,6 @@
 //! Arcs that lose flow at a step over which more is than fits.
-ghost use Rattle.std.specs.Prelude.{◌≡◌, ◌≢◌, ℕ, ◌+◌, ◌-◌, ◌<◌, ◌≤◌, None, length, slice_index, slice_set};
-ghost use Rattle.flow_model.specs.Instances.{arc_at, load_at};
+ghost use Rattle.std.specs.Prelude.{◌≡◌, ◌+◌, ◌-◌, ◌<◌, ◌≤◌, None, length, slice_index, slice_set};
+ghost use Rattle.flow_model.specs.Instances.{load_at};
 ghost use Rattle.flow_parts.specs.Ranks.{rank_at};
 ghost use Rattle.flow_uniform.specs.Cuts.{AreCuts};
 ghost use Rattle.flow_uniform.specs.Holdings.{IsHeld, holding_of};

@@ -1,5 +1,5 @@
 //! The steps from the first to the last, as arcs leave, enter and lose flow.
-ghost use Rattle.std.specs.Prelude.{◌≡◌, ℕ, ◌+◌, ◌*◌, ◌<◌, ◌≤◌, length, slice_index};
+ghost use Rattle.std.specs.Prelude.{◌≡◌, ℕ, length, slice_index};
 ghost use Rattle.flow_model.specs.Instances.{IsInstance};
 ghost use Rattle.flow_parts.specs.OuterEdges.{AreListed};
 ghost use Rattle.flow_uniform.specs.Cuts.{AreCuts};

@@ -1,6 +1,5 @@
 //! The arcs that start in each window.
-ghost use Rattle.std.specs.Prelude.{◌≡◌, ◌<◌, ◌≤◌, ◌*◌, ◌+◌, ◌/◌, ◌^◌, length, slice_index, slice_set, IfOk, All};
-ghost use Rattle.flow_model.specs.Instances.{IsArc};
+ghost use Rattle.std.specs.Prelude.{◌≡◌, ◌<◌, ◌≤◌, ◌/◌, ◌^◌, length, slice_index, IfOk, All};
 ghost use Rattle.flow_windows.specs.Cuts.{AreStarts, WindowLists, put_first};
 
 use bound_base::NoMemory;

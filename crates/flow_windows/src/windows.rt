@@ -1,5 +1,5 @@
 //! The windows of an instance, one after another.
-ghost use Rattle.std.specs.Prelude.{◌≡◌, ◌<◌, ◌≤◌, ◌*◌, ◌+◌, ◌/◌, ◌^◌, [], length, slice_index_or, IsTrue, ◌↔◌, IfOk};
+ghost use Rattle.std.specs.Prelude.{◌≡◌, ◌<◌, ◌≤◌, ◌*◌, ◌+◌, ◌^◌, [], length, slice_index_or, IsTrue, ◌↔◌, IfOk};
 ghost use Rattle.std.specs.Vec.{vec_capacity};
 ghost use Rattle.flow_model.specs.Windows.{meets, window_instance};
 ghost use Rattle.flow_windows.specs.Cuts.{AreStarts, numbers_of, numbers_where, met_before};

@@ -1,4 +1,4 @@
-use Rattle.std.proofs.Common.{◌+◌, ◌*◌, ◌≤◌, sum}
+use Rattle.std.proofs.Common.{◌≤◌}
 use Rattle.flow_solver.specs.Searches.{IsSearchToLast, AreSettledToLast, work_left}
 use Rattle.flow_solver.proofs.search.Search.drain.Given as goal
 
