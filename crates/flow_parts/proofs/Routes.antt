@@ -1,5 +1,6 @@
 -- Routes: the part of a path that was traced back so far.
-use Rattle.std.proofs.Common.{◌≢◌, ◌∙◌, ℕ, ◌<◌, ◌≤◌, sym, refl, ap, subst, List, ◌∷◌, length, arith, All, slice_index}
+use Rattle.std.proofs.Common.{◌≡◌, ◌≢◌, ◌∙◌, ℕ, ◌+◌, ◌-◌, ◌<◌, ◌≤◌, sym, refl, ap, subst, List, ◌∷◌, length, drop, set, arith, All, slice_index}
+use Rattle.std.proofs.lemmas.List.{drop-set}
 use Rattle.std.proofs.lemmas.List.Elements.{All-cons, All-weaker}
 use Rattle.flow_model.specs.declared.edges.Edge.{Edge}
 use Rattle.flow_model.specs.Instances.{Instance}
@@ -53,3 +54,9 @@ pub route_is_simple : {instance : Instance} {flows : Flows} {potential : ℕ →
     → IsRoute instance flows potential from to limit distances parents node path amount → IsSimple path
 route_is_simple {instance} {flows} {potential} {from} {to} {limit} {distances} {parents} {node} {path} {amount} route =
     later_is_simple instance.arcs route.back.hops.0 path node to route.leads route.later
+
+-- an edge that is written ahead of the path is its first
+pub written_ahead : (path : List Edge) (start : ℕ) (given e : Edge) → 0 < start → start ≤ length path → given ≡ e → drop (start - 1) (set path (start - 1) given) ≡ e ∷ drop start path
+written_ahead path start given e some within own =
+    let next : (start - 1) + 1 ≡ start = omega arith in
+    drop-set path (start - 1) given (omega (arith, within)) ∙ ap (λ k. given ∷ drop k path) next ∙ ap (λ (f : Edge). f ∷ drop start path) own

@@ -7,7 +7,7 @@ use Rattle.flow_model.specs.Instances.{Instance, no_arc}
 use Rattle.flow_model.specs.Networks.{Flows, IsEdge, IsPotential, tail, head, gain, loss, residual}
 use Rattle.flow_model.specs.Pushes.{opposite, push_path, edge_at}
 use Rattle.flow_model.proofs.Pushes.{HasLengths, Pushed, beyond, opposite_tight, push_path-rises, push_path-totals}
-use Rattle.flow_sparse.specs.States.{State, IsState, IsReady, IsHigh, CanPush, HasRoomFor, pushed, first_sum}
+use Rattle.flow_sparse.specs.States.{State, IsState, IsReady, IsHigh, CanPush, HasWideRoomFor, pushed, first_sum}
 use Rattle.flow_sparse.proofs.Sums.{first_sum-less, first_sum-le, less_at}
 
 -- the instance with as many steps as there is room for
@@ -110,7 +110,7 @@ module _ (s : State) (from to amount : ℕ) (path : List Edge) (ready : IsReady 
   )
 
 -- the flow of a step is at most the units and all that is over
-pub has_room_for : (s : State) (amount : ℕ) (e : Edge) → IsState s → IsHigh s → IsEdge s.instance e → amount ≤ residual s.instance s.flows e → HasRoomFor amount s.flows e
+pub has_room_for : (s : State) (amount : ℕ) (e : Edge) → IsState s → IsHigh s → IsEdge s.instance e → amount ≤ residual s.instance s.flows e → HasWideRoomFor amount s.flows e
 has_room_for s amount (Inner t) is high is_edge room =
     (omega (arith, is_edge, is.each_step), omega (arith, is.balance t is_edge, is.in_range.few_units, first_sum-le s.over (t + 1) (s.instance.steps + 1) (omega arith), high.few))
 has_room_for s amount (InnerBack t) is high is_edge room = (omega (arith, is_edge, is.each_step), room)

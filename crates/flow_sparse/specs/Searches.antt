@@ -8,7 +8,7 @@ use Rattle.flow_parts.specs.OuterEdges.{edge_of, tail_of}
 use Rattle.flow_parts.specs.Searches.{IsSettled, IsTree, LeadsBack, lowered}
 use Rattle.flow_sparse.specs.declared.edges.ListedEdge.{ListedEdge}
 use Rattle.flow_sparse.specs.declared.edges.WokenEdge.{WokenEdge}
-use Rattle.flow_sparse.specs.Ranges.{Ranges, IsPlacedAt, IsSound, AreRising, AreChained, WasWoken, listed_at, number_of}
+use Rattle.flow_sparse.specs.Ranges.{Ranges, IsPlacedAt, IsSound, AreSorted, AreChained, WasWoken, listed_at, number_of}
 use Rattle.flow_sparse.specs.States.{State}
 
 -- how far each node is by a walk that was found, the last edge of that walk, the nodes that wait for their edges to be looked
@@ -95,7 +95,7 @@ pub record IsListed (state : State) (lists : Ranges) : Type 0 where
   pub order : (node : ℕ) → node ≤ state.instance.steps → slice_index lists.first node ≤ slice_index lists.first (node + 1)
   pub within : (node : ℕ) → node ≤ state.instance.steps → slice_index lists.first (node + 1) ≤ length lists.edges
   pub sound : (place : ℕ) → place < length lists.edges → IsSound state.instance (listed_at lists.edges place)
-  pub rising : (node : ℕ) → node ≤ state.instance.steps → AreRising lists.edges (slice_index lists.first node) (slice_index lists.first (node + 1))
+  pub rising : AreSorted state.instance.steps lists.first lists.edges
   pub each_mark : state.instance.steps + 1 ≤ length lists.marks
   pub falls : (node : ℕ) → node ≤ state.instance.steps → slice_index state.potentials node ≤ slice_index lists.marks node
   pub small : (node : ℕ) → node ≤ state.instance.steps → slice_index lists.marks node ≤ 2 ^ 124

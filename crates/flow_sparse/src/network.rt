@@ -7,7 +7,7 @@ ghost use Rattle.flow_sparse.specs.Contractions.{AreFalls, NeverRises};
 ghost use Rattle.flow_sparse.specs.Ranges.{IsAsLong};
 ghost use Rattle.flow_sparse.specs.Searches.{list_of};
 ghost use Rattle.flow_sparse.specs.Starts.{AreFitted};
-ghost use Rattle.flow_sparse.specs.States.{CanPush, HasRoomFor, IsHigh, IsNetwork, IsReady, IsState, pushed, with_less};
+ghost use Rattle.flow_sparse.specs.States.{CanPush, HasWideRoomFor, IsHigh, IsNetwork, IsReady, IsState, pushed, with_less};
 
 use crate::loads::write_loads;
 use crate::numbering::write_prices;
@@ -214,7 +214,7 @@ impl Network {
 
     // Pushes the amount along the path.
     fn push_path(&mut self, path: &[Edge], amount: u128)
-        requires room { All (HasRoomFor amount self.old.flows) path.now }
+        requires room { All (HasWideRoomFor amount self.old.flows) path.now }
         requires simple { IsSimple path.now }
         ensures { self.new ≡ record self.old { flows = push_path amount self.old.flows path.now } }
     {

@@ -1,11 +1,10 @@
-use Rattle.std.proofs.Common.{◌≡◌, ◌≢◌, ℕ, ◌+◌, ◌-◌, ◌<◌, ◌≤◌, ◌∙◌, ◌∷◌, List, All, length, drop, set, ap, sym, subst, arith, length-drop, length-set}
-use Rattle.std.proofs.lemmas.List.{drop-set}
+use Rattle.std.proofs.Common.{◌≡◌, ◌≢◌, ℕ, ◌-◌, ◌<◌, ◌≤◌, ◌∙◌, ◌∷◌, List, All, length, drop, set, ap, sym, subst, arith, length-drop, length-set}
 use Rattle.std.proofs.lemmas.List.Elements.{All-head, All-tail}
 use Rattle.flow_model.specs.declared.edges.Edge.{Edge}
 use Rattle.flow_model.specs.Networks.{tail, residual}
 use Rattle.flow_model.specs.Pushes.{edge_at}
 use Rattle.flow_parts.proofs.EdgeLists.{ends_within}
-use Rattle.flow_parts.proofs.Routes.{route_grows, route_is_short}
+use Rattle.flow_parts.proofs.Routes.{route_grows, route_is_short, written_ahead}
 use Rattle.flow_solver.proofs.Routes.{IsRouteToLast, route_ends}
 use Rattle.flow_solver.proofs.route.trace.Goals as goal
 
@@ -48,9 +47,7 @@ loop-node-preserved c =
       c.loop-node.auto.path,
       c.requires.each_hop,
     ) in
-    let next : (s - 1) + 1 ≡ s = omega arith in
-    let whole : drop (s - 1) (set path (s - 1) c.parent-edge.result) ≡ e ∷ drop s path =
-    drop-set path (s - 1) c.parent-edge.result (omega (arith, inv.within)) ∙ ap (λ k. c.parent-edge.result ∷ drop k path) next ∙ ap (λ (f : Edge). f ∷ drop s path) own in
+    let whole : drop (s - 1) (set path (s - 1) c.parent-edge.result) ≡ e ∷ drop s path = written_ahead path s c.parent-edge.result e some inv.within own in
     let from : c.hop-node.result.tail ≡ tail n.instance.arcs e = c.hop-node.ensures.tail ∙ ap (tail n.instance.arcs) own in
     let room_is : c.residual.result ≡ residual n.instance n.flows e = c.residual.ensures.residual ∙ ap (residual n.instance n.flows) own in
     let tight_room = (inv.route.back.hops.1 node other inv.route.within inv.route.near).tight.room in
