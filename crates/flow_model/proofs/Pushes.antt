@@ -43,8 +43,12 @@ total_at instance flows t = get_or flows.inner t 0 + load_at instance.arcs flows
 abbrev pub beyond : ℕ → ℕ → ℕ → ℕ
 beyond amount t node = cond (nat_lt t node) amount 0
 
+-- no arc ends before it starts
+abbrev pub AreOrdered : Instance → Type 0
+AreOrdered instance = (i : ℕ) → i < length instance.arcs → (arc_at instance.arcs i).start ≤ (arc_at instance.arcs i).end
+
 -- an arc is over the steps from its start to before its end
-covered : (arc : OuterArc) (amount t : ℕ) → arc.start < arc.end → cond (covers t arc) amount 0 + beyond amount t arc.start ≡ beyond amount t arc.end
+covered : (arc : OuterArc) (amount t : ℕ) → arc.start ≤ arc.end → cond (covers t arc) amount 0 + beyond amount t arc.start ≡ beyond amount t arc.end
 covered arc amount t order =
     ⊎_elim
     (λ (h : t < arc.start).
@@ -79,7 +83,7 @@ cond-add : (b : Bool) (x y : ℕ) → cond b (x + y) 0 ≡ cond b x 0 + cond b y
 cond-add true x y = refl
 cond-add false x y = refl
 
-pub push_edge-total : (instance : Instance) (flows : Flows) (amount : ℕ) (e : Edge) → All (IsArc instance.steps) instance.arcs → HasLengths instance flows → IsEdge instance e → amount ≤ residual instance flows e
+pub push_edge-total : (instance : Instance) (flows : Flows) (amount : ℕ) (e : Edge) → AreOrdered instance → HasLengths instance flows → IsEdge instance e → amount ≤ residual instance flows e
     → (t : ℕ) → t < instance.steps
     → total_at instance (push_edge amount flows e) t + beyond amount t (tail instance.arcs e) ≡ total_at instance flows t + beyond amount t (head instance.arcs e)
 push_edge-total instance flows amount (Inner s) arcs lengths is_edge room t within =
@@ -96,11 +100,11 @@ push_edge-total instance flows amount (InnerBack s) arcs lengths is_edge room t 
     (cases_eq t s)
 push_edge-total instance flows amount (Outer i) arcs lengths is_edge room t within =
     let f : ℕ = get_or flows.outer i 0 in
-    let order : (arc_at instance.arcs i).start < (arc_at instance.arcs i).end = (arcs i no_arc is_edge).order in
+    let order : (arc_at instance.arcs i).start ≤ (arc_at instance.arcs i).end = arcs i is_edge in
     omega (arith, load-set instance.arcs flows.outer t i (f + amount) lengths.outer is_edge, cond-add (covers t (arc_at instance.arcs i)) f amount, covered (arc_at instance.arcs i) amount t order)
 push_edge-total instance flows amount (OuterBack i) arcs lengths is_edge room t within =
     let f : ℕ = get_or flows.outer i 0 in
-    let order : (arc_at instance.arcs i).start < (arc_at instance.arcs i).end = (arcs i no_arc is_edge).order in
+    let order : (arc_at instance.arcs i).start ≤ (arc_at instance.arcs i).end = arcs i is_edge in
     let whole : (f - amount) + amount ≡ f = omega arith in
     omega (arith, load-set instance.arcs flows.outer t i (f - amount) lengths.outer is_edge, cond-add (covers t (arc_at instance.arcs i)) (f - amount) amount, ap (λ n. cond (covers t (arc_at instance.arcs i)) n 0) whole, covered (arc_at instance.arcs i) amount t order)
 
@@ -174,7 +178,7 @@ pub record Pushed (instance : Instance) (old new : Flows) (amount from to : ℕ)
   pub within : AreWithin instance new
   pub totals : (t : ℕ) → t < instance.steps → total_at instance new t + beyond amount t from ≡ total_at instance old t + beyond amount t to
 
-pub push_path-totals : (instance : Instance) (amount : ℕ) (path : List Edge) (flows : Flows) (from to : ℕ) → All (IsArc instance.steps) instance.arcs → HasLengths instance flows → AreWithin instance flows
+pub push_path-totals : (instance : Instance) (amount : ℕ) (path : List Edge) (flows : Flows) (from to : ℕ) → AreOrdered instance → HasLengths instance flows → AreWithin instance flows
     → Leads instance.arcs from path to → All (IsEdge instance) path → All (λ e. amount ≤ residual instance flows e) path → IsSimple path
     → Pushed instance flows (push_path amount flows path) amount from to
 push_path-totals instance amount [] flows from to arcs lengths within leads edges room simple =
@@ -197,7 +201,7 @@ pub push_path-balanced : (instance : Instance) (flows : Flows) (path : List Edge
 push_path-balanced instance flows path amount pushed arcs balanced can =
     let weights = zip_at instance.arcs flows.outer balanced.within_weights in
     let after : Pushed instance flows (push_path amount flows path) amount 0 instance.steps =
-    push_path-totals instance amount path flows 0 instance.steps arcs (record { inner = balanced.each_step; outer = weights.0 }) weights.1 can.leads can.edges can.room can.simple in
+    push_path-totals instance amount path flows 0 instance.steps (λ i h. omega (arith, (arcs i no_arc h).order)) (record { inner = balanced.each_step; outer = weights.0 }) weights.1 can.leads can.edges can.room can.simple in
     record {
       within_weights = zip_from instance.arcs (push_path amount flows path).outer after.lengths.outer after.within;
       each_step = after.lengths.inner;
@@ -247,7 +251,7 @@ push_path-rises instance amount (e ∷ path) flows f lengths edges rises =
     (cases_lt (residual instance flows f) (residual instance next f))
 
 -- the opposite of a tight edge has no positive reduced cost
-opposite_tight : (instance : Instance) (potential : ℕ → ℕ) (e : Edge)
+pub opposite_tight : (instance : Instance) (potential : ℕ → ℕ) (e : Edge)
     → gain instance.arcs e + potential (head instance.arcs e) ≡ loss instance.arcs e + potential (tail instance.arcs e)
     → gain instance.arcs (opposite e) + potential (head instance.arcs (opposite e)) ≤ loss instance.arcs (opposite e) + potential (tail instance.arcs (opposite e))
 opposite_tight instance potential (Inner t) tight = omega arith

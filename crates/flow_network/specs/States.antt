@@ -24,6 +24,14 @@ pub record IsState (state : State) : Type 0 where
 abbrev pub no_flows : Instance → Flows
 no_flows instance = record { outer = replicate (length instance.arcs) 0; inner = replicate instance.steps 0 }
 
+-- the state that has these parts
+abbrev pub state_of : Instance → List ℕ → List ℕ → ℕ → List ℕ → State
+state_of instance outer inner pushed potentials = record { instance = instance; flows = record { outer = outer; inner = inner }; pushed = pushed; potentials = potentials }
+
+-- nothing was pushed, and each potential is 0
+abbrev pub unused : Instance → State
+unused instance = record { instance = instance; flows = no_flows instance; pushed = 0; potentials = replicate (instance.steps + 1) 0 }
+
 -- a push of the amount over the edge keeps to the lists and to 64 bits
 abbrev pub HasRoomFor : ℕ → Flows → Edge → Type 0
 HasRoomFor amount flows (Inner t) = (t < length flows.inner) × (slice_index flows.inner t + amount < 2 ^ 64)

@@ -1,8 +1,8 @@
 //! A network: the flows over an instance, and the potentials of its nodes.
-ghost use Rattle.std.specs.Prelude.{◌≡◌, pos, ◌+ℤ◌, ◌+◌, ◌≤◌, ◌^◌, [], ◌∷◌, IfOk, slice_index, slice_set, replicate};
+ghost use Rattle.std.specs.Prelude.{◌≡◌, pos, ◌+ℤ◌, ◌+◌, ◌≤◌, ◌^◌, IfOk, slice_index, slice_set};
 ghost use Rattle.flow_model.specs.Networks.{IsEdge, residual, tail, head, gain, loss};
 ghost use Rattle.flow_model.specs.Pushes.{CanPush, push_path};
-ghost use Rattle.flow_network.specs.States.{IsState, no_flows};
+ghost use Rattle.flow_network.specs.States.{IsState, unused};
 
 use crate::hops::{Hop, hop_of};
 use crate::pushing::push_along;
@@ -23,19 +23,19 @@ pub struct Network<'a> {
 }
 
 impl<'a> Model for Network<'a> {
-    ghost use Rattle.flow_network.specs.States.{State, IsState};
+    ghost use Rattle.flow_network.specs.States.{State, IsState, state_of};
 
     ghost Value = { State };
 
-    ghost view = { λ n. record { instance = n.instance.now; flows = record { outer = n.outer.items; inner = n.inner.items }; pushed = n.pushed; potentials = n.potentials.items } };
+    ghost view = { λ n. state_of n.instance.now n.outer.items n.inner.items n.pushed n.potentials.items };
 
-    ghost invariant = { λ n. IsState (record { instance = n.instance.now; flows = record { outer = n.outer.items; inner = n.inner.items }; pushed = n.pushed; potentials = n.potentials.items }) };
+    ghost invariant = { λ n. IsState (state_of n.instance.now n.outer.items n.inner.items n.pushed n.potentials.items) };
 }
 
 impl<'a> Network<'a> {
     /// A network without flow, whose potentials are 0. It takes 8 bytes for each arc and 24 for each step.
     pub fn new(alloc: Global, instance: &'a Instance) -> Result<Network<'a>, NoMemory>
-        ensures { IfOk result (λ n. n ≡ record { instance = instance.now; flows = no_flows instance.now; pushed = 0; potentials = replicate (instance.now.steps + 1) 0 }) }
+        ensures { IfOk result (λ n. n ≡ unused instance.now) }
     {
         let steps = instance.steps() as usize;
         let arcs = instance.arcs().len();

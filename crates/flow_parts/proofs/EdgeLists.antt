@@ -1,19 +1,26 @@
 -- The lists of outer edges: one edge more.
-use Rattle.std.proofs.Common.{◌≡◌, ◌≢◌, ℕ, ◌+◌, ◌-◌, ◌*◌, ◌<◌, ◌≤◌, ◌∙◌, sym, ap, subst, cond, length, arith, ⊎_elim, get_or, set, length-set}
+use Rattle.std.proofs.Common.{◌≡◌, ◌≢◌, ℕ, ◌+◌, ◌-◌, ◌*◌, ◌<◌, ◌≤◌, ◌∙◌, sym, ap, subst, cond, length, arith, ⊎_elim, get_or, length-set}
 use Rattle.std.proofs.lemmas.Bool.{cases_eq, cases_lt, lt-ltb, le-ltb}
 use Rattle.flow_model.specs.declared.edges.Edge.{Edge}
 use Rattle.flow_model.specs.declared.edges.Edge.TheVariants.{Inner, InnerBack, Outer, OuterBack}
-use Rattle.flow_model.specs.Instances.{Instance, IsInstance, no_arc}
+use Rattle.flow_model.specs.Instances.{Instance, IsInstance, arc_at, no_arc}
 use Rattle.flow_model.specs.Networks.{tail, head, IsEdge}
 use Rattle.flow_model.proofs.Lists.{set_at}
-use Rattle.flow_parts.specs.OuterEdges.{edge_of, tail_of, Lists, AreListed}
+use Rattle.flow_parts.specs.OuterEdges.{edge_of, tail_of, Lists, AreListed, one_more}
 
--- an edge leads from a node to another
-pub ends_within : (instance : Instance) (e : Edge) → IsInstance instance → IsEdge instance e → (tail instance.arcs e ≤ instance.steps) × (head instance.arcs e ≤ instance.steps)
-ends_within instance (Inner t) fits is_edge = (omega arith, omega arith)
-ends_within instance (InnerBack t) fits is_edge = (omega arith, omega arith)
-ends_within instance (Outer i) fits is_edge = let a = fits.arcs_fit i no_arc is_edge in (omega (arith, a.order, a.within), a.within)
-ends_within instance (OuterBack i) fits is_edge = let a = fits.arcs_fit i no_arc is_edge in (a.within, omega (arith, a.order, a.within))
+-- each edge leads from a node to another
+abbrev pub HasEnds : Instance → Type 0
+HasEnds instance = (e : Edge) → IsEdge instance e → (tail instance.arcs e ≤ instance.steps) × (head instance.arcs e ≤ instance.steps)
+
+-- as arcs do
+pub ends_of_arcs : (instance : Instance) → ((i : ℕ) → i < length instance.arcs → ((arc_at instance.arcs i).start ≤ (arc_at instance.arcs i).end) × ((arc_at instance.arcs i).end ≤ instance.steps)) → HasEnds instance
+ends_of_arcs instance arcs (Inner t) is_edge = (omega arith, omega arith)
+ends_of_arcs instance arcs (InnerBack t) is_edge = (omega arith, omega arith)
+ends_of_arcs instance arcs (Outer i) is_edge = let a = arcs i is_edge in (omega (arith, a.0, a.1), a.1)
+ends_of_arcs instance arcs (OuterBack i) is_edge = let a = arcs i is_edge in (a.1, omega (arith, a.0, a.1))
+
+pub ends_within : (instance : Instance) → IsInstance instance → HasEnds instance
+ends_within instance fits = ends_of_arcs instance (λ i h. let a = fits.arcs_fit i no_arc h in (omega (arith, a.order), a.within))
 
 pub edge_of-arc : (arcs i : ℕ) → i < arcs → edge_of arcs i ≡ Outer i
 edge_of-arc arcs i low = ap (λ b. cond b (Outer i) (OuterBack (i - arcs))) (lt-ltb i arcs low)
@@ -39,9 +46,6 @@ none_listed instance lists each_node zeros =
     }
 
 -- the next edge at the beginning of its list
-abbrev pub one_more : Lists → ℕ → ℕ → Lists
-one_more lists count node = record { first = set lists.first node (count + 1); next = set lists.next count (get_or lists.first node 0) }
-
 pub one_more_listed : (instance : Instance) (lists : Lists) (count node : ℕ) → AreListed instance lists count → count < length lists.next → node ≤ instance.steps → tail_of instance.arcs count ≡ node
     → AreListed instance (one_more lists count node) (count + 1)
 one_more_listed instance lists count node listed room within own =

@@ -1,3 +1,4 @@
 pub mod Queues
 pub mod OuterEdges
 pub mod Ranks
+pub mod Searches

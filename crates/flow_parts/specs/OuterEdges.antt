@@ -1,5 +1,5 @@
 -- The outer edges that lead out of each node, as lists.
-use Rattle.std.specs.Prelude.{◌≡◌, ◌≢◌, ℕ, ◌+◌, ◌-◌, ◌<◌, ◌≤◌, nat_lt, if◌then◌else◌, List, length, slice_index}
+use Rattle.std.specs.Prelude.{◌≡◌, ◌≢◌, ℕ, ◌+◌, ◌-◌, ◌<◌, ◌≤◌, nat_lt, if◌then◌else◌, List, length, slice_index, slice_set}
 use Rattle.flow_model.specs.declared.arcs.OuterArc.{OuterArc}
 use Rattle.flow_model.specs.declared.edges.Edge.{Edge}
 use Rattle.flow_model.specs.declared.edges.Edge.TheVariants.{Outer, OuterBack}
@@ -19,6 +19,10 @@ tail_of arcs number = tail arcs (edge_of (length arcs) number)
 pub record Lists : Type 0 where
   pub first : List ℕ
   pub next : List ℕ
+
+-- the edge of that number at the beginning of the list of the node
+abbrev pub one_more : Lists → ℕ → ℕ → Lists
+one_more lists number node = record { first = slice_set lists.first node (number + 1); next = slice_set lists.next number (slice_index lists.first node) }
 
 -- the list of each node has those of the first `n` edges that lead out of it, the greater numbers first
 pub record AreListed (instance : Instance) (lists : Lists) (count : ℕ) : Type 0 where

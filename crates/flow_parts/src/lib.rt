@@ -2,7 +2,8 @@
 //! lists of arcs by their ends.
 //!
 //! The rule of the heap is "Map of ranks" in docs/DEFINITIONS.md. Each takes its memory at once, so that a solver takes
-//! none while it solves.
+//! none while it solves. The definitions of a search, of its tree and of the way back serve the proofs of those solvers
+//! that search.
 #![tactic(auto)]
 
 mod heap;

@@ -1,6 +1,6 @@
 //! The outer edges that lead out of each node.
-ghost use Rattle.std.specs.Prelude.{◌≡◌, ◌+◌, ◌*◌, ◌<◌, ◌≤◌, ◌^◌, IfOk, length, slice_index, slice_set};
-ghost use Rattle.flow_parts.specs.OuterEdges.{AreListed, edge_of, tail_of};
+ghost use Rattle.std.specs.Prelude.{◌≡◌, ◌*◌, ◌<◌, ◌≤◌, ◌^◌, IfOk, length, slice_index};
+ghost use Rattle.flow_parts.specs.OuterEdges.{AreListed, edge_of, tail_of, one_more};
 
 use bound_base::NoMemory;
 use flow_model::{Edge, Instance, OuterArc};
@@ -83,7 +83,7 @@ impl OuterEdges {
         requires number { number < length self.old.next }
         requires node { node < length self.old.first }
         requires few { number < 2 ^ 27 }
-        ensures { self.new ≡ record { first = slice_set self.old.first node (number + 1); next = slice_set self.old.next number (slice_index self.old.first node) } }
+        ensures { self.new ≡ one_more self.old number node }
     {
         self.next[number as usize] = self.first[node as usize];
         self.first[node as usize] = number + 1;

@@ -1,25 +1,27 @@
 -- Potentials lowered by the distances of a search, and the tight edges that lead back to the first node.
-use Rattle.std.proofs.Common.{◌≡◌, ℕ, List, suc, zero, ◌+◌, ◌-◌, ◌<◌, ◌≤◌, ap, min, arith, slice_index}
+use Rattle.std.proofs.Common.{◌≡◌, ◌≢◌, ℕ, List, suc, zero, ◌+◌, ◌-◌, ◌<◌, ◌≤◌, ap, min, arith, slice_index}
 use Rattle.flow_model.specs.declared.edges.Edge.{Edge}
 use Rattle.flow_model.specs.declared.edges.Edge.TheVariants.{Inner}
 use Rattle.flow_model.specs.Networks.{tail, head, gain, loss, residual, IsEdge}
 use Rattle.flow_model.specs.Pushes.{edge_at}
 use Rattle.flow_network.specs.States.{State, IsState}
-use Rattle.flow_solver.specs.Searches.{Found, IsReady, IsSearch, IsSettled, IsHop, LeadsBack, limit_of, lowered, far, at_tail, at_head}
+use Rattle.flow_parts.specs.Searches.{IsHop}
+use Rattle.flow_parts.proofs.Trees.{parent_is_hop}
+use Rattle.flow_solver.specs.Searches.{FoundToLast, AreLoweredToLast, IsReady, IsSearchToLast, IsSettledToLast, LeadsBackToFirst, above_first, limit_of}
 use Rattle.flow_parts.proofs.EdgeLists.{ends_within}
 
 -- the distance as far as it matters
-abbrev pub within_limit : State → Found → ℕ → ℕ
+abbrev pub within_limit : State → FoundToLast → ℕ → ℕ
 within_limit state found node = min (limit_of state found.distances) (slice_index found.distances node)
 
 -- along an edge with room the distance grows by no more than its length, as far as it matters
-pub grows : (state : State) (found : Found) (e : Edge) → IsReady state → ((e : Edge) → IsEdge state.instance e → IsSettled state found.distances e) → IsEdge state.instance e → 0 < residual state.instance state.flows e
+pub grows : (state : State) (found : FoundToLast) (e : Edge) → IsReady state → ((e : Edge) → IsEdge state.instance e → IsSettledToLast state found.distances e) → IsEdge state.instance e → 0 < residual state.instance state.flows e
     → within_limit state found (head state.instance.arcs e) + (gain state.instance.arcs e + slice_index state.potentials (head state.instance.arcs e))
     ≤ within_limit state found (tail state.instance.arcs e) + (loss state.instance.arcs e + slice_index state.potentials (tail state.instance.arcs e))
 grows state found e ready settled is_edge room = omega (arith, settled e is_edge room, ready.valid e is_edge room)
 
 -- the distances grow from the first node by no more than the potential falls, so the last node was found
-within_first : (state : State) (found : Found) (node : ℕ) → IsReady state → IsSearch state found → ((e : Edge) → IsEdge state.instance e → IsSettled state found.distances e) → node ≤ state.instance.steps
+within_first : (state : State) (found : FoundToLast) (node : ℕ) → IsReady state → IsSearchToLast state found → ((e : Edge) → IsEdge state.instance e → IsSettledToLast state found.distances e) → node ≤ state.instance.steps
     → within_limit state found node + slice_index state.potentials node ≤ slice_index state.potentials 0
 within_first state found zero ready search settled h = omega (arith, search.tree.start)
 within_first state found (suc k) ready search settled h =
@@ -33,28 +35,24 @@ within_first state found (suc k) ready search settled h =
     )
 
 -- no potential is lowered below 0
-pub enough : (state : State) (found : Found) (left node : ℕ) → IsReady state → ((e : Edge) → IsEdge state.instance e → IsSettled state found.distances e) → node + left ≡ state.instance.steps
+pub enough : (state : State) (found : FoundToLast) (left node : ℕ) → IsReady state → ((e : Edge) → IsEdge state.instance e → IsSettledToLast state found.distances e) → node + left ≡ state.instance.steps
     → limit_of state found.distances ≤ slice_index state.potentials node + within_limit state found node
 enough state found zero node ready settled same = let e : node ≡ state.instance.steps = omega arith in omega (arith, ap (slice_index found.distances) e)
 enough state found (suc left) node ready settled same =
     omega (arith, enough state found left (node + 1) ready settled (omega arith), grows state found (Inner node) ready settled (omega arith) ready.fits.in_range.some_units)
 
-pub enough_at : (state : State) (found : Found) (node : ℕ) → IsReady state → ((e : Edge) → IsEdge state.instance e → IsSettled state found.distances e) → node ≤ state.instance.steps
+pub enough_at : (state : State) (found : FoundToLast) (node : ℕ) → IsReady state → ((e : Edge) → IsEdge state.instance e → IsSettledToLast state found.distances e) → node ≤ state.instance.steps
     → limit_of state found.distances ≤ slice_index state.potentials node + within_limit state found node
 enough_at state found node ready settled h = enough state found (state.instance.steps - node) node ready settled (omega arith)
 
--- each potential is lowered
-abbrev pub AreLowered : State → Found → List ℕ → Type 0
-AreLowered state found potentials = (node : ℕ) → node ≤ state.instance.steps → slice_index potentials node ≡ lowered state found.distances node
-
 -- the lowered potentials are potentials
-pub ready_lowered : (state : State) (found : Found) (potentials : List ℕ) → IsReady state → ((e : Edge) → IsEdge state.instance e → IsSettled state found.distances e)
-    → IsState (record state { potentials = potentials }) → AreLowered state found potentials → IsReady (record state { potentials = potentials })
+pub ready_lowered : (state : State) (found : FoundToLast) (potentials : List ℕ) → IsReady state → ((e : Edge) → IsEdge state.instance e → IsSettledToLast state found.distances e)
+    → IsState (record state { potentials = potentials }) → AreLoweredToLast state found.distances potentials → IsReady (record state { potentials = potentials })
 ready_lowered state found potentials ready settled fits low =
     record {
       fits = fits;
       valid = λ e is_edge room.
-          let ends = ends_within state.instance e ready.fits.in_range is_edge in
+          let ends = ends_within state.instance ready.fits.in_range e is_edge in
           omega (
             arith,
             grows state found e ready settled is_edge room,
@@ -67,38 +65,18 @@ ready_lowered state found potentials ready settled fits low =
     }
 
 -- under the lowered potentials, tight edges lead back from each node within the limit
-pub leads_back : (state : State) (found : Found) (potentials : List ℕ) → IsReady state → IsSearch state found → ((e : Edge) → IsEdge state.instance e → IsSettled state found.distances e)
-    → AreLowered state found potentials → LeadsBack (record state { potentials = potentials }) found
+pub leads_back : (state : State) (found : FoundToLast) (potentials : List ℕ) → IsReady state → IsSearchToLast state found → ((e : Edge) → IsEdge state.instance e → IsSettledToLast state found.distances e)
+    → AreLoweredToLast state found.distances potentials → LeadsBackToFirst (record state { potentials = potentials }) found
 leads_back state found potentials ready search settled low =
-    record { each_distance = search.tree.each_distance; each_parent = search.tree.each_parent; hops = (search.tree.found_by.0, hop) }
+    record { from_within = omega arith; each_parent = search.tree.each_parent; hops = (search.tree.found_by.0, hop) }
   where
-    hop : (node : ℕ) → 0 < node → node ≤ state.instance.steps → slice_index found.distances node ≤ limit_of state found.distances
-        → IsHop (record state { potentials = potentials }) found.distances search.tree.found_by.0 (edge_at found.parents node) node
-    hop node some within near =
+    hop : (node : ℕ) → node ≢ 0 → node ≤ state.instance.steps → slice_index found.distances node ≤ limit_of state found.distances
+        → IsHop state.instance state.flows (slice_index potentials) found.distances (limit_of state found.distances) search.tree.found_by.0 (edge_at found.parents node) node
+    hop node other within near =
         let e : Edge = edge_at found.parents node in
-        let last_found : limit_of state found.distances < far state = omega (arith, within_first state found state.instance.steps ready search settled (omega arith)) in
-        let parent = search.tree.found_by.1 node some within (omega (arith, near, last_found)) in
-        let ends = ends_within state.instance e ready.fits.in_range parent.is_edge in
-        let least = ready.valid e parent.is_edge parent.room in
-        let same : slice_index found.distances (head state.instance.arcs e) ≡ slice_index found.distances node = ap (slice_index found.distances) parent.leads in
-        let even : at_tail state found.distances e ≡ at_head state found.distances e = omega (arith, parent.along, settled e parent.is_edge parent.room, same, near) in
-        record {
-          tight = record {
-            is_edge = parent.is_edge;
-            room = parent.room;
-            tight = omega (
-              arith,
-              even,
-              least,
-              same,
-              near,
-              low (head state.instance.arcs e) ends.1,
-              low (tail state.instance.arcs e) ends.0,
-              enough_at state found (head state.instance.arcs e) ready settled ends.1,
-              enough_at state found (tail state.instance.arcs e) ready settled ends.0,
-            );
-          };
-          leads = parent.leads;
-          near = omega (arith, even, least, same, near);
-          earlier = parent.earlier even;
-        }
+        let last_found : limit_of state found.distances < above_first state = omega (arith, within_first state found state.instance.steps ready search settled (omega arith)) in
+        let parent = search.tree.found_by.1 node other within (omega (arith, near, last_found)) in
+        let ends = ends_within state.instance ready.fits.in_range e parent.is_edge in
+        parent_is_hop state.instance state.flows state.potentials found.distances (limit_of state found.distances) (slice_index potentials) search.tree.found_by.0 e node
+        parent (ready.valid e parent.is_edge) (settled e parent.is_edge) near (low (head state.instance.arcs e) ends.1) (low (tail state.instance.arcs e) ends.0)
+        (enough_at state found (head state.instance.arcs e) ready settled ends.1) (enough_at state found (tail state.instance.arcs e) ready settled ends.0)

@@ -1,6 +1,5 @@
 pub mod Distances
 pub mod Guides
-pub mod Paths
 pub mod Routes
 pub mod LastRound
 pub mod Stacks

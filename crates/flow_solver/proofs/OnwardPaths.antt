@@ -8,7 +8,7 @@ use Rattle.flow_model.specs.Networks.{tail, head, residual, IsTight}
 use Rattle.flow_model.specs.Pushes.{Leads, CanPush}
 use Rattle.flow_network.specs.States.{State}
 use Rattle.flow_solver.specs.Onward.{IsOnward, LeadsOn}
-use Rattle.flow_solver.proofs.Paths.{later_is_simple}
+use Rattle.flow_parts.proofs.Paths.{later_is_simple}
 
 leads_on : (arcs : List OuterArc) (path : List Edge) (from mid : ℕ) (e : Edge) → Leads arcs from path mid → tail arcs e ≡ mid → Leads arcs from (path ++ e ∷ []) (head arcs e)
 leads_on arcs [] from mid e leads at = (at ∙ sym leads, refl)

@@ -4,7 +4,7 @@ use Rattle.std.proofs.lemmas.Bool.{cases_eq, cases_lt}
 use Rattle.flow_model.specs.declared.edges.Edge.{Edge}
 use Rattle.flow_model.proofs.Lists.{set_at}
 use Rattle.flow_parts.specs.Queues.{Waiting, Joins, Withdraws}
-use Rattle.flow_solver.specs.Searches.{Enters, Rests}
+use Rattle.flow_solver.specs.Searches.{Enters, WaitsNowhere}
 
 -- the node waits in the queue, and the stack is as it was
 pub queue_enters : (distances : List ℕ) (parents : List Edge) (queue more : Waiting) (stack : List ℕ) (depth node : ℕ) → depth ≤ length stack → Joins queue more node
@@ -51,7 +51,7 @@ stack_enters distances parents queue left stack depth node within withdraws =
     read : (p : ℕ) → (p ≡ depth → get_or (set stack depth node) p 0 ≡ node) × (p ≢ depth → get_or (set stack depth node) p 0 ≡ get_or stack p 0)
     read p = set_at stack depth p node within
 
-    unqueued : (other : ℕ) → Rests (record { distances = distances; parents = parents; waiting = left; stack = set stack depth node; depth = depth + 1 }) other → get_or queue.places other 0 ≡ 0
+    unqueued : (other : ℕ) → WaitsNowhere (record { distances = distances; parents = parents; waiting = left; stack = set stack depth node; depth = depth + 1 }) other → get_or queue.places other 0 ≡ 0
     unqueued other rests =
         ⊎_elim
         (λ (waits : 0 < get_or queue.places other 0).

@@ -1,9 +1,9 @@
 //! Rounds: each pushes units along a path on which nothing is lost.
-ghost use Rattle.std.specs.Prelude.{◌≡◌, ℕ, ◌+◌, ◌*◌, ◌≤◌, ◌<◌, min, length, slice_index};
+ghost use Rattle.std.specs.Prelude.{◌≡◌, ◌+◌, ◌*◌, ◌<◌, length};
 ghost use Rattle.flow_network.specs.States.{IsState};
 ghost use Rattle.flow_parts.specs.OuterEdges.{AreListed};
 ghost use Rattle.flow_solver.specs.Rounds.{Advances};
-ghost use Rattle.flow_solver.specs.Searches.{HasRoom, IsReady, limit_of, lowered};
+ghost use Rattle.flow_solver.specs.Searches.{AreLoweredToLast, CanLowerToLast, HasSearchRoom, IsReady};
 
 use crate::onward::{DeadEnds, push_onward};
 use crate::route::trace;
@@ -15,9 +15,8 @@ use flow_parts::OuterEdges;
 fn lower(network: &mut Network, search: &Search)
     requires fits { IsState network.old }
     requires each_distance { length search.now.distances ≡ network.old.instance.steps + 1 }
-    requires enough { (node : ℕ) → node ≤ network.old.instance.steps
-        → limit_of network.old search.now.distances ≤ slice_index network.old.potentials node + min (limit_of network.old search.now.distances) (slice_index search.now.distances node) }
-    ensures lowered { (node : ℕ) → node ≤ network.old.instance.steps → slice_index network.new.potentials node ≡ lowered network.old search.now.distances node }
+    requires enough { CanLowerToLast network.old search.now.distances }
+    ensures lowered { AreLoweredToLast network.old search.now.distances network.new.potentials }
     ensures same { network.new ≡ record network.old { potentials = network.new.potentials } }
     ensures fits { IsState network.new }
 {
@@ -43,12 +42,12 @@ pub fn augment(
 )
     requires ready { IsReady network.old }
     requires edges { AreListed network.old.instance edges.now (2 * length network.old.instance.arcs) }
-    requires room { HasRoom network.old.instance.steps search.old }
+    requires room { HasSearchRoom network.old.instance.steps search.old }
     requires marks { length dead.old ≡ network.old.instance.steps + 1 }
     requires each_hop { length path.old ≡ network.old.instance.steps }
     requires left { network.old.pushed < network.old.instance.units }
     ensures advances { Advances network.old network.new }
-    ensures room { HasRoom network.old.instance.steps search.new }
+    ensures room { HasSearchRoom network.old.instance.steps search.new }
     ensures marks { length dead.new ≡ length dead.old }
 {
     search.run(network, edges);

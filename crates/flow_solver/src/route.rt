@@ -3,7 +3,7 @@ ghost use Rattle.std.specs.Prelude.{◌≡◌, ℕ, ◌+◌, ◌≤◌, ◌<◌,
 ghost use Rattle.flow_model.specs.Networks.{IsTight};
 ghost use Rattle.flow_model.specs.Pushes.{CanPush};
 ghost use Rattle.flow_network.specs.States.{IsState};
-ghost use Rattle.flow_solver.specs.Searches.{LeadsBack};
+ghost use Rattle.flow_solver.specs.Searches.{LeadsBackToFirst};
 
 use crate::search::Search;
 use flow_network::{Edge, Network};
@@ -18,7 +18,7 @@ pub struct Route {
 /// Writes the path to the last node to the end of the list.
 pub fn trace(network: &Network, search: &Search, path: &mut [Edge]) -> Route
     requires fits { IsState network.now }
-    requires back { LeadsBack network.now search.now }
+    requires back { LeadsBackToFirst network.now search.now }
     requires each_hop { length path.old ≡ network.now.instance.steps }
     requires left { network.now.pushed < network.now.instance.units }
     ensures within { result.start ≤ length path.new }

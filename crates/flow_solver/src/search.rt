@@ -1,12 +1,12 @@
 //! The search for the distances of the nodes from the first, nearest first.
-ghost use Rattle.std.specs.Prelude.{◌≡◌, ℕ, ◌+◌, ◌-◌, ◌*◌, ◌≤◌, ◌<◌, ◌^◌, ◌↔◌, IfNone, IfOk, IfSome, IsNone, length, slice_index, slice_set, sum};
+ghost use Rattle.std.specs.Prelude.{◌≡◌, ℕ, ◌+◌, ◌-◌, ◌*◌, ◌≤◌, ◌<◌, ◌^◌, ◌↔◌, IfNone, IfOk, IfSome, IsNone, length, slice_index};
 ghost use Rattle.flow_model.specs.declared.edges.Edge.{Edge as FlowEdge};
 ghost use Rattle.flow_model.specs.declared.edges.Edge.TheVariants.{Inner, InnerBack};
-ghost use Rattle.flow_model.specs.Networks.{IsEdge, tail};
+ghost use Rattle.flow_model.specs.Networks.{IsEdge};
 ghost use Rattle.flow_model.specs.Pushes.{edge_at};
-ghost use Rattle.flow_parts.specs.OuterEdges.{AreListed, edge_of, tail_of};
+ghost use Rattle.flow_parts.specs.OuterEdges.{AreListed};
 ghost use Rattle.flow_parts.specs.Queues.{IsQueue, IsQueueBut, Leaves, Waits};
-ghost use Rattle.flow_solver.specs.Searches.{AreSettled, Enters, HasRoom, far, IsReady, IsSearch, IsSettled, Nears, Rests};
+ghost use Rattle.flow_solver.specs.Searches.{AreArcsDoneAt, AreSettledToLast, Enters, HasSearchRoom, IsDoneAt, IsReady, IsSearchToLast, IsSettledToLast, NearsToLast, above_first, found_at, work_left};
 
 use bound_base::NoMemory;
 use flow_network::{Edge, Network};
@@ -30,9 +30,9 @@ pub struct Search {
 }
 
 impl Model for Search {
-    ghost use Rattle.flow_solver.specs.Searches.{Found};
+    ghost use Rattle.flow_solver.specs.Searches.{FoundToLast};
 
-    ghost Value = { Found };
+    ghost Value = { FoundToLast };
 
     ghost view = { λ s. record { distances = s.distances.items; parents = s.parents.items; waiting = s.queue; stack = s.stack.items; depth = s.depth } };
 }
@@ -41,7 +41,7 @@ impl Search {
     /// Room for a search over this many steps. It takes 32 bytes for each.
     pub fn new(alloc: Global, steps: u32) -> Result<Search, NoMemory>
         requires { steps ≤ 2 ^ 25 }
-        ensures { IfOk result (λ found. HasRoom steps found) }
+        ensures { IfOk result (λ found. HasSearchRoom steps found) }
     {
         let nodes = steps as usize + 1;
         let distances = vec![in alloc; 0; nodes]?;
@@ -77,11 +77,11 @@ impl Search {
     // Finds the first node alone.
     fn begin(&mut self, network: &Network)
         requires ready { IsReady network.now }
-        requires room { HasRoom network.now.instance.steps self.old }
-        ensures search { IsSearch network.now self.new }
+        requires room { HasSearchRoom network.now.instance.steps self.old }
+        ensures search { IsSearchToLast network.now self.new }
         ensures waits { Waits self.new.waiting 0 }
         ensures depth { self.new.depth ≡ 0 }
-        ensures far { (node : ℕ) → 0 < node → node ≤ network.now.instance.steps → slice_index self.new.distances node ≡ far network.now }
+        ensures far { (node : ℕ) → 0 < node → node ≤ network.now.instance.steps → slice_index self.new.distances node ≡ above_first network.now }
     {
         let far = network.potential(0) + 1;
         for distance in self.distances.iter_mut() {
@@ -98,9 +98,9 @@ impl Search {
     fn relax(&mut self, network: &Network, edge: Edge)
         requires ready { IsReady network.now }
         requires edge { IsEdge network.now.instance edge }
-        requires search { IsSearch network.now self.old }
-        ensures nears { Nears network.now self.old self.new }
-        ensures settled { IsSettled network.now self.new.distances edge }
+        requires search { IsSearchToLast network.now self.old }
+        ensures nears { NearsToLast network.now self.old self.new }
+        ensures settled { IsSettledToLast network.now self.new.distances edge }
     {
         if network.residual(edge) == 0 {
             return;
@@ -125,7 +125,7 @@ impl Search {
     fn lower(&mut self, node: u32, distance: u128, edge: Edge)
         requires parents { length self.old.parents ≡ length self.old.distances }
         requires node { node < length self.old.distances }
-        ensures { self.new ≡ record self.old { distances = slice_set self.old.distances node distance; parents = slice_set self.old.parents node edge } }
+        ensures { self.new ≡ found_at self.old node distance edge }
     {
         self.distances[node as usize] = distance;
         self.parents[node as usize] = edge;
@@ -153,11 +153,11 @@ impl Search {
     // Relaxes the outer edges that lead out of the node.
     fn relax_outer(&mut self, network: &Network, edges: &OuterEdges, node: u32)
         requires ready { IsReady network.now }
-        requires search { IsSearch network.now self.old }
+        requires search { IsSearchToLast network.now self.old }
         requires edges { AreListed network.now.instance edges.now (2 * length network.now.instance.arcs) }
         requires node { node ≤ network.now.instance.steps }
-        ensures nears { Nears network.now self.old self.new }
-        ensures settled { Rests self.new node → (k : ℕ) → k < 2 * length network.now.instance.arcs → tail_of network.now.instance.arcs k ≡ node → IsSettled network.now self.new.distances (edge_of (length network.now.instance.arcs) k) }
+        ensures nears { NearsToLast network.now self.old self.new }
+        ensures settled { AreArcsDoneAt network.now self.new node }
     {
         let arcs = network.instance().arcs().len() as u32;
         let mut left = edges.first(node);
@@ -172,9 +172,9 @@ impl Search {
     #[inline(always)]
     fn relax_on(&mut self, network: &Network, node: u32)
         requires ready { IsReady network.now }
-        requires search { IsSearch network.now self.old }
-        ensures nears { Nears network.now self.old self.new }
-        ensures settled { node < network.now.instance.steps → IsSettled network.now self.new.distances (Inner node) }
+        requires search { IsSearchToLast network.now self.old }
+        ensures nears { NearsToLast network.now self.old self.new }
+        ensures settled { node < network.now.instance.steps → IsSettledToLast network.now self.new.distances (Inner node) }
     {
         if node < network.instance().steps() {
             self.relax(network, Edge::Inner(node));
@@ -185,10 +185,10 @@ impl Search {
     #[inline(always)]
     fn relax_back(&mut self, network: &Network, node: u32)
         requires ready { IsReady network.now }
-        requires search { IsSearch network.now self.old }
+        requires search { IsSearchToLast network.now self.old }
         requires node { node ≤ network.now.instance.steps }
-        ensures nears { Nears network.now self.old self.new }
-        ensures settled { 0 < node → IsSettled network.now self.new.distances (InnerBack (node - 1)) }
+        ensures nears { NearsToLast network.now self.old self.new }
+        ensures settled { 0 < node → IsSettledToLast network.now self.new.distances (InnerBack (node - 1)) }
     {
         if node > 0 {
             self.relax(network, Edge::InnerBack(node - 1));
@@ -198,11 +198,11 @@ impl Search {
     // Relaxes the edges that lead out of the node. The arcs come last, so that their ends come next from the stack.
     fn relax_from(&mut self, network: &Network, edges: &OuterEdges, node: u32)
         requires ready { IsReady network.now }
-        requires search { IsSearch network.now self.old }
+        requires search { IsSearchToLast network.now self.old }
         requires edges { AreListed network.now.instance edges.now (2 * length network.now.instance.arcs) }
         requires node { node ≤ network.now.instance.steps }
-        ensures nears { Nears network.now self.old self.new }
-        ensures settled { Rests self.new node → (e : FlowEdge) → IsEdge network.now.instance e → tail network.now.instance.arcs e ≡ node → IsSettled network.now self.new.distances e }
+        ensures nears { NearsToLast network.now self.old self.new }
+        ensures settled { IsDoneAt network.now self.new node }
     {
         if self.distance(node) >= self.distance(network.instance().steps()) {
             return;
@@ -231,13 +231,13 @@ impl Search {
     // Relaxes from the nodes on the stack, until there is none.
     fn drain(&mut self, network: &Network, edges: &OuterEdges)
         requires ready { IsReady network.now }
-        requires search { IsSearch network.now self.old }
+        requires search { IsSearchToLast network.now self.old }
         requires edges { AreListed network.now.instance edges.now (2 * length network.now.instance.arcs) }
-        requires settled { AreSettled network.now self.old }
-        ensures search { IsSearch network.now self.new }
-        ensures settled { AreSettled network.now self.new }
+        requires settled { AreSettledToLast network.now self.old }
+        ensures search { IsSearchToLast network.now self.new }
+        ensures settled { AreSettledToLast network.now self.new }
         ensures depth { self.new.depth ≡ 0 }
-        ensures falls { 2 * sum self.new.distances + (self.new.waiting.count + self.new.depth) ≤ 2 * sum self.old.distances + (self.old.waiting.count + self.old.depth) }
+        ensures falls { work_left self.new ≤ work_left self.old }
     {
         while let Some(node) = self.pop() {
             self.relax_from(network, edges, node);
@@ -260,10 +260,10 @@ impl Search {
     /// it, until that node is no nearer than the last.
     pub fn run(&mut self, network: &Network, edges: &OuterEdges)
         requires ready { IsReady network.now }
-        requires room { HasRoom network.now.instance.steps self.old }
+        requires room { HasSearchRoom network.now.instance.steps self.old }
         requires edges { AreListed network.now.instance edges.now (2 * length network.now.instance.arcs) }
-        ensures search { IsSearch network.now self.new }
-        ensures settled { (e : FlowEdge) → IsEdge network.now.instance e → IsSettled network.now self.new.distances e }
+        ensures search { IsSearchToLast network.now self.new }
+        ensures settled { (e : FlowEdge) → IsEdge network.now.instance e → IsSettledToLast network.now self.new.distances e }
     {
         let last = network.instance().steps();
         self.begin(network);

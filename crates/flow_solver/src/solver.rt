@@ -1,5 +1,5 @@
 //! The solver of an instance.
-ghost use Rattle.std.specs.Prelude.{◌≡◌, ℕ, ◌+◌, ◌<◌, IfOk, length, slice_index};
+ghost use Rattle.std.specs.Prelude.{◌≡◌, IfOk, length, slice_index};
 ghost use Rattle.flow_model.specs.Instances.{IsSolution};
 ghost use Rattle.flow_model.specs.Networks.{ArePrices};
 ghost use Rattle.flow_network.specs.States.{IsState, no_flows};

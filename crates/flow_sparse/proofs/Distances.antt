@@ -1,147 +1,22 @@
 -- Searches: how one begins, and what it keeps where a node is found nearer.
-use Rattle.std.proofs.Common.{◌≡◌, ◌≢◌, ℕ, ◌+◌, ◌-◌, ◌/◌, ◌<◌, ◌≤◌, ◌∙◌, sym, refl, ap, subst, cond, ◌==◌, List, length, arith, ⊎_elim, get_or, set, sum, length-set, get_or-set_same, get_or-set_other, slice_index}
-use Rattle.std.proofs.lemmas.Bool.{cases_eq, cases_lt, eq-eqb, ne_eqb}
+use Rattle.std.proofs.Common.{◌≡◌, ◌≢◌, ℕ, ◌+◌, ◌<◌, ◌≤◌, ◌∙◌, sym, refl, ap, subst, List, length, arith, ⊎_elim, get_or, set, sum, length-set, slice_index}
+use Rattle.std.proofs.lemmas.Bool.{cases_eq, cases_lt}
 use Rattle.std.proofs.lemmas.List.Sums.{sum_by-set}
 use Rattle.flow_model.specs.declared.edges.Edge.{Edge}
-use Rattle.flow_model.specs.declared.edges.Edge.TheVariants.{Inner}
 use Rattle.flow_model.specs.Networks.{tail, head, gain, residual, IsEdge}
 use Rattle.flow_model.specs.Pushes.{edge_at}
 use Rattle.flow_model.proofs.Lists.{set_at}
-use Rattle.flow_parts.specs.Queues.{Waiting, Waits, IsQueue, IsQueueBut, Joins, Leaves}
-use Rattle.flow_sparse.specs.States.{State, IsReady, IsHigh, IsSettled, IsReached}
-use Rattle.flow_sparse.specs.Searches.{Found, IsAimed, Rests, IsParent, IsTree, IsSearch, IsGoal, AreSettled, Nears, IsIdle, IsHop, LeadsBack, at_tail, at_head, far}
+use Rattle.flow_parts.specs.Queues.{Waits, IsQueue, Joins, Leaves}
+use Rattle.flow_parts.proofs.Trees.{first_tree, tree_more, parent_is_hop}
+use Rattle.flow_parts.specs.Searches.{lowered, IsHop, IsTree, at_tail}
+use Rattle.flow_sparse.specs.States.{State, IsReady, IsHigh, IsReached}
+use Rattle.flow_sparse.specs.Searches.{Found, IsAimed, Rests, IsSearch, IsGoal, AreSettled, Nears, IsIdle, far, IsSettledBy, LeadsBackLowered}
 use Rattle.flow_sparse.proofs.Levels.{ends_within}
 use Rattle.flow_sparse.proofs.Lowered.{enough, over_is_reached}
 
--- the node where the search begins was found, and no other
-pub first_tree : (state : State) (from : ℕ) (distances : List ℕ) (parents : List Edge)
-    → state.instance.steps + 1 ≤ length distances → state.instance.steps + 1 ≤ length parents → from ≤ state.instance.steps
-    → get_or distances from 0 ≡ 0
-    → ((node : ℕ) → node ≢ from → node ≤ state.instance.steps → get_or distances node 0 ≡ far)
-    → IsTree state from distances parents
-first_tree state from distances parents each_distance each_parent from_within start others =
-    record {
-      each_distance = each_distance;
-      each_parent = each_parent;
-      from_within = from_within;
-      start = start;
-      small = λ node h.
-          ⊎_elim (λ (e : node ≡ from). omega (arith, start, ap (λ n. get_or distances n 0) e)) (λ (n : node ≢ from). omega (arith, others node n h)) (cases_eq node from);
-      found_by = (λ node. node, λ node other within near. absurd (omega (arith, others node other within)));
-    }
-
--- the queue where the distance of a node fell
-pub queue_lowered : (waiting : Waiting) (distances : List ℕ) (node near : ℕ) → IsQueue waiting distances → node < length distances → near < get_or distances node 0
-    → IsQueueBut waiting (set distances node near) node
-queue_lowered waiting distances node near queue inside less =
-    record {
-      placed = queue.placed;
-      each_distance = length-set distances node near ∙ queue.each_distance;
-      others = λ p positive low other.
-          let u : ℕ = (p - 1) / 2 in
-          omega (arith, queue.heap p positive low, (set_at distances node (get_or waiting.nodes p 0) near inside).1 other, no_more (get_or waiting.nodes u 0));
-      over = λ p positive low high under.
-          let u : ℕ = (p - 1) / 2 in
-          let g : ℕ = (u - 1) / 2 in
-          let apart : (q : ℕ) → q < waiting.count → q ≢ u → get_or waiting.nodes q 0 ≢ node = λ q h other same.
-          other (omega (arith, queue.placed.placed q h, queue.placed.placed u (omega arith), ap (λ v. get_or waiting.places v 0) (same ∙ sym under))) in
-          omega (
-            arith,
-            queue.heap p positive low,
-            queue.heap u high (omega arith),
-            (set_at distances node (get_or waiting.nodes p 0) near inside).1 (apart p low (omega arith)),
-            (set_at distances node (get_or waiting.nodes g 0) near inside).1 (apart g (omega arith) (omega arith)),
-          );
-    }
-  where
-    no_more : (v : ℕ) → get_or (set distances node near) v 0 ≤ get_or distances v 0
-    no_more v =
-        ⊎_elim (λ (e : v ≡ node). omega (arith, (set_at distances node v near inside).0 e, less, ap (λ k. get_or distances k 0) e))
-        (λ (n : v ≡ node → ⊥). omega (arith, (set_at distances node v near inside).1 n)) (cases_eq v node)
-
--- the head of an edge with room was found nearer along it
-pub tree_more : (state : State) (from : ℕ) (distances : List ℕ) (parents : List Edge) (e : Edge) (near : ℕ) → IsReady state → IsTree state from distances parents → IsEdge state.instance e → 0 < residual state.instance state.flows e
-    → near + (gain state.instance.arcs e + get_or state.potentials (head state.instance.arcs e) 0) ≡ at_tail state distances e
-    → near < get_or distances (head state.instance.arcs e) 0
-    → IsTree state from (set distances (head state.instance.arcs e) near) (set parents (head state.instance.arcs e) e)
-tree_more state from distances parents e near ready tree is_edge room value nearer =
-    let h : ℕ = head state.instance.arcs e in
-    let t : ℕ = tail state.instance.arcs e in
-    let ends = ends_within state.instance e ready.fits.in_range is_edge in
-    let inside : h < length distances = omega (arith, tree.each_distance, ends.1) in
-    let new : List ℕ = set distances h near in
-    let apart : t ≢ h = λ same. omega (arith, value, nearer, ready.valid e is_edge room, ap (λ n. get_or distances n 0) same) in
-    let not_first : from ≢ h = λ same. omega (arith, tree.start, nearer, ap (λ n. get_or distances n 0) same) in
-    let times : ℕ → ℕ = tree.found_by.0 in
-    let later : ℕ → ℕ = λ k. cond (k == h) (times t + 1) (times k) in
-    let at_h : later h ≡ times t + 1 = ap (λ b. cond b (times t + 1) (times h)) (eq-eqb h h refl) in
-    let at_other : (k : ℕ) → k ≢ h → later k ≡ times k = λ k other. ap (λ b. cond b (times t + 1) (times k)) (ne_eqb k h other) in
-    let tail_kept : get_or new t 0 ≡ get_or distances t 0 = (set_at distances h t near inside).1 apart in
-    let own : IsParent state new later e h = record {
-      is_edge = is_edge;
-      room = room;
-      leads = refl;
-      along = omega (arith, value, tail_kept, (set_at distances h h near inside).0 refl);
-      earlier = λ _. omega (arith, at_h, at_other t apart);
-    } in
-    record {
-      each_distance = omega (arith, length-set distances h near, tree.each_distance);
-      each_parent = omega (arith, length-set parents h e, tree.each_parent);
-      from_within = tree.from_within;
-      start = (set_at distances h from near inside).1 not_first ∙ tree.start;
-      small = λ node within.
-          ⊎_elim
-          (λ (same : node ≡ h). omega (arith, (set_at distances h node near inside).0 same, nearer, tree.small h ends.1))
-          (λ (other : node ≡ h → ⊥). omega (arith, (set_at distances h node near inside).1 other, tree.small node within))
-          (cases_eq node h);
-      found_by = (
-        later,
-        λ node some within close.
-            ⊎_elim
-            (λ (same : node ≡ h).
-            let parent : edge_at (set parents h e) node ≡ e = ap (edge_at (set parents h e)) same ∙ get_or-set_same parents h e (Inner 0) (omega (arith, tree.each_parent, ends.1)) in
-            subst (λ (f : Edge). IsParent state new later f node) (sym parent) (subst (λ (n : ℕ). IsParent state new later e n) (sym same) own))
-            (λ (other : node ≡ h → ⊥).
-            let parent : edge_at (set parents h e) node ≡ edge_at parents node = get_or-set_other parents h node e (Inner 0) other in
-            subst (λ (f : Edge). IsParent state new later f node) (sym parent) (kept node other (tree.found_by.1 node some within (omega (arith, close, (set_at distances h node near inside).1 other)))))
-            (cases_eq node h),
-      );
-    }
-  where
-    kept : (node : ℕ) → node ≢ head state.instance.arcs e → IsParent state distances tree.found_by.0 (edge_at parents node) node
-        → IsParent state (set distances (head state.instance.arcs e) near)
-        (λ k. cond (k == head state.instance.arcs e) (tree.found_by.0 (tail state.instance.arcs e) + 1) (tree.found_by.0 k)) (edge_at parents node) node
-    kept node other old =
-        let h : ℕ = head state.instance.arcs e in
-        let times : ℕ → ℕ = tree.found_by.0 in
-        let ends = ends_within state.instance e ready.fits.in_range is_edge in
-        let inside : h < length distances = omega (arith, tree.each_distance, ends.1) in
-        let new : List ℕ = set distances h near in
-        let f : Edge = edge_at parents node in
-        let u : ℕ = tail state.instance.arcs f in
-        let head_kept : get_or new (head state.instance.arcs f) 0 ≡ get_or distances (head state.instance.arcs f) 0 = (set_at distances h (head state.instance.arcs f) near inside).1 (λ same. other (sym old.leads ∙ same)) in
-        ⊎_elim
-        (λ (same : u ≡ h).
-        let moved : get_or new u 0 ≡ near = (set_at distances h u near inside).0 same in
-        record {
-          is_edge = old.is_edge;
-          room = old.room;
-          leads = old.leads;
-          along = omega (arith, old.along, head_kept, moved, nearer, ap (λ n. get_or distances n 0) same);
-          earlier = λ even. absurd (omega (arith, even, old.along, head_kept, moved, nearer, ap (λ n. get_or distances n 0) same));
-        })
-        (λ (apart : u ≡ h → ⊥).
-        let stays : get_or new u 0 ≡ get_or distances u 0 = (set_at distances h u near inside).1 apart in
-        record {
-          is_edge = old.is_edge;
-          room = old.room;
-          leads = old.leads;
-          along = omega (arith, old.along, head_kept, stays);
-          earlier = λ even.
-              let before : times u < times node = old.earlier (omega (arith, even, head_kept, stays)) in
-              omega (arith, before, ap (λ b. cond b (times (tail state.instance.arcs e) + 1) (times u)) (ne_eqb u h apart), ap (λ b. cond b (times (tail state.instance.arcs e) + 1) (times node)) (ne_eqb node h other));
-        })
-        (cases_eq u h)
+-- the tree of a search from the node
+abbrev pub IsTreeFrom : State → ℕ → List ℕ → List Edge → Type 0
+IsTreeFrom state from distances parents = IsTree state.instance state.flows state.potentials from far distances parents
 
 -- no distance changed
 pub Nears-refl : (state : State) (from : ℕ) (found : Found) → IsSearch state from found → Nears state from found found
@@ -161,7 +36,7 @@ Nears-trans state from a b c before after =
 
 -- the head of an edge with room is nearer along it, and waits
 pub nears_more : (state : State) (from : ℕ) (old new : Found) (e : Edge) (near : ℕ) → IsReady state → IsSearch state from old → IsEdge state.instance e → 0 < residual state.instance state.flows e
-    → near + (gain state.instance.arcs e + get_or state.potentials (head state.instance.arcs e) 0) ≡ at_tail state old.distances e
+    → near + (gain state.instance.arcs e + get_or state.potentials (head state.instance.arcs e) 0) ≡ at_tail state.instance.arcs state.potentials old.distances e
     → near < get_or old.distances (head state.instance.arcs e) 0
     → near < old.limit
     → new.distances ≡ set old.distances (head state.instance.arcs e) near
@@ -171,8 +46,8 @@ pub nears_more : (state : State) (from : ℕ) (old new : Found) (e : Edge) (near
 nears_more state from old new e near ready search is_edge room value nearer below distances parents aimed joins queue =
     record {
       search = record {
-        tree = subst (λ (ps : List Edge). IsTree state from new.distances ps) (sym parents)
-            (subst (λ (ds : List ℕ). IsTree state from ds (set old.parents (head state.instance.arcs e) e)) (sym distances) (tree_more state from old.distances old.parents e near ready search.tree is_edge room value nearer));
+        tree = subst (λ (ps : List Edge). IsTreeFrom state from new.distances ps) (sym parents)
+            (subst (λ (ds : List ℕ). IsTreeFrom state from ds (set old.parents (head state.instance.arcs e) e)) (sym distances) (tree_more state.instance state.flows state.potentials from far old.distances old.parents e near search.tree is_edge room (ready.valid e is_edge) ends.1 value nearer));
         queue = queue;
         waits = λ v waits.
             ⊎_elim
@@ -212,7 +87,7 @@ nears_more state from old new e near ready search is_edge room value nearer belo
     }
   where
     ends : (tail state.instance.arcs e ≤ state.instance.steps) × (head state.instance.arcs e ≤ state.instance.steps)
-    ends = ends_within state.instance e ready.fits.in_range is_edge
+    ends = ends_within state.instance ready.fits.in_range e is_edge
 
     inside : head state.instance.arcs e < length old.distances
     inside = omega (arith, search.tree.each_distance, ends.1)
@@ -228,7 +103,7 @@ nears_more state from old new e near ready search is_edge room value nearer belo
         ⊎_elim (λ (is : v ≡ head state.instance.arcs e). omega (arith, own, nearer, ap (λ k. get_or old.distances k 0) is, ap (λ k. get_or new.distances k 0) is))
         (λ (n : v ≡ head state.instance.arcs e → ⊥). omega (arith, kept v n)) (cases_eq v (head state.instance.arcs e))
 
-    stays : (f : Edge) → IsEdge state.instance f → Rests new (tail state.instance.arcs f) → IsSettled state old.distances old.limit f → IsSettled state new.distances new.limit f
+    stays : (f : Edge) → IsEdge state.instance f → Rests new (tail state.instance.arcs f) → IsSettledBy state old f → IsSettledBy state new f
     stays f is resting settled = λ has.
         let t : ℕ = tail state.instance.arcs f in
         let other : t ≢ head state.instance.arcs e = λ same. omega (arith, joins.joined, resting, ap (λ k. get_or new.waiting.places k 0) same) in
@@ -238,7 +113,7 @@ nears_more state from old new e near ready search is_edge room value nearer belo
 pub search_taken : (state : State) (from : ℕ) (old new : Found) → IsSearch state from old → new ≡ record old { waiting = new.waiting } → IsQueue new.waiting new.distances → ((v : ℕ) → Waits new.waiting v → Waits old.waiting v) → IsSearch state from new
 search_taken state from old new search is queue only =
     record {
-      tree = subst (λ (f : Found). IsTree state from f.distances f.parents) (sym is) search.tree;
+      tree = subst (λ (f : Found). IsTreeFrom state from f.distances f.parents) (sym is) search.tree;
       queue = queue;
       waits = λ v h. search.waits v (only v h);
       small = subst (λ (f : Found). f.limit ≤ far) (sym is) search.small;
@@ -254,13 +129,13 @@ search_taken state from old new search is queue only =
 
 -- after a node was taken out and the edges out of it were relaxed
 pub next_settled : (state : State) (from : ℕ) (old taken new : Found) (node : ℕ) → AreSettled state old → taken ≡ record old { waiting = taken.waiting } → Leaves old.waiting taken.waiting old.distances node
-    → Nears state from taken new → (Rests new node → (e : Edge) → IsEdge state.instance e → tail state.instance.arcs e ≡ node → IsSettled state new.distances new.limit e) → AreSettled state new
+    → Nears state from taken new → (Rests new node → (e : Edge) → IsEdge state.instance e → tail state.instance.arcs e ≡ node → IsSettledBy state new e) → AreSettled state new
 next_settled state from old taken new node settled is leaves nears own = λ e is_edge rests.
     let t : ℕ = tail state.instance.arcs e in
     ⊎_elim
     (λ (at : t ≡ node). own (subst (λ (k : ℕ). Rests new k) at rests) e is_edge at)
     (λ (other : t ≡ node → ⊥).
-    nears.stays e is_edge rests (subst (λ (f : Found). IsSettled state f.distances f.limit e) (sym is) (settled e is_edge (before t other (nears.rests t rests)))))
+    nears.stays e is_edge rests (subst (λ (f : Found). IsSettledBy state f e) (sym is) (settled e is_edge (before t other (nears.rests t rests)))))
     (cases_eq t node)
   where
     before : (v : ℕ) → v ≢ node → Rests taken v → Rests old v
@@ -271,56 +146,40 @@ next_settled state from old taken new node settled is leaves nears own = λ e is
 -- no node waits that is nearer than the limit
 pub all_settled : (state : State) (old : Found) → IsReady state → AreSettled state old
     → ((v : ℕ) → v ≤ state.instance.steps → 0 < get_or old.waiting.places v 0 → old.limit ≤ get_or old.distances v 0)
-    → (e : Edge) → IsEdge state.instance e → IsSettled state old.distances old.limit e
+    → (e : Edge) → IsEdge state.instance e → IsSettledBy state old e
 all_settled state old ready settled far_off e is has =
     let t : ℕ = tail state.instance.arcs e in
     ⊎_elim
-    (λ (waits : 0 < get_or old.waiting.places t 0). omega (arith, far_off t (ends_within state.instance e ready.fits.in_range is).0 waits, ready.valid e is has))
+    (λ (waits : 0 < get_or old.waiting.places t 0). omega (arith, far_off t (ends_within state.instance ready.fits.in_range e is).0 waits, ready.valid e is has))
     (λ (none : get_or old.waiting.places t 0 ≤ 0). settled e is (omega arith) has)
     (cases_lt 0 (get_or old.waiting.places t 0))
 
 -- what the search says of distances
-pub reached : (state : State) (from : ℕ) (found : Found) → IsSearch state from found → ((e : Edge) → IsEdge state.instance e → IsSettled state found.distances found.limit e) → IsReached state from found.distances found.limit
+pub reached : (state : State) (from : ℕ) (found : Found) → IsSearch state from found → ((e : Edge) → IsEdge state.instance e → IsSettledBy state found e) → IsReached state from found.distances found.limit
 reached state from found search settled = record { from_within = search.tree.from_within; start = search.tree.start; settled = settled; over_is_past = search.over_is_past }
 
 -- where units are missing, a node with units over was found
-pub goal_found : (state : State) (from : ℕ) (found : Found) → IsReady state → IsHigh state → IsSearch state from found → ((e : Edge) → IsEdge state.instance e → IsSettled state found.distances found.limit e)
+pub goal_found : (state : State) (from : ℕ) (found : Found) → IsReady state → IsHigh state → IsSearch state from found → ((e : Edge) → IsEdge state.instance e → IsSettledBy state found e)
     → 0 < slice_index state.under from → IsGoal state found
 goal_found state from found ready high search settled missing = search.goal (over_is_reached state from found.limit found.distances ready high (reached state from found search settled) missing)
 
 -- under the lowered potentials, tight edges lead back from each node within the limit
-pub leads_back : (state : State) (from : ℕ) (found : Found) → IsReady state → IsHigh state → IsSearch state from found → ((e : Edge) → IsEdge state.instance e → IsSettled state found.distances found.limit e)
-    → 0 < slice_index state.under from → LeadsBack state from found
+pub leads_back : (state : State) (from : ℕ) (found : Found) → IsReady state → IsHigh state → IsSearch state from found → ((e : Edge) → IsEdge state.instance e → IsSettledBy state found e)
+    → 0 < slice_index state.under from → LeadsBackLowered state from found
 leads_back state from found ready high search settled missing =
     record { from_within = search.tree.from_within; each_parent = search.tree.each_parent; hops = (search.tree.found_by.0, hop) }
   where
-    hop : (node : ℕ) → node ≢ from → node ≤ state.instance.steps → slice_index found.distances node ≤ found.limit → IsHop state found search.tree.found_by.0 (edge_at found.parents node) node
+    hop : (node : ℕ) → node ≢ from → node ≤ state.instance.steps → slice_index found.distances node ≤ found.limit
+        → IsHop state.instance state.flows (lowered state.potentials found.distances found.limit) found.distances found.limit search.tree.found_by.0 (edge_at found.parents node) node
     hop node some within near =
         let e : Edge = edge_at found.parents node in
         let is : IsReached state from found.distances found.limit = reached state from found search settled in
         let parent = search.tree.found_by.1 node some within (omega (arith, near, over_is_reached state from found.limit found.distances ready high is missing)) in
-        let ends = ends_within state.instance e ready.fits.in_range parent.is_edge in
-        let least = ready.valid e parent.is_edge parent.room in
-        let same : slice_index found.distances (head state.instance.arcs e) ≡ slice_index found.distances node = ap (slice_index found.distances) parent.leads in
-        let even : at_tail state found.distances e ≡ at_head state found.distances e = omega (arith, parent.along, settled e parent.is_edge parent.room, same, near) in
-        record {
-          tight = record {
-            is_edge = parent.is_edge;
-            room = parent.room;
-            tight = omega (
-              arith,
-              even,
-              least,
-              same,
-              near,
-              enough state from found.limit found.distances ready high is missing (head state.instance.arcs e) ends.1,
-              enough state from found.limit found.distances ready high is missing (tail state.instance.arcs e) ends.0,
-            );
-          };
-          leads = parent.leads;
-          near = omega (arith, even, least, same, near);
-          earlier = parent.earlier even;
-        }
+        let ends = ends_within state.instance ready.fits.in_range e parent.is_edge in
+        parent_is_hop state.instance state.flows state.potentials found.distances found.limit (lowered state.potentials found.distances found.limit) search.tree.found_by.0 e node
+        parent (ready.valid e parent.is_edge) (settled e parent.is_edge) near refl refl
+        (omega (arith, enough state from found.limit found.distances ready high is missing (head state.instance.arcs e) ends.1))
+        (omega (arith, enough state from found.limit found.distances ready high is missing (tail state.instance.arcs e) ends.0))
 
 -- the node where the search begins was found and waits, and no other
 pub started : (state : State) (from : ℕ) (old new : Found) → IsIdle state.instance.steps old → from ≤ state.instance.steps
@@ -331,7 +190,7 @@ pub started : (state : State) (from : ℕ) (old new : Found) → IsIdle state.in
     → IsSearch state from new × ((node : ℕ) → node ≢ from → node ≤ state.instance.steps → get_or new.distances node 0 ≡ far)
 started state from old new idle within far_off distances parents aimed joins queue = (
   record {
-    tree = first_tree state from new.distances new.parents (omega (arith, ap length distances, length-set old.distances from 0, idle.each_distance)) (omega (arith, ap length parents, idle.each_parent)) within (at from ∙ (read from).0 refl) others;
+    tree = first_tree state.instance state.flows state.potentials from far new.distances new.parents (omega (arith, ap length distances, length-set old.distances from 0, idle.each_distance)) (omega (arith, ap length parents, idle.each_parent)) within (at from ∙ (read from).0 refl) others;
     queue = queue;
     waits = λ v h.
         ⊎_elim
@@ -373,26 +232,26 @@ pub first_settled : (state : State) (from : ℕ) (found : Found) → IsReady sta
 first_settled state from found ready search far_off waits e is_edge rests has =
     let t : ℕ = tail state.instance.arcs e in
     let other : t ≢ from = λ same. omega (arith, waits, rests, ap (λ k. get_or found.waiting.places k 0) same) in
-    omega (arith, far_off t other (ends_within state.instance e ready.fits.in_range is_edge).0, search.small, ready.valid e is_edge has)
+    omega (arith, far_off t other (ends_within state.instance ready.fits.in_range e is_edge).0, search.small, ready.valid e is_edge has)
 
 -- no node that waits is nearer than the one that was taken
 pub far_after : (state : State) (old taken : Found) (node : ℕ) → IsReady state → AreSettled state old → taken ≡ record old { waiting = taken.waiting } → Leaves old.waiting taken.waiting old.distances node → node ≤ state.instance.steps → old.limit ≤ get_or old.distances node 0
-    → (e : Edge) → IsEdge state.instance e → IsSettled state taken.distances taken.limit e
+    → (e : Edge) → IsEdge state.instance e → IsSettledBy state taken e
 far_after state old taken node ready settled is leaves within past e is_edge =
-    subst (λ (f : Found). IsSettled state f.distances f.limit e) (sym is)
+    subst (λ (f : Found). IsSettledBy state f e) (sym is)
     (all_settled state old ready settled (λ v h waits. omega (arith, leaves.first v waits, past, ready.fits.in_range.few_steps)) e is_edge)
 
 -- where no node waits all edges are settled
 pub none_after : (state : State) (old taken : Found) → IsReady state → AreSettled state old → taken ≡ record old { waiting = taken.waiting } → IsQueue old.waiting old.distances → old.waiting.count ≡ 0
-    → (e : Edge) → IsEdge state.instance e → IsSettled state taken.distances taken.limit e
+    → (e : Edge) → IsEdge state.instance e → IsSettledBy state taken e
 none_after state old taken ready settled is queue none e is_edge =
-    subst (λ (f : Found). IsSettled state f.distances f.limit e) (sym is)
+    subst (λ (f : Found). IsSettledBy state f e) (sym is)
     (all_settled state old ready settled (λ v h waits. absurd (omega (arith, queue.placed.low v, none, waits))) e is_edge)
 
 -- the queue was emptied
-pub emptied : (state : State) (from : ℕ) (old new : Found) → IsSearch state from old → ((e : Edge) → IsEdge state.instance e → IsSettled state old.distances old.limit e) → new ≡ record old { waiting = new.waiting } → IsQueue new.waiting new.distances → new.waiting.count ≡ 0
-    → IsSearch state from new × ((e : Edge) → IsEdge state.instance e → IsSettled state new.distances new.limit e)
+pub emptied : (state : State) (from : ℕ) (old new : Found) → IsSearch state from old → ((e : Edge) → IsEdge state.instance e → IsSettledBy state old e) → new ≡ record old { waiting = new.waiting } → IsQueue new.waiting new.distances → new.waiting.count ≡ 0
+    → IsSearch state from new × ((e : Edge) → IsEdge state.instance e → IsSettledBy state new e)
 emptied state from old new search settled is queue none = (
   search_taken state from old new search is queue (λ v waits. absurd (omega (arith, queue.placed.low v, none, waits))),
-  λ e is_edge. subst (λ (f : Found). IsSettled state f.distances f.limit e) (sym is) (settled e is_edge),
+  λ e is_edge. subst (λ (f : Found). IsSettledBy state f e) (sym is) (settled e is_edge),
 )

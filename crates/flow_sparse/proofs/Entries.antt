@@ -3,9 +3,10 @@ use Rattle.std.proofs.Common.{◌≡◌, ◌≢◌, ◌∙◌, ℕ, ◌+◌, ◌
 use Rattle.flow_model.specs.declared.edges.Edge.{Edge}
 use Rattle.flow_model.specs.Networks.{IsEdge, tail, head}
 use Rattle.flow_parts.specs.OuterEdges.{edge_of, tail_of}
+use Rattle.flow_parts.specs.Searches.{IsSettled}
 use Rattle.flow_sparse.specs.declared.edges.ListedEdge.{ListedEdge}
 use Rattle.flow_sparse.specs.Ranges.{IsEntry, listed_at, no_listed}
-use Rattle.flow_sparse.specs.States.{State, IsReady, IsSettled}
+use Rattle.flow_sparse.specs.States.{State, IsReady}
 
 -- what stands at j where the edge at i was set
 pub entry_set : (xs : List ListedEdge) (i j : ℕ) (x : ListedEdge) → i < length xs → (j ≡ i → listed_at (set xs i x) j ≡ x) × (j ≢ i → listed_at (set xs i x) j ≡ listed_at xs j)
@@ -15,7 +16,7 @@ entry_set xs i j x within = (λ e. ap (listed_at (set xs i x)) e ∙ get_or-set_
 pub settled_near : (s : State) (marks distances : List ℕ) (limit node k : ℕ) (entry : ListedEdge) → IsEntry s.instance marks entry k → tail_of s.instance.arcs k ≡ node
     → slice_index s.potentials node ≤ slice_index marks node → slice_index s.potentials entry.head ≤ slice_index marks entry.head
     → min limit (slice_index distances entry.head) + (slice_index marks node - slice_index s.potentials node) ≤ slice_index distances node + entry.slack + (slice_index marks entry.head - slice_index s.potentials entry.head)
-    → IsSettled s distances limit (edge_of (length s.instance.arcs) k)
+    → IsSettled s.instance s.flows s.potentials distances limit (edge_of (length s.instance.arcs) k)
 settled_near s marks distances limit node k entry is at low_tail low_head long room =
     omega (
       arith,
@@ -32,6 +33,6 @@ settled_near s marks distances limit node k entry is at low_tail low_head long r
     )
 
 -- an edge to a node that is no farther leads no nearer
-pub settled_woken : (s : State) (distances : List ℕ) (limit node : ℕ) (e : Edge) → IsReady s → IsEdge s.instance e → tail s.instance.arcs e ≡ node → slice_index distances (head s.instance.arcs e) ≤ slice_index distances node → IsSettled s distances limit e
+pub settled_woken : (s : State) (distances : List ℕ) (limit node : ℕ) (e : Edge) → IsReady s → IsEdge s.instance e → tail s.instance.arcs e ≡ node → slice_index distances (head s.instance.arcs e) ≤ slice_index distances node → IsSettled s.instance s.flows s.potentials distances limit e
 settled_woken s distances limit node e ready is at near room =
     omega (arith, ready.valid e is room, near, ap (slice_index distances) at)

@@ -2,13 +2,14 @@
 use Rattle.std.proofs.Common.{◌≡◌, ◌≢◌, ◌∙◌, ℕ, ◌+◌, ◌*◌, ◌<◌, ◌≤◌, ◌==◌, ap, refl, cond, List, length, arith, ⊎_elim, slice_index}
 use Rattle.std.proofs.lemmas.Bool.{cases_eq, eq-eqb, ne_eqb}
 use Rattle.flow_model.specs.declared.edges.Edge.{Edge}
-use Rattle.flow_model.specs.declared.edges.Edge.TheVariants.{Inner, InnerBack, Outer, OuterBack}
-use Rattle.flow_model.specs.Instances.{Instance, no_arc}
+use Rattle.flow_model.specs.Instances.{Instance}
 use Rattle.flow_model.specs.Networks.{IsEdge, tail, head, residual}
 use Rattle.flow_parts.specs.OuterEdges.{edge_of, tail_of}
 use Rattle.flow_parts.proofs.EdgeLists.{is_edge_of}
-use Rattle.flow_sparse.specs.States.{State, IsNetwork, IsReady, IsSettled}
+use Rattle.flow_parts.specs.Searches.{IsSettled}
+use Rattle.flow_sparse.specs.States.{State, IsNetwork, IsReady}
 use Rattle.flow_sparse.specs.Searches.{list_of, list_of_edge}
+use Rattle.flow_sparse.proofs.Levels.{ends_within}
 
 -- an edge that leads back to its node stands in the list past all
 pub list_of-loop : (s : State) (e : Edge) → tail s.instance.arcs e ≡ head s.instance.arcs e → list_of_edge s e ≡ s.instance.steps + 1
@@ -39,25 +40,12 @@ pub list_of-number : (s : State) (k : ℕ) → list_of s k ≡ list_of_edge s (e
 unfolding list_of
 list_of-number s k = refl
 
--- the edge leads out of a node of the instance
-pub tail_within_edge : (instance : Instance) (e : Edge) → IsNetwork instance → IsEdge instance e → tail instance.arcs e ≤ instance.steps
-tail_within_edge instance (Inner t) fits is = omega (arith, is)
-tail_within_edge instance (InnerBack t) fits is = omega (arith, is)
-tail_within_edge instance (Outer i) fits is = let a = fits.arcs_fit i no_arc is in omega (arith, a.order, a.within)
-tail_within_edge instance (OuterBack i) fits is = (fits.arcs_fit i no_arc is).within
-
--- and to one
-pub head_within_edge : (instance : Instance) (e : Edge) → IsNetwork instance → IsEdge instance e → head instance.arcs e ≤ instance.steps
-head_within_edge instance (Inner t) fits is = omega (arith, is)
-head_within_edge instance (InnerBack t) fits is = omega (arith, is)
-head_within_edge instance (Outer i) fits is = (fits.arcs_fit i no_arc is).within
-head_within_edge instance (OuterBack i) fits is = let a = fits.arcs_fit i no_arc is in omega (arith, a.order, a.within)
-
+-- the edge of that number leads out of a node of the instance, and to one
 pub tail_within : (instance : Instance) (k : ℕ) → IsNetwork instance → k < 2 * length instance.arcs → tail_of instance.arcs k ≤ instance.steps
-tail_within instance k fits h = tail_within_edge instance (edge_of (length instance.arcs) k) fits (is_edge_of instance k h)
+tail_within instance k fits h = (ends_within instance fits (edge_of (length instance.arcs) k) (is_edge_of instance k h)).0
 
 pub head_within : (instance : Instance) (k : ℕ) → IsNetwork instance → k < 2 * length instance.arcs → head instance.arcs (edge_of (length instance.arcs) k) ≤ instance.steps
-head_within instance k fits h = head_within_edge instance (edge_of (length instance.arcs) k) fits (is_edge_of instance k h)
+head_within instance k fits h = (ends_within instance fits (edge_of (length instance.arcs) k) (is_edge_of instance k h)).1
 
 -- the edge stands in the list of a node, so it has room and leads from that to another
 pub record IsKept (s : State) (k : ℕ) : Type 0 where
@@ -82,6 +70,6 @@ pub list_kept : (s : State) (k : ℕ) → tail_of s.instance.arcs k ≢ head s.i
 list_kept s k apart room = list_of-number s k ∙ list_of-kept s (edge_of (length s.instance.arcs) k) apart (λ none. omega (arith, room, none))
 
 -- an edge that leads back to its node is settled
-pub loop_settled : (state : State) (distances : List ℕ) (limit : ℕ) (e : Edge) → IsReady state → IsEdge state.instance e → tail state.instance.arcs e ≡ head state.instance.arcs e → IsSettled state distances limit e
+pub loop_settled : (state : State) (distances : List ℕ) (limit : ℕ) (e : Edge) → IsReady state → IsEdge state.instance e → tail state.instance.arcs e ≡ head state.instance.arcs e → IsSettled state.instance state.flows state.potentials distances limit e
 loop_settled state distances limit e ready is same room =
     omega (arith, ready.valid e is room, ap (slice_index distances) same)

@@ -6,10 +6,9 @@ use Rattle.flow_model.specs.declared.edges.Edge.TheVariants.{Inner, InnerBack, O
 use Rattle.flow_model.specs.Instances.{Instance, no_arc}
 use Rattle.flow_model.specs.Networks.{Flows, IsEdge, IsPotential, tail, head, gain, loss, residual}
 use Rattle.flow_model.specs.Pushes.{opposite, push_path, edge_at}
-use Rattle.flow_model.proofs.Pushes.{HasLengths, Pushed, beyond, push_path-rises}
-use Rattle.flow_sparse.specs.States.{State, IsState, IsReady, IsHigh, CanPush, HasRoomFor, pushed, first_sum}
+use Rattle.flow_model.proofs.Pushes.{HasLengths, Pushed, beyond, opposite_tight, push_path-rises, push_path-totals}
+use Rattle.flow_sparse.specs.States.{State, IsState, IsReady, IsHigh, CanPush, HasWideRoomFor, pushed, first_sum}
 use Rattle.flow_sparse.proofs.Sums.{first_sum-less, first_sum-le, less_at}
-use Rattle.flow_sparse.proofs.Totals.{push_path-totals}
 
 -- the instance with as many steps as there is room for
 abbrev pub wide : State → Instance
@@ -27,15 +26,6 @@ wide_room s flows (Inner t) = refl
 wide_room s flows (InnerBack t) = refl
 wide_room s flows (Outer i) = refl
 wide_room s flows (OuterBack i) = refl
-
--- the opposite of a tight edge has no positive reduced cost
-opposite_tight : (instance : Instance) (potential : ℕ → ℕ) (e : Edge)
-    → gain instance.arcs e + potential (head instance.arcs e) ≡ loss instance.arcs e + potential (tail instance.arcs e)
-    → gain instance.arcs (opposite e) + potential (head instance.arcs (opposite e)) ≤ loss instance.arcs (opposite e) + potential (tail instance.arcs (opposite e))
-opposite_tight instance potential (Inner t) tight = omega arith
-opposite_tight instance potential (InnerBack t) tight = omega arith
-opposite_tight instance potential (Outer i) tight = omega arith
-opposite_tight instance potential (OuterBack i) tight = omega arith
 
 -- a step is before a node, or the node is before the next step
 parts : (amount t node : ℕ) → beyond amount t node + cond (nat_lt node (t + 1)) amount 0 ≡ amount
@@ -120,7 +110,7 @@ module _ (s : State) (from to amount : ℕ) (path : List Edge) (ready : IsReady 
   )
 
 -- the flow of a step is at most the units and all that is over
-pub has_room_for : (s : State) (amount : ℕ) (e : Edge) → IsState s → IsHigh s → IsEdge s.instance e → amount ≤ residual s.instance s.flows e → HasRoomFor amount s.flows e
+pub has_room_for : (s : State) (amount : ℕ) (e : Edge) → IsState s → IsHigh s → IsEdge s.instance e → amount ≤ residual s.instance s.flows e → HasWideRoomFor amount s.flows e
 has_room_for s amount (Inner t) is high is_edge room =
     (omega (arith, is_edge, is.each_step), omega (arith, is.balance t is_edge, is.in_range.few_units, first_sum-le s.over (t + 1) (s.instance.steps + 1) (omega arith), high.few))
 has_room_for s amount (InnerBack t) is high is_edge room = (omega (arith, is_edge, is.each_step), room)

@@ -5,8 +5,9 @@ use Rattle.flow_model.specs.declared.edges.Edge.{Edge}
 use Rattle.flow_model.specs.Networks.{IsEdge, IsTight, tail, head, residual}
 use Rattle.flow_model.specs.Pushes.{Leads, IsSimple}
 use Rattle.flow_model.proofs.Lists.{set_at}
-use Rattle.flow_sparse.specs.States.{State, IsState, IsReady, IsHigh, IsSettled, IsReached, AreLowered, lowered, CanPush, pushed, first_sum}
-use Rattle.flow_sparse.specs.Searches.{Found, IsSearch, IsGoal, IsIdle, KeepsRoom}
+use Rattle.flow_parts.specs.Searches.{lowered, AreLowered}
+use Rattle.flow_sparse.specs.States.{State, IsState, IsReady, IsHigh, IsReached, CanPush, pushed, first_sum}
+use Rattle.flow_sparse.specs.Searches.{Found, IsSearch, IsGoal, IsIdle, KeepsRoom, IsSettledBy}
 use Rattle.flow_sparse.specs.Repairs.{IsRepaired, Repairs}
 use Rattle.flow_sparse.proofs.Sums.{first_sum-some}
 use Rattle.flow_sparse.proofs.Levels.{ends_within}
@@ -15,15 +16,15 @@ use Rattle.flow_sparse.proofs.Distances.{reached, goal_found}
 use Rattle.flow_sparse.proofs.Pushed.{pushed_is_ready, path_lengths}
 
 -- tight under the lowered potentials
-tight_lowered : (s : State) (found : Found) (potentials : List ℕ) (e : Edge) → IsState s → AreLowered s found.distances found.limit potentials
-    → IsTight s.instance s.flows (lowered s found.distances found.limit) e → IsTight s.instance s.flows (slice_index potentials) e
+tight_lowered : (s : State) (found : Found) (potentials : List ℕ) (e : Edge) → IsState s → AreLowered s.instance.steps s.potentials found.distances found.limit potentials
+    → IsTight s.instance s.flows (lowered s.potentials found.distances found.limit) e → IsTight s.instance s.flows (slice_index potentials) e
 tight_lowered s found potentials e fits low tight =
-    let ends = ends_within s.instance e fits.in_range tight.is_edge in
+    let ends = ends_within s.instance fits.in_range e tight.is_edge in
     record { is_edge = tight.is_edge; room = tight.room; tight = omega (arith, tight.tight, low (head s.instance.arcs e) ends.1, low (tail s.instance.arcs e) ends.0) }
 
 module _ (s : State) (from amount : ℕ) (found : Found) (potentials : List ℕ) (path : List Edge) (ready : IsReady s) (high : IsHigh s) (search : IsSearch s from found)
-    (settled : (e : Edge) → IsEdge s.instance e → IsSettled s found.distances found.limit e) (missing : 0 < slice_index s.under from) (low : AreLowered s found.distances found.limit potentials)
-    (each : length potentials ≡ length s.potentials) (tight : All (IsTight s.instance s.flows (lowered s found.distances found.limit)) path) (leads : Leads s.instance.arcs from path found.goal)
+    (settled : (e : Edge) → IsEdge s.instance e → IsSettledBy s found e) (missing : 0 < slice_index s.under from) (low : AreLowered s.instance.steps s.potentials found.distances found.limit potentials)
+    (each : length potentials ≡ length s.potentials) (tight : All (IsTight s.instance s.flows (lowered s.potentials found.distances found.limit)) path) (leads : Leads s.instance.arcs from path found.goal)
     (room : All (λ e. amount ≤ residual s.instance s.flows e) path) (simple : IsSimple path) (some : 0 < amount) (few : amount ≤ slice_index s.under from) (less : amount ≤ slice_index s.over found.goal) where
   abbrev pub middle : State
   middle = record s { potentials = potentials }

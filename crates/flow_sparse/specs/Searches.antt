@@ -1,13 +1,15 @@
 -- A search for the distance of nodes from one of them, as far as the nearest that has units over.
-use Rattle.std.specs.Prelude.{◌≡◌, ◌≢◌, ◌⊎◌, ℕ, ◌+◌, ◌*◌, ◌^◌, ◌<◌, ◌≤◌, ◌==◌, if◌then◌else◌, List, length, slice_index, sum}
+use Rattle.std.specs.Prelude.{◌≡◌, ◌≢◌, ◌⊎◌, ℕ, ◌+◌, ◌-◌, ◌*◌, ◌^◌, ◌<◌, ◌≤◌, ◌==◌, if◌then◌else◌, min, List, length, slice_index, sum}
 use Rattle.flow_model.specs.declared.edges.Edge.{Edge}
-use Rattle.flow_model.specs.Networks.{tail, head, gain, loss, residual, IsEdge, IsTight}
-use Rattle.flow_model.specs.Pushes.{edge_at}
+use Rattle.flow_model.specs.Networks.{tail, head, residual, IsEdge, IsTight}
+use Rattle.flow_model.specs.Pushes.{edge_at, opposite}
 use Rattle.flow_parts.specs.Queues.{Waiting, Waits, IsPlaced, IsQueue}
 use Rattle.flow_parts.specs.OuterEdges.{edge_of, tail_of}
+use Rattle.flow_parts.specs.Searches.{IsSettled, IsTree, LeadsBack, lowered}
+use Rattle.flow_sparse.specs.declared.edges.ListedEdge.{ListedEdge}
 use Rattle.flow_sparse.specs.declared.edges.WokenEdge.{WokenEdge}
-use Rattle.flow_sparse.specs.Ranges.{Ranges, IsPlacedAt, IsSound, AreRising, AreChained, WasWoken, listed_at, number_of}
-use Rattle.flow_sparse.specs.States.{State, IsSettled, lowered}
+use Rattle.flow_sparse.specs.Ranges.{Ranges, IsPlacedAt, IsSound, AreSorted, AreChained, WasWoken, listed_at, number_of}
+use Rattle.flow_sparse.specs.States.{State}
 
 -- how far each node is by a walk that was found, the last edge of that walk, the nodes that wait for their edges to be looked
 -- at, and the nearest node with units over, with its distance as the limit beyond which no other matters
@@ -26,32 +28,9 @@ Rests found node = slice_index found.waiting.places node ≡ 0
 abbrev pub far : ℕ
 far = 2 ^ 125
 
--- the distance and the potential at the edge's tail, with what the edge gives up
-abbrev pub at_tail : State → List ℕ → Edge → ℕ
-at_tail state distances e = slice_index distances (tail state.instance.arcs e) + (loss state.instance.arcs e + slice_index state.potentials (tail state.instance.arcs e))
-
--- the distance and the potential at the edge's head, with what the edge earns
-abbrev pub at_head : State → List ℕ → Edge → ℕ
-at_head state distances e = slice_index distances (head state.instance.arcs e) + (gain state.instance.arcs e + slice_index state.potentials (head state.instance.arcs e))
-
--- the edge leads to the node, with room; the node was no nearer than along it when it was found, and if it still is not,
--- the tail was found before
-pub record IsParent (state : State) (distances : List ℕ) (times : ℕ → ℕ) (e : Edge) (node : ℕ) : Type 0 where
-  pub is_edge : IsEdge state.instance e
-  pub room : 0 < residual state.instance state.flows e
-  pub leads : head state.instance.arcs e ≡ node
-  pub along : at_tail state distances e ≤ at_head state distances e
-  pub earlier : at_tail state distances e ≡ at_head state distances e → times (tail state.instance.arcs e) < times node
-
--- each node that was found, but the first, was found by its parent, at some time
-pub record IsTree (state : State) (from : ℕ) (distances : List ℕ) (parents : List Edge) : Type 0 where
-  pub each_distance : state.instance.steps + 1 ≤ length distances
-  pub each_parent : state.instance.steps + 1 ≤ length parents
-  pub from_within : from ≤ state.instance.steps
-  pub start : slice_index distances from ≡ 0
-  pub small : (node : ℕ) → node ≤ state.instance.steps → slice_index distances node ≤ far
-  pub found_by : (times : ℕ → ℕ)
-      × ((node : ℕ) → node ≢ from → node ≤ state.instance.steps → slice_index distances node < far → IsParent state distances times (edge_at parents node) node)
+-- within the limit the edge makes its head no nearer
+abbrev pub IsSettledBy : State → Found → Edge → Type 0
+IsSettledBy state found e = IsSettled state.instance state.flows state.potentials found.distances found.limit e
 
 -- the goal has units over, and is as far as the limit
 pub record IsGoal (state : State) (found : Found) : Type 0 where
@@ -61,7 +40,7 @@ pub record IsGoal (state : State) (found : Found) : Type 0 where
 
 -- a tree of the nodes that were found, a queue by their distances, and the nearest with units over, if one was found
 pub record IsSearch (state : State) (from : ℕ) (found : Found) : Type 0 where
-  pub tree : IsTree state from found.distances found.parents
+  pub tree : IsTree state.instance state.flows state.potentials from far found.distances found.parents
   pub queue : IsQueue found.waiting found.distances
   pub waits : (node : ℕ) → Waits found.waiting node → node ≤ state.instance.steps
   pub small : found.limit ≤ far
@@ -70,13 +49,13 @@ pub record IsSearch (state : State) (from : ℕ) (found : Found) : Type 0 where
 
 -- the edges out of nodes that don't wait are settled
 abbrev pub AreSettled : State → Found → Type 0
-AreSettled state found = (e : Edge) → IsEdge state.instance e → Rests found (tail state.instance.arcs e) → IsSettled state found.distances found.limit e
+AreSettled state found = (e : Edge) → IsEdge state.instance e → Rests found (tail state.instance.arcs e) → IsSettledBy state found e
 
 -- distances and the limit only fell, and the nodes whose distance fell wait; so edges out of nodes that rest stay settled
 pub record Nears (state : State) (from : ℕ) (old new : Found) : Type 0 where
   pub search : IsSearch state from new
   pub rests : (node : ℕ) → Rests new node → Rests old node
-  pub stays : (e : Edge) → IsEdge state.instance e → Rests new (tail state.instance.arcs e) → IsSettled state old.distances old.limit e → IsSettled state new.distances new.limit e
+  pub stays : (e : Edge) → IsEdge state.instance e → Rests new (tail state.instance.arcs e) → IsSettledBy state old e → IsSettledBy state new e
   pub falls : 2 * sum new.distances + new.waiting.count ≤ 2 * sum old.distances + old.waiting.count
   pub each_distance : length new.distances ≡ length old.distances
   pub each_parent : length new.parents ≡ length old.parents
@@ -116,7 +95,7 @@ pub record IsListed (state : State) (lists : Ranges) : Type 0 where
   pub order : (node : ℕ) → node ≤ state.instance.steps → slice_index lists.first node ≤ slice_index lists.first (node + 1)
   pub within : (node : ℕ) → node ≤ state.instance.steps → slice_index lists.first (node + 1) ≤ length lists.edges
   pub sound : (place : ℕ) → place < length lists.edges → IsSound state.instance (listed_at lists.edges place)
-  pub rising : (node : ℕ) → node ≤ state.instance.steps → AreRising lists.edges (slice_index lists.first node) (slice_index lists.first (node + 1))
+  pub rising : AreSorted state.instance.steps lists.first lists.edges
   pub each_mark : state.instance.steps + 1 ≤ length lists.marks
   pub falls : (node : ℕ) → node ≤ state.instance.steps → slice_index state.potentials node ≤ slice_index lists.marks node
   pub small : (node : ℕ) → node ≤ state.instance.steps → slice_index lists.marks node ≤ 2 ^ 124
@@ -131,19 +110,46 @@ IsWokenIfShut state woken e =
     residual state.instance state.flows e ≤ 0 → number_of (length state.instance.arcs) e < 2 * length state.instance.arcs
     → WasWoken woken (number_of (length state.instance.arcs) e)
 
--- under the lowered potentials the edge is tight, and leads to the node from one within the limit that was found before
-pub record IsHop (state : State) (found : Found) (times : ℕ → ℕ) (e : Edge) (node : ℕ) : Type 0 where
-  pub tight : IsTight state.instance state.flows (lowered state found.distances found.limit) e
-  pub leads : head state.instance.arcs e ≡ node
-  pub near : slice_index found.distances (tail state.instance.arcs e) ≤ found.limit
-  pub earlier : times (tail state.instance.arcs e) < times node
+-- the edges the other way than those of the path are woken, if they have no room
+abbrev pub AreWaysBackWoken : State → List WokenEdge → List Edge → Type 0
+AreWaysBackWoken state woken path = (j : ℕ) → j < length path → IsWokenIfShut state woken (opposite (edge_at path j))
 
--- tight edges lead back to where the search began from each node within the limit
-pub record LeadsBack (state : State) (from : ℕ) (found : Found) : Type 0 where
-  pub from_within : from ≤ state.instance.steps
-  pub each_parent : state.instance.steps + 1 ≤ length found.parents
-  pub hops : (times : ℕ → ℕ)
-      × ((node : ℕ) → node ≢ from → node ≤ state.instance.steps → slice_index found.distances node ≤ found.limit → IsHop state found times (edge_at found.parents node) node)
+-- what the potential of the node fell by since it was marked
+abbrev pub fall_since : State → Ranges → ℕ → ℕ
+fall_since state lists node = slice_index lists.marks node - slice_index state.potentials node
+
+-- by its slack, the listed edge out of the node makes its head no nearer within the limit
+abbrev pub BringsNoNearer : State → Ranges → Found → ℕ → ListedEdge → Type 0
+BringsNoNearer state lists found node edge =
+    min found.limit (slice_index found.distances edge.head) + fall_since state lists node
+    ≤ slice_index found.distances node + edge.slack + fall_since state lists edge.head
+
+-- if the outer edge of that number leads out of the node, it is settled
+abbrev pub IsDoneFrom : State → Found → ℕ → ℕ → Type 0
+IsDoneFrom state found node number = tail_of state.instance.arcs number ≡ node → IsSettledBy state found (edge_of (length state.instance.arcs) number)
+
+-- once the node rests, the edges in its range are settled
+abbrev pub AreListedDone : State → Ranges → Found → ℕ → Type 0
+AreListedDone state lists found node =
+    Rests found node → (k : ℕ) → tail_of state.instance.arcs k ≡ node → IsPlacedAt state.instance lists.first lists.edges lists.marks node k
+    → IsSettledBy state found (edge_of (length state.instance.arcs) k)
+
+-- once the node rests, the woken edges out of it are settled
+abbrev pub AreWokenDone : State → Ranges → Found → ℕ → Type 0
+AreWokenDone state lists found node =
+    Rests found node → (k : ℕ) → tail_of state.instance.arcs k ≡ node → WasWoken lists.woken k → IsSettledBy state found (edge_of (length state.instance.arcs) k)
+
+-- once the node rests, all edges out of it are settled
+abbrev pub AreAllDone : State → Found → ℕ → Type 0
+AreAllDone state found node = Rests found node → (e : Edge) → IsEdge state.instance e → tail state.instance.arcs e ≡ node → IsSettledBy state found e
+
+-- the edge is tight under the lowered potentials
+abbrev pub IsTightLowered : State → Found → Edge → Type 0
+IsTightLowered state found e = IsTight state.instance state.flows (lowered state.potentials found.distances found.limit) e
+
+-- edges that are tight under the lowered potentials lead back to where the search began from each node within the limit
+abbrev pub LeadsBackLowered : State → ℕ → Found → Type 0
+LeadsBackLowered state from found = LeadsBack state.instance state.flows (lowered state.potentials found.distances found.limit) from found.limit found.distances found.parents
 
 -- the nearest with units over after a node was found at the distance
 pub record IsAimed (state : State) (old_limit old_goal : ℕ) (distances : List ℕ) (node limit goal : ℕ) : Type 0 where

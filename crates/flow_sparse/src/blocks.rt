@@ -1,6 +1,6 @@
 //! First prices: a constant price on some steps, and then those of blocks, which are settled one after another with the
 //! prices outside of them fixed. What is proved of them is their number alone, since a solution is found from any prices.
-ghost use Rattle.std.specs.Prelude.{◌≡◌, ◌+◌, ◌-◌, ◌*◌, ◌<◌, ◌≤◌, IfOk, length};
+ghost use Rattle.std.specs.Prelude.{◌≡◌, ◌+◌, ◌-◌, ◌<◌, ◌≤◌, IfOk, length};
 ghost use Rattle.flow_model.specs.Instances.{IsInstance};
 
 use crate::grain::grain_prices;

@@ -1,6 +1,5 @@
 //! One constant price on some steps.
-ghost use Rattle.std.specs.Prelude.{◌≡◌, ℕ, ◌+◌, ◌<◌, ◌≤◌, ◌^◌, IfOk, length};
-ghost use Rattle.flow_model.specs.Instances.{IsInstance};
+ghost use Rattle.std.specs.Prelude.{◌≡◌, ◌≤◌, ◌^◌, IfOk, length};
 
 use bound_base::NoMemory;
 use flow_model::{Instance, OuterArc};

@@ -1,8 +1,7 @@
 //! The loads of steps, and what they leave over at nodes.
-ghost use Rattle.std.specs.Prelude.{◌≡◌, ℕ, ◌+◌, ◌-◌, ◌<◌, ◌≤◌, ◌^◌, IsTrue, min, length, slice_index, slice_set};
+ghost use Rattle.std.specs.Prelude.{◌≡◌, ℕ, ◌+◌, ◌-◌, ◌<◌, ◌≤◌, ◌^◌, min, length, slice_index, slice_set};
 ghost use Rattle.flow_model.specs.Instances.{IsInstance, load_at};
-ghost use Rattle.flow_uniform.specs.Cuts.{ends_at, flow_where};
-ghost use Rattle.flow_sparse.specs.Loads.{AreBalanced, starts_at};
+ghost use Rattle.flow_sparse.specs.Loads.{AreBalanced, HaveLoads, AreChanges};
 
 use flow_model::Instance;
 
@@ -23,8 +22,9 @@ fn level(changes: &mut [u128])
 fn add_changes(instance: &Instance, flows: &[u64], changes: &mut [u128])
     requires each_arc { length flows.now ≡ length instance.now.arcs }
     requires small { (i : ℕ) → i < length flows.now → slice_index flows.now i ≤ 2 ^ 48 }
-    requires levels { (length changes.old ≡ instance.now.steps + 1) × ((t : ℕ) → t < length changes.old → slice_index changes.old t ≡ 2 ^ 100) }
-    ensures changes { (t : ℕ) → t ≤ instance.now.steps → slice_index changes.new t + flow_where (ends_at t) instance.now.arcs flows.now ≡ 2 ^ 100 + flow_where (starts_at t) instance.now.arcs flows.now }
+    requires each { length changes.old ≡ instance.now.steps + 1 }
+    requires levels { (t : ℕ) → t < length changes.old → slice_index changes.old t ≡ 2 ^ 100 }
+    ensures changes { AreChanges instance.now flows.now changes.new }
     ensures each { length changes.new ≡ length changes.old }
 {
     let arcs = instance.arcs();
@@ -42,7 +42,7 @@ fn sum_up(instance: &Instance, flows: &[u64], loads: &mut [u128])
     requires each_arc { length flows.now ≡ length instance.now.arcs }
     requires small { (i : ℕ) → i < length flows.now → slice_index flows.now i ≤ 2 ^ 48 }
     requires each_start { length loads.old ≡ instance.now.steps + 1 }
-    requires changes { (t : ℕ) → t ≤ instance.now.steps → slice_index loads.old t + flow_where (ends_at t) instance.now.arcs flows.now ≡ 2 ^ 100 + flow_where (starts_at t) instance.now.arcs flows.now }
+    requires changes { AreChanges instance.now flows.now loads.old }
     ensures loads { (t : ℕ) → t < instance.now.steps → slice_index loads.new t ≡ load_at instance.now.arcs flows.now t }
     ensures each { length loads.new ≡ length loads.old }
 {
@@ -104,7 +104,7 @@ pub fn balance(
     requires units { units ≤ 2 ^ 56 }
     requires each_step { (count ≤ length steps_of.now) × (count ≤ length inner.old) }
     requires each_node { (count < length over.old) × (count < length under.old) }
-    requires within { (k : ℕ) → k < count → (slice_index steps_of.now k < length loads.now) × (slice_index steps_of.now k < length prices.now) }
+    requires within { HaveLoads count steps_of.now loads.now prices.now }
     requires small { (k : ℕ) → k < count → slice_index loads.now (slice_index steps_of.now k) ≤ 2 ^ 74 }
     ensures balanced { AreBalanced count units steps_of.now loads.now prices.now inner.new over.new under.new }
     ensures inner { length inner.new ≡ length inner.old }

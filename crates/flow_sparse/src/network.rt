@@ -1,11 +1,13 @@
 //! The network of the open steps.
-ghost use Rattle.std.specs.Prelude.{◌≡◌, ℕ, ◌+◌, ◌-◌, ◌*◌, ◌≤◌, ◌<◌, ◌^◌, All, length, slice_index, slice_set};
+ghost use Rattle.std.specs.Prelude.{◌≡◌, ℕ, ◌+◌, ◌*◌, ◌≤◌, ◌<◌, ◌^◌, All, length, slice_index, slice_set};
 ghost use Rattle.flow_model.specs.Networks.{IsEdge, residual, tail, head, gain, loss};
 ghost use Rattle.flow_model.specs.Pushes.{IsSimple, push_path};
-ghost use Rattle.flow_model.specs.Instances.{IsInstance, arc_at, load_at};
+ghost use Rattle.flow_model.specs.Instances.{IsInstance, load_at};
+ghost use Rattle.flow_sparse.specs.Contractions.{AreFalls, NeverRises};
+ghost use Rattle.flow_sparse.specs.Ranges.{IsAsLong};
 ghost use Rattle.flow_sparse.specs.Searches.{list_of};
-ghost use Rattle.flow_sparse.specs.Starts.{IsFitted};
-ghost use Rattle.flow_sparse.specs.States.{CanPush, HasRoomFor, IsHigh, IsNetwork, IsReady, IsState, pushed};
+ghost use Rattle.flow_sparse.specs.Starts.{AreFitted};
+ghost use Rattle.flow_sparse.specs.States.{CanPush, HasWideRoomFor, IsHigh, IsNetwork, IsReady, IsState, pushed, with_less};
 
 use crate::loads::write_loads;
 use crate::numbering::write_prices;
@@ -31,11 +33,11 @@ pub struct Network {
 }
 
 impl Model for Network {
-    ghost use Rattle.flow_sparse.specs.States.{State};
+    ghost use Rattle.flow_sparse.specs.States.{State, state_of};
 
     ghost Value = { State };
 
-    ghost view = { λ n. record { instance = record { steps = n.count; units = n.units; arcs = n.arcs.items }; flows = record { outer = n.outer.items; inner = n.inner.items }; potentials = n.potentials.items; over = n.over.items; under = n.under.items } };
+    ghost view = { λ n. state_of n.count n.units n.arcs.items n.outer.items n.inner.items n.potentials.items n.over.items n.under.items };
 }
 
 impl Network {
@@ -146,7 +148,7 @@ impl Network {
         requires ready { IsReady self.now }
         requires high { IsHigh self.now }
         requires edge { IsEdge self.now.instance edge }
-        ensures { 0 < residual self.now.instance self.now.flows edge → result + (gain self.now.instance.arcs edge + slice_index self.now.potentials (head self.now.instance.arcs edge)) ≤ loss self.now.instance.arcs edge + slice_index self.now.potentials (tail self.now.instance.arcs edge) }
+        ensures { 0 < residual self.now.instance self.now.flows edge → IsAsLong self.now.instance.arcs self.now.potentials result edge }
     {
         let hop = self.hop(edge);
         if self.residual(edge) == 0 {
@@ -204,7 +206,7 @@ impl Network {
     fn settle(&mut self, from: u32, to: u32, amount: u128)
         requires missing { (from < length self.old.under) × (amount ≤ slice_index self.old.under from) }
         requires over { (to < length self.old.over) × (amount ≤ slice_index self.old.over to) }
-        ensures { self.new ≡ record self.old { under = slice_set self.old.under from (slice_index self.old.under from - amount); over = slice_set self.old.over to (slice_index self.old.over to - amount) } }
+        ensures { self.new ≡ with_less self.old from to amount }
     {
         self.under[from as usize] -= amount;
         self.over[to as usize] -= amount;
@@ -212,7 +214,7 @@ impl Network {
 
     // Pushes the amount along the path.
     fn push_path(&mut self, path: &[Edge], amount: u128)
-        requires room { All (HasRoomFor amount self.old.flows) path.now }
+        requires room { All (HasWideRoomFor amount self.old.flows) path.now }
         requires simple { IsSimple path.now }
         ensures { self.new ≡ record self.old { flows = push_path amount self.old.flows path.now } }
     {
@@ -234,8 +236,8 @@ impl Network {
     pub fn write_prices(&self, nodes: &[u32], prices: &mut [u128])
         requires each_time { length nodes.now ≡ length prices.old + 1 }
         requires within { (t : ℕ) → t < length nodes.now → slice_index nodes.now t < length self.now.potentials }
-        requires falls { (t : ℕ) → t < length prices.old → slice_index self.now.potentials (slice_index nodes.now (t + 1)) ≤ slice_index self.now.potentials (slice_index nodes.now t) }
-        ensures falls { (t : ℕ) → t < length prices.old → slice_index prices.new t + slice_index self.now.potentials (slice_index nodes.now (t + 1)) ≡ slice_index self.now.potentials (slice_index nodes.now t) }
+        requires falls { NeverRises (length prices.old) nodes.now self.now.potentials }
+        ensures falls { AreFalls (length prices.old) nodes.now self.now.potentials prices.new }
         ensures each_step { length prices.new ≡ length prices.old }
     {
         write_prices(nodes, &self.potentials, prices);
@@ -248,7 +250,7 @@ impl Network {
         requires small { (t : ℕ) → t ≤ instance.now.steps → slice_index falls.now t ≤ 2 ^ 122 }
         ensures rest { self.new ≡ record self.old { flows = record { outer = self.new.flows.outer; inner = self.old.flows.inner } } }
         ensures each { length self.new.flows.outer ≡ length self.old.flows.outer }
-        ensures fitted { (i : ℕ) → i < length instance.now.arcs → IsFitted (arc_at instance.now.arcs i).weight (arc_at instance.now.arcs i).cost (slice_index falls.now (arc_at instance.now.arcs i).start) (slice_index falls.now (arc_at instance.now.arcs i).end) (slice_index self.new.flows.outer i) }
+        ensures fitted { AreFitted instance.now falls.now self.new.flows.outer }
     {
         fit_flows(instance, falls, &mut self.outer);
     }

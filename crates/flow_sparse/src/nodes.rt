@@ -1,8 +1,8 @@
 //! The network takes the nodes between the open steps.
-ghost use Rattle.std.specs.Prelude.{◌≡◌, ℕ, ◌+◌, ◌-◌, ◌≤◌, ◌<◌, ◌^◌, IfOk, length, map, slice_index};
+ghost use Rattle.std.specs.Prelude.{◌≡◌, ℕ, ◌+◌, ◌≤◌, ◌<◌, ◌^◌, IfOk, length, map, slice_index};
 ghost use Rattle.flow_model.specs.Instances.{IsInstance, load_at};
-ghost use Rattle.flow_sparse.specs.Loads.{AreBalanced};
-ghost use Rattle.flow_sparse.specs.Contractions.{AreOpen, HasNodes, IsNumbering, IsSized, IsSlack, between, contracted};
+ghost use Rattle.flow_sparse.specs.Loads.{AreBalanced, HaveLoads};
+ghost use Rattle.flow_sparse.specs.Contractions.{AreOpen, HasNodes, IsNumbering, IsSized, IsSlack, between, contracted, AreFallsOfOpen};
 ghost use Rattle.flow_sparse.specs.States.{IsHigh, IsReady};
 
 use crate::loads::balance;
@@ -17,14 +17,14 @@ impl Network {
     fn set_arcs(&mut self, instance: &Instance, nodes: &[u32])
         requires each_time { length nodes.now ≡ instance.now.steps + 1 }
         requires each_arc { length self.old.instance.arcs ≡ length instance.now.arcs }
-        ensures { self.new ≡ record self.old { instance = record { steps = self.old.instance.steps; units = self.old.instance.units; arcs = map (between nodes.now) instance.now.arcs } } }
+        ensures { self.new ≡ record self.old { instance = record self.old.instance { arcs = map (between nodes.now) instance.now.arcs } } }
     {
         contract(instance, nodes, &mut self.arcs);
     }
 
     // Takes this many steps.
     fn set_steps(&mut self, count: u32)
-        ensures { self.new ≡ record self.old { instance = record { steps = count; units = self.old.instance.units; arcs = self.old.instance.arcs } } }
+        ensures { self.new ≡ record self.old { instance = record self.old.instance { steps = count } } }
     {
         self.count = count;
     }
@@ -38,7 +38,7 @@ impl Network {
         requires small { (t : ℕ) → t < length prices.now → slice_index prices.now t ≤ 2 ^ 97 }
         ensures rest { self.new ≡ record self.old { potentials = self.new.potentials } }
         ensures last { slice_index self.new.potentials self.old.instance.steps ≡ 2 ^ 123 }
-        ensures falls { (k : ℕ) → k < self.old.instance.steps → slice_index prices.now (slice_index steps_of.now k) + slice_index self.new.potentials (k + 1) ≡ slice_index self.new.potentials k }
+        ensures falls { AreFallsOfOpen self.old.instance.steps steps_of.now prices.now self.new.potentials }
         ensures each { length self.new.potentials ≡ length self.old.potentials }
     {
         write_potentials(self.count, steps_of, prices, &mut self.potentials);
@@ -50,9 +50,9 @@ impl Network {
         requires units { self.old.instance.units ≤ 2 ^ 56 }
         requires each_step { (self.old.instance.steps ≤ length steps_of.now) × (self.old.instance.steps ≤ length self.old.flows.inner) }
         requires each_node { (self.old.instance.steps < length self.old.over) × (self.old.instance.steps < length self.old.under) }
-        requires within { (k : ℕ) → k < self.old.instance.steps → (slice_index steps_of.now k < length loads.now) × (slice_index steps_of.now k < length prices.now) }
+        requires within { HaveLoads self.old.instance.steps steps_of.now loads.now prices.now }
         requires small { (k : ℕ) → k < self.old.instance.steps → slice_index loads.now (slice_index steps_of.now k) ≤ 2 ^ 74 }
-        ensures rest { self.new ≡ record self.old { flows = record { outer = self.old.flows.outer; inner = self.new.flows.inner }; over = self.new.over; under = self.new.under } }
+        ensures rest { self.new ≡ record self.old { flows = record self.old.flows { inner = self.new.flows.inner }; over = self.new.over; under = self.new.under } }
         ensures balanced { AreBalanced self.old.instance.steps self.old.instance.units steps_of.now loads.now prices.now self.new.flows.inner self.new.over self.new.under }
         ensures inner { length self.new.flows.inner ≡ length self.old.flows.inner }
         ensures over { length self.new.over ≡ length self.old.over }
@@ -73,7 +73,8 @@ impl Network {
     /// Takes room for this many open steps.
     pub fn make_room(&mut self, alloc: Global, count: u32) -> Result<(), NoMemory>
         requires { count ≤ 2 ^ 25 }
-        ensures rest { IfOk result (λ done. self.new ≡ record self.old { flows = record { outer = self.old.flows.outer; inner = self.new.flows.inner }; potentials = self.new.potentials; over = self.new.over; under = self.new.under }) }
+        ensures instance { IfOk result (λ done. self.new.instance ≡ self.old.instance) }
+        ensures outer { IfOk result (λ done. self.new.flows.outer ≡ self.old.flows.outer) }
         ensures nodes { IfOk result (λ done. HasNodes count self.new) }
     {
         let steps = count as usize;
@@ -102,7 +103,8 @@ impl Network {
         requires slack { IsSlack instance.now prices.now self.old.flows.outer }
         requires opens { (length opens.now ≡ instance.now.steps) × AreOpen opens.now prices.now }
         requires small { (t : ℕ) → t < instance.now.steps → slice_index prices.now t ≤ 2 ^ 97 }
-        requires loads { (instance.now.steps ≤ length loads.now) × ((t : ℕ) → t < instance.now.steps → slice_index loads.now t ≡ load_at instance.now.arcs self.old.flows.outer t) }
+        requires each_load { instance.now.steps ≤ length loads.now }
+        requires loads { (t : ℕ) → t < instance.now.steps → slice_index loads.now t ≡ load_at instance.now.arcs self.old.flows.outer t }
         requires numbers { IsNumbering instance.now.steps opens.now nodes.now steps_of.now count }
         requires each_time { length nodes.now ≡ instance.now.steps + 1 }
         requires each_step { instance.now.steps ≤ length steps_of.now }

@@ -1,7 +1,6 @@
 //! The nodes of times.
-ghost use Rattle.std.specs.Prelude.{◌≡◌, ℕ, ◌+◌, ◌<◌, ◌≤◌, ◌^◌, false, length, map, slice_index, slice_index_or};
-ghost use Rattle.flow_model.specs.Instances.{IsInstance, arc_at};
-ghost use Rattle.flow_sparse.specs.Contractions.{AreFalls, IsNumbering, IsOpen, between};
+ghost use Rattle.std.specs.Prelude.{◌≡◌, ℕ, ◌+◌, ◌<◌, ◌≤◌, ◌^◌, length, map, slice_index};
+ghost use Rattle.flow_sparse.specs.Contractions.{AreFalls, IsNumbering, between, NeverRises, AreFallsOfOpen};
 
 use flow_model::{Instance, OuterArc};
 
@@ -69,8 +68,8 @@ pub fn contract(instance: &Instance, nodes: &[u32], arcs: &mut [OuterArc])
 pub fn write_prices(nodes: &[u32], potentials: &[u128], prices: &mut [u128])
     requires each_time { length nodes.now ≡ length prices.old + 1 }
     requires within { (t : ℕ) → t < length nodes.now → slice_index nodes.now t < length potentials.now }
-    requires falls { (t : ℕ) → t < length prices.old → slice_index potentials.now (slice_index nodes.now (t + 1)) ≤ slice_index potentials.now (slice_index nodes.now t) }
-    ensures falls { (t : ℕ) → t < length prices.old → slice_index prices.new t + slice_index potentials.now (slice_index nodes.now (t + 1)) ≡ slice_index potentials.now (slice_index nodes.now t) }
+    requires falls { NeverRises (length prices.old) nodes.now potentials.now }
+    ensures falls { AreFalls (length prices.old) nodes.now potentials.now prices.new }
     ensures each_step { length prices.new ≡ length prices.old }
 {
     for step in 0..prices.len() {
@@ -86,7 +85,7 @@ pub fn write_potentials(count: u32, steps_of: &[u32], prices: &[u128], potential
     requires within { (k : ℕ) → k < count → slice_index steps_of.now k < length prices.now }
     requires small { (t : ℕ) → t < length prices.now → slice_index prices.now t ≤ 2 ^ 97 }
     ensures last { slice_index potentials.new count ≡ 2 ^ 123 }
-    ensures falls { (k : ℕ) → k < count → slice_index prices.now (slice_index steps_of.now k) + slice_index potentials.new (k + 1) ≡ slice_index potentials.new k }
+    ensures falls { AreFallsOfOpen count steps_of.now prices.now potentials.new }
     ensures each { length potentials.new ≡ length potentials.old }
 {
     let mut high = 1 << 123;

@@ -1,5 +1,5 @@
 //! A solution that is found from first prices.
-ghost use Rattle.std.specs.Prelude.{◌≡◌, ℕ, ◌+◌, ◌*◌, ◌<◌, IfOk, length, slice_index};
+ghost use Rattle.std.specs.Prelude.{◌≡◌, IfOk, length};
 ghost use Rattle.flow_model.specs.Instances.{IsInstance, IsSolution};
 ghost use Rattle.flow_sparse.specs.Contractions.{IsSized};
 

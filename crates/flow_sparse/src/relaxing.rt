@@ -1,12 +1,11 @@
 //! Edges are looked at: what they make nearer.
-ghost use Rattle.std.specs.Prelude.{◌≡◌, ℕ, ◌+◌, ◌-◌, ◌*◌, ◌≤◌, ◌<◌, IsTrue, length, min, slice_index};
-ghost use Rattle.flow_model.specs.declared.edges.Edge.{Edge as FlowEdge};
+ghost use Rattle.std.specs.Prelude.{◌≡◌, ℕ, ◌+◌, ◌-◌, ◌*◌, ◌≤◌, ◌<◌, IsTrue, length, slice_index};
 ghost use Rattle.flow_model.specs.declared.edges.Edge.TheVariants.{Inner, InnerBack};
 ghost use Rattle.flow_model.specs.Networks.{IsEdge, head, tail};
 ghost use Rattle.flow_parts.specs.OuterEdges.{edge_of, tail_of};
-ghost use Rattle.flow_sparse.specs.Ranges.{IsEntry, IsPlacedAt, IsSound, WasWoken};
-ghost use Rattle.flow_sparse.specs.States.{IsReady, IsHigh, IsSettled};
-ghost use Rattle.flow_sparse.specs.Searches.{IsListed, IsSearch, Nears, Rests, far};
+ghost use Rattle.flow_sparse.specs.Ranges.{IsEntry, IsSound};
+ghost use Rattle.flow_sparse.specs.States.{IsReady, IsHigh};
+ghost use Rattle.flow_sparse.specs.Searches.{IsListed, IsSearch, Nears, far, IsSettledBy, fall_since, BringsNoNearer, IsDoneFrom, AreListedDone, AreWokenDone, AreAllDone};
 
 use crate::edges::{ListedEdge, WokenEdge};
 use crate::lists::EdgeLists;
@@ -24,7 +23,7 @@ impl Search {
         requires edge { IsEdge network.now.instance edge }
         requires search { IsSearch network.now from self.old }
         ensures nears { Nears network.now from self.old self.new }
-        ensures settled { IsSettled network.now self.new.distances self.new.limit edge }
+        ensures settled { IsSettledBy network.now self.new edge }
     {
         let hop = network.hop(edge);
         let near = self.distance(hop.tail);
@@ -50,7 +49,7 @@ impl Search {
         requires node { node ≤ network.now.instance.steps }
         requires distance { node < length self.now.distances }
         requires near { slice_index self.now.distances node ≤ far }
-        ensures { IsTrue result → self.now.limit + (slice_index lists.now.marks node - slice_index network.now.potentials node) ≤ slice_index self.now.distances node + slack }
+        ensures { IsTrue result → self.now.limit + fall_since network.now lists.now node ≤ slice_index self.now.distances node + slack }
     {
         let reach = self.limit() + (lists.mark(node) - network.potential(node));
         self.distance(node) + slack as u128 >= reach
@@ -66,7 +65,7 @@ impl Search {
         requires head { edge.head ≤ network.now.instance.steps }
         requires each { network.now.instance.steps < length self.now.distances }
         requires near { (v : ℕ) → v ≤ network.now.instance.steps → slice_index self.now.distances v ≤ far }
-        ensures { IsTrue result → min self.now.limit (slice_index self.now.distances edge.head) + (slice_index lists.now.marks node - slice_index network.now.potentials node) ≤ slice_index self.now.distances node + edge.slack + (slice_index lists.now.marks edge.head - slice_index network.now.potentials edge.head) }
+        ensures { IsTrue result → BringsNoNearer network.now lists.now self.now node edge }
     {
         let near = self.limit().min(self.distance(edge.head));
         let reach = near + (lists.mark(node) - network.potential(node));
@@ -91,7 +90,7 @@ impl Search {
         requires node { node ≤ network.now.instance.steps }
         requires sound { IsSound network.now.instance edge }
         ensures nears { Nears network.now from self.old self.new }
-        ensures settled { IsEntry network.now.instance lists.now.marks edge edge.number → tail_of network.now.instance.arcs edge.number ≡ node → IsSettled network.now self.new.distances self.new.limit (edge_of (length network.now.instance.arcs) edge.number) }
+        ensures settled { IsEntry network.now.instance lists.now.marks edge edge.number → IsDoneFrom network.now self.new node edge.number }
     {
         if self.is_near(network, lists, node, edge) {
             return;
@@ -107,7 +106,7 @@ impl Search {
         requires lists { IsListed network.now lists.now }
         requires node { node ≤ network.now.instance.steps }
         ensures nears { Nears network.now from self.old self.new }
-        ensures settled { Rests self.new node → (k : ℕ) → tail_of network.now.instance.arcs k ≡ node → IsPlacedAt network.now.instance lists.now.first lists.now.edges lists.now.marks node k → IsSettled network.now self.new.distances self.new.limit (edge_of (length network.now.instance.arcs) k) }
+        ensures settled { AreListedDone network.now lists.now self.new node }
     {
         for place in lists.first(node)..lists.first(node + 1) {
             let edge = lists.edge(place);
@@ -129,7 +128,7 @@ impl Search {
         requires head { edge.head ≡ head network.now.instance.arcs (edge_of (length network.now.instance.arcs) edge.number) }
         requires tail { tail_of network.now.instance.arcs edge.number ≡ node }
         ensures nears { Nears network.now from self.old self.new }
-        ensures settled { IsSettled network.now self.new.distances self.new.limit (edge_of (length network.now.instance.arcs) edge.number) }
+        ensures settled { IsSettledBy network.now self.new (edge_of (length network.now.instance.arcs) edge.number) }
     {
         if self.distance(edge.head) <= self.distance(node) {
             return;
@@ -145,7 +144,7 @@ impl Search {
         requires lists { IsListed network.now lists.now }
         requires node { node ≤ network.now.instance.steps }
         ensures nears { Nears network.now from self.old self.new }
-        ensures settled { Rests self.new node → (k : ℕ) → tail_of network.now.instance.arcs k ≡ node → WasWoken lists.now.woken k → IsSettled network.now self.new.distances self.new.limit (edge_of (length network.now.instance.arcs) k) }
+        ensures settled { AreWokenDone network.now lists.now self.new node }
     {
         let mut left = lists.last(node);
         while left > 0 {
@@ -162,7 +161,7 @@ impl Search {
         requires high { IsHigh network.now }
         requires search { IsSearch network.now from self.old }
         ensures nears { Nears network.now from self.old self.new }
-        ensures settled { node < network.now.instance.steps → IsSettled network.now self.new.distances self.new.limit (Inner node) }
+        ensures settled { node < network.now.instance.steps → IsSettledBy network.now self.new (Inner node) }
     {
         if node < network.steps() {
             self.relax(network, from, Edge::Inner(node));
@@ -177,7 +176,7 @@ impl Search {
         requires search { IsSearch network.now from self.old }
         requires node { node ≤ network.now.instance.steps }
         ensures nears { Nears network.now from self.old self.new }
-        ensures settled { 0 < node → IsSettled network.now self.new.distances self.new.limit (InnerBack (node - 1)) }
+        ensures settled { 0 < node → IsSettledBy network.now self.new (InnerBack (node - 1)) }
     {
         if node > 0 {
             self.relax(network, from, Edge::InnerBack(node - 1));
@@ -192,7 +191,7 @@ impl Search {
         requires lists { IsListed network.now lists.now }
         requires node { node ≤ network.now.instance.steps }
         ensures nears { Nears network.now from self.old self.new }
-        ensures settled { Rests self.new node → (e : FlowEdge) → IsEdge network.now.instance e → tail network.now.instance.arcs e ≡ node → IsSettled network.now self.new.distances self.new.limit e }
+        ensures settled { AreAllDone network.now self.new node }
     {
         self.relax_on(network, from, node);
         self.relax_chain(network, lists, from, node);

@@ -1,12 +1,11 @@
 //! The search for the distances of nodes from one of them, nearest first, as far as the nearest that has units over.
-ghost use Rattle.std.specs.Prelude.{◌≡◌, ℕ, ◌+◌, ◌-◌, ◌≤◌, ◌<◌, ◌^◌, ◌↔◌, ◌≢◌, IfNone, IfOk, IfSome, IsNone, length, slice_index, slice_set};
+ghost use Rattle.std.specs.Prelude.{◌≡◌, ℕ, ◌≤◌, ◌<◌, ◌^◌, ◌↔◌, ◌≢◌, IfNone, IfOk, IfSome, IsNone, length, slice_index, slice_set};
 ghost use Rattle.flow_model.specs.declared.edges.Edge.{Edge as FlowEdge};
-ghost use Rattle.flow_model.specs.declared.edges.Edge.TheVariants.{Inner};
 ghost use Rattle.flow_model.specs.Networks.{IsEdge};
 ghost use Rattle.flow_model.specs.Pushes.{edge_at};
 ghost use Rattle.flow_parts.specs.Queues.{IsQueue, IsQueueBut, Joins, Leaves, Waits};
-ghost use Rattle.flow_sparse.specs.States.{IsReady, IsHigh, IsSettled};
-ghost use Rattle.flow_sparse.specs.Searches.{AreSettled, IsAimed, IsIdle, IsListed, IsSearch, KeepsRoom, far};
+ghost use Rattle.flow_sparse.specs.States.{IsReady, IsHigh};
+ghost use Rattle.flow_sparse.specs.Searches.{AreSettled, IsAimed, IsIdle, IsListed, IsSearch, KeepsRoom, far, IsSettledBy};
 
 use crate::lists::EdgeLists;
 use crate::network::Network;
@@ -227,7 +226,7 @@ impl Search {
         requires settled { AreSettled network.now self.old }
         requires lists { IsListed network.now lists.now }
         ensures search { IsSearch network.now from self.new }
-        ensures settled { (e : FlowEdge) → IsEdge network.now.instance e → IsSettled network.now self.new.distances self.new.limit e }
+        ensures settled { (e : FlowEdge) → IsEdge network.now.instance e → IsSettledBy network.now self.new e }
         ensures each_distance { length self.new.distances ≡ length self.old.distances }
         ensures each_parent { length self.new.parents ≡ length self.old.parents }
     {
@@ -247,7 +246,7 @@ impl Search {
         requires lists { IsListed network.now lists.now }
         requires from { from ≤ network.now.instance.steps }
         ensures search { IsSearch network.now from self.new }
-        ensures settled { (e : FlowEdge) → IsEdge network.now.instance e → IsSettled network.now self.new.distances self.new.limit e }
+        ensures settled { (e : FlowEdge) → IsEdge network.now.instance e → IsSettledBy network.now self.new e }
         ensures none { self.new.waiting.count ≡ 0 }
         ensures room { KeepsRoom self.old self.new }
     {

@@ -1,8 +1,8 @@
 //! Turns: steps open, and the network of the open steps is repaired, until all steps fit.
-ghost use Rattle.std.specs.Prelude.{◌≡◌, ℕ, ◌+◌, ◌<◌, ◌≤◌, ◌^◌, IfOk, IsTrue, false, length, slice_index, slice_index_or};
+ghost use Rattle.std.specs.Prelude.{◌≡◌, ℕ, ◌+◌, ◌<◌, ◌≤◌, ◌^◌, IfOk, IsTrue, length, slice_index};
 ghost use Rattle.flow_model.specs.Instances.{IsInstance, IsSolution, load_at};
 ghost use Rattle.flow_sparse.specs.Contractions.{AreOpen, IsSlack};
-ghost use Rattle.flow_sparse.specs.Openings.{Opens, shut_steps};
+ghost use Rattle.flow_sparse.specs.Openings.{Opens, shut_steps, ShutStepsFit};
 ghost use Rattle.flow_sparse.specs.Rooms.{HasRoom, IsAtRest};
 
 use crate::lists::EdgeLists;
@@ -34,7 +34,8 @@ fn turn(
     requires slack { IsSlack instance.now prices.old network.old.flows.outer }
     requires shut { AreOpen opens.now prices.old }
     requires small { (t : ℕ) → t < instance.now.steps → slice_index prices.old t ≤ 2 ^ 97 }
-    requires loads { (instance.now.steps ≤ length loads.now) × ((t : ℕ) → t < instance.now.steps → slice_index loads.now t ≡ load_at instance.now.arcs network.old.flows.outer t) }
+    requires each_load { instance.now.steps ≤ length loads.now }
+    requires loads { (t : ℕ) → t < instance.now.steps → slice_index loads.now t ≡ load_at instance.now.arcs network.old.flows.outer t }
     ensures room { IfOk result (λ done. HasRoom instance.now network.new (length nodes.new) (length steps_of.new)) }
     ensures rests { IfOk result (λ done. IsAtRest instance.now opens.now prices.new network.new.flows.outer) }
 {
@@ -59,7 +60,7 @@ fn open_more(instance: &Instance, network: &Network, opens: &mut [bool], loads: 
     ensures opens { Opens opens.old opens.new }
     ensures less { IsTrue result → shut_steps opens.new < shut_steps opens.old }
     ensures same { (IsTrue result → ⊥) → opens.new ≡ opens.old }
-    ensures fit { (IsTrue result → ⊥) → (t : ℕ) → t < instance.now.steps → slice_index_or opens.new t false ≡ false → load_at instance.now.arcs network.now.flows.outer t ≤ instance.now.units }
+    ensures fit { (IsTrue result → ⊥) → ShutStepsFit instance.now.steps instance.now.units (load_at instance.now.arcs network.now.flows.outer) opens.new }
     ensures loads { (t : ℕ) → t < instance.now.steps → slice_index loads.new t ≡ load_at instance.now.arcs network.now.flows.outer t }
     ensures each_start { length loads.new ≡ length loads.old }
 {

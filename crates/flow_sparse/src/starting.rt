@@ -1,7 +1,6 @@
 //! Start prices: the steps that have one are open, and the flows suit them.
 ghost use Rattle.std.specs.Prelude.{◌≡◌, ℕ, ◌+◌, ◌<◌, ◌≤◌, ◌^◌, false, length, slice_index, slice_index_or};
-ghost use Rattle.flow_model.specs.Instances.{IsInstance, arc_at};
-ghost use Rattle.flow_sparse.specs.Starts.{IsFitted};
+ghost use Rattle.flow_sparse.specs.Starts.{IsFitted, AreFitted};
 
 use flow_model::Instance;
 
@@ -58,7 +57,7 @@ pub fn fit_flows(instance: &Instance, falls: &[u128], flows: &mut [u64])
     requires each { length falls.now ≡ instance.now.steps + 1 }
     requires small { (t : ℕ) → t ≤ instance.now.steps → slice_index falls.now t ≤ 2 ^ 122 }
     ensures each { length flows.new ≡ length flows.old }
-    ensures fitted { (i : ℕ) → i < length instance.now.arcs → IsFitted (arc_at instance.now.arcs i).weight (arc_at instance.now.arcs i).cost (slice_index falls.now (arc_at instance.now.arcs i).start) (slice_index falls.now (arc_at instance.now.arcs i).end) (slice_index flows.new i) }
+    ensures fitted { AreFitted instance.now falls.now flows.new }
 {
     let arcs = instance.arcs();
     for number in 0..flows.len() {

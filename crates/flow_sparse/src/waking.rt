@@ -1,9 +1,9 @@
 //! Edges that get room are chained to their nodes.
-ghost use Rattle.std.specs.Prelude.{◌≡◌, ℕ, ◌+◌, ◌*◌, ◌<◌, ◌≤◌, All, IfOk, MatchOption, length};
+ghost use Rattle.std.specs.Prelude.{◌≡◌, ℕ, ◌*◌, ◌<◌, All, IfNone, IfOk, IfSome, length};
 ghost use Rattle.flow_model.specs.Networks.{IsEdge};
-ghost use Rattle.flow_model.specs.Pushes.{edge_at, opposite};
+ghost use Rattle.flow_model.specs.Pushes.{opposite};
 ghost use Rattle.flow_sparse.specs.Ranges.{WasWoken, number_of};
-ghost use Rattle.flow_sparse.specs.Searches.{IsListed, IsWokenIfShut};
+ghost use Rattle.flow_sparse.specs.Searches.{IsListed, IsWokenIfShut, AreWaysBackWoken};
 ghost use Rattle.flow_sparse.specs.States.{IsState};
 
 use crate::lists::EdgeLists;
@@ -50,7 +50,7 @@ impl EdgeLists {
         requires edges { All (IsEdge network.now.instance) path.now }
         requires lists { IsListed network.now self.old }
         ensures lists { IfOk result (λ done. IsListed network.now self.new) }
-        ensures woken { IfOk result (λ done. (j : ℕ) → j < length path.now → IsWokenIfShut network.now self.new.woken (opposite (edge_at path.now j))) }
+        ensures woken { IfOk result (λ done. AreWaysBackWoken network.now self.new.woken path.now) }
     {
         for at in 0..path.len() {
             self.wake_shut(network, opposite(path[at]))?;
@@ -63,7 +63,9 @@ impl EdgeLists {
 fn outer_number(network: &Network, edge: Edge) -> Option<u32>
     requires fits { IsState network.now }
     requires edge { IsEdge network.now.instance edge }
-    ensures { MatchOption result (number_of (length network.now.instance.arcs) edge ≡ 2 * length network.now.instance.arcs) (λ number. (number ≡ number_of (length network.now.instance.arcs) edge) × (number < 2 * length network.now.instance.arcs)) }
+    ensures number { IfSome result (λ number. number ≡ number_of (length network.now.instance.arcs) edge) }
+    ensures is_edge { IfSome result (λ number. number < 2 * length network.now.instance.arcs) }
+    ensures none { IfNone result (number_of (length network.now.instance.arcs) edge ≡ 2 * length network.now.instance.arcs) }
 {
     match edge {
         Edge::Outer(arc) => Some(arc),

@@ -11,6 +11,10 @@ pub record Holding : Type 0 where
   pub leaving : List ℕ
   pub ranks : Ranks
 
+-- what has these parts
+abbrev pub holding_of : List ℕ → List ℕ → Ranks → Holding
+holding_of flows leaving ranks = record { flows = flows; leaving = leaving; ranks = ranks }
+
 -- the rank of an arc is how far before the last node it ends
 abbrev pub rank_of : Instance → ℕ → ℕ
 rank_of instance i = instance.steps - (arc_at instance.arcs i).end

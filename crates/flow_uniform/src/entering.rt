@@ -1,18 +1,18 @@
 //! Arcs that enter at the step at which they start.
-ghost use Rattle.std.specs.Prelude.{◌≡◌, ◌≢◌, ℕ, ◌+◌, ◌*◌, ◌<◌, ◌≤◌, ◌^◌, length, slice_index, slice_set};
+ghost use Rattle.std.specs.Prelude.{◌≡◌, ℕ, ◌+◌, ◌<◌, length, slice_index, slice_set};
 ghost use Rattle.flow_model.specs.Instances.{IsInstance, arc_at, load_at};
 ghost use Rattle.flow_parts.specs.OuterEdges.{AreListed};
-ghost use Rattle.flow_uniform.specs.Holdings.{IsHeld, EntersOne, Enter};
+ghost use Rattle.flow_uniform.specs.Holdings.{IsHeld, EntersOne, Enter, holding_of};
 
 use flow_model::Instance;
 use flow_parts::{Heap, OuterEdges};
 
 // Lets the arc of the number have its weight as flow.
 fn hold(instance: &Instance, number: u32, heap: &mut Heap, flows: &mut [u64], leaving: &mut [u128])
-    requires held { IsHeld instance.now (record { flows = flows.old; leaving = leaving.old; ranks = heap.old }) (length instance.now.arcs) }
+    requires held { IsHeld instance.now (holding_of flows.old leaving.old heap.old) (length instance.now.arcs) }
     requires number { number < length instance.now.arcs }
     requires fresh { slice_index flows.old number ≡ 0 }
-    ensures held { IsHeld instance.now (record { flows = flows.new; leaving = leaving.new; ranks = heap.new }) (length instance.now.arcs) }
+    ensures held { IsHeld instance.now (holding_of flows.new leaving.new heap.new) (length instance.now.arcs) }
     ensures flows { flows.new ≡ slice_set flows.old number (arc_at instance.now.arcs number).weight }
 {
     let arc = instance.arcs()[number as usize];
@@ -29,10 +29,10 @@ fn enter_one(
     flows: &mut [u64],
     leaving: &mut [u128],
 ) -> u64
-    requires held { IsHeld instance.now (record { flows = flows.old; leaving = leaving.old; ranks = heap.old }) (length instance.now.arcs) }
+    requires held { IsHeld instance.now (holding_of flows.old leaving.old heap.old) (length instance.now.arcs) }
     requires number { number < length instance.now.arcs }
     requires fresh { slice_index flows.old number ≡ 0 }
-    ensures held { IsHeld instance.now (record { flows = flows.new; leaving = leaving.new; ranks = heap.new }) (length instance.now.arcs) }
+    ensures held { IsHeld instance.now (holding_of flows.new leaving.new heap.new) (length instance.now.arcs) }
     ensures enters { EntersOne instance.now.arcs number flows.old flows.new }
     ensures set { flows.new ≡ slice_set flows.old number result }
 {
@@ -53,12 +53,12 @@ pub fn enter(
     flows: &mut [u64],
     leaving: &mut [u128],
 ) -> u128
-    requires held { IsHeld instance.now (record { flows = flows.old; leaving = leaving.old; ranks = heap.old }) (length instance.now.arcs) }
+    requires held { IsHeld instance.now (holding_of flows.old leaving.old heap.old) (length instance.now.arcs) }
     requires fits { IsInstance instance.now }
     requires edges { AreListed instance.now edges.now (length instance.now.arcs) }
     requires step { step < instance.now.steps }
     requires fresh { (i : ℕ) → i < length instance.now.arcs → (arc_at instance.now.arcs i).start ≡ step → slice_index flows.old i ≡ 0 }
-    ensures held { IsHeld instance.now (record { flows = flows.new; leaving = leaving.new; ranks = heap.new }) (length instance.now.arcs) }
+    ensures held { IsHeld instance.now (holding_of flows.new leaving.new heap.new) (length instance.now.arcs) }
     ensures enter { Enter instance.now.arcs step flows.old flows.new }
     ensures load { load_at instance.now.arcs flows.old step + result ≡ load_at instance.now.arcs flows.new step }
 {

@@ -1,9 +1,9 @@
 //! Arcs that lose flow at a step over which more is than fits.
-ghost use Rattle.std.specs.Prelude.{◌≡◌, ◌≢◌, ℕ, ◌+◌, ◌-◌, ◌<◌, ◌≤◌, None, length, slice_index, slice_set};
-ghost use Rattle.flow_model.specs.Instances.{arc_at, load_at};
+ghost use Rattle.std.specs.Prelude.{◌≡◌, ◌+◌, ◌-◌, ◌<◌, ◌≤◌, None, length, slice_index, slice_set};
+ghost use Rattle.flow_model.specs.Instances.{load_at};
 ghost use Rattle.flow_parts.specs.Ranks.{rank_at};
 ghost use Rattle.flow_uniform.specs.Cuts.{AreCuts};
-ghost use Rattle.flow_uniform.specs.Holdings.{IsHeld};
+ghost use Rattle.flow_uniform.specs.Holdings.{IsHeld, holding_of};
 
 use flow_model::Instance;
 use flow_parts::Heap;
@@ -17,11 +17,11 @@ fn lower(
     flows: &mut [u64],
     leaving: &mut [u128],
 )
-    requires held { IsHeld instance.now (record { flows = flows.old; leaving = leaving.old; ranks = heap.old }) number }
+    requires held { IsHeld instance.now (holding_of flows.old leaving.old heap.old) number }
     requires number { number < length instance.now.arcs }
     requires out { rank_at heap.old number ≡ None }
     requires amount { amount ≤ slice_index flows.old number }
-    ensures held { IsHeld instance.now (record { flows = flows.new; leaving = leaving.new; ranks = heap.new }) (length instance.now.arcs) }
+    ensures held { IsHeld instance.now (holding_of flows.new leaving.new heap.new) (length instance.now.arcs) }
     ensures flows { flows.new ≡ slice_set flows.old number (slice_index flows.old number - amount) }
 {
     let end = instance.arcs()[number as usize].end;
@@ -43,12 +43,12 @@ pub fn evict(
     leaving: &mut [u128],
     cuts: &mut [u32],
 ) -> u128
-    requires held { IsHeld instance.now (record { flows = flows.old; leaving = leaving.old; ranks = heap.old }) (length instance.now.arcs) }
+    requires held { IsHeld instance.now (holding_of flows.old leaving.old heap.old) (length instance.now.arcs) }
     requires step { step < instance.now.steps }
     requires cuts { AreCuts instance.now flows.old cuts.old (step + 1) step }
     requires fresh { slice_index cuts.old step ≡ 0 }
     requires load { load ≡ load_at instance.now.arcs flows.old step }
-    ensures held { IsHeld instance.now (record { flows = flows.new; leaving = leaving.new; ranks = heap.new }) (length instance.now.arcs) }
+    ensures held { IsHeld instance.now (holding_of flows.new leaving.new heap.new) (length instance.now.arcs) }
     ensures cuts { AreCuts instance.now flows.new cuts.new (step + 1) (step + 1) }
     ensures load { result ≡ load_at instance.now.arcs flows.new step }
 {
@@ -56,7 +56,7 @@ pub fn evict(
     let mut load = load;
     while load > units {
         let Some(first) = heap.take_least() else {
-            unreachable!();
+            return load;
         };
         let number = first.0;
         let amount = (load - units).min(flows[number as usize] as u128) as u64;

@@ -26,13 +26,14 @@ pub struct Solver<'a> {
 
 impl<'a> Model for Solver<'a> {
     ghost use Rattle.flow_model.specs.Instances.{Instance as Chain};
+    ghost use Rattle.flow_uniform.specs.Holdings.{holding_of};
     ghost use Rattle.flow_uniform.specs.Starts.{IsAtStart};
 
     ghost Value = { Chain };
 
     ghost view = { λ s. s.instance.now };
 
-    ghost invariant = { λ s. IsAtStart s.instance.now s.cost s.edges (record { flows = s.flows.items; leaving = s.leaving.items; ranks = s.heap }) s.cuts.items s.prices.items };
+    ghost invariant = { λ s. IsAtStart s.instance.now s.cost s.edges (holding_of s.flows.items s.leaving.items s.heap) s.cuts.items s.prices.items };
 }
 
 impl<'a> Solver<'a> {

@@ -1,9 +1,9 @@
 //! The steps from the first to the last, as arcs leave, enter and lose flow.
-ghost use Rattle.std.specs.Prelude.{◌≡◌, ℕ, ◌+◌, ◌*◌, ◌<◌, ◌≤◌, length, slice_index};
+ghost use Rattle.std.specs.Prelude.{◌≡◌, ℕ, length, slice_index};
 ghost use Rattle.flow_model.specs.Instances.{IsInstance};
 ghost use Rattle.flow_parts.specs.OuterEdges.{AreListed};
 ghost use Rattle.flow_uniform.specs.Cuts.{AreCuts};
-ghost use Rattle.flow_uniform.specs.Holdings.{IsHeld};
+ghost use Rattle.flow_uniform.specs.Holdings.{IsHeld, holding_of};
 
 use crate::entering::enter;
 use crate::evicting::evict;
@@ -20,7 +20,7 @@ pub fn play(
     cuts: &mut [u32],
 )
     requires fits { IsInstance instance.now }
-    requires held { IsHeld instance.now (record { flows = flows.old; leaving = leaving.old; ranks = heap.old }) (length instance.now.arcs) }
+    requires held { IsHeld instance.now (holding_of flows.old leaving.old heap.old) (length instance.now.arcs) }
     requires edges { AreListed instance.now edges.now (length instance.now.arcs) }
     requires unused { (i : ℕ) → slice_index flows.old i ≡ 0 }
     requires each_step { length cuts.old ≡ instance.now.steps }

@@ -1,5 +1,5 @@
 //! Whether all arcs that cost something cost the same.
-ghost use Rattle.std.specs.Prelude.{◌≡◌, ◌⊎◌, ℕ, ◌<◌, ◌≤◌, ◌↔◌, All, IfSome, IsNone, IsTrue, length, slice_index_or};
+ghost use Rattle.std.specs.Prelude.{◌≡◌, ℕ, ◌<◌, ◌≤◌, ◌↔◌, All, IfSome, IsNone, IsTrue, length};
 ghost use Rattle.flow_model.specs.Instances.{arc_at};
 ghost use Rattle.flow_uniform.specs.Uniform.{IsUniform};
 

@@ -3,13 +3,13 @@ use Rattle.std.proofs.Common.{◌≡◌, ◌∙◌, ℕ, suc, ◌+◌, ◌-◌, 
 use Rattle.std.proofs.lemmas.List.{get_or-replicate, length-replicate}
 use Rattle.flow_model.specs.declared.arcs.OuterArc.{OuterArc}
 use Rattle.flow_model.specs.Instances.{arc_at}
-use Rattle.flow_windows.specs.Cuts.{AreStarts, IsListed, Lists}
+use Rattle.flow_windows.specs.Cuts.{AreStarts, IsListed, WindowLists}
 use Rattle.flow_windows.proofs.Gathering.{passing}
 use Rattle.flow_windows.proofs.Listing.{listed_more}
 use Rattle.flow_windows.proofs.Merging.{start_test}
 
 -- the lists have the arcs from number m on
-pub record AreBegun (width : ℕ) (arcs : List OuterArc) (windows : ℕ) (lists : Lists) (m : ℕ) : Type 0 where
+pub record AreBegun (width : ℕ) (arcs : List OuterArc) (windows : ℕ) (lists : WindowLists) (m : ℕ) : Type 0 where
   pub each_window : length lists.first ≡ windows
   pub each_arc : length lists.next ≡ length arcs
   pub listed : (k : ℕ) → k < length lists.first → IsListed (length arcs) lists.next (get_or lists.first k 0) (passing (start_test width k arcs) m (length arcs - m))
@@ -29,7 +29,7 @@ begun_none width arcs windows first next first_is next_is =
     }
 
 -- with one more arc
-pub begun_more : (width : ℕ) (arcs : List OuterArc) (windows : ℕ) (lists : Lists) (m b w : ℕ) → AreBegun width arcs windows lists m → b + 1 ≡ m → m ≤ length arcs → w ≡ (arc_at arcs b).start / width → w < windows
+pub begun_more : (width : ℕ) (arcs : List OuterArc) (windows : ℕ) (lists : WindowLists) (m b w : ℕ) → AreBegun width arcs windows lists m → b + 1 ≡ m → m ≤ length arcs → w ≡ (arc_at arcs b).start / width → w < windows
     → AreBegun width arcs windows (record { first = set lists.first w b; next = set lists.next b (get_or lists.first w 0) }) b
 begun_more width arcs windows lists m b w begun one within window_is window_in =
     let past : ℕ = length arcs in
@@ -46,7 +46,7 @@ begun_more width arcs windows lists m b w begun one within window_is window_in =
     }
 
 -- once all arcs are added
-pub begun_all : (width : ℕ) (arcs : List OuterArc) (windows : ℕ) (lists : Lists) (m : ℕ) → AreBegun width arcs windows lists m → m ≡ 0 → AreStarts width arcs lists
+pub begun_all : (width : ℕ) (arcs : List OuterArc) (windows : ℕ) (lists : WindowLists) (m : ℕ) → AreBegun width arcs windows lists m → m ≡ 0 → AreStarts width arcs lists
 begun_all width arcs windows lists m begun last =
     let all : length arcs - m ≡ length arcs = omega arith in
     record {

@@ -1,5 +1,5 @@
 -- The windows of an instance one after another, and the arcs that meet each.
-use Rattle.std.specs.Prelude.{◌≡◌, ℕ, ◌+◌, ◌-◌, ◌*◌, ◌/◌, ◌<◌, ◌≤◌, ◌==◌, ◌&&◌, nat_lt, Bool, List, [], ◌∷◌, length, filter, slice_index}
+use Rattle.std.specs.Prelude.{◌≡◌, ℕ, ◌+◌, ◌-◌, ◌*◌, ◌/◌, ◌<◌, ◌≤◌, ◌==◌, ◌&&◌, nat_lt, Bool, List, [], ◌∷◌, length, filter, slice_index, slice_set}
 use Rattle.std.specs.List.{range_with_len}
 use Rattle.flow_model.specs.declared.arcs.OuterArc.{OuterArc}
 use Rattle.flow_model.specs.Instances.{Instance, arc_at}
@@ -10,6 +10,10 @@ pub record Cut : Type 0 where
   pub whole : Instance
   pub width : ℕ
   pub number : ℕ
+
+-- the window of that number
+abbrev pub cut_of : Instance → ℕ → ℕ → Cut
+cut_of whole width number = record { whole = whole; width = width; number = number }
 
 -- the numbers of the arcs that pass the test, in their order
 abbrev pub numbers_where : (OuterArc → Bool) → List OuterArc → List ℕ
@@ -29,9 +33,13 @@ starts_in width k arc = arc.start / width == k
 
 -- for each window the first number in its list, and for each number the next one in its list; at the end stands the
 -- number that is past all
-pub record Lists : Type 0 where
+pub record WindowLists : Type 0 where
   pub first : List ℕ
   pub next : List ℕ
+
+-- the number at the beginning of the list of the window
+abbrev pub put_first : WindowLists → ℕ → ℕ → WindowLists
+put_first lists number window = record { first = slice_set lists.first window number; next = slice_set lists.next number (slice_index lists.first window) }
 
 -- from this number on the list has these
 abbrev pub IsListed : ℕ → List ℕ → ℕ → List ℕ → Type 0
@@ -39,12 +47,12 @@ IsListed past next from [] = from ≡ past
 IsListed past next from (i ∷ numbers) = (from ≡ i) × IsListed past next (slice_index next i) numbers
 
 -- the list of each window has the numbers of the arcs that start in it
-pub record AreStarts (width : ℕ) (arcs : List OuterArc) (lists : Lists) : Type 0 where
+pub record AreStarts (width : ℕ) (arcs : List OuterArc) (lists : WindowLists) : Type 0 where
   pub each_arc : length lists.next ≡ length arcs
   pub each_window : (k : ℕ) → k < length lists.first → IsListed (length arcs) lists.next (slice_index lists.first k) (numbers_where (starts_in width k) arcs)
 
 -- the arcs that meet the window are known, and lists and room are there for the windows that follow
-pub record IsCut (cut : Cut) (lists : Lists) (met : List ℕ) (room : ℕ) (spare : ℕ) : Type 0 where
+pub record IsCut (cut : Cut) (lists : WindowLists) (met : List ℕ) (room : ℕ) (spare : ℕ) : Type 0 where
   pub some_width : 0 < cut.width
   pub starts : AreStarts cut.width cut.whole.arcs lists
   pub windows : (k : ℕ) → cut.width * k < cut.whole.steps → k + 1 < length lists.first

@@ -1,7 +1,6 @@
 //! The arcs that start in each window.
-ghost use Rattle.std.specs.Prelude.{◌≡◌, ◌<◌, ◌≤◌, ◌*◌, ◌+◌, ◌/◌, ◌^◌, length, slice_index, slice_set, IfOk, All};
-ghost use Rattle.flow_model.specs.Instances.{IsArc};
-ghost use Rattle.flow_windows.specs.Cuts.{AreStarts, Lists};
+ghost use Rattle.std.specs.Prelude.{◌≡◌, ◌<◌, ◌≤◌, ◌/◌, ◌^◌, length, slice_index, IfOk, All};
+ghost use Rattle.flow_windows.specs.Cuts.{AreStarts, WindowLists, put_first};
 
 use bound_base::NoMemory;
 use flow_model::OuterArc;
@@ -17,9 +16,9 @@ pub(crate) struct Starts {
 }
 
 impl Model for Starts {
-    ghost use Rattle.flow_windows.specs.Cuts.{Lists};
+    ghost use Rattle.flow_windows.specs.Cuts.{WindowLists};
 
-    ghost Value = { Lists };
+    ghost Value = { WindowLists };
 
     ghost view = { λ s. record { first = s.first.items; next = s.next.items } };
 }
@@ -52,7 +51,7 @@ impl Starts {
     fn add(&mut self, number: u32, window: u32)
         requires number { number < length self.old.next }
         requires window { window < length self.old.first }
-        ensures { self.new ≡ record { first = slice_set self.old.first window number; next = slice_set self.old.next number (slice_index self.old.first window) } }
+        ensures { self.new ≡ put_first self.old number window }
     {
         self.next[number as usize] = self.first[window as usize];
         self.first[window as usize] = number;

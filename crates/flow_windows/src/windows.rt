@@ -1,5 +1,5 @@
 //! The windows of an instance, one after another.
-ghost use Rattle.std.specs.Prelude.{◌≡◌, ◌<◌, ◌≤◌, ◌*◌, ◌+◌, ◌/◌, ◌^◌, [], length, slice_index_or, IsTrue, ◌↔◌, IfOk};
+ghost use Rattle.std.specs.Prelude.{◌≡◌, ◌<◌, ◌≤◌, ◌*◌, ◌+◌, ◌^◌, [], length, slice_index_or, IsTrue, ◌↔◌, IfOk};
 ghost use Rattle.std.specs.Vec.{vec_capacity};
 ghost use Rattle.flow_model.specs.Windows.{meets, window_instance};
 ghost use Rattle.flow_windows.specs.Cuts.{AreStarts, numbers_of, numbers_where, met_before};
@@ -25,14 +25,14 @@ pub struct Windows<'a> {
 }
 
 impl<'a> Model for Windows<'a> {
-    ghost use Rattle.flow_windows.specs.Cuts.{Cut, IsCut};
+    ghost use Rattle.flow_windows.specs.Cuts.{Cut, IsCut, cut_of};
     ghost use Rattle.std.specs.Vec.{vec_capacity};
 
     ghost Value = { Cut };
 
-    ghost view = { λ w. record { whole = w.whole.now; width = w.width; number = w.number } };
+    ghost view = { λ w. cut_of w.whole.now w.width w.number };
 
-    ghost invariant = { λ w. IsCut (record { whole = w.whole.now; width = w.width; number = w.number }) w.starts w.met.items (vec_capacity w.met) (vec_capacity w.spare) };
+    ghost invariant = { λ w. IsCut (cut_of w.whole.now w.width w.number) w.starts w.met.items (vec_capacity w.met) (vec_capacity w.spare) };
 }
 
 // The number at that place, and what is past all numbers where the place is past the end.

@@ -5,7 +5,7 @@ use Rattle.flow_model.specs.Instances.{Instance}
 use Rattle.flow_model.specs.Pushes.{CanPush, push_path}
 use Rattle.flow_network.specs.States.{State, IsState}
 use Rattle.flow_parts.specs.OuterEdges.{AreListed}
-use Rattle.flow_solver.specs.Searches.{IsReady, LeadsBack}
+use Rattle.flow_solver.specs.Searches.{IsReady, LeadsBackToFirst}
 use Rattle.flow_solver.proofs.Guides.{enough_at, ready_lowered, leads_back}
 use Rattle.flow_solver.proofs.LastRound.{ready_after_push}
 use Rattle.flow_solver.proofs.rounds.augment.Goals as goal
@@ -18,7 +18,7 @@ trace-route-requires-clause-back c =
     let first : State = c.args.network.now in
     let found = c.run.new.self in
     let low = c.lower.new.network.potentials in
-    subst (λ (s : State). LeadsBack s found) (sym c.lower.ensures.same) (leads_back first found low c.requires.ready c.run.ensures.search c.run.ensures.settled c.lower.ensures.lowered)
+    subst (λ (s : State). LeadsBackToFirst s found) (sym c.lower.ensures.same) (leads_back first found low c.requires.ready c.run.ensures.search c.run.ensures.settled c.lower.ensures.lowered)
 
 pub push_onward-requires-clause-ready : goal.push_onward-requires-clause-ready
 push_onward-requires-clause-ready c =
@@ -65,7 +65,7 @@ pub lower-requires-clause-fits : goal.lower-requires-clause-fits
 lower-requires-clause-fits c = c.requires.ready.fits
 
 pub lower-requires-clause-each_distance : goal.lower-requires-clause-each_distance
-lower-requires-clause-each_distance c = c.run.ensures.search.tree.each_distance
+lower-requires-clause-each_distance c = c.run.ensures.search.each_distance
 
 pub trace-route-requires-clause-fits : goal.trace-route-requires-clause-fits
 trace-route-requires-clause-fits c = c.lower.ensures.fits
@@ -108,10 +108,10 @@ returns-clause-room c =
     let search = c.run.ensures.search in
     let places = search.queue.each_distance in
     record {
-      distances = search.tree.each_distance;
-      parents = search.tree.each_parent;
-      nodes = omega (arith, search.queue.placed.lengths, places, search.tree.each_distance);
-      places = omega (arith, places, search.tree.each_distance);
+      distances = search.each_distance;
+      parents = search.each_parent;
+      nodes = omega (arith, search.queue.placed.lengths, places, search.each_distance);
+      places = omega (arith, places, search.each_distance);
       stack = search.small_stack;
     }
 

@@ -12,7 +12,7 @@ loop-number-init c =
     let arcs = c.args.instance.now.arcs in
     record {
       changed = λ t h.
-          omega (arith, c.requires.levels.1 t (omega (arith, h, c.requires.levels.0)), flow_where-nothing (starts_at t) arcs c.args.flows.now, flow_where-nothing (ends_at t) arcs c.args.flows.now);
+          omega (arith, c.requires.levels t (omega (arith, h, c.requires.each)), flow_where-nothing (starts_at t) arcs c.args.flows.now, flow_where-nothing (ends_at t) arcs c.args.flows.now);
       each = refl;
     }
 
@@ -49,7 +49,7 @@ overflow_sub-changes c =
     let start_is : start ≡ (arc_at i.arcs n).start = ap (λ (a : OuterArc). a.start) e in
     let end_is : end ≡ (arc_at i.arcs n).end = ap (λ (a : OuterArc). a.end) e in
     let apart : end ≢ start = λ same. omega (arith, same, start_is, end_is, own.order) in
-    let room : start < length changes = omega (arith, start_is, own.order, own.within, inv.each, c.requires.levels.0) in
+    let room : start < length changes = omega (arith, start_is, own.order, own.within, inv.each, c.requires.each) in
     omega (
       arith,
       (set_at changes start end (slice_index changes start + flow) room).1 apart,
@@ -77,7 +77,7 @@ loop-number-preserved c =
     let end_is : end ≡ (arc_at i.arcs n).end = ap (λ (a : OuterArc). a.end) e in
     let risen : List ℕ = set changes start (slice_index changes start + slice_index flows n) in
     record {
-      changed = changed i.arcs flows changes n start end i.steps inside within (omega (arith, end_is, own.within, inv.each, c.requires.levels.0)) (omega (arith, start_is, end_is, own.order)) (sym start_is) (sym end_is)
+      changed = changed i.arcs flows changes n start end i.steps inside within (omega (arith, end_is, own.within, inv.each, c.requires.each)) (omega (arith, start_is, end_is, own.order)) (sym start_is) (sym end_is)
           (omega (
             arith,
             inv.changed (arc_at i.arcs n).end own.within,

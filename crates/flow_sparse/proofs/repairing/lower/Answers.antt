@@ -1,7 +1,8 @@
 use Rattle.std.proofs.Common.{◌≡◌, ◌≢◌, ℕ, ◌+◌, ◌-◌, ◌<◌, ◌≤◌, ◌∙◌, length, ap, sym, set, arith, ⊎_elim, length-set, slice_index}
 use Rattle.std.proofs.lemmas.Bool.{cases_eq}
 use Rattle.flow_model.proofs.Lists.{set_at}
-use Rattle.flow_sparse.specs.States.{State, IsReached, lowered}
+use Rattle.flow_parts.specs.Searches.{lowered}
+use Rattle.flow_sparse.specs.States.{State, IsReached}
 use Rattle.flow_sparse.specs.Searches.{Found}
 use Rattle.flow_sparse.proofs.Distances.{reached}
 use Rattle.flow_sparse.proofs.Lowered.{enough}
@@ -61,7 +62,7 @@ loop-node-preserved c =
             c.limit-limit.ensures,
             c.min.ensures,
             inv.later node (omega arith),
-            ap (lowered s found.distances found.limit) e,
+            ap (lowered s.potentials found.distances found.limit) e,
           ))
           (λ (n : k ≢ node). here ∙ at.1 n ∙ inv.done k (omega arith))
           (cases_eq k node);

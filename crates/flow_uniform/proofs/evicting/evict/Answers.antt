@@ -6,14 +6,23 @@ use Rattle.flow_uniform.proofs.CutArcs.{IsFarthest, cut_more}
 use Rattle.flow_uniform.proofs.Holding.{farthest, some_ranked, taken_held}
 use Rattle.flow_uniform.proofs.evicting.evict.Goals as goal
 
-pub unreachable-requires : goal.unreachable-requires
-unreachable-requires c =
+-- some arc is in the heap while the load is over the units
+pub returns-in_default-clause-cuts : goal.returns-in_default-clause-cuts
+returns-in_default-clause-cuts c =
     let inv = c.loop-load.invariant in
     let held : Holding = record { flows = c.loop-load.flows; leaving = c.loop-load.leaving; ranks = c.loop-load.heap } in
-    some_ranked c.args.instance.now held c.args.step inv.held (omega (arith, inv.load, c.loop-load-test.true)) (c.in_default.ensures.none.0 refl)
+    absurd (some_ranked c.args.instance.now held c.args.step inv.held (omega (arith, inv.load, c.loop-load-test.true)) (c.in_default.ensures.none.0 refl))
 
 pub lower-requires-clause-held : goal.lower-requires-clause-held
 lower-requires-clause-held c = taken_held c.args.instance.now c.loop-load.flows c.loop-load.leaving c.loop-load.heap c.take_least.new.self c.in-Some.first.0 c.loop-load.invariant.held c.in-Some.ensures.taken
+
+pub loop-load-smaller : goal.loop-load-smaller
+loop-load-smaller c =
+    let inv = c.loop-load.invariant in
+    let held : Holding = record { flows = c.loop-load.flows; leaving = c.loop-load.leaving; ranks = c.loop-load.heap } in
+    let far : IsFarthest c.args.instance.now.arcs c.loop-load.flows c.args.step c.in-Some.first.0 =
+    farthest c.args.instance.now c.loop-load.cuts held c.args.step c.in-Some.first.0 c.in-Some.first.1 c.arcs.ensures.in_range inv.held inv.cuts (omega (arith, inv.load, c.loop-load-test.true)) c.in-Some.ensures.first in
+    omega (arith, c.min-amount.ensures, far.some, c.loop-load-test.true)
 
 pub loop-load-preserved : goal.loop-load-preserved
 loop-load-preserved c =

@@ -19,7 +19,7 @@ loop-number-preserved c =
     let own : c.tail_at.result ≡ tail_of i.arcs number = c.tail_at.ensures ∙ ap (λ (arcs : List OuterArc). tail_of arcs number) c.arcs-arcs.ensures.arcs in
     record {
       listed = subst (λ (x : Lists). AreListed i x (number + 1)) (sym c.add.ensures)
-          (one_more_listed i old number c.tail_at.result inv.listed room (omega (arith, own, (ends_within i (edge_of (length i.arcs) number) fits (is_edge_of i number within)).0)) (sym own));
+          (one_more_listed i old number c.tail_at.result inv.listed room (omega (arith, own, (ends_within i fits (edge_of (length i.arcs) number) (is_edge_of i number within)).0)) (sym own));
       room = ap (λ (x : Lists). length x.next) c.add.ensures ∙ length-set old.next number (get_or old.first c.tail_at.result 0) ∙ inv.room;
     }
 
@@ -41,7 +41,7 @@ add-requires-clause-node c =
     let number : ℕ = c.loop-number.number in
     let within : number < 2 * length i.arcs = omega (arith, c.loop-number-test.true, c.requires) in
     let own : c.tail_at.result ≡ tail_of i.arcs number = c.tail_at.ensures ∙ ap (λ (arcs : List OuterArc). tail_of arcs number) c.arcs-arcs.ensures.arcs in
-    omega (arith, own, (ends_within i (edge_of (length i.arcs) number) c.arcs-arcs.ensures.in_range (is_edge_of i number within)).0, c.loop-number.invariant.listed.each_node)
+    omega (arith, own, (ends_within i c.arcs-arcs.ensures.in_range (edge_of (length i.arcs) number) (is_edge_of i number within)).0, c.loop-number.invariant.listed.each_node)
 
 pub add-requires-clause-few : goal.add-requires-clause-few
 add-requires-clause-few c = omega (arith, c.loop-number-test.true, c.requires, c.arcs-arcs.ensures.in_range.few_arcs)

@@ -1,21 +1,21 @@
 use Rattle.std.proofs.Common.{◌≡◌, ◌∙◌, refl, sym, ap, subst, sum, arith}
-use Rattle.flow_solver.specs.Searches.{Found, AreSettled}
+use Rattle.flow_solver.specs.Searches.{FoundToLast, AreSettledToLast}
 use Rattle.flow_solver.proofs.Distances.{next_settled, rests_after_pop, search_popped}
 use Rattle.flow_solver.proofs.search.Search.drain.Goals as goal
 
 pub loop-node-preserved : goal.loop-node-preserved
 loop-node-preserved c =
     let n = c.args.network.now in
-    let old : Found = c.loop-node.self in
-    let taken : Found = c.pop.new.self in
-    let new : Found = c.relax_from.new.self in
+    let old : FoundToLast = c.loop-node.self in
+    let taken : FoundToLast = c.pop.new.self in
+    let new : FoundToLast = c.relax_from.new.self in
     let pop = c.in-Some.ensures in
     let nears = c.relax_from.ensures.nears in
     record {
       search = nears.search;
-      settled = next_settled n old taken new c.in-Some.node c.loop-node.invariant.settled (ap (λ (f : Found). f.distances) pop.rest)
+      settled = next_settled n old taken new c.in-Some.node c.loop-node.invariant.settled (ap (λ (f : FoundToLast). f.distances) pop.rest)
           (λ v other rests. rests_after_pop old taken c.in-Some.node v pop.rest pop.some.0 pop.some.1 other rests) nears c.relax_from.ensures.settled;
-      falls = omega (arith, c.loop-node.invariant.falls, nears.falls, pop.some.0, ap (λ (f : Found). sum f.distances) pop.rest, ap (λ (f : Found). f.waiting.count) pop.rest);
+      falls = omega (arith, c.loop-node.invariant.falls, nears.falls, pop.some.0, ap (λ (f : FoundToLast). sum f.distances) pop.rest, ap (λ (f : FoundToLast). f.waiting.count) pop.rest);
     }
 
 pub loop-node-init : goal.loop-node-init
@@ -39,7 +39,7 @@ relax_from-requires-clause-node c = omega (arith, c.in-Some.ensures.some.0, c.in
 pub loop-node-smaller : goal.loop-node-smaller
 loop-node-smaller c =
     let pop = c.in-Some.ensures in
-    omega (arith, c.relax_from.ensures.nears.falls, pop.some.0, ap (λ (f : Found). sum f.distances) pop.rest, ap (λ (f : Found). f.waiting.count) pop.rest)
+    omega (arith, c.relax_from.ensures.nears.falls, pop.some.0, ap (λ (f : FoundToLast). sum f.distances) pop.rest, ap (λ (f : FoundToLast). f.waiting.count) pop.rest)
 
 pub returns-clause-search : goal.returns-clause-search
 returns-clause-search c = search_popped c.args.network.now c.loop-node.self c.pop.new.self c.loop-node.invariant.search c.in_default.ensures.rest (omega (arith, c.in_default.ensures.same))
@@ -47,9 +47,9 @@ returns-clause-search c = search_popped c.args.network.now c.loop-node.self c.po
 pub returns-clause-settled : goal.returns-clause-settled
 returns-clause-settled c =
     let n = c.args.network.now in
-    let old : Found = c.loop-node.self in
+    let old : FoundToLast = c.loop-node.self in
     let same : c.pop.new.self ≡ old = c.in_default.ensures.rest ∙ ap (λ d. record old { depth = d }) c.in_default.ensures.same in
-    subst (λ (f : Found). AreSettled n f) (sym same) c.loop-node.invariant.settled
+    subst (λ (f : FoundToLast). AreSettledToLast n f) (sym same) c.loop-node.invariant.settled
 
 pub returns-clause-depth : goal.returns-clause-depth
 returns-clause-depth c = c.in_default.ensures.same ∙ c.in_default.ensures.none.0 refl
@@ -57,4 +57,4 @@ returns-clause-depth c = c.in_default.ensures.same ∙ c.in_default.ensures.none
 pub returns-clause-falls : goal.returns-clause-falls
 returns-clause-falls c =
     let pop = c.in_default.ensures in
-    omega (arith, c.loop-node.invariant.falls, pop.same, ap (λ (f : Found). sum f.distances) pop.rest, ap (λ (f : Found). f.waiting.count) pop.rest)
+    omega (arith, c.loop-node.invariant.falls, pop.same, ap (λ (f : FoundToLast). sum f.distances) pop.rest, ap (λ (f : FoundToLast). f.waiting.count) pop.rest)

@@ -4,8 +4,8 @@ use Rattle.flow_model.specs.declared.edges.Edge.{Edge}
 use Rattle.flow_model.specs.Instances.{Instance}
 use Rattle.flow_model.specs.Networks.{IsEdge}
 use Rattle.flow_parts.specs.OuterEdges.{edge_of, tail_of}
-use Rattle.flow_solver.specs.Searches.{IsSettled, Rests}
-use Rattle.flow_solver.proofs.Distances.{Nears-trans}
+use Rattle.flow_solver.specs.Searches.{IsSettledToLast, WaitsNowhere}
+use Rattle.flow_solver.proofs.Distances.{NearsToLast-trans}
 use Rattle.flow_parts.proofs.EdgeLists.{is_edge_of}
 use Rattle.flow_solver.proofs.search.Search.relax_outer.Goals as goal
 
@@ -35,16 +35,16 @@ loop-left-preserved c =
     let here : tail_of arcs number ≡ c.args.node = inv.here c.loop-left-test.true in
     let next = c.after-left.ensures in
     record {
-      nears = Nears-trans n c.args.self.now before after inv.nears c.relax.ensures.nears;
+      nears = NearsToLast-trans n c.args.self.now before after inv.nears c.relax.ensures.nears;
       within = omega (arith, next, lists.next_low number within);
       here = λ some. ap (λ k. tail_of arcs (k - 1)) next ∙ lists.next_here number within (omega (arith, next, some)) ∙ here;
       settled = λ rests k low high at.
           ⊎_elim
-          (λ (e : k ≡ number). subst (λ (f : Edge). IsSettled n after.distances f) (own ∙ ap (edge_of count) (sym e)) c.relax.ensures.settled)
+          (λ (e : k ≡ number). subst (λ (f : Edge). IsSettledToLast n after.distances f) (own ∙ ap (edge_of count) (sym e)) c.relax.ensures.settled)
           (λ (other : k ≡ number → ⊥).
           ⊎_elim
           (λ (h : k < number). absurd (lists.none_between number k within (omega (arith, next, low)) h (at ∙ sym here)))
-          (λ (h : number ≤ k). c.relax.ensures.nears.stays (edge_of count k) (is_edge_of n.instance k high) (subst (λ (v : ℕ). Rests after v) (sym at) rests) (inv.settled (c.relax.ensures.nears.rests c.args.node rests) k (omega arith) high at))
+          (λ (h : number ≤ k). c.relax.ensures.nears.stays (edge_of count k) (is_edge_of n.instance k high) (subst (λ (v : ℕ). WaitsNowhere after v) (sym at) rests) (inv.settled (c.relax.ensures.nears.rests c.args.node rests) k (omega arith) high at))
           (cases_lt k number))
           (cases_eq k number);
     }

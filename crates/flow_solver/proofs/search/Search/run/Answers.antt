@@ -2,7 +2,7 @@ use Rattle.std.proofs.Common.{◌≡◌, ◌∙◌, ◌<◌, ◌≤◌, ℕ, Lis
 use Rattle.std.proofs.lemmas.Bool.{cases_lt}
 use Rattle.flow_model.specs.Instances.{Instance}
 use Rattle.flow_model.specs.Networks.{tail}
-use Rattle.flow_solver.specs.Searches.{Found}
+use Rattle.flow_solver.specs.Searches.{FoundToLast}
 use Rattle.flow_parts.proofs.EdgeLists.{ends_within}
 use Rattle.flow_solver.proofs.Distances.{all_settled, next_settled, rests_after_take, search_taken}
 use Rattle.flow_parts.proofs.QueueSteps.{waits_within}
@@ -19,7 +19,7 @@ loop-node-init c =
           let some : 0 < t = ⊎_elim (λ (h : 0 < t). h) (λ (h : t ≤ 0). let first : t ≡ 0 = omega arith in absurd (omega (arith, c.begin.ensures.waits, rests.unqueued, ap (slice_index found.waiting.places) first))) (cases_lt 0 t) in
           omega (
             arith,
-            c.begin.ensures.far t some (ends_within n.instance e c.requires.ready.fits.in_range is).0,
+            c.begin.ensures.far t some (ends_within n.instance c.requires.ready.fits.in_range e is).0,
             c.begin.ensures.search.tree.small n.instance.steps (omega arith),
             c.requires.ready.valid e is has,
           );
@@ -28,10 +28,10 @@ loop-node-init c =
 
 pub drain-requires-clause-settled : goal.drain-requires-clause-settled
 drain-requires-clause-settled c =
-    let old : Found = c.loop-node.self in
-    let taken : Found = c.take_nearest.new.self in
+    let old : FoundToLast = c.loop-node.self in
+    let taken : FoundToLast = c.take_nearest.new.self in
     let take = c.in-Some.ensures in
-    next_settled c.args.network.now old taken c.relax_from.new.self c.in-Some.node c.loop-node.invariant.settled (ap (λ (f : Found). f.distances) take.rest)
+    next_settled c.args.network.now old taken c.relax_from.new.self c.in-Some.node c.loop-node.invariant.settled (ap (λ (f : FoundToLast). f.distances) take.rest)
     (λ v other rests. rests_after_take old taken c.in-Some.node v take.rest take.some other rests) c.relax_from.ensures.nears c.relax_from.ensures.settled
 
 pub begin-requires-clause-ready : goal.begin-requires-clause-ready
@@ -47,7 +47,7 @@ pub distance-requires : goal.distance-requires
 distance-requires c =
     let search = c.loop-node.invariant.search in
     let take = c.in-Some.ensures in
-    omega (arith, waits_within c.loop-node.self.waiting c.in-Some.node take.some.waited, search.queue.each_distance, ap (λ (f : Found). length f.distances) take.rest)
+    omega (arith, waits_within c.loop-node.self.waiting c.in-Some.node take.some.waited, search.queue.each_distance, ap (λ (f : FoundToLast). length f.distances) take.rest)
 
 pub distance-requires-in-Some : goal.distance-requires-in-Some
 distance-requires-in-Some c =
@@ -55,8 +55,8 @@ distance-requires-in-Some c =
       arith,
       c.steps-last.ensures,
       ap (λ (i : Instance). i.steps) c.instance.ensures.instance,
-      c.loop-node.invariant.search.tree.each_distance,
-      ap (λ (f : Found). length f.distances) c.in-Some.ensures.rest,
+      c.loop-node.invariant.search.each_distance,
+      ap (λ (f : FoundToLast). length f.distances) c.in-Some.ensures.rest,
     )
 
 pub returns-then-distance-clause-search : goal.returns-then-distance-clause-search
@@ -65,10 +65,10 @@ returns-then-distance-clause-search c = search_taken c.args.network.now c.loop-n
 pub returns-then-distance-clause-settled : goal.returns-then-distance-clause-settled
 returns-then-distance-clause-settled c =
     let n = c.args.network.now in
-    let old : Found = c.loop-node.self in
-    let taken : Found = c.take_nearest.new.self in
+    let old : FoundToLast = c.loop-node.self in
+    let taken : FoundToLast = c.take_nearest.new.self in
     let take = c.in-Some.ensures in
-    let same : taken.distances ≡ old.distances = ap (λ (f : Found). f.distances) take.rest in
+    let same : taken.distances ≡ old.distances = ap (λ (f : FoundToLast). f.distances) take.rest in
     let last : c.steps-last.result ≡ n.instance.steps = c.steps-last.ensures ∙ ap (λ (i : Instance). i.steps) c.instance.ensures.instance in
     let limit : slice_index old.distances n.instance.steps ≤ slice_index old.distances c.in-Some.node = omega (
       arith,
@@ -94,7 +94,7 @@ relax_from-requires-clause-edges c = c.requires.edges
 pub relax_from-requires-clause-node : goal.relax_from-requires-clause-node
 relax_from-requires-clause-node c =
     let search = c.loop-node.invariant.search in
-    omega (arith, waits_within c.loop-node.self.waiting c.in-Some.node c.in-Some.ensures.some.waited, search.queue.each_distance, search.tree.each_distance)
+    omega (arith, waits_within c.loop-node.self.waiting c.in-Some.node c.in-Some.ensures.some.waited, search.queue.each_distance, search.each_distance)
 
 pub drain-requires-clause-ready : goal.drain-requires-clause-ready
 drain-requires-clause-ready c = c.requires.ready
@@ -113,8 +113,8 @@ loop-node-smaller c =
       c.drain.ensures.falls,
       c.relax_from.ensures.nears.falls,
       take.some.quits.count,
-      ap (λ (f : Found). sum f.distances) take.rest,
-      ap (λ (f : Found). f.depth) take.rest,
+      ap (λ (f : FoundToLast). sum f.distances) take.rest,
+      ap (λ (f : FoundToLast). f.depth) take.rest,
     )
 
 pub loop-node-preserved : goal.loop-node-preserved
@@ -125,8 +125,8 @@ returns-clause-search c = search_taken c.args.network.now c.loop-node.self c.tak
 
 pub returns-clause-settled : goal.returns-clause-settled
 returns-clause-settled c =
-    let old : Found = c.loop-node.self in
+    let old : FoundToLast = c.loop-node.self in
     let inv = c.loop-node.invariant in
     let none : old.waiting.count ≡ 0 = c.in_default.ensures.none.0 refl in
-    all_settled c.args.network.now old c.take_nearest.new.self c.requires.ready inv.settled inv.unstacked (ap (λ (f : Found). f.distances) c.in_default.ensures.rest)
+    all_settled c.args.network.now old c.take_nearest.new.self c.requires.ready inv.settled inv.unstacked (ap (λ (f : FoundToLast). f.distances) c.in_default.ensures.rest)
     (λ v within waits. absurd (omega (arith, inv.search.queue.placed.low v, none, waits)))

@@ -3,7 +3,7 @@ use Rattle.std.proofs.lemmas.Result.{err_from_is_err_and}
 use Rattle.flow_model.specs.Instances.{Instance}
 use Rattle.flow_network.specs.States.{State, no_flows}
 use Rattle.flow_parts.specs.OuterEdges.{AreListed}
-use Rattle.flow_solver.specs.Searches.{HasRoom}
+use Rattle.flow_solver.specs.Searches.{HasSearchRoom}
 use Rattle.flow_solver.proofs.solver.Solver.new.Goals as goal
 
 pub returns-in_err-path : goal.returns-in_err-path
@@ -36,7 +36,7 @@ invariant_of-result c =
     record {
       ready = c.set_slope.ensures.ready;
       edges = subst (λ (i : Instance). AreListed i c.in_ok-edges.edges (2 * length i.arcs)) (sym same) c.in_ok-edges.ensures;
-      room = subst (λ (k : ℕ). HasRoom k c.in_ok-search.search) steps c.in_ok-search.ensures;
+      room = subst (λ (k : ℕ). HasSearchRoom k c.in_ok-search.search) steps c.in_ok-search.ensures;
       marks = omega (arith, c.in_ok-dead.ensures, steps);
       each_hop = omega (arith, c.in_ok-path.ensures.len, c.in_ok-path.path.ok.0, steps);
     }

@@ -3,7 +3,7 @@ use Rattle.std.proofs.lemmas.List.{length-append, length-take-le}
 use Rattle.flow_model.specs.Instances.{Instance, IsSolution}
 use Rattle.flow_model.proofs.Lists.{written}
 use Rattle.flow_parts.specs.OuterEdges.{AreListed}
-use Rattle.flow_solver.specs.Searches.{HasRoom}
+use Rattle.flow_solver.specs.Searches.{HasSearchRoom}
 use Rattle.flow_solver.proofs.LastRound.{solved}
 use Rattle.flow_solver.proofs.solver.Solver.solve.Goals as goal
 
@@ -55,7 +55,7 @@ loop-network-preserved c =
       ready = c.augment.ensures.advances.ready;
       same = same ∙ inv.same;
       edges = subst (λ (i : Instance). AreListed i c.self.inside.edges (2 * length i.arcs)) (sym same) inv.edges;
-      room = subst (λ (i : Instance). HasRoom i.steps c.augment.new.search) (sym same) c.augment.ensures.room;
+      room = subst (λ (i : Instance). HasSearchRoom i.steps c.augment.new.search) (sym same) c.augment.ensures.room;
       marks = omega (arith, c.augment.ensures.marks, inv.marks, ap (λ (i : Instance). i.steps) same);
       path = omega (arith, length-take-le path.len (new ++ rest) (omega (arith, length-append new rest, len, path.ok.0)), path.ok.0, inv.path, ap (λ (i : Instance). i.steps) same);
     }

@@ -1,6 +1,6 @@
 use Rattle.std.proofs.Common.{◌≡◌, ◌+◌, ◌-◌, ◌*◌, length}
 use Rattle.flow_parts.specs.OuterEdges.{AreListed}
-use Rattle.flow_solver.specs.Searches.{HasRoom, IsReady}
+use Rattle.flow_solver.specs.Searches.{HasSearchRoom, IsReady}
 use Rattle.flow_solver.proofs.solver.Solver.solve.Given as goal
 
 abbrev pub invariant-loop-network : goal.invariant-loop-network
@@ -9,7 +9,7 @@ invariant-loop-network l =
       ready : IsReady l.network;
       same : l.network.instance ≡ l.initial.network.instance;
       edges : AreListed l.network.instance l.edges (2 * length l.network.instance.arcs);
-      room : HasRoom l.network.instance.steps l.search;
+      room : HasSearchRoom l.network.instance.steps l.search;
       marks : length l.dead ≡ l.network.instance.steps + 1;
       path : length l.path.items ≡ l.network.instance.steps;
     }

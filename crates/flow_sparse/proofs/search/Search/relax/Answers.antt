@@ -1,8 +1,10 @@
 use Rattle.std.proofs.Common.{◌≡◌, List, ℕ, ◌+◌, ◌-◌, ◌<◌, ◌∙◌, ap, subst, arith, get_or, set, sym}
 use Rattle.flow_model.specs.Networks.{head, gain, residual}
 use Rattle.flow_parts.specs.Queues.{Waiting, IsQueueBut, Joins}
-use Rattle.flow_sparse.specs.Searches.{Found, IsAimed, at_tail}
-use Rattle.flow_sparse.proofs.Distances.{nears_more, queue_lowered}
+use Rattle.flow_parts.specs.Searches.{at_tail}
+use Rattle.flow_sparse.specs.Searches.{Found, IsAimed}
+use Rattle.flow_parts.proofs.QueueSteps.{queue_lowered}
+use Rattle.flow_sparse.proofs.Distances.{nears_more}
 use Rattle.flow_sparse.proofs.search.Search.relax.Goals as goal
 
 pub returns-clause-nears : goal.returns-clause-nears
@@ -18,7 +20,7 @@ returns-clause-nears c =
     let along : ℕ = c.distance-near.result + (h.loss + c.potential.result) - (h.gain + c.potential-2.result) in
     let room : 0 < residual n.instance n.flows e = omega (arith, c.residual.ensures, c.if-residual-eq0.false) in
     let target : ℕ = head n.instance.arcs e in
-    let value : along + (gain n.instance.arcs e + get_or n.potentials target 0) ≡ at_tail n old.distances e =
+    let value : along + (gain n.instance.arcs e + get_or n.potentials target 0) ≡ at_tail n.instance.arcs n.potentials old.distances e =
     omega (
       arith,
       c.distance-near.ensures,
@@ -54,5 +56,5 @@ enqueue-requires-clause-queue c =
     let waiting : mid.waiting ≡ old.waiting = ap (λ (f : Found). f.waiting) c.aim.ensures.rest ∙ ap (λ (f : Found). f.waiting) c.lower.ensures in
     let distances : mid.distances ≡ set old.distances h.head along = ap (λ (f : Found). f.distances) c.aim.ensures.rest ∙ ap (λ (f : Found). f.distances) c.lower.ensures in
     let low = queue_lowered old.waiting old.distances h.head along c.requires.search.queue (omega (arith, c.requires.search.tree.each_distance, c.hop-hop.ensures.ends))
-    (omega (arith, c.if-along-distance.false, c.distance-else-along-limit.ensures)) in
+    (λ waits. omega (arith, c.if-along-distance.false, c.distance-else-along-limit.ensures)) in
     subst (λ (w : Waiting). IsQueueBut w mid.distances h.head) (sym waiting) (subst (λ (ds : List ℕ). IsQueueBut old.waiting ds h.head) (sym distances) low)

@@ -5,8 +5,7 @@ use Rattle.flow_parts.specs.OuterEdges.{edge_of, tail_of}
 use Rattle.flow_parts.proofs.EdgeLists.{is_edge_of}
 use Rattle.flow_sparse.specs.declared.edges.WokenEdge.{WokenEdge}
 use Rattle.flow_sparse.specs.Ranges.{woken_at, woken_tail}
-use Rattle.flow_sparse.specs.States.{IsSettled}
-use Rattle.flow_sparse.specs.Searches.{Rests}
+use Rattle.flow_sparse.specs.Searches.{Rests, IsSettledBy}
 use Rattle.flow_sparse.proofs.Distances.{Nears-refl, Nears-trans}
 use Rattle.flow_sparse.proofs.search.Search.relax_chain.Goals as goal
 
@@ -46,7 +45,7 @@ loop-left-preserved c =
           let f : Edge = edge_of (length n.instance.arcs) number in
           ⊎_elim
           (λ (e : i ≡ at).
-          subst (λ (k : ℕ). IsSettled n after.distances after.limit (edge_of (length n.instance.arcs) k)) (ap (λ (w : WokenEdge). w.number) edge ∙ ap (λ (j : ℕ). (woken_at lists.woken j).number) (sym e)) is.settled)
+          subst (λ (k : ℕ). IsSettledBy n after (edge_of (length n.instance.arcs) k)) (ap (λ (w : WokenEdge). w.number) edge ∙ ap (λ (j : ℕ). (woken_at lists.woken j).number) (sym e)) is.settled)
           (λ (a : i ≢ at).
           ⊎_elim
           (λ (less : i < at). absurd (chained.none_between at i inside (omega (arith, low, before)) less (tail ∙ sym own)))
@@ -69,7 +68,7 @@ returns-clause-settled c = λ rests k tail was.
     let n = c.args.network.now in
     let lists = c.args.lists.now in
     let here : woken_tail n.instance lists.woken was.0 ≡ c.args.node = ap (tail_of n.instance.arcs) was.2 ∙ tail in
-    subst (λ (j : ℕ). IsSettled n c.loop-left.self.distances c.loop-left.self.limit (edge_of (length n.instance.arcs) j)) was.2
+    subst (λ (j : ℕ). IsSettledBy n c.loop-left.self (edge_of (length n.instance.arcs) j)) was.2
     (c.loop-left.invariant.settled rests was.0 (omega (arith, c.loop-left-test.false)) was.1 here)
 
 pub returns-clause-nears : goal.returns-clause-nears

@@ -1,8 +1,7 @@
 use Rattle.std.proofs.Common.{◌≡◌, ℕ, ◌-◌, ◌≤◌, ◌<◌, length}
 use Rattle.flow_parts.specs.OuterEdges.{edge_of}
 use Rattle.flow_sparse.specs.Ranges.{woken_at, woken_tail}
-use Rattle.flow_sparse.specs.States.{IsSettled}
-use Rattle.flow_sparse.specs.Searches.{Nears, Rests}
+use Rattle.flow_sparse.specs.Searches.{Nears, Rests, IsSettledBy}
 use Rattle.flow_sparse.proofs.search.Search.relax_chain.Given as goal
 
 abbrev pub invariant-loop-left : goal.invariant-loop-left
@@ -13,7 +12,7 @@ invariant-loop-left l =
       nears : Nears l.network l.from l.initial.self l.self;
       settled : Rests l.self l.node
           → (i : ℕ) → l.left ≤ i → i < length l.lists.woken → woken_tail l.network.instance l.lists.woken i ≡ l.node
-          → IsSettled l.network l.self.distances l.self.limit (edge_of (length l.network.instance.arcs) (woken_at l.lists.woken i).number);
+          → IsSettledBy l.network l.self (edge_of (length l.network.instance.arcs) (woken_at l.lists.woken i).number);
     }
 
 abbrev pub decreases-loop-left : goal.decreases-loop-left

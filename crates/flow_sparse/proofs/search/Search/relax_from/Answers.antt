@@ -6,8 +6,7 @@ use Rattle.flow_model.specs.Networks.{head, residual}
 use Rattle.flow_parts.specs.OuterEdges.{edge_of, tail_of}
 use Rattle.flow_parts.proofs.EdgeLists.{each_edge_from, is_edge_of}
 use Rattle.flow_sparse.specs.Ranges.{IsPlacedAt, WasWoken}
-use Rattle.flow_sparse.specs.States.{IsSettled}
-use Rattle.flow_sparse.specs.Searches.{Rests}
+use Rattle.flow_sparse.specs.Searches.{Rests, IsSettledBy}
 use Rattle.flow_sparse.proofs.Distances.{Nears-trans}
 use Rattle.flow_sparse.proofs.Loops.{loop_settled}
 use Rattle.flow_sparse.proofs.search.Search.relax_from.Goals as goal
@@ -24,7 +23,7 @@ returns-clause-settled c = λ rests e is at.
     let chained : Rests c.relax_chain.new.self node = c.relax_listed.ensures.nears.rests node before in
     let tail_rests : (k : ℕ) → tail_of n.instance.arcs k ≡ node → Rests last (tail_of n.instance.arcs k) = λ k here. subst (λ (v : ℕ). Rests last v) (sym here) rests in
     let tail_before : (k : ℕ) → tail_of n.instance.arcs k ≡ node → Rests listed (tail_of n.instance.arcs k) = λ k here. subst (λ (v : ℕ). Rests listed v) (sym here) before in
-    each_edge_from n.instance node (IsSettled n last.distances last.limit)
+    each_edge_from n.instance node (IsSettledBy n last)
     (λ k high here.
     let f : Edge = edge_of (length n.instance.arcs) k in
     ⊎_elim

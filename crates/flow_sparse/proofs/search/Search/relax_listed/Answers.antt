@@ -4,8 +4,7 @@ use Rattle.flow_parts.specs.OuterEdges.{edge_of, tail_of}
 use Rattle.flow_parts.proofs.EdgeLists.{is_edge_of}
 use Rattle.flow_sparse.specs.declared.edges.ListedEdge.{ListedEdge}
 use Rattle.flow_sparse.specs.Ranges.{IsEntry, listed_at}
-use Rattle.flow_sparse.specs.States.{IsSettled}
-use Rattle.flow_sparse.specs.Searches.{Rests}
+use Rattle.flow_sparse.specs.Searches.{Rests, IsSettledBy}
 use Rattle.flow_sparse.proofs.Distances.{Nears-refl, Nears-trans}
 use Rattle.flow_sparse.proofs.Entries.{settled_near}
 use Rattle.flow_sparse.proofs.search.Search.relax_listed.Goals as goal
@@ -38,7 +37,7 @@ loop-place-preserved c =
           let number : edge.number ≡ k = ap (λ (x : ListedEdge). x.number) (sym same) ∙ entry.number_is in
           let own : IsEntry n.instance lists.marks edge edge.number =
           subst (λ (j : ℕ). IsEntry n.instance lists.marks edge j) (sym number) (subst (λ (x : ListedEdge). IsEntry n.instance lists.marks x k) same entry) in
-          subst (λ (j : ℕ). IsSettled n after.distances after.limit (edge_of count j)) number (is.settled own (ap (tail_of n.instance.arcs) number ∙ tail)))
+          subst (λ (j : ℕ). IsSettledBy n after (edge_of count j)) number (is.settled own (ap (tail_of n.instance.arcs) number ∙ tail)))
           (λ (a : p ≢ c.loop-place.place).
           let before : p < c.loop-place.place = omega (arith, high, a) in
           let inside : p < length lists.edges = omega (arith, before, c.loop-place-test.true, c.first-place-end.ensures, c.requires.lists.within c.args.node c.requires.node) in

@@ -1,8 +1,7 @@
 use Rattle.std.proofs.Common.{◌≡◌, ℕ, ◌≤◌, ◌<◌, length, slice_index}
 use Rattle.flow_parts.specs.OuterEdges.{edge_of, tail_of}
 use Rattle.flow_sparse.specs.Ranges.{IsEntry, listed_at}
-use Rattle.flow_sparse.specs.States.{IsSettled}
-use Rattle.flow_sparse.specs.Searches.{Nears, Rests}
+use Rattle.flow_sparse.specs.Searches.{Nears, Rests, IsSettledBy}
 use Rattle.flow_sparse.proofs.search.Search.relax_listed.Given as goal
 
 abbrev pub invariant-loop-place : goal.invariant-loop-place
@@ -11,5 +10,5 @@ invariant-loop-place l =
       nears : Nears l.network l.from l.initial.self l.self;
       settled : Rests l.self l.node
           → (p k : ℕ) → slice_index l.lists.first l.node ≤ p → p < l.place → tail_of l.network.instance.arcs k ≡ l.node → IsEntry l.network.instance l.lists.marks (listed_at l.lists.edges p) k
-          → IsSettled l.network l.self.distances l.self.limit (edge_of (length l.network.instance.arcs) k);
+          → IsSettledBy l.network l.self (edge_of (length l.network.instance.arcs) k);
     }

@@ -1,7 +1,7 @@
 use Rattle.std.proofs.Common.{◌-◌, ◌/◌, sym, refl, subst, arith}
 use Rattle.std.proofs.lemmas.Result.{err_from_is_err_and}
 use Rattle.flow_model.specs.Instances.{arc_at, no_arc}
-use Rattle.flow_windows.specs.Cuts.{Lists}
+use Rattle.flow_windows.specs.Cuts.{WindowLists}
 use Rattle.flow_windows.proofs.Starting.{AreBegun, begun_none, begun_more, begun_all}
 use Rattle.flow_windows.proofs.starts.Starts.new.Goals as goal
 
@@ -9,7 +9,7 @@ pub loop-number-preserved : goal.loop-number-preserved
 loop-number-preserved c =
     let arcs = c.args.arcs.now in
     let number = c.loop-number.number in
-    subst (λ (lists : Lists). AreBegun c.args.width arcs c.args.windows lists (number - 1)) (sym c.add.ensures)
+    subst (λ (lists : WindowLists). AreBegun c.args.width arcs c.args.windows lists (number - 1)) (sym c.add.ensures)
     (begun_more c.args.width arcs c.args.windows c.loop-number.starts number (number - 1) ((arc_at arcs (number - 1)).start / c.args.width) c.loop-number.invariant (omega arith) (omega arith) refl
     (c.requires.windows (number - 1) no_arc (omega arith)))
 
