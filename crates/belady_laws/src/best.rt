@@ -1,8 +1,7 @@
 //! The replay that no contents passes.
 ghost use Rattle.std.specs.Prelude.{◌≡◌, ◌≤◌, ◌^◌, [], IfErr, IfOk, OnOk};
-ghost use Rattle.policy_model.specs.Runs.{policy_run};
 ghost use Rattle.policy_laws.specs.Laws.{HaveOneSize};
-ghost use Rattle.belady_laws.specs.Best.{IsBest, IsCause};
+ghost use Rattle.belady_laws.specs.Best.{AreOfBelady, IsBest, IsCause};
 
 use crate::clash::{SizeClash, size_clash};
 use bound_base::NoMemory;
@@ -37,7 +36,7 @@ fn replay_belady(alloc: Global, trace: &Trace, capacity: u64) -> Result<Replay, 
     requires range { (1 ≤ capacity) × (capacity ≤ 2 ^ 56) }
     requires one_size { HaveOneSize capacity trace.now.objects }
     ensures best { trace.now.fills ≡ [] → IfOk result (λ r. IsBest capacity trace.now.objects r.hits r.bytes) }
-    ensures run { IfOk result (λ r. (r.hits ≡ (policy_run PolicyName.Belady trace.now.objects capacity 0 trace.now.fills).hits) × (r.bytes ≡ (policy_run PolicyName.Belady trace.now.objects capacity 0 trace.now.fills).bytes)) }
+    ensures run { IfOk result (λ r. AreOfBelady capacity trace.now.objects trace.now.fills r.hits r.bytes) }
 {
     let mut policy = Belady::new(alloc, capacity, trace.objects())?;
     replay(alloc, trace, 0, &mut policy)
@@ -48,7 +47,7 @@ fn replay_belady(alloc: Global, trace: &Trace, capacity: u64) -> Result<Replay, 
 pub fn best_replay(alloc: Global, trace: &Trace, capacity: u64) -> Result<Replay, BestFault>
     requires range { (1 ≤ capacity) × (capacity ≤ 2 ^ 56) }
     ensures best { trace.now.fills ≡ [] → IfOk result (λ r. IsBest capacity trace.now.objects r.hits r.bytes) }
-    ensures run { IfOk result (λ r. (r.hits ≡ (policy_run PolicyName.Belady trace.now.objects capacity 0 trace.now.fills).hits) × (r.bytes ≡ (policy_run PolicyName.Belady trace.now.objects capacity 0 trace.now.fills).bytes)) }
+    ensures run { IfOk result (λ r. AreOfBelady capacity trace.now.objects trace.now.fills r.hits r.bytes) }
     ensures one_size { OnOk result (HaveOneSize capacity trace.now.objects) }
     ensures cause { IfErr result (IsCause capacity trace.now.objects) }
 {

@@ -4,7 +4,8 @@ use Rattle.std.specs.Borrow.{Bor}
 use Rattle.std.specs.declared.option.Option.{Option}
 use Rattle.std.specs.Io.KnownBytes.{IsAtEnd, Keeps}
 use Rattle.bound_io.specs.Causes.{HasNewFault}
-use Rattle.bound_io.specs.Lines.{text_len, first_line, first_text, after_line}
+use Rattle.bound_io.specs.Devices.{Device}
+use Rattle.bound_io.specs.Lines.{text_len, first_line, first_text, after_line, stands_in}
 use Rattle.bound_io.specs.declared.line_reader.LineFault.{LineFault}
 use Rattle.bound_io.specs.declared.line_reader.LineFault.TheVariants.{ReadFault, LineTooLong, InputTooLong}
 use Rattle.bound_io.specs.declared.line_reader.WholeLine.{WholeLine}
@@ -17,6 +18,10 @@ pub record Position : Type 0 where
   pub line : ℕ
   pub held : List ℕ
   pub fault : Option LineFault
+
+-- what a reader stands in: the bytes that it holds, and then those that the source has left, if they are known
+abbrev pub known : Position → Option (List ℕ) → Option (List ℕ)
+known at left = stands_in at.held left
 
 -- a position with these bytes held
 abbrev pub with_held : Position → List ℕ → Position
@@ -40,6 +45,15 @@ abbrev pub IsRefused : Position → Option (List ℕ) → ℕ → ℕ → LineFa
 IsRefused at known faults_before faults_after ReadFault = HasNewFault faults_before faults_after
 IsRefused at known faults_before faults_after (LineTooLong line) = (line ≡ at.line + 1) × IfSome known (λ bytes. 65535 < text_len bytes)
 IsRefused at known faults_before faults_after InputTooLong = IfSome known (λ bytes. (text_len bytes ≤ 65535) × (at.limit < at.consumed + length (first_line bytes)))
+
+-- why the first line isn't given, by the source before the call and after it
+abbrev pub RefusesLine : Position → Device → LineFault → Type 0
+RefusesLine at source = IsRefused at (known at source.before) source.faults_before source.faults_after
+
+-- the fault that was answered before is answered again, and nothing is asked of the source
+abbrev pub AnswersAgain : {A : Type 0} → Option LineFault → Result A LineFault → Device → Type 0
+AnswersAgain answered result source =
+    IfSome answered (λ fault. (result ≡ Err fault) × (source.after ≡ source.before) × (source.faults_after ≡ source.faults_before))
 
 -- one line was given: it is gone from what the reader stands in, known before and after
 pub record GivesLine (old new : Position) (before after : Option (List ℕ)) : Type 0 where
@@ -69,6 +83,14 @@ abbrev pub NextLine : {A : Type 0} → Position → Position → Option (List �
 NextLine old new before after (Ok (Some text)) = GivesLine old new before after
 NextLine old new before after (Ok None) = GivesNone old new before after
 NextLine old new before after (Err fault) = Stops old new before after fault
+
+-- what it leaves, by the source before and after: a reader that holds no more than its buffer does
+abbrev pub LeavesLine : {A : Type 0} → Position → Device → Result (Option A) LineFault → Position → Type 0
+LeavesLine old source result new = NextLine old new (known old source.before) (known new source.after) result × (length new.held ≤ 65536)
+
+-- the text is that of the first line of these bytes, of which there is one
+abbrev pub IsFirstText : List ℕ → List ℕ → Type 0
+IsFirstText text bytes = (text ≡ first_text bytes) × (0 < length bytes)
 
 -- the text of a line is that of the first line of these bytes, and tells whether it ends in LF
 abbrev pub IsLine : WholeLine → List ℕ → Type 0
@@ -100,6 +122,10 @@ IsPieceRefused count at known faults_before faults_after ReadFault = HasNewFault
 IsPieceRefused count at known faults_before faults_after (LineTooLong line) = ⊥
 IsPieceRefused count at known faults_before faults_after InputTooLong = IfSome known (λ bytes. at.limit < at.consumed + length (take count bytes))
 
+-- the same by the source before the call and after it
+abbrev pub RefusesPiece : ℕ → Position → Device → LineFault → Type 0
+RefusesPiece count at source = IsPieceRefused count at (known at source.before) source.faults_before source.faults_after
+
 -- one piece of this many bytes, or of all that were left, was given: it is gone from what the reader stands in, known before and after
 pub record GivesPiece (count : ℕ) (old new : Position) (before after : Option (List ℕ)) : Type 0 where
   pub limit : new.limit ≡ old.limit
@@ -114,3 +140,7 @@ pub record GivesPiece (count : ℕ) (old new : Position) (before after : Option 
 abbrev pub NextBytes : ℕ → Position → Position → Option (List ℕ) → Option (List ℕ) → Result (Bor (List ℕ)) LineFault → Type 0
 NextBytes count old new before after (Ok piece) = (piece.now ≡ [] → GivesNone old new before after) × (0 < length piece.now → GivesPiece count old new before after)
 NextBytes count old new before after (Err fault) = Stops old new before after fault
+
+-- what it leaves, by the source before and after: a reader that holds no more than its buffer does
+abbrev pub LeavesBytes : ℕ → Position → Device → Result (Bor (List ℕ)) LineFault → Position → Type 0
+LeavesBytes count old source result new = NextBytes count old new (known old source.before) (known new source.after) result × (length new.held ≤ 65536)

@@ -1,7 +1,8 @@
 //! A reader of lines.
 ghost use Rattle.std.specs.Prelude.{◌≡◌, ◌+◌, ◌≤◌, ◌<◌, ◌^◌, [], length, take, IfOk, IfErr, OnOk, IfSome, IfNone};
 ghost use Rattle.std.specs.Io.KnownBytes.{IsAtEnd, Keeps};
-ghost use Rattle.bound_io.specs.Lines.{HasExtent, first_text, stands_in};
+ghost use Rattle.bound_io.specs.Devices.{seen};
+ghost use Rattle.bound_io.specs.Lines.{HasExtent};
 ghost use Rattle.bound_io.specs.Reading.{LosesPrefix};
 
 use crate::buffer::Buffer;
@@ -73,7 +74,7 @@ impl LineReader {
     ghost use Rattle.bound_io.specs.contracts.line_reader.LineReader.{the_row};
     ghost use Rattle.std.specs.Io.BufRead.{Rests};
     ghost use Rattle.std.specs.Borrow.{sem};
-    ghost use Rattle.bound_io.specs.Positions.{Fits, FitsPiece, IsLine, IsPieceRefused, IsRefused, NextBytes, NextLine, Stops, given, given_by, with_held};
+    ghost use Rattle.bound_io.specs.Positions.{AnswersAgain, Fits, FitsPiece, IsFirstText, IsLine, LeavesBytes, LeavesLine, RefusesLine, RefusesPiece, Stops, given, given_by, known, with_held};
 
     /// A reader of lines of at most `limit` bytes in all, which takes its buffer here.
     pub fn new(alloc: Global, limit: u64) -> Result<Self, NoMemory>
@@ -113,12 +114,12 @@ impl LineReader {
 
     // The extent of the first line, once the line stands in the buffer, or why none is given.
     fn look<S: Source>(&mut self, source: &mut S) -> Result<Extent, LineFault>
-        ensures extent { IfOk result (λ e. IfSome (stands_in self.old.held (S.left source.old)) (HasExtent e.text e.line)) }
+        ensures extent { IfOk result (λ e. IfSome (known self.old (S.left source.old)) (HasExtent e.text e.line)) }
         ensures within { IfOk result (λ e. Fits self.old self.new.held e.text e.line) }
-        ensures refused { IfErr result (IsRefused self.old (stands_in self.old.held (S.left source.old)) (S.faults source.old) (S.faults source.new)) }
+        ensures refused { IfErr result (RefusesLine self.old (seen S.left S.faults source.old source.new)) }
         ensures still { self.new ≡ with_held self.old self.new.held }
         ensures room { length self.new.held ≤ 65536 }
-        ensures kept { Keeps (stands_in self.old.held (S.left source.old)) (stands_in self.new.held (S.left source.new)) }
+        ensures kept { Keeps (known self.old (S.left source.old)) (known self.new (S.left source.new)) }
         ensures source { LosesPrefix (S.left source.old) (S.left source.new) }
         ensures later { S.faults source.old ≤ S.faults source.new }
         ensures none_failed { OnOk result (S.faults source.new ≡ S.faults source.old) }
@@ -141,14 +142,14 @@ impl LineReader {
     // The extent of the first line, or the fault that ended the reading, which is kept.
     #[inline(always)]
     fn find_line<S: Source>(&mut self, source: &mut S) -> Result<Extent, LineFault>
-        ensures extent { IfOk result (λ e. IfSome (stands_in self.old.held (S.left source.old)) (HasExtent e.text e.line)) }
+        ensures extent { IfOk result (λ e. IfSome (known self.old (S.left source.old)) (HasExtent e.text e.line)) }
         ensures within { IfOk result (λ e. Fits self.old self.new.held e.text e.line) }
         ensures still { IfOk result (λ e. (self.new ≡ with_held self.old self.new.held) × (self.old.fault ≡ None)) }
-        ensures refused { self.old.fault ≡ None → IfErr result (IsRefused self.old (stands_in self.old.held (S.left source.old)) (S.faults source.old) (S.faults source.new)) }
-        ensures stops { IfErr result (Stops self.old self.new (stands_in self.old.held (S.left source.old)) (stands_in self.new.held (S.left source.new))) }
-        ensures again { IfSome self.old.fault (λ fault. (result ≡ Err fault) × (S.left source.new ≡ S.left source.old) × (S.faults source.new ≡ S.faults source.old)) }
+        ensures refused { self.old.fault ≡ None → IfErr result (RefusesLine self.old (seen S.left S.faults source.old source.new)) }
+        ensures stops { IfErr result (Stops self.old self.new (known self.old (S.left source.old)) (known self.new (S.left source.new))) }
+        ensures again { AnswersAgain self.old.fault result (seen S.left S.faults source.old source.new) }
         ensures room { length self.new.held ≤ 65536 }
-        ensures kept { Keeps (stands_in self.old.held (S.left source.old)) (stands_in self.new.held (S.left source.new)) }
+        ensures kept { Keeps (known self.old (S.left source.old)) (known self.new (S.left source.new)) }
         ensures source { LosesPrefix (S.left source.old) (S.left source.new) }
         ensures later { S.faults source.old ≤ S.faults source.new }
         ensures none_failed { OnOk result (S.faults source.new ≡ S.faults source.old) }
@@ -166,14 +167,14 @@ impl LineReader {
     /// The next line, which says whether it ends in LF. The text is lent until the next call.
     #[inline(always)]
     pub fn next_whole_line<S: Source>(&mut self, source: &mut S) -> Result<WholeLine<'_>, LineFault>
-        ensures line { IfOk result (λ line. IfSome (stands_in self.old.held (S.left source.old)) (IsLine line)) }
+        ensures line { IfOk result (λ line. IfSome (known self.old (S.left source.old)) (IsLine line)) }
         ensures short { IfOk result (λ line. IfSome (given line) (λ text. length text ≤ 65535)) }
-        ensures refused { self.old.fault ≡ None → IfErr result (IsRefused self.old (stands_in self.old.held (S.left source.old)) (S.faults source.old) (S.faults source.new)) }
-        ensures again { IfSome self.old.fault (λ fault. (result ≡ Err fault) × (S.left source.new ≡ S.left source.old) × (S.faults source.new ≡ S.faults source.old)) }
+        ensures refused { self.old.fault ≡ None → IfErr result (RefusesLine self.old (seen S.left S.faults source.old source.new)) }
+        ensures again { AnswersAgain self.old.fault result (seen S.left S.faults source.old source.new) }
         ensures source { LosesPrefix (S.left source.old) (S.left source.new) }
         ensures later { S.faults source.old ≤ S.faults source.new }
         ensures none_failed { OnOk result (S.faults source.new ≡ S.faults source.old) }
-        ensures* after { sem 𝓛 (Rests the_row self.entry (λ new. NextLine self.old new (stands_in self.old.held (S.left source.old)) (stands_in new.held (S.left source.new)) (given_by result) × (length new.held ≤ 65536))) }
+        ensures* after { sem 𝓛 (Rests the_row self.entry (LeavesLine self.old (seen S.left S.faults source.old source.new) (given_by result))) }
     {
         let extent = self.find_line(source)?;
         if extent.line == 0 {
@@ -192,15 +193,15 @@ impl LineReader {
     /// The text of the next line, or None at the end. The text is lent until the next call.
     #[inline(always)]
     pub fn next_line<S: Source>(&mut self, source: &mut S) -> Result<Option<&[u8]>, LineFault>
-        ensures text { IfOk result (λ found. IfSome found (λ text. IfSome (stands_in self.old.held (S.left source.old)) (λ bytes. (text.now ≡ first_text bytes) × (0 < length bytes)))) }
-        ensures end { IfOk result (λ found. IfNone found (IsAtEnd (stands_in self.old.held (S.left source.old)))) }
+        ensures text { IfOk result (λ found. IfSome found (λ text. IfSome (known self.old (S.left source.old)) (IsFirstText text.now))) }
+        ensures end { IfOk result (λ found. IfNone found (IsAtEnd (known self.old (S.left source.old)))) }
         ensures short { IfOk result (λ found. IfSome found (λ text. length text.now ≤ 65535)) }
-        ensures refused { self.old.fault ≡ None → IfErr result (IsRefused self.old (stands_in self.old.held (S.left source.old)) (S.faults source.old) (S.faults source.new)) }
-        ensures again { IfSome self.old.fault (λ fault. (result ≡ Err fault) × (S.left source.new ≡ S.left source.old) × (S.faults source.new ≡ S.faults source.old)) }
+        ensures refused { self.old.fault ≡ None → IfErr result (RefusesLine self.old (seen S.left S.faults source.old source.new)) }
+        ensures again { AnswersAgain self.old.fault result (seen S.left S.faults source.old source.new) }
         ensures source { LosesPrefix (S.left source.old) (S.left source.new) }
         ensures later { S.faults source.old ≤ S.faults source.new }
         ensures none_failed { OnOk result (S.faults source.new ≡ S.faults source.old) }
-        ensures* after { sem 𝓛 (Rests the_row self.entry (λ new. NextLine self.old new (stands_in self.old.held (S.left source.old)) (stands_in new.held (S.left source.new)) result × (length new.held ≤ 65536))) }
+        ensures* after { sem 𝓛 (Rests the_row self.entry (LeavesLine self.old (seen S.left S.faults source.old source.new) result)) }
     {
         match self.next_whole_line(source)? {
             WholeLine::Whole(text) | WholeLine::Unended(text) => Ok(Some(text)),
@@ -211,12 +212,12 @@ impl LineReader {
     // How many bytes the next piece, of `count` at most, has once they stand in the buffer, or why none is given.
     fn look_for<S: Source>(&mut self, source: &mut S, count: usize) -> Result<usize, LineFault>
         requires { count ≤ 65536 }
-        ensures size { IfOk result (λ n. IfSome (stands_in self.old.held (S.left source.old)) (λ bytes. n ≡ length (take count bytes))) }
+        ensures size { IfOk result (λ n. IfSome (known self.old (S.left source.old)) (λ bytes. n ≡ length (take count bytes))) }
         ensures within { IfOk result (λ n. FitsPiece self.old self.new.held count n) }
-        ensures refused { IfErr result (IsPieceRefused count self.old (stands_in self.old.held (S.left source.old)) (S.faults source.old) (S.faults source.new)) }
+        ensures refused { IfErr result (RefusesPiece count self.old (seen S.left S.faults source.old source.new)) }
         ensures still { self.new ≡ with_held self.old self.new.held }
         ensures room { length self.new.held ≤ 65536 }
-        ensures kept { Keeps (stands_in self.old.held (S.left source.old)) (stands_in self.new.held (S.left source.new)) }
+        ensures kept { Keeps (known self.old (S.left source.old)) (known self.new (S.left source.new)) }
         ensures source { LosesPrefix (S.left source.old) (S.left source.new) }
         ensures later { S.faults source.old ≤ S.faults source.new }
         ensures none_failed { OnOk result (S.faults source.new ≡ S.faults source.old) }
@@ -233,14 +234,14 @@ impl LineReader {
     // The size of the next piece, or the fault that ended the reading, which is kept.
     fn find_piece<S: Source>(&mut self, source: &mut S, count: usize) -> Result<usize, LineFault>
         requires { count ≤ 65536 }
-        ensures size { IfOk result (λ n. IfSome (stands_in self.old.held (S.left source.old)) (λ bytes. n ≡ length (take count bytes))) }
+        ensures size { IfOk result (λ n. IfSome (known self.old (S.left source.old)) (λ bytes. n ≡ length (take count bytes))) }
         ensures within { IfOk result (λ n. FitsPiece self.old self.new.held count n) }
         ensures still { IfOk result (λ n. (self.new ≡ with_held self.old self.new.held) × (self.old.fault ≡ None)) }
-        ensures refused { self.old.fault ≡ None → IfErr result (IsPieceRefused count self.old (stands_in self.old.held (S.left source.old)) (S.faults source.old) (S.faults source.new)) }
-        ensures stops { IfErr result (Stops self.old self.new (stands_in self.old.held (S.left source.old)) (stands_in self.new.held (S.left source.new))) }
-        ensures again { IfSome self.old.fault (λ fault. (result ≡ Err fault) × (S.left source.new ≡ S.left source.old) × (S.faults source.new ≡ S.faults source.old)) }
+        ensures refused { self.old.fault ≡ None → IfErr result (RefusesPiece count self.old (seen S.left S.faults source.old source.new)) }
+        ensures stops { IfErr result (Stops self.old self.new (known self.old (S.left source.old)) (known self.new (S.left source.new))) }
+        ensures again { AnswersAgain self.old.fault result (seen S.left S.faults source.old source.new) }
         ensures room { length self.new.held ≤ 65536 }
-        ensures kept { Keeps (stands_in self.old.held (S.left source.old)) (stands_in self.new.held (S.left source.new)) }
+        ensures kept { Keeps (known self.old (S.left source.old)) (known self.new (S.left source.new)) }
         ensures source { LosesPrefix (S.left source.old) (S.left source.new) }
         ensures later { S.faults source.old ≤ S.faults source.new }
         ensures none_failed { OnOk result (S.faults source.new ≡ S.faults source.old) }
@@ -264,14 +265,14 @@ impl LineReader {
     ) -> Result<&[u8], LineFault>
         requires some { 1 ≤ count }
         requires room { count ≤ 65536 }
-        ensures bytes { IfOk result (λ piece. IfSome (stands_in self.old.held (S.left source.old)) (λ bytes. piece.now ≡ take count bytes)) }
+        ensures bytes { IfOk result (λ piece. IfSome (known self.old (S.left source.old)) (λ bytes. piece.now ≡ take count bytes)) }
         ensures most { IfOk result (λ piece. length piece.now ≤ count) }
-        ensures refused { self.old.fault ≡ None → IfErr result (IsPieceRefused count self.old (stands_in self.old.held (S.left source.old)) (S.faults source.old) (S.faults source.new)) }
-        ensures again { IfSome self.old.fault (λ fault. (result ≡ Err fault) × (S.left source.new ≡ S.left source.old) × (S.faults source.new ≡ S.faults source.old)) }
+        ensures refused { self.old.fault ≡ None → IfErr result (RefusesPiece count self.old (seen S.left S.faults source.old source.new)) }
+        ensures again { AnswersAgain self.old.fault result (seen S.left S.faults source.old source.new) }
         ensures source { LosesPrefix (S.left source.old) (S.left source.new) }
         ensures later { S.faults source.old ≤ S.faults source.new }
         ensures none_failed { OnOk result (S.faults source.new ≡ S.faults source.old) }
-        ensures* after { sem 𝓛 (Rests the_row self.entry (λ new. NextBytes count self.old new (stands_in self.old.held (S.left source.old)) (stands_in new.held (S.left source.new)) result × (length new.held ≤ 65536))) }
+        ensures* after { sem 𝓛 (Rests the_row self.entry (LeavesBytes count self.old (seen S.left S.faults source.old source.new) result)) }
     {
         let size = self.find_piece(source, count)?;
         if size == 0 {

@@ -2,7 +2,7 @@ pub mod Weights
 pub mod Fitting
 pub mod FittingEntries
 pub mod LruBytes
-pub mod TreeLemmas
+pub mod LeafLemmas
 pub mod LatestBytes
 pub mod FoundLemmas
 pub mod PassLemmas

@@ -15,7 +15,8 @@ fits_in capacity x = nat_le x.size capacity
 abbrev pub bytes_asked : ℕ → List Object → ℕ
 bytes_asked capacity requests = total_size (filter (fits_in capacity) (objects_of requests))
 
--- the distance in bytes of request t, if its object was requested before and is no larger than the capacity: the bytes asked for after that last time, up to request t itself
+-- the distance in bytes of request t, if its object was requested before and is no larger than the capacity:
+-- the bytes asked for after that last time, up to request t itself
 abbrev pub byte_distance : ℕ → List Object → ℕ → Option ℕ
 byte_distance capacity trace t =
     let x = request_at trace t in

@@ -3,4 +3,3 @@ pub mod Curves
 pub mod Distances
 pub mod Laws
 pub mod Sizes
-pub mod Trees

@@ -7,7 +7,6 @@
 mod laws;
 mod pass;
 mod sums;
-mod tree;
 
 pub use laws::distances_are_of_lru;
 pub use pass::{Hits, greatest_size, lru_hits};

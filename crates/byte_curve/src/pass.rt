@@ -1,5 +1,6 @@
 //! LRU's hits at each of many capacities, from one pass over the requests.
-ghost use Rattle.std.specs.Prelude.{◌≡◌, ℕ, ◌+◌, ◌<◌, ◌≤◌, ◌^◌, All, length, replicate, slice_index, slice_index_or, sum_by, IfOk};
+ghost use Rattle.std.specs.Prelude.{◌≡◌, ℕ, ◌+◌, ◌<◌, ◌≤◌, ◌^◌, All, IfOk};
+ghost use Rattle.std.specs.Prelude.{length, replicate, slice_index, slice_index_or, sum_by};
 ghost use Rattle.std.specs.List.Sorted.{IsNonDecreasing};
 ghost use Rattle.cache_model.specs.Claim.{request_at};
 ghost use Rattle.byte_curve.specs.Sizes.{greatest_size};

@@ -1,10 +1,10 @@
 //! A number of bytes at each place, set one by one and summed over ranges.
 ghost use Rattle.std.specs.Prelude.{◌≡◌, ◌<◌, ◌≤◌, ◌*◌, ◌^◌, length, replicate, slice_range, slice_set, sum, IfOk};
 
-use crate::tree::{set_leaf, sum_between};
 use bound_base::NoMemory;
 use std::alloc::Global;
 use std::marker::Model;
+use sum_tree::{set_leaf, sum_between};
 
 /// How many bytes stand at each place, at most 2^48. Places count from 0. It takes 32 bytes for each place.
 #[derive(Debug, Drop)]
@@ -14,14 +14,14 @@ pub struct ByteSums {
 }
 
 impl Model for ByteSums {
-    ghost use Rattle.std.specs.Prelude.{List, ℕ, drop};
-    ghost use Rattle.byte_curve.specs.Trees.{IsTree};
+    ghost use Rattle.std.specs.Prelude.{List, ℕ, drop, ◌^◌};
+    ghost use Rattle.sum_tree.specs.Sums.{IsTree};
 
     ghost Value = { List ℕ };
 
     ghost view = { λ s. drop s.places s.sums.items };
 
-    ghost invariant = { λ s. IsTree s.places s.sums.items };
+    ghost invariant = { λ s. IsTree (2 ^ 48) s.places s.sums.items };
 }
 
 // A sum of 0 at each node of a tree over that many places.

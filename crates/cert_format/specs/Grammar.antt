@@ -138,6 +138,10 @@ line_fault slots text = words_fault slots (words text)
 abbrev pub word_at : ℕ → List ℕ → List ℕ
 word_at place text = slice_index_or (words text) place []
 
+-- whether the second word is this one
+abbrev pub has_second : List ℕ → List ℕ → Bool
+has_second word text = bytes_eq (word_at 1 text) word
+
 -- the number of a word of a line
 abbrev pub number_at : ℕ → List ℕ → ℕ
 number_at place text = number_in (word_at place text)

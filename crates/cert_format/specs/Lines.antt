@@ -3,7 +3,7 @@ use Rattle.std.specs.Prelude.{◌≡◌, ℕ, ◌+◌, ◌-◌, ◌*◌, ◌≤�
 use Rattle.std.specs.declared.option.Option.{Option}
 use Rattle.bound_io.specs.Devices.{Device, HasFailed}
 use Rattle.bound_io.specs.Reading.{LosesPrefix}
-use Rattle.bound_io.specs.Lines.{stands_in}
+use Rattle.bound_io.specs.Lines.{first_text, stands_in}
 use Rattle.bound_io.specs.Positions.{Position}
 use Rattle.bound_io.specs.declared.line_reader.LineFault.{LineFault}
 use Rattle.bound_io.specs.declared.line_reader.LineFault.TheVariants as line
@@ -13,7 +13,8 @@ use Rattle.cert_format.specs.declared.fault.TextKind.{TextKind}
 use Rattle.cert_format.specs.declared.fault.TextKind.TheVariants.{TooLong}
 use Rattle.cert_format.specs.declared.fault.CertFault.{CertFault}
 use Rattle.cert_format.specs.declared.fault.CertFault.TheVariants.{BadText, Truncated, Trailing, ReadFault}
-use Rattle.cert_format.specs.Readings.{after_lines, bytes_through}
+use Rattle.cert_format.specs.Grammar.{Slot}
+use Rattle.cert_format.specs.Readings.{after_lines, bytes_through, first_fault}
 
 -- the bytes that a reader stands in, if those that the source has left are known, and those of the lines so far, which have at most 64 bytes each on average
 abbrev pub known : Position → Option (List ℕ) → Option (List ℕ)
@@ -83,3 +84,11 @@ pub record Reads {A : Type 0} (fault_of : List ℕ → Option CertFault) (count 
   pub taken : IsTaken old new source.before source.after
   pub loses : LosesPrefix source.before source.after
   pub later : source.faults_before ≤ source.faults_after
+
+-- lines are read from the next one on, and their fault is told by its number
+abbrev pub ReadsNext : {A : Type 0} → (ℕ → List ℕ → Option CertFault) → ℕ → (List ℕ → A) → Position → Position → Device → Result A CertFault → Type 0
+ReadsNext fault_from count value old new source result = Reads (fault_from (old.line + 1)) count value old new source result
+
+-- one line with these places is read, as a value of its text
+abbrev pub ReadsLine : {A : Type 0} → List Slot → (List ℕ → A) → Position → Position → Device → Result A CertFault → Type 0
+ReadsLine slots value old new source result = Reads (first_fault (old.line + 1) slots) 1 (λ bytes. value (first_text bytes)) old new source result

@@ -5,17 +5,26 @@ use Rattle.cert_format.specs.declared.header.Counts.{Counts}
 use Rattle.cert_format.specs.declared.header.Values.{Values}
 use Rattle.bound_io.specs.Lines.{first_text}
 use Rattle.cache_model.specs.Texts.{last_lines}
+use Rattle.cache_model.specs.declared.certificates.Record.{Record}
 use Rattle.cert_format.specs.declared.fault.CertFault.{CertFault}
-use Rattle.cert_format.specs.Grammar.{Slot, fixed_line, last_slots, number_at, number_line}
-use Rattle.cert_format.specs.Readings.{first_fault, is_warmup, line_text, lines_fault}
+use Rattle.cert_format.specs.Grammar.{Slot, count_slots, fixed_line, last_slots, number_at, number_line, value_slots}
+use Rattle.cert_format.specs.Readings.{first_fault, is_warmup, line_text, lines_fault, record_in, warmup_in}
 
 -- the counts that four lines state
 abbrev pub counts_in : List ℕ → Counts
 counts_in bytes = record { capacity = number_at 1 (line_text 1 bytes); requests = number_at 1 (line_text 2 bytes); unit = number_at 1 (line_text 3 bytes); denominator = number_at 1 (line_text 4 bytes) }
 
+-- the first fault of those lines, from line n on: the unit is at most the capacity
+abbrev pub counts_fault : ℕ → List ℕ → Option CertFault
+counts_fault n bytes = lines_fault n (count_slots (number_at 1 (first_text bytes))) bytes
+
 -- the values that three lines state
 abbrev pub values_in : List ℕ → Values
 values_in bytes = record { upper = number_at 1 (line_text 1 bytes); flow = number_at 1 (line_text 2 bytes); lower = number_at 1 (line_text 3 bytes) }
+
+-- the first fault of those lines, from line n on
+abbrev pub values_fault : ℕ → List ℕ → Option CertFault
+values_fault n bytes = lines_fault n value_slots bytes
 
 -- each count is in its range
 pub record IsCountsInRange (counts : Counts) : Type 0 where
@@ -38,6 +47,10 @@ warmup_slots text = if is_warmup text then number_line (codes "warmup") 1 (2 ^ 2
 abbrev pub warmup_fault : ℕ → List ℕ → Option CertFault
 warmup_fault n bytes = first_fault n (warmup_slots (first_text bytes)) bytes
 
+-- the warm-up that it states, or 0
+abbrev pub first_warmup : List ℕ → ℕ
+first_warmup bytes = warmup_in (first_text bytes)
+
 -- the first fault of the last lines before the records, from line n on
 abbrev pub last_fault : ℕ → List ℕ → Option CertFault
 last_fault n bytes = lines_fault n (last_slots (is_warmup (first_text bytes))) bytes
@@ -46,3 +59,7 @@ last_fault n bytes = lines_fault n (last_slots (is_warmup (first_text bytes))) b
 abbrev pub last_len : Result ℕ CertFault → ℕ
 last_len (Ok warmup) = length (last_lines warmup)
 last_len (Err fault) = 0
+
+-- the record that the first line states, after one of the price `before`
+abbrev pub first_record : ℕ → ℕ → List ℕ → Record
+first_record version before bytes = record_in version before (first_text bytes)

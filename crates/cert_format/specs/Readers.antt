@@ -1,7 +1,7 @@
 -- What a reader of a certificate has still to give.
 use Rattle.std.specs.Prelude.{◌≡◌, ℕ, ◌+◌, ◌^◌, List, [], ◌++◌, Result, Ok, Err, None, Some, IfSome}
 use Rattle.std.specs.declared.option.Option.{Option}
-use Rattle.bound_io.specs.Devices.{Device, HasFailed}
+use Rattle.bound_io.specs.Devices.{Device, HasFailed, IsUntouched}
 use Rattle.bound_io.specs.Positions.{Position}
 use Rattle.cache_model.specs.declared.certificates.Header.{Header}
 use Rattle.cache_model.specs.declared.certificates.Record.{Record}
@@ -41,6 +41,10 @@ to_come r bytes = coming r.stage r bytes
 abbrev pub err_of : {A : Type 0} → Result A CertFault → Option CertFault
 err_of (Ok value) = None
 err_of (Err fault) = Some fault
+
+-- the fault that was answered before is answered again, and nothing is asked of the source
+abbrev pub AnswersAgain : {A : Type 0} → Reader → Reader → Result A CertFault → Device → Type 0
+AnswersAgain old new result source = IfSome old.fault (λ fault. (result ≡ Err fault) × (new ≡ old) × IsUntouched source)
 
 -- the bytes that the reader stands in begin with these lines, which are given, and what is to come is what was, but for what was read
 pub record GoesOn (with_read : Reading → Reading) (count : ℕ) (text : List ℕ) (old new : Reader) (after : Option (List ℕ)) (bytes : List ℕ) : Type 0 where

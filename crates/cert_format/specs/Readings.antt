@@ -1,5 +1,5 @@
 -- The reading of a certificate, over all its bytes at once.
-use Rattle.std.specs.Prelude.{ℕ, Bool, suc, zero, ◌+◌, ◌-◌, List, [], ◌∷◌, ◌==◌, nat_lt, if◌then◌else◌, length, codes, None, Some}
+use Rattle.std.specs.Prelude.{ℕ, Bool, suc, zero, ◌+◌, ◌-◌, List, [], ◌∷◌, ◌==◌, nat_lt, if◌then◌else◌, length, codes, None, Some, Result}
 use Rattle.std.specs.declared.option.Option.{Option}
 use Rattle.std.specs.Option.{option_or, option_map}
 use Rattle.std.specs.Str.{bytes_eq}
@@ -10,7 +10,7 @@ use Rattle.cache_model.specs.declared.certificates.Header.{Header}
 use Rattle.cache_model.specs.declared.certificates.Record.{Record}
 use Rattle.cache_model.specs.Texts.{header_len}
 use Rattle.cache_model.specs.declared.version.TheConstants.{CERT_VERSION, SHORT_VERSION}
-use Rattle.cert_format.specs.Grammar.{Slot, header_slots, is_short, record_slots, end_slots, line_fault, word_at, number_at}
+use Rattle.cert_format.specs.Grammar.{Slot, header_slots, is_short, record_slots, short_slots, end_slots, line_fault, words_fault, value_unless, word_at, number_at, number_in}
 use Rattle.cert_format.specs.declared.fault.TextKind.{TextKind}
 use Rattle.cert_format.specs.declared.fault.TextKind.TheVariants.{TooLong}
 use Rattle.cert_format.specs.declared.fault.CertFault.{CertFault}
@@ -91,6 +91,10 @@ full_in text = entry_of (number_at 0 text) (bytes_eq (word_at 1 text) (codes "1"
 -- what a line of keep and flow states, after a record of the price `before`
 abbrev pub short_in : ℕ → List ℕ → Record
 short_in before text = entry_of before (bytes_eq (word_at 0 text) (codes "1")) (number_at 1 text)
+
+-- the record of a line of these two words, after one of the price `before`, or why it is none
+abbrev pub short_of : ℕ → List ℕ → List ℕ → Result Record TextKind
+short_of before keep flow = value_unless (words_fault short_slots (keep ∷ flow ∷ [])) (entry_of before (bytes_eq keep (codes "1")) (number_in flow))
 
 -- what the line of a record states, after one of the price `before`
 abbrev pub record_in : ℕ → ℕ → List ℕ → Record

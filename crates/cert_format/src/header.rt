@@ -1,14 +1,12 @@
 //! Reading the lines before the records.
 ghost use Rattle.std.specs.Prelude.{◌≡◌, ◌+◌, ◌<◌, ◌≤◌, ◌^◌, None, IfOk, if◌then◌else◌};
-ghost use Rattle.bound_io.specs.Lines.{first_text};
 ghost use Rattle.bound_io.specs.Devices.{seen};
 ghost use Rattle.cache_model.specs.Certificates.{IsHeaderInRange};
 ghost use Rattle.cache_model.specs.declared.version.TheConstants.{CERT_VERSION, SHORT_VERSION};
-ghost use Rattle.cert_format.specs.Grammar.{count_slots, number_at, value_slots};
-ghost use Rattle.cert_format.specs.Lines.{Reads};
-ghost use Rattle.cert_format.specs.Parts.{IsCountsInRange, IsValuesInRange, counts_in, last_fault, last_len, values_in};
+ghost use Rattle.cert_format.specs.Lines.{Reads, ReadsNext};
+ghost use Rattle.cert_format.specs.Parts.{IsCountsInRange, IsValuesInRange, counts_fault, counts_in, first_warmup, last_fault, last_len, values_fault, values_in};
 ghost use Rattle.cert_format.specs.Readers.{lines_read};
-ghost use Rattle.cert_format.specs.Readings.{header_fault, header_in, lines_fault, warmup_in};
+ghost use Rattle.cert_format.specs.Readings.{header_fault, header_in};
 
 use crate::fault::CertFault;
 use crate::lines::{read_choice, read_fixed, read_number, read_warmup};
@@ -37,7 +35,7 @@ fn read_counts<S: Source>(lines: &mut LineReader, source: &mut S) -> Result<Coun
     requires few { lines.old.line + 4 < 2 ^ 26 }
     requires no_fault { lines.old.fault ≡ None }
     ensures range { IfOk result IsCountsInRange }
-    ensures read { Reads (λ bytes. lines_fault (lines.old.line + 1) (count_slots (number_at 1 (first_text bytes))) bytes) 4 counts_in lines.old lines.new (seen S.left S.faults source.old source.new) result }
+    ensures read { ReadsNext counts_fault 4 counts_in lines.old lines.new (seen S.left S.faults source.old source.new) result }
 {
     let capacity = read_number(lines, source, b"capacity", 1, 1 << 56)?;
     let requests = read_number(lines, source, b"requests", 0, 1 << 25)?;
@@ -56,7 +54,7 @@ fn read_values<S: Source>(lines: &mut LineReader, source: &mut S) -> Result<Valu
     requires few { lines.old.line + 3 < 2 ^ 26 }
     requires no_fault { lines.old.fault ≡ None }
     ensures range { IfOk result IsValuesInRange }
-    ensures read { Reads (lines_fault (lines.old.line + 1) value_slots) 3 values_in lines.old lines.new (seen S.left S.faults source.old source.new) result }
+    ensures read { ReadsNext values_fault 3 values_in lines.old lines.new (seen S.left S.faults source.old source.new) result }
 {
     let most = (1 << 127) - 1;
     Ok(Values {
@@ -72,7 +70,7 @@ fn read_last<S: Source>(lines: &mut LineReader, source: &mut S) -> Result<u128, 
     requires few { lines.old.line + 1 < 2 ^ 26 }
     requires no_fault { lines.old.fault ≡ None }
     ensures range { IfOk result (λ warmup. warmup ≤ 2 ^ 25) }
-    ensures read { Reads (last_fault (lines.old.line + 1)) (last_len result) (λ bytes. warmup_in (first_text bytes)) lines.old lines.new (seen S.left S.faults source.old source.new) result }
+    ensures read { ReadsNext last_fault (last_len result) first_warmup lines.old lines.new (seen S.left S.faults source.old source.new) result }
 {
     let warmup = read_warmup(lines, source)?;
     if warmup == 0 {

@@ -1,10 +1,9 @@
 //! What the text of a line states.
 ghost use Rattle.std.specs.Prelude.{◌≡◌, ◌↔◌, ◌==◌, ◌+◌, ◌<◌, ◌^◌, List, false, true, ℕ, [], ◌∷◌, codes, length, position, IsTrue, IfNone, IfSome};
-ghost use Rattle.std.specs.Str.{bytes_eq};
 ghost use Rattle.cache_model.specs.Texts.{keep_digit};
-ghost use Rattle.cert_format.specs.Grammar.{OneOf, Within, can_stand, choice_line, fixed_line, full_slots, has_shape, is_short, line_fault, number_at, number_fault, number_in, number_line, price_slot, record_slots, short_slots, value_unless, word_at, words, words_fault};
+ghost use Rattle.cert_format.specs.Grammar.{OneOf, Within, can_stand, choice_line, fixed_line, full_slots, has_second, has_shape, is_short, line_fault, number_at, number_fault, number_in, number_line, price_slot, record_slots, value_unless, words};
 ghost use Rattle.cert_format.specs.Parts.{warmup_slots};
-ghost use Rattle.cert_format.specs.Readings.{entry_of, full_in, record_in, warmup_in};
+ghost use Rattle.cert_format.specs.Readings.{full_in, record_in, short_of, warmup_in};
 
 use crate::fault::TextKind;
 use crate::number::number;
@@ -71,7 +70,7 @@ pub fn number_after(text: &[u8], name: &[u8], low: u128, high: u128) -> Result<u
 pub fn choice_after(text: &[u8], name: &[u8], first: &[u8], second: &[u8]) -> Result<bool, TextKind>
     requires first { 0 < length first.now }
     requires second { 0 < length second.now }
-    ensures { result ≡ value_unless (line_fault (choice_line name.now first.now second.now) text.now) (bytes_eq (word_at 1 text.now) first.now) }
+    ensures { result ≡ value_unless (line_fault (choice_line name.now first.now second.now) text.now) (has_second first.now text.now) }
 {
     match word_after(text, name) {
         Some(word) if word == first => Ok(true),
@@ -180,7 +179,7 @@ fn short_words(text: &[u8], version: u8) -> Option<(&[u8], &[u8])>
 
 // The record of a line of these two words, after one of the price `before`.
 fn short_record(keep: &[u8], flow: &[u8], before: u128) -> Result<Record, TextKind>
-    ensures { result ≡ value_unless (words_fault short_slots (keep.now ∷ flow.now ∷ [])) (entry_of before (bytes_eq keep.now (codes "1")) (number_in flow.now)) }
+    ensures { result ≡ short_of before keep.now flow.now }
 {
     let Some(keep) = keep_of(keep) else {
         return Err(TextKind::Shape);

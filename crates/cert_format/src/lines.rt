@@ -1,13 +1,11 @@
 //! Reading the lines of a certificate from a source.
-ghost use Rattle.std.specs.Prelude.{◌≡◌, ◌+◌, ◌<◌, ◌≤◌, ◌^◌, ◌∷◌, [], codes, length, None, Ok, Err, IfOk, MatchResult};
-ghost use Rattle.std.specs.Str.{bytes_eq};
-ghost use Rattle.bound_io.specs.Lines.{first_text};
+ghost use Rattle.std.specs.Prelude.{◌≡◌, ◌+◌, ◌<◌, ◌≤◌, ◌^◌, length, None, Ok, Err, IfOk, MatchResult};
 ghost use Rattle.bound_io.specs.Devices.{seen};
 ghost use Rattle.cache_model.specs.Certificates.{IsRecordInRange};
-ghost use Rattle.cert_format.specs.Grammar.{choice_line, fixed_line, number_at, number_line, word_at};
-ghost use Rattle.cert_format.specs.Lines.{Reads, nothing_given, of_line, text_given};
-ghost use Rattle.cert_format.specs.Parts.{warmup_fault};
-ghost use Rattle.cert_format.specs.Readings.{end_fault, first_fault, record_in, record_text_fault, trailing, warmup_in};
+ghost use Rattle.cert_format.specs.Grammar.{choice_line, fixed_line, has_second, number_at, number_line};
+ghost use Rattle.cert_format.specs.Lines.{Reads, ReadsLine, ReadsNext, nothing_given, of_line, text_given};
+ghost use Rattle.cert_format.specs.Parts.{first_record, first_warmup, warmup_fault};
+ghost use Rattle.cert_format.specs.Readings.{end_fault, record_text_fault, trailing};
 
 use crate::fault::{CertFault, TextKind};
 use crate::line::{choice_after, fixed, number_after, record, warmup};
@@ -63,7 +61,7 @@ pub fn read_fixed<S: Source>(
     requires few { lines.old.line < 2 ^ 26 }
     requires no_fault { lines.old.fault ≡ None }
     requires short { length words.now ≤ 63 }
-    ensures { Reads (first_fault (lines.old.line + 1) (fixed_line words.now)) 1 (λ _. tt) lines.old lines.new (seen S.left S.faults source.old source.new) result }
+    ensures { ReadsLine (fixed_line words.now) (λ _. tt) lines.old lines.new (seen S.left S.faults source.old source.new) result }
 {
     let line = lines.line() + 1;
     let text = whole_text(line, lines.next_whole_line(source))?;
@@ -84,7 +82,7 @@ pub fn read_number<S: Source>(
     requires short { length name.now ≤ 20 }
     requires high { high < 2 ^ 127 }
     ensures range { IfOk result (λ n. (low ≤ n) × (n ≤ high)) }
-    ensures read { Reads (first_fault (lines.old.line + 1) (number_line name.now low high)) 1 (λ bytes. number_at 1 (first_text bytes)) lines.old lines.new (seen S.left S.faults source.old source.new) result }
+    ensures read { ReadsLine (number_line name.now low high) (number_at 1) lines.old lines.new (seen S.left S.faults source.old source.new) result }
 {
     let line = lines.line() + 1;
     let text = whole_text(line, lines.next_whole_line(source))?;
@@ -105,7 +103,7 @@ pub fn read_choice<S: Source>(
     requires name { length name.now ≤ 23 }
     requires first { (0 < length first.now) × (length first.now ≤ 20) }
     requires second { (0 < length second.now) × (length second.now ≤ 20) }
-    ensures { Reads (first_fault (lines.old.line + 1) (choice_line name.now first.now second.now)) 1 (λ bytes. bytes_eq (word_at 1 (first_text bytes)) first.now) lines.old lines.new (seen S.left S.faults source.old source.new) result }
+    ensures { ReadsLine (choice_line name.now first.now second.now) (has_second first.now) lines.old lines.new (seen S.left S.faults source.old source.new) result }
 {
     let line = lines.line() + 1;
     let text = whole_text(line, lines.next_whole_line(source))?;
@@ -118,7 +116,7 @@ pub fn read_warmup<S: Source>(lines: &mut LineReader, source: &mut S) -> Result<
     requires few { lines.old.line < 2 ^ 26 }
     requires no_fault { lines.old.fault ≡ None }
     ensures range { IfOk result (λ n. n ≤ 2 ^ 25) }
-    ensures read { Reads (warmup_fault (lines.old.line + 1)) 1 (λ bytes. warmup_in (first_text bytes)) lines.old lines.new (seen S.left S.faults source.old source.new) result }
+    ensures read { ReadsNext warmup_fault 1 first_warmup lines.old lines.new (seen S.left S.faults source.old source.new) result }
 {
     let line = lines.line() + 1;
     let text = whole_text(line, lines.next_whole_line(source))?;
@@ -138,7 +136,7 @@ pub fn read_record<S: Source>(
     requires no_fault { lines.old.fault ≡ None }
     requires price { before ≤ 2 ^ 126 }
     ensures range { IfOk result IsRecordInRange }
-    ensures read { Reads (record_text_fault version before (lines.old.line + 1)) 1 (λ bytes. record_in version before (first_text bytes)) lines.old lines.new (seen S.left S.faults source.old source.new) result }
+    ensures read { ReadsNext (record_text_fault version before) 1 (first_record version before) lines.old lines.new (seen S.left S.faults source.old source.new) result }
 {
     let line = lines.line() + 1;
     let text = whole_text(line, lines.next_whole_line(source))?;

@@ -1,9 +1,9 @@
 //! A reader of certificates.
 ghost use Rattle.std.specs.Prelude.{◌≡◌, ◌≢◌, ◌+◌, ◌^◌, ◌<◌, ◌≤◌, IfOk, IfErr, IfSome, OnErr, OnOk, length, None, Err};
-ghost use Rattle.bound_io.specs.Devices.{IsUntouched, seen};
+ghost use Rattle.bound_io.specs.Devices.{seen};
 ghost use Rattle.bound_io.specs.Reading.{LosesPrefix};
 ghost use Rattle.cache_model.specs.Certificates.{IsHeaderInRange, IsRecordInRange};
-ghost use Rattle.cert_format.specs.Lines.{IsPast, IsTaken, IsWithin, Reads, known};
+ghost use Rattle.cert_format.specs.Lines.{IsPast, IsTaken, IsWithin, ReadsNext, known};
 ghost use Rattle.cert_format.specs.Finish.{finish_fault, lines_left};
 
 use crate::fault::CertFault;
@@ -31,7 +31,7 @@ fn finish<Q: Source>(lines: &mut LineReader, source: &mut Q, stage: Stage) -> Re
     requires limit { lines.old.limit ≡ 2 ^ 36 }
     requires few { lines.old.line + lines_left stage < 2 ^ 26 }
     requires no_fault { lines.old.fault ≡ None }
-    ensures { Reads (finish_fault stage (lines.old.line + 1)) (lines_left stage) (λ _. tt) lines.old lines.new (seen Q.left Q.faults source.old source.new) result }
+    ensures { ReadsNext (finish_fault stage) (lines_left stage) (λ _. tt) lines.old lines.new (seen Q.left Q.faults source.old source.new) result }
 {
     match stage {
         Stage::AtEnd => read_nothing(lines, source),
@@ -66,13 +66,13 @@ impl Model for CertReader {
 
     ghost invariant = { λ r.
         (r.lines.limit ≡ 2 ^ 36) × (length r.lines.held ≤ 65536) × (r.fault ≡ None → r.lines.fault ≡ None)
-        × (r.fault ≡ None → r.lines.line + r.left + lines_left r.stage < 2 ^ 26) × (r.fault ≡ None → r.stage ≡ AtHeader → r.lines.line ≡ 0)
-        × (r.price ≤ 2 ^ 126) };
+        × (r.fault ≡ None → r.lines.line + r.left + lines_left r.stage < 2 ^ 26)
+        × (r.fault ≡ None → r.stage ≡ AtHeader → r.lines.line ≡ 0) × (r.price ≤ 2 ^ 126) };
 }
 
 impl CertReader {
     ghost use Rattle.cert_format.specs.declared.reader.Stage.TheVariants.{AtHeader, InRecords};
-    ghost use Rattle.cert_format.specs.Readers.{EndRead, HeaderRead, RecordRead, err_of, fresh};
+    ghost use Rattle.cert_format.specs.Readers.{AnswersAgain, EndRead, HeaderRead, RecordRead, err_of, fresh};
 
     /// A reader that has read nothing. It takes all its memory here.
     pub fn new(alloc: Global) -> Result<Self, NoMemory>
@@ -123,7 +123,7 @@ impl CertReader {
         ensures read { self.old.fault ≡ None → HeaderRead self.old self.new (seen Q.left Q.faults source.old source.new) result }
         ensures range { IfOk result IsHeaderInRange }
         ensures fault { self.old.fault ≡ None → self.new.fault ≡ err_of result }
-        ensures again { IfSome self.old.fault (λ fault. (result ≡ Err fault) × (self.new ≡ self.old) × IsUntouched (seen Q.left Q.faults source.old source.new)) }
+        ensures again { AnswersAgain self.old self.new result (seen Q.left Q.faults source.old source.new) }
         ensures left { OnErr result (self.new.left ≡ self.old.left) }
         ensures within { self.old.fault ≡ None → IfErr result (IsWithin self.new.lines.line) }
         ensures past { IfSome (known self.old.lines (Q.left source.old)) (IsPast self.old.lines self.new.lines) }
@@ -154,7 +154,7 @@ impl CertReader {
         ensures read { self.old.fault ≡ None → RecordRead self.old self.new (seen Q.left Q.faults source.old source.new) result }
         ensures range { IfOk result IsRecordInRange }
         ensures fault { self.old.fault ≡ None → self.new.fault ≡ err_of result }
-        ensures again { IfSome self.old.fault (λ fault. (result ≡ Err fault) × (self.new ≡ self.old) × IsUntouched (seen Q.left Q.faults source.old source.new)) }
+        ensures again { AnswersAgain self.old self.new result (seen Q.left Q.faults source.old source.new) }
         ensures left { OnErr result (self.new.left ≡ self.old.left) }
         ensures within { self.old.fault ≡ None → IfErr result (IsWithin self.new.lines.line) }
         ensures past { IfSome (known self.old.lines (Q.left source.old)) (IsPast self.old.lines self.new.lines) }
@@ -183,7 +183,7 @@ impl CertReader {
         ensures lines { self.old.fault ≡ None → OnOk result (self.new.lines.line ≡ self.old.lines.line + lines_left self.old.stage) }
         ensures read { self.old.fault ≡ None → EndRead self.old self.new (seen Q.left Q.faults source.old source.new) result }
         ensures fault { self.old.fault ≡ None → self.new.fault ≡ err_of result }
-        ensures again { IfSome self.old.fault (λ fault. (result ≡ Err fault) × (self.new ≡ self.old) × IsUntouched (seen Q.left Q.faults source.old source.new)) }
+        ensures again { AnswersAgain self.old self.new result (seen Q.left Q.faults source.old source.new) }
         ensures left { OnErr result (self.new.left ≡ self.old.left) }
         ensures within { self.old.fault ≡ None → IfErr result (IsWithin self.new.lines.line) }
         ensures past { IfSome (known self.old.lines (Q.left source.old)) (IsPast self.old.lines self.new.lines) }

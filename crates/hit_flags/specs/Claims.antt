@@ -1,11 +1,13 @@
 -- What comes of reading a trace and the flags beside it.
 use Rattle.std.specs.Prelude.{◌≡◌, ℕ, Bool, List, [], length, map, Some, IfSome}
+use Rattle.bit_list.specs.Bits.{bits_of}
 use Rattle.bound_io.specs.Devices.{Device, HasFailed}
 use Rattle.cache_rules.specs.Stored.{Requests}
 use Rattle.trace_any.specs.declared.fault.TraceFault.TheVariants as of_trace
 use Rattle.trace_any.specs.declared.format.Format.{Format}
 use Rattle.trace_any.specs.Readings.{reading, full_limits}
 use Rattle.trace_any.specs.Loads.{IsLoaded}
+use Rattle.hit_flags.specs.declared.claims.Claims.{Claims}
 use Rattle.hit_flags.specs.declared.fault.FlagFault.{FlagFault}
 use Rattle.hit_flags.specs.declared.fault.FlagFault.TheVariants.{Trace, NotFlag, Count, ReadFault, NoMemory}
 use Rattle.hit_flags.specs.Flags.{flags_in, stop_of}
@@ -20,6 +22,10 @@ pub record AreRead (format : Format) (trace hits : Device) (requests : Requests)
   pub loaded : IsLoaded format trace requests dropped
   pub flags_are : AreFlags hits flags
   pub as_many : length flags ≡ length requests.objects
+
+-- the same of claims, which have them all
+abbrev pub ReadsClaims : Format → Device → Device → Claims → Type 0
+ReadsClaims format trace hits c = AreRead format trace hits c.trace c.dropped (bits_of c.flags)
 
 -- this stops the reading of all that the two sources had left, if the bytes of both are known
 abbrev pub IsStop : Format → Device → Device → FlagFault → Type 0

@@ -2,19 +2,18 @@
 use Rattle.std.specs.Prelude.{◌≡◌, ℕ, ◌+◌, ◌*◌, ◌≤◌, ◌^◌, Bool, List, [], ◌∷◌, Result, Ok, Err, None, Some, IfSome}
 use Rattle.std.specs.declared.option.Option.{Option}
 use Rattle.bound_io.specs.Causes.{HasNewFault}
-use Rattle.bound_io.specs.Lines.{stands_in}
+use Rattle.bound_io.specs.Devices.{Device}
 use Rattle.bound_io.specs.Positions.{Position}
+pub use Rattle.bound_io.specs.Positions.{known}
+use Rattle.cache_model.specs.declared.objects.Object.{Object}
+use Rattle.trace_any.specs.declared.fault.TraceFault.{TraceFault}
 use Rattle.hit_flags.specs.declared.fault.FlagFault.{FlagFault}
 use Rattle.hit_flags.specs.declared.fault.FlagFault.TheVariants.{Trace, NotFlag, Count, ReadFault, NoMemory}
-use Rattle.hit_flags.specs.Flags.{flags_in}
+use Rattle.hit_flags.specs.Flags.{by_turns, flags_in}
 
 -- where a reader of flags stands before it has read anything
 abbrev pub nothing_read : Position
 nothing_read = record { limit = 2 ^ 36; consumed = 0; line = 0; held = []; fault = None }
-
--- the bytes that a reader of lines stands in, if those that its source has left are known
-abbrev pub known : Position → Option (List ℕ) → Option (List ℕ)
-known at left = stands_in at.held left
 
 -- a reader of flags has its whole limit and has answered no fault
 abbrev pub IsGoing : Position → Type 0
@@ -30,6 +29,14 @@ pub record Gives (flag : Bool) (old new : Position) (bytes : List ℕ) (after : 
   pub after_is : after ≡ Some rest
   pub flags : flags_in bytes ≡ Some flag ∷ flags_in rest
   pub short : new.consumed ≤ old.consumed + 2
+
+-- the same of the bytes that a reader stands in, by the source before the call and after it
+abbrev pub GivesFlag : Position → Position → Device → Bool → Type 0
+GivesFlag old new hits flag = IfSome (known old hits.before) (λ bytes. Gives flag old new bytes (known new hits.after))
+
+-- no byte is left, before the call and after it
+abbrev pub IsAtItsEnd : Position → Position → Device → Type 0
+IsAtItsEnd old new hits = IfSome (known old hits.before) (λ bytes. (bytes ≡ []) × (known new hits.after ≡ Some []))
 
 -- one line more was given
 abbrev pub IsNextLine : Position → Position → Type 0
@@ -49,6 +56,10 @@ NextFlag old new before after faults_before faults_after (Err (Trace fault)) = �
 NextFlag old new before after faults_before faults_after (Err (Count flags requests)) = ⊥
 NextFlag old new before after faults_before faults_after (Err NoMemory) = ⊥
 
+-- the same by the source before the call and after it
+abbrev pub ReadsFlag : Position → Position → Device → Result (Option Bool) FlagFault → Type 0
+ReadsFlag old new hits result = NextFlag old new (known old hits.before) (known new hits.after) hits.faults_before hits.faults_after result
+
 -- why a reading of flags stops, if this is what stops it, from the flags that are left: so, if the bytes are known and the lines were short; and a failed read only with a new fault
 abbrev pub StopsSo : (List (Option Bool) → Option FlagFault) → Position → Option (List ℕ) → ℕ → ℕ → FlagFault → Type 0
 StopsSo stop old before faults_before faults_after (NotFlag line) = AreShort old → IfSome before (λ bytes. stop (flags_in bytes) ≡ Some (NotFlag line))
@@ -56,3 +67,13 @@ StopsSo stop old before faults_before faults_after (Count flags requests) = AreS
 StopsSo stop old before faults_before faults_after ReadFault = HasNewFault faults_before faults_after
 StopsSo stop old before faults_before faults_after (Trace fault) = ⊥
 StopsSo stop old before faults_before faults_after NoMemory = ⊥
+
+-- why the flag of a request that was read is not, whatever requests come with it: it stops the turns there
+abbrev pub StopsTurn : Position → Device → FlagFault → Type 0
+StopsTurn at hits fault =
+    (x : Object) (requests : List Object) (refused : Option TraceFault)
+    → StopsSo (λ flags. by_turns (x ∷ requests) refused flags at.line) at (known at hits.before) hits.faults_before hits.faults_after fault
+
+-- why the flags don't end after the last request: it stops the turns there
+abbrev pub StopsEnd : Position → Device → FlagFault → Type 0
+StopsEnd at hits = StopsSo (λ flags. by_turns [] None flags at.line) at (known at hits.before) hits.faults_before hits.faults_after

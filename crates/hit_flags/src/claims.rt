@@ -1,11 +1,10 @@
 //! The claims of a simulator, read whole.
-ghost use Rattle.std.specs.Prelude.{◌≡◌, ◌≤◌, None, IfOk, IfErr};
-ghost use Rattle.bit_list.specs.Bits.{bits_of};
+ghost use Rattle.std.specs.Prelude.{◌≡◌, IfOk, IfErr};
 ghost use Rattle.bound_io.specs.Devices.{seen};
 ghost use Rattle.bound_io.specs.Reading.{LosesPrefix};
 ghost use Rattle.trace_any.specs.Readers.{fresh};
 ghost use Rattle.trace_any.specs.Readings.{IsFormat, full_limits};
-ghost use Rattle.hit_flags.specs.Claims.{AreRead, AreUnread};
+ghost use Rattle.hit_flags.specs.Claims.{AreUnread, ReadsClaims};
 ghost use Rattle.hit_flags.specs.Lines.{nothing_read};
 
 use crate::fault::FlagFault;
@@ -37,7 +36,7 @@ fn read_turns<T: Source, H: Source>(
 ) -> Result<Claims, FlagFault>
     requires reader { reader.old ≡ fresh reader.old.format full_limits }
     requires lines { lines.old ≡ nothing_read }
-    ensures read { IfOk result (λ c. AreRead reader.old.format (seen T.left T.faults trace.old trace.new) (seen H.left H.faults hits.old hits.new) c.trace c.dropped (bits_of c.flags)) }
+    ensures read { IfOk result (ReadsClaims reader.old.format (seen T.left T.faults trace.old trace.new) (seen H.left H.faults hits.old hits.new)) }
     ensures unread { IfErr result (AreUnread reader.old.format (seen T.left T.faults trace.old trace.new) (seen H.left H.faults hits.old hits.new)) }
     ensures trace_source { LosesPrefix (T.left trace.old) (T.left trace.new) }
     ensures hits_source { LosesPrefix (H.left hits.old) (H.left hits.new) }
@@ -69,7 +68,7 @@ pub fn read_claims<T: Source, H: Source>(
     hits: &mut H,
 ) -> Result<Claims, FlagFault>
     requires { IsFormat format }
-    ensures read { IfOk result (λ c. AreRead format (seen T.left T.faults trace.old trace.new) (seen H.left H.faults hits.old hits.new) c.trace c.dropped (bits_of c.flags)) }
+    ensures read { IfOk result (ReadsClaims format (seen T.left T.faults trace.old trace.new) (seen H.left H.faults hits.old hits.new)) }
     ensures unread { IfErr result (AreUnread format (seen T.left T.faults trace.old trace.new) (seen H.left H.faults hits.old hits.new)) }
     ensures trace_source { LosesPrefix (T.left trace.old) (T.left trace.new) }
     ensures hits_source { LosesPrefix (H.left hits.old) (H.left hits.new) }

@@ -1,11 +1,9 @@
 //! The flags of a simulator, line by line.
-ghost use Rattle.std.specs.Prelude.{◌≡◌, ◌+◌, ◌≤◌, ◌^◌, List, [], ◌∷◌, None, Some, IfOk, IfErr, IfSome, OnOk};
-ghost use Rattle.std.specs.declared.option.Option.{Option};
+ghost use Rattle.std.specs.Prelude.{◌≡◌, ◌+◌, ◌≤◌, ◌^◌, None, Some, IfOk, IfErr, OnOk};
+ghost use Rattle.bound_io.specs.Devices.{seen};
 ghost use Rattle.bound_io.specs.Reading.{LosesPrefix};
-ghost use Rattle.cache_model.specs.declared.objects.Object.{Object as Requested};
-ghost use Rattle.trace_any.specs.declared.fault.TraceFault.{TraceFault};
-ghost use Rattle.hit_flags.specs.Flags.{by_turns, flag_of, flags_in};
-ghost use Rattle.hit_flags.specs.Lines.{Gives, IsGoing, IsNextLine, NextFlag, StopsSo, known};
+ghost use Rattle.hit_flags.specs.Flags.{flag_of};
+ghost use Rattle.hit_flags.specs.Lines.{GivesFlag, IsAtItsEnd, IsGoing, IsNextLine, ReadsFlag, StopsEnd, StopsTurn};
 
 use crate::fault::FlagFault;
 use bound_io::{LineFault, LineReader, Source};
@@ -25,7 +23,7 @@ fn flag_of(text: &[u8]) -> Option<bool>
 fn next_flag<H: Source>(lines: &mut LineReader, hits: &mut H) -> Result<Option<bool>, FlagFault>
     requires going { IsGoing lines.old }
     requires few { lines.old.line ≤ 2 ^ 25 }
-    ensures next { NextFlag lines.old lines.new (known lines.old (H.left hits.old)) (known lines.new (H.left hits.new)) (H.faults hits.old) (H.faults hits.new) result }
+    ensures next { ReadsFlag lines.old lines.new (seen H.left H.faults hits.old hits.new) result }
     ensures source { LosesPrefix (H.left hits.old) (H.left hits.new) }
     ensures later { H.faults hits.old ≤ H.faults hits.new }
     ensures none_failed { OnOk result (H.faults hits.new ≡ H.faults hits.old) }
@@ -51,9 +49,9 @@ fn next_flag<H: Source>(lines: &mut LineReader, hits: &mut H) -> Result<Option<b
 pub(crate) fn flag_for<H: Source>(lines: &mut LineReader, hits: &mut H) -> Result<bool, FlagFault>
     requires going { IsGoing lines.old }
     requires few { lines.old.line ≤ 2 ^ 25 }
-    ensures given { IfOk result (λ flag. IfSome (known lines.old (H.left hits.old)) (λ bytes. Gives flag lines.old lines.new bytes (known lines.new (H.left hits.new)))) }
+    ensures given { IfOk result (GivesFlag lines.old lines.new (seen H.left H.faults hits.old hits.new)) }
     ensures line { OnOk result (IsNextLine lines.old lines.new) }
-    ensures stopped { IfErr result (λ fault. (x : Requested) (requests : List Requested) (refused : Option TraceFault) → StopsSo (λ flags. by_turns (x ∷ requests) refused flags lines.old.line) lines.old (known lines.old (H.left hits.old)) (H.faults hits.old) (H.faults hits.new) fault) }
+    ensures stopped { IfErr result (StopsTurn lines.old (seen H.left H.faults hits.old hits.new)) }
     ensures source { LosesPrefix (H.left hits.old) (H.left hits.new) }
     ensures later { H.faults hits.old ≤ H.faults hits.new }
     ensures none_failed { OnOk result (H.faults hits.new ≡ H.faults hits.old) }
@@ -72,8 +70,8 @@ pub(crate) fn flag_for<H: Source>(lines: &mut LineReader, hits: &mut H) -> Resul
 pub(crate) fn no_more<H: Source>(lines: &mut LineReader, hits: &mut H) -> Result<(), FlagFault>
     requires going { IsGoing lines.old }
     requires few { lines.old.line ≤ 2 ^ 25 }
-    ensures end { OnOk result (IfSome (known lines.old (H.left hits.old)) (λ bytes. (bytes ≡ []) × (known lines.new (H.left hits.new) ≡ Some []))) }
-    ensures stopped { IfErr result (StopsSo (λ flags. by_turns [] None flags lines.old.line) lines.old (known lines.old (H.left hits.old)) (H.faults hits.old) (H.faults hits.new)) }
+    ensures end { OnOk result (IsAtItsEnd lines.old lines.new (seen H.left H.faults hits.old hits.new)) }
+    ensures stopped { IfErr result (StopsEnd lines.old (seen H.left H.faults hits.old hits.new)) }
     ensures source { LosesPrefix (H.left hits.old) (H.left hits.new) }
     ensures later { H.faults hits.old ≤ H.faults hits.new }
     ensures none_failed { OnOk result (H.faults hits.new ≡ H.faults hits.old) }

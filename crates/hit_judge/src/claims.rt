@@ -1,9 +1,10 @@
 //! What claimed hits are worth.
-ghost use Rattle.std.specs.Prelude.{◌≡◌, ◌&&◌, ℕ};
+ghost use Rattle.std.specs.Prelude.{◌≡◌, ◌&&◌};
 ghost use Rattle.bit_list.specs.Bits.{bits_of};
 ghost use Rattle.cache_model.specs.declared.objects.Objective.TheVariants.{Object as Hits, Bytes};
-ghost use Rattle.cache_model.specs.Claim.{counts_past, terms_from};
-ghost use Rattle.judge_laws.specs.Flags.{claimed, is_flagged};
+ghost use Rattle.cache_model.specs.Claim.{counts_past};
+ghost use Rattle.judge_laws.specs.Flags.{is_flagged};
+ghost use Rattle.hit_judge.specs.Claims.{IsClaim};
 
 use crate::causes::requested_size;
 use bit_list::BitList;
@@ -25,8 +26,8 @@ fn is_claimed(trace: &Trace, flags: &BitList, warmup: u32, t: u32) -> bool
 
 // Counts what the flags claim.
 pub(crate) fn count_claimed(trace: &Trace, flags: &BitList, warmup: u32) -> Claimed
-    ensures hits { (capacity : ℕ) → result.hits ≡ claimed (terms_from Hits capacity warmup trace.now.fills) trace.now.objects (bits_of flags.now) }
-    ensures bytes { (capacity : ℕ) → result.bytes ≡ claimed (terms_from Bytes capacity warmup trace.now.fills) trace.now.objects (bits_of flags.now) }
+    ensures hits { IsClaim Hits warmup trace.now.fills trace.now.objects (bits_of flags.now) result.hits }
+    ensures bytes { IsClaim Bytes warmup trace.now.fills trace.now.objects (bits_of flags.now) result.bytes }
 {
     let mut hits = 0;
     let mut bytes = 0;

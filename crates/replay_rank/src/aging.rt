@@ -61,7 +61,13 @@ impl Model for Aging {
     ghost use Rattle.policy_model.specs.Aging.{floored};
     ghost use Rattle.replay_rank.specs.AgingEntries.{entries_of, IsAging};
 
-    ghost view = { λ p. record { objects = p.objects; capacity = p.capacity; now = p.requests; entries = entries_of p.holdings; beside = floored p.floor } };
+    ghost view = { λ p. record {
+      objects = p.objects;
+      capacity = p.capacity;
+      now = p.requests;
+      entries = entries_of p.holdings;
+      beside = floored p.floor;
+    } };
 
     ghost invariant = { λ p. IsAging p.capacity p.used p.holdings (heap_items p.order) };
 }

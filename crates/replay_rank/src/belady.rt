@@ -65,7 +65,13 @@ impl Model for Belady {
     ghost use Rattle.policy_model.specs.States.{nothing_beside};
     ghost use Rattle.replay_rank.specs.BeladyEntries.{entries_of, IsBelady};
 
-    ghost view = { λ p. record { objects = p.objects; capacity = p.capacity; now = p.requests; entries = entries_of p.holdings; beside = nothing_beside } };
+    ghost view = { λ p. record {
+      objects = p.objects;
+      capacity = p.capacity;
+      now = p.requests;
+      entries = entries_of p.holdings;
+      beside = nothing_beside;
+    } };
 
     ghost invariant = { λ p. IsBelady p.capacity p.used p.holdings (heap_items p.order) };
 }

@@ -1,5 +1,5 @@
 //! The rule of the clock: an object that was asked for since the hand last passed it is passed over once.
-ghost use Rattle.std.specs.Prelude.{◌≡◌, ◌≤◌, ◌<◌, ◌^◌, ◌+◌, ◌*◌, ◌++◌, ◌∷◌, [], ℕ, All, length, nat_eq, false, true, Some, None, is_some, IfOk, IsOk, OnOk, OnErr, refl};
+ghost use Rattle.std.specs.Prelude.{◌≡◌, ◌≤◌, ◌<◌, ◌^◌, ◌+◌, ◌*◌, ℕ, All, length, nat_eq, false, true, Some, None, is_some, IfOk, IsOk, OnOk, OnErr, refl};
 ghost use Rattle.std.specs.declared.option.Option.{Option};
 ghost use Rattle.std.specs.HashMap.{get, Updates};
 ghost use Rattle.policy_model.specs.declared.names.PolicyName.TheVariants.{Clock as ByClock};
@@ -7,8 +7,7 @@ ghost use Rattle.policy_model.specs.States.{used};
 ghost use Rattle.policy_model.specs.Steps.{make_room, turn_hand};
 ghost use Rattle.replay_core.specs.Keeping.{Answers, GivesUp, nothing_kept, state_of, contents_of};
 ghost use Rattle.replay_core.specs.Laws.{IsSound};
-ghost use Rattle.replay_recency.specs.LruEntries.{plain_entry};
-ghost use Rattle.replay_recency.specs.ClockEntries.{marked_entries, mark_of, has_item, AreMarked};
+ghost use Rattle.replay_recency.specs.ClockEntries.{marked_entries, with_unmarked, mark_of, has_item, AreMarked};
 
 use bound_base::NoMemory;
 use replay_core::{Outcome, Policy};
@@ -38,7 +37,13 @@ impl Model for Clock {
     ghost use Rattle.policy_model.specs.States.{nothing_beside};
     ghost use Rattle.replay_recency.specs.ClockEntries.{marked_entries, IsClock};
 
-    ghost view = { λ p. record { objects = p.objects; capacity = p.capacity; now = p.requests; entries = marked_entries p.marks p.queue.items; beside = nothing_beside } };
+    ghost view = { λ p. record {
+      objects = p.objects;
+      capacity = p.capacity;
+      now = p.requests;
+      entries = marked_entries p.marks p.queue.items;
+      beside = nothing_beside;
+    } };
 
     ghost invariant = { λ p. IsClock p.capacity p.used p.queue.items p.marks };
 }
@@ -124,7 +129,7 @@ fn put_last(
 ) -> Result<(), NoMemory>
     requires absent { has_item queue.old.items object ≡ false }
     requires marked { AreMarked queue.old.items marks.old }
-    ensures entries { OnOk result (marked_entries marks.new queue.new.items ≡ marked_entries marks.old queue.old.items ++ plain_entry (object, size) ∷ []) }
+    ensures entries { OnOk result (marked_entries marks.new queue.new.items ≡ with_unmarked marks.old queue.old.items (object, size)) }
     ensures marked { AreMarked queue.new.items marks.new }
     ensures err { OnErr result (marked_entries marks.new queue.new.items ≡ marked_entries marks.old queue.old.items) }
 {

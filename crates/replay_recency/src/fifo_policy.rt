@@ -34,7 +34,13 @@ impl Model for Fifo {
     ghost use Rattle.policy_model.specs.States.{nothing_beside};
     ghost use Rattle.replay_recency.specs.LruEntries.{entries_of, IsLru};
 
-    ghost view = { λ p. record { objects = p.objects; capacity = p.capacity; now = p.requests; entries = entries_of p.entries.entries; beside = nothing_beside } };
+    ghost view = { λ p. record {
+      objects = p.objects;
+      capacity = p.capacity;
+      now = p.requests;
+      entries = entries_of p.entries.entries;
+      beside = nothing_beside;
+    } };
 
     ghost invariant = { λ p. IsLru p.capacity p.used p.entries.cap p.entries.entries };
 }

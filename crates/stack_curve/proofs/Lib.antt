@@ -1,4 +1,4 @@
-pub mod SumLemmas
+pub mod MarkLemmas
 pub mod Different
 pub mod Recent
 pub mod LruEntries

@@ -2,4 +2,4 @@ pub mod Counts
 pub mod Curves
 pub mod Distances
 pub mod Laws
-pub mod Sums
+pub mod Marks

@@ -8,7 +8,6 @@ mod laws;
 mod marks;
 mod pass;
 mod points;
-mod sums;
 
 pub use laws::curve_is_of_lru;
 pub use marks::Marks;

@@ -1,10 +1,10 @@
 //! Marks on places, set one by one and counted over ranges.
 ghost use Rattle.std.specs.Prelude.{◌≡◌, ◌<◌, ◌≤◌, ◌*◌, Bool, false, true, length, replicate, count_by, slice_range, slice_set, IfOk};
 
-use crate::sums::{set_leaf, sum_between};
 use bound_base::NoMemory;
 use std::alloc::Global;
 use std::marker::Model;
+use sum_tree::{set_leaf, sum_between};
 
 /// Which places are marked. Places count from 0. It takes 8 bytes for each place.
 #[derive(Debug, Drop)]
@@ -15,13 +15,14 @@ pub struct Marks {
 
 impl Model for Marks {
     ghost use Rattle.std.specs.Prelude.{List, Bool};
-    ghost use Rattle.stack_curve.specs.Sums.{marks_of, IsTree};
+    ghost use Rattle.sum_tree.specs.Sums.{IsTree};
+    ghost use Rattle.stack_curve.specs.Marks.{marks_of};
 
     ghost Value = { List Bool };
 
     ghost view = { λ m. marks_of m.places m.sums.items };
 
-    ghost invariant = { λ m. IsTree m.places m.sums.items };
+    ghost invariant = { λ m. IsTree 1 m.places m.sums.items };
 }
 
 // A sum of 0 at each node of a tree over that many places.

@@ -1,11 +1,12 @@
 -- The first lines of a trace, or its first records: what a reader of requests has gone through, and how much of a source its first requests need.
-use Rattle.std.specs.Prelude.{◌≡◌, ℕ, ◌+◌, ◌-◌, ◌<◌, ◌≤◌, Bool, List, [], ◌++◌, length, take, drop, fold}
+use Rattle.std.specs.Prelude.{◌≡◌, ℕ, ◌+◌, ◌-◌, ◌<◌, ◌≤◌, Bool, IfSome, List, [], ◌++◌, length, take, drop, fold}
 use Rattle.std.specs.List.{sum_by}
+use Rattle.std.specs.declared.option.Option.{Option}
 use Rattle.cache_model.specs.declared.objects.Object.{Object}
 use Rattle.trace_any.specs.declared.format.Format.{Format}
 use Rattle.trace_any.specs.declared.format.Limits.{Limits}
 use Rattle.trace_any.specs.Readings.{Reading, pieces_of, nothing_read, read_line, reading}
-use Rattle.trace_any.specs.Readers.{Reader, after, bytes_after, room_left, with_ahead}
+use Rattle.trace_any.specs.Readers.{Reader, after, bytes_after, known, last_mark, onto, room_left, with_ahead}
 
 -- the first `count` lines of some bytes, or all that there are: the text of each, and how many bytes it has; a record counts as a line, and is its text
 abbrev pub first_lines : Format → ℕ → List ℕ → List (List ℕ × ℕ)
@@ -32,6 +33,10 @@ lines_between old new = new.lines.line - old.lines.line
 abbrev pub coming_in : Reader → List (List ℕ × ℕ) → Reading
 coming_in r lines = fold (read_line r.format (room_left r)) (with_ahead r) lines
 
+-- whatever the lines, this request is the first of those to come in them
+abbrev pub GivesFirstIn : Reader → Reader → Object → Type 0
+GivesFirstIn old new x = (lines : List (List ℕ × ℕ)) → coming_in old lines ≡ onto x (last_mark new) (coming_in new lines)
+
 -- a reader has gone through the first of these bytes' lines and stands after them; whatever lines follow them, what is to come is what was, without the requests and the marks that were given
 pub record GoesThrough (with_given : Reading → Reading) (old new : Reader) (bytes : List ℕ) : Type 0 where
   pub format : new.format ≡ old.format
@@ -44,6 +49,14 @@ pub record GoesThrough (with_given : Reading → Reading) (old new : Reader) (by
 pub record GoesNoFurther (with_given : Reading → Reading) (old new : Reader) (bytes : List ℕ) : Type 0 where
   pub through : GoesThrough with_given old new bytes
   pub none_before : (fewer : ℕ) → fewer < lines_between old new → (coming_in old (first_lines old.format fewer bytes)).requests ≡ []
+
+-- the same of the bytes that it stands in, if those that the source has left are known
+abbrev pub GoesNoFurtherFrom : Option (List ℕ) → (Reading → Reading) → Reader → Reader → Type 0
+GoesNoFurtherFrom left with_given old new = IfSome (known old left) (GoesNoFurther with_given old new)
+
+-- it goes no further than the line that asks for this request
+abbrev pub GoesToRequest : Option (List ℕ) → Reader → Reader → Object → Type 0
+GoesToRequest left old new x = GoesNoFurtherFrom left (onto x (last_mark new)) old new
 
 -- a reader has given these requests and marks, and has gone through no more lines than they need
 pub record HasGiven (given : List Object) (fills : List Bool) (old new : Reader) (bytes : List ℕ) : Type 0 where

@@ -1,9 +1,10 @@
 -- What a reader of requests has still to give.
-use Rattle.std.specs.Prelude.{◌≡◌, ℕ, ◌+◌, ◌-◌, ◌<◌, ◌≤◌, drop, List, [], ◌∷◌, ◌++◌, Bool, true, false, Result, Ok, Err, None, Some, IfSome}
+use Rattle.std.specs.Prelude.{◌≡◌, ℕ, ◌+◌, ◌-◌, ◌<◌, ◌≤◌, ◌⊎◌, drop, List, [], ◌∷◌, ◌++◌, Bool, true, false, Result, Ok, Err, None, Some, IfSome}
 use Rattle.trace_lines.specs.declared.line.Span.{Span}
 use Rattle.trace_lines.specs.declared.line.Span.TheVariants.{Nothing, One, Blocks}
 use Rattle.std.specs.declared.option.Option.{Option}
 use Rattle.bound_io.specs.Causes.{HasNewFault}
+use Rattle.bound_io.specs.Devices.{Device}
 use Rattle.bound_io.specs.Positions.{Position}
 use Rattle.bound_io.specs.Lines.{stands_in}
 use Rattle.cache_model.specs.declared.objects.Object.{Object}
@@ -12,6 +13,7 @@ use Rattle.trace_any.specs.declared.fault.TraceFault.{TraceFault}
 use Rattle.trace_any.specs.declared.fault.TraceFault.TheVariants.{BadLine, ReadFault, InputTooLong, TooManyRequests, NoMemory}
 use Rattle.trace_any.specs.declared.format.Format.{Format}
 use Rattle.trace_any.specs.declared.format.Limits.{Limits}
+use Rattle.trace_any.specs.declared.progress.Range.{Range}
 use Rattle.trace_any.specs.Volumes.{Volume}
 use Rattle.trace_any.specs.Readings.{is_marked, Reading, requested, read_on, with_named, number_of, marks_of}
 
@@ -26,6 +28,10 @@ pub record Ahead : Type 0 where
 -- no block is left
 abbrev pub nothing_ahead : Ahead
 nothing_ahead = record { volume = 0; fills = false; first = 0; count = 0; size = 0 }
+
+-- the blocks that the code keeps as a range
+abbrev pub ahead_of : Range → Ahead
+ahead_of r = record { volume = r.volume; fills = r.fills; first = r.first; count = r.count; size = r.size }
 
 -- where a reader of requests stands: its form, its limits, its lines, the number of requests given and of lines dropped, the volumes named, the blocks of the last line, and the fault that was answered
 pub record Reader : Type 0 where
@@ -107,6 +113,23 @@ IsStopped old new before faults_before faults_after TooManyRequests = IfSome bef
 IsStopped old new before faults_before faults_after ReadFault = HasNewFault faults_before faults_after
 IsStopped old new before faults_before faults_after NoMemory = Unit {0}
 
+-- the fault that was answered before is answered again, and nothing is asked of the source
+abbrev pub AnswersAgain : {A : Type 0} → Reader → Reader → Result A TraceFault → Device → Type 0
+AnswersAgain old new result source =
+    IfSome old.fault (λ fault. (result ≡ Err fault) × (new ≡ old) × (source.after ≡ source.before) × (source.faults_after ≡ source.faults_before))
+
+-- the form, the limits, the lines and the number of dropped lines are as before
+abbrev pub ReadsNothing : Reader → Reader → Type 0
+ReadsNothing old new = (new.format ≡ old.format) × (new.limits ≡ old.limits) × (new.lines ≡ old.lines) × (new.dropped ≡ old.dropped)
+
+-- whatever the bytes, this request is the first of those to come
+abbrev pub GivesFirst : Reader → Reader → Object → Type 0
+GivesFirst old new x = (new.given ≡ old.given + 1) × ((bytes : List ℕ) → to_come old bytes ≡ onto x (last_mark new) (to_come new bytes))
+
+-- there is room for no request, and whatever the bytes, that is what stops the reading
+abbrev pub IsFull : Reader → Reader → TraceFault → Type 0
+IsFull old new fault = (fault ≡ TooManyRequests) × ((bytes : List ℕ) → IsOver (to_come old bytes) new.dropped (Some fault))
+
 -- the bytes after those that a reader has given the lines of
 abbrev pub bytes_after : Reader → Reader → List ℕ → List ℕ
 bytes_after old new bytes = drop (new.lines.consumed - old.lines.consumed) bytes
@@ -127,11 +150,19 @@ NextRequest old new before after faults_before faults_after (Ok (Some x)) = (new
 NextRequest old new before after faults_before faults_after (Ok None) = IfSome before (λ bytes. GivesNone old new bytes after)
 NextRequest old new before after faults_before faults_after (Err fault) = IsStopped old new before faults_before faults_after fault
 
+-- the same by the source before the call and after it
+abbrev pub GivesRequest : Reader → Reader → Device → Result (Option Object) TraceFault → Type 0
+GivesRequest old new source result = NextRequest old new (known old source.before) (known new source.after) source.faults_before source.faults_after result
+
 -- how the next line is taken up: nothing that is to come changes by it
 abbrev pub LineTaken : Reader → Reader → Option (List ℕ) → Option (List ℕ) → ℕ → ℕ → Result Bool TraceFault → Type 0
 LineTaken old new before after faults_before faults_after (Ok true) = (old.lines.consumed < new.lines.consumed) × IfSome before (λ bytes. GoesOn (λ r. r) old new bytes after)
 LineTaken old new before after faults_before faults_after (Ok false) = IfSome before (λ bytes. GivesNone old new bytes after)
 LineTaken old new before after faults_before faults_after (Err fault) = IsStopped old new before faults_before faults_after fault
+
+-- the same by the source before the call and after it
+abbrev pub TakesLine : Reader → Reader → Device → Result Bool TraceFault → Type 0
+TakesLine old new source result = LineTaken old new (known old source.before) (known new source.after) source.faults_before source.faults_after result
 
 -- the blocks that a line with this span asks for of the volume with this number, if any, and whether they only fill the cache
 abbrev pub ahead_by : ℕ → Bool → Span → Option Ahead
@@ -163,6 +194,23 @@ pub record IsWhole (r : Reading) (trace : Requests) (dropped : ℕ) : Type 0 whe
   pub dropped_lines : r.dropped ≡ dropped
   pub stop : r.refused ≡ None
 
+-- the requests that are still to come are all in the trace, and the dropped lines are this many in all
+abbrev pub LoadsAll : Reader → Option (List ℕ) → Requests → ℕ → Type 0
+LoadsAll reader left trace dropped = IfSome (known reader left) (λ bytes. IsWhole (to_come reader bytes) trace dropped)
+
+-- no byte is left that the reader stands in
+abbrev pub LeavesNone : Reader → Reader → Device → Type 0
+LeavesNone old new source = IfSome (known old source.before) (λ _. known new source.after ≡ Some [])
+
+-- the reader keeps this fault, unless there was no memory to begin with
+abbrev pub KeepsFault : Reader → TraceFault → Type 0
+KeepsFault new fault = (new.fault ≡ Some fault) ⊎ ((fault ≡ NoMemory) × (new.fault ≡ None))
+
+-- the fault that was answered before is answered again, unless there is no memory to begin with, and nothing is asked of the source
+abbrev pub LoadsNoMore : {A : Type 0} → Reader → Reader → Result A TraceFault → Device → Type 0
+LoadsNoMore old new result source =
+    IfSome old.fault (λ fault. ((result ≡ Err fault) ⊎ (result ≡ Err NoMemory)) × (new ≡ old) × (source.after ≡ source.before) × (source.faults_after ≡ source.faults_before))
+
 -- why no trace is loaded: the reading of what is to come is refused so, or the source has a new fault; running out of memory is free
 abbrev pub IsNotLoaded : Reader → Option (List ℕ) → ℕ → ℕ → TraceFault → Type 0
 IsNotLoaded old before faults_before faults_after (BadLine line kind) = IfSome before (λ bytes. (to_come old bytes).refused ≡ Some (BadLine line kind))
@@ -170,3 +218,7 @@ IsNotLoaded old before faults_before faults_after InputTooLong = IfSome before (
 IsNotLoaded old before faults_before faults_after TooManyRequests = IfSome before (λ bytes. (to_come old bytes).refused ≡ Some TooManyRequests)
 IsNotLoaded old before faults_before faults_after ReadFault = HasNewFault faults_before faults_after
 IsNotLoaded old before faults_before faults_after NoMemory = Unit {0}
+
+-- the same by the source before the call and after it
+abbrev pub RefusesTrace : Reader → Device → TraceFault → Type 0
+RefusesTrace old source = IsNotLoaded old (known old source.before) source.faults_before source.faults_after

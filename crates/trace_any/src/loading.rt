@@ -1,9 +1,10 @@
 //! Whole traces.
-ghost use Rattle.std.specs.Prelude.{◌≡◌, ◌≤◌, ◌<◌, ◌^◌, ◌⊎◌, Some, [], None, Err, length, IfOk, IfErr, OnOk, OnErr, IfSome};
+ghost use Rattle.std.specs.Prelude.{◌≡◌, ◌≤◌, ◌<◌, ◌^◌, Some, [], None, Err, length, IfOk, IfErr, OnOk, OnErr};
+ghost use Rattle.bound_io.specs.Devices.{seen};
 ghost use Rattle.bound_io.specs.Reading.{LosesPrefix};
 ghost use Rattle.cache_rules.specs.Stored.{with_request};
 ghost use Rattle.trace_any.specs.Readings.{is_marked};
-ghost use Rattle.trace_any.specs.Readers.{IsNotLoaded, IsWhole, last_mark, to_come, known};
+ghost use Rattle.trace_any.specs.Readers.{KeepsFault, LeavesNone, LoadsAll, LoadsNoMore, RefusesTrace, last_mark};
 
 use crate::fault::TraceFault;
 use crate::requests::RequestReader;
@@ -52,12 +53,12 @@ pub fn load<S: Source>(
     reader: &mut RequestReader,
     source: &mut S,
 ) -> Result<(Trace, u64), TraceFault>
-    ensures whole { reader.old.fault ≡ None → IfOk result (λ loaded. IfSome (known reader.old (S.left source.old)) (λ bytes. IsWhole (to_come reader.old bytes) loaded.0 loaded.1)) }
-    ensures end { reader.old.fault ≡ None → IfOk result (λ _. IfSome (known reader.old (S.left source.old)) (λ _. known reader.new (S.left source.new) ≡ Some [])) }
-    ensures refused { reader.old.fault ≡ None → IfErr result (IsNotLoaded reader.old (known reader.old (S.left source.old)) (S.faults source.old) (S.faults source.new)) }
+    ensures whole { reader.old.fault ≡ None → IfOk result (λ loaded. LoadsAll reader.old (S.left source.old) loaded.0 loaded.1) }
+    ensures end { reader.old.fault ≡ None → IfOk result (λ _. LeavesNone reader.old reader.new (seen S.left S.faults source.old source.new)) }
+    ensures refused { reader.old.fault ≡ None → IfErr result (RefusesTrace reader.old (seen S.left S.faults source.old source.new)) }
     ensures none_kept { OnOk result (reader.new.fault ≡ None) }
-    ensures kept { reader.old.fault ≡ None → IfErr result (λ fault. (reader.new.fault ≡ Some fault) ⊎ ((fault ≡ TraceFault.NoMemory) × (reader.new.fault ≡ None))) }
-    ensures again { IfSome reader.old.fault (λ fault. ((result ≡ Err fault) ⊎ (result ≡ Err TraceFault.NoMemory)) × (reader.new ≡ reader.old) × (S.left source.new ≡ S.left source.old) × (S.faults source.new ≡ S.faults source.old)) }
+    ensures kept { reader.old.fault ≡ None → IfErr result (KeepsFault reader.new) }
+    ensures again { LoadsNoMore reader.old reader.new result (seen S.left S.faults source.old source.new) }
     ensures source { LosesPrefix (S.left source.old) (S.left source.new) }
     ensures later { S.faults source.old ≤ S.faults source.new }
     ensures none_failed { OnOk result (S.faults source.new ≡ S.faults source.old) }

@@ -1,12 +1,13 @@
 //! The next line of a trace, or its next record.
-ghost use Rattle.std.specs.Prelude.{◌≡◌, ◌≤◌, ◌<◌, None, Err, true, length, IfOk, IfErr, OnOk, IfSome, IfNone};
+ghost use Rattle.std.specs.Prelude.{◌≡◌, ◌≤◌, ◌<◌, None, true, length, IfOk, IfErr, OnOk, IfSome, IfNone};
 ghost use Rattle.std.specs.Borrow.{sem};
 ghost use Rattle.std.specs.Io.BufRead.{Rests};
 ghost use Rattle.std.specs.Io.KnownBytes.{IsAtEnd};
-ghost use Rattle.bound_io.specs.Lines.{stands_in};
+ghost use Rattle.bound_io.specs.Devices.{seen};
+ghost use Rattle.bound_io.specs.Positions.{known};
 ghost use Rattle.bound_io.specs.Reading.{LosesPrefix};
 ghost use Rattle.bound_io.specs.contracts.line_reader.LineReader.{the_row};
-ghost use Rattle.trace_any.specs.NextPieces.{IsNextRefused, NextPiece, next_text};
+ghost use Rattle.trace_any.specs.NextPieces.{IsNextText, LeavesPiece, RefusesNext};
 
 use bound_io::{LineFault, LineReader, Source};
 
@@ -21,15 +22,15 @@ pub fn next_piece<'a, S: Source>(
     source: &mut S,
 ) -> Result<Option<&'a [u8]>, LineFault>
     requires { lines.old.fault ≡ None }
-    ensures text { IfOk result (λ found. IfSome found (λ text. IfSome (stands_in lines.old.held (S.left source.old)) (λ bytes. (text.now ≡ next_text records bytes) × (0 < length bytes)))) }
-    ensures end { IfOk result (λ found. IfNone found (IsAtEnd (stands_in lines.old.held (S.left source.old)))) }
+    ensures text { IfOk result (λ found. IfSome found (λ text. IfSome (known lines.old (S.left source.old)) (IsNextText records text.now))) }
+    ensures end { IfOk result (λ found. IfNone found (IsAtEnd (known lines.old (S.left source.old)))) }
     ensures short { IfOk result (λ found. IfSome found (λ text. length text.now ≤ 65535)) }
     ensures record { records ≡ true → IfOk result (λ found. IfSome found (λ text. length text.now ≤ 24)) }
-    ensures refused { IfErr result (IsNextRefused records lines.old (stands_in lines.old.held (S.left source.old)) (S.faults source.old) (S.faults source.new)) }
+    ensures refused { IfErr result (RefusesNext records lines.old (seen S.left S.faults source.old source.new)) }
     ensures source { LosesPrefix (S.left source.old) (S.left source.new) }
     ensures later { S.faults source.old ≤ S.faults source.new }
     ensures none_failed { OnOk result (S.faults source.new ≡ S.faults source.old) }
-    ensures* after { sem 𝓛 (Rests the_row lines.entry (λ new. NextPiece records lines.old new (stands_in lines.old.held (S.left source.old)) (stands_in new.held (S.left source.new)) result × (length new.held ≤ 65536))) }
+    ensures* after { sem 𝓛 (Rests the_row lines.entry (LeavesPiece records lines.old (seen S.left S.faults source.old source.new) result)) }
 {
     if !records {
         return lines.next_line(source);

@@ -1,11 +1,11 @@
 //! How far the reading of a trace has come.
-ghost use Rattle.std.specs.Prelude.{List, ℕ, ◌≡◌, ◌+◌, ◌-◌, ◌≤◌, ◌<◌, ◌^◌, ◌&&◌, None, Some, Err, true, false, length, nat_lt, IfOk, IfErr, IfSome, IfNone, OnOk};
-ghost use Rattle.bound_io.specs.Causes.{HasNewFault};
+ghost use Rattle.std.specs.Prelude.{◌≡◌, ◌+◌, ◌-◌, ◌≤◌, ◌<◌, ◌^◌, ◌&&◌, None, Some, Err, true, false, length, nat_lt, IfOk, IfErr, IfSome, OnOk};
+ghost use Rattle.bound_io.specs.Devices.{seen};
 ghost use Rattle.bound_io.specs.Reading.{LosesPrefix};
 ghost use Rattle.std.specs.Option.{option_map};
 ghost use Rattle.trace_lines.specs.Lines.{IsSpan};
 ghost use Rattle.trace_any.specs.Readings.{IsFormat, NamesVolumes, is_marked};
-ghost use Rattle.trace_any.specs.Readers.{ahead_by};
+ghost use Rattle.trace_any.specs.Readers.{ahead_by, ahead_of};
 
 use crate::content::{content_of, number_of};
 use crate::fault::TraceFault;
@@ -43,7 +43,7 @@ pub struct Progress {
 
 impl Model for Progress {
     ghost use Rattle.std.specs.Prelude.{◌≡◌, ◌≤◌, ◌^◌, ◌+◌, None, length};
-    ghost use Rattle.trace_any.specs.Readers.{Reader};
+    ghost use Rattle.trace_any.specs.Readers.{Reader, ahead_of};
     ghost use Rattle.trace_any.specs.Readings.{IsFormat};
 
     ghost Value = { Reader };
@@ -55,20 +55,22 @@ impl Model for Progress {
       given = r.given;
       dropped = r.dropped;
       volumes = r.volumes;
-      ahead = record { volume = r.ahead.volume; fills = r.ahead.fills; first = r.ahead.first; count = r.ahead.count; size = r.ahead.size };
+      ahead = ahead_of r.ahead;
       fault = None;
     } };
 
     ghost invariant = { λ r.
-        IsFormat r.format × (r.limits.requests ≤ 2 ^ 25) × (r.limits.bytes ≤ 2 ^ 36) × (r.lines.limit ≡ r.limits.bytes) × (r.lines.consumed ≤ r.limits.bytes)
-        × (r.lines.line ≤ r.lines.consumed) × (length r.lines.held ≤ 65536) × (r.given ≤ r.limits.requests) × (r.dropped ≤ r.lines.line) × (length r.volumes ≤ r.given + 1) × (r.ahead.count ≡ 0 → length r.volumes ≤ r.given)
+        IsFormat r.format × (r.limits.requests ≤ 2 ^ 25) × (r.limits.bytes ≤ 2 ^ 36) × (r.lines.limit ≡ r.limits.bytes)
+        × (r.lines.consumed ≤ r.limits.bytes) × (r.lines.line ≤ r.lines.consumed) × (length r.lines.held ≤ 65536)
+        × (r.given ≤ r.limits.requests) × (r.dropped ≤ r.lines.line) × (length r.volumes ≤ r.given + 1)
+        × (r.ahead.count ≡ 0 → length r.volumes ≤ r.given)
         × (1 ≤ r.ahead.count → (1 ≤ r.ahead.size) × (r.ahead.size ≤ 2 ^ 48) × (r.ahead.first + r.ahead.count ≤ 2 ^ 64)) };
 }
 
 // The blocks that a line asks for, if any.
 fn range_of(volume: u32, fills: bool, span: Span) -> Option<Range>
     requires { IsSpan span }
-    ensures ahead { option_map (λ r. record { volume = r.volume; fills = r.fills; first = r.first; count = r.count; size = r.size }) result ≡ ahead_by volume fills span }
+    ensures ahead { option_map ahead_of result ≡ ahead_by volume fills span }
     ensures range { IfSome result (λ r. (1 ≤ r.count) × (1 ≤ r.size) × (r.size ≤ 2 ^ 48) × (r.first + r.count ≤ 2 ^ 64)) }
 {
     let (first, count, size) = match span {
@@ -86,8 +88,8 @@ fn range_of(volume: u32, fills: bool, span: Span) -> Option<Range>
 }
 
 impl Progress {
-    ghost use Rattle.trace_any.specs.FirstLines.{GoesNoFurther, coming_in};
-    ghost use Rattle.trace_any.specs.Readers.{GoesOn, IsOver, IsStopped, LineTaken, NextRequest, fresh, last_mark, onto, to_come, known};
+    ghost use Rattle.trace_any.specs.FirstLines.{GivesFirstIn, GoesNoFurtherFrom, GoesToRequest};
+    ghost use Rattle.trace_any.specs.Readers.{GivesFirst, GivesRequest, IsFull, ReadsNothing, TakesLine, fresh};
 
     /// Nothing is read yet. The buffer is taken here.
     pub fn new(alloc: Global, format: Format, limits: Limits) -> Result<Self, NoMemory>
@@ -150,8 +152,8 @@ impl Progress {
         ensures within { (self.new.lines.consumed ≤ self.new.limits.bytes) × (length self.new.lines.held ≤ 65536) }
         ensures few { (self.new.given ≤ self.new.limits.requests) × (self.new.limits.requests ≤ 2 ^ 25) }
         ensures forgets_none { self.old.dropped ≤ self.new.dropped }
-        ensures taken { LineTaken self.old self.new (known self.old (S.left source.old)) (known self.new (S.left source.new)) (S.faults source.old) (S.faults source.new) result }
-        ensures lines { IfOk result (λ more. more ≡ true → IfSome (known self.old (S.left source.old)) (GoesNoFurther (λ s. s) self.old self.new)) }
+        ensures taken { TakesLine self.old self.new (seen S.left S.faults source.old source.new) result }
+        ensures lines { IfOk result (λ more. more ≡ true → GoesNoFurtherFrom (S.left source.old) (λ s. s) self.old self.new) }
         ensures source { LosesPrefix (S.left source.old) (S.left source.new) }
         ensures later { S.faults source.old ≤ S.faults source.new }
         ensures none_failed { OnOk result (S.faults source.new ≡ S.faults source.old) }
@@ -184,12 +186,12 @@ impl Progress {
     // Gives the first of the blocks that are left.
     fn give(&mut self) -> Result<Object, TraceFault>
         requires some { 0 < self.old.ahead.count }
-        ensures still { (self.new.format ≡ self.old.format) × (self.new.limits ≡ self.old.limits) × (self.new.lines ≡ self.old.lines) × (self.new.dropped ≡ self.old.dropped) }
+        ensures still { ReadsNothing self.old self.new }
         ensures few { (self.new.given ≤ self.new.limits.requests) × (self.new.limits.requests ≤ 2 ^ 25) }
         ensures size { IfOk result (λ x. (1 ≤ x.size) × (x.size ≤ 2 ^ 48)) }
-        ensures given { IfOk result (λ x. (self.new.given ≡ self.old.given + 1) × ((bytes : List ℕ) → to_come self.old bytes ≡ onto x (last_mark self.new) (to_come self.new bytes))) }
-        ensures given_in { IfOk result (λ x. (lines : List (List ℕ × ℕ)) → coming_in self.old lines ≡ onto x (last_mark self.new) (coming_in self.new lines)) }
-        ensures full { IfErr result (λ fault. (fault ≡ TraceFault.TooManyRequests) × ((bytes : List ℕ) → IsOver (to_come self.old bytes) self.new.dropped (Some fault))) }
+        ensures given { IfOk result (GivesFirst self.old self.new) }
+        ensures given_in { IfOk result (GivesFirstIn self.old self.new) }
+        ensures full { IfErr result (IsFull self.old self.new) }
     {
         if self.given == self.limits.requests {
             return Err(TraceFault::TooManyRequests);
@@ -218,8 +220,8 @@ impl Progress {
         ensures few { (self.new.given ≤ self.new.limits.requests) × (self.new.limits.requests ≤ 2 ^ 25) }
         ensures ahead { length self.new.lines.held ≤ 65536 }
         ensures forgets_none { self.old.dropped ≤ self.new.dropped }
-        ensures next { NextRequest self.old self.new (known self.old (S.left source.old)) (known self.new (S.left source.new)) (S.faults source.old) (S.faults source.new) result }
-        ensures lines { IfOk result (λ found. IfSome found (λ x. IfSome (known self.old (S.left source.old)) (GoesNoFurther (onto x (last_mark self.new)) self.old self.new))) }
+        ensures next { GivesRequest self.old self.new (seen S.left S.faults source.old source.new) result }
+        ensures lines { IfOk result (λ found. IfSome found (GoesToRequest (S.left source.old) self.old self.new)) }
         ensures source { LosesPrefix (S.left source.old) (S.left source.new) }
         ensures later { S.faults source.old ≤ S.faults source.new }
         ensures none_failed { OnOk result (S.faults source.new ≡ S.faults source.old) }

@@ -1,5 +1,6 @@
 //! A reader of requests.
-ghost use Rattle.std.specs.Prelude.{◌≡◌, ◌-◌, ◌≤◌, ◌^◌, ◌&&◌, true, false, None, Some, Err, IfOk, IfErr, IfSome, OnOk, length, nat_lt};
+ghost use Rattle.std.specs.Prelude.{◌≡◌, ◌-◌, ◌≤◌, ◌^◌, ◌&&◌, None, Some, Err, IfOk, IfErr, IfSome, OnOk, length, nat_lt};
+ghost use Rattle.bound_io.specs.Devices.{seen};
 ghost use Rattle.bound_io.specs.Reading.{LosesPrefix};
 ghost use Rattle.trace_any.specs.Readings.{IsFormat, NamesVolumes, is_marked};
 
@@ -24,7 +25,7 @@ pub struct RequestReader {
 }
 
 impl Model for RequestReader {
-    ghost use Rattle.std.specs.Prelude.{◌≡◌, ◌≤◌, ◌^◌, ◌&&◌, true, false, None, length};
+    ghost use Rattle.std.specs.Prelude.{◌≡◌, ◌≤◌, ◌^◌, ◌&&◌, None, length};
     ghost use Rattle.trace_any.specs.Readers.{Reader, with_fault};
 
     ghost Value = { Reader };
@@ -32,13 +33,13 @@ impl Model for RequestReader {
     ghost view = { λ r. with_fault r.progress r.fault };
 
     ghost invariant = { λ r.
-        (r.fault ≡ None → r.progress.lines.fault ≡ None) × (r.progress.given ≤ r.progress.limits.requests) × (r.progress.limits.requests ≤ 2 ^ 25)
-        × (length r.progress.lines.held ≤ 65536) };
+        (r.fault ≡ None → r.progress.lines.fault ≡ None) × (r.progress.given ≤ r.progress.limits.requests)
+        × (r.progress.limits.requests ≤ 2 ^ 25) × (length r.progress.lines.held ≤ 65536) };
 }
 
 impl RequestReader {
-    ghost use Rattle.trace_any.specs.FirstLines.{GoesNoFurther};
-    ghost use Rattle.trace_any.specs.Readers.{NextRequest, err_of, fresh, known, last_mark, onto, with_fault};
+    ghost use Rattle.trace_any.specs.FirstLines.{GoesToRequest};
+    ghost use Rattle.trace_any.specs.Readers.{AnswersAgain, GivesRequest, err_of, fresh, with_fault};
 
     /// A reader of a trace of this form, within these limits. It takes its buffer here, and later memory for each volume
     /// alone.
@@ -81,11 +82,11 @@ impl RequestReader {
         alloc: Global,
         source: &mut S,
     ) -> Result<Option<Object>, TraceFault>
-        ensures next { self.old.fault ≡ None → NextRequest self.old self.new (known self.old (S.left source.old)) (known self.new (S.left source.new)) (S.faults source.old) (S.faults source.new) result }
-        ensures lines { self.old.fault ≡ None → IfOk result (λ found. IfSome found (λ x. IfSome (known self.old (S.left source.old)) (GoesNoFurther (onto x (last_mark self.new)) self.old self.new))) }
+        ensures next { self.old.fault ≡ None → GivesRequest self.old self.new (seen S.left S.faults source.old source.new) result }
+        ensures lines { self.old.fault ≡ None → IfOk result (λ found. IfSome found (GoesToRequest (S.left source.old) self.old self.new)) }
         ensures fault { self.old.fault ≡ None → self.new.fault ≡ err_of result }
         ensures forgets_none { self.old.dropped ≤ self.new.dropped }
-        ensures again { IfSome self.old.fault (λ fault. (result ≡ Err fault) × (self.new ≡ self.old) × (S.left source.new ≡ S.left source.old) × (S.faults source.new ≡ S.faults source.old)) }
+        ensures again { AnswersAgain self.old self.new result (seen S.left S.faults source.old source.new) }
         ensures size { IfOk result (λ found. IfSome found (λ x. (1 ≤ x.size) × (x.size ≤ 2 ^ 48))) }
         ensures format { self.new.format ≡ self.old.format }
         ensures few { (self.new.limits ≡ self.old.limits) × (self.new.given ≤ self.new.limits.requests) × (self.new.limits.requests ≤ 2 ^ 25) }

@@ -1,5 +1,5 @@
 -- What a line of a webcache trace asks for.
-use Rattle.std.specs.Prelude.{ℕ, ◌^◌, List, [], length, slice_index_or, ◌==◌, nat_lt, if◌then◌else◌, Bool, true, false, Result, Ok, Err, codes}
+use Rattle.std.specs.Prelude.{◌≡◌, ℕ, ◌^◌, List, [], ◌∷◌, length, slice_index_or, ◌==◌, nat_lt, if◌then◌else◌, Bool, true, false, Result, Ok, Err, codes}
 use Rattle.std.specs.Str.{bytes_eq}
 use Rattle.bound_base.specs.Digits.{number_of}
 use Rattle.bound_base.specs.declared.digits.NumFault.{NumFault}
@@ -9,6 +9,10 @@ use Rattle.trace_lines.specs.declared.line.Span.TheVariants.{Nothing, One}
 use Rattle.trace_lines.specs.declared.line.LineKind.{LineKind}
 use Rattle.trace_lines.specs.declared.line.LineKind.TheVariants.{TooFewWords, BadNumber, SizeTooLarge, BadType}
 use Rattle.trace_webcache.specs.declared.line.MarkedSpan.{MarkedSpan}
+
+-- the line begins with a word, of which this is the number, or why it is none, and the rest has the other words
+abbrev pub IsFirstNumber : List ℕ → Result ℕ NumFault → List ℕ → Type 0
+IsFirstNumber line number rest = (word : List ℕ) × (words line ≡ word ∷ words rest) × (number ≡ number_of (2 ^ 64) word)
 
 -- the request of an id and a size, or the first check that fails: the id, the size, and that the size is at most 2^48
 abbrev pub span_of : Result ℕ NumFault → Result ℕ NumFault → Result Span LineKind

@@ -1,9 +1,7 @@
 //! Words that are numbers.
-ghost use Rattle.std.specs.Prelude.{◌≡◌, ◌∷◌, [], ◌≤◌, ◌^◌, List, ℕ, true, length, take, MatchOption};
-ghost use Rattle.std.specs.Char.{is_ascii_digit};
-ghost use Rattle.std.specs.List.{list_all};
-ghost use Rattle.bound_base.specs.Digits.{number_of, value_after};
+ghost use Rattle.std.specs.Prelude.{◌≡◌, [], MatchOption};
 ghost use Rattle.trace_lines.specs.Lines.{words};
+ghost use Rattle.trace_webcache.specs.Lines.{IsFirstNumber};
 
 use bound_base::{NumFault, leading_digits, read_u64};
 use trace_lines::{ends_word, first_word, skip_gaps};
@@ -11,7 +9,7 @@ use trace_lines::{ends_word, first_word, skip_gaps};
 // The number that the first word is, whatever the word.
 #[inline(never)]
 fn any_number(line: &[u8]) -> Option<(Result<u64, NumFault>, &[u8])>
-    ensures { MatchOption result (words line.now ≡ []) (λ found. (word : List ℕ) × (words line.now ≡ word ∷ words found.1.now) × (found.0 ≡ number_of (2 ^ 64) word)) }
+    ensures { MatchOption result (words line.now ≡ []) (λ found. IsFirstNumber line.now found.0 found.1.now) }
 {
     let (word, rest) = first_word(line)?;
     Some((read_u64(word), rest))
@@ -22,7 +20,7 @@ fn any_number(line: &[u8]) -> Option<(Result<u64, NumFault>, &[u8])>
 /// It goes once over a word of few digits, and up to four times over any other.
 #[inline(always)]
 pub(crate) fn first_number(line: &[u8]) -> Option<(Result<u64, NumFault>, &[u8])>
-    ensures { MatchOption result (words line.now ≡ []) (λ found. (word : List ℕ) × (words line.now ≡ word ∷ words found.1.now) × (found.0 ≡ number_of (2 ^ 64) word)) }
+    ensures { MatchOption result (words line.now ≡ []) (λ found. IsFirstNumber line.now found.0 found.1.now) }
 {
     let text = skip_gaps(line);
     let (value, len) = leading_digits(text);

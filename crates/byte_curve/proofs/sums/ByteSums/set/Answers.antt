@@ -1,6 +1,6 @@
 use Rattle.std.proofs.Common.{◌∙◌, ap, set, length, drop, arith}
 use Rattle.std.proofs.lemmas.List.{take_at}
-use Rattle.byte_curve.proofs.TreeLemmas.{leaves-set}
+use Rattle.byte_curve.proofs.LeafLemmas.{leaves-set}
 use Rattle.byte_curve.proofs.sums.ByteSums.set.Goals as goal
 
 pub returns : goal.returns

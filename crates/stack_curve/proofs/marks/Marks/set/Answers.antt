@@ -1,7 +1,7 @@
 use Rattle.std.proofs.Common.{◌∙◌, ap, set, refl, length, drop, arith}
 use Rattle.std.proofs.lemmas.List.{take_at}
 use mir.Val.{bool_byte}
-use Rattle.stack_curve.proofs.SumLemmas.{marks-set}
+use Rattle.stack_curve.proofs.MarkLemmas.{marks-set}
 use Rattle.stack_curve.proofs.marks.Marks.set.Goals as goal
 
 pub returns : goal.returns

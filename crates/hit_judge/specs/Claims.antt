@@ -1,0 +1,10 @@
+-- What claimed hits are worth.
+use Rattle.std.specs.Prelude.{◌≡◌, ℕ, Bool, List}
+use Rattle.cache_model.specs.declared.objects.Object.{Object}
+use Rattle.cache_model.specs.declared.objects.Objective.{Objective}
+use Rattle.cache_model.specs.Claim.{terms_from}
+use Rattle.judge_laws.specs.Flags.{claimed}
+
+-- what flags claim of an objective, whatever the capacity
+abbrev pub IsClaim : Objective → ℕ → List Bool → List Object → List Bool → ℕ → Type 0
+IsClaim objective warmup fills trace flags total = (capacity : ℕ) → total ≡ claimed (terms_from objective capacity warmup fills) trace flags
