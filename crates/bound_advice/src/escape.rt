@@ -93,7 +93,7 @@ pub fn quoted(alloc: Global, path: &str) -> Result<String, AllocError> {
 }
 
 /// The first 60 bytes of a word of a file, of which those that are no letter, digit or sign stand as `\x` and two digits.
-pub fn shown(alloc: Global, word: &[u8]) -> Result<String, AllocError> {
+pub(crate) fn shown(alloc: Global, word: &[u8]) -> Result<String, AllocError> {
     let mut text = String::new(alloc);
     for byte in word.iter().take(60) {
         let byte = *byte;

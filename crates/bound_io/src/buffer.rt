@@ -16,7 +16,7 @@ const ROOM: usize = 65536;
 
 /// Bytes that were taken from a source, in a buffer of 65,536 bytes.
 #[derive(Drop)]
-pub struct Buffer {
+pub(crate) struct Buffer {
     bytes: Vec<u8>,
     start: usize,
     end: usize,

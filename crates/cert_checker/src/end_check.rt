@@ -7,7 +7,11 @@ use crate::verdict::Counted;
 use cert_format::Header;
 
 /// The first rule that the end fails, if this request is the first that has a flow it may not have.
-pub fn check_end(header: &Header, unused: Option<u32>, counted: &Counted) -> Result<(), InvalidKind>
+pub(crate) fn check_end(
+    header: &Header,
+    unused: Option<u32>,
+    counted: &Counted,
+) -> Result<(), InvalidKind>
     ensures { result ≡ unless_fault (first_some (end_rules header.now unused counted.now)) }
 {
     if let Some(number) = unused {

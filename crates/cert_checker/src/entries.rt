@@ -13,7 +13,10 @@ use indexmap::IndexMap;
 
 /// The place of the entry of an object, and the entry, if it was requested before.
 #[inline(always)]
-pub fn find(entries: &IndexMap<Object, Seen>, object: &Object) -> (Option<usize>, Option<Seen>)
+pub(crate) fn find(
+    entries: &IndexMap<Object, Seen>,
+    object: &Object,
+) -> (Option<usize>, Option<Seen>)
     ensures place { result.0 ≡ position (same_object object.now) (keys_of entries.now.entries) }
     ensures seen { result.1 ≡ lookup (same_object object.now) entries.now.entries }
 {
@@ -25,7 +28,7 @@ pub fn find(entries: &IndexMap<Object, Seen>, object: &Object) -> (Option<usize>
 
 /// Makes this the entry of an object, if this is the place of the one that it has. A new object takes a second look-up.
 #[inline(always)]
-pub fn put(
+pub(crate) fn put(
     entries: &mut IndexMap<Object, Seen>,
     place: Option<usize>,
     object: Object,

@@ -9,7 +9,7 @@ use cache_model::Object;
 use cert_format::Record;
 
 /// Takes the requests that pass, each with its record.
-pub trait Keeper {
+pub(crate) trait Keeper {
     /// These requests, with their marks if they have any, and these records may be all that it was given: exactly if it
     /// keeps them.
     ghost has: { Self → Making → List Entry → Type 0 };

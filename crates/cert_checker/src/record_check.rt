@@ -105,7 +105,7 @@ fn check_loads(
 }
 
 /// The first rule that a record of a request of the object fails, by the figures after it.
-pub fn check_record(
+pub(crate) fn check_record(
     header: &Header,
     object: &Object,
     entry: &Record,

@@ -11,7 +11,7 @@ use cert_format::Header;
 /// interval of its object ends there that counts, the request before it of its object if that has a flow and this one
 /// doesn't count, and after it the sizes of the kept objects and the flows of all objects.
 #[derive(Clone, Copy)]
-pub struct Figures {
+pub(crate) struct Figures {
     pub prices: u128,
     pub last: bool,
     pub counts: bool,
@@ -21,7 +21,7 @@ pub struct Figures {
 }
 
 /// The capacity in units, rounded down.
-pub fn units(header: &Header) -> u64
+pub(crate) fn units(header: &Header) -> u64
     requires { 1 ≤ header.now.unit }
     ensures { result ≡ units_of header.now }
 {
@@ -29,7 +29,7 @@ pub fn units(header: &Header) -> u64
 }
 
 /// The gain of a hit on the object, times the denominator.
-pub fn worth(header: &Header, object: &Object) -> u128
+pub(crate) fn worth(header: &Header, object: &Object) -> u128
     requires denominator { header.now.denominator ≤ 2 ^ 48 }
     requires size { object.now.size ≤ 2 ^ 48 }
     ensures { result ≡ header.now.denominator * gain_of header.now.objective object.now }

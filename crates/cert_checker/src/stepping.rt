@@ -41,7 +41,7 @@ fn unused(counts: bool, before: Option<Seen>) -> Option<u32>
 }
 
 /// Whether the next request counts: it is past the warm-up, and doesn't only fill the cache.
-pub fn counts(header: &Header, sums: &Sums, only: bool) -> bool
+pub(crate) fn counts(header: &Header, sums: &Sums, only: bool) -> bool
     ensures { result ≡ (nat_le header.now.warmup sums.now.steps && not only) }
 {
     sums.steps >= header.warmup && !only
@@ -49,7 +49,7 @@ pub fn counts(header: &Header, sums: &Sums, only: bool) -> bool
 
 /// The figures after a request of the object, which counts or not, and its record, if this is what was kept of the
 /// object.
-pub fn figures(
+pub(crate) fn figures(
     header: &Header,
     counts: bool,
     sums: &Sums,
@@ -162,7 +162,7 @@ fn added_by_hit(header: &Header, counts: bool, object: &Object, prices: u128, se
 
 /// What a request of the object adds, if this is what was kept of the object: nothing if it doesn't count. The prices
 /// before it have this sum.
-pub fn added(
+pub(crate) fn added(
     header: &Header,
     counts: bool,
     object: &Object,
@@ -185,7 +185,7 @@ pub fn added(
 }
 
 /// The sums after a request.
-pub fn sums_with(sums: &Sums, now: &Figures, added: &Added) -> Sums
+pub(crate) fn sums_with(sums: &Sums, now: &Figures, added: &Added) -> Sums
     requires steps { sums.now.steps < 2 ^ 25 }
     requires small { AreSmall sums.now }
     requires added { (added.now.surplus ≤ 2 ^ 96) × (added.now.value ≤ 2 ^ 96) × (added.now.gain ≤ 2 ^ 48) }
@@ -204,7 +204,7 @@ pub fn sums_with(sums: &Sums, now: &Figures, added: &Added) -> Sums
 }
 
 /// What is kept of the object of a request with this record, if these are the sums before it.
-pub fn seen_of(sums: &Sums, entry: &Record) -> Seen
+pub(crate) fn seen_of(sums: &Sums, entry: &Record) -> Seen
     ensures { result ≡ seen_at sums.now entry.now }
 {
     Seen {

@@ -2,7 +2,7 @@
 
 /// What is kept of an object: its latest request, the sum of the prices of the steps before it, its keep and its flow.
 #[derive(Clone, Copy, Debug)]
-pub struct Seen {
+pub(crate) struct Seen {
     pub latest: u32,
     pub price_before: u128,
     pub keep: bool,
@@ -13,7 +13,7 @@ pub struct Seen {
 /// objects and the flows of all objects, and of the intervals that have ended the surpluses, the values of the flows
 /// and the gains of the hits.
 #[derive(Clone, Copy, Debug)]
-pub struct Sums {
+pub(crate) struct Sums {
     pub steps: u32,
     pub prices: u128,
     pub load: u64,
@@ -25,7 +25,7 @@ pub struct Sums {
 
 /// What the interval that ends at a request adds: its surplus, the value of its flow, and the gain if it is a hit.
 #[derive(Clone, Copy)]
-pub struct Added {
+pub(crate) struct Added {
     pub surplus: u128,
     pub value: u128,
     pub gain: u64,

@@ -11,7 +11,7 @@ pub struct Verdict {
 
 /// The bound of the prices and the value of the flows, over the denominator, and the score of the keeps.
 #[derive(Clone, Copy)]
-pub struct Counted {
+pub(crate) struct Counted {
     pub upper: u128,
     pub flow: u128,
     pub lower: u128,

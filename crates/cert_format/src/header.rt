@@ -102,7 +102,10 @@ fn objective_of(of_objects: bool) -> Objective
 }
 
 /// Reads the lines before the records, which are the first ones.
-pub fn read_header<S: Source>(lines: &mut LineReader, source: &mut S) -> Result<Header, CertFault>
+pub(crate) fn read_header<S: Source>(
+    lines: &mut LineReader,
+    source: &mut S,
+) -> Result<Header, CertFault>
     requires limit { lines.old.limit ≡ 2 ^ 36 }
     requires first { lines.old.line ≡ 0 }
     requires no_fault { lines.old.fault ≡ None }

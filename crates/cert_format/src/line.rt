@@ -46,7 +46,7 @@ fn word_after<'a>(text: &'a [u8], name: &[u8]) -> Option<&'a [u8]>
 }
 
 /// Whether a line has these words and no others.
-pub fn fixed(text: &[u8], line: &[u8]) -> Result<(), TextKind>
+pub(crate) fn fixed(text: &[u8], line: &[u8]) -> Result<(), TextKind>
     ensures { result ≡ value_unless (line_fault (fixed_line line.now) text.now) tt }
 {
     if text == line {
@@ -57,7 +57,12 @@ pub fn fixed(text: &[u8], line: &[u8]) -> Result<(), TextKind>
 }
 
 /// The number of a line of a name and a number.
-pub fn number_after(text: &[u8], name: &[u8], low: u128, high: u128) -> Result<u128, TextKind>
+pub(crate) fn number_after(
+    text: &[u8],
+    name: &[u8],
+    low: u128,
+    high: u128,
+) -> Result<u128, TextKind>
     ensures { result ≡ value_unless (line_fault (number_line name.now low high) text.now) (number_at 1 text.now) }
 {
     match word_after(text, name) {
@@ -67,7 +72,12 @@ pub fn number_after(text: &[u8], name: &[u8], low: u128, high: u128) -> Result<u
 }
 
 /// Whether a line of a name and one of two words has the first.
-pub fn choice_after(text: &[u8], name: &[u8], first: &[u8], second: &[u8]) -> Result<bool, TextKind>
+pub(crate) fn choice_after(
+    text: &[u8],
+    name: &[u8],
+    first: &[u8],
+    second: &[u8],
+) -> Result<bool, TextKind>
     requires first { 0 < length first.now }
     requires second { 0 < length second.now }
     ensures { result ≡ value_unless (line_fault (choice_line name.now first.now second.now) text.now) (has_second first.now text.now) }
@@ -80,7 +90,7 @@ pub fn choice_after(text: &[u8], name: &[u8], first: &[u8], second: &[u8]) -> Re
 }
 
 /// The warm-up of the line where one may stand, and 0 if the records come next.
-pub fn warmup(text: &[u8]) -> Result<u128, TextKind>
+pub(crate) fn warmup(text: &[u8]) -> Result<u128, TextKind>
     ensures { result ≡ value_unless (line_fault (warmup_slots text.now) text.now) (warmup_in text.now) }
 {
     match fixed(text, b"records") {
@@ -197,7 +207,7 @@ fn short_record(keep: &[u8], flow: &[u8], before: u128) -> Result<Record, TextKi
 
 /// The record of a line, after one of the price `before`.
 #[inline(always)]
-pub fn record(text: &[u8], version: u8, before: u128) -> Result<Record, TextKind>
+pub(crate) fn record(text: &[u8], version: u8, before: u128) -> Result<Record, TextKind>
     ensures { result ≡ value_unless (line_fault (record_slots version before text.now) text.now) (record_in version before text.now) }
 {
     match short_words(text, version) {

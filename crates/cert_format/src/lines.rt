@@ -52,7 +52,7 @@ fn in_line<T>(line: u64, read: Result<T, TextKind>) -> Result<T, CertFault>
 }
 
 /// Reads a line of fixed words.
-pub fn read_fixed<S: Source>(
+pub(crate) fn read_fixed<S: Source>(
     lines: &mut LineReader,
     source: &mut S,
     words: &[u8],
@@ -69,7 +69,7 @@ pub fn read_fixed<S: Source>(
 }
 
 /// Reads a line of a name and a number, which is from `low` to `high`.
-pub fn read_number<S: Source>(
+pub(crate) fn read_number<S: Source>(
     lines: &mut LineReader,
     source: &mut S,
     name: &[u8],
@@ -90,7 +90,7 @@ pub fn read_number<S: Source>(
 }
 
 /// Reads a line of a name and one of two words, and says whether it has the first.
-pub fn read_choice<S: Source>(
+pub(crate) fn read_choice<S: Source>(
     lines: &mut LineReader,
     source: &mut S,
     name: &[u8],
@@ -111,7 +111,10 @@ pub fn read_choice<S: Source>(
 }
 
 /// Reads the line where a warm-up may stand, which is 0 if the records come next.
-pub fn read_warmup<S: Source>(lines: &mut LineReader, source: &mut S) -> Result<u128, CertFault>
+pub(crate) fn read_warmup<S: Source>(
+    lines: &mut LineReader,
+    source: &mut S,
+) -> Result<u128, CertFault>
     requires limit { lines.old.limit ≡ 2 ^ 36 }
     requires few { lines.old.line < 2 ^ 26 }
     requires no_fault { lines.old.fault ≡ None }
@@ -125,7 +128,7 @@ pub fn read_warmup<S: Source>(lines: &mut LineReader, source: &mut S) -> Result<
 
 /// Reads the line of a record, after one of the price `before`.
 #[inline(always)]
-pub fn read_record<S: Source>(
+pub(crate) fn read_record<S: Source>(
     lines: &mut LineReader,
     source: &mut S,
     version: u8,
@@ -144,7 +147,10 @@ pub fn read_record<S: Source>(
 }
 
 /// Looks whether nothing is left.
-pub fn read_nothing<S: Source>(lines: &mut LineReader, source: &mut S) -> Result<(), CertFault>
+pub(crate) fn read_nothing<S: Source>(
+    lines: &mut LineReader,
+    source: &mut S,
+) -> Result<(), CertFault>
     requires limit { lines.old.limit ≡ 2 ^ 36 }
     requires few { lines.old.line < 2 ^ 26 }
     requires no_fault { lines.old.fault ≡ None }
@@ -155,7 +161,7 @@ pub fn read_nothing<S: Source>(lines: &mut LineReader, source: &mut S) -> Result
 }
 
 /// Reads the line after the records, and looks whether nothing follows it.
-pub fn read_end<S: Source>(lines: &mut LineReader, source: &mut S) -> Result<(), CertFault>
+pub(crate) fn read_end<S: Source>(lines: &mut LineReader, source: &mut S) -> Result<(), CertFault>
     requires limit { lines.old.limit ≡ 2 ^ 36 }
     requires few { lines.old.line + 1 < 2 ^ 26 }
     requires no_fault { lines.old.fault ≡ None }

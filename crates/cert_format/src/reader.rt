@@ -17,7 +17,7 @@ use std::marker::Model;
 
 /// What a reader reads next.
 #[derive(Clone, Copy, PartialEq, Eq)]
-pub enum Stage {
+pub(crate) enum Stage {
     /// The lines before the records.
     AtHeader,
     /// A record, or the end if none is left.

@@ -6,10 +6,10 @@ use cache_model::{Header, Objective, Record, SHORT_VERSION};
 use line_text::LineText;
 
 /// The lines before the records have fewer bytes.
-pub const HEADER_ROOM: usize = 384;
+pub(crate) const HEADER_ROOM: usize = 384;
 
 /// The line of a record has fewer bytes. The room is small, since it is made anew for each record.
-pub const RECORD_ROOM: usize = 64;
+pub(crate) const RECORD_ROOM: usize = 64;
 
 // Appends the lines from the warm-up on.
 fn push_last(text: &mut LineText<HEADER_ROOM>, warmup: u32)
@@ -25,7 +25,7 @@ fn push_last(text: &mut LineText<HEADER_ROOM>, warmup: u32)
 }
 
 /// The lines before the records.
-pub fn header_text(header: &Header) -> LineText<HEADER_ROOM>
+pub(crate) fn header_text(header: &Header) -> LineText<HEADER_ROOM>
     ensures { result ≡ text_of (header_lines header.now) }
 {
     let mut text = LineText::new();
@@ -67,7 +67,7 @@ fn short_text(entry: &Record) -> LineText<RECORD_ROOM>
 }
 
 /// The line of a record after one of this price.
-pub fn record_text(version: u8, before: u128, entry: &Record) -> LineText<RECORD_ROOM>
+pub(crate) fn record_text(version: u8, before: u128, entry: &Record) -> LineText<RECORD_ROOM>
     ensures { result ≡ line (record_line version before entry.now) }
 {
     if version == SHORT_VERSION && entry.price == before {

@@ -14,7 +14,7 @@ pub struct Hop {
 }
 
 #[inline(always)]
-pub fn hop_of(instance: &Instance, edge: Edge) -> Hop
+pub(crate) fn hop_of(instance: &Instance, edge: Edge) -> Hop
     requires { IsEdge instance.now edge }
     ensures tail { result.tail ≡ tail instance.now.arcs edge }
     ensures head { result.head ≡ head instance.now.arcs edge }

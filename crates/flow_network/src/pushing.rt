@@ -19,7 +19,7 @@ fn push_edge(edge: Edge, amount: u64, outer: &mut [u64], inner: &mut [u64])
 }
 
 /// Pushes the amount over each edge of the path.
-pub fn push_along(path: &[Edge], amount: u64, outer: &mut [u64], inner: &mut [u64])
+pub(crate) fn push_along(path: &[Edge], amount: u64, outer: &mut [u64], inner: &mut [u64])
     requires room { All (HasRoomFor amount (record { outer = outer.old; inner = inner.old })) path.now }
     requires simple { IsSimple path.now }
     ensures { record { outer = outer.new; inner = inner.new } ≡ push_path amount (record { outer = outer.old; inner = inner.old }) path.now }

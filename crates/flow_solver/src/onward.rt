@@ -18,7 +18,7 @@ use std::marker::Model;
 
 /// Whether each node is a dead end: no path onward from it was found to reach the last node.
 #[derive(Drop)]
-pub struct DeadEnds {
+pub(crate) struct DeadEnds {
     marks: Vec<bool>,
 }
 
@@ -179,7 +179,7 @@ fn room_along(network: &Network, path: &[Edge]) -> u64
 }
 
 /// Pushes units onward along paths on which nothing is lost, until none is found or no unit is left.
-pub fn push_onward(
+pub(crate) fn push_onward(
     network: &mut Network,
     edges: &OuterEdges,
     dead: &mut DeadEnds,

@@ -33,7 +33,7 @@ fn lower(network: &mut Network, search: &Search)
 }
 
 /// Pushes units along a path on which nothing is lost, as many as it takes, and then along those that lead onward.
-pub fn augment(
+pub(crate) fn augment(
     network: &mut Network,
     edges: &OuterEdges,
     search: &mut Search,

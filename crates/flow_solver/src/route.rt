@@ -10,13 +10,13 @@ use flow_network::{Edge, Network};
 
 /// Where a path begins in its list, and how many units can go along it.
 #[derive(Clone, Copy)]
-pub struct Route {
+pub(crate) struct Route {
     pub start: usize,
     pub amount: u64,
 }
 
 /// Writes the path to the last node to the end of the list.
-pub fn trace(network: &Network, search: &Search, path: &mut [Edge]) -> Route
+pub(crate) fn trace(network: &Network, search: &Search, path: &mut [Edge]) -> Route
     requires fits { IsState network.now }
     requires back { LeadsBackToFirst network.now search.now }
     requires each_hop { length path.old ≡ network.now.instance.steps }

@@ -21,7 +21,7 @@ const STACK: usize = 4096;
 /// of an edge with room is its negated reduced cost. No distance matters beyond that of the last node. Nodes that were
 /// found as far as the node at hand wait on a stack, as long as it has room, and the others in a queue.
 #[derive(Drop)]
-pub struct Search {
+pub(crate) struct Search {
     distances: Vec<u128>,
     parents: Vec<Edge>,
     queue: Queue,

@@ -158,7 +158,7 @@ fn first_width(steps: u32) -> u32
 
 /// First prices of the instance: a constant price on some steps, then those of blocks, and then of blocks that are wider and
 /// wider. The last are thirds of the steps, so that the ends of the blocks before lie within them.
-pub fn first_prices(alloc: Global, instance: &Instance) -> Result<Vec<u128>, NoMemory>
+pub(crate) fn first_prices(alloc: Global, instance: &Instance) -> Result<Vec<u128>, NoMemory>
     ensures { IfOk result (λ prices. length prices.items ≡ instance.now.steps) }
 {
     let steps = instance.steps();

@@ -5,7 +5,7 @@
 /// An edge that had room when the lists were made, with the node that it leads to and its slack: how long it was then, as
 /// far as 64 bits hold that.
 #[derive(Clone, Copy)]
-pub struct ListedEdge {
+pub(crate) struct ListedEdge {
     pub slack: u64,
     pub head: u32,
     pub number: u32,
@@ -14,7 +14,7 @@ pub struct ListedEdge {
 /// An edge that got room after the lists were made, with the node that it leads to. Those out of one node are a chain:
 /// `before` counts the edges up to the one before it in the chain, and is 0 if it is the first.
 #[derive(Clone, Copy)]
-pub struct WokenEdge {
+pub(crate) struct WokenEdge {
     pub before: usize,
     pub head: u32,
     pub number: u32,

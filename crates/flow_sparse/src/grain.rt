@@ -57,7 +57,7 @@ fn marginal(alloc: Global, instance: &Instance) -> Result<u128, NoMemory> {
 
 /// The price of each step: that of a grain of steps on the one in the middle of each, and none on the others. The last
 /// step has none.
-pub fn grain_prices(alloc: Global, instance: &Instance) -> Result<Vec<u128>, NoMemory>
+pub(crate) fn grain_prices(alloc: Global, instance: &Instance) -> Result<Vec<u128>, NoMemory>
     ensures { IfOk result (λ prices. length prices.items ≡ instance.now.steps) }
 {
     let steps = instance.steps() as usize;

@@ -54,7 +54,7 @@ fn sum_up(instance: &Instance, flows: &[u64], loads: &mut [u128])
 }
 
 /// Writes the load of each step.
-pub fn write_loads(instance: &Instance, flows: &[u64], loads: &mut [u128])
+pub(crate) fn write_loads(instance: &Instance, flows: &[u64], loads: &mut [u128])
     requires fits { IsInstance instance.now }
     requires each_arc { length flows.now ≡ length instance.now.arcs }
     requires small { (i : ℕ) → i < length flows.now → slice_index flows.now i ≤ 2 ^ 48 }
@@ -90,7 +90,7 @@ fn put(node: usize, more: u128, less: u128, over: &mut [u128], under: &mut [u128
 }
 
 /// Writes what flows beside the arcs over the open steps, and what is over and missing at the nodes.
-pub fn balance(
+pub(crate) fn balance(
     count: u32,
     units: u64,
     steps_of: &[u32],

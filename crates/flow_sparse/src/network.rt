@@ -21,7 +21,7 @@ use std::marker::Model;
 /// The arcs between nodes, with one node for all times between two open steps; the flows along the arcs and beside them, the
 /// potential of each node, and how many units are over at each and how many are missing.
 #[derive(Drop)]
-pub struct Network {
+pub(crate) struct Network {
     pub arcs: Vec<OuterArc>,
     pub units: u64,
     pub count: u32,

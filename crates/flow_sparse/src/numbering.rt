@@ -30,7 +30,7 @@ fn number_step(
 }
 
 /// Numbers the nodes: it writes the node of each time, and the open steps in their order. It answers how many steps are open.
-pub fn number(opens: &[bool], nodes: &mut [u32], steps_of: &mut [u32]) -> u32
+pub(crate) fn number(opens: &[bool], nodes: &mut [u32], steps_of: &mut [u32]) -> u32
     requires few { length opens.now ≤ 2 ^ 25 }
     requires each_time { length nodes.old ≡ length opens.now + 1 }
     requires each_step { length opens.now ≤ length steps_of.old }
@@ -47,7 +47,7 @@ pub fn number(opens: &[bool], nodes: &mut [u32], steps_of: &mut [u32]) -> u32
 }
 
 /// Writes the arcs between the nodes.
-pub fn contract(instance: &Instance, nodes: &[u32], arcs: &mut [OuterArc])
+pub(crate) fn contract(instance: &Instance, nodes: &[u32], arcs: &mut [OuterArc])
     requires each_time { length nodes.now ≡ instance.now.steps + 1 }
     requires each_arc { length arcs.old ≡ length instance.now.arcs }
     ensures { arcs.new ≡ map (between nodes.now) instance.now.arcs }
@@ -65,7 +65,7 @@ pub fn contract(instance: &Instance, nodes: &[u32], arcs: &mut [OuterArc])
 }
 
 /// Writes the price of each step: the fall of the potential between the nodes of its times.
-pub fn write_prices(nodes: &[u32], potentials: &[u128], prices: &mut [u128])
+pub(crate) fn write_prices(nodes: &[u32], potentials: &[u128], prices: &mut [u128])
     requires each_time { length nodes.now ≡ length prices.old + 1 }
     requires within { (t : ℕ) → t < length nodes.now → slice_index nodes.now t < length potentials.now }
     requires falls { NeverRises (length prices.old) nodes.now potentials.now }
@@ -78,7 +78,12 @@ pub fn write_prices(nodes: &[u32], potentials: &[u128], prices: &mut [u128])
 }
 
 /// Writes the potentials of the nodes, so that each step's price is their fall over it.
-pub fn write_potentials(count: u32, steps_of: &[u32], prices: &[u128], potentials: &mut [u128])
+pub(crate) fn write_potentials(
+    count: u32,
+    steps_of: &[u32],
+    prices: &[u128],
+    potentials: &mut [u128],
+)
     requires few { count ≤ 2 ^ 25 }
     requires each_node { count < length potentials.old }
     requires each_step { count ≤ length steps_of.now }

@@ -37,7 +37,7 @@ fn network_of(alloc: Global, instance: &Instance) -> Result<Network, NoMemory>
 
 /// A solution of the instance, found from these prices: the nearer they are to those of a solution, the sooner. It takes 41
 /// bytes for each step, 40 for each arc, 16 for each edge with room, and 132 for each step that has a price or is opened.
-pub fn solve_from(
+pub(crate) fn solve_from(
     alloc: Global,
     instance: &Instance,
     mut prices: Vec<u128>,

@@ -21,7 +21,7 @@ const FAR: u128 = 1 << 125;
 /// How far each node is from the first, by the walks that were found, and the last edge of the walk to it. The length of an
 /// edge with room is its negated reduced cost. No distance matters beyond that of the nearest node with units over.
 #[derive(Drop)]
-pub struct Search {
+pub(crate) struct Search {
     pub distances: Vec<u128>,
     pub parents: Vec<Edge>,
     pub queue: Queue,

@@ -94,7 +94,7 @@ fn open_all(
 }
 
 /// Begins with prices: opens the steps that have one, and lets the flows suit them. Then it settles.
-pub fn settle(
+pub(crate) fn settle(
     alloc: Global,
     instance: &Instance,
     opens: &mut [bool],

@@ -5,7 +5,7 @@ ghost use Rattle.flow_sparse.specs.Starts.{IsFitted, AreFitted};
 use flow_model::Instance;
 
 /// Lets the steps be open that have a price.
-pub fn open_priced(prices: &[u128], opens: &mut [bool])
+pub(crate) fn open_priced(prices: &[u128], opens: &mut [bool])
     requires { length opens.old ≡ length prices.now }
     ensures each { length opens.new ≡ length opens.old }
     ensures shut { (t : ℕ) → t < length opens.old → slice_index_or opens.new t false ≡ false → slice_index prices.now t ≡ 0 }
@@ -16,7 +16,7 @@ pub fn open_priced(prices: &[u128], opens: &mut [bool])
 }
 
 /// Cuts prices above the greatest cost that an arc can have.
-pub fn cut_prices(prices: &mut [u128])
+pub(crate) fn cut_prices(prices: &mut [u128])
     ensures each { length prices.new ≡ length prices.old }
     ensures small { (t : ℕ) → t < length prices.old → slice_index prices.new t ≤ 2 ^ 97 }
 {
@@ -26,7 +26,7 @@ pub fn cut_prices(prices: &mut [u128])
 }
 
 /// Writes for each time the sum of the prices from there on.
-pub fn write_falls(prices: &[u128], falls: &mut [u128])
+pub(crate) fn write_falls(prices: &[u128], falls: &mut [u128])
     requires few { length prices.now ≤ 2 ^ 25 }
     requires each { length falls.old ≡ length prices.now + 1 }
     requires small { (t : ℕ) → t < length prices.now → slice_index prices.now t ≤ 2 ^ 97 }
@@ -52,7 +52,7 @@ fn flow_of(weight: u64, cost: u128, high: u128, low: u128) -> u64
 }
 
 /// Gives each arc its weight as flow, unless it costs less than its steps' prices.
-pub fn fit_flows(instance: &Instance, falls: &[u128], flows: &mut [u64])
+pub(crate) fn fit_flows(instance: &Instance, falls: &[u128], flows: &mut [u64])
     requires each_arc { length flows.old ≡ length instance.now.arcs }
     requires each { length falls.now ≡ instance.now.steps + 1 }
     requires small { (t : ℕ) → t ≤ instance.now.steps → slice_index falls.now t ≤ 2 ^ 122 }

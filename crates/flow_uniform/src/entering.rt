@@ -45,7 +45,7 @@ fn enter_one(
 }
 
 /// Lets the arcs that start at the step enter, and answers what they add to the load.
-pub fn enter(
+pub(crate) fn enter(
     instance: &Instance,
     edges: &OuterEdges,
     step: u32,

@@ -34,7 +34,7 @@ fn lower(
 }
 
 /// Takes flow from the arcs over the step that end last, until the load fits. It answers the load.
-pub fn evict(
+pub(crate) fn evict(
     instance: &Instance,
     step: u32,
     load: u128,

@@ -16,7 +16,7 @@ use trace_webcache::MarkedSpan;
 /// What a line asks for, the host and the disk of its volume, if its form names volumes, and whether its requests only
 /// fill the cache.
 #[derive(Clone, Copy)]
-pub struct LineContent<'a> {
+pub(crate) struct LineContent<'a> {
     pub span: Span,
     pub volume: Option<(&'a [u8], u64)>,
     pub fills: bool,
@@ -93,7 +93,7 @@ fn content_named(format: Format, text: &[u8]) -> Result<LineContent<'_>, LineKin
 
 /// What a record asks for, or the text of a line, if it has a word.
 #[inline(always)]
-pub fn content_of(format: Format, text: &[u8]) -> Result<Option<LineContent<'_>>, LineKind>
+pub(crate) fn content_of(format: Format, text: &[u8]) -> Result<Option<LineContent<'_>>, LineKind>
     requires format { IsFormat format }
     requires records { has_records format ≡ true → length text.now ≤ 24 }
     ensures content_named { answer_of result ≡ text_content format text.now }
@@ -111,7 +111,7 @@ pub fn content_of(format: Format, text: &[u8]) -> Result<Option<LineContent<'_>>
 }
 
 /// The number of the volume of a line, which is 0 if it names none or asks for nothing.
-pub fn number_of(
+pub(crate) fn number_of(
     volumes: &mut Volumes,
     alloc: Global,
     content: &LineContent<'_>,

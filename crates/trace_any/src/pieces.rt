@@ -16,7 +16,7 @@ const RECORD: usize = 24;
 
 /// The next record, the last of which may be of fewer bytes, or the text of the next line; None at the end. It is lent
 /// until the next call.
-pub fn next_piece<'a, S: Source>(
+pub(crate) fn next_piece<'a, S: Source>(
     lines: &'a mut LineReader,
     records: bool,
     source: &mut S,

@@ -31,7 +31,7 @@ struct Range {
 
 /// The lines and the requests of a trace so far.
 #[derive(Drop)]
-pub struct Progress {
+pub(crate) struct Progress {
     format: Format,
     limits: Limits,
     lines: LineReader,

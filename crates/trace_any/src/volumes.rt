@@ -39,7 +39,7 @@ impl<'a> Equivalent<VolumeKey> for VolumeName<'a> {
 
 /// The volumes so far, by the order of their first appearance.
 #[derive(Drop)]
-pub struct Volumes {
+pub(crate) struct Volumes {
     keys: IndexSet<VolumeKey>,
 }
 
