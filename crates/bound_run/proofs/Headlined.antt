@@ -34,8 +34,10 @@ true_bounds trace h records valid above = record {
   upper = above;
   schedule = valid.keeps;
   lower = sym valid.lower;
-  flow = λ e prices. rw (sym valid.flow) at (flow_value-le (eligible_of trace.objects trace.fills h) h.unit (units_of h) h.denominator e (flows_of (eligible_of trace.objects trace.fills h) records) prices valid.flows);
-  equal_values = λ exact. (sym valid.upper, sym valid.flow ∙ sym (valid.exact_values exact));
+  values = record {
+    flow = λ e prices. rw (sym valid.flow) at (flow_value-le (eligible_of trace.objects trace.fills h) h.unit (units_of h) h.denominator e (flows_of (eligible_of trace.objects trace.fills h) records) prices valid.flows);
+    equal_values = λ exact. (sym valid.upper, sym valid.flow ∙ sym (valid.exact_values exact));
+  };
 }
 
 -- prices of the mode constant are its price
@@ -67,11 +69,13 @@ shown capacities (Bounds format asked) d ((cert, text, ready, certified, printed
         version = made.version;
         priced = priced_in ready.requests asked.mode ready.texts.price (units_of ready.texts.header) ready.texts.header ready.texts.records made.of_mode;
         bounds = true_bounds ready.requests ready.texts.header ready.texts.records made.valid made.bounds;
-        exact = made.form;
-        equal_sizes = λ size unwindowed same. (
-          made.exact_if_equal size unwindowed same,
-          (made.equal_sizes size unwindowed same).equal ∙ ap (λ n. ready.texts.header.denominator * n) (sym made.valid.lower),
-        );
+        form = record {
+          exact = made.form;
+          equal_sizes = λ size unwindowed same. (
+            made.exact_if_equal size unwindowed same,
+            (made.equal_sizes size unwindowed same).equal ∙ ap (λ n. ready.texts.header.denominator * n) (sym made.valid.lower),
+          );
+        };
       },
     )
 shown capacities (Check format) d ((text, said, printed), trace, cert, untouched) = (
@@ -129,11 +133,13 @@ shown capacities (Demo drawing asked) d ((text, shows, printed), trace, cert, ma
       terms = is.terms;
       priced = priced_in (trace_drawn drawing) asked.mode shows.price (units_of shows.header) shows.header shows.records is.of_mode;
       bounds = true_bounds (trace_drawn drawing) shows.header shows.records is.valid is.bounds;
-      exact = is.form;
-      equal_sizes = λ size unwindowed same. (
-        is.exact_if_equal size unwindowed same,
-        (is.equal_sizes size unwindowed same).equal ∙ ap (λ n. shows.header.denominator * n) (sym is.valid.lower),
-      );
+      form = record {
+        exact = is.form;
+        equal_sizes = λ size unwindowed same. (
+          is.exact_if_equal size unwindowed same,
+          (is.equal_sizes size unwindowed same).equal ∙ ap (λ n. shows.header.denominator * n) (sym is.valid.lower),
+        );
+      };
       replayed = shows.replayed;
     }
 shown capacities Upgrade d ((cert, text, ready, certified, printed), source, untouched) = record { cert = cert; text = text; certified = certified; printed = printed; upgraded = ready }

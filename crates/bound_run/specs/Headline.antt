@@ -45,22 +45,32 @@ use Rattle.bound_words.specs.declared.settings.Settings.{Settings}
 use Rattle.bound_words.specs.declared.settings.Settings.TheVariants.{Bounds, Check, Replay, Curve, CapacityCurve, Judge, Demo, Upgrade, Refine}
 use Rattle.bound_words.specs.Settings.{settings_of}
 
--- header and records are a certificate in range, with a record for each request, and its bounds are true of the trace: no allowed contents score more than the upper one, the keeps are allowed contents with the lower one as their score, no prices over any denominator have a bound below the flow, and in the form exact prices and flows have the upper one as their value
+-- what the line flow and the form exact say: no prices over any denominator have a bound below the flow, and in the form exact prices and flows have the upper bound as their value
+pub record AreValues (trace : Requests) (h : Header) (records : List Record) : Type 0 where
+  pub flow : (e : ℕ) (prices : List ℕ) → e * h.flow ≤ h.denominator * bound_of (eligible_of trace.objects trace.fills h) h.unit (units_of h) e prices
+  pub equal_values : IsTrue h.exact → (upper_of trace.objects trace.fills h records ≡ h.upper) × (flow_of trace.objects trace.fills h records ≡ h.upper)
+
+-- which form bounds have: with one window for all steps it is exact if no cost is rounded, and if all sizes are equal; in that last case both bounds are one number
+pub record HasForm (asked : BoundSettings) (trace : Requests) (h : Header) : Type 0 where
+  pub exact : IsTrue h.exact ↔ (IsTrue (is_unwindowed asked.mode (length trace.objects)) × HasWholeCosts (eligible_of trace.objects trace.fills h) h.unit h.denominator)
+  pub equal_sizes : (size : ℕ) → IsTrue (is_unwindowed asked.mode (length trace.objects)) → All (λ i. i.size ≡ size) (eligible_of trace.objects trace.fills h)
+      → IsTrue h.exact × (h.upper ≡ h.denominator * h.lower)
+
+-- header and records are a certificate in range, with a record for each request, and its bounds are true of the trace: no allowed contents score more than the upper one, the keeps are allowed contents with the lower one as their score, and its flow and its form are as they say
 pub record AreTrueBounds (trace : Requests) (h : Header) (records : List Record) : Type 0 where
   pub certificate : IsCertificate h records
   pub requests : h.requests ≡ length trace.objects
   pub upper : BoundsEveryPolicy trace.objects trace.fills h
   pub schedule : IsAllowed h.capacity trace.objects (contents_of trace.objects (keeps_of records))
   pub lower : score (terms_of h trace.fills) trace.objects (contents_of trace.objects (keeps_of records)) ≡ h.lower
-  pub flow : (e : ℕ) (prices : List ℕ) → e * h.flow ≤ h.denominator * bound_of (eligible_of trace.objects trace.fills h) h.unit (units_of h) e prices
-  pub equal_values : IsTrue h.exact → (upper_of trace.objects trace.fills h records ≡ h.upper) × (flow_of trace.objects trace.fills h records ≡ h.upper)
+  pub values : AreValues trace h records
 
 -- in mode constant the price that is printed is that of every step but the last
 abbrev pub IsPriceOf : Mode → ℕ → ℕ → List Record → Type 0
 IsPriceOf Constant price steps records = prices_of records ≡ constant_prices price steps
 IsPriceOf mode price steps records = Unit {0}
 
--- bounds printed and certified true bounds at the capacity, for the objective and from the warm-up on that were asked for. With one window for all steps they have the form exact if no cost is rounded, and if all sizes are equal; in that last case they are one number
+-- bounds printed and certified true bounds at the capacity, of the requests that count from the warm-up on, for the objective that was asked for
 pub record ShowsBounds (format : Format) (asked : BoundSettings) (trace : Requests) (dropped : ℕ) (report made : Device) : Type 0 where
   pub header : Header
   pub records : List Record
@@ -71,8 +81,7 @@ pub record ShowsBounds (format : Format) (asked : BoundSettings) (trace : Reques
   pub version : header.version ≡ asked.version
   pub priced : IsPriceOf asked.mode price (length trace.objects) records
   pub bounds : AreTrueBounds trace header records
-  pub exact : IsTrue header.exact ↔ (IsTrue (is_unwindowed asked.mode (length trace.objects)) × HasWholeCosts (eligible_of trace.objects trace.fills header) header.unit header.denominator)
-  pub equal_sizes : (size : ℕ) → IsTrue (is_unwindowed asked.mode (length trace.objects)) → All (λ i. i.size ≡ size) (eligible_of trace.objects trace.fills header) → IsTrue header.exact × (header.upper ≡ header.denominator * header.lower)
+  pub form : HasForm asked trace header
 
 -- a check printed what the certificate states, which is the text of true bounds, whatever bytes it was given
 pub record ShowsCheck (format : Format) (trace : Requests) (dropped : ℕ) (cert report : Device) : Type 0 where
@@ -120,8 +129,7 @@ pub record ShowsDemo (drawing : DrawSettings) (asked : BoundSettings) (report : 
   pub terms : terms_of header [] ≡ marked asked.terms []
   pub priced : IsPriceOf asked.mode price (length (trace_drawn drawing).objects) records
   pub bounds : AreTrueBounds (trace_drawn drawing) header records
-  pub exact : IsTrue header.exact ↔ (IsTrue (is_unwindowed asked.mode (length (trace_drawn drawing).objects)) × HasWholeCosts (eligible_of (trace_drawn drawing).objects (trace_drawn drawing).fills header) header.unit header.denominator)
-  pub equal_sizes : (size : ℕ) → IsTrue (is_unwindowed asked.mode (length (trace_drawn drawing).objects)) → All (λ i. i.size ≡ size) (eligible_of (trace_drawn drawing).objects (trace_drawn drawing).fills header) → IsTrue header.exact × (header.upper ≡ header.denominator * header.lower)
+  pub form : HasForm asked (trace_drawn drawing) header
   pub replayed : AreReplays asked.terms.capacity (trace_drawn drawing) replays
 
 -- an upgrade wrote the certificate that it read in the second version
