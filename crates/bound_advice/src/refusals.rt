@@ -84,7 +84,7 @@ pub fn advice_on(
         Refusal::CertFault => return device_advice(alloc, devices.cert),
         Refusal::MadeFault => return device_advice(alloc, devices.made),
         Refusal::Unequal { .. } => {
-            "a curve needs one size; cut the objects into blocks, or replay the capacities of interest"
+            "a curve without capacities needs one size; give capacities=LIST, or cut the objects into blocks"
         }
         Refusal::Limit(name) => limit_advice(name),
         Refusal::NotFlag { .. } => {

@@ -1,5 +1,5 @@
 //! Texts for people: the report of bounds, what a check says of a valid certificate, the texts of a replay, of both
-//! curves, of a demo and of a refinement, and the line that tells why a run stopped.
+//! curves, of claimed hits, of a demo, of an upgrade and of a refinement, and the line that tells why a run stopped.
 //!
 //! The rules are "Report of bounds", "Verdict" and "Refusal" in docs/DEFINITIONS.md.
 #![tactic(auto)]

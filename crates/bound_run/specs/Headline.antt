@@ -153,7 +153,7 @@ pub record ShowsRefinement (format : Format) (width : ℕ) (trace : Requests) (d
   pub refinement : IsRefinement width trace header records refined refined_records
   pub bounds : AreTrueBounds trace refined refined_records
 
--- the same of the commands that make and check no bounds of a trace, at these capacities if the words give some
+-- what the other commands show, a curve over capacities at those that the words give
 abbrev pub ShowsElse : List ℕ → Settings → Devices → Type 0
 ShowsElse capacities (Replay format r) d = (trace : Requests) × (dropped : ℕ) × IsLoaded format d.trace trace dropped × ShowsReplay format r trace dropped d.report
 ShowsElse capacities (Curve format) d = (trace : Requests) × (dropped : ℕ) × IsLoaded format d.trace trace dropped × ShowsCurve format trace dropped d.report
@@ -165,7 +165,7 @@ ShowsElse capacities Upgrade d = ShowsUpgrade d.cert d.report d.made
 ShowsElse capacities (Refine format width) d = (trace : Requests) × (dropped : ℕ) × IsLoaded format d.trace trace dropped × ShowsRefinement format width trace dropped d.cert d.report d.made
 ShowsElse capacities settings d = ⊥
 
--- all that the trace source had left was read, and the numbers that were printed are true of it
+-- what a command shows; of bounds and a check, that all that the trace source had left was read, and the numbers that were printed are true of it
 abbrev pub Shows : List ℕ → Settings → Devices → Type 0
 Shows capacities (Bounds format asked) d = (trace : Requests) × (dropped : ℕ) × IsLoaded format d.trace trace dropped × ShowsBounds format asked trace dropped d.report d.made
 Shows capacities (Check format) d = (trace : Requests) × (dropped : ℕ) × IsLoaded format d.trace trace dropped × ShowsCheck format trace dropped d.cert d.report

@@ -17,8 +17,8 @@ use stack_curve::{CurveFault, curve};
 use std::alloc::Global;
 use trace_any::Format;
 
-/// The report of the curve of a trace of this form, with the number of its lines that were dropped. It takes 8 bytes for each request
-/// while it counts, and a line for each number of slots that adds hits.
+/// The report of the curve of a trace of this form, with the number of its lines that were dropped. It takes 8 bytes
+/// for each request while it counts, and a line for each number of slots that adds hits.
 pub(crate) fn curve_report(
     alloc: Global,
     format: Format,

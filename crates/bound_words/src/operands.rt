@@ -23,7 +23,7 @@ use policy_model::PolicyName;
 use relaxation::DenominatorChoice;
 use trace_any::Format;
 
-// What a demo is made of where no operand says it.
+// What a demo is made of if no operand says it.
 const USUAL_SEED: u64 = 1;
 
 const USUAL_REQUESTS: u32 = 2000;

@@ -52,7 +52,7 @@ fn is_dash(word: Option<&str>) -> bool
     }
 }
 
-// Standard input holds the trace or the certificate, and not both.
+// Standard input holds the trace, or the other file that is read, and not both.
 fn inputs_fault(places: PathPlaces, words: &[String]) -> Option<WordFault>
     requires { ForSome places.cert (λ at. at ≤ 9) }
     ensures { result ≡ inputs_fault places.trace places.cert (map string_bytes words.now) }

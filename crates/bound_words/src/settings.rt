@@ -1,4 +1,5 @@
-//! What a plan asks for: the settings of bounds, of a replay, of claimed hits and of a drawn trace, each number in its range.
+//! What a plan asks for: the settings of bounds, of a replay, of a curve over capacities, of claimed hits and of a
+//! drawn trace, each number in its range.
 //!
 //! Clauses and definitions see the fields as they are. The ranges are the invariant of a model and no part of its value,
 //! so that a definition takes settings from any plan.

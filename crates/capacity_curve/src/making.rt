@@ -121,7 +121,8 @@ fn points_by_replay(
 
 /// What is known at each of the capacities, which ascend. From the size of the greatest object on, one pass over the
 /// requests gives LRU's hits, and the intervals are made once; each capacity below it takes a replay and intervals of
-/// its own. It takes 32 bytes a request beside the trace, and 16 more for each interval.
+/// its own. It takes 32 bytes a request while it counts hits; then 8 a request, 24 an interval, and as much for each
+/// interval that decides near the least price.
 pub fn points_at(
     alloc: Global,
     trace: &Trace,

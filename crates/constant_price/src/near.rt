@@ -9,7 +9,7 @@ use bound_base::NoMemory;
 use cache_model::Interval;
 use std::alloc::Global;
 
-// How many prices are looked at until there is one on each side of the least.
+// At most this many prices are looked at for one on each side of the least.
 const WIDENINGS: u8 = 16;
 
 // Prices between which the least one is: none below the low one is enough, and the high one is.
@@ -19,7 +19,7 @@ struct Bracket {
     high: u128,
 }
 
-// The intervals that fall otherwise at two prices, and the fall of the others, which is the same at both and between.
+// The intervals that fall by other amounts at two prices, and the fall of the others, which is the same at both and between.
 #[derive(Drop)]
 struct Deciding {
     intervals: Vec<Interval>,
@@ -111,7 +111,7 @@ fn deciding_between(
 }
 
 /// The least price from which the surplus falls by no more than the growth, whatever the guess. From a guess that is
-/// near it goes over the intervals some four times, and takes memory for a few of them.
+/// near it goes over the intervals some four times, and takes memory for those that decide, which are few then.
 pub(crate) fn least_near(
     alloc: Global,
     intervals: &[Interval],

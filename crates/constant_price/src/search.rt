@@ -11,7 +11,7 @@ use cache_model::Interval;
 use interval_maker::Intervals;
 use std::alloc::Global;
 
-// The part that is searched first has one interval in this many.
+// The part that is searched first is one of this many: the intervals from the middle of the list on.
 const PARTS: usize = 64;
 
 // Every eighth turn looks in the middle, so that the number of turns is bounded by the width alone.

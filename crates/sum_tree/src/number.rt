@@ -1,7 +1,7 @@
 //! The numbers that a tree sums.
 ghost use Rattle.std.specs.Prelude.{◌≡◌, ℕ, ◌+◌, ◌*◌, ◌<◌, ◌^◌};
 
-/// A type of numbers that can hold every sum of a tree over less than 2^32 places.
+/// A type of numbers that can hold every sum of a tree over fewer than 2^32 places.
 pub trait SumNumber: Copy {
     /// The number that it is.
     ghost value: { Self → ℕ };
@@ -9,7 +9,7 @@ pub trait SumNumber: Copy {
     /// The greatest number at a place.
     ghost greatest: { ℕ };
 
-    /// The number from which on it can't hold any.
+    /// The least number that it can't hold.
     ghost limit: { ℕ };
 
     /// 0.
