@@ -1,4 +1,4 @@
-use Rattle.std.proofs.Common.{◌≡◌, ◌∙◌, ◌⊎◌, inl, inr, sym, Result, Ok, Err, IfErr}
+use Rattle.std.proofs.Common.{◌≡◌, ◌∙◌, ◌⊎◌, ℕ, List, inl, inr, sym, Result, Ok, Err, IfErr}
 use Rattle.bound_words.specs.declared.words.Plan.{Plan}
 use Rattle.bound_run.specs.Run.{Devices, RunEnds}
 use Rattle.bound_words.specs.declared.words.WordFault.{WordFault}
@@ -14,11 +14,11 @@ stays status settled (inr (inl done, made)) fault refused = let clash : Done ≡
 stays status settled (inr (inr failed, made)) fault refused = let clash : ReportFault ≡ Words fault = sym failed ∙ refused in cc
 
 -- what refuses the words is the status, and stays it
-refused_words : (read : Result Plan WordFault) (d : Devices) (status settled : Status) → RunEnds read d status
+refused_words : (read : Result Plan WordFault) (capacities : List ℕ) (d : Devices) (status settled : Status) → RunEnds read capacities d status
     → ((fault : WordFault) → status ≡ Words fault → settled ≡ status) → IfErr read (λ fault. (settled ≡ Words fault) ⊎ (settled ≡ NoMemory))
-refused_words (Ok plan) d status settled ends stays = tt
-refused_words (Err fault) d status settled ends stays = inl (stays fault ends.0 ∙ ends.0)
+refused_words (Ok plan) capacities d status settled ends stays = tt
+refused_words (Err fault) capacities d status settled ends stays = inl (stays fault ends.0 ∙ ends.0)
 
 pub returns : goal.returns
 returns g c =
-    refused_words _ _ c.run-status.result c.settle.result c.run-status.ensures.explains (stays c.run-status.result c.settle.result c.settle.ensures)
+    refused_words _ _ _ c.run-status.result c.settle.result c.run-status.ensures.explains (stays c.run-status.result c.settle.result c.settle.ensures)
