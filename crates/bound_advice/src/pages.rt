@@ -1,7 +1,7 @@
 //! The pages that the program prints in place of a run: how it is called, and its version.
 
 /// The program and its version.
-pub const VERSION: &str = "bound_cli 0.2.0";
+pub const VERSION: &str = "bound_cli 1.0.0";
 
 /// What the program is for.
 pub const PURPOSE: &str =

@@ -6,6 +6,7 @@ ghost use Rattle.std.specs.Prelude.{◌≤◌};
 use bound_io::{CalmSource, MemSink, MemSource};
 use bound_run::{Status, run};
 use compared::{holds, same};
+use said::Said::{self, Bounds, Refined, Text, Yes};
 use std::alloc::Global;
 use std::process::Abort;
 
@@ -23,6 +24,7 @@ mod modes;
 mod records;
 mod refinements;
 mod replays;
+mod said;
 mod traces;
 mod upgrades;
 mod usage;
@@ -37,8 +39,9 @@ const PAIR_CERT: &[u8] =
     b"cache-bound-certificate 1\nobjective object\ncapacity 10\nrequests 2\nunit 4\n\
 denominator 1\nform plain\nupper 1\nflow 0\nlower 1\nrecords\n0 1 0\n0 0 0\nend\n";
 
-const PAIR_REPORT: &[u8] = b"trace requests 2 objects 1 dropped 0\ncapacity 10 objective object\n\
-mode infinite form plain\nunit 4 units 2 denominator 1\nintervals 1\nupper 1/1 floor 1\nflow 0/1\nlower 1\n";
+const PAIR_REPORT: Said<'static> = Bounds(
+    "2 1 0, 10 object, infinite form plain, 4 2 1, 1, 1/1 1, 0/1, 1",
+);
 
 // A device of a run.
 #[derive(Clone, Copy, PartialEq, Eq)]
@@ -58,7 +61,7 @@ struct Row<'a> {
     cert: &'a [u8],
     fails: Option<(Device, u64)>,
     status: Status,
-    report: &'a [u8],
+    report: Said<'a>,
     made: &'a [u8],
     // How many bytes may be made.
     room: usize,
@@ -85,8 +88,7 @@ const CYCLE: Row<'static> = Row {
     shows: "three objects in turn, of which two fit",
     words: "bounds t c format=webcache capacity=2 mode=infinite",
     trace: CYCLE_TRACE,
-    report: b"trace requests 6 objects 3 dropped 0\ncapacity 2 objective object\n\
-mode infinite form plain\nunit 1 units 2 denominator 1\nintervals 3\nupper 3/1 floor 3\nflow 0/1\nlower 2\n",
+    report: Bounds("6 3 0, 2 object, infinite form plain, 1 2 1, 3, 3/1 3, 0/1, 2"),
     made: b"cache-bound-certificate 1\nobjective object\ncapacity 2\nrequests 6\nunit 1\n\
 denominator 1\nform plain\nupper 3\nflow 0\nlower 2\nrecords\n0 1 0\n0 1 0\n0 0 0\n0 0 0\n0 0 0\n0 0 0\nend\n",
     ..GOOD
@@ -96,8 +98,7 @@ denominator 1\nform plain\nupper 3\nflow 0\nlower 2\nrecords\n0 1 0\n0 1 0\n0 0 
 const FLOW_PAIR: Row<'static> = Row {
     shows: "two requests of one object, whose flow is worth the bound",
     words: "bounds t c format=webcache capacity=10",
-    report: b"trace requests 2 objects 1 dropped 0\ncapacity 10 objective object\n\
-mode flow window all form exact\nunit 4 units 2 denominator 1\nintervals 1\nupper 1/1 floor 1\nflow 1/1\nlower 1\n",
+    report: Bounds("2 1 0, 10 object, flow window all form exact, 4 2 1, 1, 1/1 1, 1/1, 1"),
     made: b"cache-bound-certificate 1\nobjective object\ncapacity 10\nrequests 2\nunit 4\n\
 denominator 1\nform exact\nupper 1\nflow 1\nlower 1\nrecords\n0 1 1\n0 0 0\nend\n",
     ..GOOD
@@ -115,8 +116,7 @@ const ROWS: [Row<'static>; 7] = [
     Row {
         shows: "sizes with a common divisor, and one above the capacity",
         trace: b"1 1 4\n2 2 6\n3 9 11\n4 2 6\n5 1 4\n6 9 11\n",
-        report: b"trace requests 6 objects 3 dropped 0\ncapacity 10 objective object\n\
-mode infinite form plain\nunit 2 units 5 denominator 1\nintervals 2\nupper 2/1 floor 2\nflow 0/1\nlower 2\n",
+        report: Bounds("6 3 0, 10 object, infinite form plain, 2 5 1, 2, 2/1 2, 0/1, 2"),
         made: b"cache-bound-certificate 1\nobjective object\ncapacity 10\nrequests 6\nunit 2\n\
 denominator 1\nform plain\nupper 2\nflow 0\nlower 2\nrecords\n0 1 0\n0 1 0\n0 0 0\n0 0 0\n0 0 0\n0 0 0\nend\n",
         ..GOOD
@@ -124,8 +124,7 @@ denominator 1\nform plain\nupper 2\nflow 0\nlower 2\nrecords\n0 1 0\n0 1 0\n0 0 
     Row {
         shows: "one id with two sizes is two objects",
         trace: b"1 1 2\n2 1 3\n",
-        report: b"trace requests 2 objects 2 dropped 0\ncapacity 10 objective object\n\
-mode infinite form plain\nunit 1 units 10 denominator 1\nintervals 0\nupper 0/1 floor 0\nflow 0/1\nlower 0\n",
+        report: Bounds("2 2 0, 10 object, infinite form plain, 1 10 1, 0, 0/1 0, 0/1, 0"),
         made: b"cache-bound-certificate 1\nobjective object\ncapacity 10\nrequests 2\nunit 1\n\
 denominator 1\nform plain\nupper 0\nflow 0\nlower 0\nrecords\n0 0 0\n0 0 0\nend\n",
         ..GOOD
@@ -133,8 +132,7 @@ denominator 1\nform plain\nupper 0\nflow 0\nlower 0\nrecords\n0 0 0\n0 0 0\nend\
     Row {
         shows: "no request at all",
         trace: b"",
-        report: b"trace requests 0 objects 0 dropped 0\ncapacity 10 objective object\n\
-mode infinite form plain\nunit 1 units 10 denominator 1\nintervals 0\nupper 0/1 floor 0\nflow 0/1\nlower 0\n",
+        report: Bounds("0 0 0, 10 object, infinite form plain, 1 10 1, 0, 0/1 0, 0/1, 0"),
         made: b"cache-bound-certificate 1\nobjective object\ncapacity 10\nrequests 0\nunit 1\n\
 denominator 1\nform plain\nupper 0\nflow 0\nlower 0\nrecords\nend\n",
         ..GOOD
@@ -237,9 +235,17 @@ fn check(rt: &impl Abort, alloc: Global, row: &Row<'_>) {
 fn check_at(rt: &impl Abort, alloc: Global, row: &Row<'_>, step: usize)
     requires { 1 ≤ step }
 {
+    let report = row.report.text(rt, alloc);
+    check_said(rt, alloc, row, step, report.as_bytes());
+}
+
+// The same, beside this report.
+fn check_said(rt: &impl Abort, alloc: Global, row: &Row<'_>, step: usize, report: &[u8])
+    requires { 1 ≤ step }
+{
     let ended = row.run_at(rt, alloc, step);
     same(row.shows, ended.status, row.status).expect(rt, "a row");
-    same(row.shows, ended.report.as_slice(), row.report).expect(rt, "a row");
+    same(row.shows, ended.report.as_slice(), report).expect(rt, "a row");
     same(row.shows, ended.made.as_slice(), row.made).expect(rt, "a row");
     drop(ended);
 }
@@ -261,11 +267,11 @@ fn check_reads(rt: &impl Abort, alloc: Global, device: Device, reads: usize, row
 
 // Runs the row with each write of the report failing in turn, so that the report has what was written before it.
 fn check_report_writes(rt: &impl Abort, alloc: Global, row: &Row<'_>) {
-    for taken in 0..row.report.len() {
+    let report = row.report.text(rt, alloc);
+    for taken in 0..report.len() {
         let mut failing = *row;
         failing.fails = Some((Device::Report, taken as u64 + 1));
-        failing.report = &row.report[..taken];
-        check(rt, alloc, &failing);
+        check_said(rt, alloc, &failing, 1, &report.as_bytes()[..taken]);
     }
 }
 

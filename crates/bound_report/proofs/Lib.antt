@@ -1,3 +1,3 @@
 mod Rows
 pub mod CurveLemmas
-pub mod CountedLemmas
+pub mod AppendedLines

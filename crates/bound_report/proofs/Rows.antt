@@ -1,5 +1,5 @@
 -- Reports worked out by hand.
-use Rattle.std.proofs.Common.{◌≡◌, ℕ, Bool, true, false, [], ◌∷◌, codes, refl, None, Some}
+use Rattle.std.proofs.Common.{◌≡◌, ℕ, Bool, true, false, [], ◌∷◌, codes, refl, Some}
 use Rattle.std.specs.Fmt.{digits}
 use Rattle.cache_model.specs.declared.objects.Objective.TheVariants.{Object as Hits}
 use Rattle.cache_model.specs.declared.certificates.Header.{Header}
@@ -9,8 +9,9 @@ use Rattle.bound_report.specs.declared.facts.Window.TheVariants.{All as Whole}
 use Rattle.bound_report.specs.Reports.{report_text}
 use Rattle.replay_core.specs.declared.counts.Replay.{Replay}
 use Rattle.bound_report.specs.Demos.{demo_text}
-use Rattle.bound_report.specs.Counted.{refined_with_counted, with_counted}
-use Rattle.bound_report.specs.Curves.{curve_text}
+use Rattle.bound_report.specs.Rendering.{rendered}
+use Rattle.bound_report.specs.Refinements.{refined_lines}
+use Rattle.bound_report.specs.Curves.{curve_lines, curve_text}
 use Rattle.stack_curve.specs.Curves.{hits_with}
 
 -- two requests of size 4 at capacity 10
@@ -70,8 +71,8 @@ curve_of_six : curve_text (record { requests = 6; objects = 3; dropped = 0 }) 1 
 unfolding digits
 curve_of_six = refl
 
--- the line of the requests that count stands behind the line of the trace
-curve_of_reads : with_counted (Some 4) (curve_text (record { requests = 6; objects = 3; dropped = 0 }) 1 (hits_with (record { size = 1; hits = 0 ∷ 0 ∷ 1 ∷ 3 ∷ [] }))) ≡ text_of (
+-- how many requests count stands behind the line of the trace
+curve_of_reads : rendered (record { warmup = 0; counted = Some 4 }) (curve_lines (record { requests = 6; objects = 3; dropped = 0 }) 1 (hits_with (record { size = 1; hits = 0 ∷ 0 ∷ 1 ∷ 3 ∷ [] }))) ≡ text_of (
     codes "trace requests 6 objects 3 dropped 0"
     ∷ codes "counted 4"
     ∷ codes "size 1"
@@ -81,12 +82,19 @@ curve_of_reads : with_counted (Some 4) (curve_text (record { requests = 6; objec
 unfolding digits
 curve_of_reads = refl
 
--- in the report of a refinement too, of which it is the second line
-refined_reads : refined_with_counted (Some 0) (codes "refined from 2/1 to 1/1\ntrace requests 2 objects 1 dropped 0\nvalid\n")
-    ≡ codes "refined from 2/1 to 1/1\ntrace requests 2 objects 1 dropped 0\ncounted 0\nvalid\n"
+-- so it does in a refinement, where that is the second line, and the warm-up is the last one
+refined_reads : rendered (record { warmup = 1; counted = Some 0 }) (refined_lines 2 (record { header = pair_header false 0; objects = 1 }) 0) ≡ text_of (
+    codes "refined from 2/1 to 1/1"
+    ∷ codes "trace requests 2 objects 1 dropped 0"
+    ∷ codes "counted 0"
+    ∷ codes "capacity 10 objective object"
+    ∷ codes "form plain"
+    ∷ codes "unit 4 units 2 denominator 1"
+    ∷ codes "upper 1/1 floor 1"
+    ∷ codes "flow 0/1"
+    ∷ codes "lower 1"
+    ∷ codes "valid"
+    ∷ codes "warmup 1"
+    ∷ [])
 unfolding digits
 refined_reads = refl
-
--- where the number isn't asked for, a report stays as it is
-all_count : with_counted None (codes "trace requests 2 objects 1 dropped 0\n") ≡ codes "trace requests 2 objects 1 dropped 0\n"
-all_count = refl

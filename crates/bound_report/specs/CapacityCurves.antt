@@ -1,6 +1,7 @@
--- The text of a curve over capacities.
-use Rattle.std.specs.Prelude.{ℕ, ◌/◌, List, ◌∷◌, ◌++◌, codes, map}
-use Rattle.cache_model.specs.Texts.{entry, objective_word, text_of}
+-- The lines of a curve over capacities.
+use Rattle.std.specs.Prelude.{ℕ, ◌/◌, List, [], ◌∷◌, ◌++◌, codes, map}
+use Rattle.cache_model.specs.Texts.{entry, objective_word}
+use Rattle.bound_report.specs.Rendering.{Lines}
 use Rattle.capacity_curve.specs.declared.points.CurveTerms.{CurveTerms}
 use Rattle.capacity_curve.specs.declared.points.Point.{Point}
 use Rattle.bound_report.specs.Reports.{ratio, trace_line}
@@ -16,9 +17,9 @@ point_line denominator point =
     let counts = entry (entry (entry (codes "capacity") point.capacity ++ codes " lru") point.hits ++ codes " bytes") point.bytes in
     entry (ratio (counts ++ codes " upper") point.upper denominator ++ codes " floor") (point.upper / denominator)
 
--- the text of a curve over capacities: the counts of the trace, what is asked for, and a line for each point
-abbrev pub capacity_curve_text : CapacityCurveFacts → List Point → List ℕ
-capacity_curve_text facts points =
-    text_of (trace_line facts.requests facts.objects facts.dropped
-    ∷ asked_line facts.asked
-    ∷ map (point_line facts.asked.denominator) points)
+-- the lines of a curve over capacities: the counts of the trace, what is asked for, and each point
+abbrev pub capacity_curve_lines : CapacityCurveFacts → List Point → Lines
+capacity_curve_lines facts points = record {
+  front = trace_line facts.requests facts.objects facts.dropped ∷ [];
+  back = asked_line facts.asked ∷ map (point_line facts.asked.denominator) points;
+}

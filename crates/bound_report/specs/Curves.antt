@@ -1,7 +1,8 @@
 -- The text of a curve.
-use Rattle.std.specs.Prelude.{ℕ, ◌-◌, Bool, nat_lt, List, ◌∷◌, ◌++◌, codes, map, filter}
+use Rattle.std.specs.Prelude.{ℕ, ◌-◌, Bool, nat_lt, List, [], ◌∷◌, ◌++◌, codes, map, filter}
 use Rattle.std.specs.List.{range_with_len}
-use Rattle.cache_model.specs.Texts.{entry, text_of}
+use Rattle.cache_model.specs.Texts.{entry}
+use Rattle.bound_report.specs.Rendering.{Lines, rendered, uncounted}
 use Rattle.bound_report.specs.Reports.{trace_line}
 use Rattle.bound_report.specs.declared.curves.CurveFacts.{CurveFacts}
 
@@ -17,9 +18,13 @@ adds_hits hits slots = nat_lt (hits (slots - 1)) (hits slots)
 abbrev pub slots_lines : (ℕ → ℕ) → ℕ → List (List ℕ)
 slots_lines hits most = map (λ slots. slots_line slots (hits slots)) (filter (adds_hits hits) (range_with_len 1 most))
 
--- the text of a curve: the counts of the trace, the size of all objects, and where hits are added
+-- the lines of a curve: the counts of the trace, the size of all objects, and where hits are added
+abbrev pub curve_lines : CurveFacts → ℕ → (ℕ → ℕ) → Lines
+curve_lines facts size hits = record {
+  front = trace_line facts.requests facts.objects facts.dropped ∷ [];
+  back = entry (codes "size") size ∷ slots_lines hits facts.objects;
+}
+
+-- the text of a curve without marks
 abbrev pub curve_text : CurveFacts → ℕ → (ℕ → ℕ) → List ℕ
-curve_text facts size hits =
-    text_of (trace_line facts.requests facts.objects facts.dropped
-    ∷ entry (codes "size") size
-    ∷ slots_lines hits facts.objects)
+curve_text facts size hits = rendered uncounted (curve_lines facts size hits)

@@ -7,5 +7,5 @@ pub mod Verdicts
 pub mod Refinements
 pub mod Replays
 pub mod Demos
-pub mod Counted
+pub mod Rendering
 pub mod Judged

@@ -1,4 +1,4 @@
--- The line that tells why a run stopped.
+-- The line that says why a run stopped.
 use Rattle.std.specs.Prelude.{ℕ, List, ◌++◌, codes, decimal, max}
 use Rattle.cache_model.specs.Texts.{entry}
 use Rattle.cert_checker.specs.declared.invalid.InvalidKind.{InvalidKind}
@@ -66,7 +66,7 @@ impossible_text (First request) capacity = entry (codes "request") request ++ co
 impossible_text (Size request size) capacity = entry (entry (entry (codes "request") request ++ codes ": size") size ++ codes " above") capacity ++ codes "\n"
 impossible_text (Load step load) capacity = entry (entry (entry (codes "step") step ++ codes ": load") load ++ codes " above") capacity ++ codes "\n"
 
--- the line that tells why a run stopped; of flags that are too few or too many it names the first line that is missing or too many
+-- the line that says why a run stopped; of flags that are too few or too many it names the first line that is missing or too many
 abbrev pub refusal_line : Refusal → List ℕ
 refusal_line (Invalid line kind) = codes "invalid line " ++ decimal line ++ codes ": " ++ invalid_kind_text kind ++ codes "\n"
 refusal_line (NotFlag line) = entry (codes "invalid line") line ++ codes ": flag\n"

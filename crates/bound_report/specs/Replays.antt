@@ -1,6 +1,7 @@
 -- The text of a replay.
-use Rattle.std.specs.Prelude.{ℕ, ◌==◌, if◌then◌else◌, List, [], ◌∷◌, ◌++◌, codes}
-use Rattle.cache_model.specs.Texts.{entry, line, text_of}
+use Rattle.std.specs.Prelude.{ℕ, List, [], ◌∷◌, ◌++◌, codes}
+use Rattle.cache_model.specs.Texts.{entry}
+use Rattle.bound_report.specs.Rendering.{Lines, rendered, uncounted}
 use Rattle.bound_report.specs.Reports.{trace_line}
 use Rattle.policy_model.specs.declared.names.PolicyName.{PolicyName}
 use Rattle.policy_model.specs.Names.{policy_word}
@@ -15,17 +16,12 @@ abbrev pub hits_line : ℕ → ℕ → List ℕ
 hits_line hits bytes = entry (entry (codes "hits") hits ++ codes " bytes") bytes
 
 -- the three lines of a replay
-abbrev pub replay_lines : ReplayFacts → List (List ℕ)
-replay_lines facts =
-    trace_line facts.requests facts.objects facts.dropped
-    ∷ policy_line facts.policy facts.capacity
-    ∷ hits_line facts.replay.hits facts.replay.bytes
-    ∷ []
+abbrev pub replay_lines : ReplayFacts → Lines
+replay_lines facts = record {
+  front = trace_line facts.requests facts.objects facts.dropped ∷ [];
+  back = policy_line facts.policy facts.capacity ∷ hits_line facts.replay.hits facts.replay.bytes ∷ [];
+}
 
--- the text of a replay
+-- the text of a replay without warm-up and marks
 abbrev pub replay_text : ReplayFacts → List ℕ
-replay_text facts = text_of (replay_lines facts)
-
--- a report, and a last line that names the warm-up, if there is one
-abbrev pub with_warmup : ℕ → List ℕ → List ℕ
-with_warmup warmup text = if warmup == 0 then text else text ++ line (entry (codes "warmup") warmup)
+replay_text facts = rendered uncounted (replay_lines facts)

@@ -3,12 +3,13 @@ use Rattle.std.specs.Prelude.{ℕ, ◌/◌, Bool, List, [], ◌∷◌, ◌++◌,
 use Rattle.cache_model.specs.declared.objects.Objective.{Objective}
 use Rattle.cache_model.specs.declared.certificates.Header.{Header}
 use Rattle.cache_model.specs.Certificates.{units_of}
-use Rattle.cache_model.specs.Texts.{entry, form_word, objective_word, text_of}
+use Rattle.cache_model.specs.Texts.{entry, form_word, objective_word}
 use Rattle.bound_report.specs.declared.facts.Window.{Window}
 use Rattle.bound_report.specs.declared.facts.Window.TheVariants.{All, Steps}
 use Rattle.bound_report.specs.declared.facts.Mode.{Mode}
 use Rattle.bound_report.specs.declared.facts.Mode.TheVariants.{Flow, Constant, Infinite}
 use Rattle.bound_report.specs.declared.facts.BoundFacts.{BoundFacts}
+use Rattle.bound_report.specs.Rendering.{Lines, rendered, uncounted}
 
 -- the word of a window
 abbrev pub window_word : Window → List ℕ
@@ -51,16 +52,14 @@ abbrev pub value_lines : Header → List (List ℕ)
 value_lines h = upper_line h ∷ flow_line h ∷ entry (codes "lower") h.lower ∷ []
 
 -- the eight lines of a report of bounds
-abbrev pub report_lines : BoundFacts → List (List ℕ)
-report_lines facts =
+abbrev pub bound_lines : BoundFacts → Lines
+bound_lines facts =
     let h = facts.header in
-    trace_line h.requests facts.objects facts.dropped
-    ∷ capacity_line h.capacity h.objective
-    ∷ mode_line facts.mode facts.price h.exact
-    ∷ unit_line h
-    ∷ entry (codes "intervals") facts.intervals
-    ∷ value_lines h
+    record {
+      front = trace_line h.requests facts.objects facts.dropped ∷ [];
+      back = capacity_line h.capacity h.objective ∷ mode_line facts.mode facts.price h.exact ∷ unit_line h ∷ entry (codes "intervals") facts.intervals ∷ value_lines h;
+    }
 
--- the text of a report of bounds
+-- the text of a report of bounds without warm-up and marks
 abbrev pub report_text : BoundFacts → List ℕ
-report_text facts = text_of (report_lines facts)
+report_text facts = rendered uncounted (bound_lines facts)

@@ -1,13 +1,13 @@
-//! The text of a curve over capacities.
-ghost use Rattle.std.specs.Prelude.{◌≡◌, ◌<◌, ◌++◌, ◌∷◌, map, IfOk, OnOk};
+//! The report of a curve over capacities.
+ghost use Rattle.std.specs.Prelude.{◌≡◌, ◌<◌, ◌++◌, ◌∷◌, map, OnOk};
 ghost use Rattle.cache_model.specs.Texts.{line, text_of};
-ghost use Rattle.bound_report.specs.CapacityCurves.{asked_line, capacity_curve_text, point_line};
+ghost use Rattle.bound_report.specs.CapacityCurves.{asked_line, point_line};
 
+use crate::rendering::Report;
 use crate::report::{Line, append, push_ratio, trace_line, word_of_objective};
 use bound_base::NoMemory;
 use capacity_curve::{CurveTerms, Point};
 use line_text::LineText;
-use std::alloc::Global;
 
 /// What a curve over capacities is of: the counts of the trace, and what is asked for at each capacity.
 #[derive(Clone, Copy, Debug, PartialEq, Eq)]
@@ -16,6 +16,13 @@ pub struct CapacityCurveFacts {
     pub objects: u32,
     pub dropped: u64,
     pub asked: CurveTerms,
+}
+
+/// What a curve over capacities states: what it is of, and a point at each capacity.
+#[derive(Drop)]
+pub struct CapacityCurveReport<'a> {
+    pub facts: CapacityCurveFacts,
+    pub points: &'a [Point],
 }
 
 fn asked_line(asked: &CurveTerms) -> Line
@@ -52,21 +59,24 @@ fn append_points(text: &mut Vec<u8>, points: &[Point], denominator: u64) -> Resu
     Ok(())
 }
 
-/// The report of a curve over capacities.
-pub fn capacity_curve_text(
-    alloc: Global,
-    facts: &CapacityCurveFacts,
-    points: &[Point],
-) -> Result<Vec<u8>, NoMemory>
-    requires { 0 < facts.now.asked.denominator }
-    ensures { IfOk result (λ text. text.items ≡ capacity_curve_text facts.now points.now) }
-{
-    let mut text = Vec::new(alloc);
-    append(
-        &mut text,
-        &trace_line(facts.requests, facts.objects, facts.dropped),
-    )?;
-    append(&mut text, &asked_line(&facts.asked))?;
-    append_points(&mut text, points, facts.asked.denominator)?;
-    Ok(text)
+impl<'a> Report for CapacityCurveReport<'a> {
+    ghost use Rattle.std.specs.Prelude.{◌<◌};
+    ghost use Rattle.bound_report.specs.CapacityCurves.{capacity_curve_lines};
+
+    ghost lines = { λ r. capacity_curve_lines r.facts r.points.now };
+
+    ghost is_sound = { λ r. 0 < r.facts.asked.denominator };
+
+    fn append_front(&self, text: &mut Vec<u8>) -> Result<(), NoMemory> {
+        let facts = &self.facts;
+        append(
+            text,
+            &trace_line(facts.requests, facts.objects, facts.dropped),
+        )
+    }
+
+    fn append_back(&self, text: &mut Vec<u8>) -> Result<(), NoMemory> {
+        append(text, &asked_line(&self.facts.asked))?;
+        append_points(text, self.points, self.facts.asked.denominator)
+    }
 }

@@ -1,9 +1,10 @@
-//! The text of a curve.
+//! The report of a curve.
 ghost use Rattle.std.specs.Prelude.{◌≡◌, ◌++◌, IfOk, OnOk};
 ghost use Rattle.cache_model.specs.Texts.{line, text_of};
 ghost use Rattle.stack_curve.specs.Curves.{hits_with};
 ghost use Rattle.bound_report.specs.Curves.{curve_text, slots_line, slots_lines};
 
+use crate::rendering::{Counting, Report, render};
 use crate::report::{Line, append, entry_line, trace_line};
 use bound_base::NoMemory;
 use line_text::LineText;
@@ -16,6 +17,13 @@ pub struct CurveFacts {
     pub requests: u32,
     pub objects: u32,
     pub dropped: u64,
+}
+
+/// What a curve states: the counts of the trace, and the hits at each number of slots.
+#[derive(Drop)]
+pub struct CurveReport<'a> {
+    pub facts: CurveFacts,
+    pub curve: &'a Curve,
 }
 
 fn slots_line(slots: u32, hits: u64) -> Line
@@ -40,16 +48,35 @@ fn append_slots(text: &mut Vec<u8>, most: u32, curve: &Curve) -> Result<(), NoMe
     Ok(())
 }
 
-/// The report of a curve.
+impl<'a> Report for CurveReport<'a> {
+    ghost use Rattle.stack_curve.specs.Curves.{hits_with};
+    ghost use Rattle.bound_report.specs.Curves.{curve_lines};
+
+    ghost lines = { λ r. curve_lines r.facts r.curve.now.size (hits_with r.curve.now) };
+
+    ghost is_sound = { λ r. Unit {0} };
+
+    fn append_front(&self, text: &mut Vec<u8>) -> Result<(), NoMemory> {
+        let facts = &self.facts;
+        append(
+            text,
+            &trace_line(facts.requests, facts.objects, facts.dropped),
+        )
+    }
+
+    fn append_back(&self, text: &mut Vec<u8>) -> Result<(), NoMemory> {
+        append(text, &entry_line(b"size", u128::from(self.curve.size())))?;
+        append_slots(text, self.facts.objects, self.curve)
+    }
+}
+
+/// The report of a curve without marks.
 pub fn curve_text(alloc: Global, facts: &CurveFacts, curve: &Curve) -> Result<Vec<u8>, NoMemory>
     ensures { IfOk result (λ text. text.items ≡ curve_text facts.now curve.now.size (hits_with curve.now)) }
 {
-    let mut text = Vec::new(alloc);
-    append(
-        &mut text,
-        &trace_line(facts.requests, facts.objects, facts.dropped),
-    )?;
-    append(&mut text, &entry_line(b"size", curve.size() as u128))?;
-    append_slots(&mut text, facts.objects, curve)?;
-    Ok(text)
+    let report = CurveReport {
+        facts: *facts,
+        curve,
+    };
+    render(alloc, &report, Counting::every())
 }

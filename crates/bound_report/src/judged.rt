@@ -1,14 +1,14 @@
-//! The text of hits that a simulator claims.
-ghost use Rattle.std.specs.Prelude.{◌≡◌, IfOk};
+//! The report of hits that a simulator claims.
+ghost use Rattle.std.specs.Prelude.{◌≡◌};
 ghost use Rattle.cache_model.specs.Texts.{line};
-ghost use Rattle.bound_report.specs.Judged.{judged_text, possible_line};
+ghost use Rattle.bound_report.specs.Judged.{possible_line};
 
+use crate::rendering::Report;
 use crate::replays::hits_line;
 use crate::report::{Line, append, entry_line, trace_line};
 use bound_base::NoMemory;
 use hit_judge::Claimed;
 use line_text::LineText;
-use std::alloc::Global;
 
 /// What a report of possible hits states: the counts of the trace, the capacity in bytes, and the claimed hits with their
 /// bytes.
@@ -29,23 +29,23 @@ fn possible_line() -> Line
     text
 }
 
-/// The report of possible hits.
-pub fn judged_text(alloc: Global, facts: &JudgedFacts) -> Result<Vec<u8>, NoMemory>
-    ensures { IfOk result (λ text. text.items ≡ judged_text facts.now) }
-{
-    let mut text = Vec::new(alloc);
-    append(
-        &mut text,
-        &trace_line(facts.requests, facts.objects, facts.dropped),
-    )?;
-    append(
-        &mut text,
-        &entry_line(b"judged capacity", facts.capacity as u128),
-    )?;
-    append(
-        &mut text,
-        &hits_line(facts.claimed.hits, facts.claimed.bytes),
-    )?;
-    append(&mut text, &possible_line())?;
-    Ok(text)
+impl Report for JudgedFacts {
+    ghost use Rattle.bound_report.specs.Judged.{judged_lines};
+
+    ghost lines = { λ facts. judged_lines facts };
+
+    ghost is_sound = { λ facts. Unit {0} };
+
+    fn append_front(&self, text: &mut Vec<u8>) -> Result<(), NoMemory> {
+        append(text, &trace_line(self.requests, self.objects, self.dropped))
+    }
+
+    fn append_back(&self, text: &mut Vec<u8>) -> Result<(), NoMemory> {
+        append(
+            text,
+            &entry_line(b"judged capacity", u128::from(self.capacity)),
+        )?;
+        append(text, &hits_line(self.claimed.hits, self.claimed.bytes))?;
+        append(text, &possible_line())
+    }
 }

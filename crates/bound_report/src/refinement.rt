@@ -1,14 +1,21 @@
-//! The text of a refinement.
-ghost use Rattle.std.specs.Prelude.{◌≡◌, ◌<◌, IfOk};
-ghost use Rattle.bound_report.specs.Refinements.{refined_line, refined_text};
+//! The report of a refinement.
+ghost use Rattle.std.specs.Prelude.{◌≡◌};
+ghost use Rattle.bound_report.specs.Refinements.{refined_line};
 ghost use Rattle.cache_model.specs.Texts.{line};
 
-use crate::report::{Line, append, append_verdict, push_ratio};
+use crate::rendering::Report;
+use crate::report::{Line, append, push_ratio};
+use crate::verdict::CheckFacts;
 use bound_base::NoMemory;
 use cache_model::Header;
-use cert_checker::Verdict;
 use line_text::LineText;
-use std::alloc::Global;
+
+/// What a refinement states: the numerator of the bound that was read, and a yes of the certificate that is written.
+#[derive(Clone, Copy, Debug, PartialEq, Eq)]
+pub struct RefinementFacts {
+    pub read_upper: u128,
+    pub check: CheckFacts,
+}
 
 // The bound that was read and the refined one.
 fn refined_line(read_upper: u128, header: &Header) -> Line
@@ -21,20 +28,21 @@ fn refined_line(read_upper: u128, header: &Header) -> Line
     text
 }
 
-/// The report of a refinement: the numerator of the bound that was read, and what a check says of the refined
-/// certificate, if the trace has this number of dropped lines.
-pub fn refined_text(
-    alloc: Global,
-    read_upper: u128,
-    verdict: &Verdict,
-    dropped: u64,
-) -> Result<Vec<u8>, NoMemory>
-    requires unit { 0 < verdict.now.header.unit }
-    requires denominator { 0 < verdict.now.header.denominator }
-    ensures { IfOk result (λ text. text.items ≡ refined_text read_upper verdict.now dropped) }
-{
-    let mut text = Vec::new(alloc);
-    append(&mut text, &refined_line(read_upper, &verdict.header))?;
-    append_verdict(&mut text, verdict, dropped)?;
-    Ok(text)
+impl Report for RefinementFacts {
+    ghost use Rattle.std.specs.Prelude.{◌<◌};
+    ghost use Rattle.bound_report.specs.Refinements.{refined_lines};
+
+    ghost lines = { λ facts. refined_lines facts.read_upper facts.check.verdict facts.check.dropped };
+
+    ghost is_sound = { λ facts. (0 < facts.check.verdict.header.unit) × (0 < facts.check.verdict.header.denominator) };
+
+    fn append_front(&self, text: &mut Vec<u8>) -> Result<(), NoMemory> {
+        let header = &self.check.verdict.header;
+        append(text, &refined_line(self.read_upper, header))?;
+        self.check.append_front(text)
+    }
+
+    fn append_back(&self, text: &mut Vec<u8>) -> Result<(), NoMemory> {
+        self.check.append_back(text)
+    }
 }

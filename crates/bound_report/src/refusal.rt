@@ -1,4 +1,4 @@
-//! The line that tells why a run stopped. It takes no memory.
+//! The line that says why a run stopped. It takes no memory.
 ghost use Rattle.std.specs.Prelude.{◌≡◌, ◌+◌, ◌≤◌, ◌++◌, length};
 ghost use Rattle.cache_model.specs.Texts.{entry};
 ghost use Rattle.bound_report.specs.Refusals.{impossible_text, invalid_kind_text, limit_text, line_kind_text, refusal_line, word_kind_text};
@@ -209,7 +209,7 @@ fn push_impossible(text: &mut RefusalText, cause: Impossible, capacity: u64)
     }
 }
 
-/// The line that tells why a run stopped, with its end.
+/// The line that says why a run stopped, with its end.
 pub fn refusal_text(refusal: &Refusal) -> RefusalText
     ensures { result ≡ refusal_line refusal.now }
 {

@@ -1,9 +1,10 @@
-//! The text of a replay.
-ghost use Rattle.std.specs.Prelude.{◌≡◌, ◌<◌, IfOk, OnErr, OnOk};
+//! The report of a replay.
+ghost use Rattle.std.specs.Prelude.{◌≡◌, IfOk};
 ghost use Rattle.cache_model.specs.Texts.{line};
-ghost use Rattle.bound_report.specs.Replays.{hits_line, policy_line, replay_text, with_warmup};
+ghost use Rattle.bound_report.specs.Replays.{hits_line, policy_line, replay_text};
 
-use crate::report::{Line, append, entry_line, trace_line};
+use crate::rendering::{Counting, Report, render};
+use crate::report::{Line, append, trace_line};
 use bound_base::NoMemory;
 use line_text::LineText;
 use policy_model::PolicyName;
@@ -42,28 +43,26 @@ pub(crate) fn hits_line(hits: u64, bytes: u128) -> Line
     text
 }
 
-/// The report of a replay.
+impl Report for ReplayFacts {
+    ghost use Rattle.bound_report.specs.Replays.{replay_lines};
+
+    ghost lines = { λ facts. replay_lines facts };
+
+    ghost is_sound = { λ facts. Unit {0} };
+
+    fn append_front(&self, text: &mut Vec<u8>) -> Result<(), NoMemory> {
+        append(text, &trace_line(self.requests, self.objects, self.dropped))
+    }
+
+    fn append_back(&self, text: &mut Vec<u8>) -> Result<(), NoMemory> {
+        append(text, &policy_line(self.policy, self.capacity))?;
+        append(text, &hits_line(self.replay.hits, self.replay.bytes))
+    }
+}
+
+/// The report of a replay without warm-up and marks.
 pub fn replay_text(alloc: Global, facts: &ReplayFacts) -> Result<Vec<u8>, NoMemory>
     ensures { IfOk result (λ text. text.items ≡ replay_text facts.now) }
 {
-    let mut text = Vec::new(alloc);
-    append(
-        &mut text,
-        &trace_line(facts.requests, facts.objects, facts.dropped),
-    )?;
-    append(&mut text, &policy_line(facts.policy, facts.capacity))?;
-    append(&mut text, &hits_line(facts.replay.hits, facts.replay.bytes))?;
-    Ok(text)
-}
-
-/// Appends the last line of a report whose hits count from a warm-up on, if there is one.
-pub fn push_warmup(text: &mut Vec<u8>, warmup: u32) -> Result<(), NoMemory>
-    ensures text { OnOk result (text.new.items ≡ with_warmup warmup text.old.items) }
-    ensures kept { OnErr result (text.new.items ≡ text.old.items) }
-    ensures none_needed { OnErr result (0 < warmup) }
-{
-    if warmup == 0 {
-        return Ok(());
-    }
-    append(text, &entry_line(b"warmup", warmup as u128))
+    render(alloc, facts, Counting::every())
 }

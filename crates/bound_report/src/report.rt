@@ -1,13 +1,12 @@
-//! The texts of a report of bounds and of a check's yes.
+//! The report of bounds, and the lines that it shares with other reports.
 ghost use Rattle.std.specs.Prelude.{◌≡◌, ◌<◌, ◌≤◌, ◌+◌, ◌++◌, codes, length, OnErr, OnOk, IfOk};
 ghost use Rattle.bound_report.specs.Reports.{capacity_line, flow_line, mode_line, ratio, report_text, trace_line, unit_line, upper_line, value_lines, window_word};
-ghost use Rattle.bound_report.specs.Verdicts.{verdict_text};
 ghost use Rattle.cache_model.specs.Texts.{entry, form_word, line, objective_word, text_of};
 
 use crate::facts::{BoundFacts, Mode, Window};
+use crate::rendering::{Counting, Report, render};
 use bound_base::NoMemory;
 use cache_model::{Header, Objective};
-use cert_checker::Verdict;
 use line_text::LineText;
 use std::alloc::Global;
 
@@ -28,8 +27,8 @@ pub(crate) fn word_of_objective(objective: Objective) -> &'static [u8]
     }
 }
 
-// The word of the form.
-fn word_of_form(exact: bool) -> &'static [u8]
+/// The word of the form.
+pub(crate) fn word_of_form(exact: bool) -> &'static [u8]
     ensures word { result.now ≡ form_word exact }
     ensures short { length result.now ≤ 5 }
 {
@@ -47,7 +46,8 @@ pub(crate) fn trace_line(requests: u32, objects: u32, dropped: u64) -> Line
     text
 }
 
-fn capacity_line(capacity: u64, objective: Objective) -> Line
+/// The capacity and the objective.
+pub(crate) fn capacity_line(capacity: u64, objective: Objective) -> Line
     ensures { result ≡ line (capacity_line capacity objective) }
 {
     let mut text = LineText::new();
@@ -95,7 +95,8 @@ fn mode_line(facts: &BoundFacts) -> Line
     text
 }
 
-fn unit_line(header: &Header) -> Line
+/// The unit, how many of them the capacity has, and the denominator.
+pub(crate) fn unit_line(header: &Header) -> Line
     requires { 0 < header.now.unit }
     ensures { result ≡ line (unit_line header.now) }
 {
@@ -146,15 +147,6 @@ pub(crate) fn entry_line(word: &[u8], number: u128) -> Line
     text
 }
 
-fn form_line(exact: bool) -> Line
-    ensures { result ≡ line (codes "form " ++ form_word exact) }
-{
-    let mut text = LineText::new();
-    text.push(b"form ");
-    text.push_line(word_of_form(exact));
-    text
-}
-
 /// Appends a line.
 pub(crate) fn append(text: &mut Vec<u8>, line: &Line) -> Result<(), NoMemory>
     ensures text { OnOk result (text.new.items ≡ text.old.items ++ line.now) }
@@ -164,8 +156,8 @@ pub(crate) fn append(text: &mut Vec<u8>, line: &Line) -> Result<(), NoMemory>
     Ok(())
 }
 
-// Appends the upper bound, the value of the flows, and the lower bound.
-fn append_value_lines(text: &mut Vec<u8>, header: &Header) -> Result<(), NoMemory>
+/// Appends the upper bound, the value of the flows, and the lower bound.
+pub(crate) fn append_value_lines(text: &mut Vec<u8>, header: &Header) -> Result<(), NoMemory>
     requires { 0 < header.now.denominator }
     ensures { OnOk result (text.new.items ≡ text.old.items ++ text_of (value_lines header.now)) }
 {
@@ -175,56 +167,37 @@ fn append_value_lines(text: &mut Vec<u8>, header: &Header) -> Result<(), NoMemor
     Ok(())
 }
 
-/// The report of bounds.
+impl Report for BoundFacts {
+    ghost use Rattle.std.specs.Prelude.{◌<◌};
+    ghost use Rattle.bound_report.specs.Reports.{bound_lines};
+
+    ghost lines = { λ facts. bound_lines facts };
+
+    ghost is_sound = { λ facts. (0 < facts.header.unit) × (0 < facts.header.denominator) };
+
+    fn append_front(&self, text: &mut Vec<u8>) -> Result<(), NoMemory> {
+        append(
+            text,
+            &trace_line(self.header.requests, self.objects, self.dropped),
+        )
+    }
+
+    fn append_back(&self, text: &mut Vec<u8>) -> Result<(), NoMemory> {
+        let header = &self.header;
+        append(text, &capacity_line(header.capacity, header.objective))?;
+        append(text, &mode_line(self))?;
+        append(text, &unit_line(header))?;
+        append(text, &entry_line(b"intervals", u128::from(self.intervals)))?;
+        append_value_lines(text, header)?;
+        Ok(())
+    }
+}
+
+/// The report of bounds without warm-up and marks.
 pub fn report_text(alloc: Global, facts: &BoundFacts) -> Result<Vec<u8>, NoMemory>
     requires unit { 0 < facts.now.header.unit }
     requires denominator { 0 < facts.now.header.denominator }
     ensures { IfOk result (λ text. text.items ≡ report_text facts.now) }
 {
-    let header = &facts.header;
-    let mut text = Vec::new(alloc);
-    append(
-        &mut text,
-        &trace_line(header.requests, facts.objects, facts.dropped),
-    )?;
-    append(&mut text, &capacity_line(header.capacity, header.objective))?;
-    append(&mut text, &mode_line(facts))?;
-    append(&mut text, &unit_line(header))?;
-    append(
-        &mut text,
-        &entry_line(b"intervals", facts.intervals as u128),
-    )?;
-    append_value_lines(&mut text, header)?;
-    Ok(text)
-}
-
-/// Appends what a check says of a valid certificate, if the trace has this number of dropped lines.
-pub(crate) fn append_verdict(
-    text: &mut Vec<u8>,
-    verdict: &Verdict,
-    dropped: u64,
-) -> Result<(), NoMemory>
-    requires unit { 0 < verdict.now.header.unit }
-    requires denominator { 0 < verdict.now.header.denominator }
-    ensures { OnOk result (text.new.items ≡ text.old.items ++ verdict_text verdict.now dropped) }
-{
-    let header = &verdict.header;
-    append(text, &trace_line(header.requests, verdict.objects, dropped))?;
-    append(text, &capacity_line(header.capacity, header.objective))?;
-    append(text, &form_line(header.exact))?;
-    append(text, &unit_line(header))?;
-    append_value_lines(text, header)?;
-    text.extend_from_slice(b"valid\n")?;
-    Ok(())
-}
-
-/// What a check says of a valid certificate, if the trace has this number of dropped lines.
-pub fn verdict_text(alloc: Global, verdict: &Verdict, dropped: u64) -> Result<Vec<u8>, NoMemory>
-    requires unit { 0 < verdict.now.header.unit }
-    requires denominator { 0 < verdict.now.header.denominator }
-    ensures { IfOk result (λ text. text.items ≡ verdict_text verdict.now dropped) }
-{
-    let mut text = Vec::new(alloc);
-    append_verdict(&mut text, verdict, dropped)?;
-    Ok(text)
+    render(alloc, facts, Counting::every())
 }

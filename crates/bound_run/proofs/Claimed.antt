@@ -1,5 +1,5 @@
 -- What possible flags are worth, and what stops a reading that is whole.
-use Rattle.std.proofs.Common.{◌≡◌, ◌∙◌, ℕ, suc, ◌+◌, ◌*◌, ◌/◌, ◌≤◌, sym, ap, subst, refl, arith, Bool, true, false, List, [], ◌∷◌, length, map, Option, Some, None, IfSome}
+use Rattle.std.proofs.Common.{◌≡◌, ◌∙◌, ℕ, ◌+◌, ◌/◌, ◌≤◌, sym, ap, subst, refl, arith, Bool, false, List, [], ◌∷◌, length, map, Option, Some, None, IfSome}
 use Rattle.std.specs.Option.{is_some, unwrap_or}
 use Rattle.std.specs.Prelude.{IsSome}
 use Rattle.std.proofs.Math.Nat.{mul-div-le, mul-le-mul_left}
@@ -8,29 +8,24 @@ use Rattle.bound_io.specs.Devices.{Device, HasFailed}
 use Rattle.cache_model.specs.declared.objects.Object.{Object}
 use Rattle.cache_model.specs.declared.objects.Objective.{Objective}
 use Rattle.cache_model.specs.declared.objects.Objective.TheVariants.{Object as Hits, Bytes}
-use Rattle.cache_model.specs.declared.certificates.Header.{Header}
-use Rattle.cache_model.specs.declared.certificates.Record.{Record}
-use Rattle.cache_model.specs.Certificates.{IsValid}
 use Rattle.cache_model.specs.Claim.{terms_from}
 use Rattle.cache_rules.specs.Stored.{Requests}
 use Rattle.judge_laws.specs.Flags.{IsPossible, claimed}
 use Rattle.judge_laws.proofs.Claimed.{claimed_is_bounded}
-use Rattle.trace_any.specs.declared.fault.TraceFault.{TraceFault as FaultOfTrace}
 use Rattle.trace_any.specs.declared.fault.TraceFault.TheVariants as of_trace
 use Rattle.trace_any.specs.declared.format.Format.{Format}
-use Rattle.trace_any.specs.Readings.{Reading, full_limits, reading}
+use Rattle.trace_any.specs.Readings.{full_limits, reading}
 use Rattle.hit_flags.specs.declared.fault.FlagFault.{FlagFault}
 use Rattle.hit_flags.specs.declared.fault.FlagFault.TheVariants as flag
 use Rattle.hit_flags.specs.Claims.{AreRead, IsStop}
 use Rattle.hit_flags.specs.Flags.{by_turns, flags_in, stop_of}
 use Rattle.bound_report.specs.declared.refusal.LimitName.TheVariants.{Requests as MostRequests, TraceBytes, Denominator}
-use Rattle.bound_report.specs.declared.refusal.Refusal.{Refusal}
 use Rattle.bound_words.specs.declared.settings.JudgeSettings.{JudgeSettings}
 use Rattle.bound_run.specs.declared.status.Status.{Status}
 use Rattle.bound_run.specs.declared.status.Status.TheVariants.{Done, Invalid, Words, BadLine, Limit, TraceFault, CertFault, ReportFault, MadeFault, NoMemory, Unequal, NotFlag, FlagCount, Impossible}
-use Rattle.bound_run.specs.Judgements.{ArePossible, IsImpossible, IsJudged, claimed_by}
-use Rattle.bound_run.specs.Refusals.{RefusesJudge, RefusesReading}
-use Rattle.bound_run.specs.Replays.{IsUnder, IsWithinBounds, earned_by}
+use Rattle.bound_run.specs.Judgements.{ArePossible, IsJudged, claimed_by}
+use Rattle.bound_run.specs.Refusals.{RefusesJudge}
+use Rattle.bound_run.specs.Replays.{IsWithinBounds, earned_by}
 use Rattle.bound_run.specs.Run.{AnswersJudge, JudgeEnds}
 use Rattle.bound_run.specs.Statuses.{ending_of, refusal_of_flags}
 use Rattle.hit_flags.specs.Claims.{AreUnread}

@@ -30,7 +30,6 @@ use Rattle.cert_checker.specs.Walks as walks
 use Rattle.cert_checker.proofs.Walked.{passing_is_valid_lem}
 use Rattle.bound_words.specs.declared.settings.BoundSettings.{BoundSettings}
 use Rattle.bound_words.specs.declared.settings.DrawSettings.{DrawSettings}
-use Rattle.bound_words.specs.declared.settings.ReplaySettings.{ReplaySettings}
 use Rattle.bound_words.specs.declared.words.Plan.{Plan}
 use Rattle.bound_words.specs.declared.words.WordFault.{WordFault}
 use Rattle.bound_run.specs.declared.status.Status.{Status}

@@ -3,16 +3,16 @@ use Rattle.std.proofs.Common.{◌≡◌, ◌∙◌, ℕ, ◌-◌, ◌/◌, ◌==
 use Rattle.std.specs.List.{range_with_len}
 use Rattle.std.proofs.lemmas.List.Elements.{filter_agree}
 use Rattle.cache_rules.specs.Stored.{Requests}
-use Rattle.cache_model.specs.Texts.{entry, text_of}
+use Rattle.cache_model.specs.Texts.{entry}
 use Rattle.stack_curve.specs.Curves.{IsCurve, IsOfLru, Points, first_size, hits_with}
 use Rattle.stack_curve.specs.Distances.{curve_hits}
 use Rattle.stack_curve.specs.Laws.{HaveSize}
 use Rattle.bound_report.specs.Reports.{trace_line}
 use Rattle.bound_report.specs.declared.curves.CurveFacts.{CurveFacts}
-use Rattle.bound_report.specs.Curves.{adds_hits, curve_text, slots_line, slots_lines}
-use Rattle.bound_report.specs.Counted.{with_counted}
-use Rattle.cert_checker.specs.Counting.{counted_in}
+use Rattle.bound_report.specs.Curves.{adds_hits, curve_lines, slots_line, slots_lines}
+use Rattle.bound_report.specs.Rendering.{rendered}
 use Rattle.trace_any.specs.declared.format.Format.{Format}
+use Rattle.bound_run.specs.Countings.{counting_from}
 use Rattle.bound_run.specs.Curves.{IsCurveText, curve_facts}
 
 -- two functions that agree give the same list
@@ -29,13 +29,13 @@ slots_lines-agree f g same most =
 
 -- the report of a curve, from what the curve is
 pub curve_shown : (format : Format) (trace : Requests) (dropped : ℕ) (points : Points) (text : List ℕ) → HaveSize (first_size trace.objects) trace.objects → IsCurve trace.objects trace.fills points → IsOfLru trace.objects trace.fills points
-    → text ≡ with_counted (counted_in format 0 trace) (curve_text (curve_facts trace dropped) points.size (hits_with points)) → IsCurveText format trace dropped text
+    → text ≡ rendered (counting_from format 0 trace) (curve_lines (curve_facts trace dropped) points.size (hits_with points)) → IsCurveText format trace dropped text
 curve_shown format trace dropped points text one_size of_trace of_lru is =
     let facts : CurveFacts = curve_facts trace dropped in
     record {
       one_size = one_size;
-      text_is = is ∙ ap (with_counted (counted_in format 0 trace)) (ap (λ s. curve_text facts s (hits_with points)) of_trace.size_is
-          ∙ ap (λ ls. text_of (trace_line facts.requests facts.objects facts.dropped ∷ entry (codes "size") (first_size trace.objects) ∷ ls)) (slots_lines-agree (hits_with points) (curve_hits trace.objects trace.fills) of_trace.hits_are facts.objects));
+      text_is = is ∙ ap (rendered (counting_from format 0 trace)) (ap (λ s. curve_lines facts s (hits_with points)) of_trace.size_is
+          ∙ ap (λ ls. record { front = trace_line facts.requests facts.objects facts.dropped ∷ []; back = entry (codes "size") (first_size trace.objects) ∷ ls }) (slots_lines-agree (hits_with points) (curve_hits trace.objects trace.fills) of_trace.hits_are facts.objects));
       of_lru = λ capacity positive.
           ap (λ n. cond (first_size trace.objects == 0) 0 n) (sym (of_trace.hits_are (capacity / first_size trace.objects)))
           ∙ ap (λ s. cond (s == 0) 0 (hits_with points (capacity / s))) (sym of_trace.size_is)

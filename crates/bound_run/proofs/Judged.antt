@@ -24,6 +24,7 @@ use Rattle.cert_checker.specs.Keeping.{Checked, HasKept}
 use Rattle.cert_checker.specs.Counting.{counted_in}
 use Rattle.trace_any.specs.Loads.{IsLoaded}
 use Rattle.bound_run.specs.Readings.{IsAccepted, IsVerdictText}
+use Rattle.bound_run.specs.Countings.{counting_of}
 use Rattle.bound_run.specs.Reports.{verdict_report}
 use Rattle.bound_run.specs.Refusals.{RefusesCheck}
 use Rattle.bound_run.specs.Refined.{IsKept}
@@ -67,14 +68,14 @@ module _ (format : Format) (start end : Inputs) (new : start.reader ≡ fresh fo
 
   -- and so is the text of it
   pub said : (verdict : Verdict) (dropped : ℕ) (counted : Option ℕ) (text : List ℕ) (passed : IsPassed start end verdict) → end.reader.dropped ≡ dropped
-      → counted ≡ counted_in format verdict.header.warmup passed.requests → text ≡ verdict_report counted verdict dropped
+      → counted ≡ counted_in format verdict.header.warmup passed.requests → text ≡ verdict_report (record { warmup = verdict.header.warmup; counted = counted }) verdict dropped
       → IsVerdictText format (device start.trace end.trace start.trace_faults end.trace_faults) (device start.certificate end.certificate start.certificate_faults end.certificate_faults) text
   unfolding accepted
   said verdict dropped counted text passed same number shown = record {
     verdict = verdict;
     dropped = end.reader.dropped;
     accepted = accepted verdict passed;
-    text_is = shown ∙ ap (λ n. verdict_report n verdict dropped) number ∙ ap (verdict_report (counted_in format verdict.header.warmup passed.requests) verdict) (sym same);
+    text_is = shown ∙ ap (λ n. verdict_report (record { warmup = verdict.header.warmup; counted = n }) verdict dropped) number ∙ ap (verdict_report (counting_of format verdict.header passed.requests) verdict) (sym same);
   }
 
   -- so is one of what is kept

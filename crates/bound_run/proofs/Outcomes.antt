@@ -1,21 +1,16 @@
 -- How a run ends, from how its parts end.
-use Rattle.std.proofs.Common.{◌≡◌, ℕ, refl, ap, arith, length, length-append, List, [], ◌++◌, Some, None, IfSome}
+use Rattle.std.proofs.Common.{◌≡◌, ℕ, refl, List, Some, None, IfSome}
 use Rattle.std.specs.declared.option.Option.{Option}
-use Rattle.std.specs.Option.{is_some, unwrap_or}
-use Rattle.std.proofs.lemmas.Bool.{false≢true}
-use Rattle.std.proofs.lemmas.List.{nil_from_length}
-use Rattle.bound_io.specs.Lines.{stands_in}
 use Rattle.bound_io.specs.Devices.{device, Device, Gets, IsUntouched}
 use Rattle.cache_rules.specs.Stored.{Requests as Trail}
 use Rattle.trace_any.specs.declared.fault.TraceFault.{TraceFault as FaultOfTrace}
 use Rattle.trace_any.specs.declared.fault.TraceFault.TheVariants as trace
 use Rattle.trace_any.specs.declared.format.Format.{Format}
 use Rattle.trace_any.specs.Readings.{full_limits}
-use Rattle.trace_any.specs.Readers.{IsNotLoaded, IsWhole, fresh, to_come, known}
+use Rattle.trace_any.specs.Readers.{IsNotLoaded, fresh, to_come, known}
 use Rattle.trace_any.proofs.Coming.{fresh_to_come}
 use Rattle.bound_words.specs.declared.settings.BoundSettings.{BoundSettings}
 use Rattle.bound_words.specs.declared.settings.DrawSettings.{DrawSettings}
-use Rattle.bound_words.specs.declared.settings.ReplaySettings.{ReplaySettings}
 use Rattle.bound_run.specs.declared.bounds.BoundsFault.{BoundsFault}
 use Rattle.bound_run.specs.declared.bounds.BoundsFault.TheVariants as bounds
 use Rattle.bound_run.specs.BoundsFaults.{FailsBounds}
@@ -28,12 +23,10 @@ use Rattle.bound_report.specs.declared.refusal.Refusal.{Refusal}
 use Rattle.bound_report.specs.declared.refusal.Refusal.TheVariants as refusal
 use Rattle.bound_report.specs.Refusals.{refusal_line}
 use Rattle.bound_run.specs.Statuses.{Ending, done, refused, unreported, ending_of, refusal_of, refusal_of_bounds, refusal_of_curve, status_of}
-use Rattle.bound_run.specs.Demos.{IsDemoText, trace_drawn}
+use Rattle.bound_run.specs.Demos.{trace_drawn}
 use Rattle.bound_run.specs.Refusals.{RefusesDemo, RefusesBounds, RefusesCurve, RefusesLoading}
 use Rattle.trace_any.specs.Loads.{IsLoaded, IsRefused}
-use Rattle.bound_run.specs.Readings.{IsReady, IsReplayed, IsCurved, IsVerdictText}
-use Rattle.bound_words.specs.declared.settings.JudgeSettings.{JudgeSettings}
-use Rattle.bound_run.specs.Judgements.{IsJudged}
+use Rattle.bound_run.specs.Readings.{IsReady}
 use Rattle.bound_run.specs.Run.{MakesEnd, ReportsEnd}
 use Rattle.bound_run.specs.Writings.{WritesOut, WritesReport}
 
@@ -71,7 +64,7 @@ pub loading_refuses : (format : Format) (asked : BoundSettings) (d : Device) (wh
 loading_refuses format asked d (refusal.Limit Denominator) e = absurd e
 loading_refuses format asked d why e = e
 
--- a refusal is what its status tells
+-- a refusal is that of its status
 pub ending_of-status_of : (why : Refusal) → ending_of (status_of why) ≡ refused why
 ending_of-status_of (refusal.Invalid line kind) = refl
 ending_of-status_of (refusal.NotFlag line) = refl

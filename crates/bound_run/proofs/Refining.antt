@@ -22,8 +22,8 @@ use Rattle.interval_maker.specs.Timelines.{Timeline, timeline_of}
 use Rattle.price_refine.specs.Blocks.{AreSettled}
 use Rattle.bound_report.specs.declared.refusal.Refusal.TheVariants as refusal
 use Rattle.bound_run.specs.Refusals.{RefusesCheck}
-use Rattle.cert_checker.specs.Counting.{counted_in}
 use Rattle.bound_run.specs.Refined.{AreRefinedTexts, IsRefinable, IsRefined, IsRefinement, RefinesPrices, verdict_on, with_price, with_prices, with_upper}
+use Rattle.bound_run.specs.Countings.{counting_of}
 use Rattle.bound_run.specs.Reports.{refined_report}
 use Rattle.bound_run.proofs.HeaderRanges.{still_in_range}
 use Rattle.bound_run.proofs.MadeOf.{some_units}
@@ -170,7 +170,7 @@ module _ (width : ℕ) (trace : Requests) (h : Header) (records : List Record) (
   }
 
   -- the texts of the certificate and the report
-  pub refined_texts : (format : Format) (dropped : ℕ) (cert report : List ℕ) → cert ≡ cert_text made refined → report ≡ refined_report (counted_in format h.warmup trace) h.upper (verdict_on trace made) dropped → AreRefinedTexts format width trace dropped h records cert report
+  pub refined_texts : (format : Format) (dropped : ℕ) (cert report : List ℕ) → cert ≡ cert_text made refined → report ≡ refined_report (counting_of format h trace) h.upper (verdict_on trace made) dropped → AreRefinedTexts format width trace dropped h records cert report
   refined_texts format dropped cert report cert_is report_is = record { made = made; refined = refined; refinement = refinement; cert_is = cert_is; report_is = report_is }
 
 -- ---- the run

@@ -25,8 +25,8 @@ use Rattle.constant_price.specs.Constants.{IsLeastConstant, constant_prices}
 use Rattle.schedule_round.specs.Laws.{IsBestSchedule, full_flags}
 use Rattle.window_bounds.specs.Solutions.{AreSolutions, prices_in, value_of_windows, window_count}
 use Rattle.bound_words.specs.declared.settings.BoundSettings.{BoundSettings}
-use Rattle.cert_checker.specs.Counting.{counted_in}
 use Rattle.trace_any.specs.declared.format.Format.{Format}
+use Rattle.bound_run.specs.Countings.{counting_of}
 use Rattle.bound_run.specs.Reports.{bounds_report}
 
 -- how many steps a window has
@@ -100,7 +100,7 @@ pub record AreTexts (format : Format) (asked : BoundSettings) (trace : Requests)
   pub records : List Record
   pub made : IsMade asked trace price header records
   pub cert_is : cert ≡ cert_text header records
-  pub report_is : report ≡ bounds_report (counted_in format asked.terms.warmup trace) asked trace dropped price header
+  pub report_is : report ≡ bounds_report (counting_of format header trace) asked trace dropped price header
 
 -- a denominator that rounds no cost is asked for, and the least one passes 2^48
 pub record RefusesDenominator (asked : BoundSettings) (trace : Requests) : Type 0 where

@@ -6,11 +6,10 @@ use Rattle.capacity_curve.specs.declared.points.CurveTerms.{CurveTerms}
 use Rattle.capacity_curve.specs.declared.points.Point.{Point}
 use Rattle.capacity_curve.specs.Points.{ArePoints}
 use Rattle.bound_report.specs.declared.capacity_curves.CapacityCurveFacts.{CapacityCurveFacts}
-use Rattle.bound_report.specs.CapacityCurves.{capacity_curve_text}
-use Rattle.bound_report.specs.Counted.{with_counted}
-use Rattle.bound_report.specs.Replays.{with_warmup}
-use Rattle.cert_checker.specs.Counting.{counted_in}
+use Rattle.bound_report.specs.CapacityCurves.{capacity_curve_lines}
+use Rattle.bound_report.specs.Rendering.{rendered}
 use Rattle.trace_any.specs.declared.format.Format.{Format}
+use Rattle.bound_run.specs.Countings.{counting_from}
 
 -- what the report of a curve over capacities states
 abbrev pub capacity_facts : CurveTerms → Requests → ℕ → CapacityCurveFacts
@@ -20,4 +19,4 @@ capacity_facts asked trace dropped = record { requests = length trace.objects; o
 pub record IsCapacityCurveText (format : Format) (asked : CurveTerms) (capacities : List ℕ) (trace : Requests) (dropped : ℕ) (text : List ℕ) : Type 0 where
   pub points : List Point
   pub are_points : ArePoints asked trace capacities points
-  pub text_is : text ≡ with_counted (counted_in format asked.warmup trace) (with_warmup asked.warmup (capacity_curve_text (capacity_facts asked trace dropped) points))
+  pub text_is : text ≡ rendered (counting_from format asked.warmup trace) (capacity_curve_lines (capacity_facts asked trace dropped) points)

@@ -8,10 +8,10 @@ use Rattle.stack_curve.specs.Curves.{first_size}
 use Rattle.stack_curve.specs.Distances.{curve_hits}
 use Rattle.stack_curve.specs.Laws.{HaveSize}
 use Rattle.bound_report.specs.declared.curves.CurveFacts.{CurveFacts}
-use Rattle.bound_report.specs.Counted.{with_counted}
-use Rattle.bound_report.specs.Curves.{curve_text}
-use Rattle.cert_checker.specs.Counting.{counted_in}
+use Rattle.bound_report.specs.Curves.{curve_lines}
+use Rattle.bound_report.specs.Rendering.{rendered}
 use Rattle.trace_any.specs.declared.format.Format.{Format}
+use Rattle.bound_run.specs.Countings.{counting_from}
 
 -- the counts of the trace that a curve is of
 abbrev pub curve_facts : Requests → ℕ → CurveFacts
@@ -24,5 +24,5 @@ hits_at trace capacity = if first_size trace.objects == 0 then 0 else curve_hits
 -- the text is the curve of the trace, whose objects have one size, and its hits are LRU's at every capacity
 pub record IsCurveText (format : Format) (trace : Requests) (dropped : ℕ) (text : List ℕ) : Type 0 where
   pub one_size : HaveSize (first_size trace.objects) trace.objects
-  pub text_is : text ≡ with_counted (counted_in format 0 trace) (curve_text (curve_facts trace dropped) (first_size trace.objects) (curve_hits trace.objects trace.fills))
+  pub text_is : text ≡ rendered (counting_from format 0 trace) (curve_lines (curve_facts trace dropped) (first_size trace.objects) (curve_hits trace.objects trace.fills))
   pub of_lru : (capacity : ℕ) → 1 ≤ capacity → hits_at trace capacity ≡ (policy_run Lru trace.objects capacity 0 trace.fills).hits

@@ -1,5 +1,5 @@
 -- The headline: what is known of the numbers that a run printed, in the words of the trace and of contents alone.
-use Rattle.std.specs.Prelude.{◌≡◌, ◌↔◌, ℕ, ◌*◌, ◌≤◌, Bool, IsTrue, IfSome, List, [], length, All, Result, Ok, Err, None}
+use Rattle.std.specs.Prelude.{◌≡◌, ◌↔◌, ℕ, ◌*◌, ◌≤◌, Bool, IsTrue, IfSome, List, [], length, All, Result, Ok, Err}
 use Rattle.std.specs.Io.KnownBytes.{Appends}
 use Rattle.bound_io.specs.Devices.{Device}
 use Rattle.cache_rules.specs.Stored.{Requests}
@@ -15,8 +15,9 @@ use Rattle.bound_report.specs.declared.facts.Mode.TheVariants.{Constant}
 use Rattle.cache_model.specs.Units.{HasWholeCosts}
 use Rattle.cache_model.specs.Intervals.{bound_of}
 use Rattle.cert_checker.specs.declared.verdict.Verdict.{Verdict}
-use Rattle.cert_checker.specs.Counting.{counted_in}
 use Rattle.trace_any.specs.declared.format.Format.{Format}
+use Rattle.trace_any.specs.declared.format.Format.TheVariants.{Webcache}
+use Rattle.bound_run.specs.Countings.{counting_of}
 use Rattle.bound_words.specs.declared.settings.BoundSettings.{BoundSettings}
 use Rattle.bound_words.specs.declared.settings.DrawSettings.{DrawSettings}
 use Rattle.bound_words.specs.declared.settings.ReplaySettings.{ReplaySettings}
@@ -75,7 +76,7 @@ pub record ShowsBounds (format : Format) (asked : BoundSettings) (trace : Reques
   pub header : Header
   pub records : List Record
   pub price : ℕ
-  pub printed : Appends report.before report.after (bounds_report (counted_in format asked.terms.warmup trace) asked trace dropped price header)
+  pub printed : Appends report.before report.after (bounds_report (counting_of format header trace) asked trace dropped price header)
   pub certified : Appends made.before made.after (cert_text header records)
   pub terms : terms_of header trace.fills ≡ marked asked.terms trace.fills
   pub version : header.version ≡ asked.version
@@ -87,7 +88,7 @@ pub record ShowsBounds (format : Format) (asked : BoundSettings) (trace : Reques
 pub record ShowsCheck (format : Format) (trace : Requests) (dropped : ℕ) (cert report : Device) : Type 0 where
   pub verdict : Verdict
   pub records : List Record
-  pub printed : Appends report.before report.after (verdict_report (counted_in format verdict.header.warmup trace) verdict dropped)
+  pub printed : Appends report.before report.after (verdict_report (counting_of format verdict.header trace) verdict dropped)
   pub certified : IfSome cert.before (λ text. text ≡ cert_text verdict.header records)
   pub objects : verdict.objects ≡ length (objects_of trace.objects)
   pub bounds : AreTrueBounds trace verdict.header records
@@ -125,7 +126,7 @@ pub record ShowsDemo (drawing : DrawSettings) (asked : BoundSettings) (report : 
   pub records : List Record
   pub price : ℕ
   pub replays : PolicyReplays
-  pub printed : Appends report.before report.after (demo_text (demo_facts drawing asked) (bounds_report None asked (trace_drawn drawing) 0 price header) replays)
+  pub printed : Appends report.before report.after (demo_text (demo_facts drawing asked) (bounds_report (counting_of Webcache header (trace_drawn drawing)) asked (trace_drawn drawing) 0 price header) replays)
   pub terms : terms_of header [] ≡ marked asked.terms []
   pub priced : IsPriceOf asked.mode price (length (trace_drawn drawing).objects) records
   pub bounds : AreTrueBounds (trace_drawn drawing) header records
@@ -149,7 +150,7 @@ pub record ShowsRefinement (format : Format) (width : ℕ) (trace : Requests) (d
   pub read : IfSome cert.before (λ text. text ≡ cert_text header records)
   pub valid : IsValid trace.objects trace.fills header records
   pub certified : Appends made.before made.after (cert_text refined refined_records)
-  pub printed : Appends report.before report.after (refined_report (counted_in format header.warmup trace) header.upper (verdict_on trace refined) dropped)
+  pub printed : Appends report.before report.after (refined_report (counting_of format header trace) header.upper (verdict_on trace refined) dropped)
   pub refinement : IsRefinement width trace header records refined refined_records
   pub bounds : AreTrueBounds trace refined refined_records
 

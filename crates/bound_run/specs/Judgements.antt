@@ -1,13 +1,9 @@
 -- What comes of judging the hits that a simulator claims.
 use Rattle.std.specs.Prelude.{◌≡◌, ℕ, Bool, List, length, map, Some, None}
-use Rattle.std.specs.declared.option.Option.{Option}
 use Rattle.bound_io.specs.Devices.{Device}
 use Rattle.cache_rules.specs.Stored.{Requests}
 use Rattle.cache_model.specs.declared.objects.Objective.{Objective}
 use Rattle.cache_model.specs.declared.objects.Objective.TheVariants.{Object as Hits, Bytes}
-use Rattle.cache_model.specs.declared.certificates.Header.{Header}
-use Rattle.cache_model.specs.declared.certificates.Record.{Record}
-use Rattle.cache_model.specs.Certificates.{IsValid}
 use Rattle.cache_model.specs.Claim.{terms_from}
 use Rattle.cache_model.specs.Objects.{objects_of}
 use Rattle.judge_laws.specs.Flags.{IsPossible, claimed}
@@ -17,12 +13,11 @@ use Rattle.hit_flags.specs.Claims.{AreRead}
 use Rattle.hit_flags.specs.Flags.{flags_in}
 use Rattle.trace_any.specs.declared.format.Format.{Format}
 use Rattle.trace_any.specs.Readings.{full_limits, reading}
-use Rattle.cert_checker.specs.Counting.{counted_in}
 use Rattle.bound_report.specs.declared.judged.JudgedFacts.{JudgedFacts}
-use Rattle.bound_report.specs.Counted.{with_counted}
-use Rattle.bound_report.specs.Judged.{judged_text}
-use Rattle.bound_report.specs.Replays.{with_warmup}
+use Rattle.bound_report.specs.Judged.{judged_lines}
+use Rattle.bound_report.specs.Rendering.{rendered}
 use Rattle.bound_words.specs.declared.settings.JudgeSettings.{JudgeSettings}
+use Rattle.bound_run.specs.Countings.{counting_from}
 
 -- what flags claim by an objective, of the requests that count from the warm-up on
 abbrev pub claimed_by : Objective → JudgeSettings → Requests → List Bool → ℕ
@@ -40,8 +35,7 @@ judged_facts asked trace dropped flags = record {
 
 -- the report of possible hits
 abbrev pub judged_report : Format → JudgeSettings → Requests → ℕ → List Bool → List ℕ
-judged_report format asked trace dropped flags =
-    with_counted (counted_in format asked.warmup trace) (with_warmup asked.warmup (judged_text (judged_facts asked trace dropped flags)))
+judged_report format asked trace dropped flags = rendered (counting_from format asked.warmup trace) (judged_lines (judged_facts asked trace dropped flags))
 
 -- all that the two sources had left is a trace and flags of its requests, which are possible, and this is their report
 pub record IsJudged (format : Format) (asked : JudgeSettings) (trace hits : Device) (text : List ℕ) : Type 0 where

@@ -1,5 +1,6 @@
 pub mod Statuses
-pub mod HeldPrices
+pub mod Prices
+pub mod Countings
 pub mod Reports
 pub mod BoundsMade
 pub mod Relaxations

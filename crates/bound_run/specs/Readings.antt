@@ -13,7 +13,6 @@ use Rattle.trace_any.specs.declared.format.Format.{Format}
 use Rattle.trace_any.specs.Readings.{Reading, reading, full_limits}
 use Rattle.trace_any.specs.Loads.{IsLoaded}
 use Rattle.cert_checker.specs.declared.verdict.Verdict.{Verdict}
-use Rattle.cert_checker.specs.Counting.{counted_in}
 use Rattle.cert_checker.specs.Walks.{Event, walk}
 use Rattle.bound_words.specs.declared.settings.BoundSettings.{BoundSettings}
 use Rattle.bound_words.specs.declared.settings.ReplaySettings.{ReplaySettings}
@@ -23,6 +22,7 @@ use Rattle.bound_run.specs.CapacityCurves.{IsCapacityCurveText}
 use Rattle.bound_run.specs.Curves.{IsCurveText}
 use Rattle.bound_run.specs.BoundsMade.{AreTexts, RefusesDenominator}
 use Rattle.bound_run.specs.Replays.{IsReplayText}
+use Rattle.bound_run.specs.Countings.{counting_of}
 use Rattle.bound_run.specs.Reports.{verdict_report}
 
 -- the requests of a reading, with their marks
@@ -93,7 +93,7 @@ pub record IsVerdictText (format : Format) (source cert : Device) (text : List �
   pub verdict : Verdict
   pub dropped : ℕ
   pub accepted : IsAccepted format source cert verdict dropped
-  pub text_is : text ≡ verdict_report (counted_in format verdict.header.warmup accepted.requests) verdict dropped
+  pub text_is : text ≡ verdict_report (counting_of format verdict.header accepted.requests) verdict dropped
 
 -- the bytes are the text of a certificate that is valid for the trace
 pub record IsCertified (format : Format) (bytes text : List ℕ) : Type 0 where

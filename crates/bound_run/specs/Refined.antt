@@ -10,12 +10,12 @@ use Rattle.cache_model.specs.Intervals.{bound_of}
 use Rattle.cache_model.specs.Objects.{objects_of}
 use Rattle.cache_model.specs.Texts.{cert_text}
 use Rattle.cert_checker.specs.declared.verdict.Verdict.{Verdict}
-use Rattle.cert_checker.specs.Counting.{counted_in}
 use Rattle.cert_checker.specs.Keeping.{Checked}
 use Rattle.price_refine.specs.Blocks.{AreSettled}
 use Rattle.price_refine.specs.Refinements.{Refinement}
 use Rattle.trace_any.specs.declared.format.Format.{Format}
 use Rattle.trace_any.specs.Loads.{IsLoaded}
+use Rattle.bound_run.specs.Countings.{counting_of}
 use Rattle.bound_run.specs.Reports.{refined_report}
 
 -- the header with another upper bound
@@ -60,7 +60,7 @@ pub record AreRefinedTexts (format : Format) (width : ℕ) (trace : Requests) (d
   pub refined : List Record
   pub refinement : IsRefinement width trace h records made refined
   pub cert_is : cert ≡ cert_text made refined
-  pub report_is : report ≡ refined_report (counted_in format h.warmup trace) h.upper (verdict_on trace made) dropped
+  pub report_is : report ≡ refined_report (counting_of format h trace) h.upper (verdict_on trace made) dropped
 
 -- all that the two sources had left was read, a trace and the text of a valid certificate of it, if their bytes are known
 pub record IsRefinable (format : Format) (source cert : Device) (trace : Requests) (dropped : ℕ)

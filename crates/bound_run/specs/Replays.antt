@@ -14,11 +14,11 @@ use Rattle.policy_laws.specs.Laws.{HaveOneSize}
 use Rattle.belady_laws.specs.Best.{IsBest}
 use Rattle.replay_core.specs.declared.counts.Replay.{Replay}
 use Rattle.bound_report.specs.declared.replays.ReplayFacts.{ReplayFacts}
-use Rattle.bound_report.specs.Counted.{with_counted}
-use Rattle.bound_report.specs.Replays.{replay_text, with_warmup}
-use Rattle.cert_checker.specs.Counting.{counted_in}
+use Rattle.bound_report.specs.Rendering.{rendered}
+use Rattle.bound_report.specs.Replays.{replay_lines}
 use Rattle.trace_any.specs.declared.format.Format.{Format}
 use Rattle.bound_words.specs.declared.settings.ReplaySettings.{ReplaySettings}
+use Rattle.bound_run.specs.Countings.{counting_from}
 
 -- what a replay earns by an objective
 abbrev pub earned_by : Objective → ℕ → ℕ → ℕ
@@ -53,4 +53,4 @@ replay_facts r trace dropped replay =
 pub record IsReplayText (format : Format) (r : ReplaySettings) (trace : Requests) (dropped : ℕ) (text : List ℕ) : Type 0 where
   pub replay : Replay
   pub is_replay : IsReplay r.policy r.capacity r.warmup trace replay
-  pub text_is : text ≡ with_counted (counted_in format r.warmup trace) (with_warmup r.warmup (replay_text (replay_facts r trace dropped replay)))
+  pub text_is : text ≡ rendered (counting_from format r.warmup trace) (replay_lines (replay_facts r trace dropped replay))

@@ -39,7 +39,7 @@ pub data Ending : Type 0 where
   refused : Refusal → Ending
   unreported : Ending
 
--- the ending that a status tells
+-- the ending of a status
 abbrev pub ending_of : Status → Ending
 ending_of Done = done
 ending_of (Invalid line kind) = refused (refusal.Invalid line kind)

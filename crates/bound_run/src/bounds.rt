@@ -11,12 +11,11 @@ ghost use Rattle.bound_run.specs.BoundsFaults.{FailsBounds};
 ghost use Rattle.bound_run.specs.BoundsMade.{AreTexts, IsMade, is_unwindowed, records_of};
 ghost use Rattle.bound_run.specs.Records.{HasEach, records_in};
 
-use crate::counting::counted_in;
+use crate::counting::counting_of;
 use crate::relaxed::{Relaxed, relax, width_of};
-use crate::reports::bounds_report;
 use crate::writing::Texts;
 use bound_base::NoMemory;
-use bound_report::{BoundFacts, Mode};
+use bound_report::{BoundFacts, Mode, render};
 use bound_words::BoundSettings;
 use cache_model::{Header, Record, Terms};
 use cache_rules::{Trace, score_of_fitting};
@@ -60,6 +59,17 @@ impl From<NoMemory> for BoundsFault {
 
     fn from(_: NoMemory) -> Self {
         BoundsFault::NoMemory
+    }
+}
+
+/// The terms of a certificate.
+pub(crate) fn terms_of(header: &Header) -> Terms
+    ensures { result ≡ record { objective = header.now.objective; capacity = header.now.capacity; warmup = header.now.warmup } }
+{
+    Terms {
+        objective: header.objective,
+        capacity: header.capacity,
+        warmup: header.warmup,
     }
 }
 
@@ -247,8 +257,7 @@ fn texts_with(
         intervals: bounds.intervals.as_slice().len() as u32,
     };
     let cert = cert_of(alloc, &bounds.header, bounds)?;
-    let counted = counted_in(format, asked.terms.warmup, trace);
-    let report = bounds_report(alloc, &facts, counted)?;
+    let report = render(alloc, &facts, counting_of(format, &bounds.header, trace))?;
     Ok(Texts { cert, report })
 }
 

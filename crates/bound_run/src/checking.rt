@@ -1,18 +1,34 @@
 //! Whether a certificate is valid for a trace, and what is said of it.
-ghost use Rattle.std.specs.Prelude.{IfOk, IfErr};
+ghost use Rattle.std.specs.Prelude.{◌≡◌, ◌<◌, IfOk, IfErr};
 ghost use Rattle.bound_io.specs.Devices.{seen};
 ghost use Rattle.bound_io.specs.Reading.{LosesPrefix};
 ghost use Rattle.trace_any.specs.Readings.{IsFormat};
+ghost use Rattle.bound_run.specs.Countings.{counting_found};
 ghost use Rattle.bound_run.specs.Readings.{IsVerdictText};
 ghost use Rattle.bound_run.specs.Refusals.{RefusesCheck};
+ghost use Rattle.bound_run.specs.Reports.{verdict_report};
 
-use crate::reports::verdict_report;
+use crate::counting::counting_found;
 use crate::status::refusal_of_check;
+use bound_base::NoMemory;
 use bound_io::Source;
-use bound_report::Refusal;
-use cert_checker::check_counted;
+use bound_report::{CheckFacts, Refusal, render};
+use cert_checker::{Passed, check_counted};
 use std::alloc::Global;
 use trace_any::Format;
+
+// The report of a yes.
+fn verdict_report(alloc: Global, passed: &Passed) -> Result<Vec<u8>, NoMemory>
+    requires unit { 0 < passed.now.verdict.header.unit }
+    requires denominator { 0 < passed.now.verdict.header.denominator }
+    ensures { IfOk result (λ text. text.items ≡ verdict_report (counting_found passed.now) passed.now.verdict passed.now.dropped) }
+{
+    let facts = CheckFacts {
+        verdict: passed.verdict,
+        dropped: passed.dropped,
+    };
+    render(alloc, &facts, counting_found(passed))
+}
 
 /// What is said of a certificate that is valid for the trace, as both are read to their ends.
 pub(crate) fn verdict_of<T: Source, Q: Source>(

@@ -1,8 +1,12 @@
-//! How many requests of a trace count.
+//! How the requests of a trace count.
 ghost use Rattle.std.specs.Prelude.{◌≡◌};
-ghost use Rattle.cert_checker.specs.Counting.{count_from, counted_in};
+ghost use Rattle.cert_checker.specs.Counting.{count_from};
+ghost use Rattle.bound_run.specs.Countings.{counting_found, counting_from, counting_of};
 
+use bound_report::Counting;
+use cache_model::Header;
 use cache_rules::Trace;
+use cert_checker::Passed;
 use trace_any::Format;
 
 // How many requests from the warm-up on don't only fill the cache.
@@ -14,9 +18,29 @@ fn count_from(warmup: u32, trace: &Trace) -> u32
         .count() as u32
 }
 
-/// How many requests from the warm-up on don't only fill the cache, if the form of the trace has marks.
-pub(crate) fn counted_in(format: Format, warmup: u32, trace: &Trace) -> Option<u32>
-    ensures { result ≡ counted_in format warmup trace.now }
+/// How the requests of a trace of this form count from a warm-up on.
+pub(crate) fn counting_from(format: Format, warmup: u32, trace: &Trace) -> Counting
+    ensures { result ≡ counting_from format warmup trace.now }
 {
-    format.is_marked().then(|| count_from(warmup, trace))
+    Counting {
+        warmup,
+        counted: format.is_marked().then(|| count_from(warmup, trace)),
+    }
+}
+
+/// How the requests of a trace of this form count from the warm-up of a certificate on.
+pub(crate) fn counting_of(format: Format, header: &Header, trace: &Trace) -> Counting
+    ensures { result ≡ counting_of format header.now trace.now }
+{
+    counting_from(format, header.warmup, trace)
+}
+
+/// How they count as a check found it.
+pub(crate) fn counting_found(passed: &Passed) -> Counting
+    ensures { result ≡ counting_found passed.now }
+{
+    Counting {
+        warmup: passed.verdict.header.warmup,
+        counted: passed.counted,
+    }
 }

@@ -6,11 +6,9 @@ ghost use Rattle.capacity_curve.specs.Points.{IsInRange};
 ghost use Rattle.bound_run.specs.CapacityCurves.{IsCapacityCurveText};
 ghost use Rattle.bound_run.specs.Curves.{IsCurveText};
 
-use crate::counting::counted_in;
+use crate::counting::counting_from;
 use bound_base::NoMemory;
-use bound_report::{
-    CapacityCurveFacts, CurveFacts, capacity_curve_text, curve_text, push_counted, push_warmup,
-};
+use bound_report::{CapacityCurveFacts, CapacityCurveReport, CurveFacts, CurveReport, render};
 use cache_rules::Trace;
 use capacity_curve::{CurveTerms, points_at};
 use stack_curve::{CurveFault, curve};
@@ -34,9 +32,11 @@ pub(crate) fn curve_report(
         objects: trace.objects(),
         dropped,
     };
-    let mut text = curve_text(alloc, &facts, &curve)?;
-    push_counted(&mut text, counted_in(format, 0, trace))?;
-    Ok(text)
+    let report = CurveReport {
+        facts,
+        curve: &curve,
+    };
+    Ok(render(alloc, &report, counting_from(format, 0, trace))?)
 }
 
 /// The report of the curve over capacities of a trace of this form, with the number of its lines that were dropped.
@@ -60,8 +60,9 @@ pub(crate) fn capacity_curve_report(
         dropped,
         asked: *asked,
     };
-    let mut text = capacity_curve_text(alloc, &facts, &points)?;
-    push_warmup(&mut text, asked.warmup)?;
-    push_counted(&mut text, counted_in(format, asked.warmup, trace))?;
-    Ok(text)
+    let report = CapacityCurveReport {
+        facts,
+        points: &points,
+    };
+    render(alloc, &report, counting_from(format, asked.warmup, trace))
 }

@@ -8,11 +8,11 @@ ghost use Rattle.trace_any.specs.Readings.{IsFormat};
 ghost use Rattle.bound_run.specs.Judgements.{IsJudged, claimed_by, judged_report};
 ghost use Rattle.bound_run.specs.Refusals.{RefusesJudge};
 
-use crate::counting::counted_in;
+use crate::counting::counting_from;
 use crate::status::refusal_of_flags;
 use bound_base::NoMemory;
 use bound_io::Source;
-use bound_report::{JudgedFacts, Refusal, judged_text, push_counted, push_warmup};
+use bound_report::{JudgedFacts, Refusal, render};
 use bound_words::JudgeSettings;
 use hit_flags::{Claims, read_claims};
 use hit_judge::{Claimed, judge};
@@ -38,10 +38,11 @@ fn judged_report(
         capacity: asked.capacity,
         claimed,
     };
-    let mut text = judged_text(alloc, &facts)?;
-    push_warmup(&mut text, asked.warmup)?;
-    push_counted(&mut text, counted_in(format, asked.warmup, &claims.trace))?;
-    Ok(text)
+    render(
+        alloc,
+        &facts,
+        counting_from(format, asked.warmup, &claims.trace),
+    )
 }
 
 /// The report of the claimed hits of all that the two sources have left, if they are possible.

@@ -14,7 +14,6 @@ mod prices;
 mod refined;
 mod relaxed;
 mod replays;
-mod reports;
 mod status;
 mod top;
 mod upgrades;

@@ -1,13 +1,13 @@
-//! Prices of steps and flows of intervals, held as they are needed.
+//! Prices of steps and flows of intervals, as lists or in few numbers.
 ghost use Rattle.std.specs.Prelude.{◌≡◌, ◌<◌, length, replicate, slice_index, slice_index_or};
 ghost use Rattle.constant_price.specs.Constants.{constant_prices};
 
 use flow_model::Solution;
 use std::marker::Model;
 
-// How they are held.
+// How they are stored.
 #[derive(Drop)]
-enum Held {
+enum Storage {
     // A price of each step and a flow of each interval.
     Each(Solution),
     // One price on each step but the last, 0 there, and no flow.
@@ -21,16 +21,16 @@ enum Held {
 /// A price of each step and a flow of each interval. One price and no flow take no memory.
 #[derive(Drop)]
 pub(crate) struct PricesAndFlows {
-    held: Held,
+    storage: Storage,
 }
 
 impl Model for PricesAndFlows {
     ghost use Rattle.flow_model.specs.Solutions.{Answer};
-    ghost use Rattle.bound_run.specs.HeldPrices.{held_answer};
+    ghost use Rattle.bound_run.specs.Prices.{stored};
 
     ghost Value = { Answer };
 
-    ghost view = { λ p. held_answer p.held };
+    ghost view = { λ p. stored p.storage };
 }
 
 impl PricesAndFlows {
@@ -39,7 +39,7 @@ impl PricesAndFlows {
         ensures { result ≡ solution }
     {
         PricesAndFlows {
-            held: Held::Each(solution),
+            storage: Storage::Each(solution),
         }
     }
 
@@ -48,7 +48,7 @@ impl PricesAndFlows {
         ensures { result ≡ record { prices = constant_prices price steps; flows = replicate intervals 0 } }
     {
         PricesAndFlows {
-            held: Held::OnePrice {
+            storage: Storage::OnePrice {
                 price,
                 steps,
                 intervals,
@@ -61,10 +61,10 @@ impl PricesAndFlows {
         requires { step < length self.now.prices }
         ensures { result ≡ slice_index_or self.now.prices step 0 }
     {
-        match &self.held {
-            Held::Each(solution) => solution.prices()[step as usize],
-            Held::OnePrice { price, steps, .. } if step < *steps - 1 => *price,
-            Held::OnePrice { .. } => 0,
+        match &self.storage {
+            Storage::Each(solution) => solution.prices()[step as usize],
+            Storage::OnePrice { price, steps, .. } if step < *steps - 1 => *price,
+            Storage::OnePrice { .. } => 0,
         }
     }
 
@@ -73,9 +73,9 @@ impl PricesAndFlows {
         requires { interval < length self.now.flows }
         ensures { result ≡ slice_index self.now.flows interval }
     {
-        match &self.held {
-            Held::Each(solution) => solution.flows()[interval as usize],
-            Held::OnePrice { .. } => 0,
+        match &self.storage {
+            Storage::Each(solution) => solution.flows()[interval as usize],
+            Storage::OnePrice { .. } => 0,
         }
     }
 }

@@ -5,9 +5,9 @@ ghost use Rattle.policy_model.specs.Runs.{AreScores};
 ghost use Rattle.replay_core.specs.Laws.{IsFresh, IsRunOf};
 ghost use Rattle.bound_run.specs.Replays.{IsReplay, IsReplayText, IsWithinBounds};
 
-use crate::counting::counted_in;
+use crate::counting::counting_from;
 use bound_base::NoMemory;
-use bound_report::{ReplayFacts, push_counted, push_warmup, replay_text};
+use bound_report::{ReplayFacts, render};
 use bound_words::ReplaySettings;
 use cache_rules::Trace;
 use policy_model::PolicyName;
@@ -137,8 +137,5 @@ pub(crate) fn replay_report(
         capacity: r.capacity,
         replay,
     };
-    let mut text = replay_text(alloc, &facts)?;
-    push_warmup(&mut text, r.warmup)?;
-    push_counted(&mut text, counted_in(format, r.warmup, trace))?;
-    Ok(text)
+    render(alloc, &facts, counting_from(format, r.warmup, trace))
 }

@@ -216,7 +216,7 @@ fn run_refine<T: Source, Q: Source, R: Sink, K: Sink>(
     }
 }
 
-// Does what the words ask for, or tells why they are refused.
+// Does what the words ask for, or says why they are refused.
 fn run_plan<T: Source, Q: Source, R: Sink, K: Sink>(
     alloc: Global,
     plan: Result<Plan, WordFault>,

@@ -16,7 +16,7 @@ pub(crate) struct Texts {
     pub report: Vec<u8>,
 }
 
-/// Writes the line that tells why the run stopped, as far as the report takes it.
+/// Writes the line that says why the run stopped, as far as the report takes it.
 pub(crate) fn refuse<R: Sink>(report: &mut R, refusal: Refusal) -> Status
     ensures status { result ≡ status_of refusal }
     ensures reported { Gets (seen R.written R.faults report.old report.new) (refusal_line refusal) }

@@ -7,32 +7,32 @@
 #![tactic(auto)]
 
 #[cfg(test)]
-mod constants;
+mod constant_price_least;
 #[cfg(test)]
-mod heap;
+mod flow_network_pushes;
 #[cfg(test)]
-mod intervals;
+mod flow_parts_heap;
 #[cfg(test)]
-mod loads;
+mod flow_solver_instances;
 #[cfg(test)]
-mod made;
+mod flow_sparse_instances;
 #[cfg(test)]
-mod marks;
+mod flow_uniform_instances;
 #[cfg(test)]
-mod network;
+mod flow_windows_parts;
 #[cfg(test)]
-mod refining;
+mod helpers;
 #[cfg(test)]
-mod rounding;
+mod interval_maker_intervals;
 #[cfg(test)]
-mod solver;
+mod load_tree_loads;
 #[cfg(test)]
-mod sparse;
+mod price_refine_prices;
 #[cfg(test)]
-mod uniform;
+mod relaxation_marks;
 #[cfg(test)]
-mod values;
+mod relaxation_values;
 #[cfg(test)]
-mod window_solutions;
+mod schedule_round_keeps;
 #[cfg(test)]
-mod windows;
+mod window_bounds_solutions;

@@ -1,21 +1,20 @@
 -- What LRU keeps: of the most recently used objects that are no larger than the capacity as many as fit, from the latest on.
-use Rattle.std.proofs.Common.{◌≡◌, ℕ, zero, suc, ◌+◌, ◌-◌, ◌<◌, ◌≤◌, ◌∙◌, sym, refl, ap, ⊎_elim, Bool, true, false, not, cond, eqb, List, [], ◌∷◌, ◌++◌, length, take, drop, map, filter, reverse, get_or, arith, append-nil}
+use Rattle.std.proofs.Common.{◌≡◌, ℕ, zero, suc, ◌+◌, ◌-◌, ◌<◌, ◌≤◌, ◌∙◌, sym, refl, ap, ⊎_elim, Bool, true, false, cond, eqb, List, [], ◌∷◌, ◌++◌, length, take, drop, filter, get_or, arith}
 use Rattle.std.specs.declared.option.Option.{Option}
 use Rattle.std.specs.List.{AllByRecursion}
 use Rattle.std.proofs.lemmas.Bool.{cases_Bool, cases_lt, le-leb, lt-leb}
-use Rattle.std.proofs.lemmas.List.{length-map, length-reverse, take_all, take_more, map-append, reverse-append}
-use Rattle.std.proofs.lemmas.List.Elements.{filter-append}
+use Rattle.std.proofs.lemmas.List.{take_all, take_more}
 use Rattle.std.proofs.lemmas.List.Sums.{sum_by-append, sum_by-cons, sum_by_push}
 use Rattle.cache_model.specs.declared.objects.Object.{Object}
 use Rattle.cache_model.specs.Claim.{same_object, no_object, total_size}
 use Rattle.policy_model.specs.States.{State, Entry, used, has_entry}
-use Rattle.policy_model.specs.Steps.{make_room, without_entry}
+use Rattle.policy_model.specs.Steps.{make_room}
 use Rattle.policy_model.specs.Rules.{entries_after}
 use Rattle.policy_model.proofs.Entries.{make_room-fits, make_room-over}
 use Rattle.policy_model.proofs.Sound.{after-hit, after-small, after-large}
 use Rattle.stack_curve.proofs.Different.{asks_for}
 use Rattle.stack_curve.proofs.Recent.{less, recent, Distinct-recent}
-use Rattle.stack_curve.proofs.LruEntries.{entry_of, entries_of, lru_state, IsToldApart, all-recent, has-entries}
+use Rattle.stack_curve.proofs.LruEntries.{entry_of, entries_of, lru_state, IsToldApart, all-recent, entries-cons, entries-last, has-entries, length-entries, without-entries}
 use Rattle.byte_curve.specs.Distances.{fits_in}
 use Rattle.byte_curve.proofs.Fitting.{fitting, all-fitting, fitting-large, fitting-hit, fitting-miss, fitting-all, fitting-last}
 
@@ -47,47 +46,11 @@ kept_of-more capacity y h small =
     ap (λ b. fitting capacity (recent (cond b (y ∷ filter (fits_in capacity) h) (filter (fits_in capacity) h)))) (le-leb y.size capacity small)
     ∙ ap (λ b. cond b (y ∷ fitting (capacity - y.size) (less y (recent_small capacity h))) []) (le-leb y.size capacity small)
 
--- ---- entries in the other order
-without-reverse : (k : ℕ) (entries : List Entry) → without_entry k (reverse entries) ≡ reverse (without_entry k entries)
-without-reverse k [] = refl
-without-reverse k (e ∷ rest) =
-    ap (without_entry k) (reverse-append (e ∷ []) rest)
-    ∙ filter-append (λ (f : Entry). not (eqb f.object k)) (reverse rest) (e ∷ [])
-    ∙ ap (λ es. es ++ without_entry k (e ∷ [])) (without-reverse k rest)
-    ∙ at (not (eqb e.object k))
-  where
-    at : (b : Bool) → reverse (without_entry k rest) ++ cond b (e ∷ []) [] ≡ reverse (cond b (e ∷ without_entry k rest) (without_entry k rest))
-    at true = sym (reverse-append (e ∷ []) (without_entry k rest))
-    at false = append-nil (reverse (without_entry k rest))
-
 module _ (num : Object → ℕ) where
-  without-map : (y : Object) (xs : List Object) → IsToldApart num y xs → without_entry (num y) (map (entry_of num) xs) ≡ map (entry_of num) (less y xs)
-  without-map y [] apart = refl
-  without-map y (x ∷ xs) apart =
-      ap (λ b. cond (not b) (entry_of num x ∷ without_entry (num y) (map (entry_of num) xs)) (without_entry (num y) (map (entry_of num) xs))) apart.0
-      ∙ at (not (same_object y x)) (without-map y xs apart.1)
-    where
-      at : (b : Bool) → without_entry (num y) (map (entry_of num) xs) ≡ map (entry_of num) (less y xs)
-          → cond b (entry_of num x ∷ without_entry (num y) (map (entry_of num) xs)) (without_entry (num y) (map (entry_of num) xs)) ≡ map (entry_of num) (cond b (x ∷ less y xs) (less y xs))
-      at true rest = ap (λ es. entry_of num x ∷ es) rest
-      at false rest = rest
-
-  without-entries : (y : Object) (xs : List Object) → IsToldApart num y xs → without_entry (num y) (entries_of num xs) ≡ entries_of num (less y xs)
-  without-entries y xs apart = without-reverse (num y) (map (entry_of num) xs) ∙ ap reverse (without-map y xs apart)
-
-  length-entries : (xs : List Object) → length (entries_of num xs) ≡ length xs
-  length-entries xs = length-reverse (map (entry_of num) xs) ∙ length-map xs (entry_of num)
-
-  entries-cons : (x : Object) (xs : List Object) → entries_of num (x ∷ xs) ≡ entries_of num xs ++ entry_of num x ∷ []
-  entries-cons x xs = reverse-append (entry_of num x ∷ []) (map (entry_of num) xs)
-
-  entries-last : (xs : List Object) (x : Object) → entries_of num (xs ++ x ∷ []) ≡ entry_of num x ∷ entries_of num xs
-  entries-last xs x = ap reverse (map-append (entry_of num) xs (x ∷ [])) ∙ reverse-append (map (entry_of num) xs) (entry_of num x ∷ [])
-
   used-entries : (xs : List Object) → used (entries_of num xs) ≡ total_size xs
   used-entries [] = refl
   used-entries (x ∷ xs) =
-      ap used (entries-cons x xs)
+      ap used (entries-cons num x xs)
       ∙ omega (
         arith,
         sum_by-append (λ (e : Entry). e.size) (entries_of num xs) (entry_of num x ∷ []),
@@ -112,7 +75,7 @@ module _ (num : Object → ℕ) where
         ⊎_elim
         (λ (over : capacity < total_size more + size).
         make_room-over k (drop 1) capacity size (entries_of num more) (lt-leb (used (entries_of num more) + size) capacity (omega arith))
-        ∙ ap (λ es. make_room k (drop 1) capacity size (drop 1 es)) (ap (entries_of num) longer ∙ entries-last few last)
+        ∙ ap (λ es. make_room k (drop 1) capacity size (drop 1 es)) (ap (entries_of num) longer ∙ entries-last num few last)
         ∙ room-take ys k (omega arith)
         ∙ ap (entries_of num) (sym (ap (fitting (capacity - size)) longer ∙ fitting-last (capacity - size) few last (omega arith))))
         (λ (fits : total_size more + size ≤ capacity).
@@ -123,7 +86,7 @@ module _ (num : Object → ℕ) where
     room : (ys : List Object) → make_room (length (entries_of num ys)) (drop 1) capacity size (entries_of num ys) ≡ entries_of num (fitting (capacity - size) ys)
     room ys =
         let all : take (length ys) ys ≡ ys = take_all (length ys) ys (omega arith) in
-        ap (λ n. make_room n (drop 1) capacity size (entries_of num ys)) (length-entries ys)
+        ap (λ n. make_room n (drop 1) capacity size (entries_of num ys)) (length-entries num ys)
         ∙ ap (λ xs. make_room (length ys) (drop 1) capacity size (entries_of num xs)) (sym all)
         ∙ room-take ys (length ys) (omega arith)
         ∙ ap (λ xs. entries_of num (fitting (capacity - size) xs)) all
@@ -141,7 +104,7 @@ module _ (num : Object → ℕ) where
       (λ (hit : asks_for y (kept_of capacity h) ≡ true).
       after-hit state (num y) y.size next (held ∙ hit)
       ∙ ap (λ es. es ++ entry_of num y ∷ [])
-      (without-entries y (kept_of capacity h) told ∙ ap (entries_of num) (fitting-hit y capacity (recent_small capacity h) (Distinct-recent (filter (fits_in capacity) h)) hit))
+      (without-entries num y (kept_of capacity h) told ∙ ap (entries_of num) (fitting-hit y capacity (recent_small capacity h) (Distinct-recent (filter (fits_in capacity) h)) hit))
       ∙ front small)
       (λ (miss : asks_for y (kept_of capacity h) ≡ false).
       after-small state (num y) y.size next (held ∙ miss) small
@@ -161,4 +124,4 @@ module _ (num : Object → ℕ) where
       held = has-entries num y (kept_of capacity h) told
 
       front : y.size ≤ capacity → entries_of num (fitting (capacity - y.size) (less y (recent_small capacity h))) ++ entry_of num y ∷ [] ≡ entries_of num (kept_of capacity (y ∷ h))
-      front small = sym (ap (entries_of num) (kept_of-more capacity y h small) ∙ entries-cons y (fitting (capacity - y.size) (less y (recent_small capacity h))))
+      front small = sym (ap (entries_of num) (kept_of-more capacity y h small) ∙ entries-cons num y (fitting (capacity - y.size) (less y (recent_small capacity h))))

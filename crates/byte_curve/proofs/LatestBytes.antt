@@ -1,9 +1,9 @@
 -- One more request of the pass: the bytes of the latest requests, and the distance in bytes that they tell.
-use Rattle.std.proofs.Common.{◌≡◌, ℕ, zero, suc, ◌+◌, ◌-◌, ◌<◌, ◌≤◌, ◌∙◌, sym, refl, ap, ⊎_elim, Bool, true, false, ◌&&◌, ◌||◌, cond, leb, List, [], ◌∷◌, ◌++◌, length, take, drop, set, replicate, reverse, filter, fold, max, arith, append_assoc, Some, None, sum}
+use Rattle.std.proofs.Common.{◌≡◌, ℕ, zero, suc, ◌+◌, ◌-◌, ◌<◌, ◌≤◌, ◌∙◌, sym, refl, ap, ⊎_elim, Bool, true, false, ◌&&◌, ◌||◌, cond, leb, List, [], ◌∷◌, ◌++◌, length, take, drop, set, replicate, filter, arith, append_assoc, Some, None, sum}
 use Rattle.std.specs.List.{AllByRecursion}
 use Rattle.std.specs.Prelude.{slice_range}
 use Rattle.std.proofs.lemmas.Bool.{cases_Bool, or_parts, and_right, le-leb}
-use Rattle.std.proofs.lemmas.List.{length-append, length-drop, length-replicate, length-set, length-take-le, take_more, take_at, take-append-drop, drop_more, drop-append-le, get_or-drop, get_or-take, reverse-append, set_at, set-append_left}
+use Rattle.std.proofs.lemmas.List.{length-append, length-drop, length-replicate, length-set, length-take-le, take_more, take_at, drop-append-le, set_at, set-append_left}
 use Rattle.std.proofs.lemmas.List.Sums.{sum_by-cons}
 use Rattle.cache_model.specs.declared.objects.Object.{Object}
 use Rattle.cache_model.specs.Claim.{same_object, request_at, no_object}
@@ -11,13 +11,16 @@ use Rattle.cache_model.specs.Objects.{IsFirst, IsNext}
 use Rattle.cache_model.proofs.Duality.{same_object-true}
 use Rattle.cache_model.proofs.Pairs.{same_object-sym}
 use Rattle.stack_curve.specs.Distances.{earlier, since, is_within}
-use Rattle.stack_curve.proofs.Different.{asks_for, asks-last, asks-reverse, asks-first, asks-next, asks-none, asks-at, since-here, since-other}
+use Rattle.stack_curve.proofs.Different.{asks_for, asks-last, asks-reverse, asks-first, asks-next, asks-at}
+use Rattle.stack_curve.proofs.LruCurve.{all-earlier}
 use Rattle.stack_curve.proofs.LruEntries.{all-take}
+use Rattle.stack_curve.proofs.CountLemmas.{same-latest, none-later, cut-latest, since-latest}
 use Rattle.byte_curve.specs.Counts.{latest_bytes, bytes_at}
 use Rattle.byte_curve.specs.Distances.{fits_in, bytes_asked, byte_distance, is_hit}
 use Rattle.byte_curve.specs.Sizes.{greatest_size}
 use Rattle.byte_curve.proofs.Weights.{weigh, weigh-reverse}
-use Rattle.byte_curve.proofs.LruBytes.{bytes-weigh, all-earlier}
+use Rattle.byte_curve.proofs.LruBytes.{bytes-weigh}
+use Rattle.byte_curve.proofs.SizeLemmas.{size-greatest}
 
 or_false : (b : Bool) → (b || false) ≡ b
 or_false true = refl
@@ -72,23 +75,6 @@ latest-again x (y ∷ ys) (suc a) within same later =
     (cases_Bool (same_object y x)))
     ∙ ap (λ ns. cond (asks_for y ys) 0 y.size ∷ ns) (latest-again x ys a (omega arith) same later)
 
--- ---- the requests after the latest one for x
-since-seam : (x y : Object) (ms ns : List Object) → asks_for x ms ≡ false → same_object x y ≡ true → since x (ms ++ y ∷ ns) ≡ ms
-since-seam x y [] ns none same = since-here x y ns same
-since-seam x y (m ∷ ms) ns none same =
-    let parts : (same_object x m ≡ false) × (asks_for x ms ≡ false) = or_parts _ _ none in
-    since-other x m (ms ++ y ∷ ns) parts.0 ∙ ap (λ zs. m ∷ zs) (since-seam x y ms ns parts.1 same)
-
--- ---- the greatest size
-greatest-from : (least : ℕ) (xs : List Object) → least ≤ fold (λ (most : ℕ) (x : Object). max most x.size) least xs
-greatest-from least [] = omega arith
-greatest-from least (x ∷ xs) = let more : max least x.size ≤ fold (λ (most : ℕ) (y : Object). max most y.size) (max least x.size) xs = greatest-from (max least x.size) xs in omega arith
-
-greatest-each : (least : ℕ) (xs : List Object) (k : ℕ) → k < length xs → (request_at xs k).size ≤ fold (λ (most : ℕ) (x : Object). max most x.size) least xs
-greatest-each least [] k within = absurd (omega arith)
-greatest-each least (x ∷ xs) zero within = let more : max least x.size ≤ fold (λ (most : ℕ) (y : Object). max most y.size) (max least x.size) xs = greatest-from (max least x.size) xs in omega arith
-greatest-each least (x ∷ xs) (suc k) within = greatest-each (max least x.size) xs k (omega arith)
-
 filter-all : (p : Object → Bool) (xs : List Object) → AllByRecursion (λ x. p x ≡ true) xs → filter p xs ≡ xs
 filter-all p [] each = refl
 filter-all p (x ∷ xs) each = ap (λ b. cond b (x ∷ filter p xs) (filter p xs)) each.0 ∙ ap (λ zs. x ∷ zs) (filter-all p xs each.1)
@@ -121,21 +107,6 @@ module _ (trace : List Object) where
         ∙ ap (λ ns. ns ++ replicate (length trace - (t + 1)) 0) (sym (latest-new (request_at trace t) (take t trace) (asks-first trace t within first)) ∙ ap latest_bytes (sym (take_more trace t no_object within)))
 
     module _ (a : ℕ) (next : IsNext trace a t) where
-      here : same_object (request_at trace t) (request_at (take t trace) a) ≡ true
-      here = let low : a < t = next.before in ap (same_object (request_at trace t)) (get_or-take t trace a no_object low) ∙ same_object-sym (request_at trace t) (request_at trace a) ∙ next.same
-
-      later : asks_for (request_at trace t) (drop (a + 1) (take t trace)) ≡ false
-      later =
-          let low : a < t = next.before in
-          let short : length (take t trace) ≡ t = length-take-le t trace (omega arith) in
-          let latest : request_at trace t ≡ request_at trace a = sym (same_object-true (request_at trace a) (request_at trace t) next.same) in
-          asks-none (request_at trace t) (drop (a + 1) (take t trace)) (λ k inside.
-          let place : ℕ = a + 1 + k in
-          let bound : k < t - (a + 1) = omega (arith, length-drop (a + 1) (take t trace)) in
-          ap (same_object (request_at trace t)) (get_or-drop (a + 1) (take t trace) k no_object ∙ get_or-take t trace place no_object (omega arith))
-          ∙ ap (λ y. same_object y (request_at trace place)) latest
-          ∙ next.others place (omega arith) (omega arith))
-
       -- the bytes of the object move
       pub bytes-again : set (set (bytes_at trace t) a 0) t (request_at trace t).size ≡ bytes_at trace (t + 1)
       bytes-again =
@@ -145,10 +116,7 @@ module _ (trace : List Object) where
           ap (λ ns. set ns t size) (set-append_left (latest_bytes (take t trace)) (replicate (length trace - t) 0) a 0 (omega arith))
           ∙ set_own (set (latest_bytes (take t trace)) a 0) size (length-set (latest_bytes (take t trace)) a 0 ∙ long)
           ∙ ap (λ ns. ns ++ replicate (length trace - (t + 1)) 0)
-          (sym (latest-again (request_at trace t) (take t trace) a (omega (arith, length-take-le t trace (omega arith))) here (let e : suc a ≡ a + 1 = omega arith in ap (λ n. asks_for (request_at trace t) (drop n (take t trace))) e ∙ later)) ∙ ap latest_bytes (sym (take_more trace t no_object within)))
-
-      cut : drop a (take t trace) ≡ request_at (take t trace) a ∷ drop (a + 1) (take t trace)
-      cut = let low : a < t = next.before in drop_more (take t trace) a no_object (omega (arith, length-take-le t trace (omega arith)))
+          (sym (latest-again (request_at trace t) (take t trace) a (omega (arith, length-take-le t trace (omega arith))) (same-latest trace t within a next) (let e : suc a ≡ a + 1 = omega arith in ap (λ n. asks_for (request_at trace t) (drop n (take t trace))) e ∙ none-later trace t within a next)) ∙ ap latest_bytes (sym (take_more trace t no_object within)))
 
       -- the bytes from the previous request on
       between : sum (slice_range (bytes_at trace t) a t) ≡ (request_at trace t).size + weigh (λ x. x.size) (drop (a + 1) (take t trace))
@@ -157,27 +125,15 @@ module _ (trace : List Object) where
           let x : Object = request_at trace t in
           let y : Object = request_at (take t trace) a in
           let rest : List Object = drop (a + 1) (take t trace) in
-          let e : x ≡ y = same_object-true x y here in
+          let e : x ≡ y = same_object-true x y (same-latest trace t within a next) in
           let long : length (latest_bytes (take t trace)) ≡ t = length-latest (take t trace) ∙ length-take-le t trace (omega arith) in
           ap (λ ns. sum (take (t - a) ns)) (drop-append-le a (latest_bytes (take t trace)) (replicate (length trace - t) 0) (omega arith))
           ∙ ap sum (take_at (drop a (latest_bytes (take t trace))) (replicate (length trace - t) 0) (t - a) (omega (arith, length-drop a (latest_bytes (take t trace)))))
           ∙ ap sum (drop-latest a (take t trace))
           ∙ sum-latest (drop a (take t trace))
-          ∙ ap (weigh (λ z. z.size)) cut
-          ∙ ap (λ b. cond b (weigh (λ z. z.size) rest) (y.size + weigh (λ z. z.size) rest)) (ap (λ z. asks_for z rest) (sym e) ∙ later)
+          ∙ ap (weigh (λ z. z.size)) (cut-latest trace t within a next)
+          ∙ ap (λ b. cond b (weigh (λ z. z.size) rest) (y.size + weigh (λ z. z.size) rest)) (ap (λ z. asks_for z rest) (sym e) ∙ none-later trace t within a next)
           ∙ ap (λ (z : Object). z.size + weigh (λ w. w.size) rest) (sym e)
-
-      -- the requests after the latest one of the object
-      after : since (request_at trace t) (earlier trace t) ≡ reverse (drop (a + 1) (take t trace))
-      after =
-          let x : Object = request_at trace t in
-          let y : Object = request_at (take t trace) a in
-          let rest : List Object = drop (a + 1) (take t trace) in
-          ap (λ xs. since x (reverse xs)) (sym (take-append-drop a (take t trace)) ∙ ap (λ xs. take a (take t trace) ++ xs) cut)
-          ∙ ap (since x) (reverse-append (take a (take t trace)) (y ∷ rest))
-          ∙ ap (λ xs. since x (xs ++ reverse (take a (take t trace)))) (reverse-append (y ∷ []) rest)
-          ∙ ap (since x) (append_assoc (reverse rest) (y ∷ []) (reverse (take a (take t trace))))
-          ∙ since-seam x y (reverse rest) (reverse (take a (take t trace))) (asks-reverse x rest ∙ later) here
 
       -- the distance in bytes, at a capacity that no size passes
       distance : (capacity : ℕ) → greatest_size trace ≤ capacity → byte_distance capacity trace t ≡ Some (sum (slice_range (bytes_at trace t) a t))
@@ -185,14 +141,14 @@ module _ (trace : List Object) where
           let x : Object = request_at trace t in
           let h : List Object = earlier trace t in
           let p : Object → Bool = fits_in capacity in
-          let fits : (k : ℕ) → k < length trace → p (request_at trace k) ≡ true = λ k inside. le-leb (request_at trace k).size capacity (omega (arith, greatest-each 0 trace k inside)) in
-          let small : x.size ≤ capacity = omega (arith, greatest-each 0 trace t within) in
+          let fits : (k : ℕ) → k < length trace → p (request_at trace k) ≡ true = λ k inside. le-leb (request_at trace k).size capacity (omega (arith, size-greatest trace k)) in
+          let small : x.size ≤ capacity = omega (arith, size-greatest trace t) in
           let each : AllByRecursion (λ y. p y ≡ true) h = all-earlier trace (λ y. p y ≡ true) t (omega arith) (λ k low. fits k (omega arith)) in
           ap (λ b. cond (b && asks_for x h) (Some (bytes_asked capacity (x ∷ since x h))) None) (fits t within)
           ∙ ap (λ b. cond (true && b) (Some (bytes_asked capacity (x ∷ since x h))) None) (asks-reverse x (take t trace) ∙ asks-next trace a t within next)
           ∙ ap Some
           (bytes-weigh capacity x h small
-          ∙ ap (λ xs. x.size + weigh (λ z. z.size) xs) (filter-all p (since x h) (all-take (λ y. p y ≡ true) _ h each) ∙ after)
+          ∙ ap (λ xs. x.size + weigh (λ z. z.size) xs) (filter-all p (since x h) (all-take (λ y. p y ≡ true) _ h each) ∙ since-latest trace t within a next)
           ∙ ap (λ n. x.size + n) (weigh-reverse (λ z. z.size) (drop (a + 1) (take t trace)))
           ∙ sym between)
 

@@ -3,6 +3,7 @@ pub mod Fitting
 pub mod FittingEntries
 pub mod LruBytes
 pub mod LeafLemmas
+pub mod SizeLemmas
 pub mod LatestBytes
 pub mod FoundLemmas
 pub mod PassLemmas

@@ -1,35 +1,28 @@
 -- The hits and bytes of LRU's run are those of the distances in bytes.
-use Rattle.std.proofs.Common.{◌≡◌, ℕ, zero, suc, ◌+◌, ◌-◌, ◌<◌, ◌≤◌, ◌∙◌, sym, refl, ap, subst, ⊎_elim, Bool, true, false, ◌&&◌, cond, eqb, leb, List, [], ◌∷◌, length, take, filter, get_or, arith, Some, None, sum_by}
-use Rattle.std.specs.List.{AllByRecursion, range_with_len}
-use Rattle.std.proofs.lemmas.Bool.{cases_Bool, cases_lt, le-leb, lt-leb, eqb-true, eq-eqb, false_from_ne_true}
-use Rattle.std.proofs.lemmas.List.{length-reverse, length-take-le, get_or-take, get_or-reverse}
+use Rattle.std.proofs.Common.{◌≡◌, ℕ, zero, suc, ◌+◌, ◌<◌, ◌≤◌, ◌∙◌, sym, refl, ap, subst, ⊎_elim, Bool, true, false, ◌&&◌, cond, eqb, leb, List, ◌∷◌, length, filter, arith, Some, None, sum_by}
+use Rattle.std.specs.List.{range_with_len}
+use Rattle.std.proofs.lemmas.Bool.{cases_lt, le-leb, lt-leb}
 use Rattle.cache_model.specs.declared.objects.Object.{Object}
-use Rattle.cache_model.specs.Claim.{counts_past, same_object, request_at, no_object, total_size}
+use Rattle.cache_model.specs.Claim.{counts_past, same_object, request_at, total_size}
 use Rattle.cache_model.specs.Objects.{objects_of}
-use Rattle.cache_model.proofs.Duality.{same_object-true, same_object-refl}
 use Rattle.cache_model.proofs.Streams.{sum_by-range_last}
 use Rattle.policy_model.specs.declared.names.PolicyName.{PolicyName}
 use Rattle.policy_model.specs.declared.names.PolicyName.TheVariants.{Lru}
 use Rattle.policy_model.specs.States.{State, start_of, has_entry, nothing_beside, Beside}
-use Rattle.policy_model.specs.Asks.{ask_at, number_of, object_numbered, next_request}
+use Rattle.policy_model.specs.Asks.{ask_at, number_of, next_request}
 use Rattle.policy_model.specs.Rules.{entries_after, beside_after}
 use Rattle.policy_model.specs.Runs.{Run, run_step}
 use Rattle.policy_model.proofs.Replays.{run_to, run_to-more, run_to-all}
-use Rattle.policy_laws.proofs.Asked.{number_of-object}
 use Rattle.stack_curve.specs.Distances.{earlier, since, is_within}
 use Rattle.stack_curve.proofs.Different.{asks_for, since-without}
 use Rattle.stack_curve.proofs.Recent.{recent, asks-recent, since-recent}
-use Rattle.stack_curve.proofs.LruCurve.{earlier-more}
+use Rattle.stack_curve.proofs.LruCurve.{all-earlier, earlier-more, same_numbers}
 use Rattle.stack_curve.proofs.LruEntries.{entries_of, lru_state, IsToldApart, has-entries}
 use Rattle.byte_curve.specs.Distances.{fits_in, bytes_asked, is_hit, is_counted_hit}
 use Rattle.byte_curve.specs.Laws.{DistancesAreOfLru}
 use Rattle.byte_curve.proofs.Weights.{weigh, passed, sum-objects, sum-recent, sum-filter, weigh-filter, asks-filter, since-filter}
 use Rattle.byte_curve.proofs.Fitting.{down_to, asks-fitting, fitting-large}
 use Rattle.byte_curve.proofs.FittingEntries.{recent_small, kept_of, all-kept, after-request}
-
-by_index : (P : Object → Type 0) (xs : List Object) → ((k : ℕ) → k < length xs → P (get_or xs k no_object)) → AllByRecursion P xs
-by_index P [] each = tt
-by_index P (x ∷ xs) each = (each 0 (omega arith), by_index P xs (λ k low. each (suc k) (omega arith)))
 
 -- one more request in a sum
 pub sum-more : (f : ℕ → ℕ) (t : ℕ) → sum_by f (range_with_len 0 (t + 1)) ≡ sum_by f (range_with_len 0 t) + f t
@@ -62,31 +55,6 @@ bytes-down_to capacity x h small =
     swap m n = omega arith
 
 module _ (trace : List Object) where
-  -- what holds of each request holds of those before one
-  pub all-earlier : (P : Object → Type 0) (t : ℕ) → t ≤ length trace → ((k : ℕ) → k < t → P (request_at trace k)) → AllByRecursion P (earlier trace t)
-  all-earlier P t within each =
-      by_index P (earlier trace t) (λ k low.
-      let short : length (take t trace) ≡ t = length-take-le t trace within in
-      let inside : k < length (take t trace) = omega (arith, length-reverse (take t trace)) in
-      let place : ℕ = length (take t trace) - 1 - k in
-      subst P (sym (get_or-reverse (take t trace) k no_object inside ∙ get_or-take t trace place no_object (omega arith))) (each place (omega arith)))
-
-  -- requests have one number exactly if they are of one object
-  same_numbers : (t u : ℕ) → t < length trace → u < length trace
-      → eqb (number_of trace (request_at trace t)) (number_of trace (request_at trace u)) ≡ same_object (request_at trace u) (request_at trace t)
-  same_numbers t u within_t within_u =
-      let x : Object = request_at trace t in
-      let y : Object = request_at trace u in
-      ⊎_elim
-      (λ (same : same_object y x ≡ true). eq-eqb (number_of trace x) (number_of trace y) (ap (number_of trace) (sym (same_object-true y x same))) ∙ sym same)
-      (λ (other : same_object y x ≡ false).
-      false_from_ne_true (eqb (number_of trace x) (number_of trace y)) (λ numbers.
-      let e : number_of trace x ≡ number_of trace y = eqb-true (number_of trace x) (number_of trace y) numbers in
-      let here : x ≡ y = sym (number_of-object trace t within_t).1 ∙ ap (object_numbered trace) e ∙ (number_of-object trace u within_u).1 in
-      let own : same_object y x ≡ true = ap (same_object y) here ∙ same_object-refl y in cc)
-      ∙ sym other)
-      (cases_Bool (same_object y x))
-
   module _ (capacity : ℕ) where
     -- a request is within the capacity exactly if LRU keeps its object
     hit-kept : (t : ℕ) → is_hit capacity trace t ≡ asks_for (request_at trace t) (kept_of capacity (earlier trace t))
@@ -128,8 +96,8 @@ module _ (trace : List Object) where
           let h : List Object = earlier trace t in
           let hits_at : ℕ → ℕ = λ u. cond (is_counted_hit capacity warmup trace fills u) 1 0 in
           let bytes_of : ℕ → ℕ = λ u. cond (is_counted_hit capacity warmup trace fills u) (request_at trace u).size 0 in
-          let told : IsToldApart num x h = all-earlier (λ y. eqb (num y) (num x) ≡ same_object x y) t (omega arith)
-          (λ k low. same_numbers k t (omega arith) within) in
+          let told : IsToldApart num x h = all-earlier trace (λ y. eqb (num y) (num x) ≡ same_object x y) t (omega arith)
+          (λ k low. same_numbers trace k t (omega arith) within) in
           let state : run.state ≡ lru_state num capacity run.state.now (entries_of num (kept_of capacity h)) =
           ap (λ (n : PolicyName). record { name = n; capacity = run.state.capacity; now = run.state.now; entries = run.state.entries; beside = run.state.beside }) so_far.name
           ∙ ap (λ c. record { name = Lru; capacity = c; now = run.state.now; entries = run.state.entries; beside = run.state.beside }) so_far.same_capacity

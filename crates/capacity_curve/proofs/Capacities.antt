@@ -1,30 +1,16 @@
 -- Intervals at capacities that no object is larger than: they are the same.
-use Rattle.std.proofs.Common.{◌≡◌, ◌∙◌, ℕ, ◌+◌, ◌<◌, ◌≤◌, ap, sym, refl, arith, subst, Bool, true, nat_le, ◌&&◌, List, [], ◌∷◌, ◌++◌, length, map, filter, max, fold, ⊎_elim, zero, suc, All}
-use Rattle.std.specs.List.{flat_map, range_with_len}
+use Rattle.std.proofs.Common.{◌≡◌, ◌∙◌, ℕ, ◌≤◌, ap, sym, refl, arith, Bool, nat_le, List, [], ◌∷◌, ◌++◌, map}
+use Rattle.std.specs.List.{flat_map}
 use Rattle.std.proofs.lemmas.Bool.{le-leb}
 use Rattle.std.proofs.lemmas.List.Elements.{filter_agree}
 use Rattle.cache_model.specs.declared.objects.Object.{Object}
 use Rattle.cache_model.specs.declared.objects.Objective.{Objective}
 use Rattle.cache_model.specs.declared.intervals.Interval.{Interval}
-use Rattle.cache_model.specs.Claim.{no_object, request_at, terms_from}
+use Rattle.cache_model.specs.Claim.{request_at, terms_from}
 use Rattle.cache_model.specs.Intervals.{eligible_from, eligible_intervals, interval_of, is_eligible}
 use Rattle.cache_model.specs.Objects.{numbers_of}
 use Rattle.byte_curve.specs.Sizes.{greatest_size}
-
--- the greatest so far only rises
-greatest-rises : (most : ℕ) (trace : List Object) → most ≤ fold (λ most x. max most x.size) most trace
-greatest-rises most [] = omega arith
-greatest-rises most (x ∷ xs) = omega (arith, greatest-rises (max most x.size) xs)
-
--- no request is for a larger object, if the greatest is sought from a size on
-greatest-from : (most : ℕ) (trace : List Object) (t : ℕ) → (request_at trace t).size ≤ fold (λ most x. max most x.size) most trace
-greatest-from most [] t = omega arith
-greatest-from most (x ∷ xs) zero = omega (arith, greatest-rises (max most x.size) xs)
-greatest-from most (x ∷ xs) (suc t) = greatest-from (max most x.size) xs t
-
--- no request is for a larger object than the greatest
-pub size-greatest : (trace : List Object) (t : ℕ) → (request_at trace t).size ≤ greatest_size trace
-size-greatest trace t = greatest-from 0 trace t
+use Rattle.byte_curve.proofs.SizeLemmas.{size-greatest}
 
 -- two functions that agree give the same list
 flat_map-agree : (f g : ℕ → List Interval) → ((t : ℕ) → f t ≡ g t) → (ts : List ℕ) → flat_map f ts ≡ flat_map g ts

@@ -1,5 +1,5 @@
 -- What makes a point of the curve.
-use Rattle.std.proofs.Common.{◌≡◌, ◌∙◌, ℕ, ◌+◌, ◌*◌, ◌/◌, ◌<◌, ◌≤◌, ap, sym, subst, arith, List, [], ◌∷◌, ◌++◌, map, take, length, get_or, All}
+use Rattle.std.proofs.Common.{◌≡◌, ◌∙◌, ℕ, ◌+◌, ◌/◌, ◌<◌, ◌≤◌, ap, sym, subst, arith, List, [], ◌∷◌, ◌++◌, map, take, length, get_or}
 use Rattle.std.proofs.lemmas.List.{append_assoc, map-append, take_more}
 use Rattle.std.proofs.lemmas.Nat.{le-div}
 use Rattle.cache_model.specs.declared.objects.Object.{Object}

@@ -1,5 +1,5 @@
 //! The points of the curve at each of many capacities.
-ghost use Rattle.std.specs.Prelude.{◌≡◌, ◌≤◌, ◌^◌, ◌++◌, All, IfOk, OnOk, map};
+ghost use Rattle.std.specs.Prelude.{◌≡◌, ◌<◌, ◌≤◌, ◌^◌, ◌++◌, All, IfOk, OnOk, length, map};
 ghost use Rattle.std.specs.List.Sorted.{IsNonDecreasing};
 ghost use Rattle.policy_model.specs.declared.names.PolicyName.TheVariants.{Lru as ByRecency};
 ghost use Rattle.policy_model.specs.Runs.{policy_run};
@@ -66,7 +66,7 @@ fn point_by_replay(
     })
 }
 
-// Appends the points at capacities that no object is larger than.
+// Appends the points at capacities that no object is larger than. The intervals at the first of them are those at each.
 fn push_by_distances(
     alloc: Global,
     trace: &Trace,
@@ -74,6 +74,7 @@ fn push_by_distances(
     asked: &CurveTerms,
     points: &mut Vec<Point>,
 ) -> Result<(), NoMemory>
+    requires some { 0 < length capacities.now }
     requires ascending { IsNonDecreasing capacities.now }
     requires range { All IsInRange capacities.now }
     requires large { All (λ capacity. greatest_size trace.now.objects ≤ capacity) capacities.now }
@@ -83,8 +84,8 @@ fn push_by_distances(
     ensures points { OnOk result (All (IsPoint asked.now trace.now) points.new.items) }
 {
     let found = lru_hits(alloc, trace, capacities, asked.warmup)?;
-    let most = greatest_size(trace);
-    let intervals = interval_maker::make(alloc, trace, most, asked.objective, asked.warmup)?;
+    let first = capacities[0];
+    let intervals = interval_maker::make(alloc, trace, first, asked.objective, asked.warmup)?;
     let unit = unit_of(&intervals);
     let mut start = 0;
     for (k, capacity) in capacities.iter().enumerate() {

@@ -24,7 +24,7 @@ pub record Lists : Type 0 where
 abbrev pub one_more : Lists → ℕ → ℕ → Lists
 one_more lists number node = record { first = slice_set lists.first node (number + 1); next = slice_set lists.next number (slice_index lists.first node) }
 
--- the list of each node has those of the first `n` edges that lead out of it, the greater numbers first
+-- the list of each node has those of the first `count` edges that lead out of it, the greater numbers first
 pub record AreListed (instance : Instance) (lists : Lists) (count : ℕ) : Type 0 where
   pub each_node : length lists.first ≡ instance.steps + 1
   pub each_edge : count ≤ length lists.next

@@ -22,8 +22,8 @@ IsSettled instance flows potentials distances limit e =
     → min limit (slice_index distances (head instance.arcs e)) + (gain instance.arcs e + slice_index potentials (head instance.arcs e))
     ≤ at_tail instance.arcs potentials distances e
 
--- the edge leads to the node, with room; the node was no nearer than along it when it was found, and if it still is not,
--- the tail was found before
+-- the edge leads to the node, with room; the node is no nearer than along the edge, and if it is just as far, the tail was
+-- found before
 pub record IsParent (instance : Instance) (flows : Flows) (potentials distances : List ℕ) (times : ℕ → ℕ) (e : Edge) (node : ℕ) : Type 0 where
   pub is_edge : IsEdge instance e
   pub room : 0 < residual instance flows e

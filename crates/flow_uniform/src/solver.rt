@@ -4,7 +4,7 @@ ghost use Rattle.flow_model.specs.Instances.{IsSolution};
 ghost use Rattle.flow_uniform.specs.Uniform.{IsUniform};
 
 use crate::choosing::choose;
-use crate::stepping::play;
+use crate::stepping::sweep;
 use bound_base::NoMemory;
 use flow_model::{Instance, Solution};
 use flow_parts::{Heap, OuterEdges};
@@ -79,7 +79,7 @@ impl<'a> Solver<'a> {
             mut cuts,
             mut prices,
         } = self;
-        play(
+        sweep(
             instance,
             &edges,
             &mut heap,

@@ -11,7 +11,7 @@ use flow_model::Instance;
 use flow_parts::{Heap, OuterEdges};
 
 /// Finds the flows, and for each step the least end of the arcs that lost flow there, or 0.
-pub(crate) fn play(
+pub(crate) fn sweep(
     instance: &Instance,
     edges: &OuterEdges,
     heap: &mut Heap,

@@ -14,7 +14,7 @@ pub enum FlagFault {
     /// This line of the flags is no flag.
     #[error("line {line} is no flag")]
     NotFlag { line: u64 },
-    /// So many lines have a flag, and there are so many requests, where the first of the two ends.
+    /// How many lines have a flag and how many requests there are, where the first of the two ends.
     #[error("{flags} flags of {requests} requests")]
     Count { flags: u64, requests: u64 },
     /// A read of the flags failed.

@@ -18,7 +18,7 @@ pub(crate) enum Answer {
 
 /// A range of places, both of which are in it, and the room for each load.
 #[derive(Clone, Copy, Debug, PartialEq, Eq)]
-pub(crate) struct Asked {
+pub(crate) struct Query {
     pub(crate) low: usize,
     pub(crate) high: usize,
     pub(crate) room: u64,
@@ -36,45 +36,45 @@ fn is_over(values: &[u64], from: usize, to: usize, added: u64, room: u64) -> boo
 
 // What a level tells, if each load in the group of the lowest place is greater than the value there by one number,
 // and in that of the highest place by another.
-fn judge(values: &[u64], level: Level, asked: Asked, low_added: u64, high_added: u64) -> Answer
-    requires order { asked.low ≤ asked.high }
-    requires within { asked.high < level.count }
+fn judge(values: &[u64], level: Level, query: Query, low_added: u64, high_added: u64) -> Answer
+    requires order { query.low ≤ query.high }
+    requires within { query.high < level.count }
     requires places { level.start + level.count ≤ length values.now }
-    requires left { (t : ℕ) → t / 16 ≡ asked.low / 16 → t < level.count →
+    requires left { (t : ℕ) → t / 16 ≡ query.low / 16 → t < level.count →
         load_at level.height level.start level.count values.now t ≡ slice_index values.now (level.start + t) + low_added }
-    requires right { (t : ℕ) → t / 16 ≡ asked.high / 16 → t < level.count →
+    requires right { (t : ℕ) → t / 16 ≡ query.high / 16 → t < level.count →
         load_at level.height level.start level.count values.now t ≡ slice_index values.now (level.start + t) + high_added }
-    requires inner { (t : ℕ) → asked.low / 16 < t / 16 → t / 16 < asked.high / 16 →
-        load_at level.height level.start level.count values.now t ≤ asked.room }
+    requires inner { (t : ℕ) → query.low / 16 < t / 16 → t / 16 < query.high / 16 →
+        load_at level.height level.start level.count values.now t ≤ query.room }
     requires small { (t : ℕ) → t < level.count →
         load_at level.height level.start level.count values.now t < 2 ^ 64 }
     ensures { IsAnswer (load_at level.height level.start level.count values.now)
-        asked.low asked.high asked.room result }
+        query.low query.high query.room result }
 {
     let start = level.start;
-    let left_end = (asked.low / WIDTH * WIDTH + WIDTH).min(asked.high);
-    let right_start = (asked.high / WIDTH * WIDTH).max(left_end);
+    let left_end = (query.low / WIDTH * WIDTH + WIDTH).min(query.high);
+    let right_start = (query.high / WIDTH * WIDTH).max(left_end);
     if is_over(
         values,
-        start + asked.low + 1,
+        start + query.low + 1,
         start + left_end,
         low_added,
-        asked.room,
+        query.room,
     ) {
         return Answer::Full;
     }
     if is_over(
         values,
         start + right_start,
-        start + asked.high,
+        start + query.high,
         high_added,
-        asked.room,
+        query.room,
     ) {
         return Answer::Full;
     }
-    let low = values[start + asked.low] + low_added;
-    let high = values[start + asked.high] + high_added;
-    if low <= asked.room && high <= asked.room {
+    let low = values[start + query.low] + low_added;
+    let high = values[start + query.high] + high_added;
+    if low <= query.room && high <= query.room {
         Answer::Fits
     } else {
         Answer::Open { low, high }
@@ -82,24 +82,24 @@ fn judge(values: &[u64], level: Level, asked: Asked, low_added: u64, high_added:
 }
 
 /// What the levels from this one upward tell of a range of its places. Takes time in the number of levels.
-pub(crate) fn look(values: &[u64], level: Level, asked: Asked) -> Answer
+pub(crate) fn look(values: &[u64], level: Level, query: Query) -> Answer
     requires levels { IsLevels level.height level.start level.count values.now }
-    requires order { asked.low ≤ asked.high }
-    requires within { asked.high < level.count }
+    requires order { query.low ≤ query.high }
+    requires within { query.high < level.count }
     requires small { (t : ℕ) → t < level.count →
         load_at level.height level.start level.count values.now t < 2 ^ 64 }
     ensures { IsAnswer (load_at level.height level.start level.count values.now)
-        asked.low asked.high asked.room result }
+        query.low query.high query.room result }
 {
     if level.height == 0 {
-        return judge(values, level, asked, 0, 0);
+        return judge(values, level, query, 0, 0);
     }
-    let left = asked.low / WIDTH;
-    let right = asked.high / WIDTH;
-    let above = Asked {
+    let left = query.low / WIDTH;
+    let right = query.high / WIDTH;
+    let above = Query {
         low: left,
         high: right,
-        room: asked.room,
+        room: query.room,
     };
     match look(values, level.next(), above) {
         Answer::Open { low, high } => {
@@ -107,7 +107,7 @@ pub(crate) fn look(values: &[u64], level: Level, asked: Asked) -> Answer
             let right_most = most_of_other(values, level, left, left_most, right);
             let low_added = low - left_most;
             let high_added = high - right_most;
-            judge(values, level, asked, low_added, high_added)
+            judge(values, level, query, low_added, high_added)
         }
         settled => settled,
     }

@@ -4,7 +4,7 @@ ghost use Rattle.load_tree.specs.Ranges.{AddsOver, AreWithin, HasSmallRoom};
 
 use crate::levels::{Level, shape_of};
 use crate::raising::{Rise, raise};
-use crate::settling::{Answer, Asked, look};
+use crate::settling::{Answer, Query, look};
 use bound_base::NoMemory;
 use std::alloc::Global;
 use std::marker::Model;
@@ -62,12 +62,12 @@ impl SmallLoads {
             start: 0,
             count: self.steps as usize,
         };
-        let asked = Asked {
+        let query = Query {
             low: from as usize,
             high: to as usize - 1,
             room,
         };
-        matches!(look(&self.values, level, asked), Answer::Fits)
+        matches!(look(&self.values, level, query), Answer::Fits)
     }
 
     /// Adds the amount to each step from `from` to the one before `to`. Takes time in the logarithm of the number of

@@ -1,5 +1,5 @@
 //! No policy scores more on a made trace with marks than the best of all contents, which are enumerated.
-use crate::made::{Ask, Row, made, trace_of};
+use crate::helpers::{Ask, Row, made, trace_of};
 use crate::rows::{holds, replays};
 use crate::today;
 use cache_rules::Trace;

@@ -5,18 +5,18 @@
 #[cfg(test)]
 mod all_contents;
 #[cfg(test)]
-mod counting;
+mod helpers;
 #[cfg(test)]
-mod curves;
+mod hit_judge_policies;
 #[cfg(test)]
-mod idle;
+mod replay_core_counting;
 #[cfg(test)]
-mod judged;
-#[cfg(test)]
-mod made;
+mod replay_core_idle;
 #[cfg(test)]
 mod rows;
 #[cfg(test)]
 mod simulations;
+#[cfg(test)]
+mod stack_curve_points;
 #[cfg(test)]
 mod today;

@@ -1,5 +1,5 @@
 //! Replays and curves of made traces with marks, beside plain simulations of the rules.
-use crate::made::{Ask, Row, made, trace_of};
+use crate::helpers::{Ask, Row, made, trace_of};
 use crate::rows::replays;
 use belady_laws::Replay;
 use byte_curve::{greatest_size, lru_hits};

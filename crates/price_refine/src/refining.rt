@@ -20,7 +20,7 @@ use std::alloc::Global;
 /// The most rounds.
 const ROUNDS: u32 = 64;
 
-/// All rounds together meet at most so many intervals for each interval and step.
+/// All rounds together meet at most this many intervals for each interval and step.
 const WORK: u64 = 4;
 
 /// A round that lowers the bound by less than this part of it is the last one.

@@ -1,6 +1,6 @@
 //! Tests of numbers and of the crates that read and write: lines, traces, certificates and texts.
 //!
-//! The first line of each file names the crate that it tests.
+//! The name of each file begins with the crate that it tests.
 //!
 //! They stand apart from those crates, since a crate with tests is proved twice.
 //!
@@ -9,46 +9,50 @@
 #![tactic(auto)]
 
 #[cfg(test)]
-mod arc_lines;
+mod bound_base_numbers;
 #[cfg(test)]
-mod certificates;
+mod bound_io_lines;
 #[cfg(test)]
-mod checkers;
+mod bound_io_pieces;
 #[cfg(test)]
-mod checks;
+mod bound_io_places;
 #[cfg(test)]
-mod demos;
+mod bound_io_sinks;
 #[cfg(test)]
-mod lines;
+mod bound_io_sources;
 #[cfg(test)]
-mod marked_checks;
+mod bound_report_texts;
 #[cfg(test)]
-mod marks;
+mod cache_rules_scores;
 #[cfg(test)]
-mod msr_lines;
+mod cache_rules_traces;
 #[cfg(test)]
-mod numbers;
+mod cert_checker_invalid;
 #[cfg(test)]
-mod oracle_records;
+mod cert_checker_marks;
 #[cfg(test)]
-mod pieces;
+mod cert_checker_rules;
 #[cfg(test)]
-mod places;
+mod cert_checker_steps;
 #[cfg(test)]
-mod requests;
+mod cert_format_certificates;
 #[cfg(test)]
-mod scores;
+mod cert_format_versions;
 #[cfg(test)]
-mod sinks;
+mod demo_trace_lines;
 #[cfg(test)]
-mod sources;
+mod trace_any_loads;
 #[cfg(test)]
-mod texts;
+mod trace_any_marks;
 #[cfg(test)]
-mod traces;
+mod trace_any_requests;
 #[cfg(test)]
-mod versions;
+mod trace_arc_lines;
 #[cfg(test)]
-mod webcache_lines;
+mod trace_lines_words;
 #[cfg(test)]
-mod words;
+mod trace_msr_lines;
+#[cfg(test)]
+mod trace_oracle_records;
+#[cfg(test)]
+mod trace_webcache_lines;

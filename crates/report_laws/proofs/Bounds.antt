@@ -1,15 +1,15 @@
 -- A report of bounds is read in one way.
-use Rattle.std.proofs.Common.{◌≡◌, ℕ, ◌∙◌, sym, refl, ap, List, [], ◌∷◌, drop, get_or, codes, Option}
+use Rattle.std.proofs.Common.{◌≡◌, ℕ, ◌∙◌, sym, refl, ap, List, [], ◌∷◌, drop, get_or, codes}
 use Rattle.std.specs.List.{AllByRecursion}
 use Rattle.std.proofs.lemmas.List.Elements.{recursion_from_All}
 use Rattle.cache_model.specs.Texts.{entry, text_of}
 use Rattle.bound_report.specs.declared.facts.BoundFacts.{BoundFacts}
-use Rattle.bound_report.specs.Counted.{with_counted}
-use Rattle.bound_report.specs.Replays.{with_warmup}
-use Rattle.bound_report.specs.Reports.{mode_line, report_lines, report_text, trace_line, unit_line, value_lines}
+use Rattle.bound_report.specs.declared.rendering.Counting.{Counting}
+use Rattle.bound_report.specs.Rendering.{rendered}
+use Rattle.bound_report.specs.Reports.{bound_lines, mode_line, trace_line, unit_line, value_lines}
 use Rattle.report_laws.specs.Laws.{ArePrintable, BoundsHaveOneReading, IsPrintable, SameBounds, bound_numbers, header_numbers, mode_numbers}
 use Rattle.report_laws.proofs.Lines.{Lacks, Small, line_lacks, named, numbers_apart}
-use Rattle.report_laws.proofs.ReportLines.{IsReport, Report, body, lines_of, none_behind, reports_apart, with_counted-with_warmup}
+use Rattle.report_laws.proofs.ReportLines.{IsReport, Report, all_of, body, lines_of, none_behind, rendered-lines, reports_apart}
 use Rattle.report_laws.proofs.SharedLines.{SameMode, header_apart, header_capacity_lacks, mode_apart, mode_lacks, trace_apart, trace_lacks, unit_lacks, values_lack}
 
 -- the numbers of its lines
@@ -32,18 +32,17 @@ abbrev pub bound_trace : BoundFacts → List ℕ
 bound_trace f = trace_line f.header.requests f.objects f.dropped
 
 -- the report among other lines
-abbrev pub report_of : BoundFacts → Option ℕ → ℕ → List (List ℕ) → List (List ℕ) → Report
-report_of f c v before behind = record {
+abbrev pub report_of : BoundFacts → Counting → List (List ℕ) → List (List ℕ) → Report
+report_of f c before behind = record {
   before = before;
-  counted = c;
+  counting = c;
   capacity = f.header.capacity;
   objective = f.header.objective;
   others = mode_line f.mode f.price f.header.exact ∷ unit_line f.header ∷ entry (codes "intervals") f.intervals ∷ value_lines f.header;
-  warmup = v;
   behind = behind;
 }
 
-pub bounds_lack : (f : BoundFacts) → SmallBounds f → AllByRecursion (Lacks 10) (report_lines f)
+pub bounds_lack : (f : BoundFacts) → SmallBounds f → AllByRecursion (Lacks 10) (all_of (bound_lines f))
 bounds_lack f small = (
   trace_lacks f.header.requests f.objects f.dropped small.trace,
   (
@@ -56,7 +55,7 @@ bounds_lack f small = (
 )
 
 -- what was printed is read from the lines
-pub same_bounds : (f g : BoundFacts) → SmallBounds f → SmallBounds g → report_lines f ≡ report_lines g → SameBounds f g
+pub same_bounds : (f g : BoundFacts) → SmallBounds f → SmallBounds g → all_of (bound_lines f) ≡ all_of (bound_lines g) → SameBounds f g
 same_bounds f g small small' e =
     let trace : f.header.requests ∷ f.objects ∷ f.dropped ∷ [] ≡ g.header.requests ∷ g.objects ∷ g.dropped ∷ []
     = trace_apart f.header.requests f.objects f.dropped g.header.requests g.objects g.dropped small.trace small'.trace (line 0) in
@@ -69,28 +68,28 @@ same_bounds f g small small' e =
     let headers : header_numbers f.header ≡ header_numbers g.header = header.0 in
     record { numbers = cc; objective = header.1; mode = mode.mode; exact = mode.exact }
   where
-    line : (i : ℕ) → get_or (report_lines f) i [] ≡ get_or (report_lines g) i []
+    line : (i : ℕ) → get_or (all_of (bound_lines f)) i [] ≡ get_or (all_of (bound_lines g)) i []
     line i = ap (λ ls. get_or ls i []) e
 
-module _ (f : BoundFacts) (v : ℕ) (c : Option ℕ) (printable : ArePrintable c v (bound_numbers f)) where
+module _ (f : BoundFacts) (c : Counting) (printable : ArePrintable c (bound_numbers f)) where
   small_all : SmallBounds f
   small_all = small_bounds f (recursion_from_All IsPrintable (bound_numbers f) printable.2)
 
   -- the report alone
   abbrev alone : Report
-  alone = report_of f c v (bound_trace f ∷ []) []
+  alone = report_of f c (bound_trace f ∷ []) []
 
   is_alone : IsReport alone
   is_alone = let lack = bounds_lack f small_all in record { before = (lack.0, tt); counted = printable.0; body = lack.1; warmup = printable.1; behind = tt; other = none_behind }
 
-  text_alone : with_counted c (with_warmup v (report_text f)) ≡ text_of (lines_of alone)
-  text_alone = with_counted-with_warmup c v (bound_trace f) (body alone) (bounds_lack f small_all).0
+  text_alone : rendered c (bound_lines f) ≡ text_of (lines_of alone)
+  text_alone = rendered-lines c (bound_trace f ∷ []) (body alone)
 
 pub bounds_apart : BoundsHaveOneReading
-bounds_apart f g v w c d printable printable' e =
-    let r = alone f v c printable in
-    let s = alone g w d printable' in
-    let same = reports_apart r s (is_alone f v c printable) (is_alone g w d printable') refl refl (sym (text_alone f v c printable) ∙ e ∙ text_alone g w d printable') in
+bounds_apart f g c d printable printable' e =
+    let r = alone f c printable in
+    let s = alone g d printable' in
+    let same = reports_apart r s (is_alone f c printable) (is_alone g d printable') refl refl (sym (text_alone f c printable) ∙ e ∙ text_alone g d printable') in
     let trace : bound_trace f ∷ [] ≡ bound_trace g ∷ [] = same.before in
     let rest : body r ≡ body s = same.body in
-    (same_bounds f g (small_all f v c printable) (small_all g w d printable') cc, same.warmup, same.counted)
+    (same_bounds f g (small_all f c printable) (small_all g d printable') cc, same.counting)

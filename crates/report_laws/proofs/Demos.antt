@@ -1,5 +1,5 @@
 -- The text of a demo is read in one way.
-use Rattle.std.proofs.Common.{◌≡◌, ℕ, zero, suc, ◌∙◌, sym, refl, ap, true, List, [], ◌∷◌, ◌++◌, append_assoc, get_or, arith, codes, None}
+use Rattle.std.proofs.Common.{◌≡◌, ℕ, zero, suc, ◌∙◌, sym, refl, ap, true, List, [], ◌∷◌, ◌++◌, append_assoc, get_or, arith, codes, None, Some, Option}
 use Rattle.std.specs.List.{AllByRecursion, list_all}
 use Rattle.std.proofs.lemmas.List.Concat.{flat_map-append}
 use Rattle.std.proofs.lemmas.List.Elements.{recursion_from_All}
@@ -11,12 +11,13 @@ use Rattle.bound_report.specs.declared.facts.BoundFacts.{BoundFacts}
 use Rattle.bound_report.specs.declared.demo.DemoFacts.{DemoFacts}
 use Rattle.bound_report.specs.declared.demo.PolicyReplays.{PolicyReplays}
 use Rattle.bound_report.specs.Demos.{demo_line, demo_text, replay_line, replay_lines}
-use Rattle.bound_report.specs.Replays.{with_warmup}
+use Rattle.bound_report.specs.declared.rendering.Counting.{Counting}
+use Rattle.bound_report.specs.Rendering.{rendered}
+use Rattle.bound_report.specs.Reports.{bound_lines}
 use Rattle.policy_model.specs.Names.{policy_word}
-use Rattle.bound_report.specs.Reports.{report_lines, report_text}
 use Rattle.report_laws.specs.Laws.{ArePrintable, DemosHaveOneReading, IsPrintable, bound_numbers, demo_numbers}
 use Rattle.report_laws.proofs.Lines.{Lacks, Part, Small, is_part, line_lacks, named, numbers_apart}
-use Rattle.report_laws.proofs.ReportLines.{IsReport, Report, body, bytes_at, lines_of, reports_apart, warmed, with_warmup-lines}
+use Rattle.report_laws.proofs.ReportLines.{IsReport, Report, body, bytes_at, lines_of, optional, rendered-lines, reports_apart, warmed}
 use Rattle.report_laws.proofs.Bounds.{SmallBounds, bound_trace, bounds_lack, report_of, same_bounds, small_bounds}
 
 -- ---- what is asked of a demo
@@ -87,22 +88,28 @@ replays_apart a b r s f g small small' e =
     at : (i : ℕ) → get_or (replay_lines r) i [] ≡ get_or (replay_lines s) i []
     at i = ap (λ ls. get_or ls i []) e
 
--- a report with a warm-up among other lines
-with_warmup-between : (first : List ℕ) (v : ℕ) (lines behind : List (List ℕ)) → line first ++ with_warmup v (text_of lines) ++ text_of behind ≡ text_of (first ∷ lines ++ warmed v behind)
-with_warmup-between first v lines behind =
-    ap (λ text. line first ++ text ++ text_of behind) (with_warmup-lines v lines)
-    ∙ sym (flat_map-append line (first ∷ lines ++ warmed v []) behind)
-    ∙ ap (λ ls. text_of (first ∷ ls)) (append_assoc lines (warmed v []) behind)
-    ∙ ap (λ ls. text_of (first ∷ lines ++ ls)) (warmed-append v)
+-- a report among other lines
+rendered-between : (first : List ℕ) (c : Counting) (trace : List ℕ) (lines behind : List (List ℕ))
+    → line first ++ rendered c (record { front = trace ∷ []; back = lines }) ++ text_of behind ≡ text_of (first ∷ trace ∷ optional (codes "counted") c.counted (lines ++ warmed c.warmup behind))
+rendered-between first c trace lines behind =
+    let back = optional (codes "counted") c.counted (lines ++ warmed c.warmup []) in
+    ap (λ text. line first ++ text ++ text_of behind) (rendered-lines c (trace ∷ []) lines)
+    ∙ sym (flat_map-append line (first ∷ trace ∷ back) behind)
+    ∙ ap (λ ls. text_of (first ∷ trace ∷ ls))
+    (optional-append c.counted (lines ++ warmed c.warmup []) ∙ ap (optional (codes "counted") c.counted) (append_assoc lines (warmed c.warmup []) behind ∙ ap (λ ls. lines ++ ls) (warmed-append c.warmup)))
   where
     warmed-append : (w : ℕ) → warmed w [] ++ behind ≡ warmed w behind
     warmed-append zero = refl
     warmed-append (suc n) = refl
 
+    optional-append : (counted : Option ℕ) (ls : List (List ℕ)) → optional (codes "counted") counted ls ++ behind ≡ optional (codes "counted") counted (ls ++ behind)
+    optional-append None ls = refl
+    optional-append (Some n) ls = refl
+
 is_check : (n : ℕ) → codes "check valid" ≡ entry (codes "warmup") n → ⊥
 is_check n e = omega (arith, bytes_at 0 _ _ e)
 
-module _ (a : DemoFacts) (f : BoundFacts) (v : ℕ) (r : PolicyReplays) (printable : ArePrintable None v (demo_numbers a r ++ bound_numbers f)) where
+module _ (a : DemoFacts) (f : BoundFacts) (c : Counting) (r : PolicyReplays) (printable : ArePrintable c (demo_numbers a r ++ bound_numbers f)) where
   small_all : SmallDemo a r f
   small_all = small_demo a r f (recursion_from_All IsPrintable (demo_numbers a r ++ bound_numbers f) printable.2)
 
@@ -111,32 +118,32 @@ module _ (a : DemoFacts) (f : BoundFacts) (v : ℕ) (r : PolicyReplays) (printab
   behind = codes "check valid" ∷ replay_lines r
 
   abbrev whole : Report
-  whole = report_of f None v (demo_line a ∷ bound_trace f ∷ []) behind
+  whole = report_of f c (demo_line a ∷ bound_trace f ∷ []) behind
 
   is_whole : IsReport whole
   is_whole =
       let lack = bounds_lack f small_all.bounds in
       record {
         before = (line_lacks demo_parts (asked_numbers a) refl small_all.asked, (lack.0, tt));
-        counted = tt;
+        counted = printable.0;
         body = lack.1;
         warmup = printable.1;
         behind = (refl, replays_lack a r f small_all);
         other = is_check;
       }
 
-  text_whole : demo_text a (with_warmup v (report_text f)) r ≡ text_of (lines_of whole)
-  text_whole = with_warmup-between (demo_line a) v (report_lines f) behind
+  text_whole : demo_text a (rendered c (bound_lines f)) r ≡ text_of (lines_of whole)
+  text_whole = rendered-between (demo_line a) c (bound_trace f) (body whole) behind
 
 pub demos_apart : DemosHaveOneReading
-demos_apart a b f g v w r s printable printable' e =
-    let x = whole a f v r printable in
-    let y = whole b g w s printable' in
-    let small = small_all a f v r printable in
-    let small' = small_all b g w s printable' in
-    let same = reports_apart x y (is_whole a f v r printable) (is_whole b g w s printable') refl refl (sym (text_whole a f v r printable) ∙ e ∙ text_whole b g w s printable') in
+demos_apart a b f g c d r s printable printable' e =
+    let x = whole a f c r printable in
+    let y = whole b g d s printable' in
+    let small = small_all a f c r printable in
+    let small' = small_all b g d s printable' in
+    let same = reports_apart x y (is_whole a f c r printable) (is_whole b g d s printable') refl refl (sym (text_whole a f c r printable) ∙ e ∙ text_whole b g d s printable') in
     let before : demo_line a ∷ bound_trace f ∷ [] ≡ demo_line b ∷ bound_trace g ∷ [] = same.before in
     let rest : body x ≡ body y = same.body in
     let checked : codes "check valid" ∷ replay_lines r ≡ codes "check valid" ∷ replay_lines s = same.behind in
     let asked : asked_numbers a ≡ asked_numbers b = numbers_apart demo_parts (asked_numbers a) (asked_numbers b) refl refl refl small.asked small'.asked (ap (λ ls. get_or ls 0 []) before) in
-    (ap asked_of asked, same_bounds f g small.bounds small'.bounds cc, same.warmup, replays_apart a b r s f g small small' cc)
+    (ap asked_of asked, same_bounds f g small.bounds small'.bounds cc, same.counting, replays_apart a b r s f g small small' cc)

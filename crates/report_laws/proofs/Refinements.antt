@@ -1,15 +1,15 @@
 -- The text of a refinement is read in one way.
-use Rattle.std.proofs.Common.{◌≡◌, ℕ, ◌∙◌, sym, refl, ap, List, [], ◌∷◌, ◌++◌, get_or, codes, Option}
+use Rattle.std.proofs.Common.{◌≡◌, ℕ, ◌∙◌, sym, refl, ap, List, [], ◌∷◌, ◌++◌, get_or, codes}
 use Rattle.std.proofs.lemmas.List.Elements.{recursion_from_All}
 use Rattle.cache_model.specs.declared.certificates.Header.{Header}
 use Rattle.cache_model.specs.Texts.{text_of}
 use Rattle.cert_checker.specs.declared.verdict.Verdict.{Verdict}
-use Rattle.bound_report.specs.Counted.{refined_with_counted}
-use Rattle.bound_report.specs.Refinements.{refined_line, refined_text}
-use Rattle.bound_report.specs.Replays.{with_warmup}
+use Rattle.bound_report.specs.declared.rendering.Counting.{Counting}
+use Rattle.bound_report.specs.Refinements.{refined_line, refined_lines}
+use Rattle.bound_report.specs.Rendering.{rendered}
 use Rattle.report_laws.specs.Laws.{ArePrintable, IsPrintable, RefinementsHaveOneReading, header_numbers, verdict_numbers}
 use Rattle.report_laws.proofs.Lines.{Lacks, Part, Small, line_lacks, numbers_apart}
-use Rattle.report_laws.proofs.ReportLines.{IsReport, Report, body, lines_of, none_behind, refined_with_counted-with_warmup, reports_apart}
+use Rattle.report_laws.proofs.ReportLines.{IsReport, Report, body, lines_of, none_behind, rendered-lines, reports_apart}
 use Rattle.report_laws.proofs.SharedLines.{ratio_parts}
 use Rattle.report_laws.proofs.Verdicts.{SmallVerdict, report_of, same_verdicts, small_verdict, verdict_lacks, verdict_trace}
 
@@ -29,7 +29,7 @@ record SmallRefined (read : ℕ) (x : Verdict) (dropped : ℕ) : Type 0 where
   first : Small (refined_numbers read x.header)
   verdict : SmallVerdict x dropped
 
-module _ (read : ℕ) (x : Verdict) (m v : ℕ) (c : Option ℕ) (printable : ArePrintable c v (read ∷ verdict_numbers x m)) where
+module _ (read : ℕ) (x : Verdict) (m : ℕ) (c : Counting) (printable : ArePrintable c (read ∷ verdict_numbers x m)) where
   small_all : SmallRefined read x m
   small_all =
       let all : Small (read ∷ verdict_numbers x m) = recursion_from_All IsPrintable (read ∷ verdict_numbers x m) printable.2 in
@@ -41,25 +41,25 @@ module _ (read : ℕ) (x : Verdict) (m v : ℕ) (c : Option ℕ) (printable : Ar
 
   -- the report alone
   abbrev alone : Report
-  alone = report_of x c v (refined_line read x.header ∷ verdict_trace x m ∷ [])
+  alone = report_of x c (refined_line read x.header ∷ verdict_trace x m ∷ [])
 
   is_alone : IsReport alone
   is_alone =
       let lack = verdict_lacks x m small_all.verdict in
       record { before = (first_lacks, (lack.0, tt)); counted = printable.0; body = lack.1; warmup = printable.1; behind = tt; other = none_behind }
 
-  text_alone : refined_with_counted c (with_warmup v (refined_text read x m)) ≡ text_of (lines_of alone)
-  text_alone = refined_with_counted-with_warmup c v (refined_line read x.header) (verdict_trace x m) (body alone) first_lacks (verdict_lacks x m small_all.verdict).0
+  text_alone : rendered c (refined_lines read x m) ≡ text_of (lines_of alone)
+  text_alone = rendered-lines c (refined_line read x.header ∷ verdict_trace x m ∷ []) (body alone)
 
 pub refinements_apart : RefinementsHaveOneReading
-refinements_apart read other x y m n v w c d printable printable' e =
-    let r = alone read x m v c printable in
-    let s = alone other y n w d printable' in
-    let small = small_all read x m v c printable in
-    let small' = small_all other y n w d printable' in
-    let same = reports_apart r s (is_alone read x m v c printable) (is_alone other y n w d printable') refl refl (sym (text_alone read x m v c printable) ∙ e ∙ text_alone other y n w d printable') in
+refinements_apart read other x y m n c d printable printable' e =
+    let r = alone read x m c printable in
+    let s = alone other y n d printable' in
+    let small = small_all read x m c printable in
+    let small' = small_all other y n d printable' in
+    let same = reports_apart r s (is_alone read x m c printable) (is_alone other y n d printable') refl refl (sym (text_alone read x m c printable) ∙ e ∙ text_alone other y n d printable') in
     let before : refined_line read x.header ∷ verdict_trace x m ∷ [] ≡ refined_line other y.header ∷ verdict_trace y n ∷ [] = same.before in
     let rest : body r ≡ body s = same.body in
     let numbers : refined_numbers read x.header ≡ refined_numbers other y.header
     = numbers_apart refined_parts (refined_numbers read x.header) (refined_numbers other y.header) refl refl refl small.first small'.first (ap (λ ls. get_or ls 0 []) before) in
-    (cc, same_verdicts x y m n small.verdict small'.verdict cc, same.warmup, same.counted)
+    (cc, same_verdicts x y m n small.verdict small'.verdict cc, same.counting)

@@ -1,16 +1,18 @@
 -- The lines of a report, of which two may be there or not: how many requests count, and the warm-up.
-use Rattle.std.proofs.Common.{◌≡◌, ℕ, zero, suc, ◌∙◌, sym, refl, ap, true, List, [], ◌∷◌, ◌++◌, append-nil, cond, length, get_or, arith, codes, Some, None, Option, IfSome}
+use Rattle.std.proofs.Common.{◌≡◌, ℕ, zero, suc, ◌∙◌, sym, refl, ap, true, List, [], ◌∷◌, ◌++◌, append_assoc, cond, length, get_or, arith, codes, Some, None, Option, IfSome}
 use Rattle.std.specs.List.{AllByRecursion, list_all}
 use Rattle.std.proofs.lemmas.Bool.{ne_eqb}
-use Rattle.std.proofs.lemmas.List.Concat.{flat_map-append}
 use Rattle.cache_model.specs.declared.objects.Objective.{Objective}
-use Rattle.cache_model.specs.Texts.{entry, line, text_of}
-use Rattle.bound_report.specs.Counted.{refined_with_counted, with_counted}
-use Rattle.bound_report.specs.Replays.{with_warmup}
+use Rattle.cache_model.specs.Texts.{entry, text_of}
+use Rattle.bound_report.specs.declared.rendering.Counting.{Counting}
+use Rattle.bound_report.specs.Rendering.{Lines, counted_lines, rendered, warmup_lines}
 use Rattle.bound_report.specs.Reports.{capacity_line}
-use Rattle.bound_report.proofs.CountedLemmas.{refined_with_counted-lines, with_counted-lines}
 use Rattle.report_laws.specs.Laws.{IsPrintable}
 use Rattle.report_laws.proofs.Lines.{Lacks, is_part, line_lacks, lines_apart, named, numbers_apart}
+
+-- all lines of a report without those that may be there
+abbrev pub all_of : Lines → List (List ℕ)
+all_of lines = lines.front ++ lines.back
 
 -- ---- a line that may be there
 -- lines, and before them one of a word and a number, if there is a number
@@ -55,24 +57,30 @@ warmup_apart zero (suc w) e = absurd cc
 warmup_apart (suc v) zero e = absurd cc
 warmup_apart (suc v) (suc w) e = cc
 
--- behind lines it is a line
-pub with_warmup-lines : (v : ℕ) (lines : List (List ℕ)) → with_warmup v (text_of lines) ≡ text_of (lines ++ warmed v [])
-with_warmup-lines zero lines = ap text_of (sym (append-nil lines))
-with_warmup-lines (suc n) lines =
-    let last = entry (codes "warmup") (suc n) in
-    ap (λ none. cond none (text_of lines) (text_of lines ++ line last)) (ne_eqb (suc n) 0 (λ e. omega arith))
-    ∙ ap (λ text. text_of lines ++ text) (sym (append-nil (line last)))
-    ∙ sym (flat_map-append line lines (last ∷ []))
+warmup_lines-warmed : (v : ℕ) → warmup_lines v ≡ warmed v []
+warmup_lines-warmed zero = refl
+warmup_lines-warmed (suc n) = ap (λ none. cond none [] (entry (codes "warmup") (suc n) ∷ [])) (ne_eqb (suc n) 0 (λ e. omega arith))
+
+counted_lines-optional : (c : Option ℕ) (lines : List (List ℕ)) → counted_lines c ++ lines ≡ optional (codes "counted") c lines
+counted_lines-optional None lines = refl
+counted_lines-optional (Some n) lines = refl
+
+-- the text of a report, line by line
+pub rendered-lines : (c : Counting) (front back : List (List ℕ)) → rendered c (record { front = front; back = back }) ≡ text_of (front ++ optional (codes "counted") c.counted (back ++ warmed c.warmup []))
+rendered-lines c front back =
+    let counted = counted_lines c.counted in
+    let warmup = warmup_lines c.warmup in
+    ap text_of (append_assoc (front ++ counted) back warmup ∙ append_assoc front counted (back ++ warmup))
+    ∙ ap (λ ls. text_of (front ++ ls)) (counted_lines-optional c.counted (back ++ warmup) ∙ ap (λ w. optional (codes "counted") c.counted (back ++ w)) (warmup_lines-warmed c.warmup))
 
 -- ---- the lines of a report
--- those up to that of the trace, how many requests count, the lines from the capacity on, the warm-up, and the lines behind it
+-- those up to that of the trace, how the requests count, the lines from the capacity on, and those behind the warm-up
 pub record Report : Type 0 where
   pub before : List (List ℕ)
-  pub counted : Option ℕ
+  pub counting : Counting
   pub capacity : ℕ
   pub objective : Objective
   pub others : List (List ℕ)
-  pub warmup : ℕ
   pub behind : List (List ℕ)
 
 -- the lines from the capacity on
@@ -81,7 +89,7 @@ body r = capacity_line r.capacity r.objective ∷ r.others
 
 -- all lines behind those up to that of the trace
 abbrev pub after_trace : Report → List (List ℕ)
-after_trace r = optional (codes "counted") r.counted (body r ++ warmed r.warmup r.behind)
+after_trace r = optional (codes "counted") r.counting.counted (body r ++ warmed r.counting.warmup r.behind)
 
 -- all its lines
 abbrev pub lines_of : Report → List (List ℕ)
@@ -90,9 +98,9 @@ lines_of r = r.before ++ after_trace r
 -- each is one line, and none behind the warm-up looks as that of a warm-up
 pub record IsReport (r : Report) : Type 0 where
   pub before : AllByRecursion (Lacks 10) r.before
-  pub counted : IfSome r.counted IsPrintable
+  pub counted : IfSome r.counting.counted IsPrintable
   pub body : AllByRecursion (Lacks 10) (body r)
-  pub warmup : IsPrintable r.warmup
+  pub warmup : IsPrintable r.counting.warmup
   pub behind : AllByRecursion (Lacks 10) r.behind
   pub other : (n : ℕ) → get_or r.behind 0 [] ≡ entry (codes "warmup") n → ⊥
 
@@ -102,9 +110,10 @@ lacks-both (x ∷ xs) ys a b = (a.0, lacks-both xs ys a.1 b)
 
 report_lacks : (r : Report) → IsReport r → AllByRecursion (Lacks 10) (lines_of r)
 report_lacks r is =
-    let last = optional_lacks (codes "warmup") (warmup_of r.warmup) r.behind refl (warmup_small r.warmup is.warmup) is.behind in
-    let rest = lacks-both (body r) (warmed r.warmup r.behind) is.body last in
-    lacks-both r.before (after_trace r) is.before (optional_lacks (codes "counted") r.counted (body r ++ warmed r.warmup r.behind) refl is.counted rest)
+    let v = r.counting.warmup in
+    let last = optional_lacks (codes "warmup") (warmup_of v) r.behind refl (warmup_small v is.warmup) is.behind in
+    let rest = lacks-both (body r) (warmed v r.behind) is.body last in
+    lacks-both r.before (after_trace r) is.before (optional_lacks (codes "counted") r.counting.counted (body r ++ warmed v r.behind) refl is.counted rest)
 
 -- two lists of which as many elements are cut off
 split_at : (xs ys ps qs : List (List ℕ)) → length xs ≡ length ys → xs ++ ps ≡ ys ++ qs → (xs ≡ ys) × (ps ≡ qs)
@@ -126,36 +135,27 @@ is_capacity capacity objective n e = omega (arith, bytes_at 1 _ _ e)
 
 pub record SameReport (r s : Report) : Type 0 where
   pub before : r.before ≡ s.before
-  pub counted : r.counted ≡ s.counted
+  pub counting : r.counting ≡ s.counting
   pub body : body r ≡ body s
-  pub warmup : r.warmup ≡ s.warmup
   pub behind : r.behind ≡ s.behind
+
+same_counting : (c d : Counting) → c.warmup ≡ d.warmup → c.counted ≡ d.counted → c ≡ d
+same_counting c d warmup counted = ap (λ v. record { warmup = v; counted = c.counted }) warmup ∙ ap (λ n. record { warmup = d.warmup; counted = n }) counted
 
 -- two reports of as many lines are the same if their texts are
 pub reports_apart : (r s : Report) → IsReport r → IsReport s → length r.before ≡ length s.before → length r.others ≡ length s.others
     → text_of (lines_of r) ≡ text_of (lines_of s) → SameReport r s
 reports_apart r s is it before others e =
     let first = split_at r.before s.before (after_trace r) (after_trace s) before (lines_apart (lines_of r) (lines_of s) (report_lacks r is) (report_lacks s it) e) in
-    let second = optional_apart (codes "counted") r.counted s.counted (body r ++ warmed r.warmup r.behind) (body s ++ warmed s.warmup s.behind)
+    let v = r.counting.warmup in
+    let w = s.counting.warmup in
+    let second = optional_apart (codes "counted") r.counting.counted s.counting.counted (body r ++ warmed v r.behind) (body s ++ warmed w s.behind)
     refl is.counted it.counted (is_capacity r.capacity r.objective) (is_capacity s.capacity s.objective) first.1 in
-    let third = split_at (body r) (body s) (warmed r.warmup r.behind) (warmed s.warmup s.behind) (ap suc others) second.1 in
-    let last = optional_apart (codes "warmup") (warmup_of r.warmup) (warmup_of s.warmup) r.behind s.behind
-    refl (warmup_small r.warmup is.warmup) (warmup_small s.warmup it.warmup) is.other it.other third.1 in
-    record { before = first.0; counted = second.0; body = third.0; warmup = warmup_apart r.warmup s.warmup last.0; behind = last.1 }
+    let third = split_at (body r) (body s) (warmed v r.behind) (warmed w s.behind) (ap suc others) second.1 in
+    let last = optional_apart (codes "warmup") (warmup_of v) (warmup_of w) r.behind s.behind
+    refl (warmup_small v is.warmup) (warmup_small w it.warmup) is.other it.other third.1 in
+    record { before = first.0; counting = same_counting r.counting s.counting (warmup_apart v w last.0) second.0; body = third.0; behind = last.1 }
 
 -- nothing behind the warm-up
 pub none_behind : (n : ℕ) → [] ≡ entry (codes "warmup") n → ⊥
 none_behind n e = cc
-
--- ---- texts with both lines put in
-pub with_counted-with_warmup : (c : Option ℕ) (v : ℕ) (first : List ℕ) (lines : List (List ℕ)) → Lacks 10 first
-    → with_counted c (with_warmup v (text_of (first ∷ lines))) ≡ text_of (first ∷ optional (codes "counted") c (lines ++ warmed v []))
-with_counted-with_warmup None v first lines lacks = with_warmup-lines v (first ∷ lines)
-with_counted-with_warmup (Some n) v first lines lacks =
-    ap (with_counted (Some n)) (with_warmup-lines v (first ∷ lines)) ∙ with_counted-lines n first (lines ++ warmed v []) lacks
-
-pub refined_with_counted-with_warmup : (c : Option ℕ) (v : ℕ) (first second : List ℕ) (lines : List (List ℕ)) → Lacks 10 first → Lacks 10 second
-    → refined_with_counted c (with_warmup v (text_of (first ∷ second ∷ lines))) ≡ text_of (first ∷ second ∷ optional (codes "counted") c (lines ++ warmed v []))
-refined_with_counted-with_warmup None v first second lines lacks lacks' = with_warmup-lines v (first ∷ second ∷ lines)
-refined_with_counted-with_warmup (Some n) v first second lines lacks lacks' =
-    ap (refined_with_counted (Some n)) (with_warmup-lines v (first ∷ second ∷ lines)) ∙ refined_with_counted-lines n first second (lines ++ warmed v []) lacks lacks'

@@ -1,17 +1,17 @@
 -- What a check prints is read in one way.
-use Rattle.std.proofs.Common.{◌≡◌, ℕ, ◌∙◌, sym, refl, ap, Bool, true, false, List, [], ◌∷◌, ◌++◌, drop, take, get_or, codes, Option}
+use Rattle.std.proofs.Common.{◌≡◌, ℕ, ◌∙◌, sym, refl, ap, Bool, true, false, List, [], ◌∷◌, ◌++◌, drop, take, get_or, codes}
 use Rattle.std.specs.List.{AllByRecursion}
 use Rattle.std.proofs.lemmas.List.{append_cancel_left}
 use Rattle.std.proofs.lemmas.List.Elements.{recursion_from_All}
 use Rattle.cache_model.specs.Texts.{form_word, text_of}
 use Rattle.cert_checker.specs.declared.verdict.Verdict.{Verdict}
-use Rattle.bound_report.specs.Counted.{with_counted}
-use Rattle.bound_report.specs.Replays.{with_warmup}
+use Rattle.bound_report.specs.declared.rendering.Counting.{Counting}
+use Rattle.bound_report.specs.Rendering.{rendered}
 use Rattle.bound_report.specs.Reports.{trace_line, unit_line, value_lines}
-use Rattle.bound_report.specs.Verdicts.{verdict_lines, verdict_text}
+use Rattle.bound_report.specs.Verdicts.{verdict_lines}
 use Rattle.report_laws.specs.Laws.{ArePrintable, IsPrintable, SameVerdicts, VerdictsHaveOneReading, header_numbers, verdict_numbers}
 use Rattle.report_laws.proofs.Lines.{Lacks, Small}
-use Rattle.report_laws.proofs.ReportLines.{IsReport, Report, body, lines_of, none_behind, reports_apart, with_counted-with_warmup}
+use Rattle.report_laws.proofs.ReportLines.{IsReport, Report, all_of, body, lines_of, none_behind, rendered-lines, reports_apart}
 use Rattle.report_laws.proofs.SharedLines.{form_apart, header_apart, header_capacity_lacks, trace_apart, trace_lacks, unit_lacks, values_lack}
 
 -- the numbers of its lines
@@ -27,14 +27,13 @@ abbrev pub verdict_trace : Verdict → ℕ → List ℕ
 verdict_trace x dropped = trace_line x.header.requests x.objects dropped
 
 -- the report, with these lines up to that of the trace
-abbrev pub report_of : Verdict → Option ℕ → ℕ → List (List ℕ) → Report
-report_of x c v before = record {
+abbrev pub report_of : Verdict → Counting → List (List ℕ) → Report
+report_of x c before = record {
   before = before;
-  counted = c;
+  counting = c;
   capacity = x.header.capacity;
   objective = x.header.objective;
   others = (codes "form " ++ form_word x.header.exact) ∷ unit_line x.header ∷ value_lines x.header ++ codes "valid" ∷ [];
-  warmup = v;
   behind = [];
 }
 
@@ -42,7 +41,7 @@ form_lacks : (exact : Bool) → Lacks 10 (codes "form " ++ form_word exact)
 form_lacks true = refl
 form_lacks false = refl
 
-pub verdict_lacks : (x : Verdict) (dropped : ℕ) → SmallVerdict x dropped → AllByRecursion (Lacks 10) (verdict_lines x dropped)
+pub verdict_lacks : (x : Verdict) (dropped : ℕ) → SmallVerdict x dropped → AllByRecursion (Lacks 10) (all_of (verdict_lines x dropped))
 verdict_lacks x dropped small =
     let values = values_lack x.header small.header in (
       trace_lacks x.header.requests x.objects dropped small.trace,
@@ -50,7 +49,7 @@ verdict_lacks x dropped small =
     )
 
 -- what was printed is read from the lines
-pub same_verdicts : (x y : Verdict) (m n : ℕ) → SmallVerdict x m → SmallVerdict y n → verdict_lines x m ≡ verdict_lines y n → SameVerdicts x y m n
+pub same_verdicts : (x y : Verdict) (m n : ℕ) → SmallVerdict x m → SmallVerdict y n → all_of (verdict_lines x m) ≡ all_of (verdict_lines y n) → SameVerdicts x y m n
 same_verdicts x y m n small small' e =
     let trace : x.header.requests ∷ x.objects ∷ m ∷ [] ≡ y.header.requests ∷ y.objects ∷ n ∷ []
     = trace_apart x.header.requests x.objects m y.header.requests y.objects n small.trace small'.trace (line 0) in
@@ -60,28 +59,28 @@ same_verdicts x y m n small small' e =
     let headers : header_numbers x.header ≡ header_numbers y.header = header.0 in
     record { numbers = cc; objective = header.1; exact = form_apart x.header.exact y.header.exact form }
   where
-    line : (i : ℕ) → get_or (verdict_lines x m) i [] ≡ get_or (verdict_lines y n) i []
+    line : (i : ℕ) → get_or (all_of (verdict_lines x m)) i [] ≡ get_or (all_of (verdict_lines y n)) i []
     line i = ap (λ ls. get_or ls i []) e
 
-module _ (x : Verdict) (m v : ℕ) (c : Option ℕ) (printable : ArePrintable c v (verdict_numbers x m)) where
+module _ (x : Verdict) (m : ℕ) (c : Counting) (printable : ArePrintable c (verdict_numbers x m)) where
   small_all : SmallVerdict x m
   small_all = small_verdict x m (recursion_from_All IsPrintable (verdict_numbers x m) printable.2)
 
   -- the report alone
   abbrev alone : Report
-  alone = report_of x c v (verdict_trace x m ∷ [])
+  alone = report_of x c (verdict_trace x m ∷ [])
 
   is_alone : IsReport alone
   is_alone = let lack = verdict_lacks x m small_all in record { before = (lack.0, tt); counted = printable.0; body = lack.1; warmup = printable.1; behind = tt; other = none_behind }
 
-  text_alone : with_counted c (with_warmup v (verdict_text x m)) ≡ text_of (lines_of alone)
-  text_alone = with_counted-with_warmup c v (verdict_trace x m) (body alone) (verdict_lacks x m small_all).0
+  text_alone : rendered c (verdict_lines x m) ≡ text_of (lines_of alone)
+  text_alone = rendered-lines c (verdict_trace x m ∷ []) (body alone)
 
 pub verdicts_apart : VerdictsHaveOneReading
-verdicts_apart x y m n v w c d printable printable' e =
-    let r = alone x m v c printable in
-    let s = alone y n w d printable' in
-    let same = reports_apart r s (is_alone x m v c printable) (is_alone y n w d printable') refl refl (sym (text_alone x m v c printable) ∙ e ∙ text_alone y n w d printable') in
+verdicts_apart x y m n c d printable printable' e =
+    let r = alone x m c printable in
+    let s = alone y n d printable' in
+    let same = reports_apart r s (is_alone x m c printable) (is_alone y n d printable') refl refl (sym (text_alone x m c printable) ∙ e ∙ text_alone y n d printable') in
     let trace : verdict_trace x m ∷ [] ≡ verdict_trace y n ∷ [] = same.before in
     let rest : body r ≡ body s = same.body in
-    (same_verdicts x y m n (small_all x m v c printable) (small_all y n w d printable') cc, same.warmup, same.counted)
+    (same_verdicts x y m n (small_all x m c printable) (small_all y n d printable') cc, same.counting)

@@ -1,5 +1,5 @@
 -- A printed report can be read in one way only; each law is the contract of a function.
-use Rattle.std.specs.Prelude.{◌≡◌, ℕ, ◌^◌, ◌<◌, Bool, false, List, [], ◌∷◌, ◌++◌, All, Option, None, IfSome}
+use Rattle.std.specs.Prelude.{◌≡◌, ℕ, ◌^◌, ◌<◌, Bool, false, List, [], ◌∷◌, ◌++◌, All, IfSome}
 use Rattle.cache_model.specs.declared.certificates.Header.{Header}
 use Rattle.cert_checker.specs.declared.verdict.Verdict.{Verdict}
 use Rattle.bound_report.specs.declared.facts.Window.TheVariants.{All as Whole, Steps}
@@ -8,20 +8,20 @@ use Rattle.bound_report.specs.declared.facts.Mode.TheVariants.{Flow, Constant, I
 use Rattle.bound_report.specs.declared.facts.BoundFacts.{BoundFacts}
 use Rattle.bound_report.specs.declared.demo.DemoFacts.{DemoFacts}
 use Rattle.bound_report.specs.declared.demo.PolicyReplays.{PolicyReplays}
-use Rattle.bound_report.specs.Counted.{refined_with_counted, with_counted}
+use Rattle.bound_report.specs.declared.rendering.Counting.{Counting}
 use Rattle.bound_report.specs.Demos.{demo_text}
-use Rattle.bound_report.specs.Refinements.{refined_text}
-use Rattle.bound_report.specs.Replays.{with_warmup}
-use Rattle.bound_report.specs.Reports.{report_text}
-use Rattle.bound_report.specs.Verdicts.{verdict_text}
+use Rattle.bound_report.specs.Refinements.{refined_lines}
+use Rattle.bound_report.specs.Rendering.{rendered}
+use Rattle.bound_report.specs.Reports.{bound_lines}
+use Rattle.bound_report.specs.Verdicts.{verdict_lines}
 
 -- a number of at most 128 bits, as all numbers of a report are; a longer one may share its text with another
 abbrev pub IsPrintable : ℕ → Type 0
 IsPrintable n = n < 2 ^ 128
 
--- how many requests count, if that is asked for, the warm-up, and the other numbers of a report
-abbrev pub ArePrintable : Option ℕ → ℕ → List ℕ → Type 0
-ArePrintable counted warmup numbers = IfSome counted IsPrintable × IsPrintable warmup × All IsPrintable numbers
+-- how many requests count, if that is known, the warm-up, and the other numbers of a report
+abbrev pub ArePrintable : Counting → List ℕ → Type 0
+ArePrintable counting numbers = IfSome counting.counted IsPrintable × IsPrintable counting.warmup × All IsPrintable numbers
 
 -- the numbers of a header that reports print
 abbrev pub header_numbers : Header → List ℕ
@@ -51,13 +51,13 @@ pub record SameBounds (f g : BoundFacts) : Type 0 where
   pub mode : f.mode ≡ g.mode
   pub exact : says_exact f.mode f.header.exact ≡ says_exact g.mode g.header.exact
 
--- two reports of bounds with one text print the same: v and w are their warm-ups, c and d how many requests count
+-- two reports of bounds with one text print the same, and how their requests count
 abbrev pub BoundsHaveOneReading : Type 0
 BoundsHaveOneReading =
-    (f g : BoundFacts) (v w : ℕ) (c d : Option ℕ)
-    → ArePrintable c v (bound_numbers f) → ArePrintable d w (bound_numbers g)
-    → with_counted c (with_warmup v (report_text f)) ≡ with_counted d (with_warmup w (report_text g))
-    → SameBounds f g × (v ≡ w) × (c ≡ d)
+    (f g : BoundFacts) (c d : Counting)
+    → ArePrintable c (bound_numbers f) → ArePrintable d (bound_numbers g)
+    → rendered c (bound_lines f) ≡ rendered d (bound_lines g)
+    → SameBounds f g × (c ≡ d)
 
 -- the numbers that a check prints, with that of the dropped requests
 abbrev pub verdict_numbers : Verdict → ℕ → List ℕ
@@ -72,18 +72,18 @@ pub record SameVerdicts (x y : Verdict) (m n : ℕ) : Type 0 where
 -- two checks with one text print the same
 abbrev pub VerdictsHaveOneReading : Type 0
 VerdictsHaveOneReading =
-    (x y : Verdict) (m n v w : ℕ) (c d : Option ℕ)
-    → ArePrintable c v (verdict_numbers x m) → ArePrintable d w (verdict_numbers y n)
-    → with_counted c (with_warmup v (verdict_text x m)) ≡ with_counted d (with_warmup w (verdict_text y n))
-    → SameVerdicts x y m n × (v ≡ w) × (c ≡ d)
+    (x y : Verdict) (m n : ℕ) (c d : Counting)
+    → ArePrintable c (verdict_numbers x m) → ArePrintable d (verdict_numbers y n)
+    → rendered c (verdict_lines x m) ≡ rendered d (verdict_lines y n)
+    → SameVerdicts x y m n × (c ≡ d)
 
 -- and so do two refinements, which print the bound that was read too
 abbrev pub RefinementsHaveOneReading : Type 0
 RefinementsHaveOneReading =
-    (read other : ℕ) (x y : Verdict) (m n v w : ℕ) (c d : Option ℕ)
-    → ArePrintable c v (read ∷ verdict_numbers x m) → ArePrintable d w (other ∷ verdict_numbers y n)
-    → refined_with_counted c (with_warmup v (refined_text read x m)) ≡ refined_with_counted d (with_warmup w (refined_text other y n))
-    → (read ≡ other) × SameVerdicts x y m n × (v ≡ w) × (c ≡ d)
+    (read other : ℕ) (x y : Verdict) (m n : ℕ) (c d : Counting)
+    → ArePrintable c (read ∷ verdict_numbers x m) → ArePrintable d (other ∷ verdict_numbers y n)
+    → rendered c (refined_lines read x m) ≡ rendered d (refined_lines other y n)
+    → (read ≡ other) × SameVerdicts x y m n × (c ≡ d)
 
 -- the numbers that a demo prints beside those of its bounds
 abbrev pub demo_numbers : DemoFacts → PolicyReplays → List ℕ
@@ -99,7 +99,7 @@ demo_numbers facts r =
 -- two demos with one text were asked the same, and have the same bounds and replays
 abbrev pub DemosHaveOneReading : Type 0
 DemosHaveOneReading =
-    (a b : DemoFacts) (f g : BoundFacts) (v w : ℕ) (r s : PolicyReplays)
-    → ArePrintable None v (demo_numbers a r ++ bound_numbers f) → ArePrintable None w (demo_numbers b s ++ bound_numbers g)
-    → demo_text a (with_warmup v (report_text f)) r ≡ demo_text b (with_warmup w (report_text g)) s
-    → (a ≡ b) × SameBounds f g × (v ≡ w) × (r ≡ s)
+    (a b : DemoFacts) (f g : BoundFacts) (c d : Counting) (r s : PolicyReplays)
+    → ArePrintable c (demo_numbers a r ++ bound_numbers f) → ArePrintable d (demo_numbers b s ++ bound_numbers g)
+    → demo_text a (rendered c (bound_lines f)) r ≡ demo_text b (rendered d (bound_lines g)) s
+    → (a ≡ b) × SameBounds f g × (c ≡ d) × (r ≡ s)

@@ -146,14 +146,16 @@ module _ (trace : List Object) where
         ∙ ap (λ bs. bs ++ replicate (length trace - (t + 1)) false) (sym (latest-new (request_at trace t) (take t trace) (asks-first trace t within first)) ∙ ap latest_of (sym (take_more trace t no_object within)))
 
     module _ (a : ℕ) (next : IsNext trace a t) where
-      here : same_object (request_at trace t) (request_at (take t trace) a) ≡ true
-      here = let low : a < t = next.before in ap (same_object (request_at trace t)) (get_or-take t trace a no_object low) ∙ same_object-sym (request_at trace t) (request_at trace a) ∙ next.same
+      -- both requests are for one object
+      pub same-latest : same_object (request_at trace t) (request_at (take t trace) a) ≡ true
+      same-latest = let low : a < t = next.before in ap (same_object (request_at trace t)) (get_or-take t trace a no_object low) ∙ same_object-sym (request_at trace t) (request_at trace a) ∙ next.same
 
       latest : request_at trace t ≡ request_at trace a
       latest = sym (same_object-true (request_at trace a) (request_at trace t) next.same)
 
-      later : asks_for (request_at trace t) (drop (a + 1) (take t trace)) ≡ false
-      later =
+      -- no request between them is
+      pub none-later : asks_for (request_at trace t) (drop (a + 1) (take t trace)) ≡ false
+      none-later =
           let low : a < t = next.before in
           let short : length (take t trace) ≡ t = length-take-le t trace (omega arith) in
           asks-none (request_at trace t) (drop (a + 1) (take t trace)) (λ k inside.
@@ -171,7 +173,7 @@ module _ (trace : List Object) where
           ap (λ bs. set bs t true) (set-append_left (latest_of (take t trace)) (replicate (length trace - t) false) a false (omega arith))
           ∙ mark_own (set (latest_of (take t trace)) a false) (length-set (latest_of (take t trace)) a false ∙ long)
           ∙ ap (λ bs. bs ++ replicate (length trace - (t + 1)) false)
-          (sym (latest-again (request_at trace t) (take t trace) a (omega (arith, length-take-le t trace (omega arith))) here (let e : suc a ≡ a + 1 = omega arith in ap (λ n. asks_for (request_at trace t) (drop n (take t trace))) e ∙ later)) ∙ ap latest_of (sym (take_more trace t no_object within)))
+          (sym (latest-again (request_at trace t) (take t trace) a (omega (arith, length-take-le t trace (omega arith))) same-latest (let e : suc a ≡ a + 1 = omega arith in ap (λ n. asks_for (request_at trace t) (drop n (take t trace))) e ∙ none-later)) ∙ ap latest_of (sym (take_more trace t no_object within)))
 
       -- the marks between two requests
       pub between : count_by (λ on. on) (slice_range (marks_at trace t) (a + 1) t) ≡ kinds (drop (a + 1) (take t trace))
@@ -183,38 +185,39 @@ module _ (trace : List Object) where
           ∙ ap (count_by (λ on. on)) (drop-latest (a + 1) (take t trace))
           ∙ count-latest (drop (a + 1) (take t trace))
 
-      cut : drop a (take t trace) ≡ request_at (take t trace) a ∷ drop (a + 1) (take t trace)
-      cut = let low : a < t = next.before in drop_more (take t trace) a no_object (omega (arith, length-take-le t trace (omega arith)))
+      -- the requests from the latest one of the object on
+      pub cut-latest : drop a (take t trace) ≡ request_at (take t trace) a ∷ drop (a + 1) (take t trace)
+      cut-latest = let low : a < t = next.before in drop_more (take t trace) a no_object (omega (arith, length-take-le t trace (omega arith)))
 
       -- the requests after the latest one of the object
-      after : since (request_at trace t) (earlier trace t) ≡ reverse (drop (a + 1) (take t trace))
-      after =
+      pub since-latest : since (request_at trace t) (earlier trace t) ≡ reverse (drop (a + 1) (take t trace))
+      since-latest =
           let x : Object = request_at trace t in
           let y : Object = request_at (take t trace) a in
           let rest : List Object = drop (a + 1) (take t trace) in
-          ap (λ xs. since x (reverse xs)) (sym (take-append-drop a (take t trace)) ∙ ap (λ xs. take a (take t trace) ++ xs) cut)
+          ap (λ xs. since x (reverse xs)) (sym (take-append-drop a (take t trace)) ∙ ap (λ xs. take a (take t trace) ++ xs) cut-latest)
           ∙ ap (since x) (reverse-append (take a (take t trace)) (y ∷ rest))
           ∙ ap (λ xs. since x (xs ++ reverse (take a (take t trace)))) (reverse-append (y ∷ []) rest)
           ∙ ap (since x) (append_assoc (reverse rest) (y ∷ []) (reverse (take a (take t trace))))
-          ∙ since-seam x y (reverse rest) (reverse (take a (take t trace))) (asks-reverse x rest ∙ later) here
+          ∙ since-seam x y (reverse rest) (reverse (take a (take t trace))) (asks-reverse x rest ∙ none-later) same-latest
 
       -- the stack distance
       pub distance : stack_distance trace t ≡ Some (1 + kinds (drop (a + 1) (take t trace)))
       distance =
           let x : Object = request_at trace t in
           ap (λ b. cond b (Some (different (x ∷ since x (earlier trace t)))) None) (asks-reverse x (take t trace) ∙ asks-next trace a t within next)
-          ∙ ap Some (different-since x (earlier trace t) ∙ ap (λ xs. 1 + kinds xs) after ∙ ap (λ n. 1 + n) (kinds-reverse (drop (a + 1) (take t trace))))
+          ∙ ap Some (different-since x (earlier trace t) ∙ ap (λ xs. 1 + kinds xs) since-latest ∙ ap (λ n. 1 + n) (kinds-reverse (drop (a + 1) (take t trace))))
 
       pub distance-few : 1 + kinds (drop (a + 1) (take t trace)) ≤ length (objects_of trace)
       distance-few =
           let y : Object = request_at (take t trace) a in
           let rest : List Object = drop (a + 1) (take t trace) in
-          let e : request_at trace t ≡ y = same_object-true (request_at trace t) y here in
+          let e : request_at trace t ≡ y = same_object-true (request_at trace t) y same-latest in
           omega (
             arith,
             kinds-drop a (take t trace),
-            ap kinds cut,
-            ap (λ b. cond b (kinds rest) (1 + kinds rest)) (ap (λ z. asks_for z rest) (sym e) ∙ later),
+            ap kinds cut-latest,
+            ap (λ b. cond b (kinds rest) (1 + kinds rest)) (ap (λ z. asks_for z rest) (sym e) ∙ none-later),
             kinds-all (length trace - t) t (omega arith),
           )
 

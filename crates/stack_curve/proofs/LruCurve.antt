@@ -46,7 +46,7 @@ module _ (trace : List Object) where
   earlier-more t within = ap reverse (take_more trace t no_object within) ∙ reverse-append (take t trace) (request_at trace t ∷ [])
 
   -- what holds of each request holds of those before one
-  all-earlier : (P : Object → Type 0) (t : ℕ) → t ≤ length trace → ((k : ℕ) → k < t → P (request_at trace k)) → AllByRecursion P (earlier trace t)
+  pub all-earlier : (P : Object → Type 0) (t : ℕ) → t ≤ length trace → ((k : ℕ) → k < t → P (request_at trace k)) → AllByRecursion P (earlier trace t)
   all-earlier P t within each =
       by_index P (earlier trace t) (λ k low.
       let short : length (take t trace) ≡ t = length-take-le t trace within in
@@ -74,7 +74,7 @@ module _ (trace : List Object) where
       at false = refl
 
   -- requests have one number exactly if they are of one object
-  same_numbers : (t u : ℕ) → t < length trace → u < length trace
+  pub same_numbers : (t u : ℕ) → t < length trace → u < length trace
       → eqb (number_of trace (request_at trace t)) (number_of trace (request_at trace u)) ≡ same_object (request_at trace u) (request_at trace t)
   same_numbers t u within_t within_u =
       let x : Object = request_at trace t in

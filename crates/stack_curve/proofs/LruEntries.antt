@@ -98,6 +98,10 @@ module _ (num : Object → ℕ) where
       at true rest = ap (λ es. entry_of x ∷ es) rest
       at false rest = rest
 
+  -- the entries but that of an object
+  pub without-entries : (y : Object) (xs : List Object) → IsToldApart y xs → without_entry (num y) (entries_of xs) ≡ entries_of (less y xs)
+  without-entries y xs apart = without-reverse (num y) (map entry_of xs) ∙ ap reverse (without-map y xs apart)
+
   used-entries : (size : ℕ) (xs : List Object) → AllByRecursion (λ x. x.size ≡ size) xs → used (entries_of xs) ≡ length xs * size
   used-entries size [] sized = omega arith
   used-entries size (x ∷ xs) sized =
@@ -110,13 +114,15 @@ module _ (num : Object → ℕ) where
         sized.0,
       )
 
-  length-entries : (xs : List Object) → length (entries_of xs) ≡ length xs
+  pub length-entries : (xs : List Object) → length (entries_of xs) ≡ length xs
   length-entries xs = length-reverse (map entry_of xs) ∙ length-map xs entry_of
 
-  entries-cons : (x : Object) (xs : List Object) → entries_of (x ∷ xs) ≡ entries_of xs ++ entry_of x ∷ []
+  -- the entry of the latest object is the last
+  pub entries-cons : (x : Object) (xs : List Object) → entries_of (x ∷ xs) ≡ entries_of xs ++ entry_of x ∷ []
   entries-cons x xs = reverse-append (entry_of x ∷ []) (map entry_of xs)
 
-  entries-last : (xs : List Object) (x : Object) → entries_of (xs ++ x ∷ []) ≡ entry_of x ∷ entries_of xs
+  -- the entry of the object that was used longest ago is the first
+  pub entries-last : (xs : List Object) (x : Object) → entries_of (xs ++ x ∷ []) ≡ entry_of x ∷ entries_of xs
   entries-last xs x = ap reverse (map-append entry_of xs (x ∷ [])) ∙ reverse-append (map entry_of xs) (entry_of x ∷ [])
 
   module _ (capacity size : ℕ) (positive : 1 ≤ size) where
@@ -190,9 +196,7 @@ module _ (num : Object → ℕ) where
         moved zero hit told = cc
         moved (suc j) hit told =
             ap (λ es. es ++ entry_of y ∷ [])
-            (without-reverse (num y) (map entry_of (take (suc j) (recent h)))
-            ∙ ap reverse (without-map y (take (suc j) (recent h)) told)
-            ∙ ap entries_of (take-hit y j (recent h) (Distinct-recent h) hit))
+            (without-entries y (take (suc j) (recent h)) told ∙ ap entries_of (take-hit y j (recent h) (Distinct-recent h) hit))
             ∙ sym (entries-cons y (take j (less y (recent h))))
 
         missed : (n : ℕ) → n ≡ capacity / size → asks_for y (take n (recent h)) ≡ false → has_entry (entries_of (take n (recent h))) (num y) ≡ false

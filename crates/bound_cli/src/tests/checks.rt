@@ -49,7 +49,7 @@ fn expect_of<'x>(
     trace: &'x [u8],
     cert: &'x [u8],
     status: Status,
-    report: &'x [u8],
+    report: Said<'x>,
 ) {
     let row = Row {
         shows,
@@ -96,7 +96,7 @@ fn check_prefix(rt: &impl Abort, alloc: Global, prefix: &[u8]) {
         CYCLE_TRACE,
         prefix,
         status,
-        report.as_bytes(),
+        Text(report.as_bytes()),
     );
 }
 
@@ -124,7 +124,7 @@ fn check_cut(rt: &impl Abort, alloc: Global, trace: &[u8]) {
         trace,
         EXACT_CYCLE,
         status,
-        report.as_bytes(),
+        Text(report.as_bytes()),
     );
 }
 
@@ -141,10 +141,10 @@ const DEAR_CERT: &[u8] =
 denominator 1\nform plain\nupper 85070591730234615865843651857942052864\nflow 0\nlower 1\nrecords\n\
 85070591730234615865843651857942052864 1 0\n0 0 0\nend\n";
 
-const DEAR_VERDICT: &[u8] =
-    b"trace requests 2 objects 1 dropped 0\ncapacity 4 objective object\nform plain\n\
-unit 4 units 1 denominator 1\nupper 85070591730234615865843651857942052864/1 \
-floor 85070591730234615865843651857942052864\nflow 0/1\nlower 1\nvalid\n";
+const DEAR_VERDICT: Said<'static> = Yes(
+    "2 1 0, 4 object, plain, 4 1 1, 85070591730234615865843651857942052864/1 \
+85070591730234615865843651857942052864, 0/1, 1, valid",
+);
 
 const DEAR_PRICE: &str = "85070591730234615865843651857942052865 1 0";
 
@@ -164,7 +164,7 @@ fn a_price_may_be_2_to_the_126_and_no_more(rt: HostRuntime) {
     let cert = spoilt(&rt, alloc, DEAR_CERT, 12, DEAR_PRICE);
     let kind = InvalidKind::Range;
     let status = Status::Invalid { line: 12, kind };
-    let report = b"invalid line 12: range\n";
+    let report = Text(b"invalid line 12: range\n");
     expect_of(&rt, alloc, "one more", PAIR, &cert, status, report);
 }
 
@@ -173,7 +173,7 @@ fn check_long(rt: &impl Abort, alloc: Global, line: &str) {
     let cert = spoilt(rt, alloc, EXACT_PAIR, 12, line);
     let kind = InvalidKind::TooLong;
     let status = Status::Invalid { line: 12, kind };
-    let report = b"invalid line 12: line too long\n";
+    let report = Text(b"invalid line 12: line too long\n");
     let shows = "a line that is too long";
     expect_of(rt, alloc, shows, PAIR, &cert, status, report);
 }
@@ -190,7 +190,7 @@ const FAILED_READ: Row<'static> = Row {
     trace: CYCLE_TRACE,
     cert: EXACT_CYCLE,
     status: Status::CertFault,
-    report: b"certificate fault\n",
+    report: Text(b"certificate fault\n"),
     ..CHECK
 };
 

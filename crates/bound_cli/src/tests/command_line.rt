@@ -11,7 +11,7 @@ const ROWS: [Row<'static>; 10] = [
             place: 1,
             kind: WordKind::Missing,
         }),
-        report: b"words: place 1: missing\n",
+        report: Text(b"words: place 1: missing\n"),
         made: b"",
         ..GOOD
     },
@@ -22,7 +22,7 @@ const ROWS: [Row<'static>; 10] = [
             place: 5,
             kind: WordKind::Missing,
         }),
-        report: b"words: place 5: missing\n",
+        report: Text(b"words: place 5: missing\n"),
         made: b"",
         ..GOOD
     },
@@ -34,7 +34,7 @@ const ROWS: [Row<'static>; 10] = [
             place: 5,
             kind: WordKind::BadValue,
         }),
-        report: b"words: place 5: bad value\n",
+        report: Text(b"words: place 5: bad value\n"),
         made: b"",
         ..GOOD
     },
@@ -45,7 +45,7 @@ const ROWS: [Row<'static>; 10] = [
             place: 3,
             kind: WordKind::BadValue,
         }),
-        report: b"words: place 3: bad value\n",
+        report: Text(b"words: place 3: bad value\n"),
         made: b"",
         ..GOOD
     },
@@ -57,7 +57,7 @@ const ROWS: [Row<'static>; 10] = [
             place: 4,
             kind: WordKind::Unknown,
         }),
-        report: b"words: place 4: unknown\n",
+        report: Text(b"words: place 4: unknown\n"),
         made: b"",
         ..GOOD
     },
@@ -68,7 +68,7 @@ const ROWS: [Row<'static>; 10] = [
             place: 6,
             kind: WordKind::BadValue,
         }),
-        report: b"words: place 6: bad value\n",
+        report: Text(b"words: place 6: bad value\n"),
         made: b"",
         ..GOOD
     },
@@ -79,7 +79,7 @@ const ROWS: [Row<'static>; 10] = [
             place: 7,
             kind: WordKind::Unknown,
         }),
-        report: b"words: place 7: unknown\n",
+        report: Text(b"words: place 7: unknown\n"),
         made: b"",
         ..GOOD
     },
@@ -90,7 +90,7 @@ const ROWS: [Row<'static>; 10] = [
             place: 6,
             kind: WordKind::Twice,
         }),
-        report: b"words: place 6: twice\n",
+        report: Text(b"words: place 6: twice\n"),
         made: b"",
         ..GOOD
     },
@@ -101,7 +101,7 @@ const ROWS: [Row<'static>; 10] = [
             place: 6,
             kind: WordKind::Missing,
         }),
-        report: b"words: place 6: missing\n",
+        report: Text(b"words: place 6: missing\n"),
         made: b"",
         ..GOOD
     },

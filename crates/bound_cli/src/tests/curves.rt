@@ -1,5 +1,5 @@
 //! Curves: their reports, and how they end. The hits were counted by hand.
-use super::{CYCLE_TRACE, Device, GOOD, Row, check_all, check_reads, check_report_writes};
+use super::{CYCLE_TRACE, Device, GOOD, Row, Text, check_all, check_reads, check_report_writes};
 use bound_report::WordKind;
 use bound_run::{Status, WordFault};
 use trace_lines::LineKind;
@@ -8,7 +8,7 @@ const CURVE: Row<'static> = Row {
     shows: "six requests of three objects",
     words: "curve t format=webcache",
     trace: b"1 1 1\n2 2 1\n3 1 1\n4 3 1\n5 2 1\n6 1 1\n",
-    report: b"trace requests 6 objects 3 dropped 0\nsize 1\nslots 2 hits 1\nslots 3 hits 3\n",
+    report: Text(b"trace requests 6 objects 3 dropped 0\nsize 1\nslots 2 hits 1\nslots 3 hits 3\n"),
     made: b"",
     ..GOOD
 };
@@ -18,32 +18,32 @@ const CURVES: [Row<'static>; 6] = [
     Row {
         shows: "a cycle hits if all of it fits",
         trace: CYCLE_TRACE,
-        report: b"trace requests 6 objects 3 dropped 0\nsize 1\nslots 3 hits 3\n",
+        report: Text(b"trace requests 6 objects 3 dropped 0\nsize 1\nslots 3 hits 3\n"),
         ..CURVE
     },
     Row {
         shows: "no request",
         trace: b"",
-        report: b"trace requests 0 objects 0 dropped 0\nsize 0\n",
+        report: Text(b"trace requests 0 objects 0 dropped 0\nsize 0\n"),
         ..CURVE
     },
     Row {
         shows: "objects that are asked for once",
         trace: b"1 1 7\n2 2 7\n",
-        report: b"trace requests 2 objects 2 dropped 0\nsize 7\n",
+        report: Text(b"trace requests 2 objects 2 dropped 0\nsize 7\n"),
         ..CURVE
     },
     Row {
         shows: "a line of size 0 is dropped, and has no size",
         trace: b"1 1 4\n2 5 0\n3 1 4\n",
-        report: b"trace requests 2 objects 1 dropped 1\nsize 4\nslots 1 hits 1\n",
+        report: Text(b"trace requests 2 objects 1 dropped 1\nsize 4\nslots 1 hits 1\n"),
         ..CURVE
     },
     Row {
         shows: "blocks have one size",
         words: "curve t block=512 format=msr",
         trace: b"1,h,0,Read,0,1024,1\n2,h,0,Write,512,1,1\n",
-        report: b"trace requests 3 objects 2 dropped 0\nsize 512\nslots 1 hits 1\n",
+        report: Text(b"trace requests 3 objects 2 dropped 0\nsize 512\nslots 1 hits 1\n"),
         ..CURVE
     },
 ];
@@ -58,7 +58,7 @@ const REFUSED: [Row<'static>; 3] = [
         shows: "two sizes, of which the first object that differs is named",
         trace: b"1 1 2\n2 1 2\n3 2 3\n4 3 4\n5 2 3\n",
         status: Status::Unequal { first: 2, other: 3 },
-        report: b"unequal sizes 2 3\n",
+        report: Text(b"unequal sizes 2 3\n"),
         ..CURVE
     },
     Row {
@@ -68,7 +68,7 @@ const REFUSED: [Row<'static>; 3] = [
             line: 3,
             kind: LineKind::BadNumber { word: 2 },
         },
-        report: b"bad line 3: number in word 2\n",
+        report: Text(b"bad line 3: number in word 2\n"),
         ..CURVE
     },
     Row {
@@ -78,7 +78,7 @@ const REFUSED: [Row<'static>; 3] = [
             place: 4,
             kind: WordKind::Unknown,
         }),
-        report: b"words: place 4: unknown\n",
+        report: Text(b"words: place 4: unknown\n"),
         ..CURVE
     },
 ];
@@ -92,7 +92,7 @@ fn curves_end_as_their_trace_does(rt: HostRuntime) {
 fn a_failed_read_is_the_traces_fault(rt: HostRuntime) {
     let failing = Row {
         status: Status::TraceFault,
-        report: b"trace fault\n",
+        report: Text(b"trace fault\n"),
         ..CURVE
     };
     check_reads(

@@ -1,5 +1,5 @@
 //! Demos: what they print, and how they end.
-use super::{Device, GOOD, Row, check, check_report_writes, done};
+use super::{Device, GOOD, Row, Text, check, check_report_writes, done};
 use bound_base::read_u64;
 use bound_report::LimitName;
 use bound_run::Status;
@@ -12,11 +12,13 @@ const ONE_OBJECT: Row<'static> = Row {
     shows: "a thousand requests of one object",
     words: "demo requests=1000 objects=1",
     trace: b"",
-    report: b"demo seed 1 requests 1000 objects 1 capacity 65536\ntrace requests 1000 objects 1 dropped 0\n\
+    report: Text(
+        b"demo seed 1 requests 1000 objects 1 capacity 65536\ntrace requests 1000 objects 1 dropped 0\n\
 capacity 65536 objective object\nmode flow window all form exact\nunit 1 units 65536 denominator 1\n\
 intervals 999\nupper 999/1 floor 999\nflow 999/1\nlower 999\ncheck valid\n\
 replay lru hits 999 bytes 999\nreplay fifo hits 999 bytes 999\nreplay clock hits 999 bytes 999\n\
 replay lfu hits 999 bytes 999\nreplay belady hits 999 bytes 999\n",
+    ),
     made: b"",
     ..GOOD
 };
@@ -44,7 +46,7 @@ fn a_demo_reads_nothing(rt: HostRuntime) {
 fn a_failed_write_is_the_reports_fault(rt: HostRuntime) {
     let failing = Row {
         words: "demo requests=1 objects=1 mode=infinite",
-        report: b"demo seed 1 requests 1 objects 1 capacity 65536\n",
+        report: Text(b"demo seed 1 requests 1 objects 1 capacity 65536\n"),
         status: Status::ReportFault,
         ..ONE_OBJECT
     };
@@ -55,7 +57,7 @@ fn a_failed_write_is_the_reports_fault(rt: HostRuntime) {
 fn a_denominator_past_its_limit_is_refused(rt: HostRuntime) {
     let refused = Row {
         words: "demo denominator=exact",
-        report: b"limit: denominator 281474976710656\n",
+        report: Text(b"limit: denominator 281474976710656\n"),
         status: Status::Limit(LimitName::Denominator),
         ..ONE_OBJECT
     };

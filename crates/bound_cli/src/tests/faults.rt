@@ -17,7 +17,7 @@ const ROWS: [Row<'static>; 4] = [
         shows: "the second read fails",
         fails: Some((Device::Trace, 2)),
         status: Status::TraceFault,
-        report: b"trace fault\n",
+        report: Text(b"trace fault\n"),
         made: b"",
         ..CYCLE
     },
@@ -25,21 +25,21 @@ const ROWS: [Row<'static>; 4] = [
         shows: "the first write of the report fails",
         fails: Some((Device::Report, 1)),
         status: Status::ReportFault,
-        report: b"",
+        report: Text(b""),
         ..CYCLE
     },
     Row {
         shows: "the third write of the certificate fails",
         fails: Some((Device::Made, 3)),
         status: Status::MadeFault,
-        report: b"made fault\n",
+        report: Text(b"made fault\n"),
         made: b"ca",
         ..CYCLE
     },
     Row {
         shows: "a sink of the certificate without room",
         status: Status::MadeFault,
-        report: b"made fault\n",
+        report: Text(b"made fault\n"),
         made: b"",
         room: 0,
         ..FLOW
@@ -53,7 +53,7 @@ fn faults_end_the_run(rt: HostRuntime) {
 
 const FAILED_READ: Row<'static> = Row {
     status: Status::TraceFault,
-    report: b"trace fault\n",
+    report: Text(b"trace fault\n"),
     made: b"",
     ..FLOW
 };
@@ -69,7 +69,7 @@ fn a_write_of_the_certificate_that_fails_is_a_made_fault(rt: HostRuntime) {
     let whole = done(&rt, rt.alloc(), &FLOW);
     let row = Row {
         status: Status::MadeFault,
-        report: b"made fault\n",
+        report: Text(b"made fault\n"),
         made: &whole.made,
         ..FLOW
     };
@@ -82,7 +82,7 @@ fn a_write_of_the_report_that_fails_is_a_report_fault(rt: HostRuntime) {
     let whole = done(&rt, rt.alloc(), &FLOW);
     let row = Row {
         status: Status::ReportFault,
-        report: &whole.report,
+        report: Text(&whole.report),
         made: &whole.made,
         ..FLOW
     };
@@ -97,7 +97,7 @@ const REFUSAL: Row<'static> = Row {
         line: 1,
         kind: LineKind::TooFewWords,
     },
-    report: b"bad line 1: too few words\n",
+    report: Text(b"bad line 1: too few words\n"),
     made: b"",
     ..GOOD
 };

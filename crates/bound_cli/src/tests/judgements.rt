@@ -1,5 +1,5 @@
 //! Claimed hits: their reports, and why they are refused. The hits and loads were counted by hand.
-use super::{Device, GOOD, Row, check_all, check_reads, check_report_writes};
+use super::{Device, GOOD, Row, Text, check_all, check_reads, check_report_writes};
 use bound_report::{Impossible, WordKind};
 use bound_run::{Status, WordFault};
 use trace_lines::LineKind;
@@ -10,7 +10,9 @@ const JUDGED: Row<'static> = Row {
     words: "judge t h format=webcache capacity=5",
     trace: b"1 1 2\n2 2 3\n3 1 2\n4 2 3\n",
     cert: b"0\n0\n1\n1\n",
-    report: b"trace requests 4 objects 2 dropped 0\njudged capacity 5\nhits 2 bytes 5\npossible\n",
+    report: Text(
+        b"trace requests 4 objects 2 dropped 0\njudged capacity 5\nhits 2 bytes 5\npossible\n",
+    ),
     made: b"",
     ..GOOD
 };
@@ -20,34 +22,44 @@ const JUDGEMENTS: [Row<'static>; 6] = [
     Row {
         shows: "a last line without LF",
         cert: b"0\n0\n0\n1",
-        report: b"trace requests 4 objects 2 dropped 0\njudged capacity 5\nhits 1 bytes 3\npossible\n",
+        report: Text(
+            b"trace requests 4 objects 2 dropped 0\njudged capacity 5\nhits 1 bytes 3\npossible\n",
+        ),
         ..JUDGED
     },
     Row {
         shows: "no request and no flag",
         trace: b"",
         cert: b"",
-        report: b"trace requests 0 objects 0 dropped 0\njudged capacity 5\nhits 0 bytes 0\npossible\n",
+        report: Text(
+            b"trace requests 0 objects 0 dropped 0\njudged capacity 5\nhits 0 bytes 0\npossible\n",
+        ),
         ..JUDGED
     },
     Row {
         shows: "a dropped line has no flag",
         trace: b"1 1 2\n2 9 0\n3 1 2\n",
         cert: b"0\n1\n",
-        report: b"trace requests 2 objects 1 dropped 1\njudged capacity 5\nhits 1 bytes 2\npossible\n",
+        report: Text(
+            b"trace requests 2 objects 1 dropped 1\njudged capacity 5\nhits 1 bytes 2\npossible\n",
+        ),
         ..JUDGED
     },
     Row {
         shows: "a hit in the warm-up must be possible, and gains nothing",
         words: "judge t h format=webcache capacity=5 warmup=3",
-        report: b"trace requests 4 objects 2 dropped 0\njudged capacity 5\nhits 1 bytes 3\npossible\nwarmup 3\n",
+        report: Text(
+            b"trace requests 4 objects 2 dropped 0\njudged capacity 5\nhits 1 bytes 3\npossible\nwarmup 3\n",
+        ),
         ..JUDGED
     },
     Row {
         shows: "the hit of a write gains nothing",
         words: "judge t h format=webcache capacity=5 count=reads",
         trace: b"1 1 2 r\n2 2 3 r\n3 1 2 w\n4 2 3 r\n",
-        report: b"trace requests 4 objects 2 dropped 0\ncounted 3\njudged capacity 5\nhits 1 bytes 3\npossible\n",
+        report: Text(
+            b"trace requests 4 objects 2 dropped 0\ncounted 3\njudged capacity 5\nhits 1 bytes 3\npossible\n",
+        ),
         ..JUDGED
     },
 ];
@@ -65,7 +77,7 @@ const IMPOSSIBLE: [Row<'static>; 5] = [
             cause: Impossible::Load { step: 1, load: 5 },
             capacity: 4,
         },
-        report: b"impossible step 1: load 5 above 4\n",
+        report: Text(b"impossible step 1: load 5 above 4\n"),
         ..JUDGED
     },
     Row {
@@ -75,7 +87,7 @@ const IMPOSSIBLE: [Row<'static>; 5] = [
             cause: Impossible::First { request: 1 },
             capacity: 5,
         },
-        report: b"impossible request 1: first of its object\n",
+        report: Text(b"impossible request 1: first of its object\n"),
         ..JUDGED
     },
     Row {
@@ -88,7 +100,7 @@ const IMPOSSIBLE: [Row<'static>; 5] = [
             },
             capacity: 2,
         },
-        report: b"impossible request 3: size 3 above 2\n",
+        report: Text(b"impossible request 3: size 3 above 2\n"),
         ..JUDGED
     },
     Row {
@@ -102,7 +114,7 @@ const IMPOSSIBLE: [Row<'static>; 5] = [
             },
             capacity: 1,
         },
-        report: b"impossible request 0: size 2 above 1\n",
+        report: Text(b"impossible request 0: size 2 above 1\n"),
         ..JUDGED
     },
     Row {
@@ -112,7 +124,7 @@ const IMPOSSIBLE: [Row<'static>; 5] = [
             cause: Impossible::Load { step: 1, load: 5 },
             capacity: 4,
         },
-        report: b"impossible step 1: load 5 above 4\n",
+        report: Text(b"impossible step 1: load 5 above 4\n"),
         ..JUDGED
     },
 ];
@@ -135,7 +147,7 @@ const REFUSED: [Row<'static>; 10] = [
             flags: 3,
             requests: 4,
         },
-        report: b"invalid line 4: request count 3 4\n",
+        report: Text(b"invalid line 4: request count 3 4\n"),
         ..JUDGED
     },
     Row {
@@ -145,28 +157,28 @@ const REFUSED: [Row<'static>; 10] = [
             flags: 5,
             requests: 4,
         },
-        report: b"invalid line 5: request count 5 4\n",
+        report: Text(b"invalid line 5: request count 5 4\n"),
         ..JUDGED
     },
     Row {
         shows: "what follows the last flag is none",
         cert: b"0\n0\n1\n1\n\n",
         status: Status::NotFlag { line: 5 },
-        report: b"invalid line 5: flag\n",
+        report: Text(b"invalid line 5: flag\n"),
         ..JUDGED
     },
     Row {
         shows: "a carriage return",
         cert: b"0\r\n0\r\n1\r\n1\r\n",
         status: Status::NotFlag { line: 1 },
-        report: b"invalid line 1: flag\n",
+        report: Text(b"invalid line 1: flag\n"),
         ..JUDGED
     },
     Row {
         shows: "another byte",
         cert: b"0\n2\n1\n1\n",
         status: Status::NotFlag { line: 2 },
-        report: b"invalid line 2: flag\n",
+        report: Text(b"invalid line 2: flag\n"),
         ..JUDGED
     },
     Row {
@@ -174,7 +186,7 @@ const REFUSED: [Row<'static>; 10] = [
         trace: b"1 1 2\n2 2\n",
         cert: b"0\nx\n",
         status: BAD_LINE,
-        report: b"bad line 2: too few words\n",
+        report: Text(b"bad line 2: too few words\n"),
         ..JUDGED
     },
     Row {
@@ -182,7 +194,7 @@ const REFUSED: [Row<'static>; 10] = [
         trace: b"1 1 2\n2 2\n",
         cert: b"x\n",
         status: Status::NotFlag { line: 1 },
-        report: b"invalid line 1: flag\n",
+        report: Text(b"invalid line 1: flag\n"),
         ..JUDGED
     },
     Row {
@@ -193,7 +205,7 @@ const REFUSED: [Row<'static>; 10] = [
             flags: 0,
             requests: 1,
         },
-        report: b"invalid line 1: request count 0 1\n",
+        report: Text(b"invalid line 1: request count 0 1\n"),
         ..JUDGED
     },
     Row {
@@ -203,7 +215,7 @@ const REFUSED: [Row<'static>; 10] = [
             place: 5,
             kind: WordKind::Missing,
         }),
-        report: b"words: place 5: missing\n",
+        report: Text(b"words: place 5: missing\n"),
         ..JUDGED
     },
     Row {
@@ -213,7 +225,7 @@ const REFUSED: [Row<'static>; 10] = [
             place: 3,
             kind: WordKind::BadValue,
         }),
-        report: b"words: place 3: bad value\n",
+        report: Text(b"words: place 3: bad value\n"),
         ..JUDGED
     },
 ];
@@ -227,7 +239,7 @@ fn claims_are_refused_at_their_first_fault(rt: HostRuntime) {
 fn a_failed_read_of_the_flags_is_theirs(rt: HostRuntime) {
     let failing = Row {
         status: Status::CertFault,
-        report: b"certificate fault\n",
+        report: Text(b"certificate fault\n"),
         ..JUDGED
     };
     check_reads(
@@ -243,7 +255,7 @@ fn a_failed_read_of_the_flags_is_theirs(rt: HostRuntime) {
 fn a_failed_read_is_the_traces_fault(rt: HostRuntime) {
     let failing = Row {
         status: Status::TraceFault,
-        report: b"trace fault\n",
+        report: Text(b"trace fault\n"),
         ..JUDGED
     };
     check_reads(

@@ -7,9 +7,9 @@ const TWICE: Row<'static> = Row {
     shows: "600,000 blocks in order, and once more",
     words: "bounds t c format=arc capacity=256000000 mode=infinite",
     trace: b"0 600000\n0 600000\n",
-    report: b"trace requests 1200000 objects 600000 dropped 0\ncapacity 256000000 objective object\n\
-mode infinite form plain\nunit 512 units 500000 denominator 1\nintervals 600000\nupper 600000/1 floor 600000\n\
-flow 0/1\nlower 500000\n",
+    report: Bounds(
+        "1200000 600000 0, 256000000 object, infinite form plain, 512 500000 1, 600000, 600000/1 600000, 0/1, 500000",
+    ),
     room: 1 << 24,
     ..GOOD
 };
@@ -18,7 +18,8 @@ flow 0/1\nlower 500000\n",
 #[test]
 fn a_schedule_does_not_go_through_each_step(rt: HostRuntime) {
     let ended = done(&rt, rt.alloc(), &TWICE);
-    same(TWICE.shows, ended.report.as_slice(), TWICE.report).expect(&rt, "a row");
+    let report = TWICE.report.text(&rt, rt.alloc());
+    same(TWICE.shows, ended.report.as_slice(), report.as_bytes()).expect(&rt, "a row");
     drop(ended);
 }
 
@@ -42,7 +43,7 @@ const TOO_MANY: Row<'static> = Row {
     words: "replay t format=arc capacity=512 policy=lru",
     trace: b"0 2305843009213693952\n",
     status: Status::Limit(LimitName::Requests),
-    report: b"limit: requests 33554432\n",
+    report: Text(b"limit: requests 33554432\n"),
     made: b"",
     ..GOOD
 };

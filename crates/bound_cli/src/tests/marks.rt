@@ -11,8 +11,7 @@ const MARKED: Row<'static> = Row {
     shows: "a read after a write is a hit, and the write is none",
     words: "bounds t c format=webcache capacity=10 mode=infinite count=reads",
     trace: b"1 7 4 r\n2 7 4 w\n3 7 4 r\n",
-    report: b"trace requests 3 objects 1 dropped 0\ncounted 2\ncapacity 10 objective object\n\
-mode infinite form plain\nunit 4 units 2 denominator 1\nintervals 1\nupper 1/1 floor 1\nflow 0/1\nlower 1\n",
+    report: Bounds("3 1 0, counted 2, 10 object, infinite form plain, 4 2 1, 1, 1/1 1, 0/1, 1"),
     made: MARKED_CERT,
     ..GOOD
 };
@@ -21,8 +20,7 @@ const CHECKED: Row<'static> = Row {
     shows: "a check with the marks says yes",
     words: "check t c format=webcache count=reads",
     cert: MARKED_CERT,
-    report: b"trace requests 3 objects 1 dropped 0\ncounted 2\ncapacity 10 objective object\nform plain\n\
-unit 4 units 2 denominator 1\nupper 1/1 floor 1\nflow 0/1\nlower 1\nvalid\n",
+    report: Yes("3 1 0, counted 2, 10 object, plain, 4 2 1, 1/1 1, 0/1, 1, valid"),
     made: b"",
     ..MARKED
 };
@@ -31,7 +29,9 @@ const REPLAYED: Row<'static> = Row {
     shows: "LRU keeps what a write brought in, and counts the hit of the read",
     words: "replay t format=webcache capacity=10 policy=lru count=reads",
     trace: b"1 7 4 w\n2 7 4 w\n3 7 4 r\n",
-    report: b"trace requests 3 objects 1 dropped 0\ncounted 1\npolicy lru capacity 10\nhits 1 bytes 4\n",
+    report: Text(
+        b"trace requests 3 objects 1 dropped 0\ncounted 1\npolicy lru capacity 10\nhits 1 bytes 4\n",
+    ),
     made: b"",
     ..GOOD
 };
@@ -42,35 +42,39 @@ const MARKS: [Row<'static>; 13] = [
         shows: "a request within the warm-up doesn't count",
         words: "replay t format=webcache capacity=10 policy=lru count=reads warmup=1",
         trace: b"1 7 4 r\n2 7 4 r\n3 7 4 w\n",
-        report: b"trace requests 3 objects 1 dropped 0\ncounted 1\npolicy lru capacity 10\nhits 1 bytes 4\nwarmup 1\n",
+        report: Text(
+            b"trace requests 3 objects 1 dropped 0\ncounted 1\npolicy lru capacity 10\nhits 1 bytes 4\nwarmup 1\n",
+        ),
         made: b"",
         ..GOOD
     },
     Row {
         shows: "a warm-up beyond the trace",
         words: "replay t format=webcache capacity=10 policy=lru count=reads warmup=9",
-        report: b"trace requests 3 objects 1 dropped 0\ncounted 0\npolicy lru capacity 10\nhits 0 bytes 0\nwarmup 9\n",
+        report: Text(
+            b"trace requests 3 objects 1 dropped 0\ncounted 0\npolicy lru capacity 10\nhits 0 bytes 0\nwarmup 9\n",
+        ),
         ..REPLAYED
     },
     Row {
         shows: "no request at all",
         trace: b"",
-        report: b"trace requests 0 objects 0 dropped 0\ncounted 0\npolicy lru capacity 10\nhits 0 bytes 0\n",
+        report: Text(
+            b"trace requests 0 objects 0 dropped 0\ncounted 0\npolicy lru capacity 10\nhits 0 bytes 0\n",
+        ),
         ..REPLAYED
     },
     Row {
         shows: "a refinement says how many requests count in its third line",
         words: "refine t c m format=webcache window=3 count=reads",
         cert: MARKED_CERT,
-        report: b"refined from 1/1 to 1/1\ntrace requests 3 objects 1 dropped 0\ncounted 2\ncapacity 10 objective object\n\
-form plain\nunit 4 units 2 denominator 1\nupper 1/1 floor 1\nflow 0/1\nlower 1\nvalid\n",
+        report: Refined("1/1 1/1, 3 1 0, counted 2, 10 object, plain, 4 2 1, 1/1 1, 0/1, 1, valid"),
         ..MARKED
     },
     Row {
         shows: "without the operand a fourth word says nothing",
         words: "bounds t c format=webcache capacity=10 mode=infinite count=all",
-        report: b"trace requests 3 objects 1 dropped 0\ncapacity 10 objective object\n\
-mode infinite form plain\nunit 4 units 2 denominator 1\nintervals 2\nupper 2/1 floor 2\nflow 0/1\nlower 2\n",
+        report: Bounds("3 1 0, 10 object, infinite form plain, 4 2 1, 2, 2/1 2, 0/1, 2"),
         made: b"cache-bound-certificate 1\nobjective object\ncapacity 10\nrequests 3\nunit 4\n\
 denominator 1\nform plain\nupper 2\nflow 0\nlower 2\nrecords\n0 1 0\n0 1 0\n0 0 0\nend\n",
         ..MARKED
@@ -86,21 +90,23 @@ denominator 1\nform plain\nupper 2\nflow 0\nlower 2\nrecords\n0 1 0\n0 1 0\n0 0 
                 counted: 2,
             },
         },
-        report: b"invalid line 15: upper differs 1 2\n",
+        report: Text(b"invalid line 15: upper differs 1 2\n"),
         ..CHECKED
     },
     REPLAYED,
     Row {
         shows: "a curve counts reads alone",
         words: "curve t format=webcache count=reads",
-        report: b"trace requests 3 objects 1 dropped 0\ncounted 1\nsize 4\nslots 1 hits 1\n",
+        report: Text(b"trace requests 3 objects 1 dropped 0\ncounted 1\nsize 4\nslots 1 hits 1\n"),
         ..REPLAYED
     },
     Row {
         shows: "of an MSR trace the type is the mark",
         words: "curve t block=512 count=reads format=msr",
         trace: b"1,h,0,Write,0,512,1\n2,h,0,Read,0,512,1\n3,h,0,write,0,512,1\n",
-        report: b"trace requests 3 objects 1 dropped 0\ncounted 1\nsize 512\nslots 1 hits 1\n",
+        report: Text(
+            b"trace requests 3 objects 1 dropped 0\ncounted 1\nsize 512\nslots 1 hits 1\n",
+        ),
         ..REPLAYED
     },
     Row {
@@ -110,7 +116,7 @@ denominator 1\nform plain\nupper 2\nflow 0\nlower 2\nrecords\n0 1 0\n0 1 0\n0 0 
             line: 2,
             kind: LineKind::BadType,
         },
-        report: b"bad line 2: type\n",
+        report: Text(b"bad line 2: type\n"),
         ..REPLAYED
     },
     Row {
@@ -120,7 +126,7 @@ denominator 1\nform plain\nupper 2\nflow 0\nlower 2\nrecords\n0 1 0\n0 1 0\n0 0 
             line: 2,
             kind: LineKind::TooFewWords,
         },
-        report: b"bad line 2: too few words\n",
+        report: Text(b"bad line 2: too few words\n"),
         ..REPLAYED
     },
 ];

@@ -1,5 +1,5 @@
 //! Runs in each mode and over each denominator.
-use super::{APART, CYCLE, CYCLE_TRACE, GOOD, Row, check_all};
+use super::{APART, Bounds, CYCLE, CYCLE_TRACE, GOOD, Row, Text, check_all};
 use bound_report::LimitName;
 use bound_run::Status;
 
@@ -11,8 +11,7 @@ const ROWS: [Row<'static>; 15] = [
         shows: "the interval of the lesser rank is kept, though it starts later",
         words: "bounds t c format=webcache capacity=3 mode=infinite",
         trace: b"1 1 3\n2 2 1\n3 2 1\n4 1 3\n",
-        report: b"trace requests 4 objects 2 dropped 0\ncapacity 3 objective object\n\
-mode infinite form plain\nunit 1 units 3 denominator 1\nintervals 2\nupper 2/1 floor 2\nflow 0/1\nlower 1\n",
+        report: Bounds("4 2 0, 3 object, infinite form plain, 1 3 1, 2, 2/1 2, 0/1, 1"),
         made: b"cache-bound-certificate 1\nobjective object\ncapacity 3\nrequests 4\nunit 1\n\
 denominator 1\nform plain\nupper 2\nflow 0\nlower 1\nrecords\n0 0 0\n0 1 0\n0 0 0\n0 0 0\nend\n",
         ..GOOD
@@ -21,8 +20,7 @@ denominator 1\nform plain\nupper 2\nflow 0\nlower 1\nrecords\n0 0 0\n0 1 0\n0 0 
         shows: "one price of a third",
         words: "bounds t c format=webcache capacity=1 mode=constant denominator=3",
         trace: CYCLE_TRACE,
-        report: b"trace requests 6 objects 3 dropped 0\ncapacity 1 objective object\n\
-mode constant price 1 form plain\nunit 1 units 1 denominator 3\nintervals 3\nupper 5/3 floor 1\nflow 0/3\nlower 1\n",
+        report: Bounds("6 3 0, 1 object, constant price 1 form plain, 1 1 3, 3, 5/3 1, 0/3, 1"),
         made: b"cache-bound-certificate 1\nobjective object\ncapacity 1\nrequests 6\nunit 1\n\
 denominator 3\nform plain\nupper 5\nflow 0\nlower 1\nrecords\n1 1 0\n1 0 0\n1 0 0\n1 0 0\n1 0 0\n0 0 0\nend\n",
         ..GOOD
@@ -31,9 +29,9 @@ denominator 3\nform plain\nupper 5\nflow 0\nlower 1\nrecords\n1 1 0\n1 0 0\n1 0 
         shows: "one price over the usual denominator",
         words: "bounds t c format=webcache capacity=1 mode=constant",
         trace: CYCLE_TRACE,
-        report: b"trace requests 6 objects 3 dropped 0\ncapacity 1 objective object\n\
-mode constant price 93824992236885 form plain\nunit 1 units 1 denominator 281474976710656\n\
-intervals 3\nupper 469124961184428/281474976710656 floor 1\nflow 0/281474976710656\nlower 1\n",
+        report: Bounds(
+            "6 3 0, 1 object, constant price 93824992236885 form plain, 1 1 281474976710656, 3, 469124961184428/281474976710656 1, 0/281474976710656, 1",
+        ),
         made: b"cache-bound-certificate 1\nobjective object\ncapacity 1\nrequests 6\nunit 1\n\
 denominator 281474976710656\nform plain\nupper 469124961184428\nflow 0\nlower 1\nrecords\n\
 93824992236885 1 0\n93824992236885 0 0\n93824992236885 0 0\n93824992236885 0 0\n93824992236885 0 0\n0 0 0\nend\n",
@@ -43,8 +41,7 @@ denominator 281474976710656\nform plain\nupper 469124961184428\nflow 0\nlower 1\
         shows: "the least price is 0, since 1 gives 14",
         words: "bounds t c format=webcache capacity=4 mode=constant denominator=6",
         trace: TURNS,
-        report: b"trace requests 4 objects 2 dropped 0\ncapacity 4 objective object\n\
-mode constant price 0 form plain\nunit 1 units 4 denominator 6\nintervals 2\nupper 12/6 floor 2\nflow 0/6\nlower 1\n",
+        report: Bounds("4 2 0, 4 object, constant price 0 form plain, 1 4 6, 2, 12/6 2, 0/6, 1"),
         made: b"cache-bound-certificate 1\nobjective object\ncapacity 4\nrequests 4\nunit 1\n\
 denominator 6\nform plain\nupper 12\nflow 0\nlower 1\nrecords\n0 1 0\n0 0 0\n0 0 0\n0 0 0\nend\n",
         ..GOOD
@@ -53,8 +50,7 @@ denominator 6\nform plain\nupper 12\nflow 0\nlower 1\nrecords\n0 1 0\n0 0 0\n0 0
         shows: "bytes over the least denominator",
         words: "bounds t c format=webcache capacity=3 mode=constant denominator=auto objective=bytes",
         trace: b"1 1 2\n2 2 2\n3 1 2\n4 2 2\n",
-        report: b"trace requests 4 objects 2 dropped 0\ncapacity 3 objective bytes\n\
-mode constant price 1 form plain\nunit 2 units 1 denominator 1\nintervals 2\nupper 3/1 floor 3\nflow 0/1\nlower 2\n",
+        report: Bounds("4 2 0, 3 bytes, constant price 1 form plain, 2 1 1, 2, 3/1 3, 0/1, 2"),
         made: b"cache-bound-certificate 1\nobjective bytes\ncapacity 3\nrequests 4\nunit 2\n\
 denominator 1\nform plain\nupper 3\nflow 0\nlower 2\nrecords\n1 1 0\n1 0 0\n1 0 0\n0 0 0\nend\n",
         ..GOOD
@@ -62,8 +58,7 @@ denominator 1\nform plain\nupper 3\nflow 0\nlower 2\nrecords\n1 1 0\n1 0 0\n1 0 
     Row {
         shows: "no price over a denominator of 5",
         words: "bounds t c format=webcache capacity=2 mode=infinite denominator=5",
-        report: b"trace requests 6 objects 3 dropped 0\ncapacity 2 objective object\n\
-mode infinite form plain\nunit 1 units 2 denominator 5\nintervals 3\nupper 15/5 floor 3\nflow 0/5\nlower 2\n",
+        report: Bounds("6 3 0, 2 object, infinite form plain, 1 2 5, 3, 15/5 3, 0/5, 2"),
         made: b"cache-bound-certificate 1\nobjective object\ncapacity 2\nrequests 6\nunit 1\n\
 denominator 5\nform plain\nupper 15\nflow 0\nlower 2\nrecords\n0 1 0\n0 1 0\n0 0 0\n0 0 0\n0 0 0\n0 0 0\nend\n",
         ..CYCLE
@@ -72,8 +67,7 @@ denominator 5\nform plain\nupper 15\nflow 0\nlower 2\nrecords\n0 1 0\n0 1 0\n0 0
         shows: "an object above the capacity has no interval",
         words: "bounds t c format=webcache capacity=5 mode=infinite",
         trace: b"1 1 10\n2 1 10\n",
-        report: b"trace requests 2 objects 1 dropped 0\ncapacity 5 objective object\n\
-mode infinite form plain\nunit 1 units 5 denominator 1\nintervals 0\nupper 0/1 floor 0\nflow 0/1\nlower 0\n",
+        report: Bounds("2 1 0, 5 object, infinite form plain, 1 5 1, 0, 0/1 0, 0/1, 0"),
         made: b"cache-bound-certificate 1\nobjective object\ncapacity 5\nrequests 2\nunit 1\n\
 denominator 1\nform plain\nupper 0\nflow 0\nlower 0\nrecords\n0 0 0\n0 0 0\nend\n",
         ..GOOD
@@ -83,7 +77,7 @@ denominator 1\nform plain\nupper 0\nflow 0\nlower 0\nrecords\n0 0 0\n0 0 0\nend\
         words: "bounds t c format=webcache capacity=100000 mode=constant denominator=exact",
         trace: APART,
         status: Status::Limit(LimitName::Denominator),
-        report: b"limit: denominator 281474976710656\n",
+        report: Text(b"limit: denominator 281474976710656\n"),
         made: b"",
         ..GOOD
     },
@@ -92,7 +86,7 @@ denominator 1\nform plain\nupper 0\nflow 0\nlower 0\nrecords\n0 0 0\n0 0 0\nend\
         words: "bounds t c format=webcache capacity=100000 denominator=exact",
         trace: APART,
         status: Status::Limit(LimitName::Denominator),
-        report: b"limit: denominator 281474976710656\n",
+        report: Text(b"limit: denominator 281474976710656\n"),
         made: b"",
         ..GOOD
     },
@@ -100,8 +94,7 @@ denominator 1\nform plain\nupper 0\nflow 0\nlower 0\nrecords\n0 0 0\n0 0 0\nend\
         shows: "no request at all has the price 0",
         words: "bounds t c format=webcache capacity=10 mode=constant denominator=exact",
         trace: b"",
-        report: b"trace requests 0 objects 0 dropped 0\ncapacity 10 objective object\n\
-mode constant price 0 form plain\nunit 1 units 10 denominator 1\nintervals 0\nupper 0/1 floor 0\nflow 0/1\nlower 0\n",
+        report: Bounds("0 0 0, 10 object, constant price 0 form plain, 1 10 1, 0, 0/1 0, 0/1, 0"),
         made: b"cache-bound-certificate 1\nobjective object\ncapacity 10\nrequests 0\nunit 1\n\
 denominator 1\nform plain\nupper 0\nflow 0\nlower 0\nrecords\nend\n",
         ..GOOD
@@ -110,8 +103,7 @@ denominator 1\nform plain\nupper 0\nflow 0\nlower 0\nrecords\nend\n",
         shows: "hits of two objects that fit together",
         words: "bounds t c format=webcache capacity=5 mode=infinite",
         trace: TURNS,
-        report: b"trace requests 4 objects 2 dropped 0\ncapacity 5 objective object\n\
-mode infinite form plain\nunit 1 units 5 denominator 1\nintervals 2\nupper 2/1 floor 2\nflow 0/1\nlower 2\n",
+        report: Bounds("4 2 0, 5 object, infinite form plain, 1 5 1, 2, 2/1 2, 0/1, 2"),
         made: b"cache-bound-certificate 1\nobjective object\ncapacity 5\nrequests 4\nunit 1\n\
 denominator 1\nform plain\nupper 2\nflow 0\nlower 2\nrecords\n0 1 0\n0 1 0\n0 0 0\n0 0 0\nend\n",
         ..GOOD
@@ -120,8 +112,7 @@ denominator 1\nform plain\nupper 2\nflow 0\nlower 2\nrecords\n0 1 0\n0 1 0\n0 0 
         shows: "bytes of two objects of which one fits",
         words: "bounds t c format=webcache capacity=3 mode=infinite objective=bytes",
         trace: b"1 1 2\n2 3 2\n3 1 2\n4 3 2\n",
-        report: b"trace requests 4 objects 2 dropped 0\ncapacity 3 objective bytes\n\
-mode infinite form plain\nunit 2 units 1 denominator 1\nintervals 2\nupper 4/1 floor 4\nflow 0/1\nlower 2\n",
+        report: Bounds("4 2 0, 3 bytes, infinite form plain, 2 1 1, 2, 4/1 4, 0/1, 2"),
         made: b"cache-bound-certificate 1\nobjective bytes\ncapacity 3\nrequests 4\nunit 2\n\
 denominator 1\nform plain\nupper 4\nflow 0\nlower 2\nrecords\n0 1 0\n0 0 0\n0 0 0\n0 0 0\nend\n",
         ..GOOD
@@ -130,8 +121,7 @@ denominator 1\nform plain\nupper 4\nflow 0\nlower 2\nrecords\n0 1 0\n0 0 0\n0 0 
         shows: "an object larger than the capacity",
         words: "bounds t c format=webcache capacity=2 mode=infinite objective=bytes",
         trace: TURNS,
-        report: b"trace requests 4 objects 2 dropped 0\ncapacity 2 objective bytes\n\
-mode infinite form plain\nunit 2 units 1 denominator 1\nintervals 1\nupper 2/1 floor 2\nflow 0/1\nlower 2\n",
+        report: Bounds("4 2 0, 2 bytes, infinite form plain, 2 1 1, 1, 2/1 2, 0/1, 2"),
         made: b"cache-bound-certificate 1\nobjective bytes\ncapacity 2\nrequests 4\nunit 2\n\
 denominator 1\nform plain\nupper 2\nflow 0\nlower 2\nrecords\n0 1 0\n0 0 0\n0 0 0\n0 0 0\nend\n",
         ..GOOD
@@ -140,8 +130,7 @@ denominator 1\nform plain\nupper 2\nflow 0\nlower 2\nrecords\n0 1 0\n0 0 0\n0 0 
         shows: "bytes of no request",
         words: "bounds t c format=webcache capacity=5 mode=infinite objective=bytes",
         trace: b"",
-        report: b"trace requests 0 objects 0 dropped 0\ncapacity 5 objective bytes\n\
-mode infinite form plain\nunit 1 units 5 denominator 1\nintervals 0\nupper 0/1 floor 0\nflow 0/1\nlower 0\n",
+        report: Bounds("0 0 0, 5 bytes, infinite form plain, 1 5 1, 0, 0/1 0, 0/1, 0"),
         made: b"cache-bound-certificate 1\nobjective bytes\ncapacity 5\nrequests 0\nunit 1\n\
 denominator 1\nform plain\nupper 0\nflow 0\nlower 0\nrecords\nend\n",
         ..GOOD
@@ -150,8 +139,7 @@ denominator 1\nform plain\nupper 0\nflow 0\nlower 0\nrecords\nend\n",
         shows: "seven dropped lines",
         words: "bounds t c format=webcache capacity=5 mode=infinite objective=bytes",
         trace: b"1 2 0\n1 2 3\n1 2 0\n1 2 0\n1 2 0\n1 2 0\n1 2 0\n1 2 3\n1 2 0\n",
-        report: b"trace requests 2 objects 1 dropped 7\ncapacity 5 objective bytes\n\
-mode infinite form plain\nunit 3 units 1 denominator 1\nintervals 1\nupper 3/1 floor 3\nflow 0/1\nlower 3\n",
+        report: Bounds("2 1 7, 5 bytes, infinite form plain, 3 1 1, 1, 3/1 3, 0/1, 3"),
         made: b"cache-bound-certificate 1\nobjective bytes\ncapacity 5\nrequests 2\nunit 3\n\
 denominator 1\nform plain\nupper 3\nflow 0\nlower 3\nrecords\n0 1 0\n0 0 0\nend\n",
         ..GOOD

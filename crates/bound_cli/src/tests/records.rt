@@ -46,15 +46,14 @@ const ROWS: [Row<'static>; 3] = [
             line: 2,
             kind: LineKind::PartRecord { bytes: 23 },
         },
-        report: b"bad line 2: part record 23\n",
+        report: Text(b"bad line 2: part record 23\n"),
         made: b"",
         ..WHOLE
     },
     Row {
         shows: "a record that asks for no byte",
         trace: FIRST_EMPTY,
-        report: b"trace requests 1 objects 1 dropped 1\ncapacity 10 objective object\n\
-mode infinite form plain\nunit 1 units 10 denominator 1\nintervals 0\nupper 0/1 floor 0\nflow 0/1\nlower 0\n",
+        report: Bounds("1 1 1, 10 object, infinite form plain, 1 10 1, 0, 0/1 0, 0/1, 0"),
         made: b"cache-bound-certificate 1\nobjective object\ncapacity 10\nrequests 1\nunit 1\n\
 denominator 1\nform plain\nupper 0\nflow 0\nlower 0\nrecords\n0 0 0\nend\n",
         ..WHOLE
@@ -62,7 +61,7 @@ denominator 1\nform plain\nupper 0\nflow 0\nlower 0\nrecords\n0 0 0\nend\n",
     Row {
         shows: "the curve of records",
         words: "curve t format=oracle",
-        report: b"trace requests 2 objects 1 dropped 0\nsize 4\nslots 1 hits 1\n",
+        report: Text(b"trace requests 2 objects 1 dropped 0\nsize 4\nslots 1 hits 1\n"),
         made: b"",
         ..WHOLE
     },

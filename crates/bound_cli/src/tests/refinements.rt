@@ -13,8 +13,7 @@ const LOOSE: Row<'static> = Row {
     words: "refine t c m format=webcache window=3",
     trace: CYCLE_TRACE,
     cert: LOOSE_CERT,
-    report: b"refined from 3/1 to 2/1\ntrace requests 6 objects 3 dropped 0\ncapacity 2 objective object\n\
-form plain\nunit 1 units 2 denominator 1\nupper 2/1 floor 2\nflow 0/1\nlower 2\nvalid\n",
+    report: Refined("3/1 2/1, 6 3 0, 2 object, plain, 1 2 1, 2/1 2, 0/1, 2, valid"),
     made: b"cache-bound-certificate 1\nobjective object\ncapacity 2\nrequests 6\nunit 1\n\
 denominator 1\nform plain\nupper 2\nflow 0\nlower 2\nrecords\n0 1 0\n0 1 0\n1 0 0\n0 0 0\n0 0 0\n0 0 0\nend\n",
     ..GOOD
@@ -40,8 +39,7 @@ const REFINEMENTS: [Row<'static>; 7] = [
         shows: "an exact certificate stays as it is",
         words: "refine t c m format=webcache window=2",
         cert: EXACT_CERT,
-        report: b"refined from 2/1 to 2/1\ntrace requests 6 objects 3 dropped 0\ncapacity 2 objective object\n\
-form exact\nunit 1 units 2 denominator 1\nupper 2/1 floor 2\nflow 2/1\nlower 2\nvalid\n",
+        report: Refined("2/1 2/1, 6 3 0, 2 object, exact, 1 2 1, 2/1 2, 2/1, 2, valid"),
         made: EXACT_CERT,
         ..LOOSE
     },
@@ -50,8 +48,7 @@ form exact\nunit 1 units 2 denominator 1\nupper 2/1 floor 2\nflow 2/1\nlower 2\n
         trace: b"1 1 1\n2 2 1\n3 3 1\n3 9 0\n4 1 1\n5 2 1\n6 3 1\n",
         cert: b"cache-bound-certificate 2\nobjective object\ncapacity 2\nrequests 6\nunit 1\n\
 denominator 1\nform plain\nupper 3\nflow 0\nlower 1\nwarmup 5\nrecords\n1 0 0\n0 0 0\n1 0\n0 0\n0 0\n0 0\nend\n",
-        report: b"refined from 3/1 to 1/1\ntrace requests 6 objects 3 dropped 1\ncapacity 2 objective object\n\
-form plain\nunit 1 units 2 denominator 1\nupper 1/1 floor 1\nflow 0/1\nlower 1\nvalid\nwarmup 5\n",
+        report: Refined("3/1 1/1, 6 3 1, 2 object, plain, 1 2 1, 1/1 1, 0/1, 1, valid, warmup 5"),
         made: b"cache-bound-certificate 2\nobjective object\ncapacity 2\nrequests 6\nunit 1\n\
 denominator 1\nform plain\nupper 1\nflow 0\nlower 1\nwarmup 5\nrecords\n0 0\n0 0\n1 0\n0 0\n0 0\n0 0\nend\n",
         ..LOOSE
@@ -61,8 +58,7 @@ denominator 1\nform plain\nupper 1\nflow 0\nlower 1\nwarmup 5\nrecords\n0 0\n0 0
         trace: b"",
         cert: b"cache-bound-certificate 1\nobjective object\ncapacity 10\nrequests 0\nunit 1\n\
 denominator 1\nform plain\nupper 0\nflow 0\nlower 0\nrecords\nend\n",
-        report: b"refined from 0/1 to 0/1\ntrace requests 0 objects 0 dropped 0\ncapacity 10 objective object\n\
-form plain\nunit 1 units 10 denominator 1\nupper 0/1 floor 0\nflow 0/1\nlower 0\nvalid\n",
+        report: Refined("0/1 0/1, 0 0 0, 10 object, plain, 1 10 1, 0/1 0, 0/1, 0, valid"),
         made: b"cache-bound-certificate 1\nobjective object\ncapacity 10\nrequests 0\nunit 1\n\
 denominator 1\nform plain\nupper 0\nflow 0\nlower 0\nrecords\nend\n",
         ..LOOSE
@@ -78,7 +74,7 @@ denominator 1\nform exact\nupper 3\nflow 2\nlower 2\nrecords\n0 1 1\n0 1 1\n1 0 
                 counted: 2,
             },
         },
-        report: b"invalid line 18: upper differs 3 2\n",
+        report: Text(b"invalid line 18: upper differs 3 2\n"),
         made: b"",
         ..LOOSE
     },
@@ -97,7 +93,7 @@ const REFUSED: [Row<'static>; 3] = [
             line: 2,
             kind: LineKind::BadNumber { word: 2 },
         },
-        report: b"bad line 2: number in word 2\n",
+        report: Text(b"bad line 2: number in word 2\n"),
         made: b"",
         ..LOOSE
     },
@@ -105,7 +101,7 @@ const REFUSED: [Row<'static>; 3] = [
         shows: "the first read of the trace fails",
         fails: Some((Device::Trace, 1)),
         status: Status::TraceFault,
-        report: b"trace fault\n",
+        report: Text(b"trace fault\n"),
         made: b"",
         ..LOOSE
     },
@@ -113,7 +109,7 @@ const REFUSED: [Row<'static>; 3] = [
         shows: "the first read of the certificate fails",
         fails: Some((Device::Cert, 1)),
         status: Status::CertFault,
-        report: b"certificate fault\n",
+        report: Text(b"certificate fault\n"),
         made: b"",
         ..LOOSE
     },
@@ -128,7 +124,7 @@ fn a_refinement_that_is_refused_makes_nothing(rt: HostRuntime) {
 fn a_failed_write_of_the_certificate_is_a_made_fault(rt: HostRuntime) {
     let failing = Row {
         status: Status::MadeFault,
-        report: b"made fault\n",
+        report: Text(b"made fault\n"),
         ..LOOSE
     };
     check_made_writes(&rt, rt.alloc(), &failing);

@@ -1,5 +1,5 @@
 //! Replays: their reports, and how they end. The hits were counted by hand.
-use super::{CYCLE_TRACE, Device, GOOD, Row, check_all, check_reads, check_report_writes};
+use super::{CYCLE_TRACE, Device, GOOD, Row, Text, check_all, check_reads, check_report_writes};
 use bound_report::WordKind;
 use bound_run::{Status, WordFault};
 use trace_lines::LineKind;
@@ -8,7 +8,7 @@ const LRU: Row<'static> = Row {
     shows: "least recently used hits no request of a cycle that doesn't fit",
     words: "replay t format=webcache capacity=2 policy=lru",
     trace: CYCLE_TRACE,
-    report: b"trace requests 6 objects 3 dropped 0\npolicy lru capacity 2\nhits 0 bytes 0\n",
+    report: Text(b"trace requests 6 objects 3 dropped 0\npolicy lru capacity 2\nhits 0 bytes 0\n"),
     made: b"",
     ..GOOD
 };
@@ -25,89 +25,115 @@ const REPLAYS: [Row<'static>; 14] = [
     Row {
         shows: "Belady's rule hits as much as the bound",
         words: "replay t format=webcache capacity=2 policy=belady",
-        report: b"trace requests 6 objects 3 dropped 0\npolicy belady capacity 2\nhits 2 bytes 2\n",
+        report: Text(
+            b"trace requests 6 objects 3 dropped 0\npolicy belady capacity 2\nhits 2 bytes 2\n",
+        ),
         ..LRU
     },
     Row {
         shows: "its hits before the warm-up don't count",
         words: "replay t policy=belady warmup=5 capacity=2 format=webcache",
-        report: b"trace requests 6 objects 3 dropped 0\npolicy belady capacity 2\nhits 0 bytes 0\nwarmup 5\n",
+        report: Text(
+            b"trace requests 6 objects 3 dropped 0\npolicy belady capacity 2\nhits 0 bytes 0\nwarmup 5\n",
+        ),
         ..LRU
     },
     Row {
         shows: "the usual warm-up is none",
         words: "replay t policy=belady warmup=0 capacity=2 format=webcache",
-        report: b"trace requests 6 objects 3 dropped 0\npolicy belady capacity 2\nhits 2 bytes 2\n",
+        report: Text(
+            b"trace requests 6 objects 3 dropped 0\npolicy belady capacity 2\nhits 2 bytes 2\n",
+        ),
         ..LRU
     },
     Row {
         shows: "sizes by LRU",
         words: "replay t format=webcache capacity=5 policy=lru",
         trace: SIZES_TRACE,
-        report: b"trace requests 6 objects 3 dropped 1\npolicy lru capacity 5\nhits 2 bytes 4\n",
+        report: Text(
+            b"trace requests 6 objects 3 dropped 1\npolicy lru capacity 5\nhits 2 bytes 4\n",
+        ),
         ..LRU
     },
     Row {
         shows: "sizes by FIFO",
         words: "replay t format=webcache capacity=5 policy=fifo",
         trace: SIZES_TRACE,
-        report: b"trace requests 6 objects 3 dropped 1\npolicy fifo capacity 5\nhits 1 bytes 2\n",
+        report: Text(
+            b"trace requests 6 objects 3 dropped 1\npolicy fifo capacity 5\nhits 1 bytes 2\n",
+        ),
         ..LRU
     },
     Row {
         shows: "sizes by CLOCK",
         words: "replay t format=webcache capacity=5 policy=clock",
         trace: SIZES_TRACE,
-        report: b"trace requests 6 objects 3 dropped 1\npolicy clock capacity 5\nhits 2 bytes 4\n",
+        report: Text(
+            b"trace requests 6 objects 3 dropped 1\npolicy clock capacity 5\nhits 2 bytes 4\n",
+        ),
         ..LRU
     },
     Row {
         shows: "sizes by LFU",
         words: "replay t format=webcache capacity=5 policy=lfu",
         trace: SIZES_TRACE,
-        report: b"trace requests 6 objects 3 dropped 1\npolicy lfu capacity 5\nhits 2 bytes 4\n",
+        report: Text(
+            b"trace requests 6 objects 3 dropped 1\npolicy lfu capacity 5\nhits 2 bytes 4\n",
+        ),
         ..LRU
     },
     Row {
         shows: "two sizes by Belady's rule",
         words: "replay t format=webcache capacity=5 policy=belady",
         trace: SIZES_TRACE,
-        report: b"trace requests 6 objects 3 dropped 1\npolicy belady capacity 5\nhits 3 bytes 6\n",
+        report: Text(
+            b"trace requests 6 objects 3 dropped 1\npolicy belady capacity 5\nhits 3 bytes 6\n",
+        ),
         ..LRU
     },
     Row {
         shows: "sizes by SIEVE",
         words: "replay t format=webcache capacity=10 policy=sieve",
         trace: TODAY_TRACE,
-        report: b"trace requests 12 objects 4 dropped 0\npolicy sieve capacity 10\nhits 3 bytes 14\n",
+        report: Text(
+            b"trace requests 12 objects 4 dropped 0\npolicy sieve capacity 10\nhits 3 bytes 14\n",
+        ),
         ..LRU
     },
     Row {
         shows: "sizes by S3-FIFO",
         words: "replay t format=webcache capacity=10 policy=s3fifo",
         trace: TODAY_TRACE,
-        report: b"trace requests 12 objects 4 dropped 0\npolicy s3fifo capacity 10\nhits 5 bytes 21\n",
+        report: Text(
+            b"trace requests 12 objects 4 dropped 0\npolicy s3fifo capacity 10\nhits 5 bytes 21\n",
+        ),
         ..LRU
     },
     Row {
         shows: "sizes by GDSF",
         words: "replay t format=webcache capacity=10 policy=gdsf",
         trace: TODAY_TRACE,
-        report: b"trace requests 12 objects 4 dropped 0\npolicy gdsf capacity 10\nhits 6 bytes 23\n",
+        report: Text(
+            b"trace requests 12 objects 4 dropped 0\npolicy gdsf capacity 10\nhits 6 bytes 23\n",
+        ),
         ..LRU
     },
     Row {
         shows: "sizes by LFUDA",
         words: "replay t format=webcache capacity=10 policy=lfuda",
         trace: TODAY_TRACE,
-        report: b"trace requests 12 objects 4 dropped 0\npolicy lfuda capacity 10\nhits 4 bytes 19\n",
+        report: Text(
+            b"trace requests 12 objects 4 dropped 0\npolicy lfuda capacity 10\nhits 4 bytes 19\n",
+        ),
         ..LRU
     },
     Row {
         shows: "GDSF after a warm-up",
         words: "replay t format=webcache capacity=10 policy=gdsf warmup=6",
         trace: TODAY_TRACE,
-        report: b"trace requests 12 objects 4 dropped 0\npolicy gdsf capacity 10\nhits 4 bytes 16\nwarmup 6\n",
+        report: Text(
+            b"trace requests 12 objects 4 dropped 0\npolicy gdsf capacity 10\nhits 4 bytes 16\nwarmup 6\n",
+        ),
         ..LRU
     },
 ];
@@ -125,7 +151,7 @@ const REFUSED: [Row<'static>; 2] = [
             place: 2,
             kind: WordKind::Missing,
         }),
-        report: b"words: place 2: missing\n",
+        report: Text(b"words: place 2: missing\n"),
         ..LRU
     },
     Row {
@@ -135,7 +161,7 @@ const REFUSED: [Row<'static>; 2] = [
             line: 2,
             kind: LineKind::BadNumber { word: 2 },
         },
-        report: b"bad line 2: number in word 2\n",
+        report: Text(b"bad line 2: number in word 2\n"),
         ..LRU
     },
 ];
@@ -149,7 +175,7 @@ fn replays_end_as_their_trace_does(rt: HostRuntime) {
 fn a_failed_read_is_the_traces_fault(rt: HostRuntime) {
     let failing = Row {
         status: Status::TraceFault,
-        report: b"trace fault\n",
+        report: Text(b"trace fault\n"),
         ..LRU
     };
     check_reads(

@@ -16,8 +16,7 @@ const TRACE_ROWS: [Row<'static>; 9] = [
     Row {
         shows: "a line that asks for no byte",
         trace: b"1 7 4\n5 7 0\n6 7 4\n",
-        report: b"trace requests 2 objects 1 dropped 1\ncapacity 10 objective object\n\
-mode infinite form plain\nunit 4 units 2 denominator 1\nintervals 1\nupper 1/1 floor 1\nflow 0/1\nlower 1\n",
+        report: Bounds("2 1 1, 10 object, infinite form plain, 4 2 1, 1, 1/1 1, 0/1, 1"),
         ..GOOD
     },
     Row {
@@ -29,8 +28,7 @@ mode infinite form plain\nunit 4 units 2 denominator 1\nintervals 1\nupper 1/1 f
         shows: "a hit gains its bytes",
         words: "bounds t c objective=bytes format=webcache capacity=5 mode=infinite",
         trace: b"1 1 2\n2 2 3\n3 1 2\n4 2 3\n",
-        report: b"trace requests 4 objects 2 dropped 0\ncapacity 5 objective bytes\n\
-mode infinite form plain\nunit 1 units 5 denominator 1\nintervals 2\nupper 5/1 floor 5\nflow 0/1\nlower 5\n",
+        report: Bounds("4 2 0, 5 bytes, infinite form plain, 1 5 1, 2, 5/1 5, 0/1, 5"),
         made: b"cache-bound-certificate 1\nobjective bytes\ncapacity 5\nrequests 4\nunit 1\n\
 denominator 1\nform plain\nupper 5\nflow 0\nlower 5\nrecords\n0 1 0\n0 1 0\n0 0 0\n0 0 0\nend\n",
         ..GOOD
@@ -38,8 +36,7 @@ denominator 1\nform plain\nupper 5\nflow 0\nlower 5\nrecords\n0 1 0\n0 1 0\n0 0 
     Row {
         shows: "the largest size, above the capacity",
         trace: b"1 7 281474976710656\n",
-        report: b"trace requests 1 objects 1 dropped 0\ncapacity 10 objective object\n\
-mode infinite form plain\nunit 1 units 10 denominator 1\nintervals 0\nupper 0/1 floor 0\nflow 0/1\nlower 0\n",
+        report: Bounds("1 1 0, 10 object, infinite form plain, 1 10 1, 0, 0/1 0, 0/1, 0"),
         made: b"cache-bound-certificate 1\nobjective object\ncapacity 10\nrequests 1\nunit 1\n\
 denominator 1\nform plain\nupper 0\nflow 0\nlower 0\nrecords\n0 0 0\nend\n",
         ..GOOD
@@ -51,7 +48,7 @@ denominator 1\nform plain\nupper 0\nflow 0\nlower 0\nrecords\n0 0 0\nend\n",
             line: 1,
             kind: LineKind::SizeTooLarge,
         },
-        report: b"bad line 1: size too large\n",
+        report: Text(b"bad line 1: size too large\n"),
         made: b"",
         ..GOOD
     },
@@ -62,7 +59,7 @@ denominator 1\nform plain\nupper 0\nflow 0\nlower 0\nrecords\n0 0 0\nend\n",
             line: 2,
             kind: LineKind::BadNumber { word: 2 },
         },
-        report: b"bad line 2: number in word 2\n",
+        report: Text(b"bad line 2: number in word 2\n"),
         made: b"",
         ..GOOD
     },
@@ -73,7 +70,7 @@ denominator 1\nform plain\nupper 0\nflow 0\nlower 0\nrecords\n0 0 0\nend\n",
             line: 3,
             kind: LineKind::BadNumber { word: 3 },
         },
-        report: b"bad line 3: number in word 3\n",
+        report: Text(b"bad line 3: number in word 3\n"),
         made: b"",
         ..GOOD
     },
@@ -84,7 +81,7 @@ denominator 1\nform plain\nupper 0\nflow 0\nlower 0\nrecords\n0 0 0\nend\n",
             line: 1,
             kind: LineKind::TooFewWords,
         },
-        report: b"bad line 1: too few words\n",
+        report: Text(b"bad line 1: too few words\n"),
         made: b"",
         ..GOOD
     },
@@ -96,8 +93,7 @@ const BLOCK_ROWS: [Row<'static>; 5] = [
         shows: "ranges of blocks",
         words: "bounds t c format=arc capacity=1024 mode=infinite",
         trace: b"10 3 0 1\n11 2 0 2\n",
-        report: b"trace requests 5 objects 3 dropped 0\ncapacity 1024 objective object\n\
-mode infinite form plain\nunit 512 units 2 denominator 1\nintervals 2\nupper 2/1 floor 2\nflow 0/1\nlower 2\n",
+        report: Bounds("5 3 0, 1024 object, infinite form plain, 512 2 1, 2, 2/1 2, 0/1, 2"),
         made: b"cache-bound-certificate 1\nobjective object\ncapacity 1024\nrequests 5\nunit 512\n\
 denominator 1\nform plain\nupper 2\nflow 0\nlower 2\nrecords\n0 0 0\n0 1 0\n0 1 0\n0 0 0\n0 0 0\nend\n",
         ..GOOD
@@ -107,8 +103,7 @@ denominator 1\nform plain\nupper 2\nflow 0\nlower 2\nrecords\n0 0 0\n0 1 0\n0 1 
         words: MSR_WORDS,
         trace: b"128166372003061629,usr,0,Read,7014609920,24576,41286\n\
 128166372003061629,usr,0,Read,7014609920,24576,41286\n",
-        report: b"trace requests 14 objects 7 dropped 0\ncapacity 12288 objective object\n\
-mode infinite form plain\nunit 4096 units 3 denominator 1\nintervals 7\nupper 7/1 floor 7\nflow 0/1\nlower 3\n",
+        report: Bounds("14 7 0, 12288 object, infinite form plain, 4096 3 1, 7, 7/1 7, 0/1, 3"),
         made: b"cache-bound-certificate 1\nobjective object\ncapacity 12288\nrequests 14\nunit 4096\n\
 denominator 1\nform plain\nupper 7\nflow 0\nlower 3\nrecords\n0 1 0\n0 1 0\n0 1 0\n0 0 0\n0 0 0\n0 0 0\n\
 0 0 0\n0 0 0\n0 0 0\n0 0 0\n0 0 0\n0 0 0\n0 0 0\n0 0 0\nend\n",
@@ -122,7 +117,7 @@ denominator 1\nform plain\nupper 7\nflow 0\nlower 3\nrecords\n0 1 0\n0 1 0\n0 1 
             line: 1,
             kind: LineKind::BadRange,
         },
-        report: b"bad line 1: block range\n",
+        report: Text(b"bad line 1: block range\n"),
         made: b"",
         ..GOOD
     },
@@ -134,7 +129,7 @@ denominator 1\nform plain\nupper 7\nflow 0\nlower 3\nrecords\n0 1 0\n0 1 0\n0 1 
             line: 1,
             kind: LineKind::BadType,
         },
-        report: b"bad line 1: type\n",
+        report: Text(b"bad line 1: type\n"),
         made: b"",
         ..GOOD
     },
@@ -146,7 +141,7 @@ denominator 1\nform plain\nupper 7\nflow 0\nlower 3\nrecords\n0 1 0\n0 1 0\n0 1 
             line: 1,
             kind: LineKind::QuoteByte,
         },
-        report: b"bad line 1: quote\n",
+        report: Text(b"bad line 1: quote\n"),
         made: b"",
         ..GOOD
     },

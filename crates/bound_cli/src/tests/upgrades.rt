@@ -15,7 +15,7 @@ const UPGRADE: Row<'static> = Row {
     words: "upgrade c d",
     trace: b"",
     cert: FIRST,
-    report: b"upgraded requests 6 version 2\n",
+    report: Text(b"upgraded requests 6 version 2\n"),
     made: SECOND,
     ..GOOD
 };
@@ -30,7 +30,7 @@ denominator 1\nform exact\nupper 2\nflow 2\nlower 2\nrecords\n0 1 1\n0 1 1\n1 0 
             line: 18,
             kind: InvalidKind::Truncated,
         },
-        report: b"invalid line 18: truncated\n",
+        report: Text(b"invalid line 18: truncated\n"),
         made: b"",
         ..UPGRADE
     },
@@ -43,7 +43,7 @@ denominator 1\nform exact\nupper 2\nflow 2\nlower 2\nrecords\n0 1 1\n0 1 1\n1 0 
         shows: "no request, and a warm-up",
         cert: b"cache-bound-certificate 1\nobjective bytes\ncapacity 1\nrequests 0\nunit 1\n\
 denominator 1\nform plain\nupper 0\nflow 0\nlower 0\nwarmup 5\nrecords\nend\n",
-        report: b"upgraded requests 0 version 2\n",
+        report: Text(b"upgraded requests 0 version 2\n"),
         made: b"cache-bound-certificate 2\nobjective bytes\ncapacity 1\nrequests 0\nunit 1\n\
 denominator 1\nform plain\nupper 0\nflow 0\nlower 0\nwarmup 5\nrecords\nend\n",
         ..UPGRADE
@@ -56,7 +56,7 @@ denominator 1\nform plain\nupper 0\nflow 0\nlower 0\nrecords\n",
             line: 12,
             kind: InvalidKind::Truncated,
         },
-        report: b"invalid line 12: truncated\n",
+        report: Text(b"invalid line 12: truncated\n"),
         made: b"",
         ..UPGRADE
     },
@@ -71,7 +71,7 @@ fn upgrades_keep_what_is_certified(rt: HostRuntime) {
 fn a_failed_read_is_the_certificates_fault(rt: HostRuntime) {
     let failing = Row {
         status: Status::CertFault,
-        report: b"certificate fault\n",
+        report: Text(b"certificate fault\n"),
         made: b"",
         ..UPGRADE
     };
@@ -82,7 +82,7 @@ fn a_failed_read_is_the_certificates_fault(rt: HostRuntime) {
 fn a_failed_write_is_the_made_sinks_fault(rt: HostRuntime) {
     let failing = Row {
         status: Status::MadeFault,
-        report: b"made fault\n",
+        report: Text(b"made fault\n"),
         ..UPGRADE
     };
     check_made_writes(&rt, rt.alloc(), &failing);

@@ -1,4 +1,4 @@
-use Rattle.std.proofs.Common.{◌≡◌, refl}
+use Rattle.std.proofs.Common.{refl}
 use Rattle.bound_report.proofs.refusal.refusal_text.Goals as goal
 
 pub returns-in-FlagCount : goal.returns-in-FlagCount

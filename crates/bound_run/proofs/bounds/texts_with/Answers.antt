@@ -8,8 +8,8 @@ cert_of-requires-clause-certificate c = c.requires.made.valid.certificate
 pub cert_of-requires-clause-sound : goal.cert_of-requires-clause-sound
 cert_of-requires-clause-sound c = c.requires.each
 
-pub bounds_report-requires : goal.bounds_report-requires
-bounds_report-requires c = record { unit = c.requires.made.valid.certificate.header.unit.0; denominator = c.requires.made.valid.certificate.header.denominator.0 }
+pub render-requires : goal.render-requires
+render-requires c = record { sound = (c.requires.made.valid.certificate.header.unit.0, c.requires.made.valid.certificate.header.denominator.0) }
 
 pub returns-in_err-cert : goal.returns-in_err-cert
 returns-in_err-cert c = rw (err_from_is_err_and c.from_residual.result c.from_residual.ensures.1).1 tt
@@ -24,5 +24,5 @@ returns c = record {
   records = records_in c.args.bounds.now;
   made = c.requires.made;
   cert_is = c.in_ok-cert.ensures;
-  report_is = rw (c.counted_in-counted.ensures, c.asked.view_is, c.objects.ensures.different, c.as_slice.ensures.items, c.requires.intervals) at c.in_ok-report.ensures;
+  report_is = rw (c.counting_of.ensures, c.asked.view_is, c.objects.ensures.different, c.as_slice.ensures.items, c.requires.intervals) at c.in_ok-report.ensures;
 }

@@ -1,8 +1,18 @@
+use Rattle.std.proofs.Common.{◌≡◌, ◌∙◌, ap}
+use Rattle.std.proofs.lemmas.Result.{IfOk-weaker}
+use Rattle.bound_report.specs.CapacityCurves.{capacity_curve_lines}
+use Rattle.bound_report.specs.Rendering.{rendered}
+use Rattle.bound_run.specs.CapacityCurves.{IsCapacityCurveText, capacity_facts}
 use Rattle.bound_run.proofs.curves.capacity_curve_report.Goals as goal
 
 pub returns : goal.returns
-returns c = record {
-  points = c.in_ok-points.points.items;
-  are_points = c.in_ok-points.ensures;
-  text_is = rw (c.counted_in.ensures, c.in_ok-push_warmup.ensures.text, c.in_ok-text.ensures, c.deref.ensures.value, c.len.ensures.requests, c.objects.ensures.different) at c.in_ok-push_counted.ensures.text;
-}
+returns c =
+    let asked = c.args.asked.now in
+    let trace = c.args.trace.now in
+    let points = c.in_ok-points.points.items in
+    let lines = capacity_curve_lines (capacity_facts asked trace c.args.dropped) points in
+    IfOk-weaker c.render.result
+    (λ text. text.items ≡ rendered c.counting_from.result lines)
+    (λ text. IsCapacityCurveText c.args.format asked c.args.capacities.now trace c.args.dropped text.items)
+    (λ text is. record { points = points; are_points = c.in_ok-points.ensures; text_is = is ∙ ap (λ counting. rendered counting lines) c.counting_from.ensures })
+    (rw (c.deref.ensures.value, c.len.ensures.requests, c.objects.ensures.different) at c.render.ensures)

@@ -1,7 +1,7 @@
 use Rattle.std.proofs.Common.{◌≡◌, ◌∙◌, ap}
 use Rattle.cert_checker.specs.declared.verdict.Verdict.{Verdict}
-use Rattle.cert_checker.specs.Counting.{counted_in}
 use Rattle.bound_run.specs.Refined.{verdict_on, with_upper}
+use Rattle.bound_run.specs.Countings.{counting_of}
 use Rattle.bound_run.specs.Reports.{refined_report}
 use Rattle.bound_run.proofs.Refining.{certificate, refined_texts}
 use Rattle.bound_run.proofs.refined.texts_of_kept.Goals as goal
@@ -23,11 +23,11 @@ returns c =
     ∙ ap (λ (v : Verdict). record { header = with_upper v.header c.upper.result; objects = v.objects }) c.verdict.ensures
     ∙ ap (λ n. record { header = with_upper h n; objects = kept.verdict.objects }) c.upper.ensures
     ∙ ap (λ (v : Verdict). record { header = with_upper h to.upper; objects = v.objects }) c.requires.verdict in
-    let counted : c.counted_in.result ≡ counted_in c.args.format h.warmup kept.trace = rw (c.verdict-2.ensures, c.trace.ensures) at c.counted_in.ensures in
+    let counted : c.counting_of.result ≡ counting_of c.args.format h kept.trace = rw (c.verdict-2.ensures, c.trace.ensures) at c.counting_of.ensures in
     let made : c.with_upper-made.result.header ≡ with_upper h to.upper = ap (λ (v : Verdict). v.header) whole in
     refined_texts c.args.width kept.trace h kept.records c.requires.valid to c.in_ok-refined.ensures.refined c.args.format c.args.dropped c.in_ok-cert.cert.items c.in_ok-report.report.items
     (rw (made, c.records.ensures, c.prices.ensures) at c.in_ok-cert.ensures)
     (c.in_ok-report.ensures
-    ∙ ap (λ (v : Verdict). refined_report c.counted_in.result v.header.upper c.with_upper-made.result c.args.dropped) c.verdict-2.ensures
-    ∙ ap (λ (v : Verdict). refined_report c.counted_in.result h.upper v c.args.dropped) whole
+    ∙ ap (λ (v : Verdict). refined_report c.counting_of.result v.header.upper c.with_upper-made.result c.args.dropped) c.verdict-2.ensures
+    ∙ ap (λ (v : Verdict). refined_report c.counting_of.result h.upper v c.args.dropped) whole
     ∙ ap (λ n. refined_report n h.upper (verdict_on kept.trace (with_upper h to.upper)) c.args.dropped) counted)

@@ -1,4 +1,4 @@
-use Rattle.std.proofs.Common.{arith, sym}
+use Rattle.std.proofs.Common.{arith}
 use Rattle.bound_words.proofs.RisingLists.{list-decided}
 use Rattle.bound_words.proofs.capacities.are_capacities.Goals as goal
 

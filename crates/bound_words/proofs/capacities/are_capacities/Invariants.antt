@@ -1,4 +1,4 @@
-use Rattle.std.proofs.Common.{◌≡◌, ◌+◌, length, Some}
+use Rattle.std.proofs.Common.{◌≡◌, ◌+◌, length}
 use Rattle.std.specs.Option.{is_some, option_copied}
 use Rattle.bound_words.specs.Capacities.{rising, words_left, words_of_list}
 use Rattle.bound_words.proofs.capacities.are_capacities.Given as goal

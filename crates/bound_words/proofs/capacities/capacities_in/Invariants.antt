@@ -1,4 +1,4 @@
-use Rattle.std.proofs.Common.{◌≡◌, ◌+◌, ◌++◌, length, Some}
+use Rattle.std.proofs.Common.{◌≡◌, ◌+◌, ◌++◌, length}
 use Rattle.std.specs.Option.{option_copied, option_map}
 use Rattle.bound_words.specs.Capacities.{rising, words_left, words_of_list}
 use Rattle.bound_words.proofs.capacities.capacities_in.Given as goal

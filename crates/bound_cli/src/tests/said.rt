@@ -1,0 +1,95 @@
+//! What reports say: their numbers and words, and the names that their lines have.
+use super::*;
+
+/// What a report says. The numbers and words of its lines stand between commas.
+#[derive(Clone, Copy)]
+pub(super) enum Said<'a> {
+    /// Its text.
+    Text(&'a [u8]),
+    /// A report of bounds.
+    Bounds(&'a str),
+    /// A yes.
+    Yes(&'a str),
+    /// A refinement.
+    Refined(&'a str),
+}
+
+const BOUND_LINES: [&[&str]; 8] = [
+    &["trace requests", "objects", "dropped"],
+    &["capacity", "objective"],
+    &["mode"],
+    &["unit", "units", "denominator"],
+    &["intervals"],
+    &["upper", "floor"],
+    &["flow"],
+    &["lower"],
+];
+
+const YES_LINES: [&[&str]; 7] = [
+    &["trace requests", "objects", "dropped"],
+    &["capacity", "objective"],
+    &["form"],
+    &["unit", "units", "denominator"],
+    &["upper", "floor"],
+    &["flow"],
+    &["lower"],
+];
+
+const REFINED_LINES: [&[&str]; 8] = [
+    &["refined from", "to"],
+    &["trace requests", "objects", "dropped"],
+    &["capacity", "objective"],
+    &["form"],
+    &["unit", "units", "denominator"],
+    &["upper", "floor"],
+    &["flow"],
+    &["lower"],
+];
+
+// Appends a line: each name with its word, of which the last one may have spaces.
+fn push_line(rt: &impl Abort, text: &mut String, names: &[&str], words: &str) {
+    let mut space = "";
+    for (name, word) in names.iter().zip(words.splitn(names.len(), ' ')) {
+        for part in [space, *name, " ", word] {
+            text.push_str(part).expect(rt, "memory");
+        }
+        space = " ";
+    }
+    text.push('\n').expect(rt, "memory");
+}
+
+// Whether a line has its name with it: how many requests count, that the certificate is valid, or the warm-up.
+fn is_named(words: &str) -> bool {
+    words == "valid" || words.starts_with("counted ") || words.starts_with("warmup ")
+}
+
+// The lines, of which those that aren't named have these names in turn.
+fn text_of(rt: &impl Abort, alloc: Global, names: &[&[&str]], lines: &str) -> String {
+    let mut text = String::new(alloc);
+    let mut names = names.iter();
+    for line in lines.split(',') {
+        let words = line.trim_start();
+        if is_named(words) {
+            text.push_str(words).expect(rt, "memory");
+            text.push('\n').expect(rt, "memory");
+        } else {
+            push_line(rt, &mut text, names.next().expect(rt, "a line"), words);
+        }
+    }
+    text
+}
+
+impl Said<'_> {
+    /// The text.
+    pub(super) fn text(&self, rt: &impl Abort, alloc: Global) -> String {
+        match self {
+            Said::Text(bytes) => {
+                let text = str::from_utf8(bytes).expect(rt, "ASCII");
+                String::from_str(alloc, text).expect(rt, "memory")
+            }
+            Said::Bounds(lines) => text_of(rt, alloc, &BOUND_LINES, lines),
+            Said::Yes(lines) => text_of(rt, alloc, &YES_LINES, lines),
+            Said::Refined(lines) => text_of(rt, alloc, &REFINED_LINES, lines),
+        }
+    }
+}

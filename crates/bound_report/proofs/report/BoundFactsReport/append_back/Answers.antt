@@ -1,0 +1,24 @@
+use Rattle.std.proofs.Common.{◌≡◌, ◌∙◌, ap, ◌∷◌, ◌++◌, append_assoc, codes}
+use Rattle.cache_model.specs.Texts.{entry, line, text_of}
+use Rattle.bound_report.specs.Reports.{capacity_line, mode_line, unit_line, value_lines}
+use Rattle.bound_report.proofs.AppendedLines.{three_lines}
+use Rattle.bound_report.proofs.report.BoundFactsReport.append_back.Goals as goal
+
+pub returns : goal.returns
+returns c =
+    let f = c.args.self.now in
+    let h = f.header in
+    let t1 = c.append.new.text.items in
+    let t2 = c.append-2.new.text.items in
+    let t3 = c.append-3.new.text.items in
+    let t4 = c.append-4.new.text.items in
+    let t5 = c.append_value_lines.new.text.items in
+    let intervals = entry (codes "intervals") f.intervals in
+    let fourth : t4 ≡ t3 ++ line intervals = c.in_ok-append-4.ensures.text ∙ ap (λ l. t3 ++ l) (c.entry_line.ensures ∙ ap (λ n. line (entry (codes "intervals") n)) c.from.ensures) in
+    let rest : t5 ≡ t3 ++ text_of (intervals ∷ value_lines h)
+    = c.in_ok-append_value_lines.ensures ∙ ap (λ t. t ++ text_of (value_lines h)) fourth ∙ append_assoc t3 (line intervals) (text_of (value_lines h)) in
+    three_lines c.args.text.now.items (capacity_line h.capacity h.objective) (mode_line f.mode f.price h.exact) (unit_line h) t1 t2 t3 t5 (intervals ∷ value_lines h)
+    (c.in_ok-append.ensures.text ∙ ap (λ l. c.args.text.now.items ++ l) c.capacity_line.ensures)
+    (c.in_ok-append-2.ensures.text ∙ ap (λ l. t1 ++ l) c.mode_line.ensures)
+    (c.in_ok-append-3.ensures.text ∙ ap (λ l. t2 ++ l) c.unit_line.ensures)
+    rest

@@ -1,5 +1,0 @@
-use Rattle.std.proofs.Common.{refl}
-use Rattle.reading_tests.proofs.scores.score_of.Goals as goal
-
-pub score_of_fitting-requires-clause-fits : goal.score_of_fitting-requires-clause-fits
-score_of_fitting-requires-clause-fits g c = c.in_ok-gains.ensures.fits.0 refl
