@@ -11,8 +11,10 @@ use Rattle.flow_parts.specs.OuterEdges.{edge_of, tail_of}
 use Rattle.flow_parts.proofs.EdgeLists.{edge_of-arc, edge_of-back}
 use Rattle.flow_sparse.specs.declared.edges.WokenEdge.{WokenEdge}
 use Rattle.flow_sparse.specs.Ranges.{Ranges, AreChained, IsPlacedAt, IsSound, WasWoken, listed_at, number_of, woken_at, woken_tail, no_woken}
-use Rattle.flow_sparse.specs.Searches.{IsListed, IsWokenIfShut}
-use Rattle.flow_sparse.specs.States.{State, CanPush, IsReady, IsHigh, pushed}
+use Rattle.flow_sparse.specs.Searches.{IsListed, IsWokenIfShut, KeepsListed, listed_potential}
+use Rattle.flow_sparse.specs.States.{State, CanPush, IsNetwork, IsReady, IsHigh, pushed}
+use Rattle.flow_sparse.proofs.Entries.{entry_kept}
+use Rattle.flow_sparse.proofs.Loops.{head_within, tail_within}
 use Rattle.flow_sparse.proofs.Pushed.{pushed_rises}
 
 -- the number of an edge
@@ -162,13 +164,12 @@ listed_more s lists new node number target is within low own goes same =
         within = is.within;
         sound = is.sound;
         rising = is.rising;
-        each_mark = is.each_mark;
-        falls = is.falls;
+        each_fall = is.each_fall;
         small = is.small;
         chained = chained_more s.instance lists.last lists.woken is.chained node number target within low own goes;
         listed = λ k h apart room.
             ⊎_elim
-            (λ (p : IsPlacedAt s.instance lists.first lists.edges lists.marks (tail_of s.instance.arcs k) k). inl p)
+            (λ (p : IsPlacedAt s.instance lists.first lists.edges (listed_potential s lists) (tail_of s.instance.arcs k) k). inl p)
             (λ (w : WasWoken lists.woken k). inr (woken_more s.instance lists.last lists.woken is.chained node number target within low own goes k w))
             (is.listed k h apart room);
       },
@@ -176,52 +177,64 @@ listed_more s lists new node number target is within low own goes same =
       woken_now s.instance lists.last lists.woken is.chained node number target within low own goes,
     )
 
--- where potentials fell, and only edges got room that are woken, the lists still hold
-pub listed_after : (old new : State) (lists : Ranges) → IsListed old lists → new.instance ≡ old.instance
-    → ((node : ℕ) → node ≤ old.instance.steps → slice_index new.potentials node ≤ slice_index old.potentials node)
-    → ((k : ℕ) → k < 2 * length old.instance.arcs → 0 < residual old.instance new.flows (edge_of (length old.instance.arcs) k) → residual old.instance old.flows (edge_of (length old.instance.arcs) k) ≤ 0 → WasWoken lists.woken k)
-    → IsListed new lists
-listed_after old new lists is same falls wakes =
-    record {
-      few = omega (arith, is.few, steps);
-      order = λ node h. is.order node (omega (arith, h, steps));
-      within = λ node h. is.within node (omega (arith, h, steps));
-      sound = λ p h. subst (λ (i : Instance). IsSoundOf i p) (sym same) (is.sound p h);
-      rising = λ node h. is.rising node (omega (arith, h, steps));
-      each_mark = omega (arith, is.each_mark, steps);
-      falls = λ node h. omega (arith, falls node (omega (arith, h, steps)), is.falls node (omega (arith, h, steps)));
-      small = λ node h. is.small node (omega (arith, h, steps));
-      chained = subst (λ (i : Instance). AreChained i lists.last lists.woken) (sym same) is.chained;
-      listed = subst (λ (i : Instance). AllListed i) (sym same) here;
-    }
-  where
-    steps : new.instance.steps ≡ old.instance.steps
-    steps = ap (λ (i : Instance). i.steps) same
+-- where what each potential fell by was kept, and only edges got room that are woken, the lists still hold
+module _ (old new : State) (lists : Ranges) (falls : List ℕ) (is : IsListed old lists) (fits : IsNetwork old.instance) (same : new.instance ≡ old.instance) (keeps : KeepsListed old lists new (record lists { falls = falls }))
+    (wakes : (k : ℕ) → k < 2 * length old.instance.arcs → 0 < residual old.instance new.flows (edge_of (length old.instance.arcs) k) → residual old.instance old.flows (edge_of (length old.instance.arcs) k) ≤ 0 → WasWoken lists.woken k) where
+  abbrev pub fallen : Ranges
+  fallen = record lists { falls = falls }
 
-    IsSoundOf : Instance → ℕ → Type 0
-    IsSoundOf i p = IsSound i (listed_at lists.edges p)
+  steps : new.instance.steps ≡ old.instance.steps
+  steps = ap (λ (i : Instance). i.steps) same
 
-    AllListed : Instance → Type 0
-    AllListed i =
-        (k : ℕ) → k < 2 * length i.arcs → tail_of i.arcs k ≢ head i.arcs (edge_of (length i.arcs) k) → 0 < residual i new.flows (edge_of (length i.arcs) k)
-        → IsPlacedAt i lists.first lists.edges lists.marks (tail_of i.arcs k) k ⊎ WasWoken lists.woken k
+  abbrev pub IsSoundOf : Instance → ℕ → Type 0
+  IsSoundOf i p = IsSound i (listed_at lists.edges p)
 
-    here : AllListed old.instance
-    here k h apart room =
-        ⊎_elim
-        (λ (had : 0 < residual old.instance old.flows (edge_of (length old.instance.arcs) k)). is.listed k h apart had)
-        (λ (none : residual old.instance old.flows (edge_of (length old.instance.arcs) k) ≤ 0). inr (wakes k h room none))
-        (cases_lt 0 (residual old.instance old.flows (edge_of (length old.instance.arcs) k)))
+  abbrev pub AllListed : Instance → Type 0
+  AllListed i =
+      (k : ℕ) → k < 2 * length i.arcs → tail_of i.arcs k ≢ head i.arcs (edge_of (length i.arcs) k) → 0 < residual i new.flows (edge_of (length i.arcs) k)
+      → IsPlacedAt i lists.first lists.edges (listed_potential new fallen) (tail_of i.arcs k) k ⊎ WasWoken lists.woken k
+
+  here : AllListed old.instance
+  here k h apart room =
+      ⊎_elim
+      (λ (had : 0 < residual old.instance old.flows (edge_of (length old.instance.arcs) k)).
+      ⊎_elim
+      (λ (p : IsPlacedAt old.instance lists.first lists.edges (listed_potential old lists) (tail_of old.instance.arcs k) k).
+      inl (
+        p.0,
+        p.1,
+        p.2,
+        entry_kept old.instance (listed_potential old lists) (listed_potential new fallen) (listed_at lists.edges p.0) k (keeps.same (tail_of old.instance.arcs k) (tail_within old.instance k fits h))
+            (keeps.same (head old.instance.arcs (edge_of (length old.instance.arcs) k)) (head_within old.instance k fits h)) p.3,
+      ))
+      (λ (w : WasWoken lists.woken k). inr w)
+      (is.listed k h apart had))
+      (λ (none : residual old.instance old.flows (edge_of (length old.instance.arcs) k) ≤ 0). inr (wakes k h room none))
+      (cases_lt 0 (residual old.instance old.flows (edge_of (length old.instance.arcs) k)))
+
+  pub listed_after : IsListed new fallen
+  listed_after =
+      record {
+        few = omega (arith, is.few, steps);
+        order = λ node h. is.order node (omega (arith, h, steps));
+        within = λ node h. is.within node (omega (arith, h, steps));
+        sound = λ p h. subst (λ (i : Instance). IsSoundOf i p) (sym same) (is.sound p h);
+        rising = λ node h. is.rising node (omega (arith, h, steps));
+        each_fall = omega (arith, is.each_fall, keeps.each, steps);
+        small = λ node h. omega (arith, keeps.same node (omega (arith, h, steps)), is.small node (omega (arith, h, steps)));
+        chained = subst (λ (i : Instance). AreChained i lists.last lists.woken) (sym same) is.chained;
+        listed = subst (λ (i : Instance). AllListed i) (sym same) here;
+      }
 
 -- a push under potentials that fell
-pub listed_pushed : (s : State) (from to amount : ℕ) (potentials : List ℕ) (path : List Edge) (lists : Ranges) → IsReady (record s { potentials = potentials }) → IsHigh (record s { potentials = potentials })
+pub listed_pushed : (s : State) (from to amount : ℕ) (potentials falls : List ℕ) (path : List Edge) (lists : Ranges) → IsReady (record s { potentials = potentials }) → IsHigh (record s { potentials = potentials })
     → CanPush (record s { potentials = potentials }) from to path amount → IsListed s lists
-    → ((node : ℕ) → node ≤ s.instance.steps → slice_index potentials node ≤ slice_index s.potentials node)
+    → KeepsListed s lists (record s { potentials = potentials }) (record lists { falls = falls })
     → ((j : ℕ) → j < length path → IsWokenIfShut s lists.woken (opposite (edge_at path j)))
-    → IsListed (pushed (record s { potentials = potentials }) from to path amount) lists
-listed_pushed s from to amount potentials path lists ready high can is falls wakes =
+    → IsListed (pushed (record s { potentials = potentials }) from to path amount) (record lists { falls = falls })
+listed_pushed s from to amount potentials falls path lists ready high can is keeps wakes =
     let low : State = record s { potentials = potentials } in
-    listed_after s (pushed low from to path amount) lists is refl falls
+    listed_after s (pushed low from to path amount) lists falls is ready.fits.in_range refl (record { each = keeps.each; same = keeps.same })
     (λ k h room none.
     let f : Edge = edge_of (length s.instance.arcs) k in
     let rise = pushed_rises low from to amount path ready high can f room none in

@@ -8,7 +8,7 @@ use Rattle.flow_parts.specs.OuterEdges.{edge_of, tail_of}
 use Rattle.flow_parts.specs.Searches.{IsSettled, IsTree, LeadsBack, lowered}
 use Rattle.flow_sparse.specs.declared.edges.ListedEdge.{ListedEdge}
 use Rattle.flow_sparse.specs.declared.edges.WokenEdge.{WokenEdge}
-use Rattle.flow_sparse.specs.Ranges.{Ranges, IsPlacedAt, IsSound, AreSorted, AreChained, WasWoken, listed_at, number_of}
+use Rattle.flow_sparse.specs.Ranges.{Ranges, IsEntry, IsPlacedAt, IsSound, AreSorted, AreChained, WasWoken, listed_at, number_of}
 use Rattle.flow_sparse.specs.States.{State}
 
 -- how far each node is by a walk that was found, the last edge of that walk, the nodes that wait for their edges to be looked
@@ -51,10 +51,12 @@ pub record IsSearch (state : State) (from : ℕ) (found : Found) : Type 0 where
 abbrev pub AreSettled : State → Found → Type 0
 AreSettled state found = (e : Edge) → IsEdge state.instance e → Rests found (tail state.instance.arcs e) → IsSettledBy state found e
 
--- distances and the limit only fell, and the nodes whose distance fell wait; so edges out of nodes that rest stay settled
+-- distances and the limit only fell, and the nodes whose distance fell wait; so the distances of nodes that rest stay, and edges
+-- out of them stay settled
 pub record Nears (state : State) (from : ℕ) (old new : Found) : Type 0 where
   pub search : IsSearch state from new
   pub rests : (node : ℕ) → Rests new node → Rests old node
+  pub same : (node : ℕ) → Rests new node → slice_index new.distances node ≡ slice_index old.distances node
   pub stays : (e : Edge) → IsEdge state.instance e → Rests new (tail state.instance.arcs e) → IsSettledBy state old e → IsSettledBy state new e
   pub falls : 2 * sum new.distances + new.waiting.count ≤ 2 * sum old.distances + old.waiting.count
   pub each_distance : length new.distances ≡ length old.distances
@@ -88,21 +90,29 @@ list_of_edge state e =
 unfoldable pub list_of : State → ℕ → ℕ
 list_of state number = list_of_edge state (edge_of (length state.instance.arcs) number)
 
+-- the potential of the node when the edges were listed
+abbrev pub listed_potential : State → Ranges → ℕ → ℕ
+listed_potential state lists node = slice_index state.potentials node + slice_index lists.falls node
+
 -- each node has a range of places with edges, their slacks rising, and each outer edge with room to another node stands in
--- that of its tail, or was woken; and no potential is above its mark
+-- that of its tail, or was woken
 pub record IsListed (state : State) (lists : Ranges) : Type 0 where
   pub few : state.instance.steps + 1 < length lists.first
   pub order : (node : ℕ) → node ≤ state.instance.steps → slice_index lists.first node ≤ slice_index lists.first (node + 1)
   pub within : (node : ℕ) → node ≤ state.instance.steps → slice_index lists.first (node + 1) ≤ length lists.edges
   pub sound : (place : ℕ) → place < length lists.edges → IsSound state.instance (listed_at lists.edges place)
   pub rising : AreSorted state.instance.steps lists.first lists.edges
-  pub each_mark : state.instance.steps + 1 ≤ length lists.marks
-  pub falls : (node : ℕ) → node ≤ state.instance.steps → slice_index state.potentials node ≤ slice_index lists.marks node
-  pub small : (node : ℕ) → node ≤ state.instance.steps → slice_index lists.marks node ≤ 2 ^ 124
+  pub each_fall : state.instance.steps + 1 ≤ length lists.falls
+  pub small : (node : ℕ) → node ≤ state.instance.steps → listed_potential state lists node ≤ 2 ^ 124
   pub chained : AreChained state.instance lists.last lists.woken
   pub listed : (k : ℕ) → k < 2 * length state.instance.arcs → tail_of state.instance.arcs k ≢ head state.instance.arcs (edge_of (length state.instance.arcs) k)
       → 0 < residual state.instance state.flows (edge_of (length state.instance.arcs) k)
-      → IsPlacedAt state.instance lists.first lists.edges lists.marks (tail_of state.instance.arcs k) k ⊎ WasWoken lists.woken k
+      → IsPlacedAt state.instance lists.first lists.edges (listed_potential state lists) (tail_of state.instance.arcs k) k ⊎ WasWoken lists.woken k
+
+-- the potential of each node when the edges were listed is still known
+pub record KeepsListed (old : State) (lists : Ranges) (new : State) (more : Ranges) : Type 0 where
+  pub each : length more.falls ≡ length lists.falls
+  pub same : (node : ℕ) → node ≤ old.instance.steps → listed_potential new more node ≡ listed_potential old lists node
 
 -- an outer edge without room was woken
 abbrev pub IsWokenIfShut : State → List WokenEdge → Edge → Type 0
@@ -114,24 +124,27 @@ IsWokenIfShut state woken e =
 abbrev pub AreWaysBackWoken : State → List WokenEdge → List Edge → Type 0
 AreWaysBackWoken state woken path = (j : ℕ) → j < length path → IsWokenIfShut state woken (opposite (edge_at path j))
 
--- what the potential of the node fell by since it was marked
-abbrev pub fall_since : State → Ranges → ℕ → ℕ
-fall_since state lists node = slice_index lists.marks node - slice_index state.potentials node
+-- by its slack, the listed edge makes its head no nearer within the limit, if it leads out of a node of that distance, whose
+-- potential fell by that
+abbrev pub BringsNoNearer : Ranges → Found → ListedEdge → ℕ → ℕ → Type 0
+BringsNoNearer lists found edge near fell =
+    min found.limit (slice_index found.distances edge.head) + fell ≤ near + edge.slack + slice_index lists.falls edge.head
 
--- by its slack, the listed edge out of the node makes its head no nearer within the limit
-abbrev pub BringsNoNearer : State → Ranges → Found → ℕ → ListedEdge → Type 0
-BringsNoNearer state lists found node edge =
-    min found.limit (slice_index found.distances edge.head) + fall_since state lists node
-    ≤ slice_index found.distances node + edge.slack + fall_since state lists edge.head
+-- by its slack, the listed edge is shorter than 0, if it leads out of a node whose potential fell by that
+abbrev pub IsShort : Ranges → ListedEdge → ℕ → Type 0
+IsShort lists edge fell = (edge.slack < 2 ^ 64 - 1) × (edge.slack + slice_index lists.falls edge.head < fell)
 
--- if the outer edge of that number leads out of the node, it is settled
-abbrev pub IsDoneFrom : State → Found → ℕ → ℕ → Type 0
-IsDoneFrom state found node number = tail_of state.instance.arcs number ≡ node → IsSettledBy state found (edge_of (length state.instance.arcs) number)
+-- the listed edge is settled, if it leads out of a node that was at that distance and whose potential fell by that
+abbrev pub IsDoneBy : State → Ranges → Found → Found → ListedEdge → ℕ → ℕ → Type 0
+IsDoneBy state lists old new edge near fell =
+    IsEntry state.instance (listed_potential state lists) edge edge.number
+    → slice_index old.distances (tail_of state.instance.arcs edge.number) ≡ near → slice_index lists.falls (tail_of state.instance.arcs edge.number) ≡ fell
+    → IsSettledBy state new (edge_of (length state.instance.arcs) edge.number)
 
 -- once the node rests, the edges in its range are settled
 abbrev pub AreListedDone : State → Ranges → Found → ℕ → Type 0
 AreListedDone state lists found node =
-    Rests found node → (k : ℕ) → tail_of state.instance.arcs k ≡ node → IsPlacedAt state.instance lists.first lists.edges lists.marks node k
+    Rests found node → (k : ℕ) → tail_of state.instance.arcs k ≡ node → IsPlacedAt state.instance lists.first lists.edges (listed_potential state lists) node k
     → IsSettledBy state found (edge_of (length state.instance.arcs) k)
 
 -- once the node rests, the woken edges out of it are settled

@@ -4,7 +4,7 @@ ghost use Rattle.flow_model.specs.Networks.{IsEdge, residual, tail, head, gain, 
 ghost use Rattle.flow_model.specs.Pushes.{IsSimple, push_path};
 ghost use Rattle.flow_model.specs.Instances.{IsInstance, load_at};
 ghost use Rattle.flow_sparse.specs.Contractions.{AreFalls, NeverRises};
-ghost use Rattle.flow_sparse.specs.Ranges.{IsAsLong};
+ghost use Rattle.flow_sparse.specs.Ranges.{IsAsLong, IsNoLonger};
 ghost use Rattle.flow_sparse.specs.Searches.{list_of};
 ghost use Rattle.flow_sparse.specs.Starts.{AreFitted};
 ghost use Rattle.flow_sparse.specs.States.{CanPush, HasWideRoomFor, IsHigh, IsNetwork, IsReady, IsState, pushed, with_less};
@@ -148,7 +148,8 @@ impl Network {
         requires ready { IsReady self.now }
         requires high { IsHigh self.now }
         requires edge { IsEdge self.now.instance edge }
-        ensures { 0 < residual self.now.instance self.now.flows edge → IsAsLong self.now.instance.arcs self.now.potentials result edge }
+        ensures bound { 0 < residual self.now.instance self.now.flows edge → IsAsLong self.now.instance.arcs (slice_index self.now.potentials) result edge }
+        ensures exact { 0 < residual self.now.instance self.now.flows edge → IsNoLonger self.now.instance.arcs (slice_index self.now.potentials) result edge }
     {
         let hop = self.hop(edge);
         if self.residual(edge) == 0 {
@@ -166,13 +167,6 @@ impl Network {
         ensures { result ≡ slice_index self.now.potentials node }
     {
         self.potentials[node as usize]
-    }
-
-    /// The potential of each node.
-    pub fn potentials(&self) -> &[u128]
-        ensures { result.now ≡ self.now.potentials }
-    {
-        &self.potentials
     }
 
     /// Sets the potential of the node, and of no other.

@@ -1,11 +1,11 @@
 //! Edges are looked at: what they make nearer.
-ghost use Rattle.std.specs.Prelude.{◌≡◌, ℕ, ◌+◌, ◌-◌, ◌*◌, ◌≤◌, ◌<◌, IsTrue, length, slice_index};
+ghost use Rattle.std.specs.Prelude.{◌≡◌, ℕ, ◌+◌, ◌-◌, ◌*◌, ◌^◌, ◌≤◌, ◌<◌, IsTrue, length, slice_index};
 ghost use Rattle.flow_model.specs.declared.edges.Edge.TheVariants.{Inner, InnerBack};
 ghost use Rattle.flow_model.specs.Networks.{IsEdge, head, tail};
 ghost use Rattle.flow_parts.specs.OuterEdges.{edge_of, tail_of};
-ghost use Rattle.flow_sparse.specs.Ranges.{IsEntry, IsSound};
+ghost use Rattle.flow_sparse.specs.Ranges.{IsSound};
 ghost use Rattle.flow_sparse.specs.States.{IsReady, IsHigh};
-ghost use Rattle.flow_sparse.specs.Searches.{IsListed, IsSearch, Nears, far, IsSettledBy, fall_since, BringsNoNearer, IsDoneFrom, AreListedDone, AreWokenDone, AreAllDone};
+ghost use Rattle.flow_sparse.specs.Searches.{IsListed, IsSearch, Nears, far, IsSettledBy, BringsNoNearer, IsDoneBy, AreListedDone, AreWokenDone, AreAllDone};
 
 use crate::edges::{ListedEdge, WokenEdge};
 use crate::lists::EdgeLists;
@@ -40,59 +40,54 @@ impl Search {
         self.enqueue(hop.head);
     }
 
-    // Whether an edge out of the node with that slack is too long to matter.
+    // Whether an edge of that slack, out of a node of that distance whose potential fell by that, is too long to matter.
     #[inline(always)]
-    fn is_past(&self, network: &Network, lists: &EdgeLists, node: u32, slack: u64) -> bool
-        requires ready { IsReady network.now }
+    fn is_past(&self, near: u128, fell: u128, slack: u64) -> bool
         requires small { self.now.limit ≤ far }
-        requires lists { IsListed network.now lists.now }
-        requires node { node ≤ network.now.instance.steps }
-        requires distance { node < length self.now.distances }
-        requires near { slice_index self.now.distances node ≤ far }
-        ensures { IsTrue result → self.now.limit + fall_since network.now lists.now node ≤ slice_index self.now.distances node + slack }
+        requires near { near ≤ far }
+        requires fell { fell ≤ 2 ^ 124 }
+        ensures { IsTrue result → self.now.limit + fell ≤ near + slack }
     {
-        let reach = self.limit() + (lists.mark(node) - network.potential(node));
-        self.distance(node) + slack as u128 >= reach
+        near + slack as u128 >= self.limit() + fell
     }
 
-    // Whether the head of an edge out of the node is as near without the edge, or past the limit along it. The length of the
-    // edge is its slack, but for what the potentials of its ends fell by since.
+    // Whether the head of the edge is as near without it, or past the limit along it. The length of the edge is its slack, but
+    // for what the potentials of its ends fell by since.
     #[inline(always)]
-    fn is_near(&self, network: &Network, lists: &EdgeLists, node: u32, edge: ListedEdge) -> bool
-        requires ready { IsReady network.now }
-        requires lists { IsListed network.now lists.now }
-        requires node { node ≤ network.now.instance.steps }
-        requires head { edge.head ≤ network.now.instance.steps }
-        requires each { network.now.instance.steps < length self.now.distances }
-        requires near { (v : ℕ) → v ≤ network.now.instance.steps → slice_index self.now.distances v ≤ far }
-        ensures { IsTrue result → BringsNoNearer network.now lists.now self.now node edge }
+    fn is_near(&self, lists: &EdgeLists, edge: ListedEdge, near: u128, fell: u128) -> bool
+        requires head { (edge.head < length self.now.distances) × (edge.head < length lists.now.falls) }
+        requires small { slice_index lists.now.falls edge.head ≤ 2 ^ 124 }
+        requires limit { self.now.limit ≤ far }
+        requires near { near ≤ far }
+        requires fell { fell ≤ 2 ^ 124 }
+        ensures { IsTrue result → BringsNoNearer lists.now self.now edge near fell }
     {
-        let near = self.limit().min(self.distance(edge.head));
-        let reach = near + (lists.mark(node) - network.potential(node));
-        let fell = lists.mark(edge.head) - network.potential(edge.head);
-        self.distance(node) + edge.slack as u128 + fell >= reach
+        let reach = self.limit().min(self.distance(edge.head)) + fell;
+        near + edge.slack as u128 + lists.fall(edge.head) >= reach
     }
 
-    // Relaxes the listed edge out of the node, unless that brings its head no nearer.
+    // Relaxes the listed edge out of the node, unless that brings its head no nearer, or the edge has no room left.
     #[inline(always)]
     fn relax_near(
         &mut self,
         network: &Network,
         lists: &EdgeLists,
         from: u32,
-        node: u32,
         edge: ListedEdge,
+        near: u128,
+        fell: u128,
     )
         requires ready { IsReady network.now }
         requires high { IsHigh network.now }
         requires search { IsSearch network.now from self.old }
         requires lists { IsListed network.now lists.now }
-        requires node { node ≤ network.now.instance.steps }
         requires sound { IsSound network.now.instance edge }
+        requires near { near ≤ far }
+        requires fell { fell ≤ 2 ^ 124 }
         ensures nears { Nears network.now from self.old self.new }
-        ensures settled { IsEntry network.now.instance lists.now.marks edge edge.number → IsDoneFrom network.now self.new node edge.number }
+        ensures settled { IsDoneBy network.now lists.now self.old self.new edge near fell }
     {
-        if self.is_near(network, lists, node, edge) {
+        if self.is_near(lists, edge, near, fell) || lists.is_short(edge, fell) {
             return;
         }
         self.relax(network, from, outer_edge(network.arc_count(), edge.number));
@@ -108,12 +103,14 @@ impl Search {
         ensures nears { Nears network.now from self.old self.new }
         ensures settled { AreListedDone network.now lists.now self.new node }
     {
+        let near = self.distance(node);
+        let fell = lists.fall(node);
         for place in lists.first(node)..lists.first(node + 1) {
             let edge = lists.edge(place);
-            if self.is_past(network, lists, node, edge.slack) {
+            if self.is_past(near, fell, edge.slack) {
                 return;
             }
-            self.relax_near(network, lists, from, node, edge);
+            self.relax_near(network, lists, from, edge, near, fell);
         }
     }
 

@@ -84,8 +84,8 @@ pub sort_lists-requires-clause-placed : goal.sort_lists-requires-clause-placed
 sort_lists-requires-clause-placed c = λ k h low.
     let s : State = c.args.network.now in
     let w = written (goal.at.sort_lists-requires-clause-placed c).After-deref_mut-4 in
-    subst (λ (fs : List ℕ). IsPlacedAt s.instance fs c.deref_mut-4.result.now s.potentials (list_of s k) k) (sym w.first_given)
-    (subst (λ (es : List ListedEdge). IsPlacedAt s.instance c.fill.new.first es s.potentials (list_of s k) k) (sym w.filled_are)
+    subst (λ (fs : List ℕ). IsPlacedAt s.instance fs c.deref_mut-4.result.now (slice_index s.potentials) (list_of s k) k) (sym w.first_given)
+    (subst (λ (es : List ListedEdge). IsPlacedAt s.instance c.fill.new.first es (slice_index s.potentials) (list_of s k) k) (sym w.filled_are)
     (placed s c.fill.new.first c.fill.ensures.starts w.past c.fill.new.edges k h low (c.fill.ensures.placed k h low)))
 
 pub returns : goal.returns
@@ -97,17 +97,19 @@ returns c =
     let sorted_size : length edges ≡ length c.in_ok-edges.edges.items = omega (arith, c.sort_lists.auto.edges, ap length w.filled_are, w.filled_size) in
     let edges_are = written_twice c.in_ok-edges.edges.items c.fill.new.edges edges c.in_ok-edges.edges.len w.filled_size sorted_size w.places_size in
     let last : c.in_ok-last.last.items ≡ replicate (c.steps.result + 1) 0 = c.in_ok-last.ensures.items_if_clones_equal (λ y same. same) in
+    let falls : c.in_ok-falls.falls.items ≡ replicate (c.steps.result + 1) 0 = c.in_ok-falls.ensures.items_if_clones_equal (λ y same. same) in
     let first_list : List ℕ = twice_written c.in_ok-first.first.len c.in_ok-first.first.items c.find_ends.new.first first in
     let edge_list : List ListedEdge = twice_written c.in_ok-edges.edges.len c.in_ok-edges.edges.items c.fill.new.edges edges in
-    subst (λ (fs : List ℕ). IsListed s (record { first = fs; edges = edge_list; marks = c.in_ok-marks.marks.items; last = c.in_ok-last.last.items; woken = c.new.result.items })) (sym w.first_is)
-    (subst (λ (es : List ListedEdge). IsListed s (record { first = first; edges = es; marks = c.in_ok-marks.marks.items; last = c.in_ok-last.last.items; woken = c.new.result.items })) (sym edges_are)
-    (subst (λ (ws : List WokenEdge). IsListed s (record { first = first; edges = edges; marks = c.in_ok-marks.marks.items; last = c.in_ok-last.last.items; woken = ws })) (sym c.new.ensures.items)
-    (listed s first c.fill.ensures.starts w.past edges c.in_ok-marks.marks.items c.in_ok-last.last.items c.requires.ready c.requires.high
+    subst (λ (fs : List ℕ). IsListed s (record { first = fs; edges = edge_list; falls = c.in_ok-falls.falls.items; last = c.in_ok-last.last.items; woken = c.new.result.items })) (sym w.first_is)
+    (subst (λ (es : List ListedEdge). IsListed s (record { first = first; edges = es; falls = c.in_ok-falls.falls.items; last = c.in_ok-last.last.items; woken = c.new.result.items })) (sym edges_are)
+    (subst (λ (ws : List WokenEdge). IsListed s (record { first = first; edges = edges; falls = c.in_ok-falls.falls.items; last = c.in_ok-last.last.items; woken = ws })) (sym c.new.ensures.items)
+    (listed s first c.fill.ensures.starts w.past edges c.in_ok-falls.falls.items c.in_ok-last.last.items c.requires.ready c.requires.high
     (omega (arith, w.first_size, c.steps.ensures))
     (omega (arith, sorted_size, w.total))
     (λ p h. c.sort_lists.ensures.sound p (omega (arith, h, c.sort_lists.auto.edges)))
     (subst (λ (fs : List ℕ). (node : ℕ) → node ≤ s.instance.steps → AreRising edges (slice_index fs node) (slice_index fs (node + 1))) w.first_given c.sort_lists.ensures.rising)
-    (subst (λ (fs : List ℕ). (k : ℕ) → k < 2 * length s.instance.arcs → list_of s k ≤ s.instance.steps → IsPlacedAt s.instance fs edges s.potentials (list_of s k) k) w.first_given c.sort_lists.ensures.placed)
-    (c.in_ok-marks.ensures.items ∙ c.potentials.ensures)
+    (subst (λ (fs : List ℕ). (k : ℕ) → k < 2 * length s.instance.arcs → list_of s k ≤ s.instance.steps → IsPlacedAt s.instance fs edges (slice_index s.potentials) (list_of s k) k) w.first_given c.sort_lists.ensures.placed)
+    (omega (arith, ap length falls, length-replicate {A = ℕ}, c.steps.ensures))
+    (λ v. ap (λ xs. slice_index xs v) falls ∙ zeros_all (c.steps.result + 1) v)
     (omega (arith, ap length last, length-replicate {A = ℕ}, c.steps.ensures))
     (λ v. ap (λ xs. slice_index xs v) last ∙ zeros_all (c.steps.result + 1) v))))

@@ -6,7 +6,7 @@ use Rattle.flow_model.specs.Networks.{head, residual}
 use Rattle.flow_parts.specs.OuterEdges.{edge_of, tail_of}
 use Rattle.flow_parts.proofs.EdgeLists.{each_edge_from, is_edge_of}
 use Rattle.flow_sparse.specs.Ranges.{IsPlacedAt, WasWoken}
-use Rattle.flow_sparse.specs.Searches.{Rests, IsSettledBy}
+use Rattle.flow_sparse.specs.Searches.{Rests, IsSettledBy, listed_potential}
 use Rattle.flow_sparse.proofs.Distances.{Nears-trans}
 use Rattle.flow_sparse.proofs.Loops.{loop_settled}
 use Rattle.flow_sparse.proofs.search.Search.relax_from.Goals as goal
@@ -31,9 +31,9 @@ returns-clause-settled c = λ rests e is at.
     (λ (apart : tail_of n.instance.arcs k ≡ head n.instance.arcs f → ⊥).
     λ (room : 0 < residual n.instance n.flows f).
     ⊎_elim
-    (λ (placed : IsPlacedAt n.instance lists.first lists.edges lists.marks (tail_of n.instance.arcs k) k).
+    (λ (placed : IsPlacedAt n.instance lists.first lists.edges (listed_potential n lists) (tail_of n.instance.arcs k) k).
     later.stays f (is_edge_of n.instance k high) (tail_rests k here)
-    (c.relax_listed.ensures.settled before k here (subst (λ (v : ℕ). IsPlacedAt n.instance lists.first lists.edges lists.marks v k) here placed)) room)
+    (c.relax_listed.ensures.settled before k here (subst (λ (v : ℕ). IsPlacedAt n.instance lists.first lists.edges (listed_potential n lists) v k) here placed)) room)
     (λ (woken : WasWoken lists.woken k).
     later.stays f (is_edge_of n.instance k high) (tail_rests k here)
     (c.relax_listed.ensures.nears.stays f (is_edge_of n.instance k high) (tail_before k here) (c.relax_chain.ensures.settled chained k here woken)) room)

@@ -4,13 +4,19 @@ use Rattle.flow_parts.specs.OuterEdges.{edge_of, tail_of}
 use Rattle.flow_parts.proofs.EdgeLists.{is_edge_of}
 use Rattle.flow_sparse.specs.declared.edges.ListedEdge.{ListedEdge}
 use Rattle.flow_sparse.specs.Ranges.{IsEntry, listed_at}
-use Rattle.flow_sparse.specs.Searches.{Rests, IsSettledBy}
+use Rattle.flow_sparse.specs.Searches.{Rests, IsSettledBy, listed_potential}
 use Rattle.flow_sparse.proofs.Distances.{Nears-refl, Nears-trans}
 use Rattle.flow_sparse.proofs.Entries.{settled_near}
 use Rattle.flow_sparse.proofs.search.Search.relax_listed.Goals as goal
 
 pub first-place-requires : goal.first-place-requires
 first-place-requires c = omega (arith, c.requires.lists.few, c.requires.node)
+
+pub distance-near-requires : goal.distance-near-requires
+distance-near-requires c = omega (arith, c.requires.node, c.requires.search.tree.each_distance)
+
+pub fall-fell-requires : goal.fall-fell-requires
+fall-fell-requires c = omega (arith, c.requires.node, c.requires.lists.each_fall)
 
 pub loop-place-init : goal.loop-place-init
 loop-place-init c =
@@ -35,9 +41,11 @@ loop-place-preserved c =
           (λ (e : p ≡ c.loop-place.place).
           let same : listed_at lists.edges p ≡ edge = ap (listed_at lists.edges) e ∙ sym c.edge-edge.ensures in
           let number : edge.number ≡ k = ap (λ (x : ListedEdge). x.number) (sym same) ∙ entry.number_is in
-          let own : IsEntry n.instance lists.marks edge edge.number =
-          subst (λ (j : ℕ). IsEntry n.instance lists.marks edge j) (sym number) (subst (λ (x : ListedEdge). IsEntry n.instance lists.marks x k) same entry) in
-          subst (λ (j : ℕ). IsSettledBy n after (edge_of count j)) number (is.settled own (ap (tail_of n.instance.arcs) number ∙ tail)))
+          let at : tail_of n.instance.arcs edge.number ≡ c.args.node = ap (tail_of n.instance.arcs) number ∙ tail in
+          let own : IsEntry n.instance (listed_potential n lists) edge edge.number =
+          subst (λ (j : ℕ). IsEntry n.instance (listed_potential n lists) edge j) (sym number) (subst (λ (x : ListedEdge). IsEntry n.instance (listed_potential n lists) x k) same entry) in
+          subst (λ (j : ℕ). IsSettledBy n after (edge_of count j)) number (is.settled own
+          (ap (slice_index c.loop-place.self.distances) at ∙ inv.nears.same c.args.node (is.nears.rests c.args.node rests) ∙ sym c.distance-near.ensures) (ap (slice_index lists.falls) at ∙ sym c.fall-fell.ensures)))
           (λ (a : p ≢ c.loop-place.place).
           let before : p < c.loop-place.place = omega (arith, high, a) in
           let inside : p < length lists.edges = omega (arith, before, c.loop-place-test.true, c.first-place-end.ensures, c.requires.lists.within c.args.node c.requires.node) in
@@ -60,7 +68,16 @@ returns-then-is_past-clause-settled c = λ rests k tail placed.
     let inside : p < length lists.edges = omega (arith, placed.2, c.requires.lists.within c.args.node c.requires.node) in
     let low : slice_index lists.first c.args.node ≤ c.loop-place.place = omega (arith, c.first-place.ensures, c.loop-place.auto.place) in
     let rises = c.requires.lists.rising c.args.node c.requires.node c.loop-place.place p low after placed.2 in
-    settled_near n lists.marks now.distances now.limit c.args.node k entry placed.3 tail (c.requires.lists.falls c.args.node c.requires.node)
-    (c.requires.lists.falls entry.head (c.requires.lists.sound p inside).head_within)
-    (omega (arith, rises, c.is_past.ensures c.if-is_past.true, ap (λ (x : ListedEdge). x.slack) c.edge-edge.ensures)))
+    settled_near n lists now k entry placed.3
+    (omega (
+      arith,
+      rises,
+      c.is_past.ensures c.if-is_past.true,
+      ap (λ (x : ListedEdge). x.slack) c.edge-edge.ensures,
+      ap (slice_index now.distances) tail,
+      ap (slice_index lists.falls) tail,
+      c.loop-place.invariant.nears.same c.args.node rests,
+      c.distance-near.ensures,
+      c.fall-fell.ensures,
+    )))
     (cases_lt p c.loop-place.place)

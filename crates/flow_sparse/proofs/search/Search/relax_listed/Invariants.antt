@@ -1,7 +1,7 @@
 use Rattle.std.proofs.Common.{◌≡◌, ℕ, ◌≤◌, ◌<◌, length, slice_index}
 use Rattle.flow_parts.specs.OuterEdges.{edge_of, tail_of}
 use Rattle.flow_sparse.specs.Ranges.{IsEntry, listed_at}
-use Rattle.flow_sparse.specs.Searches.{Nears, Rests, IsSettledBy}
+use Rattle.flow_sparse.specs.Searches.{Nears, Rests, IsSettledBy, listed_potential}
 use Rattle.flow_sparse.proofs.search.Search.relax_listed.Given as goal
 
 abbrev pub invariant-loop-place : goal.invariant-loop-place
@@ -9,6 +9,6 @@ invariant-loop-place l =
     record {
       nears : Nears l.network l.from l.initial.self l.self;
       settled : Rests l.self l.node
-          → (p k : ℕ) → slice_index l.lists.first l.node ≤ p → p < l.place → tail_of l.network.instance.arcs k ≡ l.node → IsEntry l.network.instance l.lists.marks (listed_at l.lists.edges p) k
+          → (p k : ℕ) → slice_index l.lists.first l.node ≤ p → p < l.place → tail_of l.network.instance.arcs k ≡ l.node → IsEntry l.network.instance (listed_potential l.network l.lists) (listed_at l.lists.edges p) k
           → IsSettledBy l.network l.self (edge_of (length l.network.instance.arcs) k);
     }
