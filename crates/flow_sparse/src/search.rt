@@ -1,5 +1,5 @@
 //! The search for the distances of nodes from one of them, nearest first, as far as the nearest that has units over.
-ghost use Rattle.std.specs.Prelude.{◌≡◌, ℕ, ◌≤◌, ◌<◌, ◌^◌, ◌↔◌, ◌≢◌, IfNone, IfOk, IfSome, IsNone, length, slice_index, slice_set};
+ghost use Rattle.std.specs.Prelude.{◌≡◌, ℕ, ◌≤◌, ◌<◌, ◌^◌, ◌↔◌, ◌≢◌, IfNone, IfOk, IfSome, IsNone, length, replicate, slice_index, slice_set};
 ghost use Rattle.flow_model.specs.declared.edges.Edge.{Edge as FlowEdge};
 ghost use Rattle.flow_model.specs.Networks.{IsEdge};
 ghost use Rattle.flow_model.specs.Pushes.{edge_at};
@@ -141,25 +141,11 @@ impl Search {
         self.queue.take(&self.distances)
     }
 
-    // Forgets that the node was found.
-    #[inline(always)]
-    fn forget_one(&mut self, node: u32)
-        requires { node < length self.old.distances }
-        ensures { self.new ≡ record self.old { distances = slice_set self.old.distances node far } }
+    // Forgets all nodes that were found.
+    fn forget(&mut self)
+        ensures { self.new ≡ record self.old { distances = replicate (length self.old.distances) far } }
     {
-        self.distances[node as usize] = FAR;
-    }
-
-    // Forgets the nodes before that one.
-    fn forget(&mut self, nodes: u32)
-        requires { nodes ≤ length self.old.distances }
-        ensures rest { self.new ≡ record self.old { distances = self.new.distances } }
-        ensures each { length self.new.distances ≡ length self.old.distances }
-        ensures far_off { (node : ℕ) → node < nodes → slice_index self.new.distances node ≡ far }
-    {
-        for node in 0..nodes {
-            self.forget_one(node);
-        }
+        self.distances.fill(FAR);
     }
 
     // Sets the distance of the node to 0, and no limit.
@@ -195,7 +181,7 @@ impl Search {
         ensures none { self.new.waiting.count ≡ 0 }
         ensures queue { IsQueue self.new.waiting self.new.distances }
     {
-        while let Some(_node) = self.take_nearest() {}
+        self.queue.clear();
     }
 
     // Relaxes the inner edges that lead on from the node, as far as the first node with units over. So there is a limit before
@@ -250,7 +236,7 @@ impl Search {
         ensures none { self.new.waiting.count ≡ 0 }
         ensures room { KeepsRoom self.old self.new }
     {
-        self.forget(network.steps() + 1);
+        self.forget();
         self.start(network, from);
         self.lead(network, from);
         self.spread(network, lists, from);
