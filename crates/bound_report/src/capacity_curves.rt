@@ -4,7 +4,7 @@ ghost use Rattle.cache_model.specs.Texts.{line, text_of};
 ghost use Rattle.bound_report.specs.CapacityCurves.{asked_line, point_line};
 
 use crate::rendering::Report;
-use crate::report::{Line, append, push_ratio, trace_line, word_of_objective};
+use crate::report::{Line, append, append_trace, push_ratio, word_of_objective};
 use bound_base::NoMemory;
 use capacity_curve::{CurveTerms, Point};
 use line_text::LineText;
@@ -69,10 +69,7 @@ impl<'a> Report for CapacityCurveReport<'a> {
 
     fn append_front(&self, text: &mut Vec<u8>) -> Result<(), NoMemory> {
         let facts = &self.facts;
-        append(
-            text,
-            &trace_line(facts.requests, facts.objects, facts.dropped),
-        )
+        append_trace(text, facts.requests, facts.objects, facts.dropped)
     }
 
     fn append_back(&self, text: &mut Vec<u8>) -> Result<(), NoMemory> {

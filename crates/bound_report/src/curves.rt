@@ -5,7 +5,7 @@ ghost use Rattle.stack_curve.specs.Curves.{hits_with};
 ghost use Rattle.bound_report.specs.Curves.{curve_text, slots_line, slots_lines};
 
 use crate::rendering::{Counting, Report, render};
-use crate::report::{Line, append, entry_line, trace_line};
+use crate::report::{Line, append, append_trace, entry_line};
 use bound_base::NoMemory;
 use line_text::LineText;
 use stack_curve::Curve;
@@ -58,10 +58,7 @@ impl<'a> Report for CurveReport<'a> {
 
     fn append_front(&self, text: &mut Vec<u8>) -> Result<(), NoMemory> {
         let facts = &self.facts;
-        append(
-            text,
-            &trace_line(facts.requests, facts.objects, facts.dropped),
-        )
+        append_trace(text, facts.requests, facts.objects, facts.dropped)
     }
 
     fn append_back(&self, text: &mut Vec<u8>) -> Result<(), NoMemory> {

@@ -5,7 +5,7 @@ ghost use Rattle.bound_report.specs.Judged.{possible_line};
 
 use crate::rendering::Report;
 use crate::replays::hits_line;
-use crate::report::{Line, append, entry_line, trace_line};
+use crate::report::{Line, append, append_trace, entry_line};
 use bound_base::NoMemory;
 use hit_judge::Claimed;
 use line_text::LineText;
@@ -37,7 +37,7 @@ impl Report for JudgedFacts {
     ghost is_sound = { λ facts. Unit {0} };
 
     fn append_front(&self, text: &mut Vec<u8>) -> Result<(), NoMemory> {
-        append(text, &trace_line(self.requests, self.objects, self.dropped))
+        append_trace(text, self.requests, self.objects, self.dropped)
     }
 
     fn append_back(&self, text: &mut Vec<u8>) -> Result<(), NoMemory> {

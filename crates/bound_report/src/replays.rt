@@ -4,7 +4,7 @@ ghost use Rattle.cache_model.specs.Texts.{line};
 ghost use Rattle.bound_report.specs.Replays.{hits_line, policy_line, replay_text};
 
 use crate::rendering::{Counting, Report, render};
-use crate::report::{Line, append, trace_line};
+use crate::report::{Line, append, append_trace};
 use bound_base::NoMemory;
 use line_text::LineText;
 use policy_model::PolicyName;
@@ -51,7 +51,7 @@ impl Report for ReplayFacts {
     ghost is_sound = { λ facts. Unit {0} };
 
     fn append_front(&self, text: &mut Vec<u8>) -> Result<(), NoMemory> {
-        append(text, &trace_line(self.requests, self.objects, self.dropped))
+        append_trace(text, self.requests, self.objects, self.dropped)
     }
 
     fn append_back(&self, text: &mut Vec<u8>) -> Result<(), NoMemory> {

@@ -35,8 +35,7 @@ pub(crate) fn word_of_form(exact: bool) -> &'static [u8]
     if exact { b"exact" } else { b"plain" }
 }
 
-/// The counts of a trace.
-pub(crate) fn trace_line(requests: u32, objects: u32, dropped: u64) -> Line
+fn trace_line(requests: u32, objects: u32, dropped: u64) -> Line
     ensures { result ≡ line (trace_line requests objects dropped) }
 {
     let mut text = LineText::new();
@@ -156,6 +155,18 @@ pub(crate) fn append(text: &mut Vec<u8>, line: &Line) -> Result<(), NoMemory>
     Ok(())
 }
 
+/// Appends the line of a trace: its counts.
+pub(crate) fn append_trace(
+    text: &mut Vec<u8>,
+    requests: u32,
+    objects: u32,
+    dropped: u64,
+) -> Result<(), NoMemory>
+    ensures { OnOk result (text.new.items ≡ text.old.items ++ line (trace_line requests objects dropped)) }
+{
+    append(text, &trace_line(requests, objects, dropped))
+}
+
 /// Appends the upper bound, the value of the flows, and the lower bound.
 pub(crate) fn append_value_lines(text: &mut Vec<u8>, header: &Header) -> Result<(), NoMemory>
     requires { 0 < header.now.denominator }
@@ -176,10 +187,7 @@ impl Report for BoundFacts {
     ghost is_sound = { λ facts. (0 < facts.header.unit) × (0 < facts.header.denominator) };
 
     fn append_front(&self, text: &mut Vec<u8>) -> Result<(), NoMemory> {
-        append(
-            text,
-            &trace_line(self.header.requests, self.objects, self.dropped),
-        )
+        append_trace(text, self.header.requests, self.objects, self.dropped)
     }
 
     fn append_back(&self, text: &mut Vec<u8>) -> Result<(), NoMemory> {

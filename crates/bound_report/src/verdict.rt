@@ -5,7 +5,7 @@ ghost use Rattle.cache_model.specs.Texts.{form_word, line};
 
 use crate::rendering::{Counting, Report, render};
 use crate::report::{
-    Line, append, append_value_lines, capacity_line, trace_line, unit_line, word_of_form,
+    Line, append, append_trace, append_value_lines, capacity_line, unit_line, word_of_form,
 };
 use bound_base::NoMemory;
 use cert_checker::Verdict;
@@ -38,10 +38,7 @@ impl Report for CheckFacts {
 
     fn append_front(&self, text: &mut Vec<u8>) -> Result<(), NoMemory> {
         let verdict = &self.verdict;
-        append(
-            text,
-            &trace_line(verdict.header.requests, verdict.objects, self.dropped),
-        )
+        append_trace(text, verdict.header.requests, verdict.objects, self.dropped)
     }
 
     fn append_back(&self, text: &mut Vec<u8>) -> Result<(), NoMemory> {
