@@ -62,17 +62,6 @@ impl From<NoMemory> for BoundsFault {
     }
 }
 
-/// The terms of a certificate.
-pub(crate) fn terms_of(header: &Header) -> Terms
-    ensures { result ≡ record { objective = header.now.objective; capacity = header.now.capacity; warmup = header.now.warmup } }
-{
-    Terms {
-        objective: header.objective,
-        capacity: header.capacity,
-        warmup: header.warmup,
-    }
-}
-
 /// The eligible intervals of a trace.
 pub(crate) fn intervals_of(
     alloc: Global,

@@ -7,19 +7,30 @@ ghost use Rattle.trace_any.specs.Readings.{IsFormat};
 ghost use Rattle.bound_run.specs.Refusals.{RefusesCheck};
 ghost use Rattle.bound_run.specs.Refined.{AreRefinedTexts, IsKept, IsRefined, RefinesPrices, verdict_on, with_price, with_upper};
 
-use crate::bounds::{intervals_of, terms_of};
+use crate::bounds::intervals_of;
 use crate::counting::counting_of;
 use crate::status::refusal_of_check;
 use crate::writing::Texts;
 use bound_base::NoMemory;
 use bound_io::Source;
 use bound_report::{CheckFacts, RefinementFacts, Refusal, render};
-use cache_model::Record;
+use cache_model::{Header, Record, Terms};
 use cert_checker::{Kept, Verdict, keep_all};
 use cert_format::{Records, cert_of};
 use price_refine::{Refined, refine};
 use std::alloc::Global;
 use trace_any::Format;
+
+// The terms of a certificate.
+fn terms_of(header: &Header) -> Terms
+    ensures { result ≡ record { objective = header.now.objective; capacity = header.now.capacity; warmup = header.now.warmup } }
+{
+    Terms {
+        objective: header.objective,
+        capacity: header.capacity,
+        warmup: header.warmup,
+    }
+}
 
 // The price of each step.
 fn prices_of(alloc: Global, records: &[Record]) -> Result<Vec<u128>, NoMemory>
