@@ -40,13 +40,13 @@ pub trait Report {
     ghost is_sound: { Self → Type 0 };
 
     /// Appends the lines up to that of the trace.
-    /// Out of memory, the text may have some of them, and no clause says which.
+    /// If memory runs out, the text may hold some of them.
     fn append_front(&self, text: &mut Vec<u8>) -> Result<(), NoMemory>
         requires sound { is_sound self.now }
         ensures { OnOk result (text.new.items ≡ text.old.items ++ text_of (lines self.now).front) };
 
     /// Appends the lines behind that of the trace.
-    /// Out of memory, the text may have some of them, and no clause says which.
+    /// If memory runs out, the text may hold some of them.
     fn append_back(&self, text: &mut Vec<u8>) -> Result<(), NoMemory>
         requires sound { is_sound self.now }
         ensures { OnOk result (text.new.items ≡ text.old.items ++ text_of (lines self.now).back) };
