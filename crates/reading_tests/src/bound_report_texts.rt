@@ -1,10 +1,15 @@
 //! `bound_report`: texts against lines that were written by hand.
 use bound_report::{
-    BoundFacts, InvalidKind, LimitName, Mode, Refusal, Verdict, Window, WordKind, refusal_text,
-    report_text, verdict_text,
+    BoundFacts, CurveFacts, InvalidKind, LimitName, Mode, PolicyName, Refusal, ReplayFacts,
+    Verdict, Window, WordKind, curve_text, refusal_text, replay_text, report_text, verdict_text,
 };
 use cache_model::{CERT_VERSION, Header, Objective};
+use cache_rules::{Builder, Object, Trace};
 use compared::same;
+use replay_core::Replay;
+use stack_curve::curve;
+use std::alloc::Global;
+use std::process::Abort;
 use trace_lines::LineKind;
 
 const HEADER: Header = Header {
@@ -79,6 +84,49 @@ fn says_yes_in_eight_lines(rt: HostRuntime) {
     let want = b"trace requests 4 objects 2 dropped 6\ncapacity 7 objective bytes\nform exact\n\
 unit 2 units 3 denominator 3\nupper 14/3 floor 4\nflow 13/3\nlower 4\nvalid\n";
     same("a verdict", text.as_slice(), want.as_slice()).expect(&rt, "a row");
+}
+
+#[test]
+fn says_a_replay_in_three_lines(rt: HostRuntime) {
+    let facts = ReplayFacts {
+        requests: 4,
+        objects: 2,
+        dropped: 6,
+        policy: PolicyName::S3Fifo,
+        capacity: 7,
+        replay: Replay { hits: 2, bytes: 5 },
+    };
+    let text = replay_text(rt.alloc(), &facts).expect(&rt, "memory");
+    let want = b"trace requests 4 objects 2 dropped 6\npolicy s3fifo capacity 7\nhits 2 bytes 5\n";
+    same("a replay", text.as_slice(), want.as_slice()).expect(&rt, "a row");
+}
+
+// The trace of the requests A B A C B A. The third request hits from 2 slots on, and the last two from 3 on.
+fn trace_of_six(rt: &impl Abort, alloc: Global) -> Trace {
+    let mut builder = Builder::new(alloc).expect(rt, "memory");
+    for id in [1, 2, 1, 3, 2, 1] {
+        assert!(rt; builder.len() < 6, "room");
+        let object = Object {
+            volume: 0,
+            id,
+            size: 2,
+        };
+        builder.push(object).expect(rt, "memory");
+    }
+    builder.finish()
+}
+
+#[test]
+fn lists_the_slots_that_add_hits(rt: HostRuntime) {
+    let found = curve(rt.alloc(), &trace_of_six(&rt, rt.alloc())).expect(&rt, "one size");
+    let facts = CurveFacts {
+        requests: 6,
+        objects: 3,
+        dropped: 5,
+    };
+    let text = curve_text(rt.alloc(), &facts, &found).expect(&rt, "memory");
+    let want = b"trace requests 6 objects 3 dropped 5\nsize 2\nslots 2 hits 1\nslots 3 hits 3\n";
+    same("a curve", text.as_slice(), want.as_slice()).expect(&rt, "a row");
 }
 
 const INVALID: [(InvalidKind, &[u8]); 6] = [
