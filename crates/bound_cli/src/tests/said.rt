@@ -25,16 +25,7 @@ const BOUND_LINES: [&[&str]; 8] = [
     &["lower"],
 ];
 
-const YES_LINES: [&[&str]; 7] = [
-    &["trace requests", "objects", "dropped"],
-    &["capacity", "objective"],
-    &["form"],
-    &["unit", "units", "denominator"],
-    &["upper", "floor"],
-    &["flow"],
-    &["lower"],
-];
-
+// Behind the first one stand those of a yes.
 const REFINED_LINES: [&[&str]; 8] = [
     &["refined from", "to"],
     &["trace requests", "objects", "dropped"],
@@ -88,7 +79,7 @@ impl Said<'_> {
                 String::from_str(alloc, text).expect(rt, "memory")
             }
             Said::Bounds(lines) => text_of(rt, alloc, &BOUND_LINES, lines),
-            Said::Yes(lines) => text_of(rt, alloc, &YES_LINES, lines),
+            Said::Yes(lines) => text_of(rt, alloc, &REFINED_LINES[1..], lines),
             Said::Refined(lines) => text_of(rt, alloc, &REFINED_LINES, lines),
         }
     }
