@@ -39,12 +39,12 @@ const REFINED_LINES: [&[&str]; 8] = [
 
 // Appends a line: each name with its word, of which the last one may have spaces.
 fn push_line(rt: &impl Abort, text: &mut String, names: &[&str], words: &str) {
-    let mut space = "";
-    for (name, word) in names.iter().zip(words.splitn(names.len(), ' ')) {
+    let words = words.splitn(names.len(), ' ');
+    for (place, (name, word)) in names.iter().zip(words).enumerate() {
+        let space = if place == 0 { "" } else { " " };
         for part in [space, *name, " ", word] {
             text.push_str(part).expect(rt, "memory");
         }
-        space = " ";
     }
     text.push('\n').expect(rt, "memory");
 }
