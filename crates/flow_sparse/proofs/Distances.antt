@@ -20,7 +20,7 @@ IsTreeFrom state from distances parents = IsTree state.instance state.flows stat
 
 -- no distance changed
 pub Nears-refl : (state : State) (from : ℕ) (found : Found) → IsSearch state from found → Nears state from found found
-Nears-refl state from found search = record { search = search; rests = λ v h. h; same = λ v h. refl; stays = λ e is rests settled. settled; limit = omega arith; falls = omega arith; each_distance = refl; each_parent = refl }
+Nears-refl state from found search = record { search = search; rests = λ v h. h; same = λ v h. refl; stays = λ e is rests settled. settled; falls = omega arith; each_distance = refl; each_parent = refl }
 
 -- one after the other
 pub Nears-trans : (state : State) (from : ℕ) (a b c : Found) → Nears state from a b → Nears state from b c → Nears state from a c
@@ -30,7 +30,6 @@ Nears-trans state from a b c before after =
       rests = λ v h. before.rests v (after.rests v h);
       same = λ v h. after.same v h ∙ before.same v (after.rests v h);
       stays = λ e is rests settled. after.stays e is rests (before.stays e is (after.rests (tail state.instance.arcs e) rests) settled);
-      limit = omega (arith, before.limit, after.limit);
       falls = omega (arith, before.falls, after.falls);
       each_distance = after.each_distance ∙ before.each_distance;
       each_parent = after.each_parent ∙ before.each_parent;
@@ -84,7 +83,6 @@ nears_more state from old new e near ready search is_edge room value nearer belo
       rests = λ v h. ⊎_elim (λ (waits : 0 < get_or old.waiting.places v 0). absurd (omega (arith, joins.stays v waits, h))) (λ (none : get_or old.waiting.places v 0 ≤ 0). omega arith) (cases_lt 0 (get_or old.waiting.places v 0));
       same = λ v h. kept v (λ same. omega (arith, joins.joined, h, ap (λ k. get_or new.waiting.places k 0) same));
       stays = stays;
-      limit = aimed.limit_falls;
       falls = omega (arith, sum_by-set (λ (k : ℕ). k) old.distances (head state.instance.arcs e) near 0 inside, ap sum distances, joins.few, nearer);
       each_distance = ap length distances ∙ length-set old.distances (head state.instance.arcs e) near;
       each_parent = ap length parents ∙ length-set old.parents (head state.instance.arcs e) e;

@@ -58,7 +58,6 @@ pub record Nears (state : State) (from : ℕ) (old new : Found) : Type 0 where
   pub rests : (node : ℕ) → Rests new node → Rests old node
   pub same : (node : ℕ) → Rests new node → slice_index new.distances node ≡ slice_index old.distances node
   pub stays : (e : Edge) → IsEdge state.instance e → Rests new (tail state.instance.arcs e) → IsSettledBy state old e → IsSettledBy state new e
-  pub limit : new.limit ≤ old.limit
   pub falls : 2 * sum new.distances + new.waiting.count ≤ 2 * sum old.distances + old.waiting.count
   pub each_distance : length new.distances ≡ length old.distances
   pub each_parent : length new.parents ≡ length old.parents

@@ -1,5 +1,5 @@
 //! Edges are looked at: what they make nearer.
-ghost use Rattle.std.specs.Prelude.{◌≡◌, ◌⊎◌, ℕ, ◌+◌, ◌-◌, ◌*◌, ◌^◌, ◌≤◌, ◌<◌, IsTrue, length, slice_index};
+ghost use Rattle.std.specs.Prelude.{◌≡◌, ℕ, ◌+◌, ◌-◌, ◌*◌, ◌^◌, ◌≤◌, ◌<◌, IsTrue, length, slice_index};
 ghost use Rattle.flow_model.specs.declared.edges.Edge.TheVariants.{Inner, InnerBack};
 ghost use Rattle.flow_model.specs.Networks.{IsEdge, head, tail};
 ghost use Rattle.flow_parts.specs.OuterEdges.{edge_of, tail_of};
@@ -40,18 +40,19 @@ impl Search {
         self.enqueue(hop.head);
     }
 
-    // From which slack on an edge is too long to matter, out of a node of that distance whose potential fell by that.
+    // Whether an edge of that slack, out of a node of that distance whose potential fell by that, is too long to matter.
     #[inline(always)]
-    fn reach(&self, near: u128, fell: u128) -> u128
+    fn is_past(&self, near: u128, fell: u128, slack: u64) -> bool
         requires small { self.now.limit ≤ far }
+        requires near { near ≤ far }
         requires fell { fell ≤ 2 ^ 124 }
-        ensures { self.now.limit + fell ≤ near + result }
+        ensures { IsTrue result → self.now.limit + fell ≤ near + slack }
     {
-        (self.limit() + fell).saturating_sub(near)
+        near + slack as u128 >= self.limit() + fell
     }
 
-    // Whether the head of the edge is as near without it, or past the limit along it. An edge with room is never shorter than
-    // 0; its length is its slack, but for what the potentials of its ends fell by since.
+    // Whether the head of the edge is as near without it, or past the limit along it. The length of the edge is its slack, but
+    // for what the potentials of its ends fell by since.
     #[inline(always)]
     fn is_near(&self, lists: &EdgeLists, edge: ListedEdge, near: u128, fell: u128) -> bool
         requires head { (edge.head < length self.now.distances) × (edge.head < length lists.now.falls) }
@@ -59,13 +60,9 @@ impl Search {
         requires limit { self.now.limit ≤ far }
         requires near { near ≤ far }
         requires fell { fell ≤ 2 ^ 124 }
-        ensures { IsTrue result → (slice_index self.now.distances edge.head ≤ near) ⊎ BringsNoNearer lists.now self.now edge near fell }
+        ensures { IsTrue result → BringsNoNearer lists.now self.now edge near fell }
     {
-        let head = self.distance(edge.head);
-        if head <= near {
-            return true;
-        }
-        let reach = self.limit().min(head) + fell;
+        let reach = self.limit().min(self.distance(edge.head)) + fell;
         near + edge.slack as u128 + lists.fall(edge.head) >= reach
     }
 
@@ -108,10 +105,9 @@ impl Search {
     {
         let near = self.distance(node);
         let fell = lists.fall(node);
-        let reach = self.reach(near, fell);
         for place in lists.first(node)..lists.first(node + 1) {
             let edge = lists.edge(place);
-            if edge.slack as u128 >= reach {
+            if self.is_past(near, fell, edge.slack) {
                 return;
             }
             self.relax_near(network, lists, from, edge, near, fell);

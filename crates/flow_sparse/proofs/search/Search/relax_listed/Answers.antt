@@ -55,8 +55,8 @@ loop-place-preserved c =
           (cases_eq p c.loop-place.place);
     }
 
-pub returns-then-edge-reach-clause-settled : goal.returns-then-edge-reach-clause-settled
-returns-then-edge-reach-clause-settled c = λ rests k tail placed.
+pub returns-then-is_past-clause-settled : goal.returns-then-is_past-clause-settled
+returns-then-is_past-clause-settled c = λ rests k tail placed.
     let n = c.args.network.now in
     let lists = c.args.lists.now in
     let now = c.loop-place.self in
@@ -72,9 +72,7 @@ returns-then-edge-reach-clause-settled c = λ rests k tail placed.
     (omega (
       arith,
       rises,
-      c.reach-reach.ensures,
-      c.if-edge-reach.true,
-      c.loop-place.invariant.nears.limit,
+      c.is_past.ensures c.if-is_past.true,
       ap (λ (x : ListedEdge). x.slack) c.edge-edge.ensures,
       ap (slice_index now.distances) tail,
       ap (slice_index lists.falls) tail,
