@@ -74,7 +74,9 @@ impl LineReader {
     ghost use Rattle.bound_io.specs.contracts.line_reader.LineReader.{the_row};
     ghost use Rattle.std.specs.Io.BufRead.{Rests};
     ghost use Rattle.std.specs.Borrow.{sem};
-    ghost use Rattle.bound_io.specs.Positions.{AnswersAgain, Fits, FitsPiece, IsFirstText, IsLine, LeavesBytes, LeavesLine, RefusesLine, RefusesPiece, Stops, given, given_by, known, with_held};
+    ghost use Rattle.bound_io.specs.Positions.{AnswersAgain, Fits, FitsPiece, IsFirstText, IsLine};
+    ghost use Rattle.bound_io.specs.Positions.{LeavesBytes, LeavesLine, RefusesLine, RefusesPiece};
+    ghost use Rattle.bound_io.specs.Positions.{Stops, given, given_by, known, with_held};
 
     /// A reader of lines of at most `limit` bytes in all, which takes its buffer here.
     pub fn new(alloc: Global, limit: u64) -> Result<Self, NoMemory>

@@ -1,5 +1,6 @@
 //! What is proved of bounds: each law is the contract of a function that does nothing.
-ghost use Rattle.bound_laws.specs.Laws.{FetchesAreBounded, GreatestScoreExists, GreatestScoreIsWithin, SmallerCapacitiesAreBounded, ValidBoundsFetches, ValidBoundsSmallerCapacities};
+ghost use Rattle.bound_laws.specs.Laws.{FetchesAreBounded, GreatestScoreExists, GreatestScoreIsWithin};
+ghost use Rattle.bound_laws.specs.Laws.{SmallerCapacitiesAreBounded, ValidBoundsFetches, ValidBoundsSmallerCapacities};
 
 /// The bound of any prices, less what they ask for the units that are gone, bounds every smaller capacity.
 pub fn smaller_capacities_are_bounded()

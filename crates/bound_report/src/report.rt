@@ -1,6 +1,7 @@
 //! The report of bounds, and the lines that it shares with other reports.
 ghost use Rattle.std.specs.Prelude.{◌≡◌, ◌<◌, ◌≤◌, ◌+◌, ◌++◌, codes, length, OnErr, OnOk, IfOk};
-ghost use Rattle.bound_report.specs.Reports.{capacity_line, flow_line, mode_line, ratio, report_text, trace_line, unit_line, upper_line, value_lines, window_word};
+ghost use Rattle.bound_report.specs.Reports.{capacity_line, flow_line, mode_line, ratio, report_text};
+ghost use Rattle.bound_report.specs.Reports.{trace_line, unit_line, upper_line, value_lines, window_word};
 ghost use Rattle.cache_model.specs.Texts.{entry, form_word, line, objective_word, text_of};
 
 use crate::facts::{BoundFacts, Mode, Window};

@@ -5,7 +5,10 @@ ghost use Rattle.relaxation.specs.Denominators.{IsChoice};
 ghost use Rattle.trace_any.specs.Readings.{IsFormat};
 ghost use Rattle.bound_words.specs.declared.commands.Command.{Command};
 ghost use Rattle.bound_words.specs.Ranges.{IsModeInRange};
-ghost use Rattle.bound_words.specs.Operands.{block_given, capacity_given, capacity_or_usual, denominator_given, drawn_given, format_given, is_value, mode_given, number_given, objective_given, objects_given, policy_given, reads_given, requests_given, seed_given, takes_value, version_given, warmup_given, width_given, window_given};
+ghost use Rattle.bound_words.specs.Operands.{block_given, capacity_given, capacity_or_usual, denominator_given};
+ghost use Rattle.bound_words.specs.Operands.{drawn_given, format_given, is_value, mode_given, number_given, objective_given};
+ghost use Rattle.bound_words.specs.Operands.{objects_given, policy_given, reads_given, requests_given, seed_given};
+ghost use Rattle.bound_words.specs.Operands.{takes_value, version_given, warmup_given, width_given, window_given};
 ghost use Rattle.cache_model.specs.declared.version.TheConstants.{CERT_VERSION, SHORT_VERSION};
 
 use crate::capacities::are_capacities;

@@ -2,7 +2,9 @@
 ghost use Rattle.std.specs.Prelude.{◌≡◌, ◌≤◌, map, string_bytes, IfOk};
 ghost use Rattle.std.specs.Option.{ForSome, option_copied};
 ghost use Rattle.bound_words.specs.Settings.{IsPlanInRange};
-ghost use Rattle.bound_words.specs.Words.{bounds_plan, capacity_curve_plan, check_plan, curve_plan, demo_plan, inputs_fault, is_dash, judge_plan, plan_of_command, refine_plan, replay_plan, required};
+ghost use Rattle.bound_words.specs.Words.{bounds_plan, capacity_curve_plan, check_plan, curve_plan};
+ghost use Rattle.bound_words.specs.Words.{demo_plan, inputs_fault, is_dash, judge_plan};
+ghost use Rattle.bound_words.specs.Words.{plan_of_command, refine_plan, replay_plan, required};
 
 use crate::commands::{Command, PathPlaces};
 use crate::named::value_given;

@@ -6,7 +6,9 @@ ghost use Rattle.relaxation.specs.Denominators.{IsChoice};
 ghost use Rattle.trace_any.specs.Readings.{IsFormat};
 ghost use Rattle.trace_any.specs.declared.format.Format.TheVariants.{Webcache, Msr, MarkedWebcache, MsrReads};
 ghost use Rattle.bound_words.specs.Ranges.{IsModeInRange};
-ghost use Rattle.bound_words.specs.Values.{block_of, capacity_of, count_of, denominator_of, drawn_of, format_of, mode_of, number_to, objective_of, reads_of, seed_of, usual_denominator, version_of, width_of, window_of};
+ghost use Rattle.bound_words.specs.Values.{block_of, capacity_of, count_of, denominator_of, drawn_of};
+ghost use Rattle.bound_words.specs.Values.{format_of, mode_of, number_to, objective_of, reads_of};
+ghost use Rattle.bound_words.specs.Values.{seed_of, usual_denominator, version_of, width_of, window_of};
 ghost use Rattle.cache_model.specs.declared.version.TheConstants.{CERT_VERSION, SHORT_VERSION};
 
 use bound_base::read_u64;

@@ -3,7 +3,9 @@ ghost use Rattle.std.specs.Prelude.{◌≡◌, ◌≤◌, [], map, slice_get, st
 ghost use Rattle.std.specs.Option.{option_copied};
 ghost use Rattle.bound_words.specs.Settings.{IsPlanInRange};
 ghost use Rattle.bound_words.specs.Commands.{operands_of, places_of};
-ghost use Rattle.bound_words.specs.Words.{HasNeeded, beside_fault, block_fault, command_asked, command_of, command_with, count_fault, earlier, has_no_writes, operand_fault, operands_fault, passed, path, paths, plan, plan_of_operands, unknown_operand, window_fault};
+ghost use Rattle.bound_words.specs.Words.{HasNeeded, beside_fault, block_fault, command_asked, command_of, command_with};
+ghost use Rattle.bound_words.specs.Words.{count_fault, earlier, has_no_writes, operand_fault, operands_fault};
+ghost use Rattle.bound_words.specs.Words.{passed, path, paths, plan, plan_of_operands, unknown_operand, window_fault};
 
 use crate::commands::{Command, command_named, has_operand};
 use crate::named::{has_equals, name_of, place_given, value_given, value_of};

@@ -1,5 +1,8 @@
 //! What is proved of the definitions: each law is the contract of a function that does nothing.
-ghost use Rattle.cache_model.specs.Laws.{ContentsWeighTheirIntervals, ExactIsLeast, FlowsAreBelowPrices, IntervalsAreEligible, KeepsAreAllowed, LeastWholeIsLeastCommonMultiple, LoadIsLatestSum, OneMoreRequest, OneReading, RoundedIsMaximal, UnitIsOneNumber, ValidBoundsEveryPolicy};
+ghost use Rattle.cache_model.specs.Laws.{ContentsWeighTheirIntervals, ExactIsLeast, FlowsAreBelowPrices};
+ghost use Rattle.cache_model.specs.Laws.{IntervalsAreEligible, KeepsAreAllowed, LeastWholeIsLeastCommonMultiple};
+ghost use Rattle.cache_model.specs.Laws.{LoadIsLatestSum, OneMoreRequest, OneReading};
+ghost use Rattle.cache_model.specs.Laws.{RoundedIsMaximal, UnitIsOneNumber, ValidBoundsEveryPolicy};
 ghost use Rattle.cache_model.specs.NoPolicyScoresMore.{NoPolicyScoresMore};
 
 /// No contents that the rules allow score more than the bound of any prices.

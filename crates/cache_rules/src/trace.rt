@@ -1,5 +1,6 @@
 //! A trace, by the numbers of its objects.
-ghost use Rattle.std.specs.Prelude.{◌≡◌, ◌≤◌, ◌<◌, ◌^◌, ◌++◌, [], ◌∷◌, length, Some, slice_get, slice_index_or, position, IfSome, OnOk, OnErr, MatchOption};
+ghost use Rattle.std.specs.Prelude.{◌≡◌, ◌≤◌, ◌<◌, ◌^◌, ◌++◌, [], ◌∷◌, length, Some, slice_get};
+ghost use Rattle.std.specs.Prelude.{slice_index_or, position, IfSome, OnOk, OnErr, MatchOption};
 ghost use Rattle.std.specs.Vec.{vec_len, vec_capacity};
 ghost use Rattle.cache_model.specs.Objects.{objects_of, IsNext, IsLast, IsFirst};
 ghost use Rattle.cache_model.specs.Claim.{same_object, no_object, only_fills, counts_past, request_at};

@@ -6,7 +6,8 @@ ghost use Rattle.cert_checker.specs.declared.invalid.InvalidKind.TheVariants.{Re
 ghost use Rattle.cert_format.specs.Lines.{IsTaken};
 ghost use Rattle.cert_format.specs.Readers.{fresh};
 ghost use Rattle.cert_checker.specs.declared.walking.CheckFault.TheVariants.{Invalid};
-ghost use Rattle.cert_checker.specs.Checks.{ChecksNext, IsEvent, IsFresh, IsInSomeStep, IsInStep, IsNear, IsPassed, IsSteppedAt, KeepsAnswer, seen_cert, seen_inputs};
+ghost use Rattle.cert_checker.specs.Checks.{ChecksNext, IsEvent, IsFresh, IsInSomeStep, IsInStep, IsNear};
+ghost use Rattle.cert_checker.specs.Checks.{IsPassed, IsSteppedAt, KeepsAnswer, seen_cert, seen_inputs};
 ghost use Rattle.cert_checker.specs.Keeping.{ChecksLast, IsCheckEnd, no_requests};
 ghost use Rattle.cert_checker.specs.Summaries.{IsSized};
 ghost use Rattle.cert_checker.specs.Walks.{text_kind};

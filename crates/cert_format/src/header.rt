@@ -4,7 +4,8 @@ ghost use Rattle.bound_io.specs.Devices.{seen};
 ghost use Rattle.cache_model.specs.Certificates.{IsHeaderInRange};
 ghost use Rattle.cache_model.specs.declared.version.TheConstants.{CERT_VERSION, SHORT_VERSION};
 ghost use Rattle.cert_format.specs.Lines.{Reads, ReadsNext};
-ghost use Rattle.cert_format.specs.Parts.{IsCountsInRange, IsValuesInRange, counts_fault, counts_in, first_warmup, last_fault, last_len, values_fault, values_in};
+ghost use Rattle.cert_format.specs.Parts.{IsCountsInRange, IsValuesInRange, counts_fault, counts_in};
+ghost use Rattle.cert_format.specs.Parts.{first_warmup, last_fault, last_len, values_fault, values_in};
 ghost use Rattle.cert_format.specs.Readers.{lines_read};
 ghost use Rattle.cert_format.specs.Readings.{header_fault, header_in};
 

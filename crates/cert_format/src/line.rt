@@ -1,7 +1,9 @@
 //! What the text of a line states.
 ghost use Rattle.std.specs.Prelude.{◌≡◌, ◌↔◌, ◌==◌, ◌+◌, ◌<◌, ◌^◌, List, false, true, ℕ, [], ◌∷◌, codes, length, position, IsTrue, IfNone, IfSome};
 ghost use Rattle.cache_model.specs.Texts.{keep_digit};
-ghost use Rattle.cert_format.specs.Grammar.{OneOf, Within, can_stand, choice_line, fixed_line, full_slots, has_second, has_shape, is_short, line_fault, number_at, number_fault, number_in, number_line, price_slot, record_slots, value_unless, words};
+ghost use Rattle.cert_format.specs.Grammar.{OneOf, Within, can_stand, choice_line, fixed_line, full_slots, has_second};
+ghost use Rattle.cert_format.specs.Grammar.{has_shape, is_short, line_fault, number_at, number_fault};
+ghost use Rattle.cert_format.specs.Grammar.{number_in, number_line, price_slot, record_slots, value_unless, words};
 ghost use Rattle.cert_format.specs.Parts.{warmup_slots};
 ghost use Rattle.cert_format.specs.Readings.{full_in, record_in, short_of, warmup_in};
 

@@ -1,6 +1,7 @@
 //! The lines of a certificate, as they are written.
 ghost use Rattle.std.specs.Prelude.{◌≡◌, ◌≤◌, ◌+◌, ◌++◌, codes, length, decimal};
-ghost use Rattle.cache_model.specs.Texts.{form_word, full_line, header_lines, keep_digit, last_lines, line, objective_word, record_line, short_line, text_of};
+ghost use Rattle.cache_model.specs.Texts.{form_word, full_line, header_lines, keep_digit, last_lines};
+ghost use Rattle.cache_model.specs.Texts.{line, objective_word, record_line, short_line, text_of};
 
 use cache_model::{Header, Objective, Record, SHORT_VERSION};
 use line_text::LineText;

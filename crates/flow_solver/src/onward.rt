@@ -2,7 +2,8 @@
 //!
 //! Under one set of potentials nothing is lost along many of them. They are found without distances, by going on from
 //! the first node, and back from where no edge leads on.
-ghost use Rattle.std.specs.Prelude.{◌≡◌, ℕ, ◌+◌, ◌*◌, ◌<◌, ◌≤◌, All, IfOk, IfSome, IsTrue, Some, length, slice_get, slice_index, slice_set, take, true};
+ghost use Rattle.std.specs.Prelude.{◌≡◌, ℕ, ◌+◌, ◌*◌, ◌<◌, ◌≤◌, All, IfOk, IfSome, IsTrue, Some};
+ghost use Rattle.std.specs.Prelude.{length, slice_get, slice_index, slice_set, take, true};
 ghost use Rattle.flow_model.specs.Networks.{IsEdge, IsTight, residual};
 ghost use Rattle.flow_network.specs.States.{IsState};
 ghost use Rattle.flow_solver.specs.Onward.{IsOnward, LeadsOn};

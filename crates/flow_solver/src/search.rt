@@ -6,7 +6,9 @@ ghost use Rattle.flow_model.specs.Networks.{IsEdge};
 ghost use Rattle.flow_model.specs.Pushes.{edge_at};
 ghost use Rattle.flow_parts.specs.OuterEdges.{AreListed};
 ghost use Rattle.flow_parts.specs.Queues.{IsQueue, IsQueueBut, Leaves, Waits};
-ghost use Rattle.flow_solver.specs.Searches.{AreArcsDoneAt, AreSettledToLast, Enters, HasSearchRoom, IsDoneAt, IsReady, IsSearchToLast, IsSettledToLast, NearsToLast, above_first, found_at, work_left};
+ghost use Rattle.flow_solver.specs.Searches.{AreArcsDoneAt, AreSettledToLast, Enters, HasSearchRoom};
+ghost use Rattle.flow_solver.specs.Searches.{IsDoneAt, IsReady, IsSearchToLast, IsSettledToLast};
+ghost use Rattle.flow_solver.specs.Searches.{NearsToLast, above_first, found_at, work_left};
 
 use bound_base::NoMemory;
 use flow_network::{Edge, Network};

@@ -5,7 +5,8 @@ ghost use Rattle.flow_model.specs.Networks.{IsEdge, head, tail};
 ghost use Rattle.flow_parts.specs.OuterEdges.{edge_of, tail_of};
 ghost use Rattle.flow_sparse.specs.Ranges.{IsSound};
 ghost use Rattle.flow_sparse.specs.States.{IsReady, IsHigh};
-ghost use Rattle.flow_sparse.specs.Searches.{IsListed, IsSearch, Nears, far, IsSettledBy, BringsNoNearer, IsDoneBy, AreListedDone, AreWokenDone, AreAllDone};
+ghost use Rattle.flow_sparse.specs.Searches.{IsListed, IsSearch, Nears, far, IsSettledBy, BringsNoNearer};
+ghost use Rattle.flow_sparse.specs.Searches.{IsDoneBy, AreListedDone, AreWokenDone, AreAllDone};
 
 use crate::edges::{ListedEdge, WokenEdge};
 use crate::lists::EdgeLists;

@@ -2,7 +2,8 @@
 ghost use Rattle.std.specs.Prelude.{◌≡◌, ◌+◌, ◌-◌, ◌*◌, ◌<◌, ◌≤◌, ◌^◌, ◌++◌, All, IfOk, length, sum};
 ghost use Rattle.cache_model.specs.Units.{weight};
 ghost use Rattle.interval_maker.specs.Timelines.{IsInterval};
-ghost use Rattle.price_refine.specs.Parts.{AreCounted, AreSumsBeside, IsBlock, arcs_of_worth, block_instance, cut_arc, meets, upper_arcs, worth_above};
+ghost use Rattle.price_refine.specs.Parts.{AreCounted, AreSumsBeside, IsBlock, arcs_of_worth};
+ghost use Rattle.price_refine.specs.Parts.{block_instance, cut_arc, meets, upper_arcs, worth_above};
 
 use crate::block::Block;
 use crate::pricing::Pricing;

@@ -1,5 +1,6 @@
 //! The rule of the clock: an object that was asked for since the hand last passed it is passed over once.
-ghost use Rattle.std.specs.Prelude.{◌≡◌, ◌≤◌, ◌<◌, ◌^◌, ◌+◌, ◌*◌, ℕ, All, length, nat_eq, false, true, Some, None, is_some, IfOk, IsOk, OnOk, OnErr, refl};
+ghost use Rattle.std.specs.Prelude.{◌≡◌, ◌≤◌, ◌<◌, ◌^◌, ◌+◌, ◌*◌, ℕ, All, length, nat_eq, false};
+ghost use Rattle.std.specs.Prelude.{true, Some, None, is_some, IfOk, IsOk, OnOk, OnErr, refl};
 ghost use Rattle.std.specs.declared.option.Option.{Option};
 ghost use Rattle.std.specs.HashMap.{get, Updates};
 ghost use Rattle.policy_model.specs.declared.names.PolicyName.TheVariants.{Clock as ByClock};

@@ -1,5 +1,6 @@
 //! Words, which stand apart by spaces and tabs.
-ghost use Rattle.std.specs.Prelude.{◌≡◌, ◌∷◌, [], ◌-◌, ◌<◌, ◌≤◌, ◌++◌, ◌==◌, ◌||◌, not, drop, length, position, slice_get, slice_index_or, MatchOption, IfSome};
+ghost use Rattle.std.specs.Prelude.{◌≡◌, ◌∷◌, [], ◌-◌, ◌<◌, ◌≤◌, ◌++◌, ◌==◌, ◌||◌, not, drop, length};
+ghost use Rattle.std.specs.Prelude.{position, slice_get, slice_index_or, MatchOption, IfSome};
 ghost use Rattle.std.specs.List.{position_or_len};
 ghost use Rattle.std.specs.Option.{option_copied};
 ghost use Rattle.trace_lines.specs.Lines as lines;
