@@ -8,7 +8,7 @@ use Rattle.flow_parts.specs.OuterEdges.{edge_of, tail_of}
 use Rattle.flow_parts.specs.Searches.{IsSettled, IsTree, LeadsBack, lowered}
 use Rattle.flow_sparse.specs.declared.edges.ListedEdge.{ListedEdge}
 use Rattle.flow_sparse.specs.declared.edges.WokenEdge.{WokenEdge}
-use Rattle.flow_sparse.specs.Ranges.{Ranges, IsEntry, IsPlacedAt, IsSound, AreSorted, AreChained, WasWoken, listed_at, number_of}
+use Rattle.flow_sparse.specs.Ranges.{Ranges, IsPlacedAt, IsSound, AreSorted, AreChained, WasWoken, listed_at, number_of}
 use Rattle.flow_sparse.specs.States.{State}
 
 -- how far each node is by a walk that was found, the last edge of that walk, the nodes that wait for their edges to be looked
@@ -134,12 +134,15 @@ BringsNoNearer lists found edge near fell =
 abbrev pub IsShort : Ranges → ListedEdge → ℕ → Type 0
 IsShort lists edge fell = (edge.slack < 2 ^ 64 - 1) × (edge.slack + slice_index lists.falls edge.head < fell)
 
--- the listed edge is settled, if it leads out of a node that was at that distance and whose potential fell by that
-abbrev pub IsDoneBy : State → Ranges → Found → Found → ListedEdge → ℕ → ℕ → Type 0
-IsDoneBy state lists old new edge near fell =
-    IsEntry state.instance (listed_potential state lists) edge edge.number
-    → slice_index old.distances (tail_of state.instance.arcs edge.number) ≡ near → slice_index lists.falls (tail_of state.instance.arcs edge.number) ≡ fell
-    → IsSettledBy state new (edge_of (length state.instance.arcs) edge.number)
+-- the listed edge is no way that brings its head nearer within the limit, if it leads out of a node of that distance, whose
+-- potential fell by that: it is too long for that, or has no room
+abbrev pub IsNoWay : Ranges → Found → ListedEdge → ℕ → ℕ → Type 0
+IsNoWay lists found edge near fell = BringsNoNearer lists found edge near fell ⊎ IsShort lists edge fell
+
+-- the listed edge leads to a node with a distance, whose potential fell by no more than potentials have
+abbrev pub HasHead : Ranges → Found → ListedEdge → Type 0
+HasHead lists found edge =
+    (edge.head < length found.distances) × (slice_index found.distances edge.head ≤ far) × (edge.head < length lists.falls) × (slice_index lists.falls edge.head ≤ 2 ^ 124)
 
 -- once the node rests, the edges in its range are settled
 abbrev pub AreListedDone : State → Ranges → Found → ℕ → Type 0

@@ -142,19 +142,17 @@ impl Network {
         hop.tail
     }
 
-    /// How long the edge is, as far as 64 bits hold that; and the most that they hold if it has no room.
+    /// How long the edge is, as far as 64 bits hold that. It has room, so it isn't shorter than 0.
     #[inline(always)]
     pub fn slack(&self, edge: Edge) -> u64
         requires ready { IsReady self.now }
         requires high { IsHigh self.now }
         requires edge { IsEdge self.now.instance edge }
-        ensures bound { 0 < residual self.now.instance self.now.flows edge → IsAsLong self.now.instance.arcs (slice_index self.now.potentials) result edge }
-        ensures exact { 0 < residual self.now.instance self.now.flows edge → IsNoLonger self.now.instance.arcs (slice_index self.now.potentials) result edge }
+        requires room { 0 < residual self.now.instance self.now.flows edge }
+        ensures bound { IsAsLong self.now.instance.arcs (slice_index self.now.potentials) result edge }
+        ensures exact { IsNoLonger self.now.instance.arcs (slice_index self.now.potentials) result edge }
     {
         let hop = self.hop(edge);
-        if self.residual(edge) == 0 {
-            return u64::MAX;
-        }
         let behind = hop.loss + self.potential(hop.tail);
         let length = behind - (hop.gain + self.potential(hop.head));
         length.min(u64::MAX as u128) as u64

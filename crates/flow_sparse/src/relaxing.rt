@@ -3,10 +3,10 @@ ghost use Rattle.std.specs.Prelude.{◌≡◌, ℕ, ◌+◌, ◌-◌, ◌*◌, �
 ghost use Rattle.flow_model.specs.declared.edges.Edge.TheVariants.{Inner, InnerBack};
 ghost use Rattle.flow_model.specs.Networks.{IsEdge, head, tail};
 ghost use Rattle.flow_parts.specs.OuterEdges.{edge_of, tail_of};
-ghost use Rattle.flow_sparse.specs.Ranges.{IsSound};
+ghost use Rattle.flow_sparse.specs.Ranges.{AreRising, listed_at};
 ghost use Rattle.flow_sparse.specs.States.{IsReady, IsHigh};
-ghost use Rattle.flow_sparse.specs.Searches.{IsListed, IsSearch, Nears, far, IsSettledBy, BringsNoNearer};
-ghost use Rattle.flow_sparse.specs.Searches.{IsDoneBy, AreListedDone, AreWokenDone, AreAllDone};
+ghost use Rattle.flow_sparse.specs.Searches.{IsListed, IsSearch, Nears, far, IsSettledBy, BringsNoNearer, HasHead, IsNoWay};
+ghost use Rattle.flow_sparse.specs.Searches.{AreListedDone, AreWokenDone, AreAllDone};
 
 use crate::edges::{ListedEdge, WokenEdge};
 use crate::lists::EdgeLists;
@@ -41,60 +41,64 @@ impl Search {
         self.enqueue(hop.head);
     }
 
-    // Whether an edge of that slack, out of a node of that distance whose potential fell by that, is too long to matter.
+    // How long by its slack an edge out of a node of that distance, whose potential fell by that, is at the limit.
     #[inline(always)]
-    fn is_past(&self, near: u128, fell: u128, slack: u64) -> bool
+    fn reach(&self, near: u128, fell: u128) -> u128
         requires small { self.now.limit ≤ far }
-        requires near { near ≤ far }
         requires fell { fell ≤ 2 ^ 124 }
-        ensures { IsTrue result → self.now.limit + fell ≤ near + slack }
+        ensures { result ≡ self.now.limit + fell - near }
     {
-        near + slack as u128 >= self.limit() + fell
+        (self.limit() + fell).saturating_sub(near)
     }
 
     // Whether the head of the edge is as near without it, or past the limit along it. The length of the edge is its slack, but
     // for what the potentials of its ends fell by since.
     #[inline(always)]
-    fn is_near(&self, lists: &EdgeLists, edge: ListedEdge, near: u128, fell: u128) -> bool
-        requires head { (edge.head < length self.now.distances) × (edge.head < length lists.now.falls) }
-        requires small { slice_index lists.now.falls edge.head ≤ 2 ^ 124 }
-        requires limit { self.now.limit ≤ far }
-        requires near { near ≤ far }
-        requires fell { fell ≤ 2 ^ 124 }
-        ensures { IsTrue result → BringsNoNearer lists.now self.now edge near fell }
-    {
-        let reach = self.limit().min(self.distance(edge.head)) + fell;
-        near + edge.slack as u128 + lists.fall(edge.head) >= reach
-    }
-
-    // Relaxes the listed edge out of the node, unless that brings its head no nearer, or the edge has no room left.
-    #[inline(always)]
-    fn relax_near(
-        &mut self,
-        network: &Network,
+    fn is_near(
+        &self,
         lists: &EdgeLists,
-        from: u32,
         edge: ListedEdge,
         near: u128,
         fell: u128,
-    )
-        requires ready { IsReady network.now }
-        requires high { IsHigh network.now }
-        requires search { IsSearch network.now from self.old }
-        requires lists { IsListed network.now lists.now }
-        requires sound { IsSound network.now.instance edge }
+        reach: u128,
+    ) -> bool
+        requires head { HasHead lists.now self.now edge }
         requires near { near ≤ far }
         requires fell { fell ≤ 2 ^ 124 }
-        ensures nears { Nears network.now from self.old self.new }
-        ensures settled { IsDoneBy network.now lists.now self.old self.new edge near fell }
+        requires reach { self.now.limit + fell ≤ near + reach }
+        ensures { IsTrue result → BringsNoNearer lists.now self.now edge near fell }
     {
-        if self.is_near(lists, edge, near, fell) || lists.is_short(edge, fell) {
-            return;
-        }
-        self.relax(network, from, outer_edge(network.arc_count(), edge.number));
+        let slack = edge.slack as u128 + lists.fall(edge.head);
+        slack >= reach || near + slack >= self.distance(edge.head) + fell
     }
 
-    // Relaxes the listed edges out of the node, as far as the first that is too long.
+    // The first place from one on whose edge may bring its head nearer, or the place past the last. They stand in order of their
+    // slacks, so none behind one too long does.
+    fn next_place(&self, lists: &EdgeLists, first: u32, past: u32, near: u128, fell: u128) -> u32
+        requires order { first ≤ past }
+        requires within { past ≤ length lists.now.edges }
+        requires rising { AreRising lists.now.edges first past }
+        requires heads { (p : ℕ) → p < past → HasHead lists.now self.now (listed_at lists.now.edges p) }
+        requires small { self.now.limit ≤ far }
+        requires near { near ≤ far }
+        requires fell { fell ≤ 2 ^ 124 }
+        ensures range { (first ≤ result) × (result ≤ past) }
+        ensures passed { (p : ℕ) → first ≤ p → p < result → IsNoWay lists.now self.now (listed_at lists.now.edges p) near fell }
+    {
+        let reach = self.reach(near, fell);
+        for place in first..past {
+            let edge = lists.edge(place);
+            if edge.slack as u128 >= reach {
+                return past;
+            }
+            if !self.is_near(lists, edge, near, fell, reach) && !lists.is_short(edge, fell) {
+                return place;
+            }
+        }
+        past
+    }
+
+    // Relaxes the listed edges out of the node that may bring their heads nearer.
     fn relax_listed(&mut self, network: &Network, lists: &EdgeLists, from: u32, node: u32)
         requires ready { IsReady network.now }
         requires high { IsHigh network.now }
@@ -106,12 +110,15 @@ impl Search {
     {
         let near = self.distance(node);
         let fell = lists.fall(node);
-        for place in lists.first(node)..lists.first(node + 1) {
-            let edge = lists.edge(place);
-            if self.is_past(near, fell, edge.slack) {
-                return;
-            }
-            self.relax_near(network, lists, from, edge, near, fell);
+        let past = lists.first(node + 1);
+        let mut place = self.next_place(lists, lists.first(node), past, near, fell);
+        while place < past {
+            self.relax(
+                network,
+                from,
+                outer_edge(network.arc_count(), lists.edge(place).number),
+            );
+            place = self.next_place(lists, place + 1, past, near, fell);
         }
     }
 

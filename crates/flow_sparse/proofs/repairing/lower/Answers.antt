@@ -12,8 +12,8 @@ use Rattle.flow_sparse.proofs.repairing.lower.Goals as goal
 pub potential-requires : goal.potential-requires
 potential-requires c = omega (arith, c.loop-node.invariant.each, c.loop-node-test.true, c.steps-node-end.ensures, c.requires.ready.fits.each_node)
 
-pub distance-requires : goal.distance-requires
-distance-requires c = omega (arith, c.loop-node-test.true, c.steps-node-end.ensures, c.requires.search.tree.each_distance)
+pub distance-near-requires : goal.distance-near-requires
+distance-near-requires c = omega (arith, c.loop-node-test.true, c.steps-node-end.ensures, c.requires.search.tree.each_distance)
 
 pub set_potential-requires : goal.set_potential-requires
 set_potential-requires c = omega (arith, c.loop-node.invariant.each, c.loop-node-test.true, c.steps-node-end.ensures, c.requires.ready.fits.each_node)
@@ -29,10 +29,10 @@ overflow_sub-potential c =
       arith,
       enough s c.args.from found.limit found.distances c.requires.ready c.requires.high is c.requires.missing node within,
       c.potential.ensures,
-      c.distance.ensures,
+      c.distance-near.ensures,
       c.limit-limit.ensures,
       c.loop-node.invariant.later node (omega arith),
-      c.min.ensures,
+      c.if-near-limit.false,
     )
 
 pub add_fall-requires-clause-node : goal.add_fall-requires-clause-node
@@ -53,7 +53,7 @@ loop-node-preserved c =
     let node = c.loop-node.node in
     let inv = c.loop-node.invariant in
     let is = c.set_potential.ensures in
-    let fall : ℕ = c.limit-limit.result - c.min.result in
+    let fall : ℕ = c.limit-limit.result - c.distance-near.result in
     let value : ℕ = c.potential.result - fall in
     let potentials : c.set_potential.new.self.potentials ≡ set now.potentials node value = ap (λ (x : State). x.potentials) is in
     let falls : c.add_fall.new.self.falls ≡ set lists.falls node (slice_index lists.falls node + fall) = ap (λ (x : Ranges). x.falls) c.add_fall.ensures in
@@ -65,10 +65,10 @@ loop-node-preserved c =
       arith,
       enough s c.args.from found.limit found.distances c.requires.ready c.requires.high reach c.requires.missing node within,
       c.potential.ensures,
-      c.distance.ensures,
+      c.distance-near.ensures,
       c.limit-limit.ensures,
       inv.later node (omega arith),
-      c.min.ensures,
+      c.if-near-limit.false,
     ) in
     let listed : node < length lists.falls = omega (arith, within, inv.each_fall, c.requires.lists.each_fall) in
     record {
@@ -95,9 +95,9 @@ loop-node-preserved c =
             here,
             at.0 e,
             c.potential.ensures,
-            c.distance.ensures,
+            c.distance-near.ensures,
             c.limit-limit.ensures,
-            c.min.ensures,
+            c.if-near-limit.false,
             inv.later node (omega arith),
             ap (lowered s.potentials found.distances found.limit) e,
           ))
