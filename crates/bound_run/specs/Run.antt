@@ -127,6 +127,13 @@ pub record NoneFails (d : Devices) : Type 0 where
   pub report : ¬ (HasFailed d.report)
   pub made : ¬ (HasFailed d.made)
 
+-- the count of faults of each device is as it was
+pub record NoneFailed (d : Devices) : Type 0 where
+  pub trace : d.trace.faults_after ≡ d.trace.faults_before
+  pub cert : d.cert.faults_after ≡ d.cert.faults_before
+  pub report : d.report.faults_after ≡ d.report.faults_before
+  pub made : d.made.faults_after ≡ d.made.faults_before
+
 -- the inputs are known, and nothing of them is refused before the certificate is looked at
 abbrev pub AreGoodInputs : Settings → Devices → Type 0
 AreGoodInputs (Bounds format asked) d = IsGoodTrace format d.trace.before × HasDenominator format asked d.trace.before

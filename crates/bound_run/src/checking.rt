@@ -1,5 +1,5 @@
 //! Whether a certificate is valid for a trace, and what is said of it.
-ghost use Rattle.std.specs.Prelude.{◌≡◌, ◌<◌, IfOk, IfErr};
+ghost use Rattle.std.specs.Prelude.{◌≡◌, ◌<◌, IfOk, IfErr, OnOk};
 ghost use Rattle.bound_io.specs.Devices.{seen};
 ghost use Rattle.bound_io.specs.Reading.{LosesPrefix};
 ghost use Rattle.trace_any.specs.Readings.{IsFormat};
@@ -44,6 +44,7 @@ pub(crate) fn verdict_of<T: Source, Q: Source>(
         (seen T.left T.faults trace.old trace.new) (seen Q.left Q.faults cert.old cert.new)) }
     ensures trace_source { LosesPrefix (T.left trace.old) (T.left trace.new) }
     ensures cert_source { LosesPrefix (Q.left cert.old) (Q.left cert.new) }
+    ensures none_failed { OnOk result ((T.faults trace.new ≡ T.faults trace.old) × (Q.faults cert.new ≡ Q.faults cert.old)) }
 {
     match check_counted(alloc, format, trace, cert) {
         Ok(passed) => Ok(verdict_report(alloc, &passed)?),

@@ -1,5 +1,5 @@
 //! The judgement of hits that a simulator claims, and its report.
-ghost use Rattle.std.specs.Prelude.{◌≡◌, IfErr, IfOk};
+ghost use Rattle.std.specs.Prelude.{◌≡◌, IfErr, IfOk, OnOk};
 ghost use Rattle.bit_list.specs.Bits.{bits_of};
 ghost use Rattle.bound_io.specs.Devices.{seen};
 ghost use Rattle.bound_io.specs.Reading.{LosesPrefix};
@@ -58,6 +58,7 @@ pub(crate) fn judge_all<T: Source, H: Source>(
     ensures refused { IfErr result (RefusesJudge format asked (seen T.left T.faults trace.old trace.new) (seen H.left H.faults hits.old hits.new)) }
     ensures trace_source { LosesPrefix (T.left trace.old) (T.left trace.new) }
     ensures hits_source { LosesPrefix (H.left hits.old) (H.left hits.new) }
+    ensures none_failed { OnOk result ((T.faults trace.new ≡ T.faults trace.old) × (H.faults hits.new ≡ H.faults hits.old)) }
 {
     let claims = match read_claims(alloc, format, trace, hits) {
         Ok(claims) => claims,

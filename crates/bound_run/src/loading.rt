@@ -1,5 +1,5 @@
 //! What comes of reading the whole trace.
-ghost use Rattle.std.specs.Prelude.{◌≤◌, ◌^◌, IfOk, IfErr, map, string_bytes};
+ghost use Rattle.std.specs.Prelude.{◌≡◌, ◌≤◌, ◌^◌, IfOk, IfErr, OnOk, map, string_bytes};
 ghost use Rattle.bound_io.specs.Devices.{seen};
 ghost use Rattle.bound_io.specs.Reading.{LosesPrefix};
 ghost use Rattle.trace_any.specs.Readings.{IsFormat};
@@ -31,6 +31,7 @@ fn load_all<T: Source>(
     ensures loaded { IfOk result (λ read. IsLoaded format (seen T.left T.faults trace.old trace.new) read.0 read.1) }
     ensures refused { IfErr result (RefusesLoading format (seen T.left T.faults trace.old trace.new)) }
     ensures source { LosesPrefix (T.left trace.old) (T.left trace.new) }
+    ensures none_failed { OnOk result (T.faults trace.new ≡ T.faults trace.old) }
 {
     // Dropped here, for the proof.
     let read = {
@@ -54,6 +55,7 @@ pub(crate) fn prepare<T: Source>(
     ensures ready { IfOk result (λ texts. IsReady format asked.now (seen T.left T.faults trace.old trace.new) texts.cert.items texts.report.items) }
     ensures refused { IfErr result (RefusesBounds format asked.now (seen T.left T.faults trace.old trace.new)) }
     ensures source { LosesPrefix (T.left trace.old) (T.left trace.new) }
+    ensures none_failed { OnOk result (T.faults trace.new ≡ T.faults trace.old) }
 {
     // Dropped here, for the proof.
     let texts = {
@@ -74,6 +76,7 @@ pub(crate) fn replay_all<T: Source>(
     ensures replayed { IfOk result (λ text. IsReplayed format r (seen T.left T.faults trace.old trace.new) text.items) }
     ensures refused { IfErr result (RefusesLoading format (seen T.left T.faults trace.old trace.new)) }
     ensures source { LosesPrefix (T.left trace.old) (T.left trace.new) }
+    ensures none_failed { OnOk result (T.faults trace.new ≡ T.faults trace.old) }
 {
     // Dropped here, for the proof.
     let text = {
@@ -93,6 +96,7 @@ pub(crate) fn curve_all<T: Source>(
     ensures curved { IfOk result (λ text. IsCurved format (seen T.left T.faults trace.old trace.new) text.items) }
     ensures refused { IfErr result (RefusesCurve format (seen T.left T.faults trace.old trace.new)) }
     ensures source { LosesPrefix (T.left trace.old) (T.left trace.new) }
+    ensures none_failed { OnOk result (T.faults trace.new ≡ T.faults trace.old) }
 {
     // Dropped here, for the proof.
     let text = {
@@ -119,6 +123,7 @@ pub(crate) fn capacity_curve_all<T: Source>(
         (seen T.left T.faults trace.old trace.new) text.items) }
     ensures refused { IfErr result (RefusesLoading format (seen T.left T.faults trace.old trace.new)) }
     ensures source { LosesPrefix (T.left trace.old) (T.left trace.new) }
+    ensures none_failed { OnOk result (T.faults trace.new ≡ T.faults trace.old) }
 {
     let capacities = capacities_given(alloc, words)?;
     // Dropped here, for the proof.

@@ -1,5 +1,5 @@
 //! A certificate whose prices are refined: it is checked, its prices are settled block by block, and it is written again.
-ghost use Rattle.std.specs.Prelude.{◌≡◌, ◌≤◌, IfOk, IfErr};
+ghost use Rattle.std.specs.Prelude.{◌≡◌, ◌≤◌, IfOk, IfErr, OnOk};
 ghost use Rattle.bound_io.specs.Devices.{seen};
 ghost use Rattle.bound_io.specs.Reading.{LosesPrefix};
 ghost use Rattle.cache_model.specs.Certificates.{IsValid, prices_of};
@@ -146,6 +146,7 @@ fn keep_read<T: Source, Q: Source>(
         (seen T.left T.faults trace.old trace.new) (seen Q.left Q.faults cert.old cert.new)) }
     ensures trace_source { LosesPrefix (T.left trace.old) (T.left trace.new) }
     ensures cert_source { LosesPrefix (Q.left cert.old) (Q.left cert.new) }
+    ensures none_failed { OnOk result ((T.faults trace.new ≡ T.faults trace.old) × (Q.faults cert.new ≡ Q.faults cert.old)) }
 {
     match keep_all(alloc, format, trace, cert) {
         Ok(found) => Ok(found),
@@ -170,6 +171,7 @@ pub(crate) fn refine_all<T: Source, Q: Source>(
         (seen T.left T.faults trace.old trace.new) (seen Q.left Q.faults cert.old cert.new)) }
     ensures trace_source { LosesPrefix (T.left trace.old) (T.left trace.new) }
     ensures cert_source { LosesPrefix (Q.left cert.old) (Q.left cert.new) }
+    ensures none_failed { OnOk result ((T.faults trace.new ≡ T.faults trace.old) × (Q.faults cert.new ≡ Q.faults cert.old)) }
 {
     // Dropped here, for the proof.
     let texts = {

@@ -1,8 +1,8 @@
 //! Replays of a trace, and their reports.
-ghost use Rattle.std.specs.Prelude.{◌≡◌, ◌≤◌, [], length, IfOk};
+ghost use Rattle.std.specs.Prelude.{◌≡◌, ◌≤◌, [], length, IfOk, IfSome, OnOk};
 ghost use Rattle.cache_model.specs.Objects.{objects_of};
 ghost use Rattle.policy_model.specs.Runs.{AreScores};
-ghost use Rattle.replay_core.specs.Laws.{IsFresh, IsRunOf};
+ghost use Rattle.replay_core.specs.Laws.{IsFresh, IsRunOf, IsStateAfter, IsTallied};
 ghost use Rattle.bound_run.specs.Replays.{IsReplay, IsReplayText, IsWithinBounds};
 
 use crate::counting::counting_from;
@@ -31,6 +31,8 @@ pub fn bounded_replay<P: Policy>(
     requires fresh { IsFresh (P.known_state policy.old) }
     ensures scores { IfOk result (λ r. AreScores (P.room policy.old) warmup trace.now.fills trace.now.objects r.hits r.bytes) }
     ensures run { IfOk result (λ r. IsRunOf (P.known_state policy.old) trace.now.objects warmup trace.now.fills r.hits r.bytes) }
+    ensures counted { IfOk result (λ r. IfSome (P.tally policy.old) (λ n. IsTallied n (P.tally policy.new) (length trace.now.objects) warmup trace.now.fills r.hits)) }
+    ensures state { OnOk result (IsStateAfter (P.known_state policy.old) (P.known_state policy.new) trace.now.objects warmup trace.now.fills) }
     ensures bounded { IfOk result (λ r. IsWithinBounds (P.room policy.old) warmup trace.now r.hits r.bytes) }
 {
     replay(alloc, trace, warmup, policy)

@@ -5,7 +5,7 @@ ghost use Rattle.bound_io.specs.Reading.{LosesPrefix};
 ghost use Rattle.trace_any.specs.Readings.{IsFormat};
 ghost use Rattle.bound_run.specs.Headline.{Headline};
 ghost use Rattle.bound_run.specs.Run.{BoundsEnd, CapacityCurveEnds, CheckEnds, Completes, CurveEnds, DemoEnds};
-ghost use Rattle.bound_run.specs.Run.{JudgeEnds, RefineEnds, ReplayEnds, RunEnds, UpgradeEnds, devices};
+ghost use Rattle.bound_run.specs.Run.{JudgeEnds, NoneFailed, RefineEnds, ReplayEnds, RunEnds, UpgradeEnds, devices};
 ghost use Rattle.bound_run.specs.Statuses.{ending_of};
 ghost use Rattle.bound_words.specs.Capacities.{capacities_given};
 ghost use Rattle.bound_words.specs.Settings.{IsPlanInRange};
@@ -44,6 +44,7 @@ fn run_bounds<T: Source, R: Sink, K: Sink>(
         (seen R.written R.faults report.old report.new)
         (seen K.written K.faults made.old made.new) (ending_of result) }
     ensures source { LosesPrefix (T.left trace.old) (T.left trace.new) }
+    ensures none_failed { result ≡ Status.Done → (T.faults trace.new ≡ T.faults trace.old) × (R.faults report.new ≡ R.faults report.old) × (K.faults made.new ≡ K.faults made.old) }
 {
     match prepare(alloc, format, asked, trace) {
         Ok(texts) => write_out(report, made, &texts),
@@ -66,6 +67,7 @@ fn run_check<T: Source, Q: Source, R: Sink>(
         (seen R.written R.faults report.old report.new) (ending_of result) }
     ensures trace_source { LosesPrefix (T.left trace.old) (T.left trace.new) }
     ensures cert_source { LosesPrefix (Q.left cert.old) (Q.left cert.new) }
+    ensures none_failed { result ≡ Status.Done → (T.faults trace.new ≡ T.faults trace.old) × (Q.faults cert.new ≡ Q.faults cert.old) × (R.faults report.new ≡ R.faults report.old) }
 {
     match verdict_of(alloc, format, trace, cert) {
         Ok(text) => write_report(report, &text),
@@ -86,6 +88,7 @@ fn run_replay<T: Source, R: Sink>(
         (seen T.left T.faults trace.old trace.new)
         (seen R.written R.faults report.old report.new) (ending_of result) }
     ensures source { LosesPrefix (T.left trace.old) (T.left trace.new) }
+    ensures none_failed { result ≡ Status.Done → (T.faults trace.new ≡ T.faults trace.old) × (R.faults report.new ≡ R.faults report.old) }
 {
     match replay_all(alloc, format, asked, trace) {
         Ok(replayed) => write_report(report, &replayed),
@@ -105,6 +108,7 @@ fn run_curve<T: Source, R: Sink>(
         (seen T.left T.faults trace.old trace.new)
         (seen R.written R.faults report.old report.new) (ending_of result) }
     ensures source { LosesPrefix (T.left trace.old) (T.left trace.new) }
+    ensures none_failed { result ≡ Status.Done → (T.faults trace.new ≡ T.faults trace.old) × (R.faults report.new ≡ R.faults report.old) }
 {
     match curve_all(alloc, format, trace) {
         Ok(curved) => write_report(report, &curved),
@@ -127,6 +131,7 @@ fn run_capacity_curve<T: Source, R: Sink>(
         (seen T.left T.faults trace.old trace.new)
         (seen R.written R.faults report.old report.new) (ending_of result) }
     ensures source { LosesPrefix (T.left trace.old) (T.left trace.new) }
+    ensures none_failed { result ≡ Status.Done → (T.faults trace.new ≡ T.faults trace.old) × (R.faults report.new ≡ R.faults report.old) }
 {
     match capacity_curve_all(alloc, format, asked, words, trace) {
         Ok(curved) => write_report(report, &curved),
@@ -150,6 +155,7 @@ fn run_judge<T: Source, H: Source, R: Sink>(
         (seen R.written R.faults report.old report.new) (ending_of result) }
     ensures trace_source { LosesPrefix (T.left trace.old) (T.left trace.new) }
     ensures hits_source { LosesPrefix (H.left hits.old) (H.left hits.new) }
+    ensures none_failed { result ≡ Status.Done → (T.faults trace.new ≡ T.faults trace.old) × (H.faults hits.new ≡ H.faults hits.old) × (R.faults report.new ≡ R.faults report.old) }
 {
     match judge_all(alloc, format, asked, trace, hits) {
         Ok(judged) => write_report(report, &judged),
@@ -164,7 +170,8 @@ fn run_demo<R: Sink>(
     asked: &BoundSettings,
     report: &mut R,
 ) -> Status
-    ensures { DemoEnds drawing asked.now (seen R.written R.faults report.old report.new) (ending_of result) }
+    ensures ends { DemoEnds drawing asked.now (seen R.written R.faults report.old report.new) (ending_of result) }
+    ensures none_failed { result ≡ Status.Done → R.faults report.new ≡ R.faults report.old }
 {
     match demo_report(alloc, drawing, asked) {
         Ok(shown) => write_report(report, &shown),
@@ -184,6 +191,7 @@ fn run_upgrade<Q: Source, R: Sink, K: Sink>(
         (seen R.written R.faults report.old report.new)
         (seen K.written K.faults made.old made.new) (ending_of result) }
     ensures source { LosesPrefix (Q.left cert.old) (Q.left cert.new) }
+    ensures none_failed { result ≡ Status.Done → (Q.faults cert.new ≡ Q.faults cert.old) × (R.faults report.new ≡ R.faults report.old) × (K.faults made.new ≡ K.faults made.old) }
 {
     match upgrade_all(alloc, cert) {
         Ok(rewritten) => write_out(report, made, &rewritten),
@@ -210,6 +218,7 @@ fn run_refine<T: Source, Q: Source, R: Sink, K: Sink>(
         (seen K.written K.faults made.old made.new) (ending_of result) }
     ensures trace_source { LosesPrefix (T.left trace.old) (T.left trace.new) }
     ensures cert_source { LosesPrefix (Q.left cert.old) (Q.left cert.new) }
+    ensures none_failed { result ≡ Status.Done → (T.faults trace.new ≡ T.faults trace.old) × (Q.faults cert.new ≡ Q.faults cert.old) × (R.faults report.new ≡ R.faults report.old) × (K.faults made.new ≡ K.faults made.old) }
 {
     match refine_all(alloc, format, width, trace, cert) {
         Ok(refined) => write_out(report, made, &refined),
@@ -228,9 +237,12 @@ fn run_plan<T: Source, Q: Source, R: Sink, K: Sink>(
     made: &mut K,
 ) -> Status
     requires { IfOk plan IsPlanInRange }
-    ensures { RunEnds plan (capacities_given (map string_bytes words.now)) (devices
+    ensures ends { RunEnds plan (capacities_given (map string_bytes words.now)) (devices
         (seen T.left T.faults trace.old trace.new) (seen Q.left Q.faults cert.old cert.new)
         (seen R.written R.faults report.old report.new) (seen K.written K.faults made.old made.new)) result }
+    ensures none_failed { result ≡ Status.Done → NoneFailed (devices
+        (seen T.left T.faults trace.old trace.new) (seen Q.left Q.faults cert.old cert.new)
+        (seen R.written R.faults report.old report.new) (seen K.written K.faults made.old made.new)) }
 {
     let plan = match plan {
         Ok(plan) => plan,
@@ -277,6 +289,9 @@ pub fn run<T: Source, Q: Source, R: Sink, K: Sink>(
     ensures completes { Completes (plan (map string_bytes words.now)) (devices
         (seen T.left T.faults trace.old trace.new) (seen Q.left Q.faults cert.old cert.new)
         (seen R.written R.faults report.old report.new) (seen K.written K.faults made.old made.new)) result }
+    ensures none_failed { result ≡ Status.Done → NoneFailed (devices
+        (seen T.left T.faults trace.old trace.new) (seen Q.left Q.faults cert.old cert.new)
+        (seen R.written R.faults report.old report.new) (seen K.written K.faults made.old made.new)) }
 {
     run_plan(alloc, plan_of(words), words, trace, cert, report, made)
 }

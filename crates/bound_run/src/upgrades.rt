@@ -1,5 +1,5 @@
 //! A certificate that is read, and written again in the second version of its text.
-ghost use Rattle.std.specs.Prelude.{◌≡◌, [], IfOk, IfErr};
+ghost use Rattle.std.specs.Prelude.{◌≡◌, [], IfOk, IfErr, OnOk};
 ghost use Rattle.bound_io.specs.Devices.{seen};
 ghost use Rattle.bound_io.specs.GrowSink.{bytes_written};
 ghost use Rattle.bound_io.specs.Reading.{LosesPrefix};
@@ -48,6 +48,7 @@ fn rewrite<Q: Source>(
     ensures rewritten { IfOk result (λ h. IsRewritten (seen Q.left Q.faults source.old source.new) h (bytes_written sink.new)) }
     ensures refused { IfErr result (λ fault. RefusesUpgrade (seen Q.left Q.faults source.old source.new) (refusal_of_check fault)) }
     ensures source { LosesPrefix (Q.left source.old) (Q.left source.new) }
+    ensures none_failed { OnOk result (Q.faults source.new ≡ Q.faults source.old) }
 {
     let header = reader.header(source)?;
     let mut writer = grown(CertWriter::begin(sink, &upgraded(&header)))?;
@@ -65,6 +66,7 @@ pub(crate) fn upgrade_all<Q: Source>(alloc: Global, cert: &mut Q) -> Result<Text
     ensures upgraded { IfOk result (λ texts. IsUpgraded (seen Q.left Q.faults cert.old cert.new) texts.cert.items texts.report.items) }
     ensures refused { IfErr result (RefusesUpgrade (seen Q.left Q.faults cert.old cert.new)) }
     ensures source { LosesPrefix (Q.left cert.old) (Q.left cert.new) }
+    ensures none_failed { OnOk result (Q.faults cert.new ≡ Q.faults cert.old) }
 {
     let mut sink = GrowSink::new(alloc);
     // Dropped here, for the proof.

@@ -1,5 +1,5 @@
 //! What a run writes: its certificate and its report, or why it stopped.
-ghost use Rattle.std.specs.Prelude.{◌≡◌};
+ghost use Rattle.std.specs.Prelude.{◌≡◌, ◌≢◌};
 ghost use Rattle.bound_io.specs.Devices.{Gets, seen};
 ghost use Rattle.bound_report.specs.Refusals.{refusal_line};
 ghost use Rattle.bound_run.specs.Writings.{WritesOut, WritesReport};
@@ -19,6 +19,7 @@ pub(crate) struct Texts {
 /// Writes the line that says why the run stopped, as far as the report takes it.
 pub(crate) fn refuse<R: Sink>(report: &mut R, refusal: Refusal) -> Status
     ensures status { result ≡ status_of refusal }
+    ensures never_done { result ≢ Status.Done }
     ensures reported { Gets (seen R.written R.faults report.old report.new) (refusal_line refusal) }
 {
     let _ = write_all(report, refusal_text(&refusal).as_bytes());
@@ -27,7 +28,8 @@ pub(crate) fn refuse<R: Sink>(report: &mut R, refusal: Refusal) -> Status
 
 /// Writes the report.
 pub(crate) fn write_report<R: Sink>(report: &mut R, text: &[u8]) -> Status
-    ensures { WritesReport (seen R.written R.faults report.old report.new) text.now (ending_of result) }
+    ensures written { WritesReport (seen R.written R.faults report.old report.new) text.now (ending_of result) }
+    ensures none_failed { result ≡ Status.Done → R.faults report.new ≡ R.faults report.old }
 {
     match write_all(report, text) {
         Ok(()) => Status::Done,
@@ -37,10 +39,11 @@ pub(crate) fn write_report<R: Sink>(report: &mut R, text: &[u8]) -> Status
 
 /// Writes the certificate, and then the report.
 pub(crate) fn write_out<R: Sink, K: Sink>(report: &mut R, made: &mut K, texts: &Texts) -> Status
-    ensures { WritesOut
+    ensures written { WritesOut
         (seen R.written R.faults report.old report.new)
         (seen K.written K.faults made.old made.new)
         texts.now.cert.items texts.now.report.items (ending_of result) }
+    ensures none_failed { result ≡ Status.Done → (R.faults report.new ≡ R.faults report.old) × (K.faults made.new ≡ K.faults made.old) }
 {
     if write_all(made, &texts.cert).is_err() {
         return refuse(report, Refusal::MadeFault);

@@ -31,7 +31,7 @@ use Rattle.cert_format.proofs.Wholes.{nothing_read}
 use Rattle.cert_checker.specs.declared.verdict.Verdict.{Verdict}
 use Rattle.cert_checker.specs.declared.walking.CheckFault.TheVariants as fault
 use Rattle.cert_checker.specs.Answers.{IsYes}
-use Rattle.cert_checker.specs.Checks.{Inputs, HasChecked, HasCheckedAll, HasAsked, IsFresh, IsLater, IsStop, after_records, of_text}
+use Rattle.cert_checker.specs.Checks.{Inputs, HasChecked, HasCheckedAll, HasAsked, IsFresh, IsCalm, IsStop, after_records, of_text}
 use Rattle.cert_checker.specs.Keeping.{HasKept}
 use Rattle.cert_checker.specs.Rules.{end_fault}
 use Rattle.cert_checker.specs.Summaries.{StandsFor, Summary}
@@ -94,7 +94,7 @@ module _ (start : Inputs) (h : Header) (given : Requests) (records : List Record
   module _ (full : length given.objects ≡ h.requests) (end : Inputs) (same_trace : end.trace ≡ now.trace) (held : length end.cert.lines.held ≤ 65536) (past : IfSome (known now.cert.lines now.certificate) (IsPast now.cert.lines end.cert.lines)) where
     -- the end is not read
     pub stop_end : (f : CertFault) → lines.IsRefused now.cert (device now.certificate end.certificate now.certificate_faults end.certificate_faults) f → IfErr {T = Unit {0}} (Err f) (IsWithin end.cert.lines.line) → IsStop start end (of_text f)
-    stop_end f refused reached = text_stop start end now.cert now.certificate now.certificate_faults f refused ended.later.certificate reached
+    stop_end f refused reached = text_stop start end now.cert now.certificate now.certificate_faults f refused (omega (arith, ended.calm.certificate)) reached
         (λ n low. near_line h records start now end n ended.records_read past held low) (λ g e event stopped.
         if_both start.trace start.certificate _ _ _ ended.trace_read ended.records_read (λ b t p q.
         walk_at start b t _ _ refl q.reading
@@ -125,8 +125,8 @@ module _ (start : Inputs) (h : Header) (given : Requests) (records : List Record
       }
 
       -- the end is read, and no rule fails
-      pub passes : end.reader ≡ now.reader → end.trace ≡ now.trace → (verdict : Verdict) → IsYes h given.fills given.objects records verdict → HasKept start end (record { verdict = verdict; trace = given; records = records })
-      passes same_reader same_left verdict said = record {
+      pub passes : end.reader ≡ now.reader → end.trace ≡ now.trace → IsCalm now end → (verdict : Verdict) → IsYes h given.fills given.objects records verdict → HasKept start end (record { verdict = verdict; trace = given; records = records })
+      passes same_reader same_left calm verdict said = record {
         passed = record {
           requests = given;
           records = records;
@@ -141,6 +141,7 @@ module _ (start : Inputs) (h : Header) (given : Requests) (records : List Record
               (at_some (known now.cert.lines now.certificate) _ _ q.stands_in read).0 said.no_fault);
           trace_end = if_one start.trace _ _ ended.trace_end (λ b p. same_left ∙ p);
           certificate_end = if_one start.certificate _ _ ended.records_read (λ t q. (at_some (known now.cert.lines now.certificate) _ _ q.stands_in read).2);
+          calm = record { trace = calm.trace ∙ ended.calm.trace; certificate = calm.certificate ∙ ended.calm.certificate };
         };
         trace = refl;
         records = refl;
@@ -180,8 +181,8 @@ module _ (start : Inputs) (fresh_reader : IsFresh start.reader) (fresh_cert : st
 
     -- the header is read
     pub opens : (h : Header) (checker : Summary) → lines.HeaderRead start.cert end.cert (device start.certificate end.certificate start.certificate_faults end.certificate_faults) (Ok h)
-        → end.reader ≡ start.reader → end.trace ≡ start.trace → StandsFor h [] [] [] checker → IsLater start end → HasChecked start h (record { objects = []; fills = [] }) [] end checker
-    opens h checker read same_reader same_left stands later = record {
+        → end.reader ≡ start.reader → end.trace ≡ start.trace → StandsFor h [] [] [] checker → IsCalm start end → HasChecked start h (record { objects = []; fills = [] }) [] end checker
+    opens h checker read same_reader same_left stands calm = record {
       stands = stands;
       marked = none_marked (is_marked end.reader.format);
       same_format = ap (λ (r : requests.Reader). r.format) same_reader;
@@ -203,5 +204,5 @@ module _ (start : Inputs) (fresh_reader : IsFresh start.reader) (fresh_cert : st
             reading = reading_is t ∙ (is.coming_is ∙ ap (λ k. certificates.under h (lines.to_come end.cert (after_lines k t))) (sym read.4));
             consumed = consumed_first end t e past;
           });
-      later = later;
+      calm = calm;
     }

@@ -32,7 +32,7 @@ use Rattle.cert_format.proofs.Chains.{after_lines-add, bytes_through-add}
 use Rattle.cert_format.proofs.Taken.{at_some, if_known}
 use Rattle.cert_checker.specs.declared.walking.CheckFault.{CheckFault}
 use Rattle.cert_checker.specs.declared.walking.CheckFault.TheVariants as fault
-use Rattle.cert_checker.specs.Checks.{Inputs, HasChecked, HasCheckedAll, HasAsked, HasRecords, EndsSo, IsFailing, IsFresh, IsLater, IsOfText, IsStop, IsWalked, StandsForAll, AreMarked, fault_at, after_records, of_text, of_trace, taken}
+use Rattle.cert_checker.specs.Checks.{Inputs, HasChecked, HasCheckedAll, HasAsked, HasRecords, EndsSo, IsFailing, IsFresh, IsCalm, IsOfText, IsStop, IsWalked, StandsForAll, AreMarked, fault_at, after_records, of_text, of_trace, taken}
 use Rattle.cert_checker.specs.Summaries.{Summary}
 use Rattle.cert_checker.specs.Walks.{Event, Invalid, Refused, asked, text_event, text_kind, walk}
 use Rattle.cert_checker.proofs.OfText.{of_record}
@@ -173,15 +173,15 @@ module _ (start : Inputs) (h : Header) (given : Requests) (records : List Record
   -- the next request is not given
   pub stop_trace : (end : Inputs) (why : TraceFault) → requests.IsStopped now.reader end.reader (requests.known now.reader now.trace) now.trace_faults end.trace_faults why → IsStop start end (of_trace why)
   stop_trace end (refusal.BadLine line kind) stopped = record { event = (refused_event (refusal.BadLine line kind) end.reader.dropped stopped, refused_so (refusal.BadLine line kind) end.reader.dropped stopped); near = tt }
-  stop_trace end refusal.ReadFault stopped = record { event = new_fault_since start.trace_faults now.trace_faults end.trace_faults checked.later.trace stopped; near = tt }
+  stop_trace end refusal.ReadFault stopped = record { event = new_fault_since start.trace_faults now.trace_faults end.trace_faults (omega (arith, checked.calm.trace)) stopped; near = tt }
   stop_trace end refusal.InputTooLong stopped = record { event = (refused_event refusal.InputTooLong end.reader.dropped stopped, refused_so refusal.InputTooLong end.reader.dropped stopped); near = tt }
   stop_trace end refusal.TooManyRequests stopped = record { event = (refused_event refusal.TooManyRequests end.reader.dropped stopped, refused_so refusal.TooManyRequests end.reader.dropped stopped); near = tt }
   stop_trace end refusal.NoMemory stopped = record { event = tt; near = tt }
 
   -- no request is left
   pub end_trace : (end : Inputs) → requests.NextRequest now.reader end.reader (requests.known now.reader now.trace) (requests.known end.reader end.trace) now.trace_faults end.trace_faults (Ok None)
-      → end.cert ≡ now.cert → end.certificate ≡ now.certificate → IsLater start end → HasCheckedAll start h given records end checker
-  end_trace end over same_cert same_left later = record {
+      → end.cert ≡ now.cert → end.certificate ≡ now.certificate → IsCalm start end → HasCheckedAll start h given records end checker
+  end_trace end over same_cert same_left calm = record {
     stands = checked.stands;
     trace_read = if_one start.trace _ _ checked.trace_read (λ b p.
         let is = at_some (requests.known now.reader now.trace) _ _ p.stands_in over in
@@ -195,7 +195,7 @@ module _ (start : Inputs) (h : Header) (given : Requests) (records : List Record
     trace_end = if_one start.trace _ _ checked.trace_read (λ b p.
         let is = at_some (requests.known now.reader now.trace) _ _ p.stands_in over in nothing_left end.reader.lines.held end.trace is.1);
     records_read = if_one start.certificate _ _ checked.records_read (λ t q. same_records h records now end t q same_cert same_left);
-    later = later;
+    calm = calm;
   }
     where
       end_of : (a b : List ℕ) → a ++ b ≡ [] → b ≡ []
@@ -280,7 +280,7 @@ module _ (start : Inputs) (h : Header) (given : Requests) (records : List Record
     pub stop_text : (end : Inputs) (f : CertFault) → end.trace ≡ left → length given.objects < h.requests → lines.IsRefused now.cert (device now.certificate end.certificate now.certificate_faults end.certificate_faults) f
         → IfErr {T = Unit {0}} (Err f) (IsWithin end.cert.lines.line) → IfSome (known now.cert.lines now.certificate) (IsPast now.cert.lines end.cert.lines) → length end.cert.lines.held ≤ 65536
         → IsStop start end (of_text f)
-    stop_text end f same_trace fewer refused reached past held = text_stop start end now.cert now.certificate now.certificate_faults f refused checked.later.certificate reached
+    stop_text end f same_trace fewer refused reached past held = text_stop start end now.cert now.certificate now.certificate_faults f refused (omega (arith, checked.calm.certificate)) reached
         (λ n low. near_line h records start now end n checked.records_read past held low) (λ g e event stopped.
         if_both start.trace start.certificate _ _ _ took checked.records_read (λ b t p q.
         walk_at start b t _ _ p.reading q.reading ∙ (ends b t p q g e event stopped).0))
@@ -327,8 +327,8 @@ module _ (start : Inputs) (h : Header) (given : Requests) (records : List Record
       stop_rule fault.NoMemory same_trace fewer first held fails = record { event = tt; near = tt }
 
       -- or passes
-      pub goes_further : (next : Summary) → end.reader ≡ reader → end.trace ≡ left → StandsForAll h (with_request given x (last_mark reader)) (records ++ r ∷ []) next → IsLater start end → HasChecked start h (with_request given x (last_mark reader)) (records ++ r ∷ []) end next
-      goes_further next same_reader same_left stands later = record {
+      pub goes_further : (next : Summary) → end.reader ≡ reader → end.trace ≡ left → StandsForAll h (with_request given x (last_mark reader)) (records ++ r ∷ []) next → IsCalm start end → HasChecked start h (with_request given x (last_mark reader)) (records ++ r ∷ []) end next
+      goes_further next same_reader same_left stands calm = record {
         stands = stands;
         marked = subst (λ f. AreMarked (is_marked f) (with_request given x (last_mark reader))) (sym same_form) are_next;
         same_format = same_form;
@@ -345,7 +345,7 @@ module _ (start : Inputs) (h : Header) (given : Requests) (records : List Record
               rest_is = p.rest_is ∙ ap (λ (s : requests.Reader). bytes_after start.reader s b) (sym same_reader);
             });
         records_read = records_on;
-        later = later;
+        calm = calm;
       }
         where
           same_form : end.reader.format ≡ start.reader.format

@@ -185,6 +185,11 @@ abbrev pub KeepsAnswer : {A : Type 0} → Option TraceFault → Option CertFault
 KeepsAnswer reader cert (Ok answer) = (reader ≡ None) × (cert ≡ None)
 KeepsAnswer reader cert (Err why) = IsKept reader cert why × IfSome reader (λ fault. of_trace fault ≡ why) × IfSome cert (λ fault. of_text fault ≡ why)
 
+-- no call of either source has failed
+pub record IsCalm (start now : Inputs) : Type 0 where
+  pub trace : now.trace_faults ≡ start.trace_faults
+  pub certificate : now.certificate_faults ≡ start.certificate_faults
+
 -- a yes: of some requests with their marks and some records, which are all that the two sources have, if their bytes are known
 pub record IsPassed (start end : Inputs) (verdict : Verdict) : Type 0 where
   pub requests : Requests
@@ -195,6 +200,7 @@ pub record IsPassed (start end : Inputs) (verdict : Verdict) : Type 0 where
   pub walked : IsWalked start None
   pub trace_end : IfSome start.trace (λ _. end.trace ≡ Some [])
   pub certificate_end : IfSome start.certificate (λ _. end.certificate ≡ Some [])
+  pub calm : IsCalm start end
 
 -- these are the first requests of the trace with their marks, and what is still to come follows them
 pub record HasRequests (given : Requests) (start now : Inputs) (bytes : List ℕ) : Type 0 where
@@ -229,11 +235,6 @@ pub record IsInStep (now : Inputs) (checker : Summary) : Type 0 where
 abbrev pub IsInSomeStep : (requests.Reader → Option (List ℕ) → ℕ → Inputs) → Summary → Type 0
 IsInSomeStep now checker = (reader : requests.Reader) × (trace : Option (List ℕ)) × (faults : ℕ) × IsInStep (now reader trace faults) checker
 
--- the counts of faults have not fallen
-pub record IsLater (start now : Inputs) : Type 0 where
-  pub trace : start.trace_faults ≤ now.trace_faults
-  pub certificate : start.certificate_faults ≤ now.certificate_faults
-
 -- these requests and records were read and passed
 pub record HasChecked (start : Inputs) (h : Header) (given : Requests) (records : List Record) (now : Inputs) (checker : Summary) : Type 0 where
   pub stands : StandsForAll h given records checker
@@ -241,7 +242,7 @@ pub record HasChecked (start : Inputs) (h : Header) (given : Requests) (records 
   pub same_format : now.reader.format ≡ start.reader.format
   pub trace_read : IfSome start.trace (HasRequests given start now)
   pub records_read : IfSome start.certificate (HasRecords h records now)
-  pub later : IsLater start now
+  pub calm : IsCalm start now
 
 -- the trace has no more requests
 pub record HasCheckedAll (start : Inputs) (h : Header) (given : Requests) (records : List Record) (now : Inputs) (checker : Summary) : Type 0 where
@@ -249,7 +250,7 @@ pub record HasCheckedAll (start : Inputs) (h : Header) (given : Requests) (recor
   pub trace_read : IfSome start.trace (λ bytes. IsWhole (traces.reading start.reader.format start.reader.limits bytes) given now.reader.dropped)
   pub trace_end : IfSome start.trace (λ _. now.trace ≡ Some [])
   pub records_read : IfSome start.certificate (HasRecords h records now)
-  pub later : IsLater start now
+  pub calm : IsCalm start now
 
 -- how many bytes a reader of a certificate has taken from the source
 abbrev pub taken : lines.Reader → ℕ

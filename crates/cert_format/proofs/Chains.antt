@@ -59,7 +59,7 @@ pub record HasRead (count : ℕ) (P : List ℕ → Type 0) (old now : Position) 
   pub past : IfSome (known old source.before) (IsPast old now)
   pub taken : IsTaken old now source.before source.after
   pub loses : LosesPrefix source.before source.after
-  pub later : source.faults_before ≤ source.faults_after
+  pub none_failed : source.faults_after ≡ source.faults_before
 
 abbrev pub Nothing : List ℕ → Type 0
 Nothing bytes = Unit {0}
@@ -73,7 +73,7 @@ start at left faults none = record {
   past = if_known (known at left) _ (λ bytes e. record { further = omega arith; consumed = omega (arith, ap (λ n. length (after_lines n bytes)) (sub_same at.line), ap length (after_lines-zero bytes)) });
   taken = same_taken at left;
   loses = keeps_prefix left;
-  later = omega arith;
+  none_failed = refl;
 }
   where
     sub_same : (n : ℕ) → n - n ≡ 0
@@ -116,7 +116,7 @@ module _ {A : Type 0} (count : ℕ) (P : List ℕ → Type 0) (fault_of : ℕ �
             past_both old now new bytes count done.given (at_some (known old a) bytes _ e done.past) (at_some (known now b) (after_lines count bytes) _ so_far.1 reads.past));
         taken = taken_both old now new a b d done.loses done.taken reads.taken;
         loses = loses_both a b d done.loses reads.loses;
-        later = omega (arith, done.later, reads.later);
+        none_failed = at_ok (λ _. z ≡ y) reads.none_failed ∙ done.none_failed;
       }
     where
       at_ok : (Q : A → Type 0) → IfOk r Q → Q v
@@ -139,7 +139,8 @@ module _ {A : Type 0} (count : ℕ) (P : List ℕ → Type 0) (fault_of : ℕ �
         past_both old now new bytes count done.given (at_some (known old a) bytes _ e done.past) (at_some (known now b) (after_lines count bytes) _ so_far.1 reads.past));
     taken = taken_both old now new a b d done.loses done.taken reads.taken;
     loses = loses_both a b d done.loses reads.loses;
-    later = omega (arith, done.later, reads.later);
+    later = omega (arith, done.none_failed, reads.later);
+    none_failed = tt;
   }
     where
       has : (g : CertFault) → IfSome (known now b) (λ bytes. fault_of (now.line + 1) bytes ≡ Some g) → IfSome (known old a) (λ bytes. whole bytes ≡ Some g)
@@ -149,7 +150,7 @@ module _ {A : Type 0} (count : ℕ) (P : List ℕ → Type 0) (fault_of : ℕ �
           first bytes so_far.0 g (ap (λ n. fault_of n (after_lines count bytes)) (sym same) ∙ at_some (known now b) (after_lines count bytes) _ so_far.1 h))
 
       stopped : (f : CertFault) → IsStopped (fault_of (now.line + 1)) (known now b) (device b d y z) f → IsStopped whole (known old a) (device a d x z) f
-      stopped ReadFault why = new_fault_later x y z done.later why
+      stopped ReadFault why = new_fault_later x y z (omega (arith, done.none_failed)) why
       stopped (BadText n kind) why = has (BadText n kind) why
       stopped (Truncated n) why = has (Truncated n) why
       stopped (Trailing n) why = has (Trailing n) why
@@ -168,7 +169,8 @@ all_done count P old now a b x y whole value_of v done held none is = record {
   past = done.past;
   taken = done.taken;
   loses = done.loses;
-  later = done.later;
+  later = omega (arith, done.none_failed);
+  none_failed = done.none_failed;
 }
 
 -- the last of several readings

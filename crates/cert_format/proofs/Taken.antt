@@ -1,5 +1,5 @@
 -- One line more is read.
-use Rattle.std.proofs.Common.{◌≡◌, ℕ, ◌+◌, ◌-◌, ◌*◌, ◌^◌, ◌≤◌, ◌<◌, ◌∙◌, sym, refl, ap, subst, true, false, not, cond, List, [], ◌++◌, length, length-append, arith, Some, None, Option, Ok, Err, Result, IfSome, IfOk, IfErr, inl, inr, ◌⊎◌, length-take, length-drop}
+use Rattle.std.proofs.Common.{OnOk, ◌≡◌, ℕ, ◌+◌, ◌-◌, ◌*◌, ◌^◌, ◌≤◌, ◌<◌, ◌∙◌, sym, refl, ap, subst, true, false, not, cond, List, [], ◌++◌, length, length-append, arith, Some, None, Option, Ok, Err, Result, IfSome, IfOk, IfErr, inl, inr, ◌⊎◌, length-take, length-drop}
 use Rattle.std.specs.Prelude.{nat_le}
 use Rattle.std.specs.Option.{option_map}
 use Rattle.std.specs.Result.{is_ok}
@@ -34,6 +34,7 @@ pub record Gave (old new : Position) (source : Device) (r : Result WholeLine Lin
   pub held : length new.held ≤ 65536
   pub loses : LosesPrefix source.before source.after
   pub later : source.faults_before ≤ source.faults_after
+  pub none_failed : OnOk r (source.faults_after ≡ source.faults_before)
 
 -- the bytes of no line, and of one
 bytes_through-zero : (bytes : List ℕ) → bytes_through 0 bytes ≡ 0
@@ -115,7 +116,7 @@ module _ {A : Type 0} (slots_of : List ℕ → List Slot) (value : List ℕ → 
 
   -- from its parts
   stops : (fault : CertFault) → (new.limit ≡ old.limit) → (length new.held ≤ 65536) → IsStopped (line_fault_of (old.line + 1) slots_of) (known old source.before) source fault → IsWithin new.line fault → IfSome (known old source.before) (IsPast old new) → IsTaken old new source.before source.after → Stopped fault
-  stops fault same held stopped within past taken = record { limit = same; held = held; given = tt; passes = tt; value_is = tt; stopped = stopped; within = within; past = past; taken = taken; loses = loses; later = later }
+  stops fault same held stopped within past taken = record { limit = same; held = held; given = tt; passes = tt; value_is = tt; stopped = stopped; within = within; past = past; taken = taken; loses = loses; later = later; none_failed = tt }
 
   -- the bytes that the reader of lines stands in are known too
   in_known : (P : List ℕ → Type 0) → IfSome (stands_in old.held source.before) P → (bytes : List ℕ) → known old source.before ≡ Some bytes → P bytes
@@ -173,9 +174,9 @@ module _ {A : Type 0} (slots_of : List ℕ → List Slot) (value : List ℕ → 
   abbrev IsFirst : List ℕ → Type 0
   IsFirst bytes = (text ≡ first_text bytes) × (text_len bytes < length bytes)
 
-  read_whole : (o : Option TextKind) → line_fault (slots_of text) text ≡ o → GivesLine old new (stands_in old.held source.before) (stands_in new.held source.after) → length new.held ≤ 65536 → length text ≤ 65535 → IfSome (stands_in old.held source.before) IsFirst
+  read_whole : (o : Option TextKind) → line_fault (slots_of text) text ≡ o → GivesLine old new (stands_in old.held source.before) (stands_in new.held source.after) → length new.held ≤ 65536 → length text ≤ 65535 → IfSome (stands_in old.held source.before) IsFirst → source.faults_after ≡ source.faults_before
       → Read (of_line (old.line + 1) (value_unless o (value text)))
-  read_whole None fits gives held long is = record {
+  read_whole None fits gives held long is calm = record {
     limit = gives.limit;
     held = held;
     given = (gives.line, gives.fault);
@@ -197,8 +198,9 @@ module _ {A : Type 0} (slots_of : List ℕ → List Slot) (value : List ℕ → 
     taken = line_taken old new source.before source.after gives;
     loses = loses;
     later = later;
+    none_failed = calm;
   }
-  read_whole (Some kind) fault gives held long is = record {
+  read_whole (Some kind) fault gives held long is calm = record {
     limit = gives.limit;
     held = held;
     given = tt;
@@ -213,12 +215,13 @@ module _ {A : Type 0} (slots_of : List ℕ → List Slot) (value : List ℕ → 
     taken = line_taken old new source.before source.after gives;
     loses = loses;
     later = later;
+    none_failed = tt;
   }
 
   pub read_line : (r : Result WholeLine LineFault) → Gave old new source r → text_given (old.line + 1) r ≡ Ok text → Read (of_line (old.line + 1) (value_unless (line_fault (slots_of text) text) (value text)))
   read_line (Ok (Whole whole)) gave is =
       let same : whole.now ≡ text = cc in
-      read_whole (line_fault (slots_of text) text) refl gave.next gave.held (omega (arith, gave.short, ap length same)) (subst (λ t. IfSome (stands_in old.held source.before) (λ bytes. (t ≡ first_text bytes) × (text_len bytes < length bytes))) same gave.line)
+      read_whole (line_fault (slots_of text) text) refl gave.next gave.held (omega (arith, gave.short, ap length same)) (subst (λ t. IfSome (stands_in old.held source.before) (λ bytes. (t ≡ first_text bytes) × (text_len bytes < length bytes))) same gave.line) gave.none_failed
   read_line (Ok (Unended cut)) gave is = absurd (no_fault text (Truncated (old.line + 1)) is)
   read_line (Ok AtEnd) gave is = absurd (no_fault text (Truncated (old.line + 1)) is)
   read_line (Err line.ReadFault) gave is = absurd (no_fault text ReadFault is)
@@ -247,7 +250,7 @@ module _ (old new : Position) (source : Device) (limit : old.limit ≡ 2 ^ 36) (
   Looked result = Reads (trailing (old.line + 1)) 0 (λ bytes. tt) old new source result
 
   refuses : (fault : CertFault) → (new.limit ≡ old.limit) → (length new.held ≤ 65536) → IsStopped (trailing (old.line + 1)) (known old source.before) source fault → IsWithin new.line fault → IfSome (known old source.before) (IsPast old new) → IsTaken old new source.before source.after → Looked (Err fault)
-  refuses fault same held stopped within past taken = record { limit = same; held = held; given = tt; passes = tt; value_is = tt; stopped = stopped; within = within; past = past; taken = taken; loses = loses; later = later }
+  refuses fault same held stopped within past taken = record { limit = same; held = held; given = tt; passes = tt; value_is = tt; stopped = stopped; within = within; past = past; taken = taken; loses = loses; later = later; none_failed = tt }
 
   known_in : (P : List ℕ → Type 0) → IfSome (stands_in old.held source.before) P → (bytes : List ℕ) → known old source.before ≡ Some bytes → P bytes
   known_in P all bytes is = at_some (stands_in old.held source.before) bytes P (known_some old source.before bytes is).1 all
@@ -273,8 +276,8 @@ module _ (old new : Position) (source : Device) (limit : old.limit ≡ 2 ^ 36) (
       by None kept = absurd kept
       by (Some ys) kept = ap (λ b. Some b) kept
 
-  no_line : GivesNone old new (stands_in old.held source.before) (stands_in new.held source.after) → length new.held ≤ 65536 → Looked (Ok tt)
-  no_line gives held = record {
+  no_line : GivesNone old new (stands_in old.held source.before) (stands_in new.held source.after) → length new.held ≤ 65536 → source.faults_after ≡ source.faults_before → Looked (Ok tt)
+  no_line gives held calm = record {
     limit = ap (λ p. p.limit) gives.still;
     held = held;
     given = (omega (arith, ap (λ p. p.line) gives.still), ap (λ p. p.fault) gives.still ∙ gives.fault);
@@ -288,12 +291,13 @@ module _ (old new : Position) (source : Device) (limit : old.limit ≡ 2 ^ 36) (
     taken = held_taken old new source.before source.after (ap (λ p. p.consumed) gives.still) gives.rest;
     loses = loses;
     later = later;
+    none_failed = calm;
   }
 
   pub look_on : (r : Result WholeLine LineFault) → Gave old new source r → Looked (nothing_given (old.line + 1) r)
   look_on (Ok (Whole text)) gave = refuse_line gave.next gave.held (longer (stands_in old.held source.before) _ gave.line (λ bytes is. omega (arith, is.1)))
   look_on (Ok (Unended text)) gave = refuse_line gave.next gave.held (longer (stands_in old.held source.before) _ gave.line (λ bytes is. is.2))
-  look_on (Ok AtEnd) gave = no_line gave.next gave.held
+  look_on (Ok AtEnd) gave = no_line gave.next gave.held gave.none_failed
   look_on (Err line.ReadFault) gave = refuse_fault line.ReadFault ReadFault gave.next gave.held gave.refused tt
   look_on (Err (line.LineTooLong m)) gave = refuse_fault (line.LineTooLong m) (Trailing (old.line + 1)) gave.next gave.held
       (if_known (known old source.before) _ (λ bytes e. some_trailing (old.line + 1) bytes (omega (arith, known_in _ gave.refused.1 bytes e, prefix_len-le-length (λ b. not (is_lf b)) bytes)))) (omega arith)

@@ -84,6 +84,7 @@ pub record Reads {A : Type 0} (fault_of : List ℕ → Option CertFault) (count 
   pub taken : IsTaken old new source.before source.after
   pub loses : LosesPrefix source.before source.after
   pub later : source.faults_before ≤ source.faults_after
+  pub none_failed : OnOk result (source.faults_after ≡ source.faults_before)
 
 -- lines are read from the next one on, and their fault is told by its number
 abbrev pub ReadsNext : {A : Type 0} → (ℕ → List ℕ → Option CertFault) → ℕ → (List ℕ → A) → Position → Position → Device → Result A CertFault → Type 0

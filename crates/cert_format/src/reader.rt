@@ -131,6 +131,7 @@ impl CertReader {
         ensures ahead { length self.new.lines.held ≤ 65536 }
         ensures source { LosesPrefix (Q.left source.old) (Q.left source.new) }
         ensures later { Q.faults source.old ≤ Q.faults source.new }
+        ensures none_failed { OnOk result (Q.faults source.new ≡ Q.faults source.old) }
     {
         if let Some(fault) = self.fault {
             return Err(fault);
@@ -162,6 +163,7 @@ impl CertReader {
         ensures ahead { length self.new.lines.held ≤ 65536 }
         ensures source { LosesPrefix (Q.left source.old) (Q.left source.new) }
         ensures later { Q.faults source.old ≤ Q.faults source.new }
+        ensures none_failed { OnOk result (Q.faults source.new ≡ Q.faults source.old) }
     {
         if let Some(fault) = self.fault {
             return Err(fault);
@@ -191,6 +193,7 @@ impl CertReader {
         ensures ahead { length self.new.lines.held ≤ 65536 }
         ensures source { LosesPrefix (Q.left source.old) (Q.left source.new) }
         ensures later { Q.faults source.old ≤ Q.faults source.new }
+        ensures none_failed { OnOk result (Q.faults source.new ≡ Q.faults source.old) }
     {
         if let Some(fault) = self.fault {
             return Err(fault);

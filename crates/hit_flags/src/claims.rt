@@ -1,5 +1,5 @@
 //! The claims of a simulator, read whole.
-ghost use Rattle.std.specs.Prelude.{◌≡◌, IfOk, IfErr};
+ghost use Rattle.std.specs.Prelude.{◌≡◌, IfOk, IfErr, OnOk};
 ghost use Rattle.bound_io.specs.Devices.{seen};
 ghost use Rattle.bound_io.specs.Reading.{LosesPrefix};
 ghost use Rattle.trace_any.specs.Readers.{fresh};
@@ -40,6 +40,7 @@ fn read_turns<T: Source, H: Source>(
     ensures unread { IfErr result (AreUnread reader.old.format (seen T.left T.faults trace.old trace.new) (seen H.left H.faults hits.old hits.new)) }
     ensures trace_source { LosesPrefix (T.left trace.old) (T.left trace.new) }
     ensures hits_source { LosesPrefix (H.left hits.old) (H.left hits.new) }
+    ensures none_failed { OnOk result ((T.faults trace.new ≡ T.faults trace.old) × (H.faults hits.new ≡ H.faults hits.old)) }
 {
     let mut requests = builder_for(alloc, reader)?;
     let mut flags = BitList::new(alloc);
@@ -72,6 +73,7 @@ pub fn read_claims<T: Source, H: Source>(
     ensures unread { IfErr result (AreUnread format (seen T.left T.faults trace.old trace.new) (seen H.left H.faults hits.old hits.new)) }
     ensures trace_source { LosesPrefix (T.left trace.old) (T.left trace.new) }
     ensures hits_source { LosesPrefix (H.left hits.old) (H.left hits.new) }
+    ensures none_failed { OnOk result ((T.faults trace.new ≡ T.faults trace.old) × (H.faults hits.new ≡ H.faults hits.old)) }
 {
     let mut lines = LineReader::new(alloc, MOST_BYTES)?;
     let mut reader = RequestReader::new(alloc, format, Limits::full())?;

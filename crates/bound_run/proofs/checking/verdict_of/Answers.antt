@@ -19,3 +19,8 @@ returns-in-Err-clause-refused g c =
     let cert : Device = seen g.Q.Source.left g.Q.Source.faults c.args.cert.now c.check_counted.new.certificate in
     let no = c.in-Err.ensures.no in
     rw c.refusal_of_check.ensures (refused c.args.format (first_inputs c.args.format trace cert) (last_inputs no.reader no.records trace cert) refl c.in-Err.fault no.event no.near)
+
+pub returns-in_ok-verdict_report-in-Ok-clause-none_failed : goal.returns-in_ok-verdict_report-in-Ok-clause-none_failed
+returns-in_ok-verdict_report-in-Ok-clause-none_failed g c =
+    let calm = c.in-Ok.ensures.yes.passes.passed.calm in
+    (calm.trace, calm.certificate)

@@ -43,3 +43,6 @@ pub returns-in_err-reader-clause-refused : goal.returns-in_err-reader-clause-ref
 returns-in_err-reader-clause-refused g c =
     let p = err_from_is_err_and c.from_residual.result c.from_residual.ensures.1 in
     rw (p.1, p.2) tt
+
+pub returns-in-Ok-clause-none_failed : goal.returns-in-Ok-clause-none_failed
+returns-in-Ok-clause-none_failed g c = rw c.in-Ok.is at c.load-read.ensures.none_failed

@@ -9,7 +9,7 @@ use Rattle.bound_run.proofs.top.run_bounds.Goals as goal
 pub returns-in-Ok-clause-ends : goal.returns-in-Ok-clause-ends
 returns-in-Ok-clause-ends g c =
     let source = device (g.T.Source.left c.args.trace.now) (g.T.Source.left c.prepare.new.trace) (g.T.Source.faults c.args.trace.now) (g.T.Source.faults c.prepare.new.trace) in
-    makes_written (IsReady c.args.format c.args.asked.now source) (RefusesBounds c.args.format c.args.asked.now source) _ _ c.in-Ok.texts.cert.items c.in-Ok.texts.report.items (ending_of c.write_out.result) c.in-Ok.ensures.ready c.write_out.ensures
+    makes_written (IsReady c.args.format c.args.asked.now source) (RefusesBounds c.args.format c.args.asked.now source) _ _ c.in-Ok.texts.cert.items c.in-Ok.texts.report.items (ending_of c.write_out.result) c.in-Ok.ensures.ready c.write_out.ensures.written
 
 pub returns-in-Err-clause-ends : goal.returns-in-Err-clause-ends
 returns-in-Err-clause-ends g c =

@@ -2,9 +2,9 @@ use Rattle.bound_run.specs.Statuses.{ending_of}
 use Rattle.bound_run.proofs.Outcomes.{ending_of-status_of, reports_written}
 use Rattle.bound_run.proofs.top.run_demo.Goals as goal
 
-pub returns-in-Ok : goal.returns-in-Ok
-returns-in-Ok g c =
-    reports_written _ _ _ c.in-Ok.shown.items (ending_of c.write_report.result) c.in-Ok.ensures.shown (rw c.deref.ensures.value at c.write_report.ensures)
+pub returns-in-Ok-clause-ends : goal.returns-in-Ok-clause-ends
+returns-in-Ok-clause-ends g c =
+    reports_written _ _ _ c.in-Ok.shown.items (ending_of c.write_report.result) c.in-Ok.ensures.shown (rw c.deref.ensures.value at c.write_report.ensures.written)
 
-pub returns-in-Err : goal.returns-in-Err
-returns-in-Err g c = rw (c.refuse.ensures.status, ending_of-status_of c.in-Err.refusal) (c.in-Err.ensures.refused, c.refuse.ensures.reported)
+pub returns-in-Err-clause-ends : goal.returns-in-Err-clause-ends
+returns-in-Err-clause-ends g c = rw (c.refuse.ensures.status, ending_of-status_of c.in-Err.refusal) (c.in-Err.ensures.refused, c.refuse.ensures.reported)

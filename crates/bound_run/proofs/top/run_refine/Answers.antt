@@ -10,7 +10,7 @@ pub returns-in-Ok-clause-ends : goal.returns-in-Ok-clause-ends
 returns-in-Ok-clause-ends g c =
     let source = device (g.T.Source.left c.args.trace.now) (g.T.Source.left c.refine_all.new.trace) (g.T.Source.faults c.args.trace.now) (g.T.Source.faults c.refine_all.new.trace) in
     let cert = device (g.Q.Source.left c.args.cert.now) (g.Q.Source.left c.refine_all.new.cert) (g.Q.Source.faults c.args.cert.now) (g.Q.Source.faults c.refine_all.new.cert) in
-    makes_written (IsRefined c.args.format c.args.width source cert) (RefusesCheck c.args.format source cert) _ _ c.in-Ok.refined.cert.items c.in-Ok.refined.report.items (ending_of c.write_out.result) c.in-Ok.ensures.refined c.write_out.ensures
+    makes_written (IsRefined c.args.format c.args.width source cert) (RefusesCheck c.args.format source cert) _ _ c.in-Ok.refined.cert.items c.in-Ok.refined.report.items (ending_of c.write_out.result) c.in-Ok.ensures.refined c.write_out.ensures.written
 
 pub returns-in-Err-clause-ends : goal.returns-in-Err-clause-ends
 returns-in-Err-clause-ends g c =

@@ -54,6 +54,7 @@ loop-init g c =
       ap (λ (w : Writer). w.version) first ∙ ap (λ (k : Header). k.version) c.upgraded.ensures,
       ap (λ (w : Writer). w.price) first ∙ sym read.3,
       refl,
+      c.in_ok-header.ensures.none_failed,
     )
 
 pub next_record-requires : goal.next_record-requires
@@ -93,6 +94,7 @@ loop-preserved g c =
       ap (λ (w : Writer). w.version) after ∙ c.loop.invariant.2,
       ap (λ (w : Writer). w.price) after ∙ sym read.3,
       omega (arith, length-append c.loop.invariant.0 (r ∷ []), c.loop.invariant.4),
+      c.in_ok-entry.ensures.none_failed ∙ c.loop.invariant.5,
     )
 
 pub finish_text-requires : goal.finish_text-requires
@@ -131,3 +133,6 @@ returns-clause-rewritten g c =
 
 pub returns-clause-source : goal.returns-clause-source
 returns-clause-source g c = loses_both (g.Q.Source.left c.args.source.now) (g.Q.Source.left c.loop.source) (g.Q.Source.left c.finish_text.new.source) c.loop.invariant.1.loses c.in_ok-finish_text.ensures.source
+
+pub returns-clause-none_failed : goal.returns-clause-none_failed
+returns-clause-none_failed g c = c.in_ok-finish_text.ensures.none_failed ∙ c.loop.invariant.5

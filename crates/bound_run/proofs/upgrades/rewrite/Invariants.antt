@@ -12,3 +12,4 @@ invariant-loop g l =
     × (l.writer.version ≡ SHORT_VERSION)
     × (l.writer.price ≡ l.reader.price)
     × (length records ≡ l.counter)
+    × (g.Q.Source.faults l.source ≡ g.Q.Source.faults l.fn.source)

@@ -47,7 +47,7 @@ returns-in-Ok-clause-checked g c = λ start reader left faults h given records c
     let e = c.in_ok-finish_text.ensures in
     let now : Inputs = inputs reader left faults c.args.cert.now (g.Q.Source.left c.args.certificate.now) (g.Q.Source.faults c.args.certificate.now) in
     let end : Inputs = inputs reader left faults c.finish_text.new.self (g.Q.Source.left c.finish_text.new.source) (g.Q.Source.faults c.finish_text.new.source) in
-    passes start h given records now c.args.checker.now checked_all full end refl e.ahead e.past (e.read s.cert_fault).2 refl refl c.in-Ok.verdict (c.in-Ok.ensures h given.fills given.objects records checked_all.stands)
+    passes start h given records now c.args.checker.now checked_all full end refl e.ahead e.past (e.read s.cert_fault).2 refl refl (record { trace = refl; certificate = e.none_failed }) c.in-Ok.verdict (c.in-Ok.ensures h given.fills given.objects records checked_all.stands)
 
 pub returns-in-Err-clause-checked : goal.returns-in-Err-clause-checked
 returns-in-Err-clause-checked g c = λ start reader left faults h given records checked_all.

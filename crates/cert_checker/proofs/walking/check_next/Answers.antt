@@ -28,7 +28,7 @@ returns-in_default-clause-checked g c = λ start h given records checked.
     let now : Inputs = seen_inputs g.T.Source.left g.T.Source.faults g.Q.Source.left g.Q.Source.faults c.args.reader.now c.args.trace.now c.args.cert.now c.args.certificate.now in
     let end : Inputs = seen_inputs g.T.Source.left g.T.Source.faults g.Q.Source.left g.Q.Source.faults c.next.new.self c.next.new.source c.args.cert.now c.args.certificate.now in
     end_trace start h given records now c.args.checker.now checked end (rw c.in_default.is at c.in_ok-object.ensures.next c.requires.in_step.trace_fault) refl refl
-    (record { trace = omega (arith, checked.later.trace, c.in_ok-object.ensures.later); certificate = checked.later.certificate })
+    (record { trace = c.in_ok-object.ensures.none_failed ∙ checked.calm.trace; certificate = checked.calm.certificate })
 
 pub returns-then-read-header-clause-checked : goal.returns-then-read-header-clause-checked
 returns-then-read-header-clause-checked g c = λ start h given records checked.
@@ -86,7 +86,7 @@ returns-clause-checked g c = λ start h given records checked.
     let read = e.read c.requires.in_step.cert_fault in
     goes_further start h given records now c.args.checker.now checked c.in-Some.object c.next.new.self (g.T.Source.left c.next.new.source) c.in_ok-object.ensures.format next.1 near c.in_ok-object.ensures.ahead c.in_ok-entry.entry (line (record_line c.args.cert.now.version c.args.cert.now.price c.in_ok-entry.entry)) end read.4 read.5 e.past c.step.new.checker refl refl
     (c.in_ok-step.ensures.stepped c.next.new.self h given records c.last_fills-only.ensures (marked_now given checked.marked c.in_ok-object.ensures.format) checked.stands)
-    (record { trace = omega (arith, checked.later.trace, c.in_ok-object.ensures.later); certificate = omega (arith, checked.later.certificate, e.later) })
+    (record { trace = c.in_ok-object.ensures.none_failed ∙ checked.calm.trace; certificate = e.none_failed ∙ checked.calm.certificate })
 
 pub returns-clause-in_step : goal.returns-clause-in_step
 returns-clause-in_step g c =

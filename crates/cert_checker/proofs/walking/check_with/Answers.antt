@@ -63,7 +63,7 @@ loop-checker-init g c =
         some = (record { objects = []; fills = [] }, [], none_marked (is_marked c.args.reader.now.format), subst (λ k. StandsFor k [] [] [] c.in_ok-checker.checker) (sym st.header) st);
       };
       header = sym st.header;
-      kept = (record { objects = []; fills = [] }, [], c.requires.nothing, opens start c.requires.fresh_reader c.requires.fresh_cert middle e.past c.in_ok-header.header c.in_ok-checker.checker read refl refl st (record { trace = omega arith; certificate = e.later }));
+      kept = (record { objects = []; fills = [] }, [], c.requires.nothing, opens start c.requires.fresh_reader c.requires.fresh_cert middle e.past c.in_ok-header.header c.in_ok-checker.checker read refl refl st (record { trace = refl; certificate = e.none_failed }));
       trace_source = keeps (g.T.Source.left c.args.trace.now);
       trace_later = omega arith;
       taken = e.taken;

@@ -124,3 +124,8 @@ returns-clause-trace_source g c = loses_then _ _ _ (c.next.ensures.source.0) (c.
 
 pub returns-clause-hits_source : goal.returns-clause-hits_source
 returns-clause-hits_source g c = loses_then _ _ _ (c.no_more.ensures.source.0) (c.loop-flags.invariant.hits_source) (c.no_more.ensures.source.1)
+
+pub returns-clause-none_failed : goal.returns-clause-none_failed
+returns-clause-none_failed g c =
+    let i = c.loop-flags.invariant in
+    (c.in_ok-object.ensures.none_failed ∙ i.trace_faults, c.in_ok-no_more.ensures.none_failed ∙ i.hits_faults)
