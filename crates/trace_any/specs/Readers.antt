@@ -4,7 +4,7 @@ use Rattle.trace_lines.specs.declared.line.Span.{Span}
 use Rattle.trace_lines.specs.declared.line.Span.TheVariants.{Nothing, One, Blocks}
 use Rattle.std.specs.declared.option.Option.{Option}
 use Rattle.bound_io.specs.Causes.{HasNewFault}
-use Rattle.bound_io.specs.Devices.{Device}
+use Rattle.bound_io.specs.Devices.{Device, IsUntouched}
 use Rattle.bound_io.specs.Positions.{Position}
 use Rattle.bound_io.specs.Lines.{stands_in}
 use Rattle.cache_model.specs.declared.objects.Object.{Object}
@@ -202,9 +202,9 @@ LoadsAll reader left trace dropped = IfSome (known reader left) (λ bytes. IsWho
 abbrev pub LeavesNone : Reader → Reader → Device → Type 0
 LeavesNone old new source = IfSome (known old source.before) (λ _. known new source.after ≡ Some [])
 
--- the reader keeps this fault, unless there was no memory to begin with
-abbrev pub KeepsFault : Reader → TraceFault → Type 0
-KeepsFault new fault = (new.fault ≡ Some fault) ⊎ ((fault ≡ NoMemory) × (new.fault ≡ None))
+-- the reader keeps this fault; or there was no memory to begin with, the reader is as before, and nothing was asked of the source
+abbrev pub KeepsFault : Reader → Reader → Device → TraceFault → Type 0
+KeepsFault old new source fault = (new.fault ≡ Some fault) ⊎ ((fault ≡ NoMemory) × (new ≡ old) × IsUntouched source)
 
 -- the fault that was answered before is answered again, unless there is no memory to begin with, and nothing is asked of the source
 abbrev pub LoadsNoMore : {A : Type 0} → Reader → Reader → Result A TraceFault → Device → Type 0

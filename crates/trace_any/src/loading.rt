@@ -57,7 +57,10 @@ pub fn load<S: Source>(
     ensures end { reader.old.fault ≡ None → IfOk result (λ _. LeavesNone reader.old reader.new (seen S.left S.faults source.old source.new)) }
     ensures refused { reader.old.fault ≡ None → IfErr result (RefusesTrace reader.old (seen S.left S.faults source.old source.new)) }
     ensures none_kept { OnOk result (reader.new.fault ≡ None) }
-    ensures kept { reader.old.fault ≡ None → IfErr result (KeepsFault reader.new) }
+    ensures kept { reader.old.fault ≡ None → IfErr result (KeepsFault reader.old reader.new (seen S.left S.faults source.old source.new)) }
+    ensures dropped { IfOk result (λ loaded. loaded.1 ≡ reader.new.dropped) }
+    ensures format { reader.new.format ≡ reader.old.format }
+    ensures limits { reader.new.limits ≡ reader.old.limits }
     ensures again { LoadsNoMore reader.old reader.new result (seen S.left S.faults source.old source.new) }
     ensures source { LosesPrefix (S.left source.old) (S.left source.new) }
     ensures later { S.faults source.old ≤ S.faults source.new }
@@ -66,9 +69,11 @@ pub fn load<S: Source>(
     let mut requests = builder_for(alloc, reader)?;
     while let Some(object) = reader.next(alloc, source)? {
         if reader.passes_limit() {
-            return Err(reader.refuse_rest());
+            return Err(reader.refuse_rest(TraceFault::TooManyRequests));
         }
-        push_given(&mut requests, reader, object)?;
+        if let Err(NoMemory) = push_given(&mut requests, reader, object) {
+            return Err(reader.refuse_rest(TraceFault::NoMemory));
+        }
     }
     Ok((requests.finish(), reader.dropped()))
 }

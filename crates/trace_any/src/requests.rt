@@ -113,12 +113,12 @@ impl RequestReader {
         self.progress.passes_limit()
     }
 
-    // Refuses what is left of the last line.
-    pub(crate) fn refuse_rest(&mut self) -> TraceFault
-        ensures fault { result ≡ TraceFault.TooManyRequests }
-        ensures kept { self.new ≡ with_fault self.old (Some TraceFault.TooManyRequests) }
+    // Refuses all that is left, for this reason.
+    pub(crate) fn refuse_rest(&mut self, fault: TraceFault) -> TraceFault
+        ensures fault { result ≡ fault }
+        ensures kept { self.new ≡ with_fault self.old (Some fault) }
     {
-        self.fault = Some(TraceFault::TooManyRequests);
-        TraceFault::TooManyRequests
+        self.fault = Some(fault);
+        fault
     }
 }

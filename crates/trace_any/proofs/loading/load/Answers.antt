@@ -30,7 +30,7 @@ loop-requests-preserved g c =
     let given = c.loop-requests.requests.requests in
     let none : c.loop-requests.reader.fault ≡ None = no_fault c.loop-requests.reader.fault _ (c.in_ok-object.ensures.again) (λ f again. no_error c.in_ok-object.field-0 f again.0) in
     let next = rw (c.in-Some.is) at (c.in_ok-object.ensures.next none) in
-    let pushed = c.in_ok-push_given.ensures.ok in
+    let pushed = c.in_default-push_given.ensures.ok in
     record {
       format = n.format ∙ i.format;
       kept = ap (λ b. b.marks) pushed ∙ i.kept;
@@ -43,8 +43,8 @@ loop-requests-preserved g c =
       none_failed = c.in_ok-object.ensures.none_failed ∙ i.none_failed;
     }
 
-pub returns-in_err-push_given-clause-source : goal.returns-in_err-push_given-clause-source
-returns-in_err-push_given-clause-source g c = loses_then _ _ _ (c.next.ensures.source.0) (c.loop-requests.invariant.source) (c.next.ensures.source.1)
+pub returns-in-Err-clause-source : goal.returns-in-Err-clause-source
+returns-in-Err-clause-source g c = loses_then _ _ _ (c.next.ensures.source.0) (c.loop-requests.invariant.source) (c.next.ensures.source.1)
 
 pub returns-clause-source : goal.returns-clause-source
 returns-clause-source g c = loses_then _ _ _ (c.next.ensures.source.0) (c.loop-requests.invariant.source) (c.next.ensures.source.1)
