@@ -1,5 +1,5 @@
 -- How a run ends, from how its parts end.
-use Rattle.std.proofs.Common.{◌≡◌, ◌≢◌, ◌∙◌, ap, sym, ℕ, refl, List, Some, None, IfSome}
+use Rattle.std.proofs.Common.{◌≡◌, ℕ, refl, List, Some, None, IfSome}
 use Rattle.std.specs.declared.option.Option.{Option}
 use Rattle.bound_io.specs.Devices.{device, Device, Gets, IsUntouched}
 use Rattle.cache_rules.specs.Stored.{Requests as Trail}
@@ -78,10 +78,6 @@ ending_of-status_of refusal.TraceFault = refl
 ending_of-status_of refusal.CertFault = refl
 ending_of-status_of refusal.MadeFault = refl
 ending_of-status_of refusal.NoMemory = refl
-
--- no refusal is the status of a run that ended well
-pub never_done : (why : Refusal) → status_of why ≢ Done
-never_done why is = let wrong : refused why ≡ done = sym (ending_of-status_of why) ∙ ap ending_of is in cc
 
 module _ (AreReady : List ℕ → List ℕ → Type 0) (Refuses : Refusal → Type 0) (report made : Device) where
   -- a run that wrote its certificate and its report, or failed to
