@@ -2,6 +2,7 @@
 ghost use Rattle.std.specs.Prelude.{◌≡◌, ◌-◌, ◌≤◌, ◌<◌, ◌⊎◌, List, ℕ, [], length, take, drop, IfOk, OnOk, OnErr, vec_len};
 ghost use Rattle.std.specs.Io.KnownBytes.{IsAtEnd, Keeps};
 ghost use Rattle.bound_io.specs.Causes.{HasCause};
+ghost use Rattle.bound_io.specs.Devices.{IsUntouched, seen};
 ghost use Rattle.bound_io.specs.Lines.{stands_in, text_len};
 ghost use Rattle.bound_io.specs.Reading.{LosesPrefix, ReadsOn};
 
@@ -116,6 +117,7 @@ impl Buffer {
         ensures source { LosesPrefix (S.left source.old) (S.left source.new) }
         ensures cause { HasCause (S.faults source.old) (S.faults source.new) result }
         ensures none_failed { OnOk result (S.faults source.new ≡ S.faults source.old) }
+        ensures untouched { text_len self.old < length self.old → IsUntouched (seen S.left S.faults source.old source.new) }
     {
         let mut seen = 0;
         loop {
@@ -138,6 +140,7 @@ impl Buffer {
         ensures source { LosesPrefix (S.left source.old) (S.left source.new) }
         ensures cause { HasCause (S.faults source.old) (S.faults source.new) result }
         ensures none_failed { OnOk result (S.faults source.new ≡ S.faults source.old) }
+        ensures untouched { count ≤ length self.old → IsUntouched (seen S.left S.faults source.old source.new) }
     {
         while self.len() < count {
             if self.fill(source)? == 0 {

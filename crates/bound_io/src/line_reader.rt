@@ -1,8 +1,8 @@
 //! A reader of lines.
-ghost use Rattle.std.specs.Prelude.{◌≡◌, ◌+◌, ◌≤◌, ◌<◌, ◌^◌, [], length, take, IfOk, IfErr, OnOk, IfSome, IfNone};
+ghost use Rattle.std.specs.Prelude.{◌≡◌, ◌+◌, ◌≤◌, ◌<◌, ◌^◌, ◌⊎◌, [], length, take, IfOk, IfErr, OnOk, IfSome, IfNone};
 ghost use Rattle.std.specs.Io.KnownBytes.{IsAtEnd, Keeps};
-ghost use Rattle.bound_io.specs.Devices.{seen};
-ghost use Rattle.bound_io.specs.Lines.{HasExtent};
+ghost use Rattle.bound_io.specs.Devices.{IsUntouched, seen};
+ghost use Rattle.bound_io.specs.Lines.{HasExtent, text_len};
 ghost use Rattle.bound_io.specs.Reading.{LosesPrefix};
 
 use crate::buffer::Buffer;
@@ -125,6 +125,8 @@ impl LineReader {
         ensures source { LosesPrefix (S.left source.old) (S.left source.new) }
         ensures later { S.faults source.old ≤ S.faults source.new }
         ensures none_failed { OnOk result (S.faults source.new ≡ S.faults source.old) }
+        ensures else_none_failed { IfErr result (λ fault. (fault ≡ LineFault.ReadFault) ⊎ (S.faults source.new ≡ S.faults source.old)) }
+        ensures untouched { text_len self.old.held < length self.old.held → IsUntouched (seen S.left S.faults source.old source.new) }
     {
         let Ok(text) = self.buffer.find_text(source) else {
             return Err(LineFault::ReadFault);
@@ -155,6 +157,8 @@ impl LineReader {
         ensures source { LosesPrefix (S.left source.old) (S.left source.new) }
         ensures later { S.faults source.old ≤ S.faults source.new }
         ensures none_failed { OnOk result (S.faults source.new ≡ S.faults source.old) }
+        ensures else_none_failed { IfErr result (λ fault. (fault ≡ LineFault.ReadFault) ⊎ (S.faults source.new ≡ S.faults source.old)) }
+        ensures untouched { text_len self.old.held < length self.old.held → IsUntouched (seen S.left S.faults source.old source.new) }
     {
         if let Some(fault) = self.fault {
             return Err(fault);
@@ -176,6 +180,8 @@ impl LineReader {
         ensures source { LosesPrefix (S.left source.old) (S.left source.new) }
         ensures later { S.faults source.old ≤ S.faults source.new }
         ensures none_failed { OnOk result (S.faults source.new ≡ S.faults source.old) }
+        ensures else_none_failed { IfErr result (λ fault. (fault ≡ LineFault.ReadFault) ⊎ (S.faults source.new ≡ S.faults source.old)) }
+        ensures untouched { text_len self.old.held < length self.old.held → IsUntouched (seen S.left S.faults source.old source.new) }
         ensures* after { sem 𝓛 (Rests the_row self.entry (LeavesLine self.old (seen S.left S.faults source.old source.new) (given_by result))) }
     {
         let extent = self.find_line(source)?;
@@ -203,6 +209,8 @@ impl LineReader {
         ensures source { LosesPrefix (S.left source.old) (S.left source.new) }
         ensures later { S.faults source.old ≤ S.faults source.new }
         ensures none_failed { OnOk result (S.faults source.new ≡ S.faults source.old) }
+        ensures else_none_failed { IfErr result (λ fault. (fault ≡ LineFault.ReadFault) ⊎ (S.faults source.new ≡ S.faults source.old)) }
+        ensures untouched { text_len self.old.held < length self.old.held → IsUntouched (seen S.left S.faults source.old source.new) }
         ensures* after { sem 𝓛 (Rests the_row self.entry (LeavesLine self.old (seen S.left S.faults source.old source.new) result)) }
     {
         match self.next_whole_line(source)? {
@@ -223,6 +231,8 @@ impl LineReader {
         ensures source { LosesPrefix (S.left source.old) (S.left source.new) }
         ensures later { S.faults source.old ≤ S.faults source.new }
         ensures none_failed { OnOk result (S.faults source.new ≡ S.faults source.old) }
+        ensures else_none_failed { IfErr result (λ fault. (fault ≡ LineFault.ReadFault) ⊎ (S.faults source.new ≡ S.faults source.old)) }
+        ensures untouched { count ≤ length self.old.held → IsUntouched (seen S.left S.faults source.old source.new) }
     {
         let held = self.buffer.hold(source, count);
         held.or(Err(LineFault::ReadFault))?;
@@ -247,6 +257,8 @@ impl LineReader {
         ensures source { LosesPrefix (S.left source.old) (S.left source.new) }
         ensures later { S.faults source.old ≤ S.faults source.new }
         ensures none_failed { OnOk result (S.faults source.new ≡ S.faults source.old) }
+        ensures else_none_failed { IfErr result (λ fault. (fault ≡ LineFault.ReadFault) ⊎ (S.faults source.new ≡ S.faults source.old)) }
+        ensures untouched { count ≤ length self.old.held → IsUntouched (seen S.left S.faults source.old source.new) }
     {
         if let Some(fault) = self.fault {
             return Err(fault);
@@ -274,6 +286,8 @@ impl LineReader {
         ensures source { LosesPrefix (S.left source.old) (S.left source.new) }
         ensures later { S.faults source.old ≤ S.faults source.new }
         ensures none_failed { OnOk result (S.faults source.new ≡ S.faults source.old) }
+        ensures else_none_failed { IfErr result (λ fault. (fault ≡ LineFault.ReadFault) ⊎ (S.faults source.new ≡ S.faults source.old)) }
+        ensures untouched { count ≤ length self.old.held → IsUntouched (seen S.left S.faults source.old source.new) }
         ensures* after { sem 𝓛 (Rests the_row self.entry (LeavesBytes count self.old (seen S.left S.faults source.old source.new) result)) }
     {
         let size = self.find_piece(source, count)?;

@@ -31,6 +31,7 @@ loop-seen-preserved g c =
       kept = keeps_then _ _ _ so_far.kept (keeps_more _ _ held more.0 more.3);
       source = loses_then _ _ _ more.0 so_far.source more.3;
       none_failed = c.in_ok-fill.ensures.none_failed ∙ so_far.none_failed;
+      untouched = λ ends. absurd (omega (arith, ends, none, ap text_len (so_far.untouched ends).0, ap length (so_far.untouched ends).0));
     }
 
 pub returns-then-seen-len : goal.returns-then-seen-len
@@ -49,6 +50,7 @@ returns-then-seen-len g c =
       source = so_far.source;
       cause = record { later = omega (arith, so_far.none_failed); failed = tt };
       none_failed = so_far.none_failed;
+      untouched = λ ends. (so_far.untouched ends).1;
     }
 
 pub returns-in_err-fill : goal.returns-in_err-fill
@@ -56,6 +58,8 @@ returns-in_err-fill g c =
     let so_far = c.loop-seen.invariant in
     let given = c.in_err-fill.ensures in
     let p = err_from_is_err_and c.from_residual.result c.from_residual.ensures.1 in
+    let rest : c.text_len.result ≡ text_len (drop c.loop-seen.seen c.loop-seen.self) = rw (take_rest, c.bytes.ensures.bytes) at c.text_len.ensures in
+    let none : text_len c.loop-seen.self ≡ length c.loop-seen.self = omega (arith, so_far.seen, rest, text_len-le c.loop-seen.self, c.if-seen-len.false, c.len.ensures.len) in
     rw (p.1) record {
       text = tt;
       whole = tt;
@@ -64,6 +68,7 @@ returns-in_err-fill g c =
       source = loses_still _ _ _ so_far.source given.kept.1;
       cause = record { later = omega (arith, so_far.none_failed, given.cause.later); failed = rw (so_far.none_failed) at given.cause.failed };
       none_failed = tt;
+      untouched = λ ends. absurd (omega (arith, ends, none, ap text_len (so_far.untouched ends).0, ap length (so_far.untouched ends).0));
     }
 
 pub returns-then-branch-eq0 : goal.returns-then-branch-eq0
@@ -83,6 +88,7 @@ returns-then-branch-eq0 g c =
       source = loses_then _ _ _ more.0 so_far.source more.3;
       cause = record { later = omega (arith, so_far.none_failed, given.cause.later); failed = tt };
       none_failed = given.none_failed ∙ so_far.none_failed;
+      untouched = λ ends. absurd (omega (arith, ends, so_far.seen, rest, text_len-le held, c.if-seen-len.false, c.len.ensures.len, ap text_len (so_far.untouched ends).0, ap length (so_far.untouched ends).0));
     }
 
 pub loop-seen-init : goal.loop-seen-init
