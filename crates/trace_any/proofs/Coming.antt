@@ -305,7 +305,7 @@ after-onto given fills x mark s =
     ∙ ap (λ marks. record s { requests = (given ++ x ∷ []) ++ s.requests; fills = marks }) (sym (append_assoc fills (marks_of mark (x ∷ [])) s.fills))
 
 -- the mark of one request more
-with_mark-marks_of : (fills : List Bool) (x : Object) (mark : Option Bool) → fills ++ marks_of mark (x ∷ []) ≡ with_mark fills mark
+pub with_mark-marks_of : (fills : List Bool) (x : Object) (mark : Option Bool) → fills ++ marks_of mark (x ∷ []) ≡ with_mark fills mark
 with_mark-marks_of fills x None = append-nil fills
 with_mark-marks_of fills x (Some only_fills) = refl
 

@@ -4,6 +4,7 @@ pub mod NextPieces
 pub mod ReadingSteps
 pub mod Coming
 pub mod Through
+pub mod Stopping
 pub mod VolumeSteps
 pub mod Marks
 pub mod Loads

@@ -127,7 +127,7 @@ module _ (one other both : Reading → Reading) (same : (s : Reading) → one (o
   abbrev rest : List ℕ
   rest = bytes_after first second bytes
 
-  split : (n : ℕ) → first_lines first.format (k + n) bytes ≡ first_lines first.format k bytes ++ first_lines second.format n rest
+  pub split : (n : ℕ) → first_lines first.format (k + n) bytes ≡ first_lines first.format k bytes ++ first_lines second.format n rest
   split n =
       take-add k n (pieces_of first.format bytes)
       ∙ (ap (λ ls. first_lines first.format k bytes ++ take n ls) (sym goes.rest)

@@ -1,8 +1,11 @@
 -- The first lines of a trace, or its first records: what a reader of requests has gone through, and how much of a source its first requests need.
-use Rattle.std.specs.Prelude.{◌≡◌, ℕ, ◌+◌, ◌-◌, ◌<◌, ◌≤◌, Bool, IfSome, List, [], ◌++◌, length, take, drop, fold}
+use Rattle.std.specs.Prelude.{◌≡◌, ℕ, ◌+◌, ◌-◌, ◌<◌, ◌≤◌, Bool, Some, IfSome, List, [], ◌++◌, length, take, drop, fold}
 use Rattle.std.specs.List.{sum_by}
 use Rattle.std.specs.declared.option.Option.{Option}
+use Rattle.bound_io.specs.Devices.{Device}
 use Rattle.cache_model.specs.declared.objects.Object.{Object}
+use Rattle.trace_any.specs.declared.fault.TraceFault.{TraceFault}
+use Rattle.trace_any.specs.declared.fault.TraceFault.TheVariants.{BadLine, ReadFault, InputTooLong, TooManyRequests, NoMemory}
 use Rattle.trace_any.specs.declared.format.Format.{Format}
 use Rattle.trace_any.specs.declared.format.Limits.{Limits}
 use Rattle.trace_any.specs.Readings.{Reading, pieces_of, nothing_read, read_line, reading}
@@ -62,3 +65,22 @@ GoesToRequest left old new x = GoesNoFurtherFrom left (onto x (last_mark new)) o
 pub record HasGiven (given : List Object) (fills : List Bool) (old new : Reader) (bytes : List ℕ) : Type 0 where
   pub through : GoesThrough (after given fills) old new bytes
   pub least : (lines : ℕ) → length given ≤ length (coming_in old (first_lines old.format lines bytes)).requests → lines_between old new ≤ lines
+
+-- a reader has given the first of these bytes' lines, counts those of them that were dropped, and stands in the bytes after them
+pub record StandsAfter (old new : Reader) (bytes : List ℕ) (after : Option (List ℕ)) : Type 0 where
+  pub further : old.lines.line ≤ new.lines.line
+  pub consumed : new.lines.consumed ≡ old.lines.consumed + bytes_of (first_lines old.format (lines_between old new) bytes)
+  pub dropped : new.dropped ≡ (coming_in old (first_lines old.format (lines_between old new) bytes)).dropped
+  pub rest : after ≡ Some (bytes_after old new bytes)
+
+-- no line was given after the one that is refused
+abbrev pub IsNotPast : Reader → TraceFault → Type 0
+IsNotPast new (BadLine line kind) = new.lines.line ≤ line
+IsNotPast new ReadFault = Unit {0}
+IsNotPast new InputTooLong = Unit {0}
+IsNotPast new TooManyRequests = Unit {0}
+IsNotPast new NoMemory = Unit {0}
+
+-- a reader that gives no request for a fault goes no further than the line that is refused, and stands after the lines that it gave, if the bytes are known
+abbrev pub StopsNoFurther : Reader → Reader → Device → TraceFault → Type 0
+StopsNoFurther old new source fault = IsNotPast new fault × IfSome (known old source.before) (λ bytes. StandsAfter old new bytes (known new source.after))

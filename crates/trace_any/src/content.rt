@@ -1,5 +1,5 @@
 //! What a line or a record asks for, by the form of the trace.
-ghost use Rattle.std.specs.Prelude.{◌≡◌, ◌+◌, ◌≤◌, ◌^◌, true, false, None, Some, length, IfOk, IfSome, IsSome, OnOk, OnErr};
+ghost use Rattle.std.specs.Prelude.{◌≡◌, ◌≢◌, ◌+◌, ◌≤◌, ◌^◌, true, false, None, Some, length, IfOk, IfSome, IsSome, OnOk, OnErr};
 ghost use Rattle.trace_any.specs.Readers.{with_named_by, number_by};
 ghost use Rattle.trace_any.specs.Readings.{IsFormat, NamesVolumes, content_named, has_records, text_content, whole_record};
 ghost use Rattle.trace_lines.specs.Lines.{IsSpan};
@@ -121,6 +121,7 @@ pub(crate) fn number_of(
     ensures volumes { OnOk result (volumes.new ≡ with_named_by content.now.span volumes.old (volume_of content.now.volume)) }
     ensures err { OnErr result (volumes.new ≡ volumes.old) }
     ensures memory { OnErr result (IsSome content.now.volume) }
+    ensures something { OnErr result (content.now.span ≢ Span.Nothing) }
     ensures most { length volumes.new ≤ length volumes.old + 1 }
 {
     if content.span == Span::Nothing {

@@ -1,8 +1,9 @@
 //! Whole traces.
-ghost use Rattle.std.specs.Prelude.{◌≡◌, ◌≤◌, ◌<◌, ◌^◌, Some, [], None, Err, length, IfOk, IfErr, OnOk, OnErr};
+ghost use Rattle.std.specs.Prelude.{◌≡◌, ◌≤◌, ◌<◌, ◌^◌, ◌⊎◌, Some, [], None, Err, length, IfOk, IfErr, OnOk, OnErr};
 ghost use Rattle.bound_io.specs.Devices.{seen};
 ghost use Rattle.bound_io.specs.Reading.{LosesPrefix};
 ghost use Rattle.cache_rules.specs.Stored.{with_request};
+ghost use Rattle.trace_any.specs.FirstLines.{StopsNoFurther};
 ghost use Rattle.trace_any.specs.Readings.{is_marked};
 ghost use Rattle.trace_any.specs.Readers.{KeepsFault, LeavesNone, LoadsAll, LoadsNoMore, RefusesTrace, last_mark};
 
@@ -65,6 +66,8 @@ pub fn load<S: Source>(
     ensures source { LosesPrefix (S.left source.old) (S.left source.new) }
     ensures later { S.faults source.old ≤ S.faults source.new }
     ensures none_failed { OnOk result (S.faults source.new ≡ S.faults source.old) }
+    ensures else_none_failed { IfErr result (λ fault. (fault ≡ TraceFault.ReadFault) ⊎ (S.faults source.new ≡ S.faults source.old)) }
+    ensures no_further { reader.old.fault ≡ None → IfErr result (StopsNoFurther reader.old reader.new (seen S.left S.faults source.old source.new)) }
 {
     let mut requests = builder_for(alloc, reader)?;
     while let Some(object) = reader.next(alloc, source)? {

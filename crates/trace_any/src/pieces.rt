@@ -1,5 +1,5 @@
 //! The next line of a trace, or its next record.
-ghost use Rattle.std.specs.Prelude.{◌≡◌, ◌≤◌, ◌<◌, None, true, length, IfOk, IfErr, OnOk, IfSome, IfNone};
+ghost use Rattle.std.specs.Prelude.{◌≡◌, ◌≤◌, ◌<◌, ◌⊎◌, None, true, length, IfOk, IfErr, OnOk, IfSome, IfNone};
 ghost use Rattle.std.specs.Borrow.{sem};
 ghost use Rattle.std.specs.Io.BufRead.{Rests};
 ghost use Rattle.std.specs.Io.KnownBytes.{IsAtEnd};
@@ -30,6 +30,7 @@ pub(crate) fn next_piece<'a, S: Source>(
     ensures source { LosesPrefix (S.left source.old) (S.left source.new) }
     ensures later { S.faults source.old ≤ S.faults source.new }
     ensures none_failed { OnOk result (S.faults source.new ≡ S.faults source.old) }
+    ensures else_none_failed { IfErr result (λ fault. (fault ≡ LineFault.ReadFault) ⊎ (S.faults source.new ≡ S.faults source.old)) }
     ensures* after { sem 𝓛 (Rests the_row lines.entry (LeavesPiece records lines.old (seen S.left S.faults source.old source.new) result)) }
 {
     if !records {

@@ -1,6 +1,6 @@
 //! How far the reading of a trace has come.
-ghost use Rattle.std.specs.Prelude.{◌≡◌, ◌+◌, ◌-◌, ◌≤◌, ◌<◌, ◌^◌, ◌&&◌, None, Some, Err, true, false, length, nat_lt, IfOk, IfErr, IfSome, OnOk};
-ghost use Rattle.bound_io.specs.Devices.{seen};
+ghost use Rattle.std.specs.Prelude.{◌≡◌, ◌+◌, ◌-◌, ◌≤◌, ◌<◌, ◌^◌, ◌&&◌, ◌⊎◌, None, Some, Err, true, false, length, nat_lt, IfOk, IfErr, IfSome, OnOk};
+ghost use Rattle.bound_io.specs.Devices.{IsUntouched, seen};
 ghost use Rattle.bound_io.specs.Reading.{LosesPrefix};
 ghost use Rattle.std.specs.Option.{option_map};
 ghost use Rattle.trace_lines.specs.Lines.{IsSpan};
@@ -88,7 +88,7 @@ fn range_of(volume: u32, fills: bool, span: Span) -> Option<Range>
 }
 
 impl Progress {
-    ghost use Rattle.trace_any.specs.FirstLines.{GivesFirstIn, GoesNoFurtherFrom, GoesToRequest};
+    ghost use Rattle.trace_any.specs.FirstLines.{GivesFirstIn, GoesNoFurtherFrom, GoesToRequest, StopsNoFurther};
     ghost use Rattle.trace_any.specs.Readers.{GivesFirst, GivesRequest, IsFull, ReadsNothing, TakesLine, fresh};
 
     /// Nothing is read yet. The buffer is taken here.
@@ -157,6 +157,8 @@ impl Progress {
         ensures source { LosesPrefix (S.left source.old) (S.left source.new) }
         ensures later { S.faults source.old ≤ S.faults source.new }
         ensures none_failed { OnOk result (S.faults source.new ≡ S.faults source.old) }
+        ensures else_none_failed { IfErr result (λ fault. (fault ≡ TraceFault.ReadFault) ⊎ (S.faults source.new ≡ S.faults source.old)) }
+        ensures no_further { IfErr result (StopsNoFurther self.old self.new (seen S.left S.faults source.old source.new)) }
         ensures memory { IfErr result (λ fault. fault ≡ TraceFault.NoMemory → NamesVolumes self.old.format) }
     {
         let records = self.format.has_records();
@@ -225,6 +227,9 @@ impl Progress {
         ensures source { LosesPrefix (S.left source.old) (S.left source.new) }
         ensures later { S.faults source.old ≤ S.faults source.new }
         ensures none_failed { OnOk result (S.faults source.new ≡ S.faults source.old) }
+        ensures else_none_failed { IfErr result (λ fault. (fault ≡ TraceFault.ReadFault) ⊎ (S.faults source.new ≡ S.faults source.old)) }
+        ensures no_further { IfErr result (StopsNoFurther self.old self.new (seen S.left S.faults source.old source.new)) }
+        ensures untouched { 0 < self.old.ahead.count → IsUntouched (seen S.left S.faults source.old source.new) }
         ensures memory { IfErr result (λ fault. fault ≡ TraceFault.NoMemory → NamesVolumes self.old.format) }
     {
         while self.ahead.count == 0 {

@@ -1,6 +1,6 @@
 //! A reader of requests.
-ghost use Rattle.std.specs.Prelude.{◌≡◌, ◌-◌, ◌≤◌, ◌^◌, ◌&&◌, None, Some, Err, IfOk, IfErr, IfSome, OnOk, length, nat_lt};
-ghost use Rattle.bound_io.specs.Devices.{seen};
+ghost use Rattle.std.specs.Prelude.{◌≡◌, ◌-◌, ◌≤◌, ◌<◌, ◌^◌, ◌&&◌, ◌⊎◌, None, Some, Err, IfOk, IfErr, IfSome, OnOk, length, nat_lt};
+ghost use Rattle.bound_io.specs.Devices.{IsUntouched, seen};
 ghost use Rattle.bound_io.specs.Reading.{LosesPrefix};
 ghost use Rattle.trace_any.specs.Readings.{IsFormat, NamesVolumes, is_marked};
 
@@ -38,7 +38,7 @@ impl Model for RequestReader {
 }
 
 impl RequestReader {
-    ghost use Rattle.trace_any.specs.FirstLines.{GoesToRequest};
+    ghost use Rattle.trace_any.specs.FirstLines.{GoesToRequest, StopsNoFurther};
     ghost use Rattle.trace_any.specs.Readers.{AnswersAgain, GivesRequest, err_of, fresh, with_fault};
 
     /// A reader of a trace of this form, within these limits. It takes its buffer here, and later memory for each volume
@@ -94,6 +94,9 @@ impl RequestReader {
         ensures source { LosesPrefix (S.left source.old) (S.left source.new) }
         ensures later { S.faults source.old ≤ S.faults source.new }
         ensures none_failed { OnOk result (S.faults source.new ≡ S.faults source.old) }
+        ensures else_none_failed { IfErr result (λ fault. (fault ≡ TraceFault.ReadFault) ⊎ (S.faults source.new ≡ S.faults source.old)) }
+        ensures no_further { self.old.fault ≡ None → IfErr result (StopsNoFurther self.old self.new (seen S.left S.faults source.old source.new)) }
+        ensures untouched { self.old.fault ≡ None → 0 < self.old.ahead.count → IsUntouched (seen S.left S.faults source.old source.new) }
         ensures memory { self.old.fault ≡ None → IfErr result (λ fault. fault ≡ TraceFault.NoMemory → NamesVolumes self.old.format) }
     {
         if let Some(fault) = self.fault {

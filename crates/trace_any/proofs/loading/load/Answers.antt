@@ -1,7 +1,11 @@
 use Rattle.std.proofs.Common.{◌≡◌, ◌∙◌, refl, sym, ap, arith, length-append, None, [], ◌∷◌}
 use Rattle.bound_io.proofs.KnownLemmas.{loses_then}
+use Rattle.bound_io.specs.Devices.{seen}
+use Rattle.trace_any.specs.declared.fault.TraceFault.TheVariants.{NoMemory}
+use Rattle.trace_any.specs.FirstLines.{StopsNoFurther}
 use Rattle.trace_any.specs.Readers.{last_mark}
-use Rattle.trace_any.proofs.Coming.{goes_nowhere, loads_all, loads_more, loads_past, loads_to_end, loses_nothing, no_error, no_fault, of_any_fault, past_room}
+use Rattle.trace_any.proofs.Coming.{after_all, goes_nowhere, loads_all, loads_more, loads_past, loads_to_end, loses_nothing, no_error, no_fault, of_any_fault, past_room}
+use Rattle.trace_any.proofs.Stopping.{given_more, nothing_given, of_fault, rests_after, stands_as, stands_given, stands_then, through_given}
 use Rattle.trace_any.proofs.loading.load.Goals as goal
 
 pub loop-requests-init : goal.loop-requests-init
@@ -14,6 +18,7 @@ loop-requests-init g c =
       fault = refl;
       given = rw empty (omega arith);
       goes_on = λ _. goes_nowhere c.args.reader.now c.in_ok-requests.requests.requests.objects c.in_ok-requests.requests.requests.fills _ (ap (λ r. r.objects) empty) (ap (λ r. r.fills) empty);
+      given_all = λ _. nothing_given c.args.reader.now c.in_ok-requests.requests.requests _ empty;
       unread = of_any_fault c.args.reader.now.fault (refl, refl, refl);
       source = loses_nothing (g.S.Source.left c.args.source.now);
       none_failed = refl;
@@ -38,6 +43,7 @@ loop-requests-preserved g c =
       fault = c.in_ok-object.ensures.fault none ∙ (sym none ∙ i.fault);
       given = rw pushed (omega (arith, next.0, i.given, length-append given.objects (object ∷ [])));
       goes_on = λ fresh. rw pushed (loads_more c.args.reader.now c.loop-requests.reader c.next.new.self given object (last_mark c.next.new.self) _ _ _ (i.goes_on fresh) (next.1));
+      given_all = λ fresh. rw pushed (given_more c.args.reader.now c.loop-requests.reader c.next.new.self given object (last_mark c.next.new.self) _ _ (rests_after given c.args.reader.now c.loop-requests.reader _ _ (i.goes_on fresh)) (i.given_all fresh) (rw (c.in-Some.is) at (c.in_ok-object.ensures.lines none)));
       unread = rw (← i.fault, none) tt;
       source = loses_then _ _ _ (n.source.0) i.source (n.source.1);
       none_failed = c.in_ok-object.ensures.none_failed ∙ i.none_failed;
@@ -76,3 +82,37 @@ returns-then-passes_limit-clause-refused g c =
 
 pub returns-then-passes_limit-clause-source : goal.returns-then-passes_limit-clause-source
 returns-then-passes_limit-clause-source g c = loses_then _ _ _ (c.next.ensures.source.0) (c.loop-requests.invariant.source) (c.next.ensures.source.1)
+
+pub returns-in_err-requests-clause-no_further : goal.returns-in_err-requests-clause-no_further
+returns-in_err-requests-clause-no_further g c = λ _.
+    of_fault c.from_residual.result NoMemory (StopsNoFurther c.args.reader.now c.args.reader.now (seen g.S.Source.left g.S.Source.faults c.args.source.now c.args.source.now)) c.from_residual.ensures.1
+    (tt, stands_as c.args.reader.now c.args.reader.now _ refl refl)
+
+pub returns-in_err-object-clause-no_further : goal.returns-in_err-object-clause-no_further
+returns-in_err-object-clause-no_further g c = λ fresh.
+    let i = c.loop-requests.invariant in
+    let given = c.loop-requests.requests.requests in
+    let first = c.args.reader.now in
+    let second = c.loop-requests.reader in
+    let third = c.next.new.self in
+    let stops = c.in_err-object.ensures.no_further (i.fault ∙ fresh) in
+    of_fault c.from_residual-in_err-object.result c.in_err-object.field-0.0 (StopsNoFurther first third (seen g.S.Source.left g.S.Source.faults c.args.source.now c.next.new.source)) c.from_residual-in_err-object.ensures.1
+    (stops.0, stands_then (after_all given) first second third _ _ _ (λ s. refl) (rests_after given first second _ _ (i.goes_on fresh)) (through_given given first second _ (i.given_all fresh)) stops.1)
+
+pub returns-then-passes_limit-clause-no_further : goal.returns-then-passes_limit-clause-no_further
+returns-then-passes_limit-clause-no_further g c = λ fresh.
+    let i = c.loop-requests.invariant in
+    let given = c.loop-requests.requests.requests in
+    let none = i.fault ∙ fresh in
+    let stands = stands_given given c.args.reader.now c.loop-requests.reader c.next.new.self c.refuse_rest.new.self c.in-Some.object (last_mark c.next.new.self) _ _ (g.S.Source.left c.next.new.source) (ap (λ r. r.lines) c.refuse_rest.ensures.kept) (ap (λ r. r.dropped) c.refuse_rest.ensures.kept)
+    (i.goes_on fresh) (i.given_all fresh) (rw (c.in-Some.is) at (c.in_ok-object.ensures.next none)).1 (rw (c.in-Some.is) at (c.in_ok-object.ensures.lines none)) in
+    rw (c.refuse_rest.ensures.fault) (tt, stands)
+
+pub returns-in-Err-clause-no_further : goal.returns-in-Err-clause-no_further
+returns-in-Err-clause-no_further g c = λ fresh.
+    let i = c.loop-requests.invariant in
+    let given = c.loop-requests.requests.requests in
+    let none = i.fault ∙ fresh in
+    let stands = stands_given given c.args.reader.now c.loop-requests.reader c.next.new.self c.refuse_rest-in-Err.new.self c.in-Some.object (last_mark c.next.new.self) _ _ (g.S.Source.left c.next.new.source) (ap (λ r. r.lines) c.refuse_rest-in-Err.ensures.kept) (ap (λ r. r.dropped) c.refuse_rest-in-Err.ensures.kept)
+    (i.goes_on fresh) (i.given_all fresh) (rw (c.in-Some.is) at (c.in_ok-object.ensures.next none)).1 (rw (c.in-Some.is) at (c.in_ok-object.ensures.lines none)) in
+    rw (c.refuse_rest-in-Err.ensures.fault) (tt, stands)

@@ -1,7 +1,11 @@
 use Rattle.std.proofs.Common.{◌∙◌, refl, [], arith, ap}
 use Rattle.bound_io.proofs.KnownLemmas.{loses_then}
+use Rattle.bound_io.specs.Devices.{seen}
+use Rattle.trace_any.specs.declared.fault.TraceFault.TheVariants.{TooManyRequests}
+use Rattle.trace_any.specs.FirstLines.{StopsNoFurther}
 use Rattle.trace_any.specs.Readers.{last_mark}
 use Rattle.trace_any.proofs.Coming.{goes_nowhere, goes_then, loses_nothing}
+use Rattle.trace_any.proofs.Stopping.{of_fault, stands_as, stands_then, through_of}
 use Rattle.trace_any.proofs.Through.{no_further_given, no_further_then, no_further_yet, rests_on}
 use Rattle.trace_any.proofs.progress.Progress.find.Goals as goal
 
@@ -31,6 +35,7 @@ loop-self-preserved g c =
       goes_on = goes_then (c.args.self.now) (c.loop-self.self) (c.take_line.new.self) _ _ _ i.goes_on (new.1);
       lines = no_further_then (c.args.self.now) (c.loop-self.self) (c.take_line.new.self) _ _ (rests_on (c.args.self.now) (c.loop-self.self) _ _ i.goes_on) i.lines (taken.lines (c.if-not-branch.false));
       source = loses_then _ _ _ (t.source.0) i.source (t.source.1);
+      untouched = λ some. absurd (omega (arith, some, ap (λ r. r.ahead.count) (i.untouched some).0, c.loop-self-test.true, ap (λ r. r.ahead.count) c.self.view_is));
       none_failed = taken.none_failed ∙ i.none_failed;
     }
 
@@ -44,8 +49,29 @@ loop-self-init g c = record {
   goes_on = goes_nowhere c.args.self.now [] [] _ refl refl;
   lines = no_further_yet c.args.self.now _;
   source = loses_nothing (g.S.Source.left c.args.source.now);
+  untouched = λ _. (refl, (refl, refl));
   none_failed = refl;
 }
 
 pub returns-clause-lines : goal.returns-clause-lines
 returns-clause-lines g c = no_further_given c.args.self.now c.loop-self.self c.give.new.self c.in_ok-give.field-0 (last_mark c.give.new.self) _ c.give.ensures.still.0 c.give.ensures.still.2 c.in_ok-give.ensures.given_in c.loop-self.invariant.lines
+
+pub returns-in_err-take_line-clause-no_further : goal.returns-in_err-take_line-clause-no_further
+returns-in_err-take_line-clause-no_further g c =
+    let i = c.loop-self.invariant in
+    let first = c.args.self.now in
+    let second = c.loop-self.self in
+    let third = c.take_line.new.self in
+    let stops = c.in_err-take_line.ensures.no_further in
+    of_fault c.from_residual.result c.in_err-take_line.field-0.0 (StopsNoFurther first third (seen g.S.Source.left g.S.Source.faults c.args.source.now c.take_line.new.source)) c.from_residual.ensures.1
+    (stops.0, stands_then (λ s. s) first second third _ _ _ (λ s. refl) (rests_on first second _ _ i.goes_on) (through_of _ _ _ _ i.lines) stops.1)
+
+pub returns-in_err-give-clause-no_further : goal.returns-in_err-give-clause-no_further
+returns-in_err-give-clause-no_further g c =
+    let i = c.loop-self.invariant in
+    let first = c.args.self.now in
+    let second = c.loop-self.self in
+    let third = c.give.new.self in
+    let still = c.give.ensures.still in
+    of_fault c.from_residual-in_err-give.result TooManyRequests (StopsNoFurther first third (seen g.S.Source.left g.S.Source.faults c.args.source.now c.loop-self.source)) (rw (c.in_err-give.ensures.full.0) at c.from_residual-in_err-give.ensures.1)
+    (tt, stands_then (λ s. s) first second third _ _ _ (λ s. refl) (rests_on first second _ _ i.goes_on) (through_of _ _ _ _ i.lines) (stands_as second third _ still.2 still.3))

@@ -1,4 +1,5 @@
-use Rattle.std.proofs.Common.{◌≡◌, ◌-◌, ◌≤◌, None, IfSome}
+use Rattle.std.proofs.Common.{◌≡◌, ◌-◌, ◌≤◌, ◌<◌, None, IfSome}
+use Rattle.bound_io.specs.Devices.{IsUntouched, seen}
 use Rattle.bound_io.specs.Reading.{LosesPrefix}
 use Rattle.trace_any.specs.FirstLines.{GoesNoFurther}
 use Rattle.trace_any.specs.Readers.{GoesOn, known}
@@ -14,6 +15,7 @@ invariant-loop-self g l = record {
   goes_on : IfSome (known l.initial.self (g.S.Source.left l.initial.source)) (λ bytes. GoesOn (λ r. r) l.initial.self l.self bytes (known l.self (g.S.Source.left l.source)));
   lines : IfSome (known l.initial.self (g.S.Source.left l.initial.source)) (GoesNoFurther (λ s. s) l.initial.self l.self);
   source : LosesPrefix (g.S.Source.left l.initial.source) (g.S.Source.left l.source);
+  untouched : 0 < l.initial.self.ahead.count → (l.self ≡ l.initial.self) × IsUntouched (seen g.S.Source.left g.S.Source.faults l.initial.source l.source);
   none_failed : g.S.Source.faults l.source ≡ g.S.Source.faults l.initial.source;
 }
 

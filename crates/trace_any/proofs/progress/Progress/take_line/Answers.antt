@@ -4,11 +4,14 @@ use Rattle.trace_any.specs.LineContent.{answer_of, content_by, volume_of}
 use Rattle.std.specs.Option.{option_map}
 use Rattle.trace_any.specs.declared.progress.Range.{Range}
 use Rattle.trace_any.specs.Readings.{fault_of}
-use Rattle.trace_any.specs.declared.fault.TraceFault.TheVariants.{BadLine}
+use Rattle.trace_any.specs.declared.fault.TraceFault.TheVariants.{BadLine, NoMemory}
 use Rattle.trace_any.specs.contracts.progress.Progress.{the_view}
 use Rattle.trace_any.proofs.Coming.{lines_refused, goes_onward, taken_err, takes_up, refused_line, goes_blank, goes_asked, is_asked, with_lines}
-use Rattle.trace_any.specs.FirstLines.{GoesNoFurther}
+use Rattle.bound_io.specs.Devices.{seen}
+use Rattle.std.specs.Result.{IfErr}
+use Rattle.trace_any.specs.FirstLines.{GoesNoFurther, StandsAfter, StopsNoFurther}
 use Rattle.trace_any.proofs.NextPieces.{is_given}
+use Rattle.trace_any.proofs.Stopping.{not_past_next, of_fault, stands_after_refused, stands_after_unnamed, stands_still}
 use Rattle.trace_any.proofs.Through.{reads_line, through_asked, through_blank}
 use Rattle.trace_any.proofs.progress.Progress.take_line.Goals as goal
 
@@ -234,3 +237,50 @@ returns-in_default-content-clause-still g c = let is = c.self.view_is in (ap (λ
 
 pub returns-in_default-content-clause-few : goal.returns-in_default-content-clause-few
 returns-in_default-content-clause-few g c = (c.self.invariant.7, c.self.invariant.1)
+
+pub returns-in_err-text-clause-no_further : goal.returns-in_err-text-clause-no_further
+returns-in_err-text-clause-no_further g c =
+    let s = the_view c.self.inside in
+    let new = with_lines s c.next_piece.follows.lender-at-none in
+    let fault = c.in_err-text.field-0.0 in
+    let stops = rw (c.in_err-text.was) at c.next_piece.follows.holds-at-none.0 in
+    subst (λ r. IfErr c.from_residual.result (StopsNoFurther r new (seen g.S.Source.left g.S.Source.faults c.args.source.now c.next_piece.new.source))) c.self.view_is
+    (of_fault c.from_residual.result (fault_of fault) (StopsNoFurther s new (seen g.S.Source.left g.S.Source.faults c.args.source.now c.next_piece.new.source)) c.from_residual.ensures.1 (
+      not_past_next s new _ _ _ fault (ap (λ p. p.line) stops.still) (rw (c.has_records-records.ensures) at c.in_err-text.ensures.refused),
+      stands_still s new _ _ (ap (λ p. p.line) stops.still) (ap (λ p. p.consumed) stops.still) refl stops.rest,
+    ))
+
+pub returns-in-Err-clause-no_further : goal.returns-in-Err-clause-no_further
+returns-in-Err-clause-no_further g c =
+    let s = the_view c.self.inside in
+    let l = c.next_piece.follows.lender-at-none in
+    let f = c.in_ok-text.ensures in
+    let none : c.self.inside.ahead.count ≡ 0 = ap (λ r. r.ahead.count) c.self.view_is ∙ c.requires.nothing_ahead in
+    let gives = rw (c.in_ok-text.was, c.in-Some.is, c.has_records-records.ensures) at (c.next_piece.follows.holds-at-none.0) in
+    let text = rw (c.in-Some.is, c.has_records-records.ensures) at f.text in
+    let short = rw (c.in-Some.is) at f.short in
+    let takes = takes_up s l _ _ c.in-Some.text.now none (c.self.invariant.3) gives text short in
+    let reads = reads_line s l _ _ c.in-Some.text.now none (c.self.invariant.3) gives text short in
+    let said = sym (c.content_of.ensures.content_named) ∙ ap answer_of c.in-Err.is in (
+      omega (arith, c.line.ensures),
+      subst (λ r. IfSome (known r (g.S.Source.left c.args.source.now)) (λ bytes. StandsAfter r (with_lines s l) bytes (known (with_lines s l) (g.S.Source.left c.next_piece.new.source)))) c.self.view_is
+          (stands_after_refused s l c.in-Err.kind _ _ _ said reads takes),
+    )
+
+pub returns-in_err-volume-clause-no_further : goal.returns-in_err-volume-clause-no_further
+returns-in_err-volume-clause-no_further g c =
+    let s = the_view c.self.inside in
+    let l = c.next_piece.follows.lender-at-none in
+    let f = c.in_ok-text.ensures in
+    let none : c.self.inside.ahead.count ≡ 0 = ap (λ r. r.ahead.count) c.self.view_is ∙ c.requires.nothing_ahead in
+    let gives = rw (c.in_ok-text.was, c.in-Some.is, c.has_records-records.ensures) at (c.next_piece.follows.holds-at-none.0) in
+    let text = rw (c.in-Some.is, c.has_records-records.ensures) at f.text in
+    let short = rw (c.in-Some.is) at f.short in
+    let takes = takes_up s l _ _ c.in-Some.text.now none (c.self.invariant.3) gives text short in
+    let reads = reads_line s l _ _ c.in-Some.text.now none (c.self.invariant.3) gives text short in
+    let content = c.in-Some-content.content in
+    let said = sym (c.content_of.ensures.content_named) ∙ (ap answer_of c.in-Ok.is ∙ ap (λ w. answer_of (Ok w)) c.in-Some-content.is) in
+    let new = record (with_lines s l) { volumes = c.number_of.new.volumes } in
+    subst (λ r. IfErr c.from_residual-in_err-volume.result (StopsNoFurther r new (seen g.S.Source.left g.S.Source.faults c.args.source.now c.next_piece.new.source))) c.self.view_is
+    (of_fault c.from_residual-in_err-volume.result NoMemory (StopsNoFurther s new (seen g.S.Source.left g.S.Source.faults c.args.source.now c.next_piece.new.source)) c.from_residual-in_err-volume.ensures.1
+    (tt, stands_after_unnamed s new l (content_by content) _ _ _ said c.in_err-volume.ensures.something refl refl reads takes))
