@@ -1,2 +1,3 @@
 pub mod FlagLines
 pub mod Ends
+pub mod Near

@@ -1,5 +1,5 @@
 -- What comes of reading a trace and the flags beside it.
-use Rattle.std.specs.Prelude.{◌≡◌, ℕ, Bool, List, [], length, map, Some, IfSome}
+use Rattle.std.specs.Prelude.{◌≡◌, ◌⊎◌, ℕ, Bool, List, [], length, map, Some, IfSome}
 use Rattle.bit_list.specs.Bits.{bits_of}
 use Rattle.bound_io.specs.Devices.{Device, HasFailed}
 use Rattle.cache_rules.specs.Stored.{Requests}
@@ -43,3 +43,7 @@ AreUnread format trace hits (NotFlag line) = IsStop format trace hits (NotFlag l
 AreUnread format trace hits (Count flags requests) = IsStop format trace hits (Count flags requests)
 AreUnread format trace hits ReadFault = HasFailed hits
 AreUnread format trace hits NoMemory = Unit {0}
+
+-- no read of either source failed, but one that is answered
+abbrev pub AreCalmBut : Device → Device → FlagFault → Type 0
+AreCalmBut trace hits fault = ((fault ≡ Trace of_trace.ReadFault) ⊎ (trace.faults_after ≡ trace.faults_before)) × ((fault ≡ ReadFault) ⊎ (hits.faults_after ≡ hits.faults_before))

@@ -1,4 +1,5 @@
 pub mod Flags
 pub mod Lines
 pub mod Claims
+pub mod Nearness
 pub mod Laws

@@ -4,8 +4,9 @@ ghost use Rattle.bound_io.specs.Devices.{seen};
 ghost use Rattle.bound_io.specs.Reading.{LosesPrefix};
 ghost use Rattle.trace_any.specs.Readers.{fresh};
 ghost use Rattle.trace_any.specs.Readings.{IsFormat, full_limits};
-ghost use Rattle.hit_flags.specs.Claims.{AreUnread, ReadsClaims};
+ghost use Rattle.hit_flags.specs.Claims.{AreCalmBut, AreUnread, ReadsClaims};
 ghost use Rattle.hit_flags.specs.Lines.{nothing_read};
+ghost use Rattle.hit_flags.specs.Nearness.{AreNear};
 
 use crate::fault::FlagFault;
 use crate::line::{flag_for, no_more};
@@ -41,6 +42,8 @@ fn read_turns<T: Source, H: Source>(
     ensures trace_source { LosesPrefix (T.left trace.old) (T.left trace.new) }
     ensures hits_source { LosesPrefix (H.left hits.old) (H.left hits.new) }
     ensures none_failed { OnOk result ((T.faults trace.new ≡ T.faults trace.old) × (H.faults hits.new ≡ H.faults hits.old)) }
+    ensures else_none_failed { IfErr result (AreCalmBut (seen T.left T.faults trace.old trace.new) (seen H.left H.faults hits.old hits.new)) }
+    ensures near { IfErr result (AreNear reader.old.format (seen T.left T.faults trace.old trace.new) (seen H.left H.faults hits.old hits.new)) }
 {
     let mut requests = builder_for(alloc, reader)?;
     let mut flags = BitList::new(alloc);
@@ -74,6 +77,8 @@ pub fn read_claims<T: Source, H: Source>(
     ensures trace_source { LosesPrefix (T.left trace.old) (T.left trace.new) }
     ensures hits_source { LosesPrefix (H.left hits.old) (H.left hits.new) }
     ensures none_failed { OnOk result ((T.faults trace.new ≡ T.faults trace.old) × (H.faults hits.new ≡ H.faults hits.old)) }
+    ensures else_none_failed { IfErr result (AreCalmBut (seen T.left T.faults trace.old trace.new) (seen H.left H.faults hits.old hits.new)) }
+    ensures near { IfErr result (AreNear format (seen T.left T.faults trace.old trace.new) (seen H.left H.faults hits.old hits.new)) }
 {
     let mut lines = LineReader::new(alloc, MOST_BYTES)?;
     let mut reader = RequestReader::new(alloc, format, Limits::full())?;

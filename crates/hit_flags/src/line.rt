@@ -1,9 +1,10 @@
 //! The flags of a simulator, line by line.
-ghost use Rattle.std.specs.Prelude.{◌≡◌, ◌+◌, ◌≤◌, ◌^◌, None, Some, IfOk, IfErr, OnOk};
+ghost use Rattle.std.specs.Prelude.{◌≡◌, ◌+◌, ◌≤◌, ◌^◌, ◌⊎◌, None, Some, IfOk, IfErr, OnOk};
 ghost use Rattle.bound_io.specs.Devices.{seen};
 ghost use Rattle.bound_io.specs.Reading.{LosesPrefix};
 ghost use Rattle.hit_flags.specs.Flags.{flag_of};
 ghost use Rattle.hit_flags.specs.Lines.{GivesFlag, IsAtItsEnd, IsGoing, IsNextLine, ReadsFlag, StopsEnd, StopsTurn};
+ghost use Rattle.hit_flags.specs.Nearness.{GoesLine, IsAtTurn};
 
 use crate::fault::FlagFault;
 use bound_io::{LineFault, LineReader, Source};
@@ -27,6 +28,9 @@ fn next_flag<H: Source>(lines: &mut LineReader, hits: &mut H) -> Result<Option<b
     ensures source { LosesPrefix (H.left hits.old) (H.left hits.new) }
     ensures later { H.faults hits.old ≤ H.faults hits.new }
     ensures none_failed { OnOk result (H.faults hits.new ≡ H.faults hits.old) }
+    ensures else_none_failed { IfErr result (λ fault. (fault ≡ FlagFault.ReadFault) ⊎ (H.faults hits.new ≡ H.faults hits.old)) }
+    ensures lines { GoesLine lines.old lines.new (seen H.left H.faults hits.old hits.new) }
+    ensures turn { IfErr result (IsAtTurn (lines.old.line + 1)) }
 {
     let flag = match lines.next_line(hits) {
         Ok(Some(text)) => flag_of(text),
@@ -55,6 +59,9 @@ pub(crate) fn flag_for<H: Source>(lines: &mut LineReader, hits: &mut H) -> Resul
     ensures source { LosesPrefix (H.left hits.old) (H.left hits.new) }
     ensures later { H.faults hits.old ≤ H.faults hits.new }
     ensures none_failed { OnOk result (H.faults hits.new ≡ H.faults hits.old) }
+    ensures else_none_failed { IfErr result (λ fault. (fault ≡ FlagFault.ReadFault) ⊎ (H.faults hits.new ≡ H.faults hits.old)) }
+    ensures lines { GoesLine lines.old lines.new (seen H.left H.faults hits.old hits.new) }
+    ensures turn { IfErr result (IsAtTurn (lines.old.line + 1)) }
 {
     let before = lines.line();
     match next_flag(lines, hits)? {
@@ -75,6 +82,9 @@ pub(crate) fn no_more<H: Source>(lines: &mut LineReader, hits: &mut H) -> Result
     ensures source { LosesPrefix (H.left hits.old) (H.left hits.new) }
     ensures later { H.faults hits.old ≤ H.faults hits.new }
     ensures none_failed { OnOk result (H.faults hits.new ≡ H.faults hits.old) }
+    ensures else_none_failed { IfErr result (λ fault. (fault ≡ FlagFault.ReadFault) ⊎ (H.faults hits.new ≡ H.faults hits.old)) }
+    ensures lines { GoesLine lines.old lines.new (seen H.left H.faults hits.old hits.new) }
+    ensures turn { IfErr result (IsAtTurn (lines.old.line + 1)) }
 {
     let before = lines.line();
     match next_flag(lines, hits)? {

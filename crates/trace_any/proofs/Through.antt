@@ -274,7 +274,7 @@ fresh_coming format limits lines bytes =
     ∙ ap (λ n. fold (read_line format (record { requests = n; bytes = limits.bytes })) nothing_read (first_lines format lines bytes)) all
 
 -- more lines have no fewer bytes
-bytes_of-more : (format : Format) (j k : ℕ) (bytes : List ℕ) → j ≤ k → bytes_of (first_lines format j bytes) ≤ bytes_of (first_lines format k bytes)
+pub bytes_of-more : (format : Format) (j k : ℕ) (bytes : List ℕ) → j ≤ k → bytes_of (first_lines format j bytes) ≤ bytes_of (first_lines format k bytes)
 bytes_of-more format j k bytes low =
     let same : k ≡ j + (k - j) = omega (arith, low) in
     let more = take (k - j) (drop j (pieces_of format bytes)) in

@@ -1,13 +1,19 @@
-use Rattle.std.proofs.Common.{◌≡◌, ◌∙◌, ap, subst, arith, length-append, Some, None, [], ◌∷◌, ◌++◌}
+use Rattle.std.proofs.Common.{◌≡◌, ◌+◌, ◌∙◌, refl, length, IfSome, ap, subst, arith, length-append, Some, None, [], ◌∷◌, ◌++◌}
 use Rattle.std.proofs.lemmas.Result.{err_from_is_err_and}
 use Rattle.bit_list.specs.Bits.{bits_of}
 use Rattle.bound_io.specs.Devices.{seen}
 use Rattle.bound_io.specs.Lines.{stands_in}
 use Rattle.bound_io.proofs.KnownLemmas.{loses_then}
 use Rattle.trace_any.specs.Readers.{IsStopped, IsWhole, last_mark, known as trace_known}
-use Rattle.trace_any.proofs.Coming.{loads_all, loads_more, loads_to_end}
+use Rattle.cache_rules.specs.Stored.{with_request}
+use Rattle.trace_any.specs.FirstLines.{HasLostFor}
+use Rattle.trace_any.specs.Readings.{full_limits}
+use Rattle.hit_flags.specs.Lines.{nothing_read}
+use Rattle.trace_any.proofs.Stopping.{given_more, rests_after, stands_then, through_given}
+use Rattle.trace_any.proofs.Coming.{after_all, loads_all, loads_more, loads_to_end}
 use Rattle.trace_any.proofs.Loads.{from_start, nothing_left}
 use Rattle.hit_flags.proofs.Ends.{all_flags, flag_unread, more_flags, more_unread, none_follows, one_follows, over_at_end, trace_unread}
+use Rattle.hit_flags.proofs.Near.{lost_all, lost_flags, lost_given, lost_lines, lost_through, near_turn, past_then}
 use Rattle.hit_flags.proofs.claims.read_turns.Goals as goal
 
 pub returns-in_err-object-clause-unread : goal.returns-in_err-object-clause-unread
@@ -69,6 +75,9 @@ loop-flags-preserved g c =
       given = rw pushed (omega (arith, next.0, i.given, length-append given.objects (object ∷ [])));
       few = rw pushed (omega (arith, next.0, i.given, n.few.1, n.few.2, length-append given.objects (object ∷ [])));
       goes_on = rw pushed (loads_more c.args.reader.now c.loop-flags.reader c.next.new.self given object (last_mark c.next.new.self) _ _ _ i.goes_on next.1);
+      given_all = rw pushed (given_more c.args.reader.now c.loop-flags.reader c.next.new.self given object (last_mark c.next.new.self) _ _ (rests_after given c.args.reader.now c.loop-flags.reader _ _ i.goes_on) i.given_all (rw (c.in-Some.is) at (c.in_ok-object.ensures.lines i.fault)));
+      flags_past = past_then nothing_read c.loop-flags.lines c.flag_for.new.lines _ _ _ i.flags_past c.flag_for.ensures.lines.past;
+      flags_held = c.flag_for.ensures.lines.held;
       going = c.in_ok-flag.ensures.line.1;
       line = rw pushed (omega (arith, c.in_ok-flag.ensures.line.0, i.line, length-append given.objects (object ∷ [])));
       as_many = rw (pushed, bits) (omega (arith, i.as_many, length-append given.objects (object ∷ []), length-append (bits_of c.loop-flags.flags) (flag ∷ [])));
@@ -129,3 +138,69 @@ pub returns-clause-none_failed : goal.returns-clause-none_failed
 returns-clause-none_failed g c =
     let i = c.loop-flags.invariant in
     (c.in_ok-object.ensures.none_failed ∙ i.trace_faults, c.in_ok-no_more.ensures.none_failed ∙ i.hits_faults)
+
+pub returns-in_err-object-clause-near : goal.returns-in_err-object-clause-near
+returns-in_err-object-clause-near g c =
+    let i = c.loop-flags.invariant in
+    let p = err_from_is_err_and c.from_residual-in_err-object.result c.from_residual-in_err-object.ensures.1 in
+    let trace = seen g.T.Source.left g.T.Source.faults c.args.trace.now c.next.new.source in
+    let hits = seen g.H.Source.left g.H.Source.faults c.args.hits.now c.loop-flags.hits in
+    let format = c.args.reader.now.format in
+    let given = c.loop-flags.requests.requests in
+    let first = c.args.reader.now in
+    let second = c.loop-flags.reader in
+    let third = c.next.new.self in
+    let stops = c.in_err-object.ensures.no_further i.fault in
+    let stands = stands_then (after_all given) first second third _ _ _ (λ s. refl) (rests_after given first second _ _ i.goes_on) (through_given given first second _ i.given_all) stops.1 in
+    rw (p.1, p.2) (record {
+      lines = lost_through format first third trace c.in_err-object.field-0.0 c.requires.reader c.next.ensures.ahead stops.0 stands;
+      flags = lost_flags format first second given _ trace hits c.loop-flags.lines c.requires.reader i.line i.flags_held i.goes_on i.flags_past;
+    })
+
+pub returns-in_err-flag-clause-near : goal.returns-in_err-flag-clause-near
+returns-in_err-flag-clause-near g c =
+    let i = c.loop-flags.invariant in
+    let p = err_from_is_err_and c.from_residual-in_err-flag.result c.from_residual-in_err-flag.ensures.1 in
+    let trace = seen g.T.Source.left g.T.Source.faults c.args.trace.now c.next.new.source in
+    let hits = seen g.H.Source.left g.H.Source.faults c.args.hits.now c.flag_for.new.hits in
+    let format = c.args.reader.now.format in
+    let given = c.loop-flags.requests.requests in
+    let object = c.in-Some.object in
+    let mark = last_mark c.next.new.self in
+    let first = c.args.reader.now in
+    let second = c.loop-flags.reader in
+    let third = c.next.new.self in
+    let next = rw (c.in-Some.is) at (c.in_ok-object.ensures.next i.fault) in
+    let turn = c.loop-flags.lines.line + 1 in
+    let count : length (given.objects ++ object ∷ []) ≡ turn = omega (arith, length-append given.objects (object ∷ []), i.line) in
+    let has = given_more first second third given object mark _ _ (rests_after given first second _ _ i.goes_on) i.given_all (rw (c.in-Some.is) at (c.in_ok-object.ensures.lines i.fault)) in
+    let goes = loads_more first second third given object mark _ _ _ i.goes_on next.1 in
+    let lost = lost_given format first third (with_request given object mark) (g.T.Source.left c.args.trace.now) (g.T.Source.left c.next.new.source) c.requires.reader c.next.ensures.ahead has goes in
+    let past = past_then nothing_read c.loop-flags.lines c.flag_for.new.lines _ _ _ i.flags_past c.flag_for.ensures.lines.past in
+    rw (p.1, p.2) (near_turn format turn trace hits c.in_err-flag.field-0.0 c.in_err-flag.ensures.turn (record {
+      requests = subst (λ n. IfSome (g.T.Source.left c.args.trace.now) (λ bytes. IfSome (g.T.Source.left c.next.new.source) (HasLostFor format full_limits n bytes))) count lost;
+      flags = lost_lines c.flag_for.new.lines turn hits c.flag_for.ensures.lines.most c.flag_for.ensures.lines.held past;
+    }))
+
+pub returns-in_err-no_more-clause-near : goal.returns-in_err-no_more-clause-near
+returns-in_err-no_more-clause-near g c =
+    let i = c.loop-flags.invariant in
+    let p = err_from_is_err_and c.from_residual-in_err-no_more.result c.from_residual-in_err-no_more.ensures.1 in
+    let trace = seen g.T.Source.left g.T.Source.faults c.args.trace.now c.next.new.source in
+    let hits = seen g.H.Source.left g.H.Source.faults c.args.hits.now c.no_more.new.hits in
+    let format = c.args.reader.now.format in
+    let given = c.loop-flags.requests.requests in
+    let first = c.args.reader.now in
+    let second = c.loop-flags.reader in
+    let third = c.next.new.self in
+    let next = rw (c.in_default.is) at (c.in_ok-object.ensures.next i.fault) in
+    let turn = c.loop-flags.lines.line + 1 in
+    let count : length given.objects + 1 ≡ turn = omega (arith, i.line) in
+    let whole = from_start format first (g.T.Source.left c.args.trace.now) (λ r. IsWhole r given third.dropped) c.requires.reader (loads_all first second third given.objects given.fills _ _ _ i.goes_on next) in
+    let end = nothing_left (g.T.Source.left c.args.trace.now) (g.T.Source.left c.next.new.source) third.lines.held (from_start format first (g.T.Source.left c.args.trace.now) (λ _. stands_in third.lines.held (g.T.Source.left c.next.new.source) ≡ Some []) c.requires.reader (loads_to_end first second third given.objects given.fills _ _ _ i.goes_on next)) in
+    let lost = lost_all format given third.dropped (g.T.Source.left c.args.trace.now) (g.T.Source.left c.next.new.source) whole end in
+    let past = past_then nothing_read c.loop-flags.lines c.no_more.new.lines _ _ _ i.flags_past c.no_more.ensures.lines.past in
+    rw (p.1, p.2) (near_turn format turn trace hits c.in_err-no_more.field-0.0 c.in_err-no_more.ensures.turn (record {
+      requests = subst (λ n. IfSome (g.T.Source.left c.args.trace.now) (λ bytes. IfSome (g.T.Source.left c.next.new.source) (HasLostFor format full_limits n bytes))) count lost;
+      flags = lost_lines c.no_more.new.lines turn hits c.no_more.ensures.lines.most c.no_more.ensures.lines.held past;
+    }))

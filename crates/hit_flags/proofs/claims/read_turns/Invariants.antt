@@ -2,10 +2,12 @@ use Rattle.std.proofs.Common.{◌≡◌, ◌-◌, ◌≤◌, ◌^◌, length, No
 use Rattle.bit_list.specs.Bits.{bits_of}
 use Rattle.bound_io.specs.Lines.{stands_in}
 use Rattle.bound_io.specs.Reading.{LosesPrefix}
+use Rattle.trace_any.specs.FirstLines.{HasGiven}
 use Rattle.trace_any.specs.Readers.{GoesOn, known as trace_known}
 use Rattle.trace_any.specs.Readings.{full_limits, is_marked}
 use Rattle.trace_any.proofs.Coming.{after_all}
-use Rattle.hit_flags.specs.Lines.{IsGoing}
+use Rattle.hit_flags.specs.Lines.{IsGoing, known, nothing_read}
+use Rattle.hit_flags.specs.Nearness.{StandsPast}
 use Rattle.hit_flags.proofs.Ends.{HasFlags}
 use Rattle.hit_flags.proofs.claims.read_turns.Given as goal
 
@@ -18,6 +20,9 @@ invariant-loop-flags g l = record {
   given : l.reader.given ≡ length l.requests.requests.objects;
   few : length l.requests.requests.objects ≤ 2 ^ 25;
   goes_on : IfSome (trace_known l.initial.reader (g.T.Source.left l.initial.trace)) (λ bytes. GoesOn (after_all l.requests.requests) l.initial.reader l.reader bytes (trace_known l.reader (g.T.Source.left l.trace)));
+  given_all : IfSome (trace_known l.initial.reader (g.T.Source.left l.initial.trace)) (HasGiven l.requests.requests.objects l.requests.requests.fills l.initial.reader l.reader);
+  flags_past : IfSome (g.H.Source.left l.initial.hits) (λ text. StandsPast nothing_read l.lines text (known l.lines (g.H.Source.left l.hits)));
+  flags_held : length l.lines.held ≤ 65536;
   going : IsGoing l.lines;
   line : l.lines.line ≡ length l.requests.requests.objects;
   as_many : length (bits_of l.flags) ≡ length l.requests.requests.objects;
