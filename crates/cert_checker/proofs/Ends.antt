@@ -16,7 +16,7 @@ use Rattle.trace_any.proofs.Coming.{fresh_to_come}
 use Rattle.cert_format.specs.declared.fault.CertFault.{CertFault}
 use Rattle.cert_checker.specs.declared.invalid.InvalidKind.{InvalidKind}
 use Rattle.cert_checker.specs.declared.invalid.InvalidKind.TheVariants.{RequestCount}
-use Rattle.cert_format.specs.declared.reader.Stage.TheVariants.{InRecords}
+use Rattle.cert_format.specs.declared.reader.Stage.TheVariants.{InRecords, AtEnd}
 use Rattle.cert_format.specs.Grammar.{end_slots}
 use Rattle.cert_format.specs.Lines.{known, IsPast, IsWithin}
 use Rattle.cert_format.specs.Readings as certificates
@@ -125,8 +125,8 @@ module _ (start : Inputs) (h : Header) (given : Requests) (records : List Record
       }
 
       -- the end is read, and no rule fails
-      pub passes : end.reader ≡ now.reader → end.trace ≡ now.trace → IsCalm now end → (verdict : Verdict) → IsYes h given.fills given.objects records verdict → HasKept start end (record { verdict = verdict; trace = given; records = records })
-      passes same_reader same_left calm verdict said = record {
+      pub passes : end.cert.stage ≡ AtEnd → end.reader ≡ now.reader → end.trace ≡ now.trace → IsCalm now end → (verdict : Verdict) → IsYes h given.fills given.objects records verdict → HasKept start end (record { verdict = verdict; trace = given; records = records })
+      passes stage same_reader same_left calm verdict said = record {
         passed = record {
           requests = given;
           records = records;
@@ -141,6 +141,7 @@ module _ (start : Inputs) (h : Header) (given : Requests) (records : List Record
               (at_some (known now.cert.lines now.certificate) _ _ q.stands_in read).0 said.no_fault);
           trace_end = if_one start.trace _ _ ended.trace_end (λ b p. same_left ∙ p);
           certificate_end = if_one start.certificate _ _ ended.records_read (λ t q. (at_some (known now.cert.lines now.certificate) _ _ q.stands_in read).2);
+          stage = stage;
           calm = record { trace = calm.trace ∙ ended.calm.trace; certificate = calm.certificate ∙ ended.calm.certificate };
         };
         trace = refl;

@@ -1,5 +1,5 @@
 -- A check by readers of which no call was made.
-use Rattle.std.proofs.Common.{◌≡◌, ◌∙◌, ℕ, ap, sym, subst, Bool, true, cond, List, length, Some, None, Result, Ok, Err, IfOk}
+use Rattle.std.proofs.Common.{inr, ◌≡◌, ◌∙◌, ℕ, ap, sym, subst, Bool, true, cond, List, length, Some, None, Result, Ok, Err, IfOk}
 use Rattle.std.specs.Prelude.{count_by}
 use Rattle.std.specs.List.{range_with_len}
 use Rattle.bound_io.specs.Devices.{Device}
@@ -14,7 +14,7 @@ use Rattle.cert_format.specs.Lines.{IsTaken}
 use Rattle.cert_checker.specs.declared.verdict.Verdict.{Verdict}
 use Rattle.cert_checker.specs.declared.walking.CheckFault.{CheckFault}
 use Rattle.cert_checker.specs.declared.walking.CheckFault.TheVariants as fault
-use Rattle.cert_checker.specs.Checks.{Inputs, IsEvent, IsNear, inputs, trace_source, cert_source}
+use Rattle.cert_checker.specs.Checks.{Inputs, IsCalmBut, IsEvent, IsNear, inputs, trace_source, cert_source}
 use Rattle.cert_checker.specs.Counting.{PassesCounted, count_from}
 use Rattle.cert_checker.specs.Keeping.{HasKept, IsCheckEnd}
 use Rattle.cert_checker.specs.Whole.{Ends, Fails, Passes, first_inputs, last_inputs}
@@ -39,18 +39,19 @@ module _ (start end : Inputs) (first : start.reader ≡ requests.fresh start.rea
     ended = from_new (λ from. IsCheckEnd has from end (Ok verdict)) ended;
   }
 
-  pub fails_new : (has : Making → List Record → Type 0) (why : CheckFault) → IsTaken start.cert.lines end.cert.lines start.certificate end.certificate → IsCheckEnd has start end (Err why)
+  pub fails_new : (has : Making → List Record → Type 0) (why : CheckFault) → IsTaken start.cert.lines end.cert.lines start.certificate end.certificate → IsCheckEnd has start end (Err why) → IsCalmBut start end why
       → Fails start.reader.format (trace_source start end) (cert_source start end) why
-  fails_new has why taken ended = record {
+  fails_new has why taken ended calm = record {
     reader = end.reader;
     records = end.cert;
     event = from_new (λ from. IsEvent from end why) ended.event;
     near = from_new (λ from. IsNear from end why) (near_closed has start end (Err why) new taken ended);
+    calm = from_new (λ from. IsCalmBut from end why) calm;
   }
 
 -- out of memory before the first read says nothing
-pub fails_memory : (format : Format) (trace cert : Device) → Fails format trace cert fault.NoMemory
-fails_memory format trace cert = record { reader = requests.fresh format full_limits; records = lines.fresh; event = tt; near = tt }
+pub fails_memory : (format : Format) (trace cert : Device) → trace.faults_after ≡ trace.faults_before → cert.faults_after ≡ cert.faults_before → Fails format trace cert fault.NoMemory
+fails_memory format trace cert same_trace same_cert = record { reader = requests.fresh format full_limits; records = lines.fresh; event = tt; near = tt; calm = (inr same_trace, inr same_cert) }
 
 -- a yes of what a keeper has is a yes
 pub passes_new : (has : Making → List Record → Type 0) (format : Format) (trace cert : Device) (result : Result (Verdict × ℕ) CheckFault) → IfOk result (λ p. Ends has format trace cert p.0 p.1)

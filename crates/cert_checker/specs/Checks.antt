@@ -1,5 +1,5 @@
 -- A check of a certificate against a trace, both read as streams.
-use Rattle.std.specs.Prelude.{◌≡◌, ℕ, ◌+◌, ◌≤◌, Bool, true, false, ◌&&◌, List, [], ◌∷◌, ◌++◌, length, None, Some, IfSome, Result, Ok, Err}
+use Rattle.std.specs.Prelude.{◌≡◌, ◌⊎◌, ℕ, ◌+◌, ◌≤◌, Bool, true, false, ◌&&◌, List, [], ◌∷◌, ◌++◌, length, None, Some, IfSome, Result, Ok, Err}
 use Rattle.std.specs.declared.option.Option.{Option}
 use Rattle.bound_io.specs.Causes.{HasNewFault}
 use Rattle.bound_io.specs.Devices.{Device, device}
@@ -21,7 +21,7 @@ use Rattle.cert_format.specs.declared.fault.CertFault.{CertFault}
 use Rattle.cert_format.specs.declared.fault.CertFault.TheVariants as text
 use Rattle.cert_checker.specs.declared.invalid.InvalidKind.{InvalidKind}
 use Rattle.cert_checker.specs.declared.invalid.InvalidKind.TheVariants.{Shape, Number, Range, TooLong, Truncated, Trailing}
-use Rattle.cert_format.specs.declared.reader.Stage.TheVariants.{InRecords}
+use Rattle.cert_format.specs.declared.reader.Stage.TheVariants.{InRecords, AtEnd}
 use Rattle.cert_format.specs.Readings.{after_lines, bytes_through, whole}
 use Rattle.cert_format.specs.Readings as certificates
 use Rattle.cert_format.specs.Readers as lines
@@ -190,6 +190,11 @@ pub record IsCalm (start now : Inputs) : Type 0 where
   pub trace : now.trace_faults ≡ start.trace_faults
   pub certificate : now.certificate_faults ≡ start.certificate_faults
 
+-- no read of either source failed, but one that is answered
+abbrev pub IsCalmBut : Inputs → Inputs → CheckFault → Type 0
+IsCalmBut start now why =
+    ((why ≡ fault.Trace refusal.ReadFault) ⊎ (now.trace_faults ≡ start.trace_faults)) × ((why ≡ fault.CertReadFault) ⊎ (now.certificate_faults ≡ start.certificate_faults))
+
 -- a yes: of some requests with their marks and some records, which are all that the two sources have, if their bytes are known
 pub record IsPassed (start end : Inputs) (verdict : Verdict) : Type 0 where
   pub requests : Requests
@@ -200,6 +205,7 @@ pub record IsPassed (start end : Inputs) (verdict : Verdict) : Type 0 where
   pub walked : IsWalked start None
   pub trace_end : IfSome start.trace (λ _. end.trace ≡ Some [])
   pub certificate_end : IfSome start.certificate (λ _. end.certificate ≡ Some [])
+  pub stage : end.cert.stage ≡ AtEnd
   pub calm : IsCalm start end
 
 -- these are the first requests of the trace with their marks, and what is still to come follows them

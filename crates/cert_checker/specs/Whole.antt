@@ -9,7 +9,7 @@ use Rattle.trace_any.specs.Readers as requests
 use Rattle.cert_format.specs.Readers as lines
 use Rattle.cert_checker.specs.declared.verdict.Verdict.{Verdict}
 use Rattle.cert_checker.specs.declared.walking.CheckFault.{CheckFault}
-use Rattle.cert_checker.specs.Checks.{Inputs, IsEvent, IsNear, IsPassed, inputs}
+use Rattle.cert_checker.specs.Checks.{Inputs, IsCalmBut, IsEvent, IsNear, IsPassed, inputs}
 use Rattle.cert_checker.specs.Keeping.{Checked, HasKept, IsCheckEnd}
 
 -- where new readers stand, over the sources before
@@ -40,6 +40,7 @@ pub record Fails (format : Format) (trace cert : Device) (why : CheckFault) : Ty
   pub records : lines.Reader
   pub event : IsEvent (first_inputs format trace cert) (last_inputs reader records trace cert) why
   pub near : IsNear (first_inputs format trace cert) (last_inputs reader records trace cert) why
+  pub calm : IsCalmBut (first_inputs format trace cert) (last_inputs reader records trace cert) why
 
 -- a yes of the requests and the records that a keeper has, and how many lines of the trace were dropped
 pub record Ends (has : Making → List Record → Type 0) (format : Format) (trace cert : Device) (verdict : Verdict) (dropped : ℕ) : Type 0 where

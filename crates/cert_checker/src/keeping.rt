@@ -4,7 +4,7 @@ ghost use Rattle.bound_io.specs.Devices.{seen};
 ghost use Rattle.bound_io.specs.Reading.{LosesPrefix};
 ghost use Rattle.cert_format.specs.Readers.{fresh};
 ghost use Rattle.cache_rules.specs.Stored.{made_more};
-ghost use Rattle.cert_checker.specs.Checks.{IsEvent, IsFresh, IsNear, KeepsAnswer, seen_inputs};
+ghost use Rattle.cert_checker.specs.Checks.{IsCalmBut, IsEvent, IsFresh, IsNear, KeepsAnswer, seen_inputs};
 ghost use Rattle.cert_checker.specs.Keeping.{HasKept};
 ghost use Rattle.cert_checker.specs.Whole.{Fails, Keeps};
 ghost use Rattle.trace_any.specs.Readings.{IsFormat};
@@ -125,6 +125,9 @@ pub fn check_and_keep<T: Source, Q: Source>(
         (seen_inputs T.left T.faults Q.left Q.faults reader.old trace.old cert.old certificate.old)
         (seen_inputs T.left T.faults Q.left Q.faults reader.new trace.new cert.new certificate.new)) }
     ensures near { IfErr result (IsNear
+        (seen_inputs T.left T.faults Q.left Q.faults reader.old trace.old cert.old certificate.old)
+        (seen_inputs T.left T.faults Q.left Q.faults reader.new trace.new cert.new certificate.new)) }
+    ensures else_none_failed { IfErr result (IsCalmBut
         (seen_inputs T.left T.faults Q.left Q.faults reader.old trace.old cert.old certificate.old)
         (seen_inputs T.left T.faults Q.left Q.faults reader.new trace.new cert.new certificate.new)) }
     ensures kept { KeepsAnswer reader.new.fault cert.new.fault result }

@@ -1,12 +1,12 @@
 //! The check of a certificate against a trace, both read as streams.
-ghost use Rattle.std.specs.Prelude.{◌≡◌, ◌≤◌, ◌<◌, ◌+◌, ◌^◌, [], IfOk, IfErr, IfSome, None, OnOk, length};
+ghost use Rattle.std.specs.Prelude.{◌≡◌, ◌⊎◌, ◌≤◌, ◌<◌, ◌+◌, ◌^◌, [], IfOk, IfErr, IfSome, None, OnOk, length};
 ghost use Rattle.bound_io.specs.Reading.{LosesPrefix};
 ghost use Rattle.cache_model.specs.Certificates.{IsRecordInRange};
 ghost use Rattle.cert_checker.specs.declared.invalid.InvalidKind.TheVariants.{RequestCount};
 ghost use Rattle.cert_format.specs.Lines.{IsTaken};
 ghost use Rattle.cert_format.specs.Readers.{fresh};
 ghost use Rattle.cert_checker.specs.declared.walking.CheckFault.TheVariants.{Invalid};
-ghost use Rattle.cert_checker.specs.Checks.{ChecksNext, IsEvent, IsFresh, IsInSomeStep, IsInStep, IsNear};
+ghost use Rattle.cert_checker.specs.Checks.{ChecksNext, IsCalmBut, IsEvent, IsFresh, IsInSomeStep, IsInStep, IsNear};
 ghost use Rattle.cert_checker.specs.Checks.{IsPassed, IsSteppedAt, KeepsAnswer, seen_cert, seen_inputs};
 ghost use Rattle.cert_checker.specs.Keeping.{ChecksLast, IsCheckEnd, no_requests};
 ghost use Rattle.cert_checker.specs.Summaries.{IsSized};
@@ -157,6 +157,9 @@ fn check_next<T: Source, Q: Source>(
     ensures checked { ChecksNext
         (seen_inputs T.left T.faults Q.left Q.faults reader.old trace.old cert.old certificate.old) checker.old
         (seen_inputs T.left T.faults Q.left Q.faults reader.new trace.new cert.new certificate.new) checker.new result }
+    ensures else_none_failed { IfErr result (IsCalmBut
+        (seen_inputs T.left T.faults Q.left Q.faults reader.old trace.old cert.old certificate.old)
+        (seen_inputs T.left T.faults Q.left Q.faults reader.new trace.new cert.new certificate.new)) }
     ensures trace { LosesPrefix (T.left trace.old) (T.left trace.new) × (T.faults trace.old ≤ T.faults trace.new)
         × (length reader.new.lines.held ≤ 65536) }
     ensures taken { IsTaken cert.old.lines cert.new.lines (Q.left certificate.old) (Q.left certificate.new) }
@@ -189,6 +192,7 @@ fn check_last<Q: Source>(
     ensures checked { ChecksLast
         (seen_cert Q.left Q.faults cert.old certificate.old) checker.now
         (seen_cert Q.left Q.faults cert.new certificate.new) result }
+    ensures else_none_failed { IfErr result (λ why. (why ≡ CheckFault.CertReadFault) ⊎ (Q.faults certificate.new ≡ Q.faults certificate.old)) }
     ensures taken { IsTaken cert.old.lines cert.new.lines (Q.left certificate.old) (Q.left certificate.new) }
     ensures kept { KeepsAnswer None cert.new.fault result }
     ensures source { LosesPrefix (Q.left certificate.old) (Q.left certificate.new) }
@@ -221,6 +225,9 @@ pub(crate) fn check_with<T: Source, Q: Source, K: Keeper>(
     ensures checked { IsCheckEnd (K.has keeper.new)
         (seen_inputs T.left T.faults Q.left Q.faults reader.old trace.old cert.old certificate.old)
         (seen_inputs T.left T.faults Q.left Q.faults reader.new trace.new cert.new certificate.new) result }
+    ensures else_none_failed { IfErr result (IsCalmBut
+        (seen_inputs T.left T.faults Q.left Q.faults reader.old trace.old cert.old certificate.old)
+        (seen_inputs T.left T.faults Q.left Q.faults reader.new trace.new cert.new certificate.new)) }
     ensures taken { IsTaken cert.old.lines cert.new.lines (Q.left certificate.old) (Q.left certificate.new) }
     ensures kept { KeepsAnswer reader.new.fault cert.new.fault result }
     ensures trace { LosesPrefix (T.left trace.old) (T.left trace.new) × (T.faults trace.old ≤ T.faults trace.new)
@@ -275,6 +282,9 @@ pub fn check_streams<T: Source, Q: Source>(
         (seen_inputs T.left T.faults Q.left Q.faults reader.old trace.old cert.old certificate.old)
         (seen_inputs T.left T.faults Q.left Q.faults reader.new trace.new cert.new certificate.new)) }
     ensures near { IfErr result (IsNear
+        (seen_inputs T.left T.faults Q.left Q.faults reader.old trace.old cert.old certificate.old)
+        (seen_inputs T.left T.faults Q.left Q.faults reader.new trace.new cert.new certificate.new)) }
+    ensures else_none_failed { IfErr result (IsCalmBut
         (seen_inputs T.left T.faults Q.left Q.faults reader.old trace.old cert.old certificate.old)
         (seen_inputs T.left T.faults Q.left Q.faults reader.new trace.new cert.new certificate.new)) }
     ensures kept { KeepsAnswer reader.new.fault cert.new.fault result }

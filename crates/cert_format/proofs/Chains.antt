@@ -1,5 +1,5 @@
 -- Lines that are read one after another.
-use Rattle.std.proofs.Common.{◌≡◌, ℕ, zero, suc, ◌+◌, ◌-◌, ◌≤◌, ◌∙◌, sym, refl, ap, subst, List, [], ◌∷◌, ◌++◌, append_assoc, length, arith, Some, None, Option, Ok, Err, Result, IfSome, IfOk, IfErr, inl, inr, length-drop}
+use Rattle.std.proofs.Common.{◌⊎◌, ◌≡◌, ℕ, zero, suc, ◌+◌, ◌-◌, ◌≤◌, ◌∙◌, sym, refl, ap, subst, List, [], ◌∷◌, ◌++◌, append_assoc, length, arith, Some, None, Option, Ok, Err, Result, IfSome, IfOk, IfErr, inl, inr, length-drop}
 use Rattle.std.specs.Option.{option_or}
 use Rattle.bound_io.specs.Causes.{HasNewFault}
 use Rattle.bound_io.specs.Devices.{Device, device}
@@ -141,8 +141,13 @@ module _ {A : Type 0} (count : ℕ) (P : List ℕ → Type 0) (fault_of : ℕ �
     loses = loses_both a b d done.loses reads.loses;
     later = omega (arith, done.none_failed, reads.later);
     none_failed = tt;
+    else_none_failed = calm (subst (λ s. IfErr s (λ f. (f ≡ ReadFault) ⊎ (z ≡ y))) is reads.else_none_failed);
   }
     where
+      calm : (fault ≡ ReadFault) ⊎ (z ≡ y) → (fault ≡ ReadFault) ⊎ (z ≡ x)
+      calm (inl failed) = inl failed
+      calm (inr same) = inr (same ∙ done.none_failed)
+
       has : (g : CertFault) → IfSome (known now b) (λ bytes. fault_of (now.line + 1) bytes ≡ Some g) → IfSome (known old a) (λ bytes. whole bytes ≡ Some g)
       has g h = if_known (known old a) _ (λ bytes e.
           let so_far = at_some (known old a) bytes _ e done.stands in
@@ -171,6 +176,7 @@ all_done count P old now a b x y whole value_of v done held none is = record {
   loses = done.loses;
   later = omega (arith, done.none_failed);
   none_failed = done.none_failed;
+  else_none_failed = tt;
 }
 
 -- the last of several readings

@@ -25,6 +25,10 @@ use Rattle.cert_format.specs.Lines.{known, text_given, nothing_given, of_line, I
 use Rattle.cert_format.proofs.Prefixes.{whole_line, cut_line, long_line}
 use Rattle.cert_format.proofs.Headers.{after_lines-suc, after_lines-zero}
 
+-- the fault of a read
+abbrev pub read_fault : LineFault
+read_fault = line.ReadFault
+
 -- what a call for the next line says
 pub record Gave (old new : Position) (source : Device) (r : Result WholeLine LineFault) : Type 0 where
   pub line : IfOk r (λ w. IfSome (stands_in old.held source.before) (IsLine w))
@@ -35,6 +39,16 @@ pub record Gave (old new : Position) (source : Device) (r : Result WholeLine Lin
   pub loses : LosesPrefix source.before source.after
   pub later : source.faults_before ≤ source.faults_after
   pub none_failed : OnOk r (source.faults_after ≡ source.faults_before)
+  pub else_none_failed : IfErr r (λ fault. (fault ≡ read_fault) ⊎ (source.faults_after ≡ source.faults_before))
+
+-- a fault of the reader of lines that isn't that of a read has no failed read behind it
+calm_too_long : (m before now : ℕ) → (line.LineTooLong m ≡ line.ReadFault) ⊎ (now ≡ before) → now ≡ before
+calm_too_long m before now (inl other) = cc
+calm_too_long m before now (inr same) = same
+
+calm_past_limit : (before now : ℕ) → (line.InputTooLong ≡ line.ReadFault) ⊎ (now ≡ before) → now ≡ before
+calm_past_limit before now (inl other) = cc
+calm_past_limit before now (inr same) = same
 
 -- the bytes of no line, and of one
 bytes_through-zero : (bytes : List ℕ) → bytes_through 0 bytes ≡ 0
@@ -115,27 +129,27 @@ module _ {A : Type 0} (slots_of : List ℕ → List Slot) (value : List ℕ → 
   Stopped fault = Reads (line_fault_of (old.line + 1) slots_of) 1 value old new source (Err fault)
 
   -- from its parts
-  stops : (fault : CertFault) → (new.limit ≡ old.limit) → (length new.held ≤ 65536) → IsStopped (line_fault_of (old.line + 1) slots_of) (known old source.before) source fault → IsWithin new.line fault → IfSome (known old source.before) (IsPast old new) → IsTaken old new source.before source.after → Stopped fault
-  stops fault same held stopped within past taken = record { limit = same; held = held; given = tt; passes = tt; value_is = tt; stopped = stopped; within = within; past = past; taken = taken; loses = loses; later = later; none_failed = tt }
+  stops : (fault : CertFault) → (fault ≡ ReadFault) ⊎ (source.faults_after ≡ source.faults_before) → (new.limit ≡ old.limit) → (length new.held ≤ 65536) → IsStopped (line_fault_of (old.line + 1) slots_of) (known old source.before) source fault → IsWithin new.line fault → IfSome (known old source.before) (IsPast old new) → IsTaken old new source.before source.after → Stopped fault
+  stops fault calm same held stopped within past taken = record { limit = same; held = held; given = tt; passes = tt; value_is = tt; stopped = stopped; within = within; past = past; taken = taken; loses = loses; later = later; none_failed = tt; else_none_failed = calm }
 
   -- the bytes that the reader of lines stands in are known too
   in_known : (P : List ℕ → Type 0) → IfSome (stands_in old.held source.before) P → (bytes : List ℕ) → known old source.before ≡ Some bytes → P bytes
   in_known P all bytes is = at_some (stands_in old.held source.before) bytes P (known_some old source.before bytes is).1 all
 
   stop_unended : (text : List ℕ) → length text ≤ 65535 → GivesLine old new (stands_in old.held source.before) (stands_in new.held source.after) → length new.held ≤ 65536
-      → IfSome (stands_in old.held source.before) (λ bytes. (text ≡ bytes) × (text_len bytes ≡ length bytes) × (0 < length bytes)) → Stopped (Truncated (old.line + 1))
-  stop_unended text short gives held is = stops (Truncated (old.line + 1)) gives.limit held
+      → IfSome (stands_in old.held source.before) (λ bytes. (text ≡ bytes) × (text_len bytes ≡ length bytes) × (0 < length bytes)) → source.faults_after ≡ source.faults_before → Stopped (Truncated (old.line + 1))
+  stop_unended text short gives held is calm = stops (Truncated (old.line + 1)) (inr calm) gives.limit held
       (if_known (known old source.before) _ (λ bytes e. let whole = in_known _ is bytes e in (cut_line (old.line + 1) (slots_of (first_text bytes)) bytes (omega (arith, whole.1)) (omega (arith, whole.1, ap length whole.0, short)))))
       (omega (arith, gives.line)) (if_known (known old source.before) _ (λ bytes e. one_past old new bytes gives.line (in_known _ gives.consumed bytes e))) (line_taken old new source.before source.after gives)
 
-  stop_end : GivesNone old new (stands_in old.held source.before) (stands_in new.held source.after) → length new.held ≤ 65536 → IfSome (stands_in old.held source.before) (λ bytes. bytes ≡ []) → Stopped (Truncated (old.line + 1))
-  stop_end gives held is = stops (Truncated (old.line + 1)) (ap (λ p. p.limit) gives.still) held
+  stop_end : GivesNone old new (stands_in old.held source.before) (stands_in new.held source.after) → length new.held ≤ 65536 → IfSome (stands_in old.held source.before) (λ bytes. bytes ≡ []) → source.faults_after ≡ source.faults_before → Stopped (Truncated (old.line + 1))
+  stop_end gives held is calm = stops (Truncated (old.line + 1)) (inr calm) (ap (λ p. p.limit) gives.still) held
       (if_known (known old source.before) _ (λ bytes e. let none = in_known _ is bytes e in rw none refl))
       (omega (arith, ap (λ p. p.line) gives.still)) (if_known (known old source.before) _ (λ bytes e. kept_past old new bytes (ap (λ p. p.line) gives.still) (ap (λ p. p.consumed) gives.still)))
       (held_taken old new source.before source.after (ap (λ p. p.consumed) gives.still) gives.rest)
 
-  stop_fault : (given : LineFault) (fault : CertFault) → Stops old new (stands_in old.held source.before) (stands_in new.held source.after) given → length new.held ≤ 65536 → IsStopped (line_fault_of (old.line + 1) slots_of) (known old source.before) source fault → IsWithin old.line fault → Stopped fault
-  stop_fault given fault stop held why within = stops fault (ap (λ p. p.limit) stop.still) held why (rw (ap (λ p. p.line) stop.still) within)
+  stop_fault : (given : LineFault) (fault : CertFault) → Stops old new (stands_in old.held source.before) (stands_in new.held source.after) given → length new.held ≤ 65536 → IsStopped (line_fault_of (old.line + 1) slots_of) (known old source.before) source fault → IsWithin old.line fault → (fault ≡ ReadFault) ⊎ (source.faults_after ≡ source.faults_before) → Stopped fault
+  stop_fault given fault stop held why within calm = stops fault calm (ap (λ p. p.limit) stop.still) held why (rw (ap (λ p. p.line) stop.still) within)
       (if_known (known old source.before) _ (λ bytes e. kept_past old new bytes (ap (λ p. p.line) stop.still) (ap (λ p. p.consumed) stop.still)))
       (held_taken old new source.before source.after (ap (λ p. p.consumed) stop.still) stop.rest)
 
@@ -150,20 +164,20 @@ module _ {A : Type 0} (slots_of : List ℕ → List Slot) (value : List ℕ → 
   stop_line (Ok (Whole text)) fault gave is = absurd (no_value text.now fault is)
   stop_line (Ok (Unended text)) fault gave is =
       let same : Truncated (old.line + 1) ≡ fault = cc in
-      subst Stopped same (stop_unended text.now gave.short gave.next gave.held gave.line)
+      subst Stopped same (stop_unended text.now gave.short gave.next gave.held gave.line gave.none_failed)
   stop_line (Ok AtEnd) fault gave is =
       let same : Truncated (old.line + 1) ≡ fault = cc in
-      subst Stopped same (stop_end gave.next gave.held gave.line)
+      subst Stopped same (stop_end gave.next gave.held gave.line gave.none_failed)
   stop_line (Err line.ReadFault) fault gave is =
       let same : ReadFault ≡ fault = cc in
-      subst Stopped same (stop_fault line.ReadFault ReadFault gave.next gave.held gave.refused tt)
+      subst Stopped same (stop_fault line.ReadFault ReadFault gave.next gave.held gave.refused tt (inl refl))
   stop_line (Err (line.LineTooLong m)) fault gave is =
       let same : BadText (old.line + 1) TooLong ≡ fault = cc in
       subst Stopped same (stop_fault (line.LineTooLong m) (BadText (old.line + 1) TooLong) gave.next gave.held
-      (if_known (known old source.before) _ (λ bytes e. long_line (old.line + 1) (slots_of (first_text bytes)) bytes (in_known _ gave.refused.1 bytes e))) (omega arith))
+      (if_known (known old source.before) _ (λ bytes e. long_line (old.line + 1) (slots_of (first_text bytes)) bytes (in_known _ gave.refused.1 bytes e))) (omega arith) (inr (calm_too_long m _ _ gave.else_none_failed)))
   stop_line (Err line.InputTooLong) fault gave is =
       let same : BadText (old.line + 1) TooLong ≡ fault = cc in
-      subst Stopped same (stop_fault line.InputTooLong (BadText (old.line + 1) TooLong) gave.next gave.held (not_past gave.refused) (omega arith))
+      subst Stopped same (stop_fault line.InputTooLong (BadText (old.line + 1) TooLong) gave.next gave.held (not_past gave.refused) (omega arith) (inr (calm_past_limit _ _ gave.else_none_failed)))
 
 -- a whole line is read: its text has this fault, or this value
 module _ {A : Type 0} (slots_of : List ℕ → List Slot) (value : List ℕ → A) (old new : Position) (source : Device) (text : List ℕ) (short : line_fault (slots_of text) text ≡ None → length text ≤ 63) (loses : LosesPrefix source.before source.after) (later : source.faults_before ≤ source.faults_after) where
@@ -199,6 +213,7 @@ module _ {A : Type 0} (slots_of : List ℕ → List Slot) (value : List ℕ → 
     loses = loses;
     later = later;
     none_failed = calm;
+    else_none_failed = tt;
   }
   read_whole (Some kind) fault gives held long is calm = record {
     limit = gives.limit;
@@ -216,6 +231,7 @@ module _ {A : Type 0} (slots_of : List ℕ → List Slot) (value : List ℕ → 
     loses = loses;
     later = later;
     none_failed = tt;
+    else_none_failed = inr calm;
   }
 
   pub read_line : (r : Result WholeLine LineFault) → Gave old new source r → text_given (old.line + 1) r ≡ Ok text → Read (of_line (old.line + 1) (value_unless (line_fault (slots_of text) text) (value text)))
@@ -249,20 +265,20 @@ module _ (old new : Position) (source : Device) (limit : old.limit ≡ 2 ^ 36) (
   abbrev Looked : Result (Unit {0}) CertFault → Type 0
   Looked result = Reads (trailing (old.line + 1)) 0 (λ bytes. tt) old new source result
 
-  refuses : (fault : CertFault) → (new.limit ≡ old.limit) → (length new.held ≤ 65536) → IsStopped (trailing (old.line + 1)) (known old source.before) source fault → IsWithin new.line fault → IfSome (known old source.before) (IsPast old new) → IsTaken old new source.before source.after → Looked (Err fault)
-  refuses fault same held stopped within past taken = record { limit = same; held = held; given = tt; passes = tt; value_is = tt; stopped = stopped; within = within; past = past; taken = taken; loses = loses; later = later; none_failed = tt }
+  refuses : (fault : CertFault) → (fault ≡ ReadFault) ⊎ (source.faults_after ≡ source.faults_before) → (new.limit ≡ old.limit) → (length new.held ≤ 65536) → IsStopped (trailing (old.line + 1)) (known old source.before) source fault → IsWithin new.line fault → IfSome (known old source.before) (IsPast old new) → IsTaken old new source.before source.after → Looked (Err fault)
+  refuses fault calm same held stopped within past taken = record { limit = same; held = held; given = tt; passes = tt; value_is = tt; stopped = stopped; within = within; past = past; taken = taken; loses = loses; later = later; none_failed = tt; else_none_failed = calm }
 
   known_in : (P : List ℕ → Type 0) → IfSome (stands_in old.held source.before) P → (bytes : List ℕ) → known old source.before ≡ Some bytes → P bytes
   known_in P all bytes is = at_some (stands_in old.held source.before) bytes P (known_some old source.before bytes is).1 all
 
   -- a line, whatever it is
-  refuse_line : GivesLine old new (stands_in old.held source.before) (stands_in new.held source.after) → length new.held ≤ 65536 → IfSome (stands_in old.held source.before) (λ bytes. 0 < length bytes) → Looked (Err (Trailing (old.line + 1)))
-  refuse_line gives held some = refuses (Trailing (old.line + 1)) gives.limit held (if_known (known old source.before) _ (λ bytes e. some_trailing (old.line + 1) bytes (known_in _ some bytes e))) (omega (arith, gives.line))
+  refuse_line : GivesLine old new (stands_in old.held source.before) (stands_in new.held source.after) → length new.held ≤ 65536 → IfSome (stands_in old.held source.before) (λ bytes. 0 < length bytes) → source.faults_after ≡ source.faults_before → Looked (Err (Trailing (old.line + 1)))
+  refuse_line gives held some calm = refuses (Trailing (old.line + 1)) (inr calm) gives.limit held (if_known (known old source.before) _ (λ bytes e. some_trailing (old.line + 1) bytes (known_in _ some bytes e))) (omega (arith, gives.line))
       (if_known (known old source.before) _ (λ bytes e. one_past old new bytes gives.line (known_in _ gives.consumed bytes e))) (line_taken old new source.before source.after gives)
 
   -- no line, for a fault of the reader of lines
-  refuse_fault : (given : LineFault) (fault : CertFault) → Stops old new (stands_in old.held source.before) (stands_in new.held source.after) given → length new.held ≤ 65536 → IsStopped (trailing (old.line + 1)) (known old source.before) source fault → IsWithin old.line fault → Looked (Err fault)
-  refuse_fault given fault stop held why within = refuses fault (ap (λ p. p.limit) stop.still) held why (rw (ap (λ p. p.line) stop.still) within)
+  refuse_fault : (given : LineFault) (fault : CertFault) → Stops old new (stands_in old.held source.before) (stands_in new.held source.after) given → length new.held ≤ 65536 → IsStopped (trailing (old.line + 1)) (known old source.before) source fault → IsWithin old.line fault → (fault ≡ ReadFault) ⊎ (source.faults_after ≡ source.faults_before) → Looked (Err fault)
+  refuse_fault given fault stop held why within calm = refuses fault calm (ap (λ p. p.limit) stop.still) held why (rw (ap (λ p. p.line) stop.still) within)
       (if_known (known old source.before) _ (λ bytes e. kept_past old new bytes (ap (λ p. p.line) stop.still) (ap (λ p. p.consumed) stop.still)))
       (held_taken old new source.before source.after (ap (λ p. p.consumed) stop.still) stop.rest)
 
@@ -292,19 +308,20 @@ module _ (old new : Position) (source : Device) (limit : old.limit ≡ 2 ^ 36) (
     loses = loses;
     later = later;
     none_failed = calm;
+    else_none_failed = tt;
   }
 
   pub look_on : (r : Result WholeLine LineFault) → Gave old new source r → Looked (nothing_given (old.line + 1) r)
-  look_on (Ok (Whole text)) gave = refuse_line gave.next gave.held (longer (stands_in old.held source.before) _ gave.line (λ bytes is. omega (arith, is.1)))
-  look_on (Ok (Unended text)) gave = refuse_line gave.next gave.held (longer (stands_in old.held source.before) _ gave.line (λ bytes is. is.2))
+  look_on (Ok (Whole text)) gave = refuse_line gave.next gave.held (longer (stands_in old.held source.before) _ gave.line (λ bytes is. omega (arith, is.1))) gave.none_failed
+  look_on (Ok (Unended text)) gave = refuse_line gave.next gave.held (longer (stands_in old.held source.before) _ gave.line (λ bytes is. is.2)) gave.none_failed
   look_on (Ok AtEnd) gave = no_line gave.next gave.held gave.none_failed
-  look_on (Err line.ReadFault) gave = refuse_fault line.ReadFault ReadFault gave.next gave.held gave.refused tt
+  look_on (Err line.ReadFault) gave = refuse_fault line.ReadFault ReadFault gave.next gave.held gave.refused tt (inl refl)
   look_on (Err (line.LineTooLong m)) gave = refuse_fault (line.LineTooLong m) (Trailing (old.line + 1)) gave.next gave.held
-      (if_known (known old source.before) _ (λ bytes e. some_trailing (old.line + 1) bytes (omega (arith, known_in _ gave.refused.1 bytes e, prefix_len-le-length (λ b. not (is_lf b)) bytes)))) (omega arith)
+      (if_known (known old source.before) _ (λ bytes e. some_trailing (old.line + 1) bytes (omega (arith, known_in _ gave.refused.1 bytes e, prefix_len-le-length (λ b. not (is_lf b)) bytes)))) (omega arith) (inr (calm_too_long m _ _ gave.else_none_failed))
   look_on (Err line.InputTooLong) gave = refuse_fault line.InputTooLong (Trailing (old.line + 1)) gave.next gave.held
       (if_known (known old source.before) _ (λ bytes e.
       let past = known_in _ gave.refused bytes e in
-      some_trailing (old.line + 1) bytes (omega (arith, past.1, (known_some old source.before bytes e).0, limit, few, length-take (text_len bytes + 1) bytes)))) (omega arith)
+      some_trailing (old.line + 1) bytes (omega (arith, past.1, (known_some old source.before bytes e).0, limit, few, length-take (text_len bytes + 1) bytes)))) (omega arith) (inr (calm_past_limit _ _ gave.else_none_failed))
 
 -- what is made of the text of a line
 pub read_of_line : {A : Type 0} (n line : ℕ) (result : Result A CertFault) (parsed : Result A TextKind) (fault : Option TextKind) (value : A) → result ≡ of_line (n + 1) parsed → parsed ≡ value_unless fault value → n ≡ line → result ≡ of_line (line + 1) (value_unless fault value)

@@ -1,5 +1,5 @@
 //! A reader of certificates.
-ghost use Rattle.std.specs.Prelude.{◌≡◌, ◌≢◌, ◌+◌, ◌^◌, ◌<◌, ◌≤◌, IfOk, IfErr, IfSome, OnErr, OnOk, length, None, Err};
+ghost use Rattle.std.specs.Prelude.{◌≡◌, ◌≢◌, ◌⊎◌, ◌+◌, ◌^◌, ◌<◌, ◌≤◌, IfOk, IfErr, IfSome, OnErr, OnOk, length, None, Err};
 ghost use Rattle.bound_io.specs.Devices.{seen};
 ghost use Rattle.bound_io.specs.Reading.{LosesPrefix};
 ghost use Rattle.cache_model.specs.Certificates.{IsHeaderInRange, IsRecordInRange};
@@ -132,6 +132,7 @@ impl CertReader {
         ensures source { LosesPrefix (Q.left source.old) (Q.left source.new) }
         ensures later { Q.faults source.old ≤ Q.faults source.new }
         ensures none_failed { OnOk result (Q.faults source.new ≡ Q.faults source.old) }
+        ensures else_none_failed { IfErr result (λ fault. (fault ≡ CertFault.ReadFault) ⊎ (Q.faults source.new ≡ Q.faults source.old)) }
     {
         if let Some(fault) = self.fault {
             return Err(fault);
@@ -164,6 +165,7 @@ impl CertReader {
         ensures source { LosesPrefix (Q.left source.old) (Q.left source.new) }
         ensures later { Q.faults source.old ≤ Q.faults source.new }
         ensures none_failed { OnOk result (Q.faults source.new ≡ Q.faults source.old) }
+        ensures else_none_failed { IfErr result (λ fault. (fault ≡ CertFault.ReadFault) ⊎ (Q.faults source.new ≡ Q.faults source.old)) }
     {
         if let Some(fault) = self.fault {
             return Err(fault);
@@ -194,6 +196,7 @@ impl CertReader {
         ensures source { LosesPrefix (Q.left source.old) (Q.left source.new) }
         ensures later { Q.faults source.old ≤ Q.faults source.new }
         ensures none_failed { OnOk result (Q.faults source.new ≡ Q.faults source.old) }
+        ensures else_none_failed { IfErr result (λ fault. (fault ≡ CertFault.ReadFault) ⊎ (Q.faults source.new ≡ Q.faults source.old)) }
     {
         if let Some(fault) = self.fault {
             return Err(fault);

@@ -1,4 +1,4 @@
-use Rattle.std.proofs.Common.{◌≡◌, ◌+◌, ◌<◌, ◌∙◌, ap, refl, subst, arith, length}
+use Rattle.std.proofs.Common.{inr, ◌≡◌, ◌+◌, ◌<◌, ◌∙◌, ap, refl, subst, arith, length}
 use Rattle.std.proofs.lemmas.Result.{err_from_is_err_and}
 use Rattle.cache_model.specs.declared.certificates.Header.{Header}
 use Rattle.cache_model.specs.Texts.{header_len}
@@ -10,6 +10,7 @@ use Rattle.cert_checker.specs.Checks.{Inputs, inputs, IsStop}
 use Rattle.cert_checker.proofs.Stops.{last_line}
 use Rattle.cert_checker.proofs.Ends.{stop_few, stop_end, stop_end_rule, passes}
 use Rattle.cert_checker.proofs.KeptFaults.{kept_none, kept_text}
+use Rattle.cert_checker.proofs.Calm.{calm_text}
 use Rattle.cert_checker.proofs.walking.check_last.Goals as goal
 
 pub returns-then-read-header-clause-checked : goal.returns-then-read-header-clause-checked
@@ -47,7 +48,7 @@ returns-in-Ok-clause-checked g c = λ start reader left faults h given records c
     let e = c.in_ok-finish_text.ensures in
     let now : Inputs = inputs reader left faults c.args.cert.now (g.Q.Source.left c.args.certificate.now) (g.Q.Source.faults c.args.certificate.now) in
     let end : Inputs = inputs reader left faults c.finish_text.new.self (g.Q.Source.left c.finish_text.new.source) (g.Q.Source.faults c.finish_text.new.source) in
-    passes start h given records now c.args.checker.now checked_all full end refl e.ahead e.past (e.read s.cert_fault).2 refl refl (record { trace = refl; certificate = e.none_failed }) c.in-Ok.verdict (c.in-Ok.ensures h given.fills given.objects records checked_all.stands)
+    passes start h given records now c.args.checker.now checked_all full end refl e.ahead e.past (e.read s.cert_fault).2 (e.read s.cert_fault).0 refl refl (record { trace = refl; certificate = e.none_failed }) c.in-Ok.verdict (c.in-Ok.ensures h given.fills given.objects records checked_all.stands)
 
 pub returns-in-Err-clause-checked : goal.returns-in-Err-clause-checked
 returns-in-Err-clause-checked g c = λ start reader left faults h given records checked_all.
@@ -113,3 +114,11 @@ returns-in-Ok-clause-kept g c = (refl, c.in_ok-finish_text.ensures.fault c.requi
 
 pub returns-in-Err-clause-kept : goal.returns-in-Err-clause-kept
 returns-in-Err-clause-kept g c = kept_none _ _ _ refl (c.in_ok-finish_text.ensures.fault c.requires.in_step.3.cert_fault) tt
+
+pub returns-in_err-finish_text-clause-else_none_failed : goal.returns-in_err-finish_text-clause-else_none_failed
+returns-in_err-finish_text-clause-else_none_failed g c =
+    let p = err_from_is_err_and c.from_residual.result c.from_residual.ensures.1 in
+    rw (p.1, p.2) (calm_text c.in_err-finish_text.field-0.0 _ _ c.in_err-finish_text.ensures.else_none_failed)
+
+pub returns-in-Err-clause-else_none_failed : goal.returns-in-Err-clause-else_none_failed
+returns-in-Err-clause-else_none_failed g c = inr c.in_ok-finish_text.ensures.none_failed

@@ -1,4 +1,4 @@
-use Rattle.std.proofs.Common.{◌≡◌, ◌+◌, ◌<◌, ◌∙◌, sym, ap, refl, subst, arith, [], ◌∷◌, ◌++◌, length}
+use Rattle.std.proofs.Common.{inr, ◌≡◌, ◌+◌, ◌<◌, ◌∙◌, sym, ap, refl, subst, arith, [], ◌∷◌, ◌++◌, length}
 use Rattle.std.proofs.lemmas.Result.{err_from_is_err_and}
 use Rattle.std.proofs.lemmas.List.{length-append}
 use Rattle.cache_model.specs.declared.certificates.Header.{Header}
@@ -14,6 +14,7 @@ use Rattle.cert_checker.proofs.Losses.{keeps}
 use Rattle.cert_checker.proofs.KeptFaults.{kept_none, kept_rule, kept_text, kept_trace}
 use Rattle.cert_checker.proofs.Stops.{last_line, stop_trace, end_trace, stop_count, stop_text, stop_rule, goes_further}
 use Rattle.cert_checker.proofs.Marked.{AreMarked-next, marked_now}
+use Rattle.cert_checker.proofs.Calm.{calm_text, calm_trace}
 use Rattle.cert_checker.proofs.walking.check_next.Goals as goal
 
 pub returns-in_err-object-clause-checked : goal.returns-in_err-object-clause-checked
@@ -257,3 +258,21 @@ returns-in_err-step-clause-kept g c =
 
 pub returns-clause-kept : goal.returns-clause-kept
 returns-clause-kept g c = (c.in_ok-object.ensures.fault c.requires.in_step.trace_fault, c.in_ok-entry.ensures.fault c.requires.in_step.cert_fault)
+
+pub returns-in_err-object-clause-else_none_failed : goal.returns-in_err-object-clause-else_none_failed
+returns-in_err-object-clause-else_none_failed g c =
+    let p = err_from_is_err_and c.from_residual.result c.from_residual.ensures.1 in
+    rw (p.1, p.2) (calm_trace c.in_err-object.field-0.0 _ _ c.in_err-object.ensures.else_none_failed, inr refl)
+
+pub returns-then-read-header-clause-else_none_failed : goal.returns-then-read-header-clause-else_none_failed
+returns-then-read-header-clause-else_none_failed g c = (inr c.in_ok-object.ensures.none_failed, inr refl)
+
+pub returns-in_err-entry-clause-else_none_failed : goal.returns-in_err-entry-clause-else_none_failed
+returns-in_err-entry-clause-else_none_failed g c =
+    let p = err_from_is_err_and c.from_residual-in_err-entry.result c.from_residual-in_err-entry.ensures.1 in
+    rw (p.1, p.2) (inr c.in_ok-object.ensures.none_failed, calm_text c.in_err-entry.field-0.0 _ _ c.in_err-entry.ensures.else_none_failed)
+
+pub returns-in_err-step-clause-else_none_failed : goal.returns-in_err-step-clause-else_none_failed
+returns-in_err-step-clause-else_none_failed g c =
+    let p = err_from_is_err_and c.from_residual-in_err-step.result c.from_residual-in_err-step.ensures.1 in
+    rw (p.1, p.2) (inr c.in_ok-object.ensures.none_failed, inr c.in_ok-entry.ensures.none_failed)

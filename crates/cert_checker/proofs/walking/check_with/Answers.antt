@@ -1,4 +1,4 @@
-use Rattle.std.proofs.Common.{◌≡◌, ◌∙◌, sym, ap, refl, subst, arith, [], ◌∷◌, ◌++◌, length, None}
+use Rattle.std.proofs.Common.{inr, ◌≡◌, ◌∙◌, sym, ap, refl, subst, arith, [], ◌∷◌, ◌++◌, length, None}
 use Rattle.std.proofs.lemmas.Bool.{false≢true}
 use Rattle.std.proofs.lemmas.Result.{err_from_is_err_and}
 use Rattle.cache_model.specs.declared.certificates.Header.{Header}
@@ -15,6 +15,7 @@ use Rattle.cert_checker.proofs.KeptFaults.{kept_text}
 use Rattle.cert_checker.proofs.Losses.{keeps}
 use Rattle.cert_checker.proofs.Marked.{kept_next, marks_kept, none_marked}
 use Rattle.cert_checker.proofs.NextChecks.{check_end}
+use Rattle.cert_checker.proofs.Calm.{calm_last, calm_text, calm_then}
 use Rattle.cert_checker.proofs.walking.check_with.Goals as goal
 
 pub returns-in_err-header-clause-checked : goal.returns-in_err-header-clause-checked
@@ -185,3 +186,32 @@ returns-clause-checked g c =
     let end : Inputs = seen_inputs g.T.Source.left g.T.Source.faults g.Q.Source.left g.Q.Source.faults c.check_next.new.reader c.check_next.new.trace c.check_last.new.cert c.check_last.new.certificate in
     check_end (g.K.Keeper.has c.loop-checker.keeper) start end i.kept.0 i.kept.1 i.kept.2 c.check_last.result
     (c.check_last.ensures.checked start c.check_next.new.reader (g.T.Source.left c.check_next.new.trace) (g.T.Source.faults c.check_next.new.trace) c.in_ok-header.header i.kept.0 i.kept.1 all)
+
+pub returns-in_err-header-clause-else_none_failed : goal.returns-in_err-header-clause-else_none_failed
+returns-in_err-header-clause-else_none_failed g c =
+    let p = err_from_is_err_and c.from_residual.result c.from_residual.ensures.1 in
+    rw (p.1, p.2) (inr refl, calm_text c.in_err-header.field-0.0 _ _ c.in_err-header.ensures.else_none_failed)
+
+pub returns-in_err-object-clause-else_none_failed : goal.returns-in_err-object-clause-else_none_failed
+returns-in_err-object-clause-else_none_failed g c =
+    let start : Inputs = seen_inputs g.T.Source.left g.T.Source.faults g.Q.Source.left g.Q.Source.faults c.args.reader.now c.args.trace.now c.args.cert.now c.args.certificate.now in
+    let now : Inputs = seen_inputs g.T.Source.left g.T.Source.faults g.Q.Source.left g.Q.Source.faults c.loop-checker.reader c.loop-checker.trace c.loop-checker.cert c.loop-checker.certificate in
+    let end : Inputs = seen_inputs g.T.Source.left g.T.Source.faults g.Q.Source.left g.Q.Source.faults c.check_next.new.reader c.check_next.new.trace c.check_next.new.cert c.check_next.new.certificate in
+    let p = err_from_is_err_and c.from_residual-in_err-object.result c.from_residual-in_err-object.ensures.1 in
+    rw (p.1, p.2) (calm_then start now end _ c.loop-checker.invariant.kept.3.calm c.in_err-object.ensures.else_none_failed)
+
+pub returns-in_err-keep-clause-else_none_failed : goal.returns-in_err-keep-clause-else_none_failed
+returns-in_err-keep-clause-else_none_failed g c =
+    let start : Inputs = seen_inputs g.T.Source.left g.T.Source.faults g.Q.Source.left g.Q.Source.faults c.args.reader.now c.args.trace.now c.args.cert.now c.args.certificate.now in
+    let i = c.loop-checker.invariant in
+    let p = err_from_is_err_and c.from_residual-in_err-keep.result c.from_residual-in_err-keep.ensures.1 in
+    let more = rw c.in-Some.is at (c.in_ok-object.ensures.checked start c.in_ok-header.header i.kept.0 i.kept.1 i.kept.3) in
+    rw (p.1, p.2) (inr more.calm.trace, inr more.calm.certificate)
+
+pub returns-clause-else_none_failed : goal.returns-clause-else_none_failed
+returns-clause-else_none_failed g c =
+    let start : Inputs = seen_inputs g.T.Source.left g.T.Source.faults g.Q.Source.left g.Q.Source.faults c.args.reader.now c.args.trace.now c.args.cert.now c.args.certificate.now in
+    let i = c.loop-checker.invariant in
+    let all = rw c.in_default.is at (c.in_ok-object.ensures.checked start c.in_ok-header.header i.kept.0 i.kept.1 i.kept.3) in
+    let end : Inputs = seen_inputs g.T.Source.left g.T.Source.faults g.Q.Source.left g.Q.Source.faults c.check_next.new.reader c.check_next.new.trace c.check_last.new.cert c.check_last.new.certificate in
+    calm_last start end (g.Q.Source.faults c.check_next.new.certificate) c.check_last.result all.calm.trace all.calm.certificate c.check_last.ensures.else_none_failed

@@ -1,4 +1,4 @@
-use Rattle.std.proofs.Common.{◌≡◌, ◌∙◌, ap, sym}
+use Rattle.std.proofs.Common.{refl, ◌≡◌, ◌∙◌, ap, sym}
 use Rattle.std.proofs.lemmas.Result.{err_from_is_err_and}
 use Rattle.trace_any.specs.Readings.{full_limits}
 use Rattle.trace_any.specs.Readers.{fresh}
@@ -11,7 +11,7 @@ returns-in_err-reader-clause-yes g c = rw (err_from_is_err_and c.from_residual.r
 pub returns-in_err-reader-clause-no : goal.returns-in_err-reader-clause-no
 returns-in_err-reader-clause-no g c =
     let p = err_from_is_err_and c.from_residual.result c.from_residual.ensures.1 in
-    rw (p.1, p.2) (fails_memory _ _ _)
+    rw (p.1, p.2) (fails_memory _ _ _ refl refl)
 
 pub check_read-requires-clause-fresh_reader : goal.check_read-requires-clause-fresh_reader
 check_read-requires-clause-fresh_reader g c =

@@ -14,7 +14,7 @@ pub returns-in-Err-clause-no : goal.returns-in-Err-clause-no
 returns-in-Err-clause-no g c =
     let start : Inputs = seen_inputs g.T.Source.left g.T.Source.faults g.Q.Source.left g.Q.Source.faults c.args.reader.now c.args.trace.now c.args.cert.now c.args.certificate.now in
     let end : Inputs = seen_inputs g.T.Source.left g.T.Source.faults g.Q.Source.left g.Q.Source.faults c.check_with.new.reader c.check_with.new.trace c.check_with.new.cert c.check_with.new.certificate in
-    fails_new start end c.requires.fresh_reader c.requires.fresh_cert (g.K.Keeper.has c.check_with.new.keeper) c.in-Err.fault c.in-Err.ensures.taken c.in-Err.ensures.checked
+    fails_new start end c.requires.fresh_reader c.requires.fresh_cert (g.K.Keeper.has c.check_with.new.keeper) c.in-Err.fault c.in-Err.ensures.taken c.in-Err.ensures.checked c.in-Err.ensures.else_none_failed
 
 pub check_with-requires-clause-fresh_reader : goal.check_with-requires-clause-fresh_reader
 check_with-requires-clause-fresh_reader g c = c.requires.fresh_reader ∙ ap (fresh c.args.reader.now.format) (sym (ap (λ r. r.limits) c.requires.fresh_reader))
