@@ -1,9 +1,11 @@
 //! The rule that tries objects in a small queue before they may stay in the main queue.
-ghost use Rattle.std.specs.Prelude.{◌≡◌, ◌≤◌, ◌<◌, ◌^◌, ℕ, All, Some, None, IfOk, OnOk, OnErr, refl};
+ghost use Rattle.std.specs.Prelude.{◌≡◌, ◌≤◌, ◌<◌, ◌^◌, ◌⊎◌, ℕ, All, Contains, Some, None, IfOk, OnOk, OnErr, refl};
 ghost use Rattle.std.specs.declared.option.Option.{Option};
 ghost use Rattle.policy_model.specs.declared.names.PolicyName.TheVariants.{S3Fifo as ByTrial};
 ghost use Rattle.replay_core.specs.Keeping.{Answers, GivesUp, nothing_kept, state_of, contents_of};
-ghost use Rattle.replay_core.specs.Laws.{IsSound};
+ghost use Rattle.policy_model.specs.States.{Member, has_member, member};
+ghost use Rattle.replay_core.specs.Laws.{CountsAnswer, IsSound, StepsBy};
+ghost use Rattle.replay_core.specs.Outcomes.{is_hit};
 
 use crate::three_queues::ThreeQueues;
 use bound_base::NoMemory;
@@ -64,6 +66,7 @@ impl S3Fifo {
         ensures answers { IfOk result (λ outcome. (next : Option ℕ) → Answers ByTrial self.old self.new object size next outcome) }
         ensures fits { OnOk result (IsSound self.new.capacity (contents_of self.new)) }
         ensures gives_up { OnErr result (GivesUp self.old self.new) }
+        ensures kept { OnErr result (self.new ≡ self.old) }
     {
         let requests = self.requests.saturating_add(1);
         if self.queues.holds(object) {
@@ -109,7 +112,20 @@ impl Policy for S3Fifo {
         object: u32,
         size: u64,
         _next: Option<u32>,
-    ) -> Result<Outcome, NoMemory> {
+    ) -> Result<Outcome, NoMemory>
+        requires known { object < self.old.objects }
+        requires size { 1 ≤ size }
+        requires kept_size { All (λ m. m.object ≡ object → m.size ≡ size) (contents_of self.old) }
+        ensures outcome { IfOk result (λ o. is_hit o ≡ has_member (contents_of self.old) object) }
+        ensures only_the_request_enters { OnOk result ((m : Member) → Contains (contents_of self.new) m → Contains (contents_of self.old) m ⊎ (m ≡ member object size)) }
+        ensures none_enters { OnErr result ((m : Member) → Contains (contents_of self.new) m → Contains (contents_of self.old) m) }
+        ensures sound { IsSound self.new.capacity (contents_of self.new) }
+        ensures same_capacity { self.new.capacity ≡ self.old.capacity }
+        ensures same_objects { self.new.objects ≡ self.old.objects }
+        ensures counted { IfOk result (λ o. CountsAnswer None None (is_hit o)) }
+        ensures step { OnOk result (StepsBy (Some (state_of ByTrial self.old)) (Some (state_of ByTrial self.new)) object size _next) }
+        ensures kept { OnErr result (self.new ≡ self.old) }
+    {
         self.ask(object, size)
     }
 

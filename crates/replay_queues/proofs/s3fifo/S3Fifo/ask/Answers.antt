@@ -103,3 +103,11 @@ pub returns-clause-fits : goal.returns-clause-fits
 returns-clause-fits c =
     let p = c.self.inside in
     fit-sound p.capacity (queue_entries (queues_at c.enter.new.self)) (s3fifo-fit p.objects p.capacity (c.make_room-self-inside.result + c.args.size) c.enter.new.self (invariant_of-self-2 c))
+
+pub returns-in_err-reserve-clause-kept : goal.returns-in_err-reserve-clause-kept
+returns-in_err-reserve-clause-kept c =
+    let p = c.self.inside in
+    let after : Kept = queues_kept p.objects p.capacity p.requests (queues_at c.reserve.new.self) in
+    let same : queues_at c.reserve.new.self ≡ queues_at p.queues = same_queues p.queues c.reserve.new.self c.reserve.ensures.table c.reserve.ensures.small c.reserve.ensures.main c.reserve.ensures.ghosts in
+    MatchResult-from_err c.from_residual.result (λ _. ⊤) (λ _. after ≡ c.args.self.now) c.from_residual.ensures.0
+    (λ _. ap (queues_kept p.objects p.capacity p.requests) same ∙ c.self.view_is)

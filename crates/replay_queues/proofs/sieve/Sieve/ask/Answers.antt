@@ -92,3 +92,11 @@ pub returns-clause-fits : goal.returns-clause-fits
 returns-clause-fits c =
     let p = c.self.inside in
     fit-sound p.capacity (cut_entries (cut_at c.come_in.new.self)) (sieve-fit p.objects p.capacity (c.make_room-self-inside.result + c.args.size) c.come_in.new.self (invariant_of-self-2 c))
+
+pub returns-in_err-reserve-clause-kept : goal.returns-in_err-reserve-clause-kept
+returns-in_err-reserve-clause-kept c =
+    let p = c.self.inside in
+    let after : Kept = cut_kept p.objects p.capacity p.requests (cut_at c.reserve.new.self) in
+    let same : cut_at c.reserve.new.self ≡ cut_at p.hand = same_cut p.hand c.reserve.new.self c.reserve.ensures.table c.reserve.ensures.behind c.reserve.ensures.ahead in
+    MatchResult-from_err c.from_residual.result (λ _. ⊤) (λ _. after ≡ c.args.self.now) c.from_residual.ensures.0
+    (λ _. ap (cut_kept p.objects p.capacity p.requests) same ∙ c.self.view_is)
