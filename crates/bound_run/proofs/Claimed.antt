@@ -29,6 +29,7 @@ use Rattle.bound_run.specs.Replays.{IsWithinBounds, earned_by}
 use Rattle.bound_run.specs.Run.{AnswersJudge, JudgeEnds}
 use Rattle.bound_run.specs.Statuses.{ending_of, refusal_of_flags}
 use Rattle.hit_flags.specs.Claims.{AreUnread}
+use Rattle.hit_flags.specs.Nearness.{AreNear}
 
 -- what is earned is the claim by the objective
 earned : (o : Objective) (asked : JudgeSettings) (trace : Requests) (flags : List Bool) → earned_by o (claimed_by Hits asked trace flags) (claimed_by Bytes asked trace flags) ≡ claimed_by o asked trace flags
@@ -112,12 +113,12 @@ module _ (format : Format) (asked : JudgeSettings) (source hits report : Device)
 
   pub judge_complete : (status : Status) → JudgeEnds format asked source hits report (ending_of status) → AnswersJudge format asked source.before hits.before status
   judge_complete Done (text, judged, all) = judged_at format asked source hits text source.before hits.before refl refl known_trace known_hits judged
-  judge_complete (BadLine line kind) e = no_answer (BadLine line kind) source.before hits.before known_trace known_hits (λ bytes text never. never) (stopped_at (flag.Trace (of_trace.BadLine line kind)) e.0)
-  judge_complete (Limit MostRequests) e = no_answer (Limit MostRequests) source.before hits.before known_trace known_hits (λ bytes text never. never) (stopped_at (flag.Trace of_trace.TooManyRequests) e.0)
-  judge_complete (Limit TraceBytes) e = no_answer (Limit TraceBytes) source.before hits.before known_trace known_hits (λ bytes text never. never) (stopped_at (flag.Trace of_trace.InputTooLong) e.0)
+  judge_complete (BadLine line kind) e = no_answer (BadLine line kind) source.before hits.before known_trace known_hits (λ bytes text never. never) (stopped_at (flag.Trace (of_trace.BadLine line kind)) e.0.0)
+  judge_complete (Limit MostRequests) e = no_answer (Limit MostRequests) source.before hits.before known_trace known_hits (λ bytes text never. never) (stopped_at (flag.Trace of_trace.TooManyRequests) e.0.0)
+  judge_complete (Limit TraceBytes) e = no_answer (Limit TraceBytes) source.before hits.before known_trace known_hits (λ bytes text never. never) (stopped_at (flag.Trace of_trace.InputTooLong) e.0.0)
   judge_complete (Limit Denominator) e = absurd e.0
-  judge_complete (NotFlag line) e = no_answer (NotFlag line) source.before hits.before known_trace known_hits (λ bytes text never. never) (stopped_at (flag.NotFlag line) e.0)
-  judge_complete (FlagCount flags requests) e = no_answer (FlagCount flags requests) source.before hits.before known_trace known_hits (λ bytes text never. never) (stopped_at (flag.Count flags requests) e.0)
+  judge_complete (NotFlag line) e = no_answer (NotFlag line) source.before hits.before known_trace known_hits (λ bytes text never. never) (stopped_at (flag.NotFlag line) e.0.0)
+  judge_complete (FlagCount flags requests) e = no_answer (FlagCount flags requests) source.before hits.before known_trace known_hits (λ bytes text never. never) (stopped_at (flag.Count flags requests) e.0.0)
   judge_complete (Impossible cause capacity) e =
       no_answer (Impossible cause capacity) source.before hits.before known_trace known_hits (λ bytes text never. never)
       (λ bytes text is_trace is_hits. impossible_at format asked source hits e.0.requests e.0.dropped e.0.flags bytes text is_trace is_hits e.0.read e.0.impossible)
@@ -131,13 +132,13 @@ module _ (format : Format) (asked : JudgeSettings) (source hits report : Device)
   judge_complete (Unequal first other) e = absurd e.0
 
 -- why no claims are read, as the refusal of a run
-pub judge_unread : (format : Format) (asked : JudgeSettings) (source hits : Device) (fault : FlagFault) → AreUnread format source hits fault → RefusesJudge format asked source hits (refusal_of_flags fault)
-judge_unread format asked source hits (flag.Trace (of_trace.BadLine line kind)) why = why
-judge_unread format asked source hits (flag.Trace of_trace.ReadFault) why = why
-judge_unread format asked source hits (flag.Trace of_trace.InputTooLong) why = why
-judge_unread format asked source hits (flag.Trace of_trace.TooManyRequests) why = why
-judge_unread format asked source hits (flag.Trace of_trace.NoMemory) why = tt
-judge_unread format asked source hits (flag.NotFlag line) why = why
-judge_unread format asked source hits (flag.Count flags requests) why = why
-judge_unread format asked source hits flag.ReadFault why = why
-judge_unread format asked source hits flag.NoMemory why = tt
+pub judge_unread : (format : Format) (asked : JudgeSettings) (source hits : Device) (fault : FlagFault) → AreUnread format source hits fault → AreNear format source hits fault → RefusesJudge format asked source hits (refusal_of_flags fault)
+judge_unread format asked source hits (flag.Trace (of_trace.BadLine line kind)) why near = (why, near)
+judge_unread format asked source hits (flag.Trace of_trace.ReadFault) why near = why
+judge_unread format asked source hits (flag.Trace of_trace.InputTooLong) why near = (why, near)
+judge_unread format asked source hits (flag.Trace of_trace.TooManyRequests) why near = (why, near)
+judge_unread format asked source hits (flag.Trace of_trace.NoMemory) why near = tt
+judge_unread format asked source hits (flag.NotFlag line) why near = (why, near)
+judge_unread format asked source hits (flag.Count flags requests) why near = (why, near)
+judge_unread format asked source hits flag.ReadFault why near = why
+judge_unread format asked source hits flag.NoMemory why near = tt

@@ -1,5 +1,5 @@
 -- Why a run is refused: for each command the causes of its refusals.
-use Rattle.std.specs.Prelude.{◌≡◌, Some, IfSome}
+use Rattle.std.specs.Prelude.{◌≡◌, Some, IfSome, max}
 use Rattle.bound_io.specs.Devices.{Device, HasFailed}
 use Rattle.trace_any.specs.declared.fault.TraceFault.{TraceFault as FaultOfTrace}
 use Rattle.trace_any.specs.declared.fault.TraceFault.TheVariants as trace
@@ -19,6 +19,7 @@ use Rattle.bound_run.specs.BoundsMade.{RefusesDenominator}
 use Rattle.bound_run.specs.Demos.{trace_drawn}
 use Rattle.trace_any.specs.Loads.{IsRefused}
 use Rattle.hit_flags.specs.Claims.{IsStop}
+use Rattle.hit_flags.specs.Nearness.{IsNearFault, IsNearTurn}
 use Rattle.hit_flags.specs.declared.fault.FlagFault.TheVariants as flag
 use Rattle.bound_run.specs.Judgements.{IsImpossible}
 use Rattle.bound_run.specs.Readings.{IsFirstEvent, IsPastDenominator, IsUnequal}
@@ -54,13 +55,13 @@ RefusesCheck format source cert (refusal.Invalid line kind) =
 RefusesCheck format source cert refusal.CertFault = HasFailed cert
 RefusesCheck format source cert r = RefusesReading (λ fault. IsFirstEvent format source cert (walk.Refused fault) × IsRefused format source fault) source r
 
--- why claimed hits are refused: what stops the reading of the trace and the flags by turns, a failed read of either, or the first cause why the flags are not possible
+-- why claimed hits are refused: what stops the reading of the trace and the flags by turns, beyond which little was read, a failed read of either, or the first cause why the flags are not possible
 abbrev pub RefusesJudge : Format → JudgeSettings → Device → Device → Refusal → Type 0
-RefusesJudge format asked source hits (refusal.NotFlag line) = IsStop format source hits (flag.NotFlag line)
-RefusesJudge format asked source hits (refusal.FlagCount flags requests) = IsStop format source hits (flag.Count flags requests)
+RefusesJudge format asked source hits (refusal.NotFlag line) = IsStop format source hits (flag.NotFlag line) × IsNearTurn format line source hits
+RefusesJudge format asked source hits (refusal.FlagCount flags requests) = IsStop format source hits (flag.Count flags requests) × IsNearTurn format (max flags requests) source hits
 RefusesJudge format asked source hits (refusal.Impossible cause capacity) = IsImpossible format asked source hits cause capacity
 RefusesJudge format asked source hits refusal.CertFault = HasFailed hits
-RefusesJudge format asked source hits r = RefusesReading (λ fault. IsStop format source hits (flag.Trace fault)) source r
+RefusesJudge format asked source hits r = RefusesReading (λ fault. IsStop format source hits (flag.Trace fault) × IsNearFault format source hits fault) source r
 
 -- why there is no demo: the denominator that is asked for passes its limit, or memory ran out
 abbrev pub RefusesDemo : DrawSettings → BoundSettings → Refusal → Type 0

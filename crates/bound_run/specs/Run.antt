@@ -128,7 +128,7 @@ pub record NoneFails (d : Devices) : Type 0 where
   pub made : ¬ (HasFailed d.made)
 
 -- the count of faults of each device is as it was
-pub record NoneFailed (d : Devices) : Type 0 where
+pub record IsCalm (d : Devices) : Type 0 where
   pub trace : d.trace.faults_after ≡ d.trace.faults_before
   pub cert : d.cert.faults_after ≡ d.cert.faults_before
   pub report : d.report.faults_after ≡ d.report.faults_before

@@ -5,7 +5,7 @@ ghost use Rattle.bound_io.specs.Reading.{LosesPrefix};
 ghost use Rattle.trace_any.specs.Readings.{IsFormat};
 ghost use Rattle.bound_run.specs.Headline.{Headline};
 ghost use Rattle.bound_run.specs.Run.{BoundsEnd, CapacityCurveEnds, CheckEnds, Completes, CurveEnds, DemoEnds};
-ghost use Rattle.bound_run.specs.Run.{JudgeEnds, NoneFailed, RefineEnds, ReplayEnds, RunEnds, UpgradeEnds, devices};
+ghost use Rattle.bound_run.specs.Run.{IsCalm, JudgeEnds, RefineEnds, ReplayEnds, RunEnds, UpgradeEnds, devices};
 ghost use Rattle.bound_run.specs.Statuses.{ending_of};
 ghost use Rattle.bound_words.specs.Capacities.{capacities_given};
 ghost use Rattle.bound_words.specs.Settings.{IsPlanInRange};
@@ -240,7 +240,7 @@ fn run_plan<T: Source, Q: Source, R: Sink, K: Sink>(
     ensures ends { RunEnds plan (capacities_given (map string_bytes words.now)) (devices
         (seen T.left T.faults trace.old trace.new) (seen Q.left Q.faults cert.old cert.new)
         (seen R.written R.faults report.old report.new) (seen K.written K.faults made.old made.new)) result }
-    ensures none_failed { result ≡ Status.Done → NoneFailed (devices
+    ensures none_failed { result ≡ Status.Done → IsCalm (devices
         (seen T.left T.faults trace.old trace.new) (seen Q.left Q.faults cert.old cert.new)
         (seen R.written R.faults report.old report.new) (seen K.written K.faults made.old made.new)) }
 {
@@ -289,7 +289,7 @@ pub fn run<T: Source, Q: Source, R: Sink, K: Sink>(
     ensures completes { Completes (plan (map string_bytes words.now)) (devices
         (seen T.left T.faults trace.old trace.new) (seen Q.left Q.faults cert.old cert.new)
         (seen R.written R.faults report.old report.new) (seen K.written K.faults made.old made.new)) result }
-    ensures none_failed { result ≡ Status.Done → NoneFailed (devices
+    ensures none_failed { result ≡ Status.Done → IsCalm (devices
         (seen T.left T.faults trace.old trace.new) (seen Q.left Q.faults cert.old cert.new)
         (seen R.written R.faults report.old report.new) (seen K.written K.faults made.old made.new)) }
 {
