@@ -1,7 +1,6 @@
 -- How far the two sources are read.
-use Rattle.std.proofs.Common.{◌≡◌, ℕ, ◌+◌, ◌-◌, ◌≤◌, ◌<◌, ◌∙◌, refl, sym, ap, subst, false, List, [], ◌∷◌, ◌++◌, length, take, drop, arith, length-append, length-drop, length-take, Option, Some, None, Result, Ok, Err, IfErr, IfSome}
+use Rattle.std.proofs.Common.{◌≡◌, ℕ, ◌+◌, ◌-◌, ◌≤◌, ◌<◌, ◌∙◌, refl, sym, ap, subst, false, List, [], ◌++◌, length, take, drop, arith, length-append, length-drop, length-take, Option, Some, None, Result, Ok, Err, IfSome}
 use Rattle.std.specs.Option.{unwrap_or}
-use Rattle.std.specs.Result.{IsErrAnd}
 use Rattle.std.specs.Io.KnownBytes.{Keeps}
 use Rattle.std.proofs.Math.Seq.{take-add}
 use Rattle.std.proofs.lemmas.List.{drop-drop}
@@ -24,7 +23,7 @@ use Rattle.trace_any.proofs.Through.{bytes_of-more, lost_for}
 use Rattle.hit_flags.specs.declared.fault.FlagFault.{FlagFault}
 use Rattle.hit_flags.specs.declared.fault.FlagFault.TheVariants.{Trace, NotFlag, Count, ReadFault, NoMemory}
 use Rattle.hit_flags.specs.Lines.{nothing_read}
-use Rattle.hit_flags.specs.Nearness.{AreNear, GoesLine, HasLostThrough, HaveLostLines, IsAtTurn, IsNearFault, IsNearTurn, StandsPast}
+use Rattle.hit_flags.specs.Nearness.{AreNear, GoesLine, HasLostThrough, HaveLostLines, IsAtTurn, IsNearTurn, StandsPast}
 use Rattle.hit_flags.proofs.Ends.{stands_in-nothing}
 
 -- no line was given
