@@ -201,6 +201,3 @@ fn main(rt: HostRuntime) -> ExitCode {
     }
     ExitCode::from(run_words(&rt))
 }
-
-#[cfg(test)]
-mod tests;
