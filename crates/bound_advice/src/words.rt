@@ -1,6 +1,7 @@
 //! What is wrong with a word of the command line, and what may stand there.
 use crate::sizes::size_of;
-use bound_report::{PolicyName, WordKind};
+use bound_report::PolicyName;
+use bound_terms::WordKind;
 use bound_words::{Command, command_asked};
 use std::alloc::{AllocError, Global};
 

@@ -4,8 +4,8 @@ use Rattle.std.specs.Fmt.{digits}
 use Rattle.cache_model.specs.declared.objects.Objective.TheVariants.{Object as Hits}
 use Rattle.cache_model.specs.declared.certificates.Header.{Header}
 use Rattle.cache_model.specs.Texts.{text_of}
-use Rattle.bound_report.specs.declared.facts.Mode.TheVariants.{Flow, Infinite}
-use Rattle.bound_report.specs.declared.facts.Window.TheVariants.{All as Whole}
+use Rattle.bound_terms.specs.declared.modes.Mode.TheVariants.{Flow, Infinite}
+use Rattle.bound_terms.specs.declared.modes.Window.TheVariants.{All as Whole}
 use Rattle.bound_report.specs.Reports.{report_text}
 use Rattle.replay_core.specs.declared.counts.Replay.{Replay}
 use Rattle.bound_report.specs.Demos.{demo_text}

@@ -9,8 +9,8 @@ use Rattle.trace_lines.specs.declared.line.LineKind.{LineKind}
 use Rattle.trace_lines.specs.declared.line.LineKind.TheVariants.{TooFewWords, BadNumber, SizeTooLarge, BadRange, BadType, QuoteByte, TooLong, PartRecord}
 use Rattle.bound_report.specs.declared.refusal.LimitName.{LimitName}
 use Rattle.bound_report.specs.declared.refusal.LimitName.TheVariants.{Requests, TraceBytes, Denominator}
-use Rattle.bound_report.specs.declared.refusal.WordKind.{WordKind}
-use Rattle.bound_report.specs.declared.refusal.WordKind.TheVariants.{Missing, Unknown, Twice, BadValue}
+use Rattle.bound_terms.specs.declared.words.WordKind.{WordKind}
+use Rattle.bound_terms.specs.declared.words.WordKind.TheVariants.{Missing, Unknown, Twice, BadValue}
 use Rattle.bound_report.specs.declared.refusal.Refusal.{Refusal}
 use Rattle.bound_report.specs.declared.refusal.Refusal.TheVariants.{Invalid, NotFlag, FlagCount, Impossible as ImpossibleHits, Words, BadLine, Limit, Unequal, TraceFault, CertFault, MadeFault, NoMemory}
 

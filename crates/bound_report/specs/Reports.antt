@@ -4,10 +4,10 @@ use Rattle.cache_model.specs.declared.objects.Objective.{Objective}
 use Rattle.cache_model.specs.declared.certificates.Header.{Header}
 use Rattle.cache_model.specs.Certificates.{units_of}
 use Rattle.cache_model.specs.Texts.{entry, form_word, objective_word}
-use Rattle.bound_report.specs.declared.facts.Window.{Window}
-use Rattle.bound_report.specs.declared.facts.Window.TheVariants.{All, Steps}
-use Rattle.bound_report.specs.declared.facts.Mode.{Mode}
-use Rattle.bound_report.specs.declared.facts.Mode.TheVariants.{Flow, Constant, Infinite}
+use Rattle.bound_terms.specs.declared.modes.Window.{Window}
+use Rattle.bound_terms.specs.declared.modes.Window.TheVariants.{All, Steps}
+use Rattle.bound_terms.specs.declared.modes.Mode.{Mode}
+use Rattle.bound_terms.specs.declared.modes.Mode.TheVariants.{Flow, Constant, Infinite}
 use Rattle.bound_report.specs.declared.facts.BoundFacts.{BoundFacts}
 use Rattle.bound_report.specs.Rendering.{Lines, rendered, uncounted}
 

@@ -4,23 +4,11 @@ ghost use Rattle.cache_model.specs.Texts.{entry};
 ghost use Rattle.bound_report.specs.Refusals.{impossible_text, invalid_kind_text, limit_text, line_kind_text, refusal_line, word_kind_text};
 
 use bound_base::NoMemory;
+use bound_terms::WordKind;
 use cert_checker::InvalidKind;
 use hit_judge::Impossible;
 use line_text::LineText;
 use trace_lines::LineKind;
-
-/// Why a word of the command line is refused.
-#[derive(Clone, Copy, Debug, PartialEq, Eq)]
-pub enum WordKind {
-    /// No word stands where one is needed.
-    Missing,
-    /// The word is not one that may stand there.
-    Unknown,
-    /// The operand stood before.
-    Twice,
-    /// The value is not one that may stand there.
-    BadValue,
-}
 
 /// A limit of the program.
 #[derive(Clone, Copy, Debug, PartialEq, Eq)]

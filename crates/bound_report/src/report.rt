@@ -4,9 +4,10 @@ ghost use Rattle.bound_report.specs.Reports.{capacity_line, flow_line, mode_line
 ghost use Rattle.bound_report.specs.Reports.{trace_line, unit_line, upper_line, value_lines, window_word};
 ghost use Rattle.cache_model.specs.Texts.{entry, form_word, line, objective_word, text_of};
 
-use crate::facts::{BoundFacts, Mode, Window};
+use crate::facts::BoundFacts;
 use crate::rendering::{Counting, Report, render};
 use bound_base::NoMemory;
+use bound_terms::{Mode, Window};
 use cache_model::{Header, Objective};
 use line_text::LineText;
 use std::alloc::Global;

@@ -9,8 +9,8 @@ use Rattle.std.proofs.lemmas.List.{get_or-map, get_or-replicate, length-map, len
 use Rattle.std.proofs.lemmas.List.Elements.{All-head, All-tail}
 use Rattle.std.proofs.lemmas.List.Sums.{sum_by-cons}
 use Rattle.cache_model.specs.declared.intervals.Interval.{Interval}
-use Rattle.bound_report.specs.declared.facts.Mode.TheVariants.{Flow}
-use Rattle.bound_report.specs.declared.facts.Window.{Window}
+use Rattle.bound_terms.specs.declared.modes.Mode.TheVariants.{Flow}
+use Rattle.bound_terms.specs.declared.modes.Window.{Window}
 use Rattle.cache_model.specs.Intervals.{bound_of, surplus as interval_surplus}
 use Rattle.cache_model.specs.Schedules.{covers, flow_value, load_at, IsFractionalSchedule}
 use Rattle.cache_model.specs.Units.{weight}
@@ -24,7 +24,7 @@ use Rattle.relaxation.proofs.WholeArcs.{whole_is_instance}
 use Rattle.schedule_round.specs.Laws.{full_flags}
 use Rattle.window_bounds.specs.Solutions.{AreSolutions, full_of, value_of_windows}
 use Rattle.window_bounds.proofs.Results.{above_of}
-use Rattle.bound_report.specs.declared.facts.Window.TheVariants.{Steps, All as Whole}
+use Rattle.bound_terms.specs.declared.modes.Window.TheVariants.{Steps, All as Whole}
 use Rattle.bound_run.specs.BoundsMade.{width_of}
 use Rattle.bound_words.specs.Ranges.{IsModeInRange}
 

@@ -5,10 +5,10 @@ use Rattle.cache_rules.specs.Stored.{Requests}
 use Rattle.cache_model.specs.declared.intervals.Interval.{Interval}
 use Rattle.cache_model.specs.declared.certificates.Header.{Header}
 use Rattle.cache_model.specs.declared.certificates.Record.{Record}
-use Rattle.bound_report.specs.declared.facts.Mode.{Mode}
-use Rattle.bound_report.specs.declared.facts.Mode.TheVariants.{Flow, Constant, Infinite}
-use Rattle.bound_report.specs.declared.facts.Window.{Window}
-use Rattle.bound_report.specs.declared.facts.Window.TheVariants.{Steps, All as Whole}
+use Rattle.bound_terms.specs.declared.modes.Mode.{Mode}
+use Rattle.bound_terms.specs.declared.modes.Mode.TheVariants.{Flow, Constant, Infinite}
+use Rattle.bound_terms.specs.declared.modes.Window.{Window}
+use Rattle.bound_terms.specs.declared.modes.Window.TheVariants.{Steps, All as Whole}
 use Rattle.cache_model.specs.Intervals.{eligible_intervals}
 use Rattle.cache_model.specs.Claim.{is_kept, marked, terms_of, BoundsEveryPolicy}
 use Rattle.cache_model.specs.Units.{IsUnit, HasWholeCosts}

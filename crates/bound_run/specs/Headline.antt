@@ -10,8 +10,8 @@ use Rattle.cache_model.specs.Claim.{IsAllowed, marked, score, terms_of, BoundsEv
 use Rattle.cache_model.specs.Objects.{objects_of}
 use Rattle.cache_model.specs.Texts.{cert_text}
 use Rattle.constant_price.specs.Constants.{constant_prices}
-use Rattle.bound_report.specs.declared.facts.Mode.{Mode}
-use Rattle.bound_report.specs.declared.facts.Mode.TheVariants.{Constant}
+use Rattle.bound_terms.specs.declared.modes.Mode.{Mode}
+use Rattle.bound_terms.specs.declared.modes.Mode.TheVariants.{Constant}
 use Rattle.cache_model.specs.Units.{HasWholeCosts}
 use Rattle.cache_model.specs.Intervals.{bound_of}
 use Rattle.cert_checker.specs.declared.verdict.Verdict.{Verdict}

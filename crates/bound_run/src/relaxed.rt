@@ -4,7 +4,7 @@ ghost use Prim.Native.Nat.{◌∣◌};
 ghost use Rattle.cache_model.specs.Intervals.{bound_of};
 ghost use Rattle.cache_model.specs.Schedules.{IsFractionalSchedule};
 ghost use Rattle.constant_price.specs.Constants.{constant_bound, constant_prices};
-ghost use Rattle.bound_report.specs.declared.facts.Mode.TheVariants.{Flow};
+ghost use Rattle.bound_terms.specs.declared.modes.Mode.TheVariants.{Flow};
 ghost use Rattle.interval_maker.specs.Timelines.{IsTimeline};
 ghost use Rattle.relaxation.specs.Prices.{most_paid};
 ghost use Rattle.schedule_round.specs.Laws.{full_flags};
@@ -14,7 +14,7 @@ ghost use Rattle.bound_run.specs.Relaxations.{IsRelaxed};
 
 use crate::prices::PricesAndFlows;
 use bound_base::NoMemory;
-use bound_report::{Mode, Window};
+use bound_terms::{Mode, Window};
 use bound_words::BoundSettings;
 use constant_price::bound_at;
 use flow_model::Solution;

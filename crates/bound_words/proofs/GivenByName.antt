@@ -5,7 +5,7 @@ use Rattle.std.specs.List.{find, position_from}
 use Rattle.std.specs.Option.{option_map, option_or}
 use Rattle.std.specs.Str.{bytes_eq}
 use Rattle.std.proofs.lemmas.List.{take_more, drop_more, take-map, get_or-map, length-map}
-use Rattle.bound_report.specs.declared.refusal.WordKind.{WordKind}
+use Rattle.bound_terms.specs.declared.words.WordKind.{WordKind}
 use Rattle.bound_words.specs.declared.commands.Command.{Command}
 use Rattle.bound_words.specs.Named.{name_of, place_given, value_given, value_of}
 use Rattle.bound_words.specs.Words.{fault, operand_fault, operands_fault}

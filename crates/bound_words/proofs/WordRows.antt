@@ -1,12 +1,12 @@
 -- The words of the command line, at small rows, computed.
 use Rattle.std.proofs.Common.{◌≡◌, ℕ, List, [], ◌∷◌, codes, Ok, Err, refl}
 use Rattle.cache_model.specs.declared.objects.Objective.TheVariants.{Object as Hits, Bytes}
-use Rattle.bound_report.specs.declared.facts.Mode.TheVariants.{Constant, Flow, Infinite}
-use Rattle.bound_report.specs.declared.facts.Window.TheVariants.{All as Whole}
+use Rattle.bound_terms.specs.declared.modes.Mode.TheVariants.{Constant, Flow, Infinite}
+use Rattle.bound_terms.specs.declared.modes.Window.TheVariants.{All as Whole}
 use Rattle.relaxation.specs.declared.denominators.DenominatorChoice.TheVariants.{Auto, Exact, Given}
 use Rattle.trace_any.specs.declared.format.Format.TheVariants.{Webcache, Arc, Msr, Oracle, MarkedWebcache, MsrReads}
 use Rattle.bound_words.specs.declared.words.Plan.TheVariants.{Bounds, Check, Curve, CapacityCurve, Judge, Demo, Upgrade}
-use Rattle.bound_report.specs.declared.refusal.WordKind.TheVariants.{Missing, Unknown, Twice, BadValue}
+use Rattle.bound_terms.specs.declared.words.WordKind.TheVariants.{Missing, Unknown, Twice, BadValue}
 use Rattle.bound_words.specs.Words.{fault, plan}
 
 -- the command, its two paths and these operands

@@ -5,10 +5,10 @@ use Rattle.std.specs.Option.{is_some}
 use Rattle.std.specs.Str.{bytes_eq}
 use Rattle.cache_model.specs.declared.objects.Objective.{Objective}
 use Rattle.cache_model.specs.declared.objects.Objective.TheVariants.{Object as Hits}
-use Rattle.bound_report.specs.declared.facts.Mode.{Mode}
-use Rattle.bound_report.specs.declared.facts.Mode.TheVariants.{Flow}
-use Rattle.bound_report.specs.declared.facts.Window.{Window}
-use Rattle.bound_report.specs.declared.facts.Window.TheVariants.{All as Whole}
+use Rattle.bound_terms.specs.declared.modes.Mode.{Mode}
+use Rattle.bound_terms.specs.declared.modes.Mode.TheVariants.{Flow}
+use Rattle.bound_terms.specs.declared.modes.Window.{Window}
+use Rattle.bound_terms.specs.declared.modes.Window.TheVariants.{All as Whole}
 use Rattle.relaxation.specs.declared.denominators.DenominatorChoice.{DenominatorChoice}
 use Rattle.trace_any.specs.declared.format.Format.{Format}
 use Rattle.policy_model.specs.declared.names.PolicyName.{PolicyName}

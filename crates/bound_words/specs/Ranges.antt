@@ -2,9 +2,9 @@
 use Rattle.std.specs.Prelude.{◌^◌, ◌≤◌}
 use Rattle.cache_model.specs.declared.version.TheConstants.{CERT_VERSION, SHORT_VERSION}
 use Rattle.relaxation.specs.Denominators.{IsChoice}
-use Rattle.bound_report.specs.declared.facts.Mode.{Mode}
-use Rattle.bound_report.specs.declared.facts.Mode.TheVariants.{Flow, Constant, Infinite}
-use Rattle.bound_report.specs.declared.facts.Window.TheVariants.{Steps, All as Whole}
+use Rattle.bound_terms.specs.declared.modes.Mode.{Mode}
+use Rattle.bound_terms.specs.declared.modes.Mode.TheVariants.{Flow, Constant, Infinite}
+use Rattle.bound_terms.specs.declared.modes.Window.TheVariants.{Steps, All as Whole}
 use Rattle.bound_words.specs.declared.settings.BoundSettings.TheInside.{Inside as BoundFields}
 use Rattle.bound_words.specs.declared.settings.ReplaySettings.TheInside.{Inside as ReplayFields}
 use Rattle.bound_words.specs.declared.settings.DrawSettings.TheInside.{Inside as DrawFields}

@@ -4,7 +4,7 @@ use Rattle.cache_model.specs.declared.objects.Objective.{Objective}
 use Rattle.cache_model.specs.declared.version.TheConstants.{CERT_VERSION}
 use Rattle.relaxation.specs.declared.denominators.DenominatorChoice.{DenominatorChoice}
 use Rattle.trace_any.specs.Readings.{IsFormat}
-use Rattle.bound_report.specs.declared.facts.Mode.{Mode}
+use Rattle.bound_terms.specs.declared.modes.Mode.{Mode}
 use Rattle.bound_words.specs.declared.settings.BoundSettings.{BoundSettings}
 use Rattle.bound_words.specs.declared.settings.Settings.{Settings}
 use Rattle.bound_words.specs.declared.settings.Settings.TheVariants.{Bounds, Check, Replay, Curve, CapacityCurve, Judge, Demo, Upgrade, Refine}

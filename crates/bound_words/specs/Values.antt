@@ -7,10 +7,10 @@ use Rattle.bound_base.specs.Digits.{number_of}
 use Rattle.bound_base.specs.declared.digits.NumFault.{NumFault}
 use Rattle.cache_model.specs.declared.objects.Objective.{Objective}
 use Rattle.cache_model.specs.declared.objects.Objective.TheVariants.{Object as Hits, Bytes}
-use Rattle.bound_report.specs.declared.facts.Mode.{Mode}
-use Rattle.bound_report.specs.declared.facts.Mode.TheVariants.{Flow, Constant, Infinite}
-use Rattle.bound_report.specs.declared.facts.Window.{Window}
-use Rattle.bound_report.specs.declared.facts.Window.TheVariants.{Steps, All as Whole}
+use Rattle.bound_terms.specs.declared.modes.Mode.{Mode}
+use Rattle.bound_terms.specs.declared.modes.Mode.TheVariants.{Flow, Constant, Infinite}
+use Rattle.bound_terms.specs.declared.modes.Window.{Window}
+use Rattle.bound_terms.specs.declared.modes.Window.TheVariants.{Steps, All as Whole}
 use Rattle.relaxation.specs.declared.denominators.DenominatorChoice.{DenominatorChoice}
 use Rattle.relaxation.specs.declared.denominators.DenominatorChoice.TheVariants.{Auto, Exact, Given}
 use Rattle.trace_any.specs.declared.format.Format.{Format}

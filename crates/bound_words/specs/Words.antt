@@ -9,8 +9,8 @@ use Rattle.bound_words.specs.declared.words.Plan.TheVariants.{Bounds, Check, Rep
 use Rattle.bound_words.specs.declared.commands.Command.{Command}
 use Rattle.bound_words.specs.declared.commands.PathPlaces.{PathPlaces}
 use Rattle.bound_words.specs.declared.words.WordFault.{WordFault}
-use Rattle.bound_report.specs.declared.refusal.WordKind.{WordKind}
-use Rattle.bound_report.specs.declared.refusal.WordKind.TheVariants.{Missing, Unknown, Twice, BadValue}
+use Rattle.bound_terms.specs.declared.words.WordKind.{WordKind}
+use Rattle.bound_terms.specs.declared.words.WordKind.TheVariants.{Missing, Unknown, Twice, BadValue}
 use Rattle.bound_words.specs.declared.commands.Command.TheVariants as command
 use Rattle.bound_words.specs.Commands.{command_named, has_operand, needed_names, places_of, operands_at, operands_of}
 use Rattle.bound_words.specs.Named.{has_equals, name_of, value_of, value_given, place_given}

@@ -1,6 +1,6 @@
 //! The operands of the command line: which values each may have, and what it gives.
 ghost use Rattle.std.specs.Prelude.{◌≡◌, ◌≤◌, ◌^◌, map, string_bytes, IfSome};
-ghost use Rattle.bound_report.specs.declared.facts.Mode.TheVariants.{Flow};
+ghost use Rattle.bound_terms.specs.declared.modes.Mode.TheVariants.{Flow};
 ghost use Rattle.relaxation.specs.Denominators.{IsChoice};
 ghost use Rattle.trace_any.specs.Readings.{IsFormat};
 ghost use Rattle.bound_words.specs.declared.commands.Command.{Command};
@@ -19,7 +19,7 @@ use crate::values::{
     format_of, is, mode_of, number_of, objective_of, reads_of, seed_of, usual_denominator,
     version_of, width_of, window_of,
 };
-use bound_report::{Mode, Window};
+use bound_terms::{Mode, Window};
 use cache_model::CERT_VERSION;
 use cache_rules::Objective;
 use policy_model::PolicyName;

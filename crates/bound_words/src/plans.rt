@@ -15,7 +15,7 @@ use crate::operands::{
 };
 use crate::values::is;
 use crate::words::{Plan, WordFault, passed, refuse, word_at};
-use bound_report::WordKind;
+use bound_terms::WordKind;
 
 fn required<T: Drop>(end: u64, given: Option<T>) -> Result<T, WordFault>
     ensures { result ≡ required end given }

@@ -8,7 +8,7 @@ ghost use Rattle.bound_words.specs.Ranges.{AreBoundSettingsInRange, AreDrawSetti
 ghost use Rattle.bound_words.specs.Settings.{IsPlanInRange, bound_settings, settings_of};
 
 use crate::words::Plan;
-use bound_report::Mode;
+use bound_terms::Mode;
 use cache_model::{CERT_VERSION, Terms};
 use cache_rules::Objective;
 use capacity_curve::CurveTerms;

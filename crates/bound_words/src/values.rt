@@ -1,7 +1,7 @@
 //! The values of operands.
 ghost use Rattle.std.specs.Prelude.{◌≡◌, ◌≤◌, ◌^◌, if◌then◌else◌, IfSome};
 ghost use Rattle.std.specs.Str.{bytes_eq};
-ghost use Rattle.bound_report.specs.declared.facts.Mode.TheVariants.{Flow};
+ghost use Rattle.bound_terms.specs.declared.modes.Mode.TheVariants.{Flow};
 ghost use Rattle.relaxation.specs.Denominators.{IsChoice};
 ghost use Rattle.trace_any.specs.Readings.{IsFormat};
 ghost use Rattle.trace_any.specs.declared.format.Format.TheVariants.{Webcache, Msr, MarkedWebcache, MsrReads};
@@ -12,7 +12,7 @@ ghost use Rattle.bound_words.specs.Values.{seed_of, usual_denominator, version_o
 ghost use Rattle.cache_model.specs.declared.version.TheConstants.{CERT_VERSION, SHORT_VERSION};
 
 use bound_base::read_u64;
-use bound_report::{Mode, Window};
+use bound_terms::{Mode, Window};
 use cache_model::SHORT_VERSION;
 use cache_rules::Objective;
 use relaxation::DenominatorChoice;

@@ -12,7 +12,7 @@ use crate::named::{has_equals, name_of, place_given, value_given, value_of};
 use crate::operands::{reads_given, takes_value};
 use crate::plans::plan_of_command;
 use crate::values::is;
-use bound_report::{Mode, WordKind};
+use bound_terms::{Mode, WordKind};
 use cache_rules::Objective;
 use policy_model::PolicyName;
 use relaxation::DenominatorChoice;

@@ -1,6 +1,7 @@
 //! Claimed hits: their reports, and why they are refused. The hits and loads were counted by hand.
-use bound_report::{Impossible, WordKind};
+use bound_report::Impossible;
 use bound_run::{Status, WordFault};
+use bound_terms::WordKind;
 use std::alloc::Global;
 use std::process::Abort;
 use trace_lines::LineKind;

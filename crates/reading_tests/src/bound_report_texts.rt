@@ -1,8 +1,9 @@
 //! `bound_report`: texts against lines that were written by hand.
 use bound_report::{
-    BoundFacts, CurveFacts, InvalidKind, LimitName, Mode, PolicyName, Refusal, ReplayFacts,
-    Verdict, Window, WordKind, curve_text, refusal_text, replay_text, report_text, verdict_text,
+    BoundFacts, CurveFacts, InvalidKind, LimitName, PolicyName, Refusal, ReplayFacts, Verdict,
+    curve_text, refusal_text, replay_text, report_text, verdict_text,
 };
+use bound_terms::{Mode, Window, WordKind};
 use cache_model::{CERT_VERSION, Header, Objective};
 use cache_rules::{Builder, Object, Trace};
 use compared::same;

@@ -9,9 +9,9 @@ use Rattle.cache_model.specs.declared.objects.Objective.TheVariants.{Object as H
 use Rattle.cache_model.specs.declared.certificates.Header.{Header}
 use Rattle.cache_model.specs.Certificates.{units_of}
 use Rattle.cache_model.specs.Texts.{entry, form_word, objective_word}
-use Rattle.bound_report.specs.declared.facts.Window.TheVariants.{All as Whole, Steps}
-use Rattle.bound_report.specs.declared.facts.Mode.{Mode}
-use Rattle.bound_report.specs.declared.facts.Mode.TheVariants.{Flow, Constant, Infinite}
+use Rattle.bound_terms.specs.declared.modes.Window.TheVariants.{All as Whole, Steps}
+use Rattle.bound_terms.specs.declared.modes.Mode.{Mode}
+use Rattle.bound_terms.specs.declared.modes.Mode.TheVariants.{Flow, Constant, Infinite}
 use Rattle.bound_report.specs.Reports.{capacity_line, mode_line, trace_line, unit_line, value_lines}
 use Rattle.report_laws.specs.Laws.{IsPrintable, header_numbers, mode_numbers, says_exact}
 use Rattle.report_laws.proofs.Lines.{After, Lacks, Part, Small, Words, last_words, lacks-decimal, line_lacks, named, numbers_apart}

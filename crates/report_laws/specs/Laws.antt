@@ -2,9 +2,9 @@
 use Rattle.std.specs.Prelude.{◌≡◌, ℕ, ◌^◌, ◌<◌, Bool, false, List, [], ◌∷◌, ◌++◌, All, IfSome}
 use Rattle.cache_model.specs.declared.certificates.Header.{Header}
 use Rattle.cert_checker.specs.declared.verdict.Verdict.{Verdict}
-use Rattle.bound_report.specs.declared.facts.Window.TheVariants.{All as Whole, Steps}
-use Rattle.bound_report.specs.declared.facts.Mode.{Mode}
-use Rattle.bound_report.specs.declared.facts.Mode.TheVariants.{Flow, Constant, Infinite}
+use Rattle.bound_terms.specs.declared.modes.Window.TheVariants.{All as Whole, Steps}
+use Rattle.bound_terms.specs.declared.modes.Mode.{Mode}
+use Rattle.bound_terms.specs.declared.modes.Mode.TheVariants.{Flow, Constant, Infinite}
 use Rattle.bound_report.specs.declared.facts.BoundFacts.{BoundFacts}
 use Rattle.bound_report.specs.declared.demo.DemoFacts.{DemoFacts}
 use Rattle.bound_report.specs.declared.demo.PolicyReplays.{PolicyReplays}

@@ -1,6 +1,6 @@
 //! Curves over capacities: their reports, and how they end. Hits and bounds were worked out by hand.
-use bound_report::WordKind;
 use bound_run::{Status, WordFault};
+use bound_terms::WordKind;
 use std::alloc::Global;
 use std::process::Abort;
 use trace_lines::LineKind;

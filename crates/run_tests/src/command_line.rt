@@ -1,6 +1,6 @@
 //! Runs whose words are taken or refused.
-use bound_report::WordKind;
 use bound_run::{Status, WordFault};
+use bound_terms::WordKind;
 use std::alloc::Global;
 use std::process::Abort;
 use whole_runs::Said::Text;

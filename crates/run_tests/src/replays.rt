@@ -1,6 +1,6 @@
 //! Replays: their reports, and how they end. The hits were counted by hand.
-use bound_report::WordKind;
 use bound_run::{Status, WordFault};
+use bound_terms::WordKind;
 use std::alloc::Global;
 use std::process::Abort;
 use trace_lines::LineKind;

@@ -1,6 +1,7 @@
 //! The words of the command line, in rows.
-use bound_report::{Mode, PolicyName, Window, WordKind};
+use bound_report::PolicyName;
 use bound_run::{Paths, Plan, WordFault, paths_of, plan_of};
+use bound_terms::{Mode, Window, WordKind};
 use cache_rules::Objective;
 use compared::{holds, same};
 use plans::TAKEN;

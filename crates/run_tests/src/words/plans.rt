@@ -1,6 +1,6 @@
 //! Words that ask for bounds.
-use bound_report::{Mode, Window};
 use bound_run::Plan;
+use bound_terms::{Mode, Window};
 use cache_rules::Objective;
 use relaxation::DenominatorChoice;
 use trace_any::Format;

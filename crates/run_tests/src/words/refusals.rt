@@ -1,5 +1,5 @@
 //! Words that are refused.
-use bound_report::WordKind;
+use bound_terms::WordKind;
 
 pub(super) const MISSING: WordKind = WordKind::Missing;
 

@@ -1,7 +1,7 @@
 use Prim.Native.Nat.{◌∣◌}
 use Rattle.std.proofs.Common.{◌≡◌, ℕ, ◌*◌, ◌≤◌, ◌<◌, ◌^◌, ◌∙◌, sym, subst, arith, false, replicate, length, sum, Result, Ok, Err, IfOk, All}
 use Rattle.interval_maker.specs.Timelines.{IsTimeline, Timeline}
-use Rattle.bound_report.specs.declared.facts.Mode.TheVariants.{Constant, Infinite}
+use Rattle.bound_terms.specs.declared.modes.Mode.TheVariants.{Constant, Infinite}
 use Rattle.constant_price.specs.Constants.{IsLeastConstant, constant_bound, constant_prices}
 use Rattle.constant_price.proofs.Bounds.{sum-constant_prices}
 use Rattle.constant_price.proofs.Prices.{length-constant_prices, constant_prices-last}
