@@ -1,5 +1,5 @@
 use Rattle.std.proofs.Common.{refl}
-use Rattle.reading_tests.proofs.cache_rules_scores.score_of.Goals as goal
+use Rattle.trace_tests.proofs.cache_rules_scores.score_of.Goals as goal
 
 pub score_of_fitting-requires-clause-fits : goal.score_of_fitting-requires-clause-fits
 score_of_fitting-requires-clause-fits g c = c.in_ok-gains.ensures.fits.0 refl
