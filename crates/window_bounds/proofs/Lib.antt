@@ -5,4 +5,4 @@ pub mod Rounds
 pub mod Paid
 pub mod LastPrice
 pub mod Results
-pub mod Lowering
+pub mod KeptFlows

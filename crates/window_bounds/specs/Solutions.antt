@@ -6,6 +6,8 @@ use Rattle.flow_model.specs.declared.arcs.OuterArc.{OuterArc}
 use Rattle.flow_model.specs.Instances.{Instance, IsSolution, arc_at, value_at}
 use Rattle.flow_model.specs.Windows.{meets, window_instance}
 use Rattle.flow_windows.specs.Cuts.{Cut}
+use Rattle.window_arcs.specs.declared.arcs.KeptRanks.{KeptRanks}
+use Rattle.window_arcs.specs.Current.{AreKept, AreRanks, Current, FitPrices, kept_instance}
 
 -- a price for each step, and for each arc a flow and whether that is its weight
 pub record Answer : Type 0 where
@@ -40,6 +42,17 @@ pub record IsNextSolution (cut : Cut) (prices flows next_prices next_flows : Lis
   pub solution : IsSolution (window_instance cut.whole cut.width cut.number) found parts
   pub extended : next_prices ≡ prices ++ found
   pub fallen : AreLowered cut parts flows next_flows
+
+-- the window with fewer arcs and units is solved, and each arc that meets the window is among those that are kept or passes
+pub record IsKeptSolution (c : Current) (ranks : KeptRanks) (kept prices flows : List ℕ) : Type 0 where
+  pub ranks_are : AreRanks c ranks
+  pub kept_are : AreKept c ranks kept
+  pub solution : IsSolution (kept_instance c.cut kept ranks.full) prices flows
+
+-- and the prices suit the passing arcs that aren't kept
+pub record IsFitting (c : Current) (ranks : KeptRanks) (kept prices flows : List ℕ) : Type 0 where
+  pub kept_solution : IsKeptSolution c ranks kept prices flows
+  pub fit : FitPrices c ranks prices
 
 -- of the flows of the parts of arc i, in all windows that it meets, this is the least
 pub record IsLeastFlow (whole : Instance) (width : ℕ) (flows : ℕ → List ℕ) (i least : ℕ) : Type 0 where

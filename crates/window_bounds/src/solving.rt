@@ -1,23 +1,16 @@
 //! The windows of an instance, solved one after another.
-ghost use Rattle.std.specs.Prelude.{◌≡◌, ◌*◌, ◌-◌, ◌<◌, ◌≤◌, All, IfOk, length, map, slice_index_or, sum, sum_by};
+ghost use Rattle.std.specs.Prelude.{◌≡◌, ◌*◌, ◌-◌, ◌<◌, ◌≤◌, All, IfOk, length, slice_index_or, sum, sum_by};
 ghost use Rattle.flow_model.specs.Instances.{IsSchedule, IsSolution, value_at};
-ghost use Rattle.flow_windows.specs.Cuts.{numbers_of};
-ghost use Rattle.window_bounds.specs.Solutions.{AreLowered, AreSolutions, IsNextSolution, full_of, value_of_windows};
+ghost use Rattle.window_arcs.specs.Current.{AreRanks};
+ghost use Rattle.window_bounds.specs.Solutions.{AreSolutions, IsFitting, IsKeptSolution, IsNextSolution, full_of, value_of_windows};
 
 use crate::solution::WindowSolution;
 use bound_base::NoMemory;
 use flow_model::{Instance, OuterArc, Solution};
 use flow_sparse::Solver;
 use flow_uniform::{Solver as UniformSolver, common_cost};
-use flow_windows::Windows;
 use std::alloc::Global;
-
-// The greatest flows that the arcs can have.
-fn weights_of(alloc: Global, arcs: &[OuterArc]) -> Result<Vec<u64>, NoMemory>
-    ensures { IfOk result (λ flows. flows.items ≡ map (λ arc. arc.weight) arcs.now) }
-{
-    Ok(arcs.iter().map(|arc| arc.weight).collect(alloc)?)
-}
+use window_arcs::{KeptRanks, WindowArcs};
 
 // For each arc whether its flow is its weight.
 fn full_of(alloc: Global, arcs: &[OuterArc], flows: &[u64]) -> Result<Vec<bool>, NoMemory>
@@ -31,18 +24,6 @@ fn full_of(alloc: Global, arcs: &[OuterArc], flows: &[u64]) -> Result<Vec<bool>,
     )
 }
 
-// Lowers the flow of each arc that meets the current window to that of its part.
-fn lower(windows: &Windows, part_flows: &[u64], flows: &mut [u64])
-    requires each_part { length part_flows.now ≡ length (numbers_of windows.now) }
-    requires each_arc { length flows.old ≡ length windows.now.whole.arcs }
-    ensures { AreLowered windows.now part_flows.now flows.old flows.new }
-{
-    for (part, number) in windows.numbers().iter().enumerate() {
-        let flow = flows[*number as usize].min(part_flows[part]);
-        flows[*number as usize] = flow;
-    }
-}
-
 // Prices and flows of one value: by the solver of one cost where all arcs that cost something cost the same.
 fn solve(alloc: Global, instance: &Instance) -> Result<Solution, NoMemory>
     ensures { IfOk result (λ s. IsSolution instance.now s.prices s.flows) }
@@ -53,43 +34,83 @@ fn solve(alloc: Global, instance: &Instance) -> Result<Solution, NoMemory>
     }
 }
 
+// A solution of the current window, with the arcs that are kept and their flows.
+#[derive(Drop)]
+struct KeptSolution {
+    kept: Vec<u32>,
+    solution: Solution,
+}
+
+// Solves the current window with the passing arcs of these ranks alone.
+fn solve_kept(
+    alloc: Global,
+    windows: &WindowArcs,
+    ranks: KeptRanks,
+) -> Result<KeptSolution, NoMemory>
+    requires has_step { windows.now.cut.width * windows.now.cut.number < windows.now.cut.whole.steps }
+    requires ranks { AreRanks windows.now ranks }
+    ensures { IfOk result (λ s. IsKeptSolution windows.now ranks s.kept.items s.solution.prices s.solution.flows) }
+{
+    let kept = windows.kept(alloc, ranks)?;
+    let window = windows.instance(alloc, &kept, ranks)?;
+    let solution = solve(alloc, &window)?;
+    Ok(KeptSolution { kept, solution })
+}
+
+// Solves the current window with as few passing arcs as can do, and with all of them if its prices don't suit the
+// others.
+fn solve_fitting(alloc: Global, windows: &WindowArcs) -> Result<(KeptRanks, KeptSolution), NoMemory>
+    requires { windows.now.cut.width * windows.now.cut.number < windows.now.cut.whole.steps }
+    ensures { IfOk result (λ (ranks, s). IsFitting windows.now ranks s.kept.items s.solution.prices s.solution.flows) }
+{
+    let likely = windows.likely(alloc)?;
+    let found = solve_kept(alloc, windows, likely)?;
+    if windows.fits(likely, found.solution.prices()) {
+        return Ok((likely, found));
+    }
+    let all = windows.everything();
+    Ok((all, solve_kept(alloc, windows, all)?))
+}
+
 // Solves the current window. Its prices come after those before, and the flows fall to those of its parts.
 fn solve_window(
     alloc: Global,
-    windows: &Windows,
+    windows: &mut WindowArcs,
     prices: &mut Vec<u128>,
-    flows: &mut [u64],
 ) -> Result<(), NoMemory>
-    requires has_step { windows.now.width * windows.now.number < windows.now.whole.steps }
-    requires each_arc { length flows.old ≡ length windows.now.whole.arcs }
-    ensures { IfOk result (λ done. IsNextSolution windows.now prices.old.items flows.old prices.new.items flows.new) }
+    requires { windows.old.cut.width * windows.old.cut.number < windows.old.cut.whole.steps }
+    ensures cut { IfOk result (λ done. windows.new.cut ≡ windows.old.cut) }
+    ensures each_arc { IfOk result (λ done. length windows.new.flows ≡ length windows.old.flows) }
+    ensures next { IfOk result (λ done. IsNextSolution windows.old.cut prices.old.items windows.old.flows prices.new.items windows.new.flows) }
 {
-    let window = windows.instance(alloc)?;
-    let solution = solve(alloc, &window)?;
-    prices.extend_from_slice(solution.prices())?;
-    lower(windows, solution.flows(), flows);
+    let (ranks, found) = solve_fitting(alloc, windows)?;
+    prices.extend_from_slice(found.solution.prices())?;
+    windows.lower(&found.kept, ranks, found.solution.flows());
+    windows.empty(ranks);
     Ok(())
 }
 
 // Prices of the steps and flows of the arcs, from one window after another.
 fn solve_each(alloc: Global, whole: &Instance, width: u32) -> Result<Solution, NoMemory>
-    requires { 1 ≤ width }
+    requires some { 1 ≤ width }
+    requires narrow { width < whole.now.steps }
     ensures { IfOk result (λ s. AreSolutions whole.now width s.prices s.flows) }
 {
+    // All numbers of the whole are in their ranges.
+    let _arcs = whole.arcs();
     let mut prices = Vec::with_capacity(alloc, whole.steps() as usize)?;
-    let mut flows = weights_of(alloc, whole.arcs())?;
-    let mut windows = Windows::new(alloc, whole, width)?;
+    let mut windows = WindowArcs::new(alloc, whole, width)?;
     while windows.has_step() {
-        solve_window(alloc, &windows, &mut prices, &mut flows)?;
-        windows.advance();
+        solve_window(alloc, &mut windows, &mut prices)?;
+        windows.advance(alloc)?;
     }
-    Ok(Solution::new(prices, flows))
+    Ok(Solution::new(prices, windows.into_flows()))
 }
 
 /// The prices and flows of the instance by windows of that width. The price of a step is that of its window, and the
 /// flow of an arc the least of its flows in the windows that it meets. One window has the memory of its solver at a
-/// time. Windows narrower than the steps take 4 bytes for each window and 12 for each arc besides, and 32 for each
-/// part of the one that is solved. The answer takes 16 bytes for each step, and 9 for each arc.
+/// time. Windows narrower than the steps take 8 bytes for each window and up to 180 for each arc besides, and 68 for
+/// each part of the one that is solved. The answer takes 16 bytes for each step, and 9 for each arc.
 pub fn solve_windows(
     alloc: Global,
     whole: &Instance,

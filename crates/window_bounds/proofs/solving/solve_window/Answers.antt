@@ -1,24 +1,23 @@
-use Rattle.std.proofs.Common.{◌∙◌, ℕ, List, ◌++◌, ap, subst}
-use Rattle.flow_model.specs.Instances.{Instance, IsSolution}
-use Rattle.flow_model.specs.Windows.{window_instance}
-use Rattle.window_bounds.proofs.Places.{as_many_parts}
+use Rattle.std.proofs.Common.{◌∙◌, ℕ, List, ◌++◌, ap, length, sym}
+use Rattle.window_arcs.specs.Current.{Current}
+use Rattle.window_bounds.proofs.KeptFlows.{many, next_solution}
 use Rattle.window_bounds.proofs.solving.solve_window.Goals as goal
+
+pub returns-clause-next : goal.returns-clause-next
+returns-clause-next c =
+    let v : Current = c.args.windows.now in
+    let ranks = c.in_ok-ranks.ranks in
+    let found = c.in_ok-ranks.found in
+    next_solution v ranks found.kept.items found.solution.prices found.solution.flows c.in_ok-ranks.ensures c.lower.ensures.in_range c.lower.new.self.flows c.empty.new.self.flows
+    (rw (c.deref.ensures.value, c.flows.ensures) at c.lower.ensures.flows)
+    (rw (c.lower.ensures.cut, c.lower.ensures.order) at c.empty.ensures.flows)
+    c.args.prices.now.items c.extend_from_slice.new.self.items (c.in_ok-extend_from_slice.ensures.items ∙ ap (λ (xs : List ℕ). c.args.prices.now.items ++ xs) c.prices.ensures)
 
 pub lower-requires-clause-each_part : goal.lower-requires-clause-each_part
 lower-requires-clause-each_part c =
-    let cut = c.args.windows.now in
-    let solution : IsSolution (window_instance cut.whole cut.width cut.number) c.in_ok-solution.solution.prices c.in_ok-solution.solution.flows =
-    subst (λ (i : Instance). IsSolution i c.in_ok-solution.solution.prices c.in_ok-solution.solution.flows) c.in_ok-window.ensures c.in_ok-solution.ensures in
-    rw c.flows.ensures (as_many_parts cut.whole cut.width cut.number c.in_ok-solution.solution.flows solution.schedule)
+    let ranks = c.in_ok-ranks.ranks in
+    let found = c.in_ok-ranks.found in
+    ap length c.flows.ensures ∙ many c.args.windows.now ranks found.kept.items found.solution.prices found.solution.flows c.in_ok-ranks.ensures ∙ ap length (sym c.deref.ensures.value)
 
-pub returns : goal.returns
-returns c =
-    let cut = c.args.windows.now in
-    let found = c.in_ok-solution.solution in
-    record {
-      found = found.prices;
-      parts = found.flows;
-      solution = subst (λ (i : Instance). IsSolution i found.prices found.flows) c.in_ok-window.ensures c.in_ok-solution.ensures;
-      extended = c.in_ok-extend_from_slice.ensures.items ∙ ap (λ (xs : List ℕ). c.args.prices.now.items ++ xs) c.prices.ensures;
-      fallen = rw c.flows.ensures at c.lower.ensures;
-    }
+pub returns-clause-each_arc : goal.returns-clause-each_arc
+returns-clause-each_arc c = c.empty.ensures.flows.each_arc ∙ c.lower.ensures.flows.each_arc

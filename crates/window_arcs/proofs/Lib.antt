@@ -1,0 +1,10 @@
+pub mod PlaceLemmas
+pub mod EventLemmas
+pub mod OrderLemmas
+pub mod Members
+pub mod CurrentLemmas
+pub mod SplitLemmas
+pub mod KeptLemmas
+pub mod FlowLemmas
+pub mod RankLemmas
+pub mod AdvanceLemmas

@@ -1,0 +1,309 @@
+-- The numbers at the places are the first leaves of a tree of sums.
+use Rattle.std.proofs.Common.{◌≡◌, ◌≢◌, ℕ, zero, suc, ◌+◌, ◌-◌, ◌*◌, ◌<◌, ◌≤◌, ◌^◌, ◌∙◌, sym, refl, ap, ⊎_elim, List, length, get_or, drop, take, arith, sum, All}
+use Rattle.std.specs.Prelude.{slice_range}
+use Rattle.std.proofs.Math.Nat.{pow-succ', pow-le-pow_right}
+use Rattle.std.proofs.lemmas.Bool.{cases_lt}
+use Rattle.std.proofs.lemmas.List.{drop_more, drop-take, get_or-drop, get_or-take, get_or_read, length-drop, length-take-le, take-take}
+use Rattle.std.proofs.lemmas.List.Elements.{All-from_get_or}
+use Rattle.std.proofs.lemmas.List.Sums.{get_or-le-sum_by, sum_by-cons, sum_by_more, sum_by-take-drop, sum_by-take-le}
+use Rattle.sum_tree.specs.Sums.{sum_at, sum_from, IsTree}
+use Rattle.sum_tree.proofs.SumLemmas.{sum_from-last}
+use Rattle.window_arcs.specs.Places.{numbers_at, IsPlaced}
+
+-- as many leaves as that
+length-leaves : (leaves : ℕ) (sums : List ℕ) → length sums ≡ 2 * leaves → length (drop leaves sums) ≡ leaves
+length-leaves leaves sums long = omega (arith, length-drop leaves sums, long)
+
+-- a number for each place
+pub length-numbers : (places leaves : ℕ) (sums : List ℕ) → IsPlaced places leaves sums → length (numbers_at places leaves sums) ≡ places
+length-numbers places leaves sums placed = length-take-le places (drop leaves sums) (omega (arith, length-leaves leaves sums placed.tree.nodes, placed.within))
+
+-- a sum of leaves
+sum-leaves : (sums : List ℕ) (node n : ℕ) → node + n ≤ length sums → sum (take n (drop node sums)) ≡ sum_from sums node n
+sum-leaves sums node zero within = refl
+sum-leaves sums node (suc n) within =
+    ap (λ xs. sum (take (suc n) xs)) (drop_more sums node 0 (omega arith))
+    ∙ sum_by-cons (λ (x : ℕ). x) (sum_at sums node) (take n (drop (node + 1) sums))
+    ∙ ap (λ m. sum_at sums node + m) (sum-leaves sums (node + 1) n (omega arith))
+
+-- a prefix of the numbers is summed
+pub sum-prefix : (places leaves n : ℕ) (sums : List ℕ) → IsPlaced places leaves sums → n ≤ places → sum (take n (numbers_at places leaves sums)) ≡ sum_from sums leaves n
+sum-prefix places leaves n sums placed within =
+    ap sum (take-take n places (drop leaves sums) within)
+    ∙ sum-leaves sums leaves n (omega (arith, placed.tree.nodes, placed.within))
+
+-- the children's sums are those of their parents
+sum_from-children : (greatest leaves : ℕ) (sums : List ℕ) (a n : ℕ) → IsTree greatest leaves sums → 1 ≤ a → a + n ≤ leaves → sum_from sums (2 * a) (2 * n) ≡ sum_from sums a n
+sum_from-children greatest leaves sums a zero tree low high = refl
+sum_from-children greatest leaves sums a (suc n) tree low high =
+    let two : 2 * suc n ≡ suc (suc (2 * n)) = omega arith in
+    let next : 2 * a + 1 + 1 ≡ 2 * (a + 1) = omega arith in
+    ap (sum_from sums (2 * a)) two
+    ∙ omega (
+      arith,
+      ap (λ k. sum_from sums k (2 * n)) next,
+      sum_from-children greatest leaves sums (a + 1) n tree (omega arith) (omega arith),
+      tree.inner a low (omega arith),
+    )
+
+-- each level of the tree has the sum of the root
+pub level-sum : (greatest leaves : ℕ) (sums : List ℕ) (k : ℕ) → IsTree greatest leaves sums → 2 ^ k ≤ leaves → sum_from sums (2 ^ k) (2 ^ k) ≡ sum_at sums 1
+level-sum greatest leaves sums zero tree within = omega arith
+level-sum greatest leaves sums (suc k) tree within =
+    let double : 2 ^ suc k ≡ 2 * 2 ^ k = pow-succ' 2 k in
+    let some : 2 ^ 0 ≤ 2 ^ k = pow-le-pow_right {n = 2} (omega arith) {i = 0} {j = k} (omega arith) in
+    ap (λ m. sum_from sums m m) double
+    ∙ sum_from-children greatest leaves sums (2 ^ k) (2 ^ k) tree (omega (arith, some)) (omega (arith, double))
+    ∙ level-sum greatest leaves sums k tree (omega (arith, double))
+
+-- what is added to a sum is not below it
+sum_from-more : (sums : List ℕ) (node n d : ℕ) → sum_from sums node n ≤ sum_from sums node (n + d)
+sum_from-more sums node n zero = let e : n + 0 ≡ n = omega arith in omega (arith, ap (sum_from sums node) e)
+sum_from-more sums node n (suc d) = let e : n + suc d ≡ suc (n + d) = omega arith in omega (arith, ap (sum_from sums node) e, sum_from-last sums node (n + d), sum_from-more sums node n d)
+
+-- nodes of no sum add nothing
+sum_from-none : (sums : List ℕ) (node n d : ℕ) → ((i : ℕ) → n ≤ i → sum_at sums (node + i) ≡ 0) → sum_from sums node (n + d) ≡ sum_from sums node n
+sum_from-none sums node n zero none = let e : n + 0 ≡ n = omega arith in ap (sum_from sums node) e
+sum_from-none sums node n (suc d) none =
+    let e : n + suc d ≡ suc (n + d) = omega arith in
+    omega (arith, ap (sum_from sums node) e, sum_from-last sums node (n + d), sum_from-none sums node n d none, none (n + d) (omega arith))
+
+-- so far: all nodes of the level before this one have a sum within the limit, and with it one past the limit
+pub record IsSearched (leaves : ℕ) (sums : List ℕ) (limit start node sum : ℕ) : Type 0 where
+  pub above : ℕ
+  pub below : ℕ
+  pub start_is : start ≡ 2 ^ above
+  pub leaves_are : leaves ≡ 2 ^ (above + below)
+  pub low : start ≤ node
+  pub high : node < 2 * start
+  pub so_far : sum ≡ sum_from sums start (node - start)
+  pub fits : sum ≤ limit
+  pub past : limit < sum + sum_at sums node
+
+-- the numbers at all places are those of all leaves
+pub sum-all : (places leaves : ℕ) (sums : List ℕ) → IsPlaced places leaves sums → sum (take places (numbers_at places leaves sums)) ≡ sum_at sums 1
+sum-all places leaves sums placed =
+    let within : places ≤ leaves = placed.within in
+    let all : places + (leaves - places) ≡ leaves = omega arith in
+    sum-prefix places leaves places sums placed (omega arith)
+    ∙ sym (sum_from-none sums leaves places (leaves - places) (λ i past. sym (get_or-drop leaves sums i 0) ∙ placed.none_past i past))
+    ∙ ap (sum_from sums leaves) all
+    ∙ ap (λ m. sum_from sums m m) placed.power
+    ∙ level-sum (2 ^ 48) leaves sums placed.levels placed.tree (omega (arith, placed.power))
+
+module _ (places leaves limit : ℕ) (sums : List ℕ) (placed : IsPlaced places leaves sums) where
+  -- there is a leaf
+  pub some_leaf : 1 ≤ leaves
+  some_leaf = let some : 2 ^ 0 ≤ 2 ^ placed.levels = pow-le-pow_right {n = 2} (omega arith) {i = 0} {j = placed.levels} (omega arith) in omega (arith, placed.power, some)
+
+  module _ (here : ℕ) (here_is : here ≡ get_or sums 1 here) where
+    -- the sum of the root is read
+    pub root_sum : here ≡ sum_at sums 1
+    root_sum = get_or_read sums 1 here (omega (arith, some_leaf, placed.tree.nodes)) here_is 0
+
+  -- at the root
+  pub search-root : limit < sum_at sums 1 → IsSearched leaves sums limit 1 1 0
+  search-root more =
+      let none : placed.levels ≡ 0 + placed.levels = omega arith in
+      record {
+        above = 0;
+        below = placed.levels;
+        start_is = omega arith;
+        leaves_are = placed.power ∙ ap (λ n. 2 ^ n) none;
+        low = omega arith;
+        high = omega arith;
+        so_far = refl;
+        fits = omega arith;
+        past = omega (arith, more);
+      }
+
+  module _ (start node sum_before : ℕ) (searched : IsSearched leaves sums limit start node sum_before) where
+    some_start : 1 ≤ start
+    some_start = omega (arith, searched.low, searched.high)
+
+    module _ (inner : start < leaves) where
+      -- a level is left
+      one_below : 1 ≤ searched.below
+      one_below =
+          ⊎_elim
+          (λ (less : 0 < searched.below). omega arith)
+          (λ (no : searched.below ≤ 0). let e : searched.above + searched.below ≡ searched.above = omega arith in absurd (omega (arith, searched.start_is, searched.leaves_are, ap (λ n. 2 ^ n) e)))
+          (cases_lt 0 searched.below)
+
+      -- the next level is one of the tree
+      pub next_level : 2 * start ≤ leaves
+      next_level =
+          let more : 2 ^ suc searched.above ≤ 2 ^ (searched.above + searched.below) = pow-le-pow_right {n = 2} (omega arith) {i = suc searched.above} {j = searched.above + searched.below} (omega (arith, one_below)) in
+          omega (arith, pow-succ' 2 searched.above, searched.start_is, searched.leaves_are, more)
+
+      next_start : 2 * start ≡ 2 ^ (searched.above + 1)
+      next_start = let e : searched.above + 1 ≡ suc searched.above = omega arith in omega (arith, searched.start_is, pow-succ' 2 searched.above, ap (λ n. 2 ^ n) e)
+
+      next_leaves : leaves ≡ 2 ^ (searched.above + 1 + (searched.below - 1))
+      next_leaves = let e : searched.above + searched.below ≡ searched.above + 1 + (searched.below - 1) = omega (arith, one_below) in searched.leaves_are ∙ ap (λ n. 2 ^ n) e
+
+      next_sum : sum_before ≡ sum_from sums (2 * start) (2 * node - 2 * start)
+      next_sum =
+          let low : start ≤ node = searched.low in
+          let high : node < 2 * start = searched.high in
+          let wide : 2 * node - 2 * start ≡ 2 * (node - start) = omega arith in
+          searched.so_far
+          ∙ sym (sum_from-children (2 ^ 48) leaves sums start (node - start) placed.tree some_start (omega (arith, next_level)))
+          ∙ ap (sum_from sums (2 * start)) (sym wide)
+
+      -- with the left child
+      left_sum : sum_before + sum_at sums (2 * node) ≡ sum_from sums (2 * start) (2 * node + 1 - 2 * start)
+      left_sum =
+          let low : start ≤ node = searched.low in
+          let more : 2 * node + 1 - 2 * start ≡ suc (2 * node - 2 * start) = omega arith in
+          let last : 2 * start + (2 * node - 2 * start) ≡ 2 * node = omega arith in
+          omega (arith, next_sum, ap (sum_from sums (2 * start)) more, sum_from-last sums (2 * start) (2 * node - 2 * start), ap (sum_at sums) last)
+
+      -- both children have the sum of the node
+      children : sum_at sums node ≡ sum_at sums (2 * node) + sum_at sums (2 * node + 1)
+      children = placed.tree.inner node (omega (arith, some_start, searched.low)) (omega (arith, searched.high, next_level))
+
+      -- the sum with the left child is no more than that of the root
+      left_within : sum_before + sum_at sums (2 * node) ≤ sum_at sums 1
+      left_within =
+          let low : start ≤ node = searched.low in
+          let high : node < 2 * start = searched.high in
+          let all : 2 * node + 1 - 2 * start + (2 * start - (2 * node + 1 - 2 * start)) ≡ 2 * start = omega arith in
+          omega (
+            arith,
+            left_sum,
+            sum_from-more sums (2 * start) (2 * node + 1 - 2 * start) (2 * start - (2 * node + 1 - 2 * start)),
+            ap (sum_from sums (2 * start)) all,
+            ap (λ m. sum_from sums m m) next_start,
+            level-sum (2 ^ 48) leaves sums (searched.above + 1) placed.tree (omega (arith, next_start, next_level)),
+          )
+
+      module _ (child here : ℕ) (child_is : child ≡ 2 * node) (here_is : here ≡ get_or sums child here) where
+        -- there is a left child
+        pub child_within : child < length sums
+        child_within = omega (arith, child_is, next_level, searched.high, placed.tree.nodes)
+
+        child_sum : here ≡ sum_at sums child
+        child_sum = get_or_read sums child here child_within here_is 0
+
+        here_sum : here ≡ sum_at sums (2 * node)
+        here_sum = child_sum ∙ ap (sum_at sums) child_is
+
+        -- the sum with the left child is no more than that of the root, which fits
+        pub left_fits : sum_before + here < 2 ^ 128
+        left_fits = omega (arith, here_sum, left_within, placed.tree.small 1 (omega arith) (omega (arith, some_leaf)), placed.tree.few)
+
+        module _ (after : ℕ) (after_is : after ≡ 2 * start) where
+          -- the left child is past the limit
+          pub search-left : limit < sum_before + here → IsSearched leaves sums limit after child sum_before
+          search-left more = record {
+            above = searched.above + 1;
+            below = searched.below - 1;
+            start_is = after_is ∙ next_start;
+            leaves_are = next_leaves;
+            low = omega (arith, searched.low);
+            high = omega (arith, searched.high);
+            so_far = next_sum ∙ omega (arith, ap (λ m. sum_from sums m (2 * node - m)) after_is, ap (λ m. sum_from sums after (m - after)) child_is);
+            fits = searched.fits;
+            past = omega (arith, more, child_sum);
+          }
+
+          -- the left child is within it
+          pub search-right : sum_before + here ≤ limit → IsSearched leaves sums limit after (child + 1) (sum_before + here)
+          search-right less = record {
+            above = searched.above + 1;
+            below = searched.below - 1;
+            start_is = after_is ∙ next_start;
+            leaves_are = next_leaves;
+            low = omega (arith, searched.low);
+            high = omega (arith, searched.high);
+            so_far = omega (
+              arith,
+              left_sum,
+              here_sum,
+              ap (λ m. sum_from sums m (2 * node + 1 - m)) after_is,
+              ap (λ m. sum_from sums after (m + 1 - after)) child_is,
+            );
+            fits = less;
+            past = omega (arith, searched.past, children, here_sum, ap (λ m. sum_at sums (m + 1)) child_is);
+          }
+
+    module _ (last : leaves ≤ start) where
+      -- the leaves are the last level
+      is_last : start ≡ leaves
+      is_last =
+          let more : 2 ^ searched.above ≤ 2 ^ (searched.above + searched.below) = pow-le-pow_right {n = 2} (omega arith) {i = searched.above} {j = searched.above + searched.below} (omega arith) in
+          omega (arith, searched.start_is, searched.leaves_are, more)
+
+      last_sum : sum_before ≡ sum_from sums leaves (node - leaves)
+      last_sum = searched.so_far ∙ ap (λ m. sum_from sums m (node - m)) is_last
+
+      last_past : limit < sum_before + get_or (drop leaves sums) (node - leaves) 0
+      last_past =
+          let at : leaves + (node - leaves) ≡ node = omega (arith, searched.low, is_last) in
+          omega (arith, searched.past, get_or-drop leaves sums (node - leaves) 0, ap (sum_at sums) at)
+
+      pub low_node : leaves ≤ node
+      low_node = omega (arith, searched.low, is_last)
+
+      -- a place is found
+      pub found_place : node - leaves < places
+      found_place =
+          ⊎_elim
+          (λ (in_places : node - leaves < places). in_places)
+          (λ (past : places ≤ node - leaves). absurd (omega (arith, last_past, searched.fits, placed.none_past (node - leaves) past)))
+          (cases_lt (node - leaves) places)
+
+      -- with the sum before it
+      pub found_sum : sum_before ≡ sum (take (node - leaves) (numbers_at places leaves sums))
+      found_sum = last_sum ∙ sym (sum-prefix places leaves (node - leaves) sums placed (omega (arith, found_place)))
+
+      -- and its number is too much
+      pub found_past : limit < sum_before + get_or (numbers_at places leaves sums) (node - leaves) 0
+      found_past = omega (arith, last_past, get_or-take places (drop leaves sums) (node - leaves) 0 found_place)
+
+-- ---- the first number but 0
+module _ (places leaves from found before prefix : ℕ) (numbers sums : List ℕ) (view : numbers_at places leaves sums ≡ numbers) (placed : IsPlaced places leaves sums) (within : from ≤ length numbers) (counted : before ≡ sum_from sums (leaves + 0) (from - 0)) (prefix_is : prefix ≡ sum (take found numbers)) (fits : prefix ≤ before) (longest : found < length numbers → before < prefix + get_or numbers found 0) where
+  -- what was summed are the numbers before the place
+  before_is : before ≡ sum (take from numbers)
+  before_is =
+      let first : leaves + 0 ≡ leaves = omega arith in
+      let many : from - 0 ≡ from = omega arith in
+      counted
+      ∙ ap (λ n. sum_from sums n (from - 0)) first
+      ∙ ap (sum_from sums leaves) many
+      ∙ sym (sum-prefix places leaves from sums placed (omega (arith, within, length-numbers places leaves sums placed, ap length view)))
+      ∙ ap (λ xs. sum (take from xs)) view
+
+  -- it is not before the place
+  pub found-order : from ≤ found
+  found-order =
+      ⊎_elim
+      (λ (less : found < from).
+      let more : sum (take (found + 1) numbers) ≤ sum (take from numbers) =
+      omega (arith, ap sum (take-take (found + 1) from numbers (omega arith)), sum_by-take-le (λ (x : ℕ). x) (take from numbers) (found + 1)) in
+      absurd (omega (arith, more, sum_by_more (λ (x : ℕ). x) numbers found 0 (omega arith), longest (omega arith), before_is, prefix_is)))
+      (λ (up : from ≤ found). up)
+      (cases_lt found from)
+
+  -- between them stands no other number
+  pub found-none : All (λ number. number ≡ 0) (slice_range numbers from found)
+  found-none =
+      let all : from + (found - from) ≡ found = omega (arith, found-order) in
+      let between : List ℕ = slice_range numbers from found in
+      let none : sum between ≡ 0 =
+      omega (
+        arith,
+        sum_by-take-drop (λ (x : ℕ). x) (take found numbers) from,
+        ap sum (take-take from found numbers found-order),
+        ap (λ n. sum (drop from (take n numbers))) all,
+        ap sum (drop-take from (found - from) numbers),
+        before_is,
+        prefix_is,
+        fits,
+      ) in
+      All-from_get_or (λ number. number ≡ 0) between 0 (λ i low. omega (arith, get_or-le-sum_by (λ (x : ℕ). x) between i 0 low, none))
+
+  -- there it stands
+  pub found-some : found < length numbers → get_or numbers found 0 ≢ 0
+  found-some less none = omega (arith, longest less, fits, none)

@@ -1,0 +1,40 @@
+use Rattle.std.proofs.Common.{◌≡◌, ◌∙◌, ◌<◌, ℕ, List, ap, subst, arith, get_or, length}
+use Rattle.std.proofs.lemmas.List.{get_or_read}
+use Rattle.flow_model.specs.declared.arcs.OuterArc.{OuterArc}
+use Rattle.flow_model.specs.Instances.{arc_at}
+use Rattle.window_arcs.specs.Current.{Current}
+use Rattle.window_arcs.specs.Passing.{whole_share}
+use Rattle.window_arcs.proofs.CurrentLemmas.{arc_of_rank}
+use Rattle.window_arcs.proofs.arcs.WindowArcs.share_at.Goals as goal
+
+pub bounds-arcs-index : goal.bounds-arcs-index
+bounds-arcs-index c =
+    let inside = c.self.inside in
+    let within : c.args.rank < length inside.order.numbers.items = omega (arith, c.requires, ap (λ (v : Current). length v.order) c.self.view_is) in
+    (arc_of_rank inside.whole.now inside.width c.args.rank c.index.result.now inside.order.numbers.items inside.order.ranks.items c.arcs.result.now c.self.invariant.in_range c.self.invariant.ordered within
+    (get_or_read inside.order.numbers.items c.args.rank c.index.result.now within c.index.ensures 0) c.arcs.ensures.arcs).0
+
+pub whole_share-requires-clause-order : goal.whole_share-requires-clause-order
+whole_share-requires-clause-order c =
+    let inside = c.self.inside in
+    let within : c.args.rank < length inside.order.numbers.items = omega (arith, c.requires, ap (λ (v : Current). length v.order) c.self.view_is) in
+    (arc_of_rank inside.whole.now inside.width c.args.rank c.index.result.now inside.order.numbers.items inside.order.ranks.items c.arcs.result.now c.self.invariant.in_range c.self.invariant.ordered within
+    (get_or_read inside.order.numbers.items c.args.rank c.index.result.now within c.index.ensures 0) c.arcs.ensures.arcs).1.order
+
+pub whole_share-requires-clause-cost : goal.whole_share-requires-clause-cost
+whole_share-requires-clause-cost c =
+    let inside = c.self.inside in
+    let within : c.args.rank < length inside.order.numbers.items = omega (arith, c.requires, ap (λ (v : Current). length v.order) c.self.view_is) in
+    (arc_of_rank inside.whole.now inside.width c.args.rank c.index.result.now inside.order.numbers.items inside.order.ranks.items c.arcs.result.now c.self.invariant.in_range c.self.invariant.ordered within
+    (get_or_read inside.order.numbers.items c.args.rank c.index.result.now within c.index.ensures 0) c.arcs.ensures.arcs).1.small_cost
+
+pub returns : goal.returns
+returns c =
+    let inside = c.self.inside in
+    let order : List ℕ = inside.order.numbers.items in
+    let within : c.args.rank < length order = omega (arith, c.requires, ap (λ (v : Current). length v.order) c.self.view_is) in
+    let read : c.index.result.now ≡ get_or order c.args.rank 0 = get_or_read order c.args.rank c.index.result.now within c.index.ensures 0 in
+    subst (λ (v : Current). c.whole_share.result ≡ whole_share v.cut.width (arc_at v.cut.whole.arcs (get_or v.order c.args.rank 0))) c.self.view_is
+    (c.whole_share.ensures
+    ∙ ap (λ (some : List OuterArc). whole_share inside.width (arc_at some c.index.result.now)) c.arcs.ensures.arcs
+    ∙ ap (λ i. whole_share inside.width (arc_at inside.whole.now.arcs i)) read)

@@ -1,0 +1,117 @@
+//! A number at each place, set one by one, with searches for what a prefix of them sums to.
+ghost use Rattle.std.specs.Prelude.{◌≡◌, ◌≢◌, ◌<◌, ◌≤◌, ◌+◌, ◌*◌, ◌^◌, length, replicate, slice_index, slice_range, slice_set, sum, take, All, IfOk};
+
+use bound_base::NoMemory;
+use std::alloc::Global;
+use std::marker::Model;
+use sum_tree::{set_leaf, sum_between};
+
+/// A number at each place, at most 2^48. Places count from 0. It takes 32 bytes for each place, or up to 64: the
+/// leaves of its tree are as many as the next power of two.
+#[derive(Debug, Drop)]
+pub(crate) struct PlaceSums {
+    places: u32,
+    leaves: u32,
+    sums: Vec<u128>,
+}
+
+/// So many places from the first on, and the sum of their numbers.
+#[derive(Clone, Copy, Debug)]
+pub(crate) struct Prefix {
+    pub(crate) places: u32,
+    pub(crate) sum: u128,
+}
+
+impl Model for PlaceSums {
+    ghost use Rattle.std.specs.Prelude.{List, ℕ};
+    ghost use Rattle.window_arcs.specs.Places.{IsPlaced, numbers_at};
+
+    ghost Value = { List ℕ };
+
+    ghost view = { λ s. numbers_at s.places s.leaves s.sums.items };
+
+    ghost invariant = { λ s. IsPlaced s.places s.leaves s.sums.items };
+}
+
+// A sum of 0 at each node of a tree over that many leaves.
+fn no_sums(alloc: Global, leaves: u32) -> Result<Vec<u128>, NoMemory>
+    requires { leaves ≤ 2 ^ 27 }
+    ensures { IfOk result (λ sums. sums.items ≡ replicate (2 * leaves) 0) }
+{
+    Ok(vec![in alloc; 0; 2 * leaves as usize]?)
+}
+
+impl PlaceSums {
+    /// That many places with 0 at each.
+    pub(crate) fn new(alloc: Global, places: u32) -> Result<PlaceSums, NoMemory>
+        requires { places ≤ 2 ^ 26 }
+        ensures { IfOk result (λ s. s ≡ replicate places 0) }
+    {
+        let leaves = places.next_power_of_two();
+        Ok(PlaceSums {
+            places,
+            leaves,
+            sums: no_sums(alloc, leaves)?,
+        })
+    }
+
+    /// Sets the number at a place. It takes time in the logarithm of the number of places.
+    pub(crate) fn set(&mut self, place: u32, number: u64)
+        requires within { place < length self.old }
+        requires small { number ≤ 2 ^ 48 }
+        ensures { self.new ≡ slice_set self.old place number }
+    {
+        set_leaf(
+            &mut self.sums,
+            self.leaves as usize,
+            place as usize,
+            u128::from(number),
+        );
+    }
+
+    /// The longest prefix whose numbers sum to at most the limit. It takes time in the logarithm of the number of
+    /// places.
+    pub(crate) fn within(&self, limit: u128) -> Prefix
+        ensures places { result.places ≤ length self.now }
+        ensures sum { result.sum ≡ sum (take result.places self.now) }
+        ensures fits { result.sum ≤ limit }
+        ensures longest { result.places < length self.now → limit < result.sum + slice_index self.now result.places }
+    {
+        if self.sums[1] <= limit {
+            return Prefix {
+                places: self.places,
+                sum: self.sums[1],
+            };
+        }
+        let leaves = self.leaves as usize;
+        let mut start = 1;
+        let mut node = 1;
+        let mut sum = 0;
+        'down: while start < leaves {
+            start *= 2;
+            node *= 2;
+            let left = sum + self.sums[node];
+            if left <= limit {
+                sum = left;
+                node += 1;
+            }
+        }
+        Prefix {
+            places: (node - leaves) as u32,
+            sum,
+        }
+    }
+
+    /// The first place from this one on with another number than 0, and the number of places if there is none. It
+    /// takes time in the logarithm of the number of places.
+    pub(crate) fn next(&self, from: u32) -> u32
+        requires { from ≤ length self.now }
+        ensures order { from ≤ result }
+        ensures within { result ≤ length self.now }
+        ensures none_before { All (λ number. number ≡ 0) (slice_range self.now from result) }
+        ensures found { result < length self.now → slice_index self.now result ≢ 0 }
+    {
+        let before = sum_between(&self.sums, self.leaves as usize, 0, from as usize);
+        self.within(before).places
+    }
+}
