@@ -60,13 +60,20 @@ fn flow_is_the_least_of_its_parts(rt: HostRuntime) {
 // other earns more. In the others it has a part, so the price of each is what it earns there.
 #[test]
 fn an_arc_with_a_part_prices_the_windows_that_it_passes(rt: HostRuntime) {
-    let arcs = [arc(0, 8, 2, 80), arc(0, 8, 2, 40), arc(0, 8, 2, 16), arc(2, 4, 1, 15)];
+    let arcs = [
+        arc(0, 8, 2, 80),
+        arc(0, 8, 2, 40),
+        arc(0, 8, 2, 16),
+        arc(2, 4, 1, 15),
+    ];
     let found = solved(rt.alloc(), 8, 3, &arcs, 2).expect(&rt, "memory");
     same("flows", found.flows(), [2, 0, 0, 1].as_slice()).expect(&rt, "a row");
     let full = [true, false, false, true];
     same("flags", found.full(), full.as_slice()).expect(&rt, "a row");
     for (window, prices) in found.prices().chunks(2).enumerate() {
-        let price = prices.iter().fold(0, |sum: u128, price| sum.saturating_add(*price));
+        let price = prices
+            .iter()
+            .fold(0, |sum: u128, price| sum.saturating_add(*price));
         holds(window, window == 1 || price == 10).expect(&rt, "a row");
     }
 }
