@@ -16,7 +16,6 @@ use Rattle.window_arcs.specs.Events.{numbers_with}
 use Rattle.window_arcs.specs.Passing.{IsOrder, passes, passes_at}
 use Rattle.window_arcs.proofs.EventLemmas.{has_key}
 use Rattle.window_arcs.proofs.OrderLemmas.{numbers_within}
-use Rattle.window_arcs.proofs.RankLemmas.{length-ordered}
 
 -- a number between two multiples
 quotient : (a width k : ℕ) → width * k ≤ a → a < width * (k + 1) → a / width ≡ k
@@ -192,7 +191,7 @@ lives_put before cut order changed old new flows were are kept some =
 -- each arc of the order weighs something
 weights_some : (width steps : ℕ) (arcs : List OuterArc) (order ranks : List ℕ) → IsOrder width arcs order ranks → All (IsArc steps) arcs → (r : ℕ) → r < length order → 0 < (arc_at arcs (get_or order r 0)).weight
 weights_some width steps arcs order ranks ordered fit r low =
-    let arc : IsArc steps (arc_at arcs (get_or order r 0)) = fit (get_or order r 0) no_arc (numbers_within (length arcs) order ordered.all r 0 low) in
+    let arc : IsArc steps (arc_at arcs (get_or order r 0)) = fit (get_or order r 0) no_arc (numbers_within width arcs order ordered.all r 0 low) in
     arc.some_weight
 
 -- the next window
@@ -210,7 +209,7 @@ pub current_next : (cut : Cut) (order ranks starts ends passing live flows chang
 current_next cut order ranks starts ends passing live flows changed new_passing new_live current fits changing put put_live =
     let arcs : List OuterArc = cut.whole.arcs in
     let kept : (r : ℕ) → r < length order → has changed (get_or order r 0) ≡ false → passes_at (next_cut cut) (get_or order r 0) ≡ passes_at cut (get_or order r 0) =
-    λ r low apart. changing.alike (get_or order r 0) (numbers_within (length arcs) order current.ordered.all r 0 low) apart in
+    λ r low apart. changing.alike (get_or order r 0) (numbers_within cut.width arcs order current.ordered.all r 0 low) apart in
     record {
       in_range = current.in_range;
       some_width = current.some_width;
@@ -256,15 +255,15 @@ zeros order n each =
 
 -- the first window is current, once the weights of the arcs that start in it are put
 pub current_first : (cut : Cut) (order ranks starts ends none none_live passing live flows changed : List ℕ) (places : ℕ) → cut.number ≡ 0 → 0 < cut.width → cut.width < cut.whole.steps → IsInstance cut.whole → IsOrder cut.width cut.whole.arcs order ranks
-    → starts ≡ map (λ arc. arc.start / cut.width) cut.whole.arcs → ends ≡ map (last_window cut.width) cut.whole.arcs → flows ≡ map (λ arc. arc.weight) cut.whole.arcs → places ≡ length cut.whole.arcs → none ≡ replicate places 0 → none_live ≡ replicate places 0
+    → starts ≡ map (λ arc. arc.start / cut.width) cut.whole.arcs → ends ≡ map (last_window cut.width) cut.whole.arcs → flows ≡ map (λ arc. arc.weight) cut.whole.arcs → places ≡ length order → none ≡ replicate places 0 → none_live ≡ replicate places 0
     → AreFirst cut.width cut.whole.arcs changed → ArePut cut order changed none passing → ArePut cut order changed none_live live → IsCurrent cut order ranks starts ends passing live flows
 current_first cut order ranks starts ends none none_live passing live flows changed places first some narrow fits ordered starting ending full all empty empty_live firsts put put_live =
     let arcs : List OuterArc = cut.whole.arcs in
-    let zero : replicate {A = ℕ} places 0 ≡ map (λ (i : ℕ). 0) order = zeros order places (all ∙ sym (length-ordered cut.width arcs order ranks ordered)) in
+    let zero : replicate {A = ℕ} places 0 ≡ map (λ (i : ℕ). 0) order = zeros order places all in
     let outside : (r : ℕ) → r < length order → has changed (get_or order r 0) ≡ false → 0 ≡ passing_weight cut (get_or order r 0) =
     λ r low apart.
     ap (λ b. cond b (arc_at arcs (get_or order r 0)).weight 0)
-    (sym (ap (λ k. passes cut.width k (arc_at arcs (get_or order r 0))) first ∙ firsts.outside (get_or order r 0) (numbers_within (length arcs) order ordered.all r 0 low) apart)) in
+    (sym (ap (λ k. passes cut.width k (arc_at arcs (get_or order r 0))) first ∙ firsts.outside (get_or order r 0) (numbers_within cut.width arcs order ordered.all r 0 low) apart)) in
     let weight : (i : ℕ) → i < length arcs → get_or flows i 0 ≡ (arc_at arcs i).weight = λ i low. ap (λ xs. get_or xs i 0) full ∙ get_or-map (λ (arc : OuterArc). arc.weight) arcs i no_arc 0 low in
     record {
       in_range = fits;

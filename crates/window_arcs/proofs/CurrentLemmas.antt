@@ -1,11 +1,9 @@
--- The order of all arcs, those of some ranks that pass through a window, and what is below others.
+-- The order of arcs, those of some ranks that pass through a window, and what is below others.
 use Rattle.std.proofs.Common.{◌≡◌, ◌≢◌, ◌∙◌, ℕ, zero, suc, ◌+◌, ◌-◌, ◌/◌, ◌<◌, ◌≤◌, ap, sym, refl, subst, min, Bool, true, false, cond, eqb, not, ◌&&◌, arith, List, [], ◌∷◌, ◌++◌, length, map, filter, take, drop, get_or, slice_range, sum, append-nil, All, ⊎_elim}
 use Rattle.std.specs.List.{range_with_len}
 use Rattle.std.proofs.lemmas.Bool.{cases_Bool}
 use Rattle.std.proofs.lemmas.List.{append_assoc, drop-drop, drop-take, get_or-drop, get_or-map, get_or-take, length-drop, length-map, length-take, take-append-drop, take-map, take-take, take_all, drop_more}
 use Rattle.std.proofs.lemmas.List.Elements.{filter-append, filter_more}
-use Rattle.std.proofs.lemmas.List.FromFn.{length-range_with_len, get_or-range_with_len}
-use Rattle.std.proofs.lemmas.List.Sorted.{All-permutation, length_permutation}
 use Rattle.std.proofs.lemmas.List.Sums.{sum-map}
 use Rattle.cache_model.proofs.Keeps.{All-filter_range}
 use Rattle.cache_model.proofs.Sums.{sum_by-filter}
@@ -16,24 +14,22 @@ use Rattle.flow_windows.specs.Cuts.{Cut, starts_in}
 use Rattle.window_arcs.specs.Events.{numbers_with}
 use Rattle.window_arcs.specs.Passing.{IsOrder, ends_at, passes_at, passing_numbers, starts_at, weight_of}
 use Rattle.window_arcs.specs.Current.{passing_weight}
+use Rattle.window_arcs.proofs.OrderLemmas.{numbers_few, numbers_within}
 
 module _ (width : ℕ) (arcs : List OuterArc) (order ranks : List ℕ) (is : IsOrder width arcs order ranks) where
-  -- each number has a rank
-  pub order_length : length order ≡ length arcs
-  order_length = length_permutation (range_with_len 0 (length arcs)) order is.all ∙ length-range_with_len 0 (length arcs)
+  -- there are no more ranks than arcs
+  pub order_length : length order ≤ length arcs
+  order_length = numbers_few width arcs order is.all
 
-  -- and is that of an arc
-  pub order_low : (r : ℕ) → r < length arcs → get_or order r 0 < length arcs
-  order_low r within =
-      All-permutation (λ i. i < length arcs) (range_with_len 0 (length arcs)) order is.all
-      (λ j d low. omega (arith, low, length-range_with_len 0 (length arcs), get_or-range_with_len 0 (length arcs) j d (omega (arith, low, length-range_with_len 0 (length arcs)))))
-      r 0 (omega (arith, order_length))
+  -- and each is that of an arc
+  pub order_low : (r : ℕ) → r < length order → get_or order r 0 < length arcs
+  order_low r within = numbers_within width arcs order is.all r 0 within
 
 -- and the arc of a rank is in its ranges
 pub arc_of_rank : (whole : Instance) (width r i : ℕ) (order ranks : List ℕ) (arcs : List OuterArc) → IsInstance whole → IsOrder width whole.arcs order ranks → r < length order → i ≡ get_or order r 0 → arcs ≡ whole.arcs
     → (i < length arcs) × IsArc whole.steps (arc_at arcs i)
 arc_of_rank whole width r i order ranks arcs in_range is within read same =
-    let low : i < length whole.arcs = omega (arith, read, order_low width whole.arcs order ranks is r (omega (arith, within, order_length width whole.arcs order ranks is))) in (
+    let low : i < length whole.arcs = omega (arith, read, order_low width whole.arcs order ranks is r within) in (
       omega (arith, low, ap length same),
       subst (λ (some : List OuterArc). IsArc whole.steps (arc_at some i)) (sym same) (in_range.arcs_fit i no_arc low),
     )

@@ -72,7 +72,7 @@ local_low cut j within =
     j 0 within
 
 -- ---- prices that suit
-module _ (c : Current) (ranks : KeptRanks) (prices of_ranks : List ℕ) (price : ℕ) (is : IsOrder c.cut.width c.cut.whole.arcs c.order of_ranks) (many : length c.order ≡ length c.cut.whole.arcs) (sorted : ranks.first ≤ ranks.end) (within : ranks.end ≤ length c.order)
+module _ (c : Current) (ranks : KeptRanks) (prices of_ranks : List ℕ) (price : ℕ) (is : IsOrder c.cut.width c.cut.whole.arcs c.order of_ranks) (sorted : ranks.first ≤ ranks.end) (within : ranks.end ≤ length c.order)
     (paid : price ≡ sum prices) where
   abbrev share : ℕ → ℕ
   share r = whole_share c.cut.width (arc_at c.cut.whole.arcs (get_or c.order r 0))
@@ -83,11 +83,11 @@ module _ (c : Current) (ranks : KeptRanks) (prices of_ranks : List ℕ) (price :
         full = λ r low.
             ⊎_elim
             (λ (none : ranks.first ≡ 0). absurd (omega arith))
-            (λ (dear : price ≤ share (ranks.first - 1)). omega (arith, paid, dear, is.falling r (ranks.first - 1) (omega arith) (omega (arith, many))))
+            (λ (dear : price ≤ share (ranks.first - 1)). omega (arith, paid, dear, is.falling r (ranks.first - 1) (omega arith) (omega arith)))
             first;
         empty = λ r from until.
             ⊎_elim
             (λ (all : ranks.end ≡ length c.order). absurd (omega arith))
-            (λ (cheap : share ranks.end ≤ price). omega (arith, paid, cheap, is.falling ranks.end r from (omega (arith, many))))
+            (λ (cheap : share ranks.end ≤ price). omega (arith, paid, cheap, is.falling ranks.end r from until))
             end;
       }

@@ -1,7 +1,8 @@
 -- The numbers at the places are the first leaves of a tree of sums.
-use Rattle.std.proofs.Common.{◌≡◌, ◌≢◌, ℕ, zero, suc, ◌+◌, ◌-◌, ◌*◌, ◌<◌, ◌≤◌, ◌^◌, ◌∙◌, sym, refl, ap, ⊎_elim, List, length, get_or, drop, take, arith, sum, All}
+use Rattle.std.proofs.Common.{◌≡◌, ◌≢◌, ℕ, zero, suc, ◌+◌, ◌-◌, ◌*◌, ◌<◌, ◌≤◌, ◌^◌, ◌∙◌, sym, refl, ap, ⊎_elim, List, length, get_or, set, drop, take, arith, sum, All}
 use Rattle.std.specs.Prelude.{slice_range}
 use Rattle.std.proofs.Math.Nat.{pow-succ', pow-le-pow_right}
+use Rattle.std.proofs.Math.Seq.{take-set-lt}
 use Rattle.std.proofs.lemmas.Bool.{cases_lt}
 use Rattle.std.proofs.lemmas.List.{drop_more, drop-take, get_or-drop, get_or-take, get_or_read, length-drop, length-take-le, take-take}
 use Rattle.std.proofs.lemmas.List.Elements.{All-from_get_or}
@@ -17,6 +18,11 @@ length-leaves leaves sums long = omega (arith, length-drop leaves sums, long)
 -- a number for each place
 pub length-numbers : (places leaves : ℕ) (sums : List ℕ) → IsPlaced places leaves sums → length (numbers_at places leaves sums) ≡ places
 length-numbers places leaves sums placed = length-take-le places (drop leaves sums) (omega (arith, length-leaves leaves sums placed.tree.nodes, placed.within))
+
+-- a leaf that is set is the number at its place
+pub set_numbers : (places leaves place number : ℕ) (old new : List ℕ) → place < places → drop leaves new ≡ set (drop leaves old) place number → numbers_at places leaves new ≡ set (numbers_at places leaves old) place number
+set_numbers places leaves place number old new within is =
+    ap (take places) is ∙ take-set-lt places (drop leaves old) place number within
 
 -- a sum of leaves
 sum-leaves : (sums : List ℕ) (node n : ℕ) → node + n ≤ length sums → sum (take n (drop node sums)) ≡ sum_from sums node n

@@ -1,7 +1,9 @@
 -- The arcs that meet a window: those that start in it, those that end in it, and those that pass through it.
-use Rattle.std.proofs.Common.{◌≡◌, ◌≢◌, ◌∙◌, ℕ, zero, suc, ◌+◌, ◌-◌, ◌*◌, ◌/◌, ◌<◌, ◌≤◌, ap, sym, refl, Bool, true, false, cond, not, eqb, ◌&&◌, nat_le, nat_lt, arith, List, ◌++◌, length, filter, take, sum_by, ⊎_elim}
+use Rattle.std.proofs.Common.{◌≡◌, ◌≢◌, ◌∙◌, ℕ, zero, suc, ◌+◌, ◌-◌, ◌*◌, ◌/◌, ◌<◌, ◌≤◌, ap, sym, refl, Bool, true, false, cond, not, eqb, ◌&&◌, nat_le, nat_lt, arith, List, ◌++◌, length, filter, get_or, take, sum_by, ⊎_elim}
+use Rattle.std.specs.Int.{div_ceil}
 use Rattle.std.specs.List.{range_with_len}
-use Rattle.std.proofs.lemmas.Bool.{cases_lt, eq-eqb, ne_eqb, eqb-true, leb-true, ltb-true, le-leb, lt-ltb, le-ltb, and_from, and_parts, false≢true}
+use Rattle.std.proofs.lemmas.Bool.{cases_Bool, cases_lt, eq-eqb, ne_eqb, eqb-true, leb-true, ltb-true, le-leb, lt-ltb, le-ltb, and_from, and_parts, false≢true}
+use Rattle.std.proofs.lemmas.Grind.{div_ceil_times}
 use Rattle.std.proofs.lemmas.List.{take_all}
 use Rattle.std.proofs.lemmas.List.Sorted.{sum_by-IsPermutation}
 use Rattle.std.proofs.lemmas.List.Sums.{sum_by-append, sum_by-cons}
@@ -11,8 +13,9 @@ use Rattle.flow_model.specs.declared.arcs.OuterArc.{OuterArc}
 use Rattle.flow_model.specs.Instances.{IsInstance, arc_at, no_arc}
 use Rattle.flow_model.specs.Windows.{last_window, meets, part_steps}
 use Rattle.flow_windows.specs.Cuts.{Cut, numbers_of, starts_in}
-use Rattle.window_arcs.specs.Passing.{IsOrder, ends_at, local_numbers, passes, passes_at, passing_numbers, starts_at}
+use Rattle.window_arcs.specs.Passing.{IsOrder, ends_at, local_numbers, passes, passes_at, passes_some, passing_numbers, ranked_numbers, starts_at}
 use Rattle.window_arcs.proofs.CurrentLemmas.{passing-append}
+use Rattle.window_arcs.proofs.Members.{sum_by-agree_in}
 
 -- ---- one arc
 module _ (width k : ℕ) (arc : OuterArc) (some : 0 < width) (order : arc.start < arc.end) where
@@ -86,6 +89,22 @@ one_of_three h false true false m pm sm em pe none = ap (λ (b : Bool). cond b h
 one_of_three h false false true m pm sm em pe none = ap (λ (b : Bool). cond b h 0) (em refl) ∙ omega arith
 one_of_three h false false false m pm sm em pe none = ap (λ (b : Bool). cond b h 0) (none refl refl refl)
 
+-- an arc that passes through a window passes through the first that begins no earlier than it
+pub pass_somewhere : (width k : ℕ) (arc : OuterArc) → 0 < width → passes width k arc ≡ true → passes_some width arc ≡ true
+pass_somewhere width k arc some passing =
+    let both = and_parts (nat_le arc.start (width * k)) (nat_lt (width * (k + 1)) arc.end) passing in
+    let from : arc.start ≤ width * k = leb-true arc.start (width * k) both.0 in
+    let until : width * (k + 1) < arc.end = ltb-true (width * (k + 1)) arc.end both.1 in
+    let first : ℕ = div_ceil arc.start width in
+    let near = div_ceil_times arc.start width some in
+    let early : first ≤ k =
+    ⊎_elim
+    (λ (late : k < first). let after : width * (k + 1) ≤ width * first = mul-le-mul_left width (omega arith) in absurd (omega (arith, near.1, after, from)))
+    (λ (early : first ≤ k). early)
+    (cases_lt k first) in
+    let before : width * (first + 1) ≤ width * (k + 1) = mul-le-mul_left width (omega (arith, early)) in
+    and_from (nat_le arc.start (width * first)) (nat_lt (width * (first + 1)) arc.end) (le-leb arc.start (width * first) (omega (arith, near.0))) (lt-ltb (width * (first + 1)) arc.end (omega (arith, before, until)))
+
 -- ---- sums over a range
 sum_of_three : (f a b c : ℕ → ℕ) (from n past : ℕ) → from + n ≡ past → ((i : ℕ) → i < past → f i ≡ a i + b i + c i)
     → sum_by f (range_with_len from n) ≡ sum_by a (range_with_len from n) + sum_by b (range_with_len from n) + sum_by c (range_with_len from n)
@@ -116,11 +135,26 @@ module _ (cut : Cut) (order ranks : List ℕ) (some : 0 < cut.width) (in_range :
       one_of_three (h i) (starts_in cut.width cut.number arc) (passes cut.width cut.number arc) (eqb (last_window cut.width arc) cut.number) (test i) (pass_meets cut.width cut.number arc some order)
       (start_meets cut.width cut.number arc some order) (end_meets cut.width cut.number arc some order) (pass_later cut.width cut.number arc some order) (else_apart cut.width cut.number arc some order)
 
+  -- those that pass, pass somewhere
+  somewhere : (i : ℕ) → cond (passes_at cut i) (h i) 0 ≡ cond (passes_some cut.width (arc_at cut.whole.arcs i)) (cond (passes_at cut i) (h i) 0) 0
+  somewhere i =
+      let arc : OuterArc = arc_at cut.whole.arcs i in
+      ⊎_elim
+      (λ (passing : passes_at cut i ≡ true). ap (λ (b : Bool). cond b (cond (passes_at cut i) (h i) 0) 0) (sym (pass_somewhere cut.width cut.number arc some passing)))
+      (λ (outside : passes_at cut i ≡ false). ap (λ (b : Bool). cond b (h i) 0) outside ∙ none (passes_some cut.width arc) ∙ ap (λ (b : Bool). cond (passes_some cut.width arc) (cond b (h i) 0) 0) (sym outside))
+      (cases_Bool (passes_at cut i))
+    where
+      none : (b : Bool) → ◌≡◌ {A = ℕ} 0 (cond b 0 0)
+      none true = refl
+      none false = refl
+
   -- those that pass, in the order of their ranks
   by_ranks : sum_by (λ i. cond (passes_at cut i) (h i) 0) all ≡ sum_by h (passing_numbers cut order 0 (length order))
   by_ranks =
       let zero : length order - 0 ≡ length order = omega arith in
-      sym (sum_by-IsPermutation (λ i. cond (passes_at cut i) (h i) 0) all order is.all)
+      sum_by-agree_in (λ i. cond (passes_at cut i) (h i) 0) (λ i. cond (passes_some cut.width (arc_at cut.whole.arcs i)) (cond (passes_at cut i) (h i) 0) 0) all (λ j within. somewhere (get_or all j 0))
+      ∙ sym (sum_by-filter (λ i. cond (passes_at cut i) (h i) 0) (λ i. passes_some cut.width (arc_at cut.whole.arcs i)) all)
+      ∙ sym (sum_by-IsPermutation (λ i. cond (passes_at cut i) (h i) 0) (ranked_numbers cut.width cut.whole.arcs) order is.all)
       ∙ sym (sum_by-filter h (passes_at cut) order)
       ∙ ap (λ xs. sum_by h (filter (passes_at cut) xs)) (sym (take_all (length order) order (omega arith)))
       ∙ ap (λ n. sum_by h (filter (passes_at cut) (take n order))) (sym zero)

@@ -7,7 +7,7 @@ use Rattle.flow_windows.specs.Cuts.{Cut, numbers_of}
 use Rattle.window_arcs.specs.declared.arcs.KeptRanks.{KeptRanks}
 use Rattle.window_arcs.specs.Passing.{IsOrder, passes_at, passing_numbers, weight_of, whole_share}
 
--- a window, the numbers of all arcs, those first that earn most, and the flow of each arc so far
+-- a window, the numbers of the arcs that pass through some window, those first that earn most, and the flow of each arc so far
 pub record Current : Type 0 where
   pub cut : Cut
   pub order : List ℕ

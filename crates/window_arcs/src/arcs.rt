@@ -5,10 +5,11 @@ ghost use Rattle.flow_model.specs.Instances.{arc_at};
 ghost use Rattle.flow_model.specs.Windows.{last_window};
 ghost use Rattle.flow_windows.specs.Cuts.{Cut, cut_of};
 ghost use Rattle.window_arcs.specs.Current.{AreDistinct, AreEmptied, AreEmptiedLive, AreInRange, AreKept, AreLive, AreLowered, ArePut, AreRanks, FitPrices, empty_numbers, kept_instance};
-ghost use Rattle.window_arcs.specs.Passing.{IsOrder, ends_at, local_numbers, passes, passing_numbers, starts_at, whole_share};
+ghost use Rattle.window_arcs.specs.Passing.{IsOrder, ends_at, local_numbers, passing_numbers, starts_at, whole_share};
 
 use crate::events::Events;
 use crate::order::{Order, order_of, whole_share};
+use crate::passing::{passes, passes_some};
 use crate::sums::PlaceSums;
 use bound_base::NoMemory;
 use flow_model::{Instance, OuterArc};
@@ -27,7 +28,7 @@ pub struct KeptRanks {
 
 /// The windows of an instance from the first on, with the flows of the arcs so far: at first their weights. To go
 /// through all windows takes time in the number of windows, of arcs, and of those that are kept, times the logarithm
-/// of the number of arcs. It takes 32 bytes for each arc, and up to 128 for the sums of the weights.
+/// of the number of arcs. It takes 28 bytes for each arc, and up to 132 for each that passes through some window.
 #[derive(Drop)]
 pub struct WindowArcs<'a> {
     whole: &'a Instance,
@@ -79,16 +80,8 @@ fn last_windows(alloc: Global, arcs: &[OuterArc], width: u32) -> Result<Vec<u32>
     )
 }
 
-// Whether the arc covers all of a window and ends after it.
-fn passes(arc: &OuterArc, width: u32, number: u32) -> bool
-    ensures { result ≡ passes width number arc.now }
-{
-    let start = width as u64 * number as u64;
-    arc.start as u64 <= start && start + (width as u64) < arc.end as u64
-}
-
 // Sets what stands at the ranks of these arcs for a window: the weight of an arc that passes through it, and 0 for
-// another.
+// another. An arc that passes through no window has no rank.
 fn put_weights(
     sums: &mut PlaceSums,
     order: &Order,
@@ -97,20 +90,23 @@ fn put_weights(
     number: u32,
     changed: &[u32],
 )
+    requires some { 0 < width }
     requires ordered { IsOrder width whole.now.arcs order.now.numbers.items order.now.ranks.items }
     requires within { All (λ i. i < length whole.now.arcs) changed.now }
-    requires each { length sums.old ≡ length whole.now.arcs }
+    requires each { length sums.old ≡ length order.now.numbers.items }
     ensures { ArePut (cut_of whole.now width number) order.now.numbers.items changed.now sums.old sums.new }
 {
     let arcs = whole.arcs();
     for at in changed {
         let arc = &arcs[*at as usize];
-        let weight = if passes(arc, width, number) {
-            arc.weight
-        } else {
-            0
-        };
-        sums.set(order.ranks[*at as usize], weight);
+        if passes_some(arc, width) {
+            let weight = if passes(arc, width, number) {
+                arc.weight
+            } else {
+                0
+            };
+            sums.set(order.ranks[*at as usize], weight);
+        }
     }
 }
 
@@ -166,8 +162,8 @@ impl<'a> WindowArcs<'a> {
         let arcs = whole.arcs();
         // One for each window with a step, and one past the last of them.
         let lists = (whole.steps() / width) as usize + 2;
-        let places = arcs.len() as u32;
         let order = order_of(alloc, whole, width)?;
+        let places = order.numbers.len() as u32;
         let starts = Events::new(alloc, first_windows(alloc, arcs, width)?, lists)?;
         let ends = Events::new(alloc, last_windows(alloc, arcs, width)?, lists)?;
         let mut passing = PlaceSums::new(alloc, places)?;

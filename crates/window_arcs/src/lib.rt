@@ -7,6 +7,7 @@
 mod arcs;
 mod events;
 mod order;
+mod passing;
 mod sums;
 
 pub use arcs::{KeptRanks, WindowArcs};

@@ -55,18 +55,16 @@ impl PlaceSums {
         })
     }
 
-    /// Sets the number at a place. It takes time in the logarithm of the number of places.
+    /// Sets the number at a place. If another stands there, it takes time in the logarithm of the number of places.
     pub(crate) fn set(&mut self, place: u32, number: u64)
         requires within { place < length self.old }
         requires small { number ≤ 2 ^ 48 }
         ensures { self.new ≡ slice_set self.old place number }
     {
-        set_leaf(
-            &mut self.sums,
-            self.leaves as usize,
-            place as usize,
-            u128::from(number),
-        );
+        let leaves = self.leaves as usize;
+        if self.sums[leaves + place as usize] != u128::from(number) {
+            set_leaf(&mut self.sums, leaves, place as usize, u128::from(number));
+        }
     }
 
     /// The longest prefix whose numbers sum to at most the limit. It takes time in the logarithm of the number of

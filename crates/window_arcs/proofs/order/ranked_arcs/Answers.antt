@@ -1,14 +1,24 @@
-use Rattle.std.proofs.Common.{◌+◌, sym, subst, ap, length, arith, rules}
+use Rattle.std.proofs.Common.{◌+◌, ◌∙◌, ℕ, sym, subst, ap, length, arith, rules}
 use Rattle.std.proofs.lemmas.List.Sorted.{IsNonDecreasingBy-from_sort_by_key}
 use Rattle.std.specs.List.Sorted.{IsNonDecreasingBy}
 use Rattle.window_arcs.specs.declared.order.Ranked.{Ranked}
-use Rattle.window_arcs.proofs.OrderLemmas.{AreCollected, collected_more, ordered}
+use Rattle.window_arcs.proofs.OrderLemmas.{AreCollected, collected_more, collected_same, ordered}
 use Rattle.window_arcs.proofs.order.ranked_arcs.Goals as goal
+use Rattle.window_arcs.proofs.order.ranked_arcs.Goals.{then-passes_some+in_ok-push, else-passes_some}
 
 pub loop-number-preserved : goal.loop-number-preserved
 loop-number-preserved c =
-    subst (AreCollected c.args.width c.arcs-arcs.result.now (c.loop-number.number + 1)) (sym c.in_ok-push.ensures.items)
-    (collected_more c.args.width c.arcs-arcs.result.now c.loop-number.number c.whole_share.result c.loop-number.ranked.items c.loop-number.invariant c.whole_share.type_inv c.whole_share.ensures)
+    let arcs = c.arcs-arcs.result.now in
+    let k : ℕ = c.loop-number.number in
+    let before = c.loop-number.ranked.items in
+    elim c.if-passes_some.branch [
+      | then-passes_some+in_ok-push w ↦
+          subst (AreCollected c.args.width arcs (k + 1)) (sym (ap (λ v. v.items) w.ranked-is ∙ w.in_ok-push.ensures.items))
+          (collected_more c.args.width arcs k w.whole_share.result before c.loop-number.invariant (sym c.passes_some.ensures ∙ w.if-passes_some.true) w.whole_share.type_inv w.whole_share.ensures)
+      | else-passes_some w ↦
+          subst (AreCollected c.args.width arcs (k + 1)) (sym (ap (λ v. v.items) w.ranked-is))
+          (collected_same c.args.width arcs k before c.loop-number.invariant (sym c.passes_some.ensures ∙ w.if-passes_some.false))
+    ]
 
 pub returns : goal.returns
 returns c =

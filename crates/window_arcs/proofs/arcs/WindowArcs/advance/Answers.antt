@@ -3,7 +3,6 @@ use Rattle.std.proofs.lemmas.List.{length-map}
 use Rattle.flow_windows.specs.Cuts.{Cut, cut_of}
 use Rattle.window_arcs.specs.Current.{ArePut, Current, passing_weight}
 use Rattle.window_arcs.proofs.AdvanceLemmas.{AreChanging, changing, current_next, next_cut, next_small}
-use Rattle.window_arcs.proofs.RankLemmas.{length-ordered}
 use Rattle.window_arcs.proofs.arcs.WindowArcs.advance.Goals as goal
 
 pub overflow_add-next : goal.overflow_add-next
@@ -23,7 +22,7 @@ pub put_weights-requires-clause-each : goal.put_weights-requires-clause-each
 put_weights-requires-clause-each c =
     let cut : Cut = cut_of c.self.inside.whole.now c.self.inside.width c.self.inside.number in
     let order = c.self.inside.order.numbers.items in
-    ap length c.self.invariant.weights ∙ length-map order (passing_weight cut) ∙ length-ordered cut.width cut.whole.arcs order c.self.inside.order.ranks.items c.self.invariant.ordered
+    ap length c.self.invariant.weights ∙ length-map order (passing_weight cut)
 
 pub put_weights-requires-2-clause-within : goal.put_weights-requires-2-clause-within
 put_weights-requires-2-clause-within c =
@@ -34,7 +33,7 @@ put_weights-requires-2-clause-within c =
 
 pub put_weights-requires-2-clause-each : goal.put_weights-requires-2-clause-each
 put_weights-requires-2-clause-each c =
-    c.self.invariant.lives.each_rank ∙ length-ordered c.self.inside.width c.self.inside.whole.now.arcs c.self.inside.order.numbers.items c.self.inside.order.ranks.items c.self.invariant.ordered
+    c.self.invariant.lives.each_rank
 
 pub invariant_of-self : goal.invariant_of-self
 invariant_of-self c =

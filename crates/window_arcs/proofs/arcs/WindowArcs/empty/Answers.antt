@@ -1,4 +1,4 @@
-use Rattle.std.proofs.Common.{◌≡◌, ◌<◌, ℕ, List, ap, subst, arith, get_or, length}
+use Rattle.std.proofs.Common.{◌<◌, ℕ, List, ap, subst, arith, get_or, length}
 use Rattle.std.proofs.lemmas.List.{get_or_default}
 use Rattle.flow_model.proofs.Lists.{written}
 use Rattle.flow_windows.specs.Cuts.{Cut, cut_of}
@@ -16,11 +16,10 @@ pub empty_live-requires-clause-within : goal.empty_live-requires-clause-within
 empty_live-requires-clause-within c = λ k d within.
     let inside = c.self.inside in
     let order : List ℕ = inside.order.numbers.items in
-    let many : length order ≡ length inside.whole.now.arcs = order_length inside.width inside.whole.now.arcs order inside.order.ranks.items c.self.invariant.ordered in
     let low : k < length order = omega (arith, within, ap length c.deref.ensures.value) in
     omega (
       arith,
-      order_low inside.width inside.whole.now.arcs order inside.order.ranks.items c.self.invariant.ordered k (omega (arith, low, many)),
+      order_low inside.width inside.whole.now.arcs order inside.order.ranks.items c.self.invariant.ordered k low,
       ap (λ (xs : List ℕ). get_or xs k d) c.deref.ensures.value,
       get_or_default order k d 0 low,
       ap length c.deref_mut.ensures.value,

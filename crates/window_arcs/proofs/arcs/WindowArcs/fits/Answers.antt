@@ -16,7 +16,6 @@ pub returns-then-ranks-places : goal.returns-then-ranks-places
 returns-then-ranks-places c fits =
     let v : Current = c.args.self.now in
     let order : IsOrder v.cut.width v.cut.whole.arcs v.order c.self.inside.order.ranks.items = subst (λ (w : Current). IsOrder w.cut.width w.cut.whole.arcs w.order c.self.inside.order.ranks.items) c.self.view_is c.self.invariant.ordered in
-    let many : length v.order ≡ length v.cut.whole.arcs = order_length v.cut.width v.cut.whole.arcs v.order c.self.inside.order.ranks.items order in
     let price : ℕ = c.in-Some.price in
     let first : (c.args.ranks.first ≡ 0) ⊎ (price ≤ whole_share v.cut.width (arc_at v.cut.whole.arcs (get_or v.order (c.args.ranks.first - 1) 0))) =
     elim c.if-ranks-eq0.branch [
@@ -24,18 +23,17 @@ returns-then-ranks-places c fits =
       | else-ranks-eq0 w ↦ inr (subst (λ n. price ≤ n) w.share_at.ensures (leb-true price w.share_at.result (sym w.value-is ∙ c.if-price-share_at.true)))
     ] in
     let end : c.args.ranks.end ≡ length v.order = omega (arith, c.if-ranks-places.true, c.len-places.ensures, c.self.inside.order.numbers.ok.0, ap (λ (w : Current). length w.order) c.self.view_is) in
-    fit_prices v c.args.ranks c.args.prices.now c.self.inside.order.ranks.items price order many c.requires.sorted c.requires.within c.in-Some.ensures first (inl end)
+    fit_prices v c.args.ranks c.args.prices.now c.self.inside.order.ranks.items price order c.requires.sorted c.requires.within c.in-Some.ensures first (inl end)
 
 pub returns-else-ranks-places : goal.returns-else-ranks-places
 returns-else-ranks-places c fits =
     let v : Current = c.args.self.now in
     let order : IsOrder v.cut.width v.cut.whole.arcs v.order c.self.inside.order.ranks.items = subst (λ (w : Current). IsOrder w.cut.width w.cut.whole.arcs w.order c.self.inside.order.ranks.items) c.self.view_is c.self.invariant.ordered in
-    let many : length v.order ≡ length v.cut.whole.arcs = order_length v.cut.width v.cut.whole.arcs v.order c.self.inside.order.ranks.items order in
     let price : ℕ = c.in-Some.price in
     let first : (c.args.ranks.first ≡ 0) ⊎ (price ≤ whole_share v.cut.width (arc_at v.cut.whole.arcs (get_or v.order (c.args.ranks.first - 1) 0))) =
     elim c.if-ranks-eq0.branch [
       | then-ranks-eq0 w ↦ inl w.if-ranks-eq0.true
       | else-ranks-eq0 w ↦ inr (subst (λ n. price ≤ n) w.share_at.ensures (leb-true price w.share_at.result (sym w.value-is ∙ c.if-price-share_at.true)))
     ] in
-    fit_prices v c.args.ranks c.args.prices.now c.self.inside.order.ranks.items price order many c.requires.sorted c.requires.within c.in-Some.ensures first
+    fit_prices v c.args.ranks c.args.prices.now c.self.inside.order.ranks.items price order c.requires.sorted c.requires.within c.in-Some.ensures first
     (inr (subst (λ n. n ≤ price) c.share_at-else-ranks-places.ensures (leb-true c.share_at-else-ranks-places.result price fits)))

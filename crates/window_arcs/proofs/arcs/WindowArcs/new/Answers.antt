@@ -1,11 +1,27 @@
-use Rattle.std.proofs.Common.{◌≡◌, ◌∙◌, ℕ, ◌/◌, ap, refl, sym, subst, List, length, map}
+use Rattle.std.proofs.Common.{◌≡◌, ◌∙◌, ℕ, ◌/◌, ap, refl, sym, subst, arith, List, map}
 use Rattle.flow_model.specs.declared.arcs.OuterArc.{OuterArc}
 use Rattle.flow_model.specs.Windows.{last_window}
 use Rattle.flow_windows.specs.Cuts.{Cut, cut_of}
 use Rattle.window_arcs.specs.Current.{ArePut}
 use Rattle.window_arcs.specs.Places.{numbers_at}
 use Rattle.window_arcs.proofs.AdvanceLemmas.{AreFirst, current_first, first_ones, first_windows_low, last_windows_low}
+use Rattle.window_arcs.proofs.OrderLemmas.{numbers_few}
 use Rattle.window_arcs.proofs.arcs.WindowArcs.new.Goals as goal
+
+pub overflow_cast-places : goal.overflow_cast-places
+overflow_cast-places c =
+    let numbers = c.in_ok-order.order.numbers in
+    omega (arith, c.len-places.ensures, numbers.ok.0, numbers_few c.args.width c.args.whole.now.arcs numbers.items c.in_ok-order.ensures.all, c.arcs-arcs.ensures.in_range.few_arcs)
+
+pub new-requires-3 : goal.new-requires-3
+new-requires-3 c =
+    let numbers = c.in_ok-order.order.numbers in
+    omega (arith, c.len-places.ensures, numbers.ok.0, numbers_few c.args.width c.args.whole.now.arcs numbers.items c.in_ok-order.ensures.all, c.arcs-arcs.ensures.in_range.few_arcs)
+
+pub new-requires-4 : goal.new-requires-4
+new-requires-4 c =
+    let numbers = c.in_ok-order.order.numbers in
+    omega (arith, c.len-places.ensures, numbers.ok.0, numbers_few c.args.width c.args.whole.now.arcs numbers.items c.in_ok-order.ensures.all, c.arcs-arcs.ensures.in_range.few_arcs)
 
 pub new-requires-clause-within : goal.new-requires-clause-within
 new-requires-clause-within c =
@@ -48,5 +64,5 @@ invariant_of-result-5 c =
     let put_live : ArePut cut order c.deref.result.now c.in_ok-live.live live =
     subst (ArePut cut order c.deref.result.now c.in_ok-live.live) (sym c.live-2.view_is)
     (subst (λ (xs : List ℕ). ArePut cut order xs c.in_ok-live.live c.put_weights-2.new.sums) same c.put_weights-2.ensures) in
-    current_first cut order c.in_ok-order.order.ranks.items c.starts.inside.keys.items c.ends.inside.keys.items c.in_ok-passing.passing c.in_ok-live.live passing live c.in_ok-weights_of.field-0.items c.deref.result.now (length c.arcs-arcs.result.now)
-    refl c.requires.some c.requires.narrow c.arcs-arcs.ensures.in_range c.in_ok-order.ensures (c.starts.view_is ∙ starting) (c.ends.view_is ∙ ending) full (ap length c.arcs-arcs.ensures.arcs) c.in_ok-passing.ensures c.in_ok-live.ensures changed put put_live
+    current_first cut order c.in_ok-order.order.ranks.items c.starts.inside.keys.items c.ends.inside.keys.items c.in_ok-passing.passing c.in_ok-live.live passing live c.in_ok-weights_of.field-0.items c.deref.result.now c.len-places.result
+    refl c.requires.some c.requires.narrow c.arcs-arcs.ensures.in_range c.in_ok-order.ensures (c.starts.view_is ∙ starting) (c.ends.view_is ∙ ending) full (omega (arith, c.len-places.ensures, c.in_ok-order.order.numbers.ok.0)) c.in_ok-passing.ensures c.in_ok-live.ensures changed put put_live

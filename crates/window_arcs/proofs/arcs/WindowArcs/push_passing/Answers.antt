@@ -3,7 +3,7 @@ use Rattle.flow_windows.specs.Cuts.{Cut, cut_of}
 use Rattle.std.proofs.lemmas.List.{get_or_read, length-map}
 use Rattle.window_arcs.specs.Current.{AreKept, Current, passing_weight}
 use Rattle.window_arcs.specs.Passing.{local_numbers, passing_numbers}
-use Rattle.window_arcs.proofs.CurrentLemmas.{IsNext, next_passes, order_length, order_low, pushed_more, pushed_none}
+use Rattle.window_arcs.proofs.CurrentLemmas.{IsNext, next_passes, order_low, pushed_more, pushed_none}
 use Rattle.window_arcs.proofs.SplitLemmas.{split_sum}
 use Rattle.window_arcs.proofs.arcs.WindowArcs.push_passing.Goals as goal
 
@@ -14,8 +14,7 @@ loop-rank-init c =
     let order : List ℕ = inside.order.numbers.items in
     let passing : List ℕ = inside.passing in
     let is = c.self.invariant in
-    let many : length order ≡ length inside.whole.now.arcs = order_length inside.width inside.whole.now.arcs order inside.order.ranks.items is.ordered in
-    let low : (r : ℕ) → r < length order → get_or order r 0 < length inside.whole.now.arcs = λ r within. order_low inside.width inside.whole.now.arcs order inside.order.ranks.items is.ordered r (omega (arith, many)) in
+    let low : (r : ℕ) → r < length order → get_or order r 0 < length inside.whole.now.arcs = order_low inside.width inside.whole.now.arcs order inside.order.ranks.items is.ordered in
     let long : length passing ≡ length order = ap length is.weights ∙ length-map order (passing_weight cut) in
     let same : length order ≡ length c.args.self.now.order = ap (λ (v : Current). length v.order) c.self.view_is in
     record {
@@ -37,8 +36,7 @@ loop-rank-preserved c =
     let rank : ℕ = c.loop-rank.rank in
     let next : ℕ = c.next-rank-in-loop-rank.result in
     let old : List ℕ = c.args.numbers.now.items in
-    let many : length order ≡ length inside.whole.now.arcs = order_length inside.width inside.whole.now.arcs order inside.order.ranks.items is.ordered in
-    let low : (r : ℕ) → r < length order → get_or order r 0 < length inside.whole.now.arcs = λ r within. order_low inside.width inside.whole.now.arcs order inside.order.ranks.items is.ordered r (omega (arith, many)) in
+    let low : (r : ℕ) → r < length order → get_or order r 0 < length inside.whole.now.arcs = order_low inside.width inside.whole.now.arcs order inside.order.ranks.items is.ordered in
     let long : length passing ≡ length order = ap length is.weights ∙ length-map order (passing_weight cut) in
     let same : length order ≡ length c.args.self.now.order = ap (λ (v : Current). length v.order) c.self.view_is in
     let items : c.loop-rank.numbers.items ≡ old ++ passing_numbers cut order c.args.ranks.first (min rank c.args.ranks.end) =
