@@ -12,7 +12,7 @@ pub enum Window {
 /// Where the prices come from.
 #[derive(Clone, Copy, Debug, PartialEq, Eq)]
 pub enum Mode {
-    /// From a flow of least cost, in one window or in several.
+    /// From a flow of greatest cost, in one window or in several.
     Flow { window: Window },
     /// One price for all steps but the last.
     Constant,

@@ -8,7 +8,7 @@ use std::alloc::Global;
 /// About this many steps have a price, one of each grain of steps.
 const GRAINS: usize = 512;
 
-/// A grain has at least this many steps.
+/// A grain has at least this many steps, or all that there are.
 const FEWEST_STEPS: usize = 16;
 
 /// A grain has at most this many steps.
@@ -55,19 +55,15 @@ fn marginal(alloc: Global, instance: &Instance) -> Result<u128, NoMemory> {
     Ok(0)
 }
 
-/// The price of each step: that of a grain of steps on the one in the middle of each, and none on the others. The last
-/// step has none.
+/// The price of each step: that of a grain of steps on the one in the middle of each, and none on the others.
 pub(crate) fn grain_prices(alloc: Global, instance: &Instance) -> Result<Vec<u128>, NoMemory>
     ensures { IfOk result (λ prices. length prices.items ≡ instance.now.steps) }
 {
     let steps = instance.steps() as usize;
     let mut prices = vec![in alloc; 0; steps]?;
-    let grain = (steps / GRAINS).max(FEWEST_STEPS).min(MOST_STEPS);
-    if steps <= grain {
-        return Ok(prices);
-    }
+    let grain = (steps / GRAINS).max(FEWEST_STEPS).min(MOST_STEPS).min(steps);
     let price = marginal(alloc, instance)?.saturating_mul(grain as u128) >> 25;
-    for step in 0..steps - 1 {
+    for step in 0..steps {
         if step % grain == grain / 2 {
             prices[step] = price;
         }

@@ -64,30 +64,29 @@ module _ (cut : Cut) (kept full empty : List ℕ) (split : IsSplit cut kept full
       }
 
 -- the numbers of those that don't pass are those of arcs
-pub local_low : (cut : Cut) (j : ℕ) → j < length (local_numbers cut) → get_or (local_numbers cut) j 0 < length cut.whole.arcs
-local_low cut j within =
+pub local_low : (cut : Cut) → All (λ i. i < length cut.whole.arcs) (local_numbers cut)
+local_low cut =
     All-append (λ i. i < length cut.whole.arcs) (filter (starts_at cut) (range_with_len 0 (length cut.whole.arcs))) (filter (ends_at cut) (range_with_len 0 (length cut.whole.arcs)))
     (All-filter_range (λ i. i < length cut.whole.arcs) (starts_at cut) 0 (length cut.whole.arcs) (λ i low high passes. omega arith))
     (All-filter_range (λ i. i < length cut.whole.arcs) (ends_at cut) 0 (length cut.whole.arcs) (λ i low high passes. omega arith))
-    j 0 within
 
--- ---- prices that suit
-module _ (c : Current) (ranks : KeptRanks) (prices of_ranks : List ℕ) (price : ℕ) (is : IsOrder c.cut.width c.cut.whole.arcs c.order of_ranks) (sorted : ranks.first ≤ ranks.end) (within : ranks.end ≤ length c.order)
-    (paid : price ≡ sum prices) where
+-- what a window costs of the arcs of the ranks falls
+module _ (width price : ℕ) (arcs : List OuterArc) (order of_ranks : List ℕ) (ranks : KeptRanks) (is : IsOrder width arcs order of_ranks) where
   abbrev share : ℕ → ℕ
-  share r = whole_share c.cut.width (arc_at c.cut.whole.arcs (get_or c.order r 0))
+  share r = whole_share width (arc_at arcs (get_or order r 0))
 
-  pub fit_prices : (ranks.first ≡ 0) ⊎ (price ≤ share (ranks.first - 1)) → (ranks.end ≡ length c.order) ⊎ (share ranks.end ≤ price) → FitPrices c ranks prices
-  fit_prices first end =
-      record {
-        full = λ r low.
-            ⊎_elim
-            (λ (none : ranks.first ≡ 0). absurd (omega arith))
-            (λ (dear : price ≤ share (ranks.first - 1)). omega (arith, paid, dear, is.falling r (ranks.first - 1) (omega arith) (omega arith)))
-            first;
-        empty = λ r from until.
-            ⊎_elim
-            (λ (all : ranks.end ≡ length c.order). absurd (omega arith))
-            (λ (cheap : share ranks.end ≤ price). omega (arith, paid, cheap, is.falling ranks.end r from until))
-            end;
-      }
+  -- so of those before the ranks the last costs least
+  pub suits_full : ranks.first ≤ length order → (ranks.first ≡ 0) ⊎ (price ≤ share (ranks.first - 1)) → (r : ℕ) → r < ranks.first → price ≤ share r
+  suits_full within last r low =
+      ⊎_elim
+      (λ (none : ranks.first ≡ 0). absurd (omega arith))
+      (λ (dear : price ≤ share (ranks.first - 1)). omega (arith, dear, is.falling r (ranks.first - 1) (omega arith) (omega arith)))
+      last
+
+  -- and of those after them the first costs most
+  pub suits_empty : (ranks.end ≡ length order) ⊎ (share ranks.end ≤ price) → (r : ℕ) → ranks.end ≤ r → r < length order → share r ≤ price
+  suits_empty first r from until =
+      ⊎_elim
+      (λ (all : ranks.end ≡ length order). absurd (omega arith))
+      (λ (cheap : share ranks.end ≤ price). omega (arith, cheap, is.falling ranks.end r from until))
+      first

@@ -1,5 +1,5 @@
 //! The windows of an instance one after another, with the flows of the arcs so far.
-ghost use Rattle.std.specs.Prelude.{◌≡◌, ◌+◌, ◌-◌, ◌*◌, ◌/◌, ◌^◌, ◌<◌, ◌≤◌, ◌++◌, All, filter, length, map, slice_index, sum, IsTrue, ◌↔◌, IfOk, IfSome};
+ghost use Rattle.std.specs.Prelude.{◌≡◌, ℕ, ◌+◌, ◌-◌, ◌*◌, ◌/◌, ◌^◌, ◌<◌, ◌≤◌, ◌++◌, All, filter, length, map, slice_index, sum, IsTrue, ◌↔◌, IfOk, IfSome, MatchOption};
 ghost use Rattle.std.specs.List.{range_with_len};
 ghost use Rattle.flow_model.specs.Instances.{arc_at};
 ghost use Rattle.flow_model.specs.Windows.{last_window};
@@ -112,7 +112,7 @@ fn put_weights(
 
 // The prices, summed, if that fits.
 fn sum_of(prices: &[u128]) -> Option<u128>
-    ensures { IfSome result (λ price. price ≡ sum prices.now) }
+    ensures { MatchOption result (2 ^ 128 ≤ sum prices.now) (λ price. price ≡ sum prices.now) }
 {
     let mut sum: u128 = 0;
     for price in prices {
@@ -238,13 +238,27 @@ impl<'a> WindowArcs<'a> {
         Ok(())
     }
 
+    /// The numbers of the arcs that meet the current window and don't pass through it.
+    pub fn local(&self, alloc: Global) -> Result<Vec<u32>, NoMemory>
+        ensures { IfOk result (λ local. local.items ≡ local_numbers self.now.cut) }
+    {
+        let mut local = self.starting(alloc)?;
+        self.push_ending(alloc, &mut local)?;
+        Ok(local)
+    }
+
     /// The numbers of the arcs that meet the current window, but for the passing ones before and after the ranks.
-    pub fn kept(&self, alloc: Global, ranks: KeptRanks) -> Result<Vec<u32>, NoMemory>
-        requires { AreRanks self.now ranks }
+    pub fn kept(
+        &self,
+        alloc: Global,
+        local: &[u32],
+        ranks: KeptRanks,
+    ) -> Result<Vec<u32>, NoMemory>
+        requires local { local.now ≡ local_numbers self.now.cut }
+        requires ranks { AreRanks self.now ranks }
         ensures { IfOk result (λ kept. AreKept self.now ranks kept.items) }
     {
-        let mut kept = self.starting(alloc)?;
-        self.push_ending(alloc, &mut kept)?;
+        let mut kept = local.to_vec(alloc)?;
         self.push_passing(ranks, &mut kept)?;
         Ok(kept)
     }
@@ -262,35 +276,73 @@ impl<'a> WindowArcs<'a> {
         }
     }
 
-    // The weights of the arcs that meet the current window and don't pass through it, summed.
-    fn local_weight(&self, alloc: Global) -> Result<u128, NoMemory> {
-        let mut numbers = self.starting(alloc)?;
-        self.push_ending(alloc, &mut numbers)?;
+    // The weights of these arcs, summed.
+    fn weight(&self, numbers: &[u32]) -> u128
+        requires { All (λ i. i < length self.now.cut.whole.arcs) numbers.now }
+    {
         let arcs = self.whole.arcs();
         let mut sum: u128 = 0;
-        for number in &numbers {
+        for number in numbers {
             sum = sum.saturating_add(u128::from(arcs[*number as usize].weight));
         }
-        Ok(sum)
+        sum
     }
 
     /// The ranks of the passing arcs whose flow can be a part of their weight, with one on either side. The units of
     /// the window are more than the weights of those before, and of all arcs that don't pass through it.
-    pub fn likely(&self, alloc: Global) -> Result<KeptRanks, NoMemory>
-        ensures { IfOk result (λ ranks. AreRanks self.now ranks) }
+    pub fn likely(&self, local: &[u32]) -> KeptRanks
+        requires { local.now ≡ local_numbers self.now.cut }
+        ensures { AreRanks self.now result }
     {
         let units = u128::from(self.whole.units());
-        let local = self.local_weight(alloc)?;
-        let sure = self
-            .passing
-            .within(units.saturating_sub(local.saturating_add(1)));
-        let first = self.passing.within(sure.sum.saturating_sub(1));
+        let taken = self.weight(local).saturating_add(1);
+        let sure = self.passing.within(units.saturating_sub(taken));
+        let first = self.passing.below(sure.sum);
         let end = self.passing.within(units).places.saturating_add(1);
         let places = self.order.numbers.len() as u32;
-        Ok(KeptRanks {
+        KeptRanks {
             first: first.places,
             end: end.max(first.places).min(places),
             full: first.sum as u64,
+        }
+    }
+
+    // How many ranks are before the first of which a window costs no more than that.
+    fn dearer(&self, price: u128) -> u32
+        ensures { result ≤ length self.now.order }
+    {
+        let mut low = 0;
+        let mut high = self.order.numbers.len() as u32;
+        'half: while low < high {
+            let middle = low + (high - low) / 2;
+            if self.share_at(middle) > price {
+                low = middle + 1;
+            } else {
+                high = middle;
+            }
+        }
+        low
+    }
+
+    /// A guess which of the ranks will do, if the prices sum to nearly this, as those of the window before: the ranks
+    /// of which a window costs up to an eighth more or less. There is none for the price 0, nor if the passing arcs
+    /// before the ranks leave no unit.
+    pub fn near(&self, ranks: KeptRanks, price: u128) -> Option<KeptRanks>
+        requires { AreRanks self.now ranks }
+        ensures { IfSome result (λ near. AreRanks self.now near) }
+    {
+        let margin = price / 8;
+        let dear = self.dearer(price.saturating_add(margin));
+        let first = dear.max(ranks.first).min(ranks.end);
+        let end = self.dearer(price - margin).saturating_add(1);
+        let full = self.passing.before(first);
+        if price == 0 || full >= u128::from(self.whole.units()) {
+            return None;
+        }
+        Some(KeptRanks {
+            first,
+            end: end.max(first).min(ranks.end),
+            full: full as u64,
         })
     }
 
@@ -327,18 +379,31 @@ impl<'a> WindowArcs<'a> {
         )
     }
 
-    /// Whether these prices of the current window suit the passing arcs that aren't kept.
-    pub fn fits(&self, ranks: KeptRanks, prices: &[u128]) -> bool
+    // Whether a window costs no less than this of each arc before the ranks.
+    fn suits_full(&self, ranks: KeptRanks, price: u128) -> bool
         requires { AreRanks self.now ranks }
-        ensures { IsTrue result → FitPrices self.now ranks prices.now }
+        ensures { IsTrue result ↔ ((r : ℕ) → r < ranks.first → price ≤ whole_share self.now.cut.width (arc_at self.now.cut.whole.arcs (slice_index self.now.order r))) }
+    {
+        ranks.first == 0 || price <= self.share_at(ranks.first - 1)
+    }
+
+    // Whether a window costs no more than this of each arc after the ranks.
+    fn suits_empty(&self, ranks: KeptRanks, price: u128) -> bool
+        requires { AreRanks self.now ranks }
+        ensures { IsTrue result ↔ ((r : ℕ) → ranks.end ≤ r → r < length self.now.order → whole_share self.now.cut.width (arc_at self.now.cut.whole.arcs (slice_index self.now.order r)) ≤ price) }
     {
         let places = self.order.numbers.len() as u32;
+        ranks.end == places || self.share_at(ranks.end) <= price
+    }
+
+    /// Whether these prices of the current window suit the passing arcs that aren't kept, and sum to less than 2^128.
+    pub fn fits(&self, ranks: KeptRanks, prices: &[u128]) -> bool
+        requires { AreRanks self.now ranks }
+        ensures { IsTrue result ↔ (FitPrices self.now ranks prices.now × (sum prices.now < 2 ^ 128)) }
+    {
         match sum_of(prices) {
             None => false,
-            Some(price) => {
-                (ranks.first == 0 || price <= self.share_at(ranks.first - 1))
-                    && (ranks.end == places || self.share_at(ranks.end) <= price)
-            }
+            Some(price) => self.suits_full(ranks, price) && self.suits_empty(ranks, price),
         }
     }
 

@@ -1,5 +1,5 @@
 //! A number at each place, set one by one, with searches for what a prefix of them sums to.
-ghost use Rattle.std.specs.Prelude.{◌≡◌, ◌≢◌, ◌<◌, ◌≤◌, ◌+◌, ◌*◌, ◌^◌, length, replicate, slice_index, slice_range, slice_set, sum, take, All, IfOk};
+ghost use Rattle.std.specs.Prelude.{◌≡◌, ◌≢◌, ◌<◌, ◌≤◌, ◌+◌, ◌-◌, ◌*◌, ◌^◌, length, replicate, slice_index, slice_range, slice_set, sum, take, All, IfOk};
 
 use bound_base::NoMemory;
 use std::alloc::Global;
@@ -100,6 +100,26 @@ impl PlaceSums {
         }
     }
 
+    /// The longest prefix whose numbers sum to less than the limit, and no place if that is 0.
+    pub(crate) fn below(&self, limit: u128) -> Prefix
+        ensures places { result.places ≤ length self.now }
+        ensures sum { result.sum ≡ sum (take result.places self.now) }
+        ensures fits { result.sum ≤ limit - 1 }
+    {
+        match limit.checked_sub(1) {
+            None => Prefix { places: 0, sum: 0 },
+            Some(most) => self.within(most),
+        }
+    }
+
+    /// The numbers before a place, summed. It takes time in the logarithm of the number of places.
+    pub(crate) fn before(&self, place: u32) -> u128
+        requires { place ≤ length self.now }
+        ensures { result ≡ sum (take place self.now) }
+    {
+        sum_between(&self.sums, self.leaves as usize, 0, place as usize)
+    }
+
     /// The first place from this one on with another number than 0, and the number of places if there is none. It
     /// takes time in the logarithm of the number of places.
     pub(crate) fn next(&self, from: u32) -> u32
@@ -109,7 +129,6 @@ impl PlaceSums {
         ensures none_before { All (λ number. number ≡ 0) (slice_range self.now from result) }
         ensures found { result < length self.now → slice_index self.now result ≢ 0 }
     {
-        let before = sum_between(&self.sums, self.leaves as usize, 0, from as usize);
-        self.within(before).places
+        self.within(self.before(from)).places
     }
 }

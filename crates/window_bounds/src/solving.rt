@@ -1,7 +1,8 @@
 //! The windows of an instance, solved one after another.
-ghost use Rattle.std.specs.Prelude.{◌≡◌, ◌*◌, ◌-◌, ◌<◌, ◌≤◌, All, IfOk, length, slice_index_or, sum, sum_by};
+ghost use Rattle.std.specs.Prelude.{◌≡◌, ◌*◌, ◌-◌, ◌<◌, ◌≤◌, All, IfOk, IfSome, length, slice_index_or, sum, sum_by};
 ghost use Rattle.flow_model.specs.Instances.{IsSchedule, IsSolution, value_at};
 ghost use Rattle.window_arcs.specs.Current.{AreRanks};
+ghost use Rattle.window_arcs.specs.Passing.{local_numbers};
 ghost use Rattle.window_bounds.specs.Solutions.{AreSolutions, IsFitting, IsKeptSolution, IsNextSolution, full_of, value_of_windows};
 
 use crate::solution::WindowSolution;
@@ -41,53 +42,92 @@ struct KeptSolution {
     solution: Solution,
 }
 
-// Solves the current window with the passing arcs of these ranks alone.
+// Solves the current window with the passing arcs of these ranks alone, and the arcs that don't pass.
 fn solve_kept(
     alloc: Global,
     windows: &WindowArcs,
+    local: &[u32],
     ranks: KeptRanks,
 ) -> Result<KeptSolution, NoMemory>
     requires has_step { windows.now.cut.width * windows.now.cut.number < windows.now.cut.whole.steps }
+    requires local { local.now ≡ local_numbers windows.now.cut }
     requires ranks { AreRanks windows.now ranks }
     ensures { IfOk result (λ s. IsKeptSolution windows.now ranks s.kept.items s.solution.prices s.solution.flows) }
 {
-    let kept = windows.kept(alloc, ranks)?;
+    let kept = windows.kept(alloc, local, ranks)?;
     let window = windows.instance(alloc, &kept, ranks)?;
     let solution = solve(alloc, &window)?;
     Ok(KeptSolution { kept, solution })
 }
 
-// Solves the current window with as few passing arcs as can do, and with all of them if its prices don't suit the
-// others.
-fn solve_fitting(alloc: Global, windows: &WindowArcs) -> Result<(KeptRanks, KeptSolution), NoMemory>
+// The same, if its prices suit the arcs that were left out.
+fn solve_suited(
+    alloc: Global,
+    windows: &WindowArcs,
+    local: &[u32],
+    ranks: KeptRanks,
+) -> Result<Option<KeptSolution>, NoMemory>
+    requires has_step { windows.now.cut.width * windows.now.cut.number < windows.now.cut.whole.steps }
+    requires local { local.now ≡ local_numbers windows.now.cut }
+    requires ranks { AreRanks windows.now ranks }
+    ensures { IfOk result (λ found. IfSome found (λ s. IsFitting windows.now ranks s.kept.items s.solution.prices s.solution.flows)) }
+{
+    let found = solve_kept(alloc, windows, local, ranks)?;
+    let suits = windows.fits(ranks, found.solution.prices());
+    Ok(if suits { Some(found) } else { None })
+}
+
+// Solves the current window with as few passing arcs as will do, by what the prices of the window before sum to; with
+// more of them if those were too few, and then with all.
+fn solve_fitting(
+    alloc: Global,
+    windows: &WindowArcs,
+    price: u128,
+) -> Result<(KeptRanks, KeptSolution), NoMemory>
     requires { windows.now.cut.width * windows.now.cut.number < windows.now.cut.whole.steps }
     ensures { IfOk result (λ (ranks, s). IsFitting windows.now ranks s.kept.items s.solution.prices s.solution.flows) }
 {
-    let likely = windows.likely(alloc)?;
-    let found = solve_kept(alloc, windows, likely)?;
-    if windows.fits(likely, found.solution.prices()) {
+    let local = windows.local(alloc)?;
+    let likely = windows.likely(&local);
+    if let Some(near) = windows.near(likely, price) {
+        if let Some(found) = solve_suited(alloc, windows, &local, near)? {
+            return Ok((near, found));
+        }
+    }
+    if let Some(found) = solve_suited(alloc, windows, &local, likely)? {
         return Ok((likely, found));
     }
     let all = windows.everything();
-    Ok((all, solve_kept(alloc, windows, all)?))
+    Ok((all, solve_kept(alloc, windows, &local, all)?))
 }
 
-// Solves the current window. Its prices come after those before, and the flows fall to those of its parts.
+// What the prices sum to, or the greatest number if that is less.
+fn sum_of(prices: &[u128]) -> u128 {
+    let mut sum: u128 = 0;
+    for price in prices {
+        sum = sum.saturating_add(*price);
+    }
+    sum
+}
+
+// Solves the current window, and says what its prices sum to. They come after those before, and the flows fall to those
+// of its parts.
 fn solve_window(
     alloc: Global,
     windows: &mut WindowArcs,
     prices: &mut Vec<u128>,
-) -> Result<(), NoMemory>
+    price: u128,
+) -> Result<u128, NoMemory>
     requires { windows.old.cut.width * windows.old.cut.number < windows.old.cut.whole.steps }
     ensures cut { IfOk result (λ done. windows.new.cut ≡ windows.old.cut) }
     ensures each_arc { IfOk result (λ done. length windows.new.flows ≡ length windows.old.flows) }
     ensures next { IfOk result (λ done. IsNextSolution windows.old.cut prices.old.items windows.old.flows prices.new.items windows.new.flows) }
 {
-    let (ranks, found) = solve_fitting(alloc, windows)?;
+    let (ranks, found) = solve_fitting(alloc, windows, price)?;
     prices.extend_from_slice(found.solution.prices())?;
     windows.lower(&found.kept, ranks, found.solution.flows());
     windows.empty(ranks);
-    Ok(())
+    Ok(sum_of(found.solution.prices()))
 }
 
 // Prices of the steps and flows of the arcs, from one window after another.
@@ -100,8 +140,9 @@ fn solve_each(alloc: Global, whole: &Instance, width: u32) -> Result<Solution, N
     let _arcs = whole.arcs();
     let mut prices = Vec::with_capacity(alloc, whole.steps() as usize)?;
     let mut windows = WindowArcs::new(alloc, whole, width)?;
+    let mut price = 0;
     while windows.has_step() {
-        solve_window(alloc, &mut windows, &mut prices)?;
+        price = solve_window(alloc, &mut windows, &mut prices, price)?;
         windows.advance(alloc)?;
     }
     Ok(Solution::new(prices, windows.into_flows()))
