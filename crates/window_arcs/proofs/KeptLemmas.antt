@@ -1,5 +1,5 @@
 -- The arcs that are kept, and whether prices suit the passing arcs that aren't.
-use Rattle.std.proofs.Common.{◌≡◌, ◌∙◌, ℕ, ◌+◌, ◌-◌, ◌<◌, ◌≤◌, ap, refl, Bool, cond, eqb, arith, List, [], ◌∷◌, length, map, filter, take, get_or, sum, sum_by, count_by, ◌⊎◌, ⊎_elim}
+use Rattle.std.proofs.Common.{◌≡◌, ◌∙◌, ℕ, ◌+◌, ◌-◌, ◌<◌, ◌≤◌, ap, refl, Bool, cond, eqb, arith, List, [], ◌∷◌, length, map, filter, take, get_or, sum, sum_by, count_by, ◌⊎◌, ⊎_elim, All}
 use Rattle.std.specs.List.{range_with_len}
 use Rattle.std.proofs.lemmas.List.{get_or-map, length-map, take_all}
 use Rattle.std.proofs.lemmas.List.Elements.{All-append}
@@ -69,24 +69,3 @@ local_low cut =
     All-append (λ i. i < length cut.whole.arcs) (filter (starts_at cut) (range_with_len 0 (length cut.whole.arcs))) (filter (ends_at cut) (range_with_len 0 (length cut.whole.arcs)))
     (All-filter_range (λ i. i < length cut.whole.arcs) (starts_at cut) 0 (length cut.whole.arcs) (λ i low high passes. omega arith))
     (All-filter_range (λ i. i < length cut.whole.arcs) (ends_at cut) 0 (length cut.whole.arcs) (λ i low high passes. omega arith))
-
--- what a window costs of the arcs of the ranks falls
-module _ (width price : ℕ) (arcs : List OuterArc) (order of_ranks : List ℕ) (ranks : KeptRanks) (is : IsOrder width arcs order of_ranks) where
-  abbrev share : ℕ → ℕ
-  share r = whole_share width (arc_at arcs (get_or order r 0))
-
-  -- so of those before the ranks the last costs least
-  pub suits_full : ranks.first ≤ length order → (ranks.first ≡ 0) ⊎ (price ≤ share (ranks.first - 1)) → (r : ℕ) → r < ranks.first → price ≤ share r
-  suits_full within last r low =
-      ⊎_elim
-      (λ (none : ranks.first ≡ 0). absurd (omega arith))
-      (λ (dear : price ≤ share (ranks.first - 1)). omega (arith, dear, is.falling r (ranks.first - 1) (omega arith) (omega arith)))
-      last
-
-  -- and of those after them the first costs most
-  pub suits_empty : (ranks.end ≡ length order) ⊎ (share ranks.end ≤ price) → (r : ℕ) → ranks.end ≤ r → r < length order → share r ≤ price
-  suits_empty first r from until =
-      ⊎_elim
-      (λ (all : ranks.end ≡ length order). absurd (omega arith))
-      (λ (cheap : share ranks.end ≤ price). omega (arith, cheap, is.falling ranks.end r from until))
-      first

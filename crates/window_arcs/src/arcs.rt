@@ -1,5 +1,5 @@
 //! The windows of an instance one after another, with the flows of the arcs so far.
-ghost use Rattle.std.specs.Prelude.{◌≡◌, ℕ, ◌+◌, ◌-◌, ◌*◌, ◌/◌, ◌^◌, ◌<◌, ◌≤◌, ◌++◌, All, filter, length, map, slice_index, sum, IsTrue, ◌↔◌, IfOk, IfSome, MatchOption};
+ghost use Rattle.std.specs.Prelude.{◌≡◌, ℕ, ◌+◌, ◌-◌, ◌*◌, ◌/◌, ◌^◌, ◌<◌, ◌≤◌, ◌++◌, All, filter, length, map, slice_index, sum, IsTrue, ◌↔◌, IfOk, IfSome, MatchOption, OnErr};
 ghost use Rattle.std.specs.List.{range_with_len};
 ghost use Rattle.flow_model.specs.Instances.{arc_at};
 ghost use Rattle.flow_model.specs.Windows.{last_window};
@@ -248,12 +248,7 @@ impl<'a> WindowArcs<'a> {
     }
 
     /// The numbers of the arcs that meet the current window, but for the passing ones before and after the ranks.
-    pub fn kept(
-        &self,
-        alloc: Global,
-        local: &[u32],
-        ranks: KeptRanks,
-    ) -> Result<Vec<u32>, NoMemory>
+    pub fn kept(&self, alloc: Global, local: &[u32], ranks: KeptRanks) -> Result<Vec<u32>, NoMemory>
         requires local { local.now ≡ local_numbers self.now.cut }
         requires ranks { AreRanks self.now ranks }
         ensures { IfOk result (λ kept. AreKept self.now ranks kept.items) }
@@ -261,6 +256,13 @@ impl<'a> WindowArcs<'a> {
         let mut kept = local.to_vec(alloc)?;
         self.push_passing(ranks, &mut kept)?;
         Ok(kept)
+    }
+
+    // How many ranks there are.
+    fn places(&self) -> u32
+        ensures { result ≡ length self.now.order }
+    {
+        self.order.numbers.len() as u32
     }
 
     /// All ranks, which no passing arc is before or after.
@@ -299,10 +301,9 @@ impl<'a> WindowArcs<'a> {
         let sure = self.passing.within(units.saturating_sub(taken));
         let first = self.passing.below(sure.sum);
         let end = self.passing.within(units).places.saturating_add(1);
-        let places = self.order.numbers.len() as u32;
         KeptRanks {
             first: first.places,
-            end: end.max(first.places).min(places),
+            end: end.max(first.places).min(self.places()),
             full: first.sum as u64,
         }
     }
@@ -312,7 +313,7 @@ impl<'a> WindowArcs<'a> {
         ensures { result ≤ length self.now.order }
     {
         let mut low = 0;
-        let mut high = self.order.numbers.len() as u32;
+        let mut high = self.places();
         'half: while low < high {
             let middle = low + (high - low) / 2;
             if self.share_at(middle) > price {
@@ -368,10 +369,12 @@ impl<'a> WindowArcs<'a> {
         window_instance(alloc, &whole, self.width, self.number)
     }
 
-    // What a window costs of the arc of that rank.
+    // What a window costs of the arc of that rank: no more than of those before it, and no less than of those after it.
     fn share_at(&self, rank: u32) -> u128
         requires { rank < length self.now.order }
-        ensures { result ≡ whole_share self.now.cut.width (arc_at self.now.cut.whole.arcs (slice_index self.now.order rank)) }
+        ensures share { result ≡ whole_share self.now.cut.width (arc_at self.now.cut.whole.arcs (slice_index self.now.order rank)) }
+        ensures before { (r : ℕ) → r ≤ rank → result ≤ whole_share self.now.cut.width (arc_at self.now.cut.whole.arcs (slice_index self.now.order r)) }
+        ensures after { (r : ℕ) → rank ≤ r → r < length self.now.order → whole_share self.now.cut.width (arc_at self.now.cut.whole.arcs (slice_index self.now.order r)) ≤ result }
     {
         whole_share(
             &self.whole.arcs()[self.order.numbers[rank as usize] as usize],
@@ -392,8 +395,7 @@ impl<'a> WindowArcs<'a> {
         requires { AreRanks self.now ranks }
         ensures { IsTrue result ↔ ((r : ℕ) → ranks.end ≤ r → r < length self.now.order → whole_share self.now.cut.width (arc_at self.now.cut.whole.arcs (slice_index self.now.order r)) ≤ price) }
     {
-        let places = self.order.numbers.len() as u32;
-        ranks.end == places || self.share_at(ranks.end) <= price
+        ranks.end == self.places() || self.share_at(ranks.end) <= price
     }
 
     /// Whether these prices of the current window suit the passing arcs that aren't kept, and sum to less than 2^128.
@@ -434,11 +436,13 @@ impl<'a> WindowArcs<'a> {
         );
     }
 
-    /// Goes on to the next window.
+    /// Goes on to the next window. Without memory it stays at this one.
     pub fn advance(&mut self, alloc: Global) -> Result<(), NoMemory>
         requires { self.old.cut.width * self.old.cut.number < self.old.cut.whole.steps }
         ensures cut { IfOk result (λ done. self.new.cut ≡ record self.old.cut { number = self.old.cut.number + 1 }) }
         ensures flows { IfOk result (λ done. self.new.flows ≡ self.old.flows) }
+        ensures order { IfOk result (λ done. self.new.order ≡ self.old.order) }
+        ensures kept { OnErr result (self.new ≡ self.old) }
     {
         // There are at most 2^25 steps, so the next number fits.
         let _arcs = self.whole.arcs();

@@ -1,5 +1,7 @@
 //! A number at each place, set one by one, with searches for what a prefix of them sums to.
-ghost use Rattle.std.specs.Prelude.{◌≡◌, ◌≢◌, ◌<◌, ◌≤◌, ◌+◌, ◌-◌, ◌*◌, ◌^◌, length, replicate, slice_index, slice_range, slice_set, sum, take, All, IfOk};
+ghost use Rattle.std.specs.Prelude.{◌≡◌, ◌≢◌, ℕ, ◌<◌, ◌≤◌, ◌+◌, ◌-◌, ◌*◌, ◌^◌, length, replicate, slice_index, slice_range, slice_set, sum, take, All, IfOk};
+ghost use Rattle.sum_tree.specs.Sums.{IsTree, sum_at};
+ghost use Rattle.window_arcs.specs.Places.{IsLeft};
 
 use bound_base::NoMemory;
 use std::alloc::Global;
@@ -39,6 +41,57 @@ fn no_sums(alloc: Global, leaves: u32) -> Result<Vec<u128>, NoMemory>
     ensures { IfOk result (λ sums. sums.items ≡ replicate (2 * leaves) 0) }
 {
     Ok(vec![in alloc; 0; 2 * leaves as usize]?)
+}
+
+/// A node of a level of a tree of sums. The level has as many nodes as the number of its first one.
+#[derive(Clone, Copy, Debug)]
+struct LevelNode {
+    start: usize,
+    node: usize,
+}
+
+// Upwards from the leaf of a place, past sums of 0: to the first node with another sum, or past the end of a level.
+fn first_up(sums: &[u128], leaves: usize, from: usize) -> LevelNode
+    requires tree { IsTree (2 ^ 48) leaves sums.now }
+    requires power { (levels : ℕ) × (leaves ≡ 2 ^ levels) }
+    requires within { from ≤ leaves }
+    ensures left { IsLeft leaves from sums.now result.start result.node }
+    ensures found { result.node < 2 * result.start → sum_at sums.now result.node ≢ 0 }
+{
+    let mut start = leaves;
+    let mut node = leaves + from;
+    'up: while node < 2 * start && sums[node] == 0 {
+        node += 1;
+        if start > 1 && node % 2 == 0 {
+            start /= 2;
+            node /= 2;
+        }
+    }
+    LevelNode { start, node }
+}
+
+// Downwards from a node with another sum than 0 to the first such leaf below it.
+fn first_down(sums: &[u128], leaves: usize, from: usize, top: LevelNode) -> usize
+    requires tree { IsTree (2 ^ 48) leaves sums.now }
+    requires left { IsLeft leaves from sums.now top.start top.node }
+    requires low { top.node < 2 * top.start }
+    requires found { sum_at sums.now top.node ≢ 0 }
+    ensures left { IsLeft leaves from sums.now leaves result }
+    ensures low { result < 2 * leaves }
+    ensures found { sum_at sums.now result ≢ 0 }
+{
+    let LevelNode {
+        mut start,
+        mut node,
+    } = top;
+    'down: while start < leaves {
+        start *= 2;
+        node *= 2;
+        if sums[node] == 0 {
+            node += 1;
+        }
+    }
+    node
 }
 
 impl PlaceSums {
@@ -121,7 +174,7 @@ impl PlaceSums {
     }
 
     /// The first place from this one on with another number than 0, and the number of places if there is none. It
-    /// takes time in the logarithm of the number of places.
+    /// takes time in the logarithm of how many places are between.
     pub(crate) fn next(&self, from: u32) -> u32
         requires { from ≤ length self.now }
         ensures order { from ≤ result }
@@ -129,6 +182,11 @@ impl PlaceSums {
         ensures none_before { All (λ number. number ≡ 0) (slice_range self.now from result) }
         ensures found { result < length self.now → slice_index self.now result ≢ 0 }
     {
-        self.within(self.before(from)).places
+        let leaves = self.leaves as usize;
+        let top = first_up(&self.sums, leaves, from as usize);
+        if top.node == 2 * top.start {
+            return self.places;
+        }
+        (first_down(&self.sums, leaves, from as usize, top) - leaves) as u32
     }
 }

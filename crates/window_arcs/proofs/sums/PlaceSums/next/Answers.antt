@@ -1,13 +1,26 @@
-use Rattle.std.proofs.Common.{ℕ}
-use Rattle.std.proofs.lemmas.List.{map-id}
-use Rattle.window_arcs.proofs.PlaceLemmas.{found-none, found-order, found-some}
+use Rattle.std.proofs.Common.{◌≡◌, ◌*◌, ap, arith, subst, sym}
+use Rattle.window_arcs.specs.Places.{IsLeft}
+use Rattle.window_arcs.proofs.PlaceLemmas.{left_none, next-none, next-order, next-within, next-zeros}
 use Rattle.window_arcs.proofs.sums.PlaceSums.next.Goals as goal
 
+pub returns-then-top-clause-none_before : goal.returns-then-top-clause-none_before
+returns-then-top-clause-none_before c =
+    let top = c.first_up-top.result in
+    let is : IsLeft c.self.inside.leaves c.args.from c.self.inside.sums.items top.start (2 * top.start) = subst (λ n. IsLeft c.self.inside.leaves c.args.from c.self.inside.sums.items top.start n) c.if-top.true (rw c.deref.ensures.value at c.first_up-top.ensures.left) in
+    next-none c.self.inside.places c.self.inside.leaves c.args.from c.args.self.now c.self.inside.sums.items c.self.view_is c.self.invariant c.requires
+    (left_none c.self.inside.leaves c.args.from c.self.inside.sums.items c.self.invariant.tree top.start is)
+
 pub returns-clause-order : goal.returns-clause-order
-returns-clause-order c = found-order c.self.inside.places c.self.inside.leaves c.args.from c.within.result.places c.sum_between-before.result c.within.result.sum c.args.self.now c.self.inside.sums.items c.self.view_is c.self.invariant c.requires (rw (c.deref.ensures.value, map-id {A = ℕ}) at c.sum_between-before.ensures) c.within.ensures.sum c.within.ensures.fits c.within.ensures.longest
+returns-clause-order c =
+    let is = rw c.deref-2.ensures.value at c.first_down.ensures in
+    next-order c.self.inside.places c.self.inside.leaves c.args.from c.args.self.now c.self.inside.sums.items c.self.view_is c.self.invariant c.requires c.first_down.result is.left is.low is.found
+
+pub returns-clause-within : goal.returns-clause-within
+returns-clause-within c =
+    let is = rw c.deref-2.ensures.value at c.first_down.ensures in
+    omega (arith, next-within c.self.inside.places c.self.inside.leaves c.args.from c.args.self.now c.self.inside.sums.items c.self.view_is c.self.invariant c.requires c.first_down.result is.left is.low is.found)
 
 pub returns-clause-none_before : goal.returns-clause-none_before
-returns-clause-none_before c = found-none c.self.inside.places c.self.inside.leaves c.args.from c.within.result.places c.sum_between-before.result c.within.result.sum c.args.self.now c.self.inside.sums.items c.self.view_is c.self.invariant c.requires (rw (c.deref.ensures.value, map-id {A = ℕ}) at c.sum_between-before.ensures) c.within.ensures.sum c.within.ensures.fits c.within.ensures.longest
-
-pub returns-clause-found : goal.returns-clause-found
-returns-clause-found c = found-some c.self.inside.places c.self.inside.leaves c.args.from c.within.result.places c.sum_between-before.result c.within.result.sum c.args.self.now c.self.inside.sums.items c.self.view_is c.self.invariant c.requires (rw (c.deref.ensures.value, map-id {A = ℕ}) at c.sum_between-before.ensures) c.within.ensures.sum c.within.ensures.fits c.within.ensures.longest
+returns-clause-none_before c =
+    let is = rw c.deref-2.ensures.value at c.first_down.ensures in
+    next-zeros c.self.inside.places c.self.inside.leaves c.args.from c.args.self.now c.self.inside.sums.items c.self.view_is c.self.invariant c.requires c.first_down.result is.left is.low is.found
