@@ -61,7 +61,10 @@ pub(crate) fn grain_prices(alloc: Global, instance: &Instance) -> Result<Vec<u12
 {
     let steps = instance.steps() as usize;
     let mut prices = vec![in alloc; 0; steps]?;
-    let grain = (steps / GRAINS).max(FEWEST_STEPS).min(MOST_STEPS).min(steps);
+    let grain = (steps / GRAINS)
+        .max(FEWEST_STEPS)
+        .min(MOST_STEPS)
+        .min(steps);
     let price = marginal(alloc, instance)?.saturating_mul(grain as u128) >> 25;
     for step in 0..steps {
         if step % grain == grain / 2 {
