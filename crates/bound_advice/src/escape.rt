@@ -1,7 +1,9 @@
 //! Text of a stranger, as a terminal and a shell may have it.
 ghost use Rattle.std.specs.Prelude.{◌≡◌, ◌/◌, ◌%◌, [], ◌∷◌, ◌++◌, IfOk, OnOk, codes, string_bytes};
 ghost use Rattle.std.specs.Char.{digit_char};
+ghost use Rattle.std.specs.List.{list_all};
 ghost use Rattle.std.specs.Str.{encode_utf8_all};
+ghost use Rattle.bound_advice.specs.Shell.{is_plain, is_plain_word, quoted_letter, quoted_word, shell_word};
 ghost use Rattle.bound_advice.specs.Shown.{IsShown, shown_letter, shown_text};
 
 use std::alloc::{AllocError, Global};
@@ -53,25 +55,60 @@ pub fn escaped(alloc: Global, text: &str) -> Result<String, AllocError>
     Ok(shown)
 }
 
-// Whether a shell takes the byte as it stands.
-fn is_plain(byte: u8) -> bool {
+// Whether a shell takes a byte as it stands.
+fn is_plain(byte: u8) -> bool
+    ensures { result ≡ is_plain byte }
+{
     byte.is_ascii_alphanumeric() || b"_./+-".contains(&byte)
 }
 
-/// A path as a shell has to be given it, in single quotes if it has other bytes than letters, digits and `_./+-`.
-pub fn quoted(alloc: Global, path: &str) -> Result<String, AllocError> {
-    if path.as_bytes().iter().all(|byte| is_plain(*byte)) {
-        return String::from_str(alloc, path);
+// Whether a shell takes each of these bytes as it stands.
+fn are_plain(bytes: &[u8]) -> bool
+    ensures { result ≡ list_all is_plain bytes.now }
+{
+    bytes.iter().all(|byte| is_plain(*byte))
+}
+
+// Whether a shell takes a word as it stands. It drops an empty one.
+fn is_plain_word(word: &str) -> bool
+    ensures { result ≡ is_plain_word word.now }
+{
+    !word.is_empty() && are_plain(word.as_bytes())
+}
+
+// Appends a letter that stands between single quotes.
+fn push_quoted(text: &mut String, letter: char) -> Result<(), AllocError>
+    ensures { OnOk result (string_bytes text.new ≡ string_bytes text.old ++ quoted_letter letter) }
+{
+    if letter == '\'' {
+        text.push_str("'\\''")
+    } else {
+        text.push(letter)
     }
+}
+
+// A word between single quotes.
+fn quoted_word(alloc: Global, word: &str) -> Result<String, AllocError>
+    ensures { IfOk result (λ quoted. string_bytes quoted ≡ quoted_word word.now) }
+{
     let mut quoted = String::from_str(alloc, "'")?;
-    for letter in path.chars() {
-        match letter {
-            '\'' => quoted.push_str("'\\''")?,
-            letter => quoted.push(letter)?,
-        }
+    for letter in word.chars() {
+        push_quoted(&mut quoted, letter)?;
     }
     quoted.push_str("'")?;
     Ok(quoted)
+}
+
+/// A path as a shell has to be given it, in single quotes if it is empty or has other bytes than letters, digits and
+/// `_./+-`.
+pub fn quoted(alloc: Global, path: &str) -> Result<String, AllocError>
+    ensures { IfOk result (λ quoted. string_bytes quoted ≡ shell_word path.now) }
+{
+    if is_plain_word(path) {
+        String::from_str(alloc, path)
+    } else {
+        quoted_word(alloc, path)
+    }
 }
 
 /// The first 60 bytes of a word of a file, of which those that are no letter, digit or sign stand as `\x` and two digits.
