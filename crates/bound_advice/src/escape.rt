@@ -1,68 +1,52 @@
 //! Text of a stranger, as a terminal and a shell may have it.
-ghost use Rattle.std.specs.Prelude.{◌≡◌, false, IfOk, string_bytes};
-ghost use Rattle.std.specs.Char.{is_control};
-ghost use Rattle.bound_advice.specs.Shown.{IsShown};
+ghost use Rattle.std.specs.Prelude.{◌≡◌, ◌/◌, ◌%◌, [], ◌∷◌, ◌++◌, IfOk, OnOk, codes, string_bytes};
+ghost use Rattle.std.specs.Char.{digit_char};
+ghost use Rattle.std.specs.List.{list_all};
+ghost use Rattle.std.specs.Str.{encode_utf8_all};
+ghost use Rattle.bound_advice.specs.Shell.{is_plain, is_plain_word, quoted_letter, quoted_word, shell_word};
+ghost use Rattle.bound_advice.specs.Shown.{IsShown, shown_letter, shown_text};
 
 use std::alloc::{AllocError, Global};
 
-// A digit of a number to the base 16.
+// The last digit of a number to the base 16.
 fn digit_of(value: u32) -> char
-    ensures { is_control result ≡ false }
+    ensures { result ≡ digit_char (value % 16) }
 {
-    match value % 16 {
-        0 => '0',
-        1 => '1',
-        2 => '2',
-        3 => '3',
-        4 => '4',
-        5 => '5',
-        6 => '6',
-        7 => '7',
-        8 => '8',
-        9 => '9',
-        10 => 'a',
-        11 => 'b',
-        12 => 'c',
-        13 => 'd',
-        14 => 'e',
-        _ => 'f',
+    let digit = (value % 16) as u8;
+    if digit < 10 {
+        char::from(b'0' + digit)
+    } else {
+        char::from(b'a' + (digit - 10))
     }
 }
 
-// Appends a letter that is no control character.
-fn push_letter(text: &mut String, letter: char) -> Result<(), AllocError>
-    requires { is_control letter ≡ false }
-    ensures { IsShown (string_bytes text.old) → IsShown (string_bytes text.new) }
-{
-    text.push(letter)
-}
-
-// Appends a control character as `\x` and the two digits of its code.
+// Appends `\x` and the last two digits of a letter's code.
 fn push_code(text: &mut String, letter: char) -> Result<(), AllocError>
-    ensures { IsShown (string_bytes text.old) → IsShown (string_bytes text.new) }
+    ensures { OnOk result (string_bytes text.new ≡ string_bytes text.old ++ encode_utf8_all (codes "\\x" ++ digit_char (letter / 16 % 16) ∷ digit_char (letter % 16) ∷ [])) }
 {
     let code = letter as u32;
-    push_letter(text, '\\')?;
-    push_letter(text, 'x')?;
-    push_letter(text, digit_of(code / 16))?;
-    push_letter(text, digit_of(code))
+    text.push('\\')?;
+    text.push('x')?;
+    text.push(digit_of(code / 16))?;
+    text.push(digit_of(code))
 }
 
-// Appends a letter as a terminal may have it.
+// Appends a letter as it is shown.
 fn push_shown(text: &mut String, letter: char) -> Result<(), AllocError>
-    ensures { IsShown (string_bytes text.old) → IsShown (string_bytes text.new) }
+    ensures { OnOk result (string_bytes text.new ≡ string_bytes text.old ++ encode_utf8_all (shown_letter letter)) }
 {
     if letter.is_control() {
         push_code(text, letter)
     } else {
-        push_letter(text, letter)
+        text.push(letter)
     }
 }
 
-/// A text in which each control character stands as `\x` and its code, so that it can't move the cursor, set a title or
-/// forge a line.
+/// A text in which each control character stands as `\x` and the two digits of its code, so that it can't move the
+/// cursor, set a title or forge a line.
 pub fn escaped(alloc: Global, text: &str) -> Result<String, AllocError>
-    ensures { IfOk result (λ shown. IsShown (string_bytes shown)) }
+    ensures letters { IfOk result (λ shown. string_bytes shown ≡ shown_text text.now) }
+    ensures no_control { IfOk result (λ shown. IsShown (string_bytes shown)) }
 {
     let mut shown = String::with_capacity(alloc, text.len())?;
     for letter in text.chars() {
@@ -71,25 +55,60 @@ pub fn escaped(alloc: Global, text: &str) -> Result<String, AllocError>
     Ok(shown)
 }
 
-// Whether a shell takes the byte as it stands.
-fn is_plain(byte: u8) -> bool {
+// Whether a shell takes a byte as it stands.
+fn is_plain(byte: u8) -> bool
+    ensures { result ≡ is_plain byte }
+{
     byte.is_ascii_alphanumeric() || b"_./+-".contains(&byte)
 }
 
-/// A path as a shell has to be given it, in single quotes if it has other bytes than letters, digits and `_./+-`.
-pub fn quoted(alloc: Global, path: &str) -> Result<String, AllocError> {
-    if path.as_bytes().iter().all(|byte| is_plain(*byte)) {
-        return String::from_str(alloc, path);
+// Whether a shell takes each of these bytes as it stands.
+fn are_plain(bytes: &[u8]) -> bool
+    ensures { result ≡ list_all is_plain bytes.now }
+{
+    bytes.iter().all(|byte| is_plain(*byte))
+}
+
+// Whether a shell takes a word as it stands. It drops an empty one.
+fn is_plain_word(word: &str) -> bool
+    ensures { result ≡ is_plain_word word.now }
+{
+    !word.is_empty() && are_plain(word.as_bytes())
+}
+
+// Appends a letter that stands between single quotes.
+fn push_quoted(text: &mut String, letter: char) -> Result<(), AllocError>
+    ensures { OnOk result (string_bytes text.new ≡ string_bytes text.old ++ quoted_letter letter) }
+{
+    if letter == '\'' {
+        text.push_str("'\\''")
+    } else {
+        text.push(letter)
     }
+}
+
+// A word between single quotes.
+fn quoted_word(alloc: Global, word: &str) -> Result<String, AllocError>
+    ensures { IfOk result (λ quoted. string_bytes quoted ≡ quoted_word word.now) }
+{
     let mut quoted = String::from_str(alloc, "'")?;
-    for letter in path.chars() {
-        match letter {
-            '\'' => quoted.push_str("'\\''")?,
-            letter => quoted.push(letter)?,
-        }
+    for letter in word.chars() {
+        push_quoted(&mut quoted, letter)?;
     }
     quoted.push_str("'")?;
     Ok(quoted)
+}
+
+/// A path as a shell has to be given it, in single quotes if it is empty or has other bytes than letters, digits and
+/// `_./+-`.
+pub fn quoted(alloc: Global, path: &str) -> Result<String, AllocError>
+    ensures { IfOk result (λ quoted. string_bytes quoted ≡ shell_word path.now) }
+{
+    if is_plain_word(path) {
+        String::from_str(alloc, path)
+    } else {
+        quoted_word(alloc, path)
+    }
 }
 
 /// The first 60 bytes of a word of a file, of which those that are no letter, digit or sign stand as `\x` and two digits.

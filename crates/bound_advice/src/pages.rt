@@ -1,4 +1,8 @@
 //! The pages that the program prints in place of a run: how it is called, and its version.
+ghost use Rattle.std.specs.Prelude.{◌≡◌, IsSome};
+ghost use Rattle.std.specs.Str.{bytes_eq};
+ghost use Rattle.bound_words.specs.Commands.{command_named};
+ghost use Rattle.bound_advice.specs.Pages.{page_named};
 
 /// The program and its version.
 pub const VERSION: &str = "bound_cli 1.0.0";
@@ -80,11 +84,23 @@ pub enum Page {
     Version,
 }
 
-/// The page that a first word asks for.
-pub fn page_of(word: &str) -> Option<Page> {
-    match word {
-        "help" | "--help" | "-h" => Some(Page::Help),
-        "--version" => Some(Page::Version),
-        _ => None,
+// Whether a word is this one.
+fn is(word: &str, other: &str) -> bool
+    ensures { result ≡ bytes_eq word.now other.now }
+{
+    word == other
+}
+
+/// The page that a first word asks for: none if it names a command.
+pub fn page_of(word: &str) -> Option<Page>
+    ensures page { result ≡ page_named word.now }
+    ensures command { IsSome (command_named word.now) → result ≡ None }
+{
+    if is(word, "help") || is(word, "--help") || is(word, "-h") {
+        Some(Page::Help)
+    } else if is(word, "--version") {
+        Some(Page::Version)
+    } else {
+        None
     }
 }

@@ -6,7 +6,7 @@
 ghost use Rattle.std.specs.Prelude.{◌≡◌, ◌⊎◌, map, string_bytes, IfErr};
 ghost use Rattle.bound_words.specs.Words.{plan};
 
-use crate::saying::{say_oddities, say_refusal, say_report_fault, say_unplaced};
+use crate::saying::{say, say_oddities, say_refusal, say_report_fault, say_unplaced};
 use crate::streams::{fill_closed, spared_files};
 use bound_advice::{
     COMMANDS, Devices, EXAMPLES, PURPOSE, Page, Seen, Told, VERSION, WORDS, Watched, page_of,
@@ -194,9 +194,17 @@ fn run_words<R: Files + Input + Print + Eprint + Env + AllocGlobal>(rt: &R) -> u
     }
 }
 
+// Says why a closed standard stream can't be opened.
+fn say_closed(rt: &HostRuntime, error: io::Error) {
+    let alloc = rt.alloc();
+    if let Ok(text) = format!(in alloc; "a closed standard stream: {error}") {
+        say(rt, alloc, text.as_str());
+    }
+}
+
 fn main(rt: HostRuntime) -> ExitCode {
     if let Err(error) = fill_closed(&rt) {
-        let _ = eprintln!(&rt; "bound_cli: a closed standard stream: {error}");
+        say_closed(&rt, error);
         return ExitCode::from(NO_START);
     }
     ExitCode::from(run_words(&rt))

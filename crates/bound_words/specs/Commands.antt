@@ -1,5 +1,5 @@
 -- The commands: their words, their paths and the names of their operands.
-use Rattle.std.specs.Prelude.{ℕ, ◌+◌, List, [], ◌∷◌, ◌++◌, drop, Bool, if◌then◌else◌, codes, None, Some}
+use Rattle.std.specs.Prelude.{ℕ, ◌+◌, List, [], ◌∷◌, ◌++◌, drop, Bool, codes, find, None, Some}
 use Rattle.std.specs.declared.option.Option.{Option}
 use Rattle.std.specs.List.{list_any}
 use Rattle.std.specs.Str.{bytes_eq}
@@ -7,18 +7,27 @@ use Rattle.bound_words.specs.declared.commands.Command.{Command}
 use Rattle.bound_words.specs.declared.commands.PathPlaces.{PathPlaces}
 use Rattle.bound_words.specs.declared.commands.Command.TheVariants as command
 
+-- the word of a command: a curve over capacities has that of a curve
+abbrev pub command_word : Command → List ℕ
+command_word command.Bounds = codes "bounds"
+command_word command.Check = codes "check"
+command_word command.Replay = codes "replay"
+command_word command.Curve = codes "curve"
+command_word command.CapacityCurve = codes "curve"
+command_word command.Judge = codes "judge"
+command_word command.Demo = codes "demo"
+command_word command.Upgrade = codes "upgrade"
+command_word command.Refine = codes "refine"
+
+-- each command that a word names, in the order of the help
+abbrev pub all_commands : List Command
+all_commands =
+    command.Bounds ∷ command.Check ∷ command.Replay ∷ command.Curve
+    ∷ command.Judge ∷ command.Demo ∷ command.Upgrade ∷ command.Refine ∷ []
+
 -- the command that a word names
 abbrev pub command_named : List ℕ → Option Command
-command_named word =
-    if bytes_eq word (codes "bounds") then Some command.Bounds
-    else (if bytes_eq word (codes "check") then Some command.Check
-    else (if bytes_eq word (codes "replay") then Some command.Replay
-    else (if bytes_eq word (codes "curve") then Some command.Curve
-    else (if bytes_eq word (codes "judge") then Some command.Judge
-    else (if bytes_eq word (codes "demo") then Some command.Demo
-    else (if bytes_eq word (codes "upgrade") then Some command.Upgrade
-    else (if bytes_eq word (codes "refine") then Some command.Refine
-    else None)))))))
+command_named word = find (λ named. bytes_eq word (command_word named)) all_commands
 
 -- the command that a command's word names: a curve over capacities has the word of a curve
 abbrev pub plain : Command → Command
@@ -36,6 +45,18 @@ places_of command.Judge = record { count = 2; trace = Some 1; cert = Some 2; mad
 places_of command.Demo = record { count = 0; trace = None; cert = None; made = None }
 places_of command.Upgrade = record { count = 2; trace = None; cert = Some 1; made = Some 2 }
 places_of command.Refine = record { count = 3; trace = Some 1; cert = Some 2; made = Some 3 }
+
+-- what each path of the command is called, in their order
+abbrev pub path_names : Command → List (List ℕ)
+path_names command.Bounds = codes "trace" ∷ codes "certificate" ∷ []
+path_names command.Check = codes "trace" ∷ codes "certificate" ∷ []
+path_names command.Replay = codes "trace" ∷ []
+path_names command.Curve = codes "trace" ∷ []
+path_names command.CapacityCurve = codes "trace" ∷ []
+path_names command.Judge = codes "trace" ∷ codes "hits" ∷ []
+path_names command.Demo = []
+path_names command.Upgrade = codes "certificate" ∷ codes "new certificate" ∷ []
+path_names command.Refine = codes "trace" ∷ codes "certificate" ∷ codes "new certificate" ∷ []
 
 -- the first operand is the word after the command and its paths
 abbrev pub operands_at : Command → ℕ

@@ -2,7 +2,7 @@
 ghost use Rattle.std.specs.Prelude.{◌≡◌, ◌≤◌, length, map, Some};
 ghost use Rattle.std.specs.List.{list_any};
 ghost use Rattle.std.specs.Str.{bytes_eq};
-ghost use Rattle.bound_words.specs.Commands.{command_named, has_operand, needed_names, operand_names, operands_at, places_of, plain};
+ghost use Rattle.bound_words.specs.Commands.{command_named, command_word, has_operand, needed_names, operand_names, operands_at, path_names, places_of, plain};
 
 use crate::values::is;
 
@@ -53,7 +53,8 @@ impl Command {
 
     /// Its word.
     pub fn word(self) -> &'static str
-        ensures { command_named result.now ≡ Some (plain self) }
+        ensures word { result.now ≡ command_word self }
+        ensures names { command_named result.now ≡ Some (plain self) }
     {
         match self {
             Command::Bounds => "bounds",
@@ -69,7 +70,8 @@ impl Command {
 
     /// What each of its paths is called, in their order.
     pub fn paths(self) -> &'static [&'static str]
-        ensures { length result.now ≡ (places_of self).count }
+        ensures names { map (λ name. name.now) result.now ≡ path_names self }
+        ensures count { length result.now ≡ (places_of self).count }
     {
         match self {
             Command::Bounds | Command::Check => &["trace", "certificate"],
@@ -207,23 +209,6 @@ pub(crate) fn has_operand(command: Command, name: &str) -> bool
 pub fn command_named(word: &str) -> Option<Command>
     ensures { result ≡ command_named word.now }
 {
-    if is(word, "bounds") {
-        Some(Command::Bounds)
-    } else if is(word, "check") {
-        Some(Command::Check)
-    } else if is(word, "replay") {
-        Some(Command::Replay)
-    } else if is(word, "curve") {
-        Some(Command::Curve)
-    } else if is(word, "judge") {
-        Some(Command::Judge)
-    } else if is(word, "demo") {
-        Some(Command::Demo)
-    } else if is(word, "upgrade") {
-        Some(Command::Upgrade)
-    } else if is(word, "refine") {
-        Some(Command::Refine)
-    } else {
-        None
-    }
+    let mut commands = Command::ALL.iter().copied();
+    commands.find(|command| is(word, command.word()))
 }
