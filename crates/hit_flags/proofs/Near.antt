@@ -10,20 +10,19 @@ use Rattle.bound_io.specs.Lines.{text_len, first_line, after_line}
 use Rattle.bound_io.specs.Positions.{Position, LeavesLine, known}
 use Rattle.bound_io.specs.declared.line_reader.LineFault.{LineFault}
 use Rattle.cache_rules.specs.Stored.{Requests}
-use Rattle.trace_any.specs.declared.fault.TraceFault.{TraceFault}
-use Rattle.trace_any.specs.declared.fault.TraceFault.TheVariants as of_trace
 use Rattle.trace_any.specs.declared.format.Format.{Format}
-use Rattle.trace_any.specs.FirstLines.{HasGiven, HasLostFor, IsNotPast, StandsAfter, bytes_of, first_lines}
+use Rattle.trace_any.specs.FirstLines.{HasGiven, HasLostFor, bytes_of}
 use Rattle.trace_any.specs.Readings.{full_limits, lines_of, reading}
 use Rattle.trace_any.specs.Readers.{Reader, GoesOn, IsWhole, bytes_after, fresh, to_come, known as trace_known}
 use Rattle.trace_any.proofs.Coming.{after_all, fresh_to_come, past_both}
 use Rattle.trace_any.proofs.FirstLines.{lines_of-first}
+use Rattle.trace_any.proofs.Lost.{at_start}
 use Rattle.trace_any.proofs.NextPieces.{past_next}
-use Rattle.trace_any.proofs.Through.{bytes_of-more, lost_for}
+use Rattle.trace_any.proofs.Through.{lost_for}
 use Rattle.hit_flags.specs.declared.fault.FlagFault.{FlagFault}
 use Rattle.hit_flags.specs.declared.fault.FlagFault.TheVariants.{Trace, NotFlag, Count, ReadFault, NoMemory}
 use Rattle.hit_flags.specs.Lines.{nothing_read}
-use Rattle.hit_flags.specs.Nearness.{AreNear, GoesLine, HasLostThrough, HaveLostLines, IsAtTurn, IsNearTurn, StandsPast}
+use Rattle.hit_flags.specs.Nearness.{AreNear, GoesLine, HaveLostLines, IsAtTurn, IsNearTurn, StandsPast}
 use Rattle.hit_flags.proofs.Ends.{stands_in-nothing}
 
 -- no line was given
@@ -126,16 +125,12 @@ lost_lines now count hits most held past = by hits.before hits.after past
         let line : now.line - 0 ≡ now.line = omega arith in
         omega (arith, held, p.consumed, ap (λ n. bytes_of (take n (lines_of text))) line, lines-more now.line count text most, ap length rest, length-append now.held left, length-drop (now.consumed - 0) text)
 
--- what holds of the bytes that a reader stands in that has read nothing holds of those that its source has left
-pub at_start : (format : Format) (start : Reader) (before : Option (List ℕ)) (P : List ℕ → Type 0) → start ≡ fresh format full_limits → IfSome (trace_known start before) P → IfSome before P
-at_start format start before P begins holds = subst (λ (o : Option (List ℕ)). IfSome o P) (ap (λ (r : Reader). trace_known r before) begins ∙ stands_in-nothing before) holds
-
 -- what the trace has lost once these requests were given
 pub lost_given : (format : Format) (start now : Reader) (given : Requests) (before after : Option (List ℕ)) → start ≡ fresh format full_limits → length now.lines.held ≤ 65536
     → IfSome (trace_known start before) (HasGiven given.objects given.fills start now) → IfSome (trace_known start before) (λ bytes. GoesOn (after_all given) start now bytes (trace_known now after))
     → IfSome before (λ bytes. IfSome after (HasLostFor format full_limits (length given.objects) bytes))
 lost_given format start now given before after begins held has goes =
-    by before after (at_start format start before (HasGiven given.objects given.fills start now) begins has) (at_start format start before (λ bytes. GoesOn (after_all given) start now bytes (trace_known now after)) begins goes)
+    by before after (at_start format full_limits start before (HasGiven given.objects given.fills start now) begins has) (at_start format full_limits start before (λ bytes. GoesOn (after_all given) start now bytes (trace_known now after)) begins goes)
   where
     by : (b a : Option (List ℕ)) → IfSome b (HasGiven given.objects given.fills start now) → IfSome b (λ bytes. GoesOn (after_all given) start now bytes (trace_known now a)) → IfSome b (λ bytes. IfSome a (HasLostFor format full_limits (length given.objects) bytes))
     by None a h g = tt
@@ -155,30 +150,11 @@ lost_all format given dropped (Some bytes) (Some left) whole end = record {
   all = λ _. ap (λ o. unwrap_or o []) end;
 }
 
--- what the trace has lost at a fault
-pub lost_through : (format : Format) (start now : Reader) (trace : Device) (fault : TraceFault) → start ≡ fresh format full_limits → length now.lines.held ≤ 65536 → IsNotPast now fault
-    → IfSome (trace_known start trace.before) (λ bytes. StandsAfter start now bytes (trace_known now trace.after)) → HasLostThrough format trace fault
-lost_through format start now trace (of_trace.BadLine line kind) begins held not_past stands =
-    by trace.before trace.after (at_start format start trace.before (λ bytes. StandsAfter start now bytes (trace_known now trace.after)) begins stands)
-  where
-    by : (b a : Option (List ℕ)) → IfSome b (λ bytes. StandsAfter start now bytes (trace_known now a)) → IfSome b (λ bytes. IfSome a (λ left. length bytes ≤ length left + bytes_of (first_lines format line bytes) + 65536))
-    by None a s = tt
-    by (Some bytes) None s = tt
-    by (Some bytes) (Some left) s =
-        let none : start.lines.consumed ≡ 0 = ap (λ (r : Reader). r.lines.consumed) begins in
-        let rest : now.lines.held ++ left ≡ drop (now.lines.consumed - start.lines.consumed) bytes = ap (λ o. unwrap_or o []) s.rest in
-        let form : first_lines start.format line bytes ≡ first_lines format line bytes = ap (λ (r : Reader). first_lines r.format line bytes) begins in
-        omega (arith, held, none, s.consumed, bytes_of-more start.format (now.lines.line - start.lines.line) line bytes (omega (arith, not_past)), ap bytes_of form, ap length rest, length-append now.lines.held left, length-drop (now.lines.consumed - start.lines.consumed) bytes)
-lost_through format start now trace of_trace.ReadFault begins held not_past stands = tt
-lost_through format start now trace of_trace.InputTooLong begins held not_past stands = tt
-lost_through format start now trace of_trace.TooManyRequests begins held not_past stands = tt
-lost_through format start now trace of_trace.NoMemory begins held not_past stands = tt
-
 -- the flags have lost at most a line for each request that was given
 pub lost_flags : (format : Format) (start now : Reader) (given : Requests) (between : Option (List ℕ)) (trace hits : Device) (at : Position) → start ≡ fresh format full_limits → at.line ≡ length given.objects → length at.held ≤ 65536
     → IfSome (trace_known start trace.before) (λ bytes. GoesOn (after_all given) start now bytes between) → IfSome hits.before (λ text. StandsPast nothing_read at text (known at hits.after))
     → IfSome trace.before (λ bytes. HaveLostLines (length (reading format full_limits bytes).requests) hits)
-lost_flags format start now given between trace hits at begins line held goes past = by trace.before (at_start format start trace.before (λ bytes. GoesOn (after_all given) start now bytes between) begins goes)
+lost_flags format start now given between trace hits at begins line held goes past = by trace.before (at_start format full_limits start trace.before (λ bytes. GoesOn (after_all given) start now bytes between) begins goes)
   where
     by : (b : Option (List ℕ)) → IfSome b (λ bytes. GoesOn (after_all given) start now bytes between) → IfSome b (λ bytes. HaveLostLines (length (reading format full_limits bytes).requests) hits)
     by None g = tt

@@ -4,9 +4,8 @@ use Rattle.std.specs.declared.option.Option.{Option}
 use Rattle.bound_io.specs.Devices.{Device}
 use Rattle.bound_io.specs.Positions.{Position, known}
 use Rattle.trace_any.specs.declared.fault.TraceFault.{TraceFault}
-use Rattle.trace_any.specs.declared.fault.TraceFault.TheVariants as of_trace
 use Rattle.trace_any.specs.declared.format.Format.{Format}
-use Rattle.trace_any.specs.FirstLines.{HasLostFor, bytes_of, first_lines}
+use Rattle.trace_any.specs.FirstLines.{HasLostFor, HasLostThrough, bytes_of}
 use Rattle.trace_any.specs.Readings.{full_limits, lines_of, reading}
 use Rattle.hit_flags.specs.declared.fault.FlagFault.{FlagFault}
 use Rattle.hit_flags.specs.declared.fault.FlagFault.TheVariants.{Trace, NotFlag, Count, ReadFault, NoMemory}
@@ -41,17 +40,9 @@ pub record IsNearTurn (format : Format) (turn : ℕ) (trace hits : Device) : Typ
   pub requests : IfSome trace.before (λ bytes. IfSome trace.after (HasLostFor format full_limits turn bytes))
   pub flags : HaveLostLines turn hits
 
--- of a trace that is refused a source has lost at most the lines through the refused one, and a buffer of bytes
-abbrev pub HasLostThrough : Format → Device → TraceFault → Type 0
-HasLostThrough format trace (of_trace.BadLine line kind) = IfSome trace.before (λ bytes. IfSome trace.after (λ left. length bytes ≤ length left + bytes_of (first_lines format line bytes) + 65536))
-HasLostThrough format trace of_trace.ReadFault = Unit {0}
-HasLostThrough format trace of_trace.InputTooLong = Unit {0}
-HasLostThrough format trace of_trace.TooManyRequests = Unit {0}
-HasLostThrough format trace of_trace.NoMemory = Unit {0}
-
 -- the two sources have lost little beyond a fault of the trace: the flags at most a line for each request of the trace, and a buffer of bytes
 pub record IsNearFault (format : Format) (trace hits : Device) (fault : TraceFault) : Type 0 where
-  pub lines : HasLostThrough format trace fault
+  pub lines : HasLostThrough format full_limits trace fault
   pub flags : IfSome trace.before (λ bytes. HaveLostLines (length (reading format full_limits bytes).requests) hits)
 
 -- the two sources have lost little beyond what stops the reading

@@ -4,7 +4,9 @@ pub mod NextPieces
 pub mod ReadingSteps
 pub mod Coming
 pub mod Through
+pub mod Unrefused
 pub mod Stopping
+pub mod Lost
 pub mod VolumeSteps
 pub mod Marks
 pub mod Loads

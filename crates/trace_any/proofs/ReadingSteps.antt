@@ -28,7 +28,7 @@ pub read_on-none : (format : Format) (limits : Limits) (r : Reading) → read_on
 read_on-none format limits r = ap (λ pieces. fold (read_line format limits) r pieces) (cut-none (has_records format))
 
 -- a reading that has stopped stays as it is
-stays : (format : Format) (limits : Limits) (r : Reading) (lines : List (List ℕ × ℕ)) → is_some r.refused ≡ true → fold (read_line format limits) r lines ≡ r
+pub stays : (format : Format) (limits : Limits) (r : Reading) (lines : List (List ℕ × ℕ)) → is_some r.refused ≡ true → fold (read_line format limits) r lines ≡ r
 stays format limits r [] stop = refl
 stays format limits r ((text, size) ∷ lines) stop = ap (λ s. fold (read_line format limits) s lines) (still stop) ∙ stays format limits r lines stop
   where

@@ -1,5 +1,6 @@
 -- Where a reader stands that gives no request for a fault.
-use Rattle.std.proofs.Common.{◌≡◌, Bool, true, false, ℕ, ◌+◌, ◌-◌, ◌∙◌, sym, refl, ap, subst, List, [], ◌∷◌, ◌++◌, length, drop, take, min, nat_lt, if◌then◌else◌, arith, Option, Some, None, Result, Ok, Err, IfSome}
+use Rattle.std.proofs.Common.{◌≡◌, Bool, true, false, ℕ, ◌+◌, ◌-◌, ◌≤◌, ◌<◌, ◌∙◌, sym, refl, inl, inr, ◌⊎◌, ap, subst, List, [], ◌∷◌, ◌++◌, length, drop, take, min, nat_lt, if◌then◌else◌, arith, Option, Some, None, Result, Ok, Err, IfSome}
+use Rattle.std.proofs.lemmas.Bool.{cases_lt}
 use Rattle.std.proofs.lemmas.List.Sums.{sum_by-append}
 use Rattle.std.proofs.KnownBytes.{Keeps-refl}
 use Rattle.std.specs.Io.KnownBytes.{Keeps}
@@ -21,7 +22,8 @@ use Rattle.trace_any.specs.FirstLines.{GoesNoFurther, GoesThrough, HasGiven, IsN
 use Rattle.trace_any.specs.NextPieces.{IsNextRefused, next_size, next_text}
 use Rattle.trace_any.proofs.Coming.{TakesUp, after_all, loads_more, past_both, with_lines, with_mark-marks_of}
 use Rattle.trace_any.proofs.NextPieces.{cut-first, refused_too_long}
-use Rattle.trace_any.proofs.Through.{ReadsLine, coming_first, given_next, given_none, split}
+use Rattle.trace_any.proofs.Through.{ReadsLine, ahead_none, coming_first, given_next, given_none, split}
+use Rattle.trace_any.proofs.Unrefused.{unrefused}
 
 -- what holds of a fault holds of an answer that is this fault
 pub of_fault : {A : Type 0} (result : Result A TraceFault) (fault : TraceFault) (P : TraceFault → Type 0) → IsErrAnd result (λ e. e ≡ fault) → P fault → IfErr result P
@@ -58,6 +60,7 @@ stands_still r new (Some bytes) (Some rest) line consumed dropped kept =
     let empty : first_lines r.format (lines_between r new) bytes ≡ [] = ap (λ n. first_lines r.format n bytes) none in
     record {
       further = omega (arith, line);
+      none_refused = λ fewer few. absurd (omega (arith, few, none));
       consumed = omega (arith, consumed, ap bytes_of empty);
       dropped = dropped ∙ (sym (dropped_ahead r) ∙ sym (ap (λ ls. (coming_in r ls).dropped) empty));
       rest = ap (λ b. Some b) (kept ∙ sym (ap (λ n. drop n bytes) nothing));
@@ -70,11 +73,11 @@ stands_as r new left same dropped =
     (subst (λ (o : Option (List ℕ)). Keeps (known r left) o) (ap (λ (p : Position). known (with_lines r p) left) (sym same)) (Keeps-refl (known r left)))
 
 -- one line was given
-stands_after_line : (r new : Reader) (l : Position) (said : Result (Option LineContents) LineKind) (before between : Option (List ℕ)) → new.lines ≡ l
+stands_after_line : (r new : Reader) (l : Position) (said : Result (Option LineContents) LineKind) (before between : Option (List ℕ)) → r.ahead.count ≡ 0 → new.lines ≡ l
     → (with_line (r.limits.requests - r.given) (is_marked r.format) (so_far (with_lines r l)) said).dropped ≡ new.dropped
     → IfSome before (ReadsLine r l said) → IfSome before (λ bytes. TakesUp r (with_lines r l) said bytes between) → IfSome before (λ bytes. StandsAfter r new bytes between)
-stands_after_line r new l said None between same dropped reads takes = tt
-stands_after_line r new l said (Some bytes) between same dropped reads takes =
+stands_after_line r new l said None between nothing same dropped reads takes = tt
+stands_after_line r new l said (Some bytes) between nothing same dropped reads takes =
     let records = has_records r.format in
     let line : List ℕ × ℕ = (next_text records bytes, next_size records bytes) in
     let number : new.lines.line ≡ r.lines.line + 1 = ap (λ (p : Position). p.line) same ∙ reads.line in
@@ -82,29 +85,33 @@ stands_after_line r new l said (Some bytes) between same dropped reads takes =
     let first : first_lines r.format (lines_between r new) bytes ≡ line ∷ [] = ap (λ n. first_lines r.format n bytes) one ∙ ap (take 1) (cut-first records bytes reads.some) in
     record {
       further = omega (arith, number);
+      none_refused = λ fewer few.
+          let zero_is : fewer ≡ 0 = omega (arith, few, one) in
+          let zero_lines : first_lines r.format fewer bytes ≡ [] = ap (λ n. first_lines r.format n bytes) zero_is in
+          ap (λ ls. (coming_in r ls).refused) zero_lines ∙ ap (λ (s : Reading). s.refused) (ahead_none r nothing);
       consumed = omega (arith, ap (λ (p : Position). p.consumed) same, reads.consumed, ap bytes_of first);
       dropped = sym dropped ∙ (sym (ap (λ (s : Reading). s.dropped) reads.step) ∙ sym (ap (λ ls. (coming_in r ls).dropped) first));
       rest = takes.rest ∙ ap (λ (p : Position). Some (drop (p.consumed - r.lines.consumed) bytes)) (sym same);
     }
 
 -- a line that is refused
-pub stands_after_refused : (r : Reader) (l : Position) (kind : LineKind) (said : Result (Option LineContents) LineKind) (before between : Option (List ℕ)) → said ≡ Err kind
+pub stands_after_refused : (r : Reader) (l : Position) (kind : LineKind) (said : Result (Option LineContents) LineKind) (before between : Option (List ℕ)) → said ≡ Err kind → r.ahead.count ≡ 0
     → IfSome before (ReadsLine r l said) → IfSome before (λ bytes. TakesUp r (with_lines r l) said bytes between) → IfSome before (λ bytes. StandsAfter r (with_lines r l) bytes between)
-stands_after_refused r l kind said before between refused reads takes =
-    stands_after_line r (with_lines r l) l said before between refl (ap (λ s. (with_line (r.limits.requests - r.given) (is_marked r.format) (so_far (with_lines r l)) s).dropped) refused) reads takes
+stands_after_refused r l kind said before between refused nothing reads takes =
+    stands_after_line r (with_lines r l) l said before between nothing refl (ap (λ s. (with_line (r.limits.requests - r.given) (is_marked r.format) (so_far (with_lines r l)) s).dropped) refused) reads takes
 
 -- a line whose volume found no memory
-pub stands_after_unnamed : (r new : Reader) (l : Position) (what : LineContents) (said : Result (Option LineContents) LineKind) (before between : Option (List ℕ)) → said ≡ Ok (Some what) → (what.span ≡ Nothing → ⊥)
+pub stands_after_unnamed : (r new : Reader) (l : Position) (what : LineContents) (said : Result (Option LineContents) LineKind) (before between : Option (List ℕ)) → said ≡ Ok (Some what) → (what.span ≡ Nothing → ⊥) → r.ahead.count ≡ 0
     → new.lines ≡ l → new.dropped ≡ r.dropped → IfSome before (ReadsLine r l said) → IfSome before (λ bytes. TakesUp r (with_lines r l) said bytes between) → IfSome before (λ bytes. StandsAfter r new bytes between)
-stands_after_unnamed r new l what said before between asks some same dropped reads takes =
+stands_after_unnamed r new l what said before between asks some nothing same dropped reads takes =
     let most = r.limits.requests - r.given in
-    stands_after_line r new l said before between same
+    stands_after_line r new l said before between nothing same
     (ap (λ s. (with_line most (is_marked r.format) (so_far (with_lines r l)) s).dropped) asks
     ∙ (spanned-dropped most (so_far (with_lines r l)) what.volume (mark_if (is_marked r.format) what.fills) what.span some ∙ sym dropped))
     reads takes
 
 -- some lines, and then those up to a fault
-pub stands_then : (with_given : Reading → Reading) (first second third : Reader) (before between later : Option (List ℕ)) → ((s : Reading) → (with_given s).dropped ≡ s.dropped)
+pub stands_then : (with_given : Reading → Reading) (first second third : Reader) (before between later : Option (List ℕ)) → ((s : Reading) → ((with_given s).dropped ≡ s.dropped) × ((with_given s).lines ≡ s.lines) × ((with_given s).refused ≡ s.refused))
     → IfSome before (λ bytes. between ≡ Some (bytes_after first second bytes)) → IfSome before (GoesThrough with_given first second)
     → IfSome between (λ bytes. StandsAfter second third bytes later) → IfSome before (λ bytes. StandsAfter first third bytes later)
 stands_then with_given first second third None between later same rest goes other = tt
@@ -118,13 +125,24 @@ stands_then with_given first second third (Some bytes) between later same rest g
     ap bytes_of (split with_given (λ s. s) with_given (λ s. refl) first second third bytes goes n) ∙ sum_by-append (λ (line : List ℕ × ℕ). line.1) (first_lines first.format k bytes) (first_lines second.format n past) in
     record {
       further = omega (arith, goes.further, next.further);
+      none_refused = λ fewer few. by fewer few next (cases_lt fewer k);
       consumed = omega (arith, goes.consumed, next.consumed, size, ap (λ j. bytes_of (first_lines first.format j bytes)) lines);
       dropped = next.dropped
-          ∙ (sym (same (coming_in second (first_lines second.format n past)))
+          ∙ (sym (same (coming_in second (first_lines second.format n past))).0
           ∙ (sym (ap (λ (s : Reading). s.dropped) (coming_first with_given (λ s. s) with_given (λ s. refl) first second third bytes goes n)) ∙ ap (λ j. (coming_in first (first_lines first.format j bytes)).dropped) (sym lines)));
       rest = next.rest
           ∙ ap (λ b. Some b) (past_both (second.lines.consumed - first.lines.consumed) (third.lines.consumed - second.lines.consumed) (third.lines.consumed - first.lines.consumed) bytes (omega (arith, goes.consumed, next.consumed)));
     }
+  where
+    by : (fewer : ℕ) → fewer < lines_between first third → StandsAfter second third (bytes_after first second bytes) later → fewer < lines_between first second ⊎ lines_between first second ≤ fewer
+        → (coming_in first (first_lines first.format fewer bytes)).refused ≡ None
+    by fewer few next (inl less) = unrefused with_given first second bytes (λ s. (same s).1) goes fewer less
+    by fewer few next (inr more) =
+        let n = fewer - lines_between first second in
+        let at : fewer ≡ lines_between first second + n = omega (arith, more) in
+        ap (λ j. (coming_in first (first_lines first.format j bytes)).refused) at
+        ∙ (ap (λ (s : Reading). s.refused) (coming_first with_given (λ s. s) with_given (λ s. refl) first second third bytes goes n)
+        ∙ ((same (coming_in second (first_lines second.format n (bytes_after first second bytes)))).2 ∙ next.none_refused n (omega (arith, few, more, goes.further, next.further))))
 
 -- a reader that goes no further goes through the lines
 pub through_of : (with_given : Reading → Reading) (first second : Reader) (before : Option (List ℕ)) → IfSome before (GoesNoFurther with_given first second) → IfSome before (GoesThrough with_given first second)
@@ -170,7 +188,7 @@ pub stands_given : (given : Requests) (first second third fourth : Reader) (x : 
 stands_given given first second third fourth x mark before between left lines dropped goes has next further =
     let all = with_request given x mark in
     let rest = rests_after given first second before between goes in
-    stands_then (after_all all) first third fourth before (known third left) (known fourth left) (λ s. refl)
+    stands_then (after_all all) first third fourth before (known third left) (known fourth left) (λ s. (refl, refl, refl))
     (rests_after all first third before (known third left) (loads_more first second third given x mark before between (known third left) goes next))
     (through_given all first third before (given_more first second third given x mark before between rest has further))
     (stands_as third fourth left lines dropped)

@@ -23,7 +23,7 @@ use Rattle.trace_any.proofs.NextPieces.{cut-first, is_given, past_next}
 use Rattle.trace_any.proofs.ReadingSteps.{plain, requested-none}
 
 -- no block is left of the last line
-ahead_none : (r : Reader) → r.ahead.count ≡ 0 → with_ahead r ≡ so_far r
+pub ahead_none : (r : Reader) → r.ahead.count ≡ 0 → with_ahead r ≡ so_far r
 ahead_none r none =
     ap (λ n. requested (r.limits.requests - r.given) (so_far r) r.ahead.volume (last_mark r) r.ahead.first n r.ahead.size) none
     ∙ requested-none r.volumes (r.limits.requests - r.given) r.dropped r.lines.line r.lines.consumed r.ahead.volume (last_mark r) r.ahead.first r.ahead.size
@@ -267,7 +267,7 @@ given_none r bytes =
     }
 
 -- what a reader that has read nothing makes of the first lines
-fresh_coming : (format : Format) (limits : Limits) (lines : ℕ) (bytes : List ℕ) → coming_in (fresh format limits) (first_lines format lines bytes) ≡ reading_of_first format limits lines bytes
+pub fresh_coming : (format : Format) (limits : Limits) (lines : ℕ) (bytes : List ℕ) → coming_in (fresh format limits) (first_lines format lines bytes) ≡ reading_of_first format limits lines bytes
 fresh_coming format limits lines bytes =
     let all : limits.requests - 0 ≡ limits.requests = omega arith in
     ap (λ s. fold (read_line format (room_left (fresh format limits))) s (first_lines format lines bytes)) (ahead_none (fresh format limits) refl)

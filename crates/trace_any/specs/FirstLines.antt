@@ -1,5 +1,5 @@
 -- The first lines of a trace, or its first records: what a reader of requests has gone through, and how much of a source its first requests need.
-use Rattle.std.specs.Prelude.{◌≡◌, ℕ, ◌+◌, ◌-◌, ◌<◌, ◌≤◌, Bool, Some, IfSome, List, [], ◌++◌, length, take, drop, fold}
+use Rattle.std.specs.Prelude.{◌≡◌, ℕ, ◌+◌, ◌-◌, ◌<◌, ◌≤◌, Bool, None, Some, IfSome, List, [], ◌++◌, length, take, drop, fold}
 use Rattle.std.specs.List.{sum_by}
 use Rattle.std.specs.declared.option.Option.{Option}
 use Rattle.bound_io.specs.Devices.{Device}
@@ -23,10 +23,23 @@ bytes_of lines = sum_by (λ line. line.1) lines
 abbrev pub reading_of_first : Format → Limits → ℕ → List ℕ → Reading
 reading_of_first format limits count bytes = fold (read_line format limits) nothing_read (first_lines format count bytes)
 
+-- what a source lost of these bytes, if this is left: at most this many first lines, and a buffer of bytes
+abbrev pub HasLostLines : Format → ℕ → List ℕ → List ℕ → Type 0
+HasLostLines format lines bytes left = length bytes ≤ length left + bytes_of (first_lines format lines bytes) + 65536
+
 -- what a source lost for this many requests of a trace, if this is left: at most the fewest first lines that have them, and a buffer of bytes; or all, if the trace has fewer requests
 pub record HasLostFor (format : Format) (limits : Limits) (count : ℕ) (bytes left : List ℕ) : Type 0 where
-  pub near : count ≤ length (reading format limits bytes).requests → (lines : ℕ) → count ≤ length (reading_of_first format limits lines bytes).requests → length bytes ≤ length left + bytes_of (first_lines format lines bytes) + 65536
+  pub near : count ≤ length (reading format limits bytes).requests → (lines : ℕ) → count ≤ length (reading_of_first format limits lines bytes).requests → HasLostLines format lines bytes left
   pub all : length (reading format limits bytes).requests < count → left ≡ []
+
+-- what a source lost of a trace that is refused so, if this is left: at most the first lines through the one that the fault names, or else the fewest that are refused so, and a buffer of bytes
+abbrev pub HasLostTo : Format → Limits → TraceFault → List ℕ → List ℕ → Type 0
+HasLostTo format limits (BadLine line kind) bytes left = HasLostLines format line bytes left
+HasLostTo format limits fault bytes left = (lines : ℕ) → (reading_of_first format limits lines bytes).refused ≡ Some fault → HasLostLines format lines bytes left
+
+-- of a trace that is refused a source has lost at most the lines through the refused one, and a buffer of bytes, if its bytes are known
+abbrev pub HasLostThrough : Format → Limits → Device → TraceFault → Type 0
+HasLostThrough format limits source fault = IfSome source.before (λ bytes. IfSome source.after (HasLostTo format limits fault bytes))
 
 -- how many lines a reader has given between two places
 abbrev pub lines_between : Reader → Reader → ℕ
@@ -66,14 +79,15 @@ pub record HasGiven (given : List Object) (fills : List Bool) (old new : Reader)
   pub through : GoesThrough (after given fills) old new bytes
   pub least : (lines : ℕ) → length given ≤ length (coming_in old (first_lines old.format lines bytes)).requests → lines_between old new ≤ lines
 
--- a reader has given the first of these bytes' lines, counts those of them that were dropped, and stands in the bytes after them
+-- a reader has given the first of these bytes' lines, of which none but the last may be refused, counts those of them that were dropped, and stands in the bytes after them
 pub record StandsAfter (old new : Reader) (bytes : List ℕ) (after : Option (List ℕ)) : Type 0 where
   pub further : old.lines.line ≤ new.lines.line
+  pub none_refused : (fewer : ℕ) → fewer < lines_between old new → (coming_in old (first_lines old.format fewer bytes)).refused ≡ None
   pub consumed : new.lines.consumed ≡ old.lines.consumed + bytes_of (first_lines old.format (lines_between old new) bytes)
   pub dropped : new.dropped ≡ (coming_in old (first_lines old.format (lines_between old new) bytes)).dropped
   pub rest : after ≡ Some (bytes_after old new bytes)
 
--- no line was given after the one that is refused
+-- no line was given after the one that the fault names, if it names one, whether or not the bytes are known
 abbrev pub IsNotPast : Reader → TraceFault → Type 0
 IsNotPast new (BadLine line kind) = new.lines.line ≤ line
 IsNotPast new ReadFault = Unit {0}
@@ -81,6 +95,6 @@ IsNotPast new InputTooLong = Unit {0}
 IsNotPast new TooManyRequests = Unit {0}
 IsNotPast new NoMemory = Unit {0}
 
--- a reader that gives no request for a fault goes no further than the line that is refused, and stands after the lines that it gave, if the bytes are known
+-- a reader that gives no request for a fault goes no further than the line that is refused or passes a limit, and stands after the lines that it gave, if the bytes are known
 abbrev pub StopsNoFurther : Reader → Reader → Device → TraceFault → Type 0
 StopsNoFurther old new source fault = IsNotPast new fault × IfSome (known old source.before) (λ bytes. StandsAfter old new bytes (known new source.after))

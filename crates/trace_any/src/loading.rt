@@ -3,9 +3,9 @@ ghost use Rattle.std.specs.Prelude.{◌≡◌, ◌≤◌, ◌<◌, ◌^◌, ◌�
 ghost use Rattle.bound_io.specs.Devices.{seen};
 ghost use Rattle.bound_io.specs.Reading.{LosesPrefix};
 ghost use Rattle.cache_rules.specs.Stored.{with_request};
-ghost use Rattle.trace_any.specs.FirstLines.{StopsNoFurther};
+ghost use Rattle.trace_any.specs.FirstLines.{HasLostThrough, StopsNoFurther};
 ghost use Rattle.trace_any.specs.Readings.{is_marked};
-ghost use Rattle.trace_any.specs.Readers.{KeepsFault, LeavesNone, LoadsAll, LoadsNoMore, RefusesTrace, last_mark};
+ghost use Rattle.trace_any.specs.Readers.{KeepsFault, LeavesNone, LoadsAll, LoadsNoMore, RefusesTrace, fresh, last_mark};
 
 use crate::fault::TraceFault;
 use crate::requests::RequestReader;
@@ -68,6 +68,7 @@ pub fn load<S: Source>(
     ensures none_failed { OnOk result (S.faults source.new ≡ S.faults source.old) }
     ensures else_none_failed { IfErr result (λ fault. (fault ≡ TraceFault.ReadFault) ⊎ (S.faults source.new ≡ S.faults source.old)) }
     ensures no_further { reader.old.fault ≡ None → IfErr result (StopsNoFurther reader.old reader.new (seen S.left S.faults source.old source.new)) }
+    ensures lost { reader.old ≡ fresh reader.old.format reader.old.limits → IfErr result (HasLostThrough reader.old.format reader.old.limits (seen S.left S.faults source.old source.new)) }
 {
     let mut requests = builder_for(alloc, reader)?;
     while let Some(object) = reader.next(alloc, source)? {

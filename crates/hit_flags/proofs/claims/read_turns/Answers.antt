@@ -12,8 +12,9 @@ use Rattle.hit_flags.specs.Lines.{nothing_read}
 use Rattle.trace_any.proofs.Stopping.{given_more, rests_after, stands_then, through_given}
 use Rattle.trace_any.proofs.Coming.{after_all, loads_all, loads_more, loads_to_end}
 use Rattle.trace_any.proofs.Loads.{from_start, nothing_left}
+use Rattle.trace_any.proofs.Lost.{lost_through}
 use Rattle.hit_flags.proofs.Ends.{all_flags, flag_unread, more_flags, more_unread, none_follows, one_follows, over_at_end, trace_unread}
-use Rattle.hit_flags.proofs.Near.{lost_all, lost_flags, lost_given, lost_lines, lost_through, near_turn, past_then}
+use Rattle.hit_flags.proofs.Near.{lost_all, lost_flags, lost_given, lost_lines, near_turn, past_then}
 use Rattle.hit_flags.proofs.claims.read_turns.Goals as goal
 
 pub returns-in_err-object-clause-unread : goal.returns-in_err-object-clause-unread
@@ -151,9 +152,9 @@ returns-in_err-object-clause-near g c =
     let second = c.loop-flags.reader in
     let third = c.next.new.self in
     let stops = c.in_err-object.ensures.no_further i.fault in
-    let stands = stands_then (after_all given) first second third _ _ _ (λ s. refl) (rests_after given first second _ _ i.goes_on) (through_given given first second _ i.given_all) stops.1 in
+    let stands = stands_then (after_all given) first second third _ _ _ (λ s. (refl, refl, refl)) (rests_after given first second _ _ i.goes_on) (through_given given first second _ i.given_all) stops.1 in
     rw (p.1, p.2) (record {
-      lines = lost_through format first third trace c.in_err-object.field-0.0 c.requires.reader c.next.ensures.ahead stops.0 stands;
+      lines = lost_through format full_limits first third trace c.in_err-object.field-0.0 c.requires.reader c.next.ensures.ahead (stops.0, stands);
       flags = lost_flags format first second given _ trace hits c.loop-flags.lines c.requires.reader i.line i.flags_held i.goes_on i.flags_past;
     })
 

@@ -1,10 +1,11 @@
-use Rattle.std.proofs.Common.{◌≡◌, ◌∙◌, refl, sym, ap, arith, length-append, None, [], ◌∷◌}
+use Rattle.std.proofs.Common.{◌≡◌, ◌∙◌, refl, sym, ap, arith, length, length-append, None, [], ◌∷◌}
 use Rattle.bound_io.proofs.KnownLemmas.{loses_then}
 use Rattle.bound_io.specs.Devices.{seen}
 use Rattle.trace_any.specs.declared.fault.TraceFault.TheVariants.{NoMemory}
 use Rattle.trace_any.specs.FirstLines.{StopsNoFurther}
-use Rattle.trace_any.specs.Readers.{last_mark}
+use Rattle.trace_any.specs.Readers.{Reader, last_mark}
 use Rattle.trace_any.proofs.Coming.{after_all, goes_nowhere, loads_all, loads_more, loads_past, loads_to_end, loses_nothing, no_error, no_fault, of_any_fault, past_room}
+use Rattle.trace_any.proofs.Lost.{lost_if, lost_through}
 use Rattle.trace_any.proofs.Stopping.{given_more, nothing_given, of_fault, rests_after, stands_as, stands_given, stands_then, through_given}
 use Rattle.trace_any.proofs.loading.load.Goals as goal
 
@@ -97,7 +98,7 @@ returns-in_err-object-clause-no_further g c = λ fresh.
     let third = c.next.new.self in
     let stops = c.in_err-object.ensures.no_further (i.fault ∙ fresh) in
     of_fault c.from_residual-in_err-object.result c.in_err-object.field-0.0 (StopsNoFurther first third (seen g.S.Source.left g.S.Source.faults c.args.source.now c.next.new.source)) c.from_residual-in_err-object.ensures.1
-    (stops.0, stands_then (after_all given) first second third _ _ _ (λ s. refl) (rests_after given first second _ _ (i.goes_on fresh)) (through_given given first second _ (i.given_all fresh)) stops.1)
+    (stops.0, stands_then (after_all given) first second third _ _ _ (λ s. (refl, refl, refl)) (rests_after given first second _ _ (i.goes_on fresh)) (through_given given first second _ (i.given_all fresh)) stops.1)
 
 pub returns-then-passes_limit-clause-no_further : goal.returns-then-passes_limit-clause-no_further
 returns-then-passes_limit-clause-no_further g c = λ fresh.
@@ -116,3 +117,23 @@ returns-in-Err-clause-no_further g c = λ fresh.
     let stands = stands_given given c.args.reader.now c.loop-requests.reader c.next.new.self c.refuse_rest-in-Err.new.self c.in-Some.object (last_mark c.next.new.self) _ _ (g.S.Source.left c.next.new.source) (ap (λ r. r.lines) c.refuse_rest-in-Err.ensures.kept) (ap (λ r. r.dropped) c.refuse_rest-in-Err.ensures.kept)
     (i.goes_on fresh) (i.given_all fresh) (rw (c.in-Some.is) at (c.in_ok-object.ensures.next none)).1 (rw (c.in-Some.is) at (c.in_ok-object.ensures.lines none)) in
     rw (c.refuse_rest-in-Err.ensures.fault) (tt, stands)
+
+pub returns-in_err-requests-clause-lost : goal.returns-in_err-requests-clause-lost
+returns-in_err-requests-clause-lost g c = λ begins.
+    lost_if c.from_residual.result c.args.reader.now c.args.reader.now (seen g.S.Source.left g.S.Source.faults c.args.source.now c.args.source.now) begins (omega (arith, ap (λ (r : Reader). length r.lines.held) begins))
+    (returns-in_err-requests-clause-no_further g c (ap (λ (r : Reader). r.fault) begins))
+
+pub returns-in_err-object-clause-lost : goal.returns-in_err-object-clause-lost
+returns-in_err-object-clause-lost g c = λ begins.
+    lost_if c.from_residual-in_err-object.result c.args.reader.now c.next.new.self (seen g.S.Source.left g.S.Source.faults c.args.source.now c.next.new.source) begins c.next.ensures.ahead
+    (returns-in_err-object-clause-no_further g c (ap (λ (r : Reader). r.fault) begins))
+
+pub returns-then-passes_limit-clause-lost : goal.returns-then-passes_limit-clause-lost
+returns-then-passes_limit-clause-lost g c = λ begins.
+    lost_through c.args.reader.now.format c.args.reader.now.limits c.args.reader.now c.refuse_rest.new.self (seen g.S.Source.left g.S.Source.faults c.args.source.now c.next.new.source) c.refuse_rest.result begins
+    (omega (arith, c.next.ensures.ahead, ap (λ (r : Reader). length r.lines.held) c.refuse_rest.ensures.kept)) (returns-then-passes_limit-clause-no_further g c (ap (λ (r : Reader). r.fault) begins))
+
+pub returns-in-Err-clause-lost : goal.returns-in-Err-clause-lost
+returns-in-Err-clause-lost g c = λ begins.
+    lost_through c.args.reader.now.format c.args.reader.now.limits c.args.reader.now c.refuse_rest-in-Err.new.self (seen g.S.Source.left g.S.Source.faults c.args.source.now c.next.new.source) c.refuse_rest-in-Err.result begins
+    (omega (arith, c.next.ensures.ahead, ap (λ (r : Reader). length r.lines.held) c.refuse_rest-in-Err.ensures.kept)) (returns-in-Err-clause-no_further g c (ap (λ (r : Reader). r.fault) begins))

@@ -64,7 +64,7 @@ returns-in_err-take_line-clause-no_further g c =
     let third = c.take_line.new.self in
     let stops = c.in_err-take_line.ensures.no_further in
     of_fault c.from_residual.result c.in_err-take_line.field-0.0 (StopsNoFurther first third (seen g.S.Source.left g.S.Source.faults c.args.source.now c.take_line.new.source)) c.from_residual.ensures.1
-    (stops.0, stands_then (λ s. s) first second third _ _ _ (λ s. refl) (rests_on first second _ _ i.goes_on) (through_of _ _ _ _ i.lines) stops.1)
+    (stops.0, stands_then (λ s. s) first second third _ _ _ (λ s. (refl, refl, refl)) (rests_on first second _ _ i.goes_on) (through_of _ _ _ _ i.lines) stops.1)
 
 pub returns-in_err-give-clause-no_further : goal.returns-in_err-give-clause-no_further
 returns-in_err-give-clause-no_further g c =
@@ -74,4 +74,4 @@ returns-in_err-give-clause-no_further g c =
     let third = c.give.new.self in
     let still = c.give.ensures.still in
     of_fault c.from_residual-in_err-give.result TooManyRequests (StopsNoFurther first third (seen g.S.Source.left g.S.Source.faults c.args.source.now c.loop-self.source)) (rw (c.in_err-give.ensures.full.0) at c.from_residual-in_err-give.ensures.1)
-    (tt, stands_then (λ s. s) first second third _ _ _ (λ s. refl) (rests_on first second _ _ i.goes_on) (through_of _ _ _ _ i.lines) (stands_as second third _ still.2 still.3))
+    (tt, stands_then (λ s. s) first second third _ _ _ (λ s. (refl, refl, refl)) (rests_on first second _ _ i.goes_on) (through_of _ _ _ _ i.lines) (stands_as second third _ still.2 still.3))

@@ -264,7 +264,7 @@ returns-in-Err-clause-no_further g c =
     let said = sym (c.content_of.ensures.content_named) ∙ ap answer_of c.in-Err.is in (
       omega (arith, c.line.ensures),
       subst (λ r. IfSome (known r (g.S.Source.left c.args.source.now)) (λ bytes. StandsAfter r (with_lines s l) bytes (known (with_lines s l) (g.S.Source.left c.next_piece.new.source)))) c.self.view_is
-          (stands_after_refused s l c.in-Err.kind _ _ _ said reads takes),
+          (stands_after_refused s l c.in-Err.kind _ _ _ said none reads takes),
     )
 
 pub returns-in_err-volume-clause-no_further : goal.returns-in_err-volume-clause-no_further
@@ -283,4 +283,4 @@ returns-in_err-volume-clause-no_further g c =
     let new = record (with_lines s l) { volumes = c.number_of.new.volumes } in
     subst (λ r. IfErr c.from_residual-in_err-volume.result (StopsNoFurther r new (seen g.S.Source.left g.S.Source.faults c.args.source.now c.next_piece.new.source))) c.self.view_is
     (of_fault c.from_residual-in_err-volume.result NoMemory (StopsNoFurther s new (seen g.S.Source.left g.S.Source.faults c.args.source.now c.next_piece.new.source)) c.from_residual-in_err-volume.ensures.1
-    (tt, stands_after_unnamed s new l (content_by content) _ _ _ said c.in_err-volume.ensures.something refl refl reads takes))
+    (tt, stands_after_unnamed s new l (content_by content) _ _ _ said c.in_err-volume.ensures.something none refl refl reads takes))
