@@ -4,6 +4,7 @@ use Rattle.bound_io.specs.Devices.{Device, HasFailed}
 use Rattle.trace_any.specs.declared.fault.TraceFault.{TraceFault as FaultOfTrace}
 use Rattle.trace_any.specs.declared.fault.TraceFault.TheVariants as trace
 use Rattle.trace_any.specs.declared.format.Format.{Format}
+use Rattle.trace_any.specs.FirstLines.{HasLostThrough}
 use Rattle.trace_any.specs.Readings.{full_limits}
 use Rattle.cert_format.specs.Readings as certificates
 use Rattle.cert_checker.specs.Checks.{IsNearLine, IsOfText}
@@ -34,9 +35,9 @@ RefusesReading Has source refusal.TraceFault = HasFailed source
 RefusesReading Has source refusal.NoMemory = Unit {0}
 RefusesReading Has source other = ⊥
 
--- why the trace of a command that reads nothing else is refused
+-- why the trace of a command that reads nothing else is refused, and that little of it was read beyond what refuses it
 abbrev pub RefusesLoading : Format → Device → Refusal → Type 0
-RefusesLoading format source r = RefusesReading (IsRefused format source) source r
+RefusesLoading format source r = RefusesReading (λ fault. IsRefused format source fault × HasLostThrough format full_limits source fault) source r
 
 -- why no bounds are made: the denominator that is asked for passes its limit, or the trace is refused
 abbrev pub RefusesBounds : Format → BoundSettings → Device → Refusal → Type 0
@@ -48,14 +49,14 @@ abbrev pub RefusesCurve : Format → Device → Refusal → Type 0
 RefusesCurve format source (refusal.Unequal first other) = IsUnequal format source first other
 RefusesCurve format source r = RefusesLoading format source r
 
--- why a certificate is not accepted: the first event of the walk over both inputs, which its own input tells alone if that decides it, and little was read beyond a line that fails; or a failed read of the certificate
+-- why a certificate is not accepted: the first event of the walk over both inputs, which its own input tells alone if that decides it, and little was read beyond a line that fails or what refuses the trace; or a failed read of the certificate
 abbrev pub RefusesCheck : Format → Device → Device → Refusal → Type 0
 RefusesCheck format source cert (refusal.Invalid line kind) =
     IsFirstEvent format source cert (walk.Invalid line kind) × IsOfText cert.before line kind × IsNearLine format full_limits line source cert
 RefusesCheck format source cert refusal.CertFault = HasFailed cert
-RefusesCheck format source cert r = RefusesReading (λ fault. IsFirstEvent format source cert (walk.Refused fault) × IsRefused format source fault) source r
+RefusesCheck format source cert r = RefusesReading (λ fault. IsFirstEvent format source cert (walk.Refused fault) × IsRefused format source fault × HasLostThrough format full_limits source fault) source r
 
--- why claimed hits are refused: what stops the reading of the trace and the flags by turns, beyond which little was read, a failed read of either, or the first cause why the flags are not possible
+-- why claimed hits are refused: what stops the reading of the trace and the flags by turns, as both tell together and each alone, beyond which little was read; a failed read of either; or the first cause why the flags are not possible
 abbrev pub RefusesJudge : Format → JudgeSettings → Device → Device → Refusal → Type 0
 RefusesJudge format asked source hits (refusal.NotFlag line) = IsStop format source hits (flag.NotFlag line) × IsNearTurn format line source hits
 RefusesJudge format asked source hits (refusal.FlagCount flags requests) = IsStop format source hits (flag.Count flags requests) × IsNearTurn format (max flags requests) source hits
