@@ -122,9 +122,9 @@ module _ (format : Format) (asked : BoundSettings) (source report made : Device)
   bounds_complete : (status : Status) → BoundsEnd format asked source report made (ending_of status) → (status ≡ Done) ⊎ (status ≡ NoMemory)
   bounds_complete Done e = inl refl
   bounds_complete NoMemory e = inr refl
-  bounds_complete (BadLine line kind) e = absurd (not_refused source.before (trace.BadLine line kind) good e.0)
-  bounds_complete (Limit Requests) e = absurd (not_refused source.before trace.TooManyRequests good e.0)
-  bounds_complete (Limit TraceBytes) e = absurd (not_refused source.before trace.InputTooLong good e.0)
+  bounds_complete (BadLine line kind) e = absurd (not_refused source.before (trace.BadLine line kind) good e.0.0)
+  bounds_complete (Limit Requests) e = absurd (not_refused source.before trace.TooManyRequests good e.0.0)
+  bounds_complete (Limit TraceBytes) e = absurd (not_refused source.before trace.InputTooLong good e.0.0)
   bounds_complete (Limit Denominator) e = absurd (not_past source.before e.0.requests e.0.dropped denominator e.0.loaded.read e.0.refused good)
   bounds_complete TraceFault e = absurd (source_works e.0)
   bounds_complete ReportFault (cert, text, ready, all, failed) = absurd (report_works failed.0)
@@ -218,9 +218,9 @@ module _ (format : Format) (IsText : List ℕ → Type 0) (source report : Devic
   report_complete : (status : Status) → ReportsEnd IsText (RefusesLoading format source) report (ending_of status) → (status ≡ Done) ⊎ (status ≡ NoMemory)
   report_complete Done e = inl refl
   report_complete NoMemory e = inr refl
-  report_complete (BadLine line kind) e = absurd (loading_works source.before (trace.BadLine line kind) good e.0)
-  report_complete (Limit Requests) e = absurd (loading_works source.before trace.TooManyRequests good e.0)
-  report_complete (Limit TraceBytes) e = absurd (loading_works source.before trace.InputTooLong good e.0)
+  report_complete (BadLine line kind) e = absurd (loading_works source.before (trace.BadLine line kind) good e.0.0)
+  report_complete (Limit Requests) e = absurd (loading_works source.before trace.TooManyRequests good e.0.0)
+  report_complete (Limit TraceBytes) e = absurd (loading_works source.before trace.InputTooLong good e.0.0)
   report_complete (Limit Denominator) e = absurd e.0
   report_complete TraceFault e = absurd (source_works e.0)
   report_complete ReportFault (text, replayed, failed) = absurd (report_works failed.0)
@@ -255,9 +255,9 @@ module _ (format : Format) (source report : Device) (good : IsGoodTrace format s
   curve_complete Done (text, curved, all) = answered_of Done source.before curved.requests curved.dropped good curved.loaded.read curved.report.one_size
   curve_complete (Unequal first other) e = answered_of (Unequal first other) source.before e.0.requests e.0.dropped good e.0.loaded.read e.0.clash
   curve_complete NoMemory e = answered_free source.before good
-  curve_complete (BadLine line kind) e = absurd (curve_not_refused source.before (trace.BadLine line kind) good e.0)
-  curve_complete (Limit Requests) e = absurd (curve_not_refused source.before trace.TooManyRequests good e.0)
-  curve_complete (Limit TraceBytes) e = absurd (curve_not_refused source.before trace.InputTooLong good e.0)
+  curve_complete (BadLine line kind) e = absurd (curve_not_refused source.before (trace.BadLine line kind) good e.0.0)
+  curve_complete (Limit Requests) e = absurd (curve_not_refused source.before trace.TooManyRequests good e.0.0)
+  curve_complete (Limit TraceBytes) e = absurd (curve_not_refused source.before trace.InputTooLong good e.0.0)
   curve_complete (Limit Denominator) e = absurd e.0
   curve_complete TraceFault e = absurd (source_works e.0)
   curve_complete ReportFault (text, curved, failed) = absurd (report_works failed.0)

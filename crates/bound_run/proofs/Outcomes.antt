@@ -6,6 +6,7 @@ use Rattle.cache_rules.specs.Stored.{Requests as Trail}
 use Rattle.trace_any.specs.declared.fault.TraceFault.{TraceFault as FaultOfTrace}
 use Rattle.trace_any.specs.declared.fault.TraceFault.TheVariants as trace
 use Rattle.trace_any.specs.declared.format.Format.{Format}
+use Rattle.trace_any.specs.FirstLines.{HasLostThrough}
 use Rattle.trace_any.specs.Readings.{full_limits}
 use Rattle.trace_any.specs.Readers.{IsNotLoaded, fresh, to_come, known}
 use Rattle.trace_any.proofs.Coming.{fresh_to_come}
@@ -36,15 +37,15 @@ refused_all : (format : Format) (before after : Option (List ℕ)) (faults_befor
 refused_all format None after faults_before faults_after fault why = tt
 refused_all format (Some bytes) after faults_before faults_after fault why = rw (fresh_to_come) at why
 
--- why nothing is loaded, as the refusal of a run
+-- why nothing is loaded, and how little was lost, as the refusal of a run
 pub not_loaded : (format : Format) (before after : Option (List ℕ)) (faults_before faults_after : ℕ) (fault : FaultOfTrace)
-    → IsNotLoaded (fresh format full_limits) (known (fresh format full_limits) before) faults_before faults_after fault
+    → IsNotLoaded (fresh format full_limits) (known (fresh format full_limits) before) faults_before faults_after fault → HasLostThrough format full_limits (device before after faults_before faults_after) fault
     → RefusesLoading format (device before after faults_before faults_after) (refusal_of fault)
-not_loaded format before after faults_before faults_after (trace.BadLine line kind) why = refused_all format before after faults_before faults_after (trace.BadLine line kind) why
-not_loaded format before after faults_before faults_after trace.ReadFault why = why
-not_loaded format before after faults_before faults_after trace.InputTooLong why = refused_all format before after faults_before faults_after trace.InputTooLong why
-not_loaded format before after faults_before faults_after trace.TooManyRequests why = refused_all format before after faults_before faults_after trace.TooManyRequests why
-not_loaded format before after faults_before faults_after trace.NoMemory why = tt
+not_loaded format before after faults_before faults_after (trace.BadLine line kind) why lost = (refused_all format before after faults_before faults_after (trace.BadLine line kind) why, lost)
+not_loaded format before after faults_before faults_after trace.ReadFault why lost = why
+not_loaded format before after faults_before faults_after trace.InputTooLong why lost = (refused_all format before after faults_before faults_after trace.InputTooLong why, lost)
+not_loaded format before after faults_before faults_after trace.TooManyRequests why lost = (refused_all format before after faults_before faults_after trace.TooManyRequests why, lost)
+not_loaded format before after faults_before faults_after trace.NoMemory why lost = tt
 
 -- ---- bounds
 

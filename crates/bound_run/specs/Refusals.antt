@@ -4,6 +4,7 @@ use Rattle.bound_io.specs.Devices.{Device, HasFailed}
 use Rattle.trace_any.specs.declared.fault.TraceFault.{TraceFault as FaultOfTrace}
 use Rattle.trace_any.specs.declared.fault.TraceFault.TheVariants as trace
 use Rattle.trace_any.specs.declared.format.Format.{Format}
+use Rattle.trace_any.specs.FirstLines.{HasLostThrough}
 use Rattle.trace_any.specs.Readings.{full_limits}
 use Rattle.cert_format.specs.Readings as certificates
 use Rattle.cert_checker.specs.Checks.{IsNearLine, IsOfText}
@@ -34,9 +35,9 @@ RefusesReading Has source refusal.TraceFault = HasFailed source
 RefusesReading Has source refusal.NoMemory = Unit {0}
 RefusesReading Has source other = ⊥
 
--- why the trace of a command that reads nothing else is refused
+-- why the trace of a command that reads nothing else is refused, and that little of it was read beyond what refuses it
 abbrev pub RefusesLoading : Format → Device → Refusal → Type 0
-RefusesLoading format source r = RefusesReading (IsRefused format source) source r
+RefusesLoading format source r = RefusesReading (λ fault. IsRefused format source fault × HasLostThrough format full_limits source fault) source r
 
 -- why no bounds are made: the denominator that is asked for passes its limit, or the trace is refused
 abbrev pub RefusesBounds : Format → BoundSettings → Device → Refusal → Type 0

@@ -1,7 +1,9 @@
-use Rattle.std.proofs.Common.{◌≡◌, ◌∙◌, ap, subst, IfSome, None, Some, []}
+use Rattle.std.proofs.Common.{◌≡◌, ◌∙◌, sym, ap, subst, IfSome, None, Some, []}
 use Rattle.std.proofs.lemmas.Result.{err_from_is_err_and}
+use Rattle.bound_io.specs.Devices.{seen}
+use Rattle.trace_any.specs.FirstLines.{HasLostThrough}
 use Rattle.trace_any.specs.Readings.{full_limits}
-use Rattle.trace_any.specs.Readers.{IsNotLoaded, IsWhole, fresh, known, to_come}
+use Rattle.trace_any.specs.Readers.{IsNotLoaded, IsWhole, Reader, fresh, known, to_come}
 use Rattle.trace_any.proofs.Loads.{loaded_all, nothing_left}
 use Rattle.bound_run.proofs.Outcomes.{not_loaded}
 use Rattle.bound_run.proofs.loading.load_all.Goals as goal
@@ -31,7 +33,9 @@ returns-in-Err-clause-refused g c =
     let new : reader ≡ fresh c.args.format full_limits = c.in_ok-reader.ensures ∙ ap (fresh c.args.format) c.full.ensures in
     let none : reader.fault ≡ None = ap (λ r. r.fault) new in
     let why = subst (λ r. IsNotLoaded r (known r (g.T.Source.left c.args.trace.now)) (g.T.Source.faults c.args.trace.now) (g.T.Source.faults c.load-read.new.source) c.in-Err.fault) new (rw c.in-Err.is at (c.load-read.ensures.refused none)) in
-    rw c.refusal_of.ensures (not_loaded c.args.format (g.T.Source.left c.args.trace.now) (g.T.Source.left c.load-read.new.source) _ _ c.in-Err.fault why)
+    let begins : reader ≡ fresh reader.format reader.limits = new ∙ ap (λ (r : Reader). fresh r.format r.limits) (sym new) in
+    let lost = subst (λ (r : Reader). HasLostThrough r.format r.limits (seen g.T.Source.left g.T.Source.faults c.args.trace.now c.load-read.new.source) c.in-Err.fault) new (rw c.in-Err.is at (c.load-read.ensures.lost begins)) in
+    rw c.refusal_of.ensures (not_loaded c.args.format (g.T.Source.left c.args.trace.now) (g.T.Source.left c.load-read.new.source) _ _ c.in-Err.fault why lost)
 
 pub returns-in-Err-clause-source : goal.returns-in-Err-clause-source
 returns-in-Err-clause-source g c = c.load-read.ensures.source
