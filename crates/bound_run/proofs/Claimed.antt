@@ -104,7 +104,7 @@ module _ (format : Format) (asked : JudgeSettings) (source hits report : Device)
   stopped_at fault stops bytes text is_trace is_hits =
       not_stopped format asked bytes text fault
       (subst (λ o. IfSome o (λ t. stop_of (reading format full_limits bytes) (flags_in t) ≡ Some fault)) is_hits
-      (subst (λ o. IfSome o (λ b. IfSome hits.before (λ t. stop_of (reading format full_limits b) (flags_in t) ≡ Some fault))) is_trace stops))
+      (subst (λ o. IfSome o (λ b. IfSome hits.before (λ t. stop_of (reading format full_limits b) (flags_in t) ≡ Some fault))) is_trace stops.both))
 
   free_at : (before left : Option (List ℕ)) → AnswersJudge format asked before left NoMemory
   free_at None left = tt

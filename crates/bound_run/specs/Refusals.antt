@@ -56,7 +56,7 @@ RefusesCheck format source cert (refusal.Invalid line kind) =
 RefusesCheck format source cert refusal.CertFault = HasFailed cert
 RefusesCheck format source cert r = RefusesReading (λ fault. IsFirstEvent format source cert (walk.Refused fault) × IsRefused format source fault) source r
 
--- why claimed hits are refused: what stops the reading of the trace and the flags by turns, beyond which little was read, a failed read of either, or the first cause why the flags are not possible
+-- why claimed hits are refused: what stops the reading of the trace and the flags by turns, as both tell together and each alone, beyond which little was read; a failed read of either; or the first cause why the flags are not possible
 abbrev pub RefusesJudge : Format → JudgeSettings → Device → Device → Refusal → Type 0
 RefusesJudge format asked source hits (refusal.NotFlag line) = IsStop format source hits (flag.NotFlag line) × IsNearTurn format line source hits
 RefusesJudge format asked source hits (refusal.FlagCount flags requests) = IsStop format source hits (flag.Count flags requests) × IsNearTurn format (max flags requests) source hits

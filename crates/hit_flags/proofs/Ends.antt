@@ -1,5 +1,6 @@
 -- How the turns end, from what each of the two has still to give.
-use Rattle.std.proofs.Common.{◌≡◌, ℕ, ◌+◌, ◌∙◌, refl, sym, ap, subst, Bool, List, [], ◌∷◌, ◌++◌, length, map, append_assoc, append-nil, arith, Option, Some, None, IfSome}
+use Rattle.std.proofs.Common.{◌≡◌, ℕ, ◌+◌, ◌∙◌, refl, sym, ap, subst, Bool, List, [], ◌∷◌, ◌++◌, length, length-append, map, min, append_assoc, append-nil, arith, Option, Some, None, IfSome}
+use Rattle.std.proofs.lemmas.List.{length-map}
 use Rattle.bound_io.specs.Devices.{Device}
 use Rattle.bound_io.specs.Lines.{stands_in}
 use Rattle.bound_io.specs.Positions.{Position}
@@ -10,13 +11,15 @@ use Rattle.trace_any.specs.declared.fault.TraceFault.TheVariants as of_trace
 use Rattle.trace_any.specs.declared.format.Format.{Format}
 use Rattle.trace_any.specs.Readings.{Reading, full_limits, reading}
 use Rattle.trace_any.specs.Readers.{Reader, GivesNone, GoesOn, IsOver, IsStopped, bytes_after, fresh, onto, to_come, known as trace_known}
+use Rattle.trace_any.specs.Loads.{IsRefused}
 use Rattle.trace_any.proofs.Coming.{after_all}
 use Rattle.trace_any.proofs.Loads.{from_start}
 use Rattle.hit_flags.specs.declared.fault.FlagFault.{FlagFault}
 use Rattle.hit_flags.specs.declared.fault.FlagFault.TheVariants.{Trace, NotFlag, Count, ReadFault, NoMemory}
-use Rattle.hit_flags.specs.Claims.{AreUnread, IsStop}
-use Rattle.hit_flags.specs.Flags.{by_turns, flags_in, stop_of}
-use Rattle.hit_flags.specs.Lines.{AreShort, Gives, StopsSo}
+use Rattle.hit_flags.specs.Claims.{AreUnread, IsStop, StopsBoth}
+use Rattle.hit_flags.specs.Flags.{by_turns, first_without, flags_in, stop_of}
+use Rattle.hit_flags.specs.Lines.{AreShort, Gives, IsCount, StopsSo}
+use Rattle.hit_flags.proofs.Alone.{first_without-after, turns_counted, turns_without}
 
 -- after as many requests as flags the turns go on with the rest of both
 by_turns-after : (given rest : List Object) (refused : Option TraceFault) (flags : List Bool) (more : List (Option Bool)) (both : ℕ) → length flags ≡ length given
@@ -88,7 +91,7 @@ OneFollows x rest refused = (more : List Object) × (rest ≡ x ∷ more)
 pub stops_both : (format : Format) (trace hits : Device) (given : List Object) (flags : List Bool) (at : Position) (between : Option (List ℕ)) (fault : FlagFault) (P : List Object → Option TraceFault → Type 0)
     → IfSome trace.before (λ bytes. Remains (reading format full_limits bytes) given P) → length flags ≡ length given → IfSome hits.before (λ text. HasFlags flags at text between)
     → ((rest : List Object) (refused : Option TraceFault) → P rest refused → AreShort at → IfSome between (λ text. by_turns rest refused (flags_in text) (length given) ≡ Some fault))
-    → IsStop format trace hits fault
+    → StopsBoth format trace hits fault
 stops_both format trace hits given flags at between fault P remains same flagged stops = by trace.before hits.before remains flagged
   where
     by : (before left : Option (List ℕ)) → IfSome before (λ bytes. Remains (reading format full_limits bytes) given P) → IfSome left (λ text. HasFlags flags at text between)
@@ -98,6 +101,40 @@ stops_both format trace hits given flags at between fault P remains same flagged
     by (Some bytes) (Some text) r f =
         stop_of-after (reading format full_limits bytes) given r.rest r.refused flags (flags_in text) (flags_in f.rest) fault r.requests r.stop f.flags_are same
         (subst (λ o. IfSome o (λ text. by_turns r.rest r.refused (flags_in text) (length given) ≡ Some fault)) f.after_is (stops r.rest r.refused r.is f.short))
+
+-- what the trace alone is refused for
+refused_alone : (format : Format) (trace : Device) (given : List Object) (fault : TraceFault) → IfSome trace.before (λ bytes. Remains (reading format full_limits bytes) given (NoneFollows (Some fault))) → IsRefused format trace fault
+refused_alone format trace given fault remains = by trace.before remains
+  where
+    by : (before : Option (List ℕ)) → IfSome before (λ bytes. Remains (reading format full_limits bytes) given (NoneFollows (Some fault))) → IfSome before (λ bytes. (reading format full_limits bytes).refused ≡ Some fault)
+    by None r = tt
+    by (Some bytes) r = r.stop ∙ r.is.1
+
+-- what the lines that are left are stopped for
+stop_in : (flags : List Bool) (at : Position) (text : List ℕ) (between : Option (List ℕ)) (rest : List Object) (refused : Option TraceFault) (both : ℕ) (fault : FlagFault) (f : HasFlags flags at text between)
+    → (AreShort at → IfSome between (λ bytes. by_turns rest refused (flags_in bytes) both ≡ Some fault)) → by_turns rest refused (flags_in f.rest) both ≡ Some fault
+stop_in flags at text between rest refused both fault f stops = subst (λ (o : Option (List ℕ)). IfSome o (λ bytes. by_turns rest refused (flags_in bytes) both ≡ Some fault)) f.after_is (stops f.short)
+
+-- the first line that has no flag, as the flags alone tell
+line_alone : (flags : List Bool) (at : Position) (left between : Option (List ℕ)) (rest : List Object) (refused : Option TraceFault) (both line : ℕ) → length flags ≡ both → IfSome left (λ text. HasFlags flags at text between)
+    → (AreShort at → IfSome between (λ bytes. by_turns rest refused (flags_in bytes) both ≡ Some (NotFlag line))) → IfSome left (λ text. first_without (flags_in text) 1 ≡ Some line)
+line_alone flags at None between rest refused both line same flagged stops = tt
+line_alone flags at (Some text) between rest refused both line same flagged stops =
+    let next : 1 + length flags ≡ both + 1 = omega (arith, same) in
+    ap (λ lines. first_without lines 1) flagged.flags_are
+    ∙ (first_without-after flags (flags_in flagged.rest) 1
+    ∙ (ap (first_without (flags_in flagged.rest)) next ∙ turns_without rest refused (flags_in flagged.rest) both line (stop_in flags at text between rest refused both (NotFlag line) flagged stops)))
+
+-- how many flags there are, as they alone tell
+count_alone : (flags : List Bool) (at : Position) (left between : Option (List ℕ)) (rest : List Object) (refused : Option TraceFault) (both claimed requests : ℕ) → length flags ≡ both → IfSome left (λ text. HasFlags flags at text between)
+    → (AreShort at → IfSome between (λ bytes. by_turns rest refused (flags_in bytes) both ≡ Some (Count claimed requests))) → IfSome left (λ text. min (length (flags_in text)) (requests + 1) ≡ claimed)
+count_alone flags at None between rest refused both claimed requests same flagged stops = tt
+count_alone flags at (Some text) between rest refused both claimed requests same flagged stops =
+    let given = map (λ (flag : Bool). Some flag) flags in
+    let size : length (flags_in text) ≡ length given + length (flags_in flagged.rest) = ap length flagged.flags_are ∙ length-append given (flags_in flagged.rest) in
+    let had : length given ≡ length flags = length-map flags (λ (flag : Bool). Some flag) in
+    let counted = turns_counted rest refused (flags_in flagged.rest) both claimed requests (stop_in flags at text between rest refused both (Count claimed requests) flagged stops) in
+    omega (arith, size, had, same, counted)
 
 -- what is to come of a reader that has given these
 remains_from : (format : Format) (start now : Reader) (given : Requests) (left between : Option (List ℕ)) (P : List Object → Option TraceFault → Type 0) → start ≡ fresh format full_limits
@@ -142,8 +179,12 @@ pub trace_unread : (format : Format) (trace hits : Device) (start now later : Re
 trace_unread format trace hits start now later given flags at between left fault new goes_on same flagged why = by fault why
   where
     stops : (fault : TraceFault) → IfSome between (λ bytes. IsOver (to_come now bytes) later.dropped (Some fault)) → IsStop format trace hits (Trace fault)
-    stops fault over = stops_both format trace hits given.objects flags at left (Trace fault) (NoneFollows (Some fault)) (none_follows format start now given trace.before between later.dropped (Some fault) new goes_on over) same flagged
-        (λ rest refused none short. rw (none.0, none.1) (all left))
+    stops fault over =
+        let none = none_follows format start now given trace.before between later.dropped (Some fault) new goes_on over in
+        record {
+          both = stops_both format trace hits given.objects flags at left (Trace fault) (NoneFollows (Some fault)) none same flagged (λ rest refused stop short. rw (stop.0, stop.1) (all left));
+          alone = refused_alone format trace given.objects fault none;
+        }
       where
         all : (l : Option (List ℕ)) → IfSome l (λ text. by_turns [] (Some fault) (flags_in text) (length given.objects) ≡ Some (Trace fault))
         all None = tt
@@ -162,16 +203,53 @@ pub record Follows (P : List Object → Option TraceFault → Type 0) : Type 0 w
   pub refused : Option TraceFault
   pub is : P rest refused
 
+-- how many requests there are, as the trace alone tells
+abbrev pub AsksSo : Format → Device → FlagFault → Type 0
+AsksSo format trace (Count flags requests) = IfSome trace.before (λ bytes. min (length (reading format full_limits bytes).requests) (flags + 1) ≡ requests)
+AsksSo format trace other = Unit {0}
+
+asks_one : (format : Format) (trace : Device) (given : List Object) (x : Object) (line : ℕ) (fault : FlagFault) → IfSome trace.before (λ bytes. Remains (reading format full_limits bytes) given (OneFollows x)) → line ≡ length given → IsCount line (line + 1) fault → AsksSo format trace fault
+asks_one format trace given x line (Count flags requests) remains same counts = by trace.before remains
+  where
+    by : (before : Option (List ℕ)) → IfSome before (λ bytes. Remains (reading format full_limits bytes) given (OneFollows x)) → IfSome before (λ bytes. min (length (reading format full_limits bytes).requests) (flags + 1) ≡ requests)
+    by None r = tt
+    by (Some bytes) r =
+        let all : length (reading format full_limits bytes).requests ≡ length given + length r.rest = ap length r.requests ∙ length-append given r.rest in
+        omega (arith, all, ap length r.is.1, same, counts.0, counts.1)
+asks_one format trace given x line (Trace fault) remains same counts = tt
+asks_one format trace given x line (NotFlag bad) remains same counts = tt
+asks_one format trace given x line ReadFault remains same counts = tt
+asks_one format trace given x line NoMemory remains same counts = tt
+
+asks_none : (format : Format) (trace : Device) (given : List Object) (line : ℕ) (fault : FlagFault) → IfSome trace.before (λ bytes. Remains (reading format full_limits bytes) given (NoneFollows None)) → line ≡ length given → IsCount (line + 1) line fault → AsksSo format trace fault
+asks_none format trace given line (Count flags requests) remains same counts = by trace.before remains
+  where
+    by : (before : Option (List ℕ)) → IfSome before (λ bytes. Remains (reading format full_limits bytes) given (NoneFollows None)) → IfSome before (λ bytes. min (length (reading format full_limits bytes).requests) (flags + 1) ≡ requests)
+    by None r = tt
+    by (Some bytes) r =
+        let all : length (reading format full_limits bytes).requests ≡ length given + length r.rest = ap length r.requests ∙ length-append given r.rest in
+        omega (arith, all, ap length r.is.0, same, counts.0, counts.1)
+asks_none format trace given line (Trace fault) remains same counts = tt
+asks_none format trace given line (NotFlag bad) remains same counts = tt
+asks_none format trace given line ReadFault remains same counts = tt
+asks_none format trace given line NoMemory remains same counts = tt
+
 -- the flags stop the turns, or a read of them fails
 pub flags_unread : (format : Format) (trace hits : Device) (given : List Object) (flags : List Bool) (at : Position) (between : Option (List ℕ)) (fault : FlagFault) (P : List Object → Option TraceFault → Type 0)
     → IfSome trace.before (λ bytes. Remains (reading format full_limits bytes) given P) → length flags ≡ length given → IfSome hits.before (λ text. HasFlags flags at text between)
     → ((rest : List Object) (refused : Option TraceFault) → P rest refused → StopsSo (λ lines. by_turns rest refused lines (length given)) at between hits.faults_before hits.faults_after fault)
-    → Follows P → AreUnread format trace hits fault
-flags_unread format trace hits given flags at between (Trace fault) P remains same flagged stops some = absurd (stops some.rest some.refused some.is)
-flags_unread format trace hits given flags at between (NotFlag line) P remains same flagged stops some = stops_both format trace hits given flags at between (NotFlag line) P remains same flagged stops
-flags_unread format trace hits given flags at between (Count claimed requests) P remains same flagged stops some = stops_both format trace hits given flags at between (Count claimed requests) P remains same flagged stops
-flags_unread format trace hits given flags at between ReadFault P remains same flagged stops some = stops some.rest some.refused some.is
-flags_unread format trace hits given flags at between NoMemory P remains same flagged stops some = absurd (stops some.rest some.refused some.is)
+    → Follows P → AsksSo format trace fault → AreUnread format trace hits fault
+flags_unread format trace hits given flags at between (Trace fault) P remains same flagged stops some asks = absurd (stops some.rest some.refused some.is)
+flags_unread format trace hits given flags at between (NotFlag line) P remains same flagged stops some asks = record {
+  both = stops_both format trace hits given flags at between (NotFlag line) P remains same flagged stops;
+  alone = line_alone flags at hits.before between some.rest some.refused (length given) line same flagged (stops some.rest some.refused some.is);
+}
+flags_unread format trace hits given flags at between (Count claimed requests) P remains same flagged stops some asks = record {
+  both = stops_both format trace hits given flags at between (Count claimed requests) P remains same flagged stops;
+  alone = (count_alone flags at hits.before between some.rest some.refused (length given) claimed requests same flagged (stops some.rest some.refused some.is), asks);
+}
+flags_unread format trace hits given flags at between ReadFault P remains same flagged stops some asks = stops some.rest some.refused some.is
+flags_unread format trace hits given flags at between NoMemory P remains same flagged stops some asks = absurd (stops some.rest some.refused some.is)
 
 -- both have ended
 pub all_flags : (flags : List Bool) (at : Position) (start between later : Option (List ℕ)) → IfSome start (λ text. HasFlags flags at text between) → IfSome between (λ text. (text ≡ []) × (later ≡ Some []))
@@ -186,26 +264,28 @@ pub flag_unread : (format : Format) (trace hits : Device) (given : List Object) 
     → IfSome trace.before (λ bytes. Remains (reading format full_limits bytes) given (OneFollows x)) → length flags ≡ length given → IfSome hits.before (λ text. HasFlags flags at text between)
     → at.line ≡ length given → faults_between ≡ hits.faults_before
     → ((y : Object) (requests : List Object) (refused : Option TraceFault) → StopsSo (λ lines. by_turns (y ∷ requests) refused lines at.line) at between faults_between hits.faults_after fault)
-    → AreUnread format trace hits fault
-flag_unread format trace hits given flags at between x faults_between fault remains same flagged line faults stopped =
+    → IsCount at.line (at.line + 1) fault → AreUnread format trace hits fault
+flag_unread format trace hits given flags at between x faults_between fault remains same flagged line faults stopped counts =
     flags_unread format trace hits given flags at between fault (OneFollows x) remains same flagged
     (λ rest refused one. subst (λ (r : List Object). StopsSo (λ lines. by_turns r refused lines (length given)) at between hits.faults_before hits.faults_after fault) (sym one.1)
     (subst (λ n. StopsSo (λ lines. by_turns (x ∷ one.0) refused lines n) at between hits.faults_before hits.faults_after fault) line
     (subst (λ f. StopsSo (λ lines. by_turns (x ∷ one.0) refused lines at.line) at between f hits.faults_after fault) faults (stopped x one.0 refused))))
     (record { rest = x ∷ []; refused = None; is = ([], refl) })
+    (asks_one format trace given x at.line fault remains line counts)
 
 -- a line after the flags of all requests stops the turns
 pub more_unread : (format : Format) (trace hits : Device) (given : List Object) (flags : List Bool) (at : Position) (between : Option (List ℕ)) (faults_between : ℕ) (fault : FlagFault)
     → IfSome trace.before (λ bytes. Remains (reading format full_limits bytes) given (NoneFollows None)) → length flags ≡ length given → IfSome hits.before (λ text. HasFlags flags at text between)
     → at.line ≡ length given → faults_between ≡ hits.faults_before
-    → StopsSo (λ lines. by_turns [] None lines at.line) at between faults_between hits.faults_after fault → AreUnread format trace hits fault
-more_unread format trace hits given flags at between faults_between fault remains same flagged line faults stopped =
+    → StopsSo (λ lines. by_turns [] None lines at.line) at between faults_between hits.faults_after fault → IsCount (at.line + 1) at.line fault → AreUnread format trace hits fault
+more_unread format trace hits given flags at between faults_between fault remains same flagged line faults stopped counts =
     flags_unread format trace hits given flags at between fault (NoneFollows None) remains same flagged
     (λ rest refused none. subst (λ (r : List Object). StopsSo (λ lines. by_turns r refused lines (length given)) at between hits.faults_before hits.faults_after fault) (sym none.0)
     (subst (λ (f : Option TraceFault). StopsSo (λ lines. by_turns [] f lines (length given)) at between hits.faults_before hits.faults_after fault) (sym none.1)
     (subst (λ n. StopsSo (λ lines. by_turns [] None lines n) at between hits.faults_before hits.faults_after fault) line
     (subst (λ f. StopsSo (λ lines. by_turns [] None lines at.line) at between f hits.faults_after fault) faults stopped))))
     (record { rest = []; refused = None; is = (refl, refl) })
+    (asks_none format trace given at.line fault remains line counts)
 
 -- no request is left to come at the end
 pub over_at_end : (now later : Reader) (between after : Option (List ℕ)) → IfSome between (λ bytes. GivesNone now later bytes after) → IfSome between (λ bytes. IsOver (to_come now bytes) later.dropped None)

@@ -1,3 +1,4 @@
+pub mod Alone
 pub mod FlagLines
 pub mod Ends
 pub mod Near

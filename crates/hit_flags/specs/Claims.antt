@@ -1,16 +1,16 @@
 -- What comes of reading a trace and the flags beside it.
-use Rattle.std.specs.Prelude.{◌≡◌, ◌⊎◌, ℕ, Bool, List, [], length, map, Some, IfSome}
+use Rattle.std.specs.Prelude.{◌≡◌, ◌⊎◌, ℕ, ◌+◌, min, Bool, List, [], length, map, Some, IfSome}
 use Rattle.bit_list.specs.Bits.{bits_of}
 use Rattle.bound_io.specs.Devices.{Device, HasFailed}
 use Rattle.cache_rules.specs.Stored.{Requests}
 use Rattle.trace_any.specs.declared.fault.TraceFault.TheVariants as of_trace
 use Rattle.trace_any.specs.declared.format.Format.{Format}
 use Rattle.trace_any.specs.Readings.{reading, full_limits}
-use Rattle.trace_any.specs.Loads.{IsLoaded}
+use Rattle.trace_any.specs.Loads.{IsLoaded, IsRefused}
 use Rattle.hit_flags.specs.declared.claims.Claims.{Claims}
 use Rattle.hit_flags.specs.declared.fault.FlagFault.{FlagFault}
 use Rattle.hit_flags.specs.declared.fault.FlagFault.TheVariants.{Trace, NotFlag, Count, ReadFault, NoMemory}
-use Rattle.hit_flags.specs.Flags.{flags_in, stop_of}
+use Rattle.hit_flags.specs.Flags.{first_without, flags_in, stop_of}
 
 -- the bytes are known and were read to their end, and each line of them has the flag of a request
 pub record AreFlags (hits : Device) (flags : List Bool) : Type 0 where
@@ -27,10 +27,24 @@ pub record AreRead (format : Format) (trace hits : Device) (requests : Requests)
 abbrev pub ReadsClaims : Format → Device → Device → Claims → Type 0
 ReadsClaims format trace hits c = AreRead format trace hits c.trace c.dropped (bits_of c.flags)
 
--- this stops the reading of all that the two sources had left, if the bytes of both are known
-abbrev pub IsStop : Format → Device → Device → FlagFault → Type 0
-IsStop format trace hits fault =
+-- it stops the reading by turns of all that the two sources had left, if the bytes of both are known
+abbrev pub StopsBoth : Format → Device → Device → FlagFault → Type 0
+StopsBoth format trace hits fault =
     IfSome trace.before (λ bytes. IfSome hits.before (λ text. stop_of (reading format full_limits bytes) (flags_in text) ≡ Some fault))
+
+-- what each of the two tells alone of what stops the reading, if its bytes are known: the trace that it is refused so, the flags their first line without one, and both how many they have, up to one more than the other
+abbrev pub IsTold : Format → Device → Device → FlagFault → Type 0
+IsTold format trace hits (Trace fault) = IsRefused format trace fault
+IsTold format trace hits (NotFlag line) = IfSome hits.before (λ text. first_without (flags_in text) 1 ≡ Some line)
+IsTold format trace hits (Count flags requests) =
+    IfSome hits.before (λ text. min (length (flags_in text)) (requests + 1) ≡ flags) × IfSome trace.before (λ bytes. min (length (reading format full_limits bytes).requests) (flags + 1) ≡ requests)
+IsTold format trace hits ReadFault = Unit {0}
+IsTold format trace hits NoMemory = Unit {0}
+
+-- this stops the reading of all that the two sources had left, as they tell together, and each alone
+pub record IsStop (format : Format) (trace hits : Device) (fault : FlagFault) : Type 0 where
+  pub both : StopsBoth format trace hits fault
+  pub alone : IsTold format trace hits fault
 
 -- why no claims are read: this stops the reading, or a source has a new fault; running out of memory is free
 abbrev pub AreUnread : Format → Device → Device → FlagFault → Type 0

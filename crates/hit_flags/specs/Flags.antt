@@ -17,6 +17,12 @@ flag_of (byte ∷ next ∷ more) = None
 abbrev pub flags_in : List ℕ → List (Option Bool)
 flags_in bytes = map (λ line. flag_of line.0) (lines_of bytes)
 
+-- the number of the first line without a flag, if there is one and this is the number of the first line
+abbrev pub first_without : List (Option Bool) → ℕ → Option ℕ
+first_without [] line = None
+first_without (None ∷ more) line = Some line
+first_without (Some flag ∷ more) line = first_without more (line + 1)
+
 -- what stops the reading of requests and flags by turns, a request first, after this many of both
 abbrev pub by_turns : List Object → Option TraceFault → List (Option Bool) → ℕ → Option FlagFault
 by_turns [] (Some fault) flags both = Some (Trace fault)

@@ -60,6 +60,11 @@ NextFlag old new before after faults_before faults_after (Err NoMemory) = ⊥
 abbrev pub ReadsFlag : Position → Position → Device → Result (Option Bool) FlagFault → Type 0
 ReadsFlag old new hits result = NextFlag old new (known old hits.before) (known new hits.after) hits.faults_before hits.faults_after result
 
+-- if it counts flags and requests, it is these numbers of them
+abbrev pub IsCount : ℕ → ℕ → FlagFault → Type 0
+IsCount had asked (Count flags requests) = (flags ≡ had) × (requests ≡ asked)
+IsCount had asked other = Unit {0}
+
 -- why a reading of flags stops, if this is what stops it, from the flags that are left: so, if the bytes are known and the lines were short; and a failed read only with a new fault
 abbrev pub StopsSo : (List (Option Bool) → Option FlagFault) → Position → Option (List ℕ) → ℕ → ℕ → FlagFault → Type 0
 StopsSo stop old before faults_before faults_after (NotFlag line) = AreShort old → IfSome before (λ bytes. stop (flags_in bytes) ≡ Some (NotFlag line))

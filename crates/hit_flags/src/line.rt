@@ -3,7 +3,7 @@ ghost use Rattle.std.specs.Prelude.{◌≡◌, ◌+◌, ◌≤◌, ◌^◌, ◌�
 ghost use Rattle.bound_io.specs.Devices.{seen};
 ghost use Rattle.bound_io.specs.Reading.{LosesPrefix};
 ghost use Rattle.hit_flags.specs.Flags.{flag_of};
-ghost use Rattle.hit_flags.specs.Lines.{GivesFlag, IsAtItsEnd, IsGoing, IsNextLine, ReadsFlag, StopsEnd, StopsTurn};
+ghost use Rattle.hit_flags.specs.Lines.{GivesFlag, IsAtItsEnd, IsCount, IsGoing, IsNextLine, ReadsFlag, StopsEnd, StopsTurn};
 ghost use Rattle.hit_flags.specs.Nearness.{GoesLine, IsAtTurn};
 
 use crate::fault::FlagFault;
@@ -56,6 +56,7 @@ pub(crate) fn flag_for<H: Source>(lines: &mut LineReader, hits: &mut H) -> Resul
     ensures given { IfOk result (GivesFlag lines.old lines.new (seen H.left H.faults hits.old hits.new)) }
     ensures line { OnOk result (IsNextLine lines.old lines.new) }
     ensures stopped { IfErr result (StopsTurn lines.old (seen H.left H.faults hits.old hits.new)) }
+    ensures count { IfErr result (IsCount lines.old.line (lines.old.line + 1)) }
     ensures source { LosesPrefix (H.left hits.old) (H.left hits.new) }
     ensures later { H.faults hits.old ≤ H.faults hits.new }
     ensures none_failed { OnOk result (H.faults hits.new ≡ H.faults hits.old) }
@@ -79,6 +80,7 @@ pub(crate) fn no_more<H: Source>(lines: &mut LineReader, hits: &mut H) -> Result
     requires few { lines.old.line ≤ 2 ^ 25 }
     ensures end { OnOk result (IsAtItsEnd lines.old lines.new (seen H.left H.faults hits.old hits.new)) }
     ensures stopped { IfErr result (StopsEnd lines.old (seen H.left H.faults hits.old hits.new)) }
+    ensures count { IfErr result (IsCount (lines.old.line + 1) lines.old.line) }
     ensures source { LosesPrefix (H.left hits.old) (H.left hits.new) }
     ensures later { H.faults hits.old ≤ H.faults hits.new }
     ensures none_failed { OnOk result (H.faults hits.new ≡ H.faults hits.old) }

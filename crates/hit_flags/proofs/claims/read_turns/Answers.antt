@@ -38,7 +38,7 @@ returns-in_err-flag-clause-unread g c =
     let object = c.in-Some.object in
     let next = rw (c.in-Some.is) at (c.in_ok-object.ensures.next i.fault) in
     let remains = one_follows c.args.reader.now.format c.args.reader.now c.loop-flags.reader c.next.new.self c.loop-flags.requests.requests object (last_mark c.next.new.self) _ _ _ c.requires.reader i.goes_on next.1 in
-    rw (p.1, p.2) (flag_unread c.args.reader.now.format trace hits c.loop-flags.requests.requests.objects (bits_of c.loop-flags.flags) c.loop-flags.lines _ object _ c.in_err-flag.field-0.0 remains i.as_many i.flagged i.line i.hits_faults c.in_err-flag.ensures.stopped)
+    rw (p.1, p.2) (flag_unread c.args.reader.now.format trace hits c.loop-flags.requests.requests.objects (bits_of c.loop-flags.flags) c.loop-flags.lines _ object _ c.in_err-flag.field-0.0 remains i.as_many i.flagged i.line i.hits_faults c.in_err-flag.ensures.stopped c.in_err-flag.ensures.count)
 
 pub returns-in_err-flag-clause-trace_source : goal.returns-in_err-flag-clause-trace_source
 returns-in_err-flag-clause-trace_source g c = loses_then _ _ _ (c.next.ensures.source.0) (c.loop-flags.invariant.trace_source) (c.next.ensures.source.1)
@@ -100,7 +100,7 @@ returns-in_err-no_more-clause-unread g c =
     let hits = seen g.H.Source.left g.H.Source.faults c.args.hits.now c.no_more.new.hits in
     let next = rw (c.in_default.is) at (c.in_ok-object.ensures.next i.fault) in
     let remains = none_follows c.args.reader.now.format c.args.reader.now c.loop-flags.reader c.loop-flags.requests.requests _ _ c.next.new.self.dropped None c.requires.reader i.goes_on (over_at_end c.loop-flags.reader c.next.new.self _ _ next) in
-    rw (p.1, p.2) (more_unread c.args.reader.now.format trace hits c.loop-flags.requests.requests.objects (bits_of c.loop-flags.flags) c.loop-flags.lines _ _ c.in_err-no_more.field-0.0 remains i.as_many i.flagged i.line i.hits_faults c.in_err-no_more.ensures.stopped)
+    rw (p.1, p.2) (more_unread c.args.reader.now.format trace hits c.loop-flags.requests.requests.objects (bits_of c.loop-flags.flags) c.loop-flags.lines _ _ c.in_err-no_more.field-0.0 remains i.as_many i.flagged i.line i.hits_faults c.in_err-no_more.ensures.stopped c.in_err-no_more.ensures.count)
 
 pub returns-in_err-no_more-clause-trace_source : goal.returns-in_err-no_more-clause-trace_source
 returns-in_err-no_more-clause-trace_source g c = loses_then _ _ _ (c.next.ensures.source.0) (c.loop-flags.invariant.trace_source) (c.next.ensures.source.1)
