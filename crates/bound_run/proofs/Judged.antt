@@ -94,13 +94,13 @@ module _ (format : Format) (start end : Inputs) (new : start.reader ≡ fresh fo
         ap (λ n. record { header = kept.verdict.header; objects = n }) (passed.yes.objects ∙ ap (λ (requests : Requests). length (objects_of requests.objects)) (sym has.trace)),
       )
 
-  -- and a no is the first event of the walk over it, with little read beyond its line
+  -- and a no is the first event of the walk over it, with little read beyond its line, or what refuses the trace
   pub refused : (fault : CheckFault) → IsEvent start end fault → IsNear start end fault
       → RefusesCheck format (device start.trace end.trace start.trace_faults end.trace_faults) (device start.certificate end.certificate start.certificate_faults end.certificate_faults) (refusal_of_check fault)
   refused (check.Invalid line kind) e near = (rw (same_format, same_limits) at e.0, e.1, rw (same_format, same_limits) at near)
-  refused (check.Trace (trace.BadLine line kind)) e near = rw (same_format, same_limits) at e
-  refused (check.Trace trace.InputTooLong) e near = rw (same_format, same_limits) at e
-  refused (check.Trace trace.TooManyRequests) e near = rw (same_format, same_limits) at e
+  refused (check.Trace (trace.BadLine line kind)) e near = (rw (same_format, same_limits) at e.0, rw (same_format, same_limits) at e.1, rw (same_format, same_limits) at near)
+  refused (check.Trace trace.InputTooLong) e near = (rw (same_format, same_limits) at e.0, rw (same_format, same_limits) at e.1, rw (same_format, same_limits) at near)
+  refused (check.Trace trace.TooManyRequests) e near = (rw (same_format, same_limits) at e.0, rw (same_format, same_limits) at e.1, rw (same_format, same_limits) at near)
   refused (check.Trace trace.ReadFault) e near = e
   refused (check.Trace trace.NoMemory) e near = absurd e
   refused check.CertReadFault e near = e

@@ -49,12 +49,12 @@ abbrev pub RefusesCurve : Format → Device → Refusal → Type 0
 RefusesCurve format source (refusal.Unequal first other) = IsUnequal format source first other
 RefusesCurve format source r = RefusesLoading format source r
 
--- why a certificate is not accepted: the first event of the walk over both inputs, which its own input tells alone if that decides it, and little was read beyond a line that fails; or a failed read of the certificate
+-- why a certificate is not accepted: the first event of the walk over both inputs, which its own input tells alone if that decides it, and little was read beyond a line that fails or what refuses the trace; or a failed read of the certificate
 abbrev pub RefusesCheck : Format → Device → Device → Refusal → Type 0
 RefusesCheck format source cert (refusal.Invalid line kind) =
     IsFirstEvent format source cert (walk.Invalid line kind) × IsOfText cert.before line kind × IsNearLine format full_limits line source cert
 RefusesCheck format source cert refusal.CertFault = HasFailed cert
-RefusesCheck format source cert r = RefusesReading (λ fault. IsFirstEvent format source cert (walk.Refused fault) × IsRefused format source fault) source r
+RefusesCheck format source cert r = RefusesReading (λ fault. IsFirstEvent format source cert (walk.Refused fault) × IsRefused format source fault × HasLostThrough format full_limits source fault) source r
 
 -- why claimed hits are refused: what stops the reading of the trace and the flags by turns, as both tell together and each alone, beyond which little was read; a failed read of either; or the first cause why the flags are not possible
 abbrev pub RefusesJudge : Format → JudgeSettings → Device → Device → Refusal → Type 0

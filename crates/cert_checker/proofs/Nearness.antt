@@ -25,7 +25,7 @@ near_stop start end (fault.Invalid line kind) first taken near = record {
   certificate = lost_taken start.certificate end.certificate start.cert.lines end.cert.lines line (ap (λ (r : Reader). r.lines.consumed) first) (ap (λ (r : Reader). r.lines.held) first) taken near.0;
   requests = near.1;
 }
-near_stop start end (fault.Trace why) first taken near = tt
+near_stop start end (fault.Trace why) first taken near = near
 near_stop start end fault.CertReadFault first taken near = tt
 near_stop start end fault.NoMemory first taken near = tt
 

@@ -16,8 +16,10 @@ use Rattle.trace_any.specs.Readings.{is_marked, marks_of}
 use Rattle.trace_any.proofs.Marks.{HasMarks, reading-marks}
 use Rattle.trace_any.specs.Readers as requests
 use Rattle.trace_any.specs.Readers.{IsWhole, bytes_after, last_mark}
-use Rattle.trace_any.specs.FirstLines.{GoesNoFurther, HasGiven, HasLostFor}
+use Rattle.trace_any.specs.FirstLines.{GoesNoFurther, HasGiven, HasLostFor, HasLostThrough, IsNotPast, StandsAfter, StopsNoFurther}
 use Rattle.trace_any.proofs.Coming.{past_both}
+use Rattle.trace_any.proofs.Lost.{lost_after}
+use Rattle.trace_any.proofs.Stopping.{stands_then}
 use Rattle.trace_any.proofs.Through.{given_next, lost_for}
 use Rattle.cert_format.specs.declared.fault.CertFault.{CertFault}
 use Rattle.cert_format.specs.declared.fault.CertFault.TheVariants as text
@@ -32,7 +34,7 @@ use Rattle.cert_format.proofs.Chains.{after_lines-add, bytes_through-add}
 use Rattle.cert_format.proofs.Taken.{at_some, if_known}
 use Rattle.cert_checker.specs.declared.walking.CheckFault.{CheckFault}
 use Rattle.cert_checker.specs.declared.walking.CheckFault.TheVariants as fault
-use Rattle.cert_checker.specs.Checks.{Inputs, HasChecked, HasCheckedAll, HasAsked, HasRecords, EndsSo, IsFailing, IsFresh, IsCalm, IsOfText, IsStop, IsWalked, StandsForAll, AreMarked, fault_at, after_records, of_text, of_trace, taken}
+use Rattle.cert_checker.specs.Checks.{Inputs, HasChecked, HasCheckedAll, HasAsked, HasRecords, EndsSo, IsFailing, IsFresh, IsCalm, IsOfText, IsStop, IsWalked, StandsForAll, AreMarked, fault_at, after_records, of_text, of_trace, taken, trace_source}
 use Rattle.cert_checker.specs.Summaries.{Summary}
 use Rattle.cert_checker.specs.Walks.{Event, Invalid, Refused, asked, text_event, text_kind, walk}
 use Rattle.cert_checker.proofs.OfText.{of_record}
@@ -170,13 +172,35 @@ module _ (start : Inputs) (h : Header) (given : Requests) (records : List Record
   refused_so why dropped over =
       if_one start.trace _ _ checked.trace_read (λ b p. ap (λ r. r.refused) p.reading ∙ (at_some (requests.known now.reader now.trace) _ _ p.stands_in over).stop)
 
+  -- little is lost beyond what refuses the trace
+  lost_through : (end : Inputs) (why : TraceFault) → IsNotPast end.reader why → IfSome (requests.known now.reader now.trace) (λ bytes. StandsAfter now.reader end.reader bytes (requests.known end.reader end.trace))
+      → length end.reader.lines.held ≤ 65536 → HasLostThrough start.reader.format start.reader.limits (trace_source start end) why
+  lost_through end why not_past stands held =
+      if_one start.trace _ _ checked.trace_read (λ b p.
+      lost_after start.reader.format start.reader.limits start.reader end.reader why p.begins held not_past b end.trace
+      (stands_then (requests.after given.objects given.fills) start.reader now.reader end.reader (Some b) (requests.known now.reader now.trace) (requests.known end.reader end.trace) (λ s. (refl, refl, refl))
+      (p.stands_in ∙ ap (λ rest. Some rest) p.rest_is) p.gone.through stands))
+
   -- the next request is not given
-  pub stop_trace : (end : Inputs) (why : TraceFault) → requests.IsStopped now.reader end.reader (requests.known now.reader now.trace) now.trace_faults end.trace_faults why → IsStop start end (of_trace why)
-  stop_trace end (refusal.BadLine line kind) stopped = record { event = (refused_event (refusal.BadLine line kind) end.reader.dropped stopped, refused_so (refusal.BadLine line kind) end.reader.dropped stopped); near = tt }
-  stop_trace end refusal.ReadFault stopped = record { event = new_fault_since start.trace_faults now.trace_faults end.trace_faults (omega (arith, checked.calm.trace)) stopped; near = tt }
-  stop_trace end refusal.InputTooLong stopped = record { event = (refused_event refusal.InputTooLong end.reader.dropped stopped, refused_so refusal.InputTooLong end.reader.dropped stopped); near = tt }
-  stop_trace end refusal.TooManyRequests stopped = record { event = (refused_event refusal.TooManyRequests end.reader.dropped stopped, refused_so refusal.TooManyRequests end.reader.dropped stopped); near = tt }
-  stop_trace end refusal.NoMemory stopped = record { event = tt; near = tt }
+  pub stop_trace : (end : Inputs) (why : TraceFault) → requests.IsStopped now.reader end.reader (requests.known now.reader now.trace) now.trace_faults end.trace_faults why
+      → StopsNoFurther now.reader end.reader (trace_source now end) why → length end.reader.lines.held ≤ 65536 → IsStop start end (of_trace why)
+  stop_trace end (refusal.BadLine line kind) stopped stops held = record {
+    event = (refused_event (refusal.BadLine line kind) end.reader.dropped stopped, refused_so (refusal.BadLine line kind) end.reader.dropped stopped);
+    near = lost_through end (refusal.BadLine line kind) stops.0 stops.1 held;
+  }
+  stop_trace end refusal.ReadFault stopped stops held = record {
+    event = new_fault_since start.trace_faults now.trace_faults end.trace_faults (omega (arith, checked.calm.trace)) stopped;
+    near = lost_through end refusal.ReadFault stops.0 stops.1 held;
+  }
+  stop_trace end refusal.InputTooLong stopped stops held = record {
+    event = (refused_event refusal.InputTooLong end.reader.dropped stopped, refused_so refusal.InputTooLong end.reader.dropped stopped);
+    near = lost_through end refusal.InputTooLong stops.0 stops.1 held;
+  }
+  stop_trace end refusal.TooManyRequests stopped stops held = record {
+    event = (refused_event refusal.TooManyRequests end.reader.dropped stopped, refused_so refusal.TooManyRequests end.reader.dropped stopped);
+    near = lost_through end refusal.TooManyRequests stops.0 stops.1 held;
+  }
+  stop_trace end refusal.NoMemory stopped stops held = record { event = tt; near = tt }
 
   -- no request is left
   pub end_trace : (end : Inputs) → requests.NextRequest now.reader end.reader (requests.known now.reader now.trace) (requests.known end.reader end.trace) now.trace_faults end.trace_faults (Ok None)

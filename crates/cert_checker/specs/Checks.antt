@@ -14,7 +14,7 @@ use Rattle.trace_any.specs.declared.format.Format.{Format}
 use Rattle.trace_any.specs.declared.format.Limits.{Limits}
 use Rattle.trace_any.specs.Readings as traces
 use Rattle.trace_any.specs.Readings.{is_marked}
-use Rattle.trace_any.specs.FirstLines.{HasGiven, HasLostFor}
+use Rattle.trace_any.specs.FirstLines.{HasGiven, HasLostFor, HasLostThrough}
 use Rattle.trace_any.specs.Readers.{IsWhole, after, bytes_after, last_mark}
 use Rattle.trace_any.specs.Readers as requests
 use Rattle.cert_format.specs.declared.fault.CertFault.{CertFault}
@@ -166,10 +166,10 @@ trace_source start end = device start.trace end.trace start.trace_faults end.tra
 abbrev pub cert_source : Inputs → Inputs → Device
 cert_source start end = device start.certificate end.certificate start.certificate_faults end.certificate_faults
 
--- if the certificate fails at a line, the sources have lost little beyond it
+-- if the certificate fails at a line, the sources have lost little beyond it; if the trace is refused, its source has lost little beyond what refuses it
 abbrev pub IsNear : Inputs → Inputs → CheckFault → Type 0
 IsNear start end (fault.Invalid line kind) = IsNearLine start.reader.format start.reader.limits line (trace_source start end) (cert_source start end)
-IsNear start end (fault.Trace why) = Unit {0}
+IsNear start end (fault.Trace why) = HasLostThrough start.reader.format start.reader.limits (trace_source start end) why
 IsNear start end fault.CertReadFault = Unit {0}
 IsNear start end fault.NoMemory = Unit {0}
 
@@ -270,10 +270,10 @@ IsTakenTo line start end = IfSome start.certificate (λ text. taken end.cert ≤
 abbrev pub HasAsked : Inputs → Inputs → Type 0
 HasAsked start end = HasLostAsked start.reader.format start.reader.limits start.trace end.trace start.certificate
 
--- what was taken of the certificate, and lost of the trace, if the certificate fails at a line
+-- what was taken of the certificate, and lost of the trace, if the certificate fails at a line; and lost of the trace, if it is refused
 abbrev pub IsSparing : Inputs → Inputs → CheckFault → Type 0
 IsSparing start end (fault.Invalid line kind) = IsTakenTo line start end × HasAsked start end
-IsSparing start end (fault.Trace why) = Unit {0}
+IsSparing start end (fault.Trace why) = HasLostThrough start.reader.format start.reader.limits (trace_source start end) why
 IsSparing start end fault.CertReadFault = Unit {0}
 IsSparing start end fault.NoMemory = Unit {0}
 

@@ -22,7 +22,8 @@ returns-in_err-object-clause-checked g c =
     let now : Inputs = seen_inputs g.T.Source.left g.T.Source.faults g.Q.Source.left g.Q.Source.faults c.args.reader.now c.args.trace.now c.args.cert.now c.args.certificate.now in
     let end : Inputs = seen_inputs g.T.Source.left g.T.Source.faults g.Q.Source.left g.Q.Source.faults c.next.new.self c.next.new.source c.args.cert.now c.args.certificate.now in
     let p = err_from_is_err_and c.from_residual.result c.from_residual.ensures.1 in
-    rw (p.1, p.2) (λ start h given records checked. stop_trace start h given records now c.args.checker.now checked end c.in_err-object.field-0.0 (c.in_err-object.ensures.next c.requires.in_step.trace_fault))
+    rw (p.1, p.2) (λ start h given records checked. stop_trace start h given records now c.args.checker.now checked end c.in_err-object.field-0.0 (c.in_err-object.ensures.next c.requires.in_step.trace_fault)
+    (c.in_err-object.ensures.no_further c.requires.in_step.trace_fault) c.next.ensures.ahead)
 
 pub returns-in_default-clause-checked : goal.returns-in_default-clause-checked
 returns-in_default-clause-checked g c = λ start h given records checked.
