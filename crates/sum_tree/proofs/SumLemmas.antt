@@ -24,7 +24,7 @@ pub record IsCounted (places from to : ℕ) (sums : List ℕ) (low high sum : �
   pub so_far : sum + sum_from sums low (high - low) ≡ sum_from sums (places + from) (to - from)
 
 -- the children's sums are those of their parents
-sum_from-children : (greatest places : ℕ) (sums : List ℕ) (a n : ℕ) → IsTree greatest places sums → 1 ≤ a → a + n ≤ places → sum_from sums (2 * a) (2 * n) ≡ sum_from sums a n
+pub sum_from-children : (greatest places : ℕ) (sums : List ℕ) (a n : ℕ) → IsTree greatest places sums → 1 ≤ a → a + n ≤ places → sum_from sums (2 * a) (2 * n) ≡ sum_from sums a n
 sum_from-children greatest places sums a zero tree low high = refl
 sum_from-children greatest places sums a (suc n) tree low high =
     let two : 2 * suc n ≡ suc (suc (2 * n)) = omega arith in

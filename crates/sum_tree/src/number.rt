@@ -1,5 +1,5 @@
 //! The numbers that a tree sums.
-ghost use Rattle.std.specs.Prelude.{◌≡◌, ℕ, ◌+◌, ◌*◌, ◌<◌, ◌^◌};
+ghost use Rattle.std.specs.Prelude.{◌≡◌, ◌↔◌, ℕ, ◌+◌, ◌*◌, ◌<◌, ◌^◌, IsTrue};
 
 /// A type of numbers that can hold every sum of a tree over fewer than 2^32 places.
 pub trait SumNumber: Copy {
@@ -15,6 +15,10 @@ pub trait SumNumber: Copy {
     /// 0.
     fn zero() -> Self
         ensures { value result ≡ 0 };
+
+    /// Whether both are the same number.
+    fn equals(self, other: Self) -> bool
+        ensures { IsTrue result ↔ (value self ≡ value other) };
 
     /// The sum of both.
     fn plus(self, other: Self) -> Self
@@ -41,6 +45,11 @@ impl SumNumber for u32 {
     }
 
     #[inline]
+    fn equals(self, other: u32) -> bool {
+        self == other
+    }
+
+    #[inline]
     fn plus(self, other: u32) -> u32 {
         self + other
     }
@@ -61,6 +70,11 @@ impl SumNumber for u128 {
     #[inline]
     fn zero() -> u128 {
         0
+    }
+
+    #[inline]
+    fn equals(self, other: u128) -> bool {
+        self == other
     }
 
     #[inline]

@@ -11,7 +11,7 @@ use Rattle.flow_model.specs.declared.arcs.OuterArc.{OuterArc}
 use Rattle.flow_model.specs.Instances.{IsArc, IsInstance, arc_at, no_arc}
 use Rattle.flow_model.specs.Windows.{last_window}
 use Rattle.flow_windows.specs.Cuts.{Cut, cut_of}
-use Rattle.window_arcs.specs.Current.{AreLive, ArePut, IsCurrent, passing_weight}
+use Rattle.window_arcs.specs.Current.{AreLive, ArePut, IsCurrent, passing_mark, passing_weight}
 use Rattle.window_arcs.specs.Events.{numbers_with}
 use Rattle.window_arcs.specs.Passing.{IsOrder, passes, passes_at}
 use Rattle.window_arcs.proofs.EventLemmas.{has_key}
@@ -124,75 +124,68 @@ first_ones width arcs starts none pushed changed some starting_at empty push sam
           passes-first width (arc_at arcs i) some (λ e. other_key starts 0 i (omega (arith, inside, each_start)) (ap (λ xs. has xs i) (sym is) ∙ apart) (start ∙ e));
     }
 
--- at each rank stands the weight of a passing arc, if that was so of each that isn't put
-pub weights_put : (cut : Cut) (order changed old new : List ℕ) (before : ℕ → ℕ) → old ≡ map before order → ArePut cut order changed old new
-    → ((r : ℕ) → r < length order → has changed (get_or order r 0) ≡ false → before (get_or order r 0) ≡ passing_weight cut (get_or order r 0)) → new ≡ map (passing_weight cut) order
-weights_put cut order changed old new before was are kept =
+-- at each rank stands what its arc has, if that was so of each that isn't put
+pub numbers_put : (gets before : ℕ → ℕ) (order changed old new : List ℕ) → old ≡ map before order → ArePut gets order changed old new
+    → ((r : ℕ) → r < length order → has changed (get_or order r 0) ≡ false → before (get_or order r 0) ≡ gets (get_or order r 0)) → new ≡ map gets order
+numbers_put gets before order changed old new was are kept =
     let each_rank : length new ≡ length order = are.each_rank ∙ ap length was ∙ length-map order before in
-    ext_get_or 0 new (map (passing_weight cut) order) (each_rank ∙ sym (length-map order (passing_weight cut)))
+    ext_get_or 0 new (map gets order) (each_rank ∙ sym (length-map order gets))
     (λ r low.
     let within : r < length order = omega (arith, low, each_rank) in
     let x : ℕ = get_or order r 0 in
     are.put r within
-    ∙ ⊎_elim (λ (put : has changed x ≡ true). ap (λ b. cond b (passing_weight cut x) (get_or old r 0)) put)
+    ∙ ⊎_elim (λ (put : has changed x ≡ true). ap (λ b. cond b (gets x) (get_or old r 0)) put)
     (λ (left : has changed x ≡ false).
-    ap (λ b. cond b (passing_weight cut x) (get_or old r 0)) left ∙ ap (λ xs. get_or xs r 0) was ∙ get_or-map before order r 0 0 within ∙ kept r within left)
+    ap (λ b. cond b (gets x) (get_or old r 0)) left ∙ ap (λ xs. get_or xs r 0) was ∙ get_or-map before order r 0 0 within ∙ kept r within left)
     (cases_Bool (has changed x))
-    ∙ sym (get_or-map (passing_weight cut) order r 0 0 within))
+    ∙ sym (get_or-map gets order r 0 0 within))
 
--- what an arc that passes weighs is live, and 0 is not
-weight_yes : (cut : Cut) (i : ℕ) → passing_weight cut i ≢ 0 → passes_at cut i ≡ true
-weight_yes cut i some =
-    ⊎_elim (λ (pass : passes_at cut i ≡ true). pass) (λ (outside : passes_at cut i ≡ false). absurd (some (ap (λ b. cond b (arc_at cut.whole.arcs i).weight 0) outside))) (cases_Bool (passes_at cut i))
+-- an arc with a mark passes, and one that passes has one
+mark_yes : (cut : Cut) (i : ℕ) → passing_mark cut i ≢ 0 → passes_at cut i ≡ true
+mark_yes cut i some =
+    ⊎_elim (λ (pass : passes_at cut i ≡ true). pass) (λ (outside : passes_at cut i ≡ false). absurd (some (ap (λ b. cond b 1 0) outside))) (cases_Bool (passes_at cut i))
 
-weight_some : (cut : Cut) (i : ℕ) → passes_at cut i ≡ true → 0 < (arc_at cut.whole.arcs i).weight → passing_weight cut i ≢ 0
-weight_some cut i pass some none = omega (arith, some, none, ap (λ b. cond b (arc_at cut.whole.arcs i).weight 0) pass)
+mark_some : (cut : Cut) (i : ℕ) → passes_at cut i ≡ true → passing_mark cut i ≢ 0
+mark_some cut i pass none = let one : passing_mark cut i ≡ 1 = ap (λ b. cond b 1 0) pass in omega (arith, none, one)
 
 -- at first all that pass are live
-pub lives_first : (cut : Cut) (order live flows : List ℕ) → live ≡ map (passing_weight cut) order → ((r : ℕ) → r < length order → 0 < (arc_at cut.whole.arcs (get_or order r 0)).weight) → AreLive cut order live flows
-lives_first cut order live flows are some =
-    let each : length live ≡ length order = ap length are ∙ length-map order (passing_weight cut) in
-    let weight : (r : ℕ) → r < length order → get_or live r 0 ≡ passing_weight cut (get_or order r 0) = λ r low. ap (λ xs. get_or xs r 0) are ∙ get_or-map (passing_weight cut) order r 0 0 low in
+lives_first : (cut : Cut) (order live flows : List ℕ) → live ≡ map (passing_mark cut) order → AreLive cut order live flows
+lives_first cut order live flows are =
+    let each : length live ≡ length order = ap length are ∙ length-map order (passing_mark cut) in
+    let mark : (r : ℕ) → r < length order → get_or live r 0 ≡ passing_mark cut (get_or order r 0) = λ r low. ap (λ xs. get_or xs r 0) are ∙ get_or-map (passing_mark cut) order r 0 0 low in
     record {
       each_rank = each;
       passing = λ r alive.
-          ⊎_elim (λ (low : r < length order). weight_yes cut (get_or order r 0) (λ none. alive (weight r low ∙ none)))
+          ⊎_elim (λ (low : r < length order). mark_yes cut (get_or order r 0) (λ none. alive (mark r low ∙ none)))
           (λ (past : length order ≤ r). absurd (alive (get_or_past live r 0 (omega (arith, each, past)))))
           (cases_lt r (length order));
-      empty = λ r low pass none. absurd (weight_some cut (get_or order r 0) pass (some r low) (sym (weight r low) ∙ none));
+      empty = λ r low pass none. absurd (mark_some cut (get_or order r 0) pass (sym (mark r low) ∙ none));
     }
 
 -- those that are put are live if they pass, and others as they were
-pub lives_put : (before cut : Cut) (order changed old new flows : List ℕ) → AreLive before order old flows → ArePut cut order changed old new
-    → ((r : ℕ) → r < length order → has changed (get_or order r 0) ≡ false → passes_at cut (get_or order r 0) ≡ passes_at before (get_or order r 0))
-    → ((r : ℕ) → r < length order → 0 < (arc_at cut.whole.arcs (get_or order r 0)).weight) → AreLive cut order new flows
-lives_put before cut order changed old new flows were are kept some =
+pub lives_put : (before cut : Cut) (order changed old new flows : List ℕ) → AreLive before order old flows → ArePut (passing_mark cut) order changed old new
+    → ((r : ℕ) → r < length order → has changed (get_or order r 0) ≡ false → passes_at cut (get_or order r 0) ≡ passes_at before (get_or order r 0)) → AreLive cut order new flows
+lives_put before cut order changed old new flows were are kept =
     let each : length new ≡ length order = are.each_rank ∙ were.each_rank in
-    let put : (r : ℕ) → r < length order → has changed (get_or order r 0) ≡ true → get_or new r 0 ≡ passing_weight cut (get_or order r 0) =
-    λ r low found. are.put r low ∙ ap (λ b. cond b (passing_weight cut (get_or order r 0)) (get_or old r 0)) found in
+    let put : (r : ℕ) → r < length order → has changed (get_or order r 0) ≡ true → get_or new r 0 ≡ passing_mark cut (get_or order r 0) =
+    λ r low found. are.put r low ∙ ap (λ b. cond b (passing_mark cut (get_or order r 0)) (get_or old r 0)) found in
     let left : (r : ℕ) → r < length order → has changed (get_or order r 0) ≡ false → get_or new r 0 ≡ get_or old r 0 =
-    λ r low apart. are.put r low ∙ ap (λ b. cond b (passing_weight cut (get_or order r 0)) (get_or old r 0)) apart in
+    λ r low apart. are.put r low ∙ ap (λ b. cond b (passing_mark cut (get_or order r 0)) (get_or old r 0)) apart in
     record {
       each_rank = each;
       passing = λ r alive.
           ⊎_elim
           (λ (low : r < length order).
-          ⊎_elim (λ (found : has changed (get_or order r 0) ≡ true). weight_yes cut (get_or order r 0) (λ none. alive (put r low found ∙ none)))
+          ⊎_elim (λ (found : has changed (get_or order r 0) ≡ true). mark_yes cut (get_or order r 0) (λ none. alive (put r low found ∙ none)))
           (λ (apart : has changed (get_or order r 0) ≡ false). kept r low apart ∙ were.passing r (λ none. alive (left r low apart ∙ none)))
           (cases_Bool (has changed (get_or order r 0))))
           (λ (past : length order ≤ r). absurd (alive (get_or_past new r 0 (omega (arith, each, past)))))
           (cases_lt r (length order));
       empty = λ r low pass none.
-          ⊎_elim (λ (found : has changed (get_or order r 0) ≡ true). absurd (weight_some cut (get_or order r 0) pass (some r low) (sym (put r low found) ∙ none)))
+          ⊎_elim (λ (found : has changed (get_or order r 0) ≡ true). absurd (mark_some cut (get_or order r 0) pass (sym (put r low found) ∙ none)))
           (λ (apart : has changed (get_or order r 0) ≡ false). were.empty r low (sym (kept r low apart) ∙ pass) (sym (left r low apart) ∙ none))
           (cases_Bool (has changed (get_or order r 0)));
     }
-
--- each arc of the order weighs something
-weights_some : (width steps : ℕ) (arcs : List OuterArc) (order ranks : List ℕ) → IsOrder width arcs order ranks → All (IsArc steps) arcs → (r : ℕ) → r < length order → 0 < (arc_at arcs (get_or order r 0)).weight
-weights_some width steps arcs order ranks ordered fit r low =
-    let arc : IsArc steps (arc_at arcs (get_or order r 0)) = fit (get_or order r 0) no_arc (numbers_within width arcs order ordered.all r 0 low) in
-    arc.some_weight
 
 -- the next window
 abbrev pub next_cut : Cut → Cut
@@ -204,7 +197,7 @@ next_small width number steps some has_step few = let least : 1 * number ≤ wid
 
 -- and current, once the weights of the arcs that may begin or cease to pass are put
 pub current_next : (cut : Cut) (order ranks starts ends passing live flows changed new_passing new_live : List ℕ) → IsCurrent cut order ranks starts ends passing live flows → IsInstance cut.whole
-    → AreChanging cut.width cut.number cut.whole.arcs changed → ArePut (next_cut cut) order changed passing new_passing → ArePut (next_cut cut) order changed live new_live
+    → AreChanging cut.width cut.number cut.whole.arcs changed → ArePut (passing_weight (next_cut cut)) order changed passing new_passing → ArePut (passing_mark (next_cut cut)) order changed live new_live
     → IsCurrent (next_cut cut) order ranks starts ends new_passing new_live flows
 current_next cut order ranks starts ends passing live flows changed new_passing new_live current fits changing put put_live =
     let arcs : List OuterArc = cut.whole.arcs in
@@ -217,9 +210,9 @@ current_next cut order ranks starts ends passing live flows changed new_passing 
       ordered = current.ordered;
       first_windows = current.first_windows;
       last_windows = current.last_windows;
-      weights = weights_put (next_cut cut) order changed passing new_passing (passing_weight cut) current.weights put
+      weights = numbers_put (passing_weight (next_cut cut)) (passing_weight cut) order changed passing new_passing current.weights put
           (λ r low apart. ap (λ b. cond b (arc_at arcs (get_or order r 0)).weight 0) (sym (kept r low apart)));
-      lives = lives_put cut (next_cut cut) order changed live new_live flows current.lives put_live kept (weights_some cut.width cut.whole.steps arcs order ranks current.ordered fits.arcs_fit);
+      lives = lives_put cut (next_cut cut) order changed live new_live flows current.lives put_live kept;
       each_arc = current.each_arc;
       within_weights = current.within_weights;
     }
@@ -256,14 +249,12 @@ zeros order n each =
 -- the first window is current, once the weights of the arcs that start in it are put
 pub current_first : (cut : Cut) (order ranks starts ends none none_live passing live flows changed : List ℕ) (places : ℕ) → cut.number ≡ 0 → 0 < cut.width → cut.width < cut.whole.steps → IsInstance cut.whole → IsOrder cut.width cut.whole.arcs order ranks
     → starts ≡ map (λ arc. arc.start / cut.width) cut.whole.arcs → ends ≡ map (last_window cut.width) cut.whole.arcs → flows ≡ map (λ arc. arc.weight) cut.whole.arcs → places ≡ length order → none ≡ replicate places 0 → none_live ≡ replicate places 0
-    → AreFirst cut.width cut.whole.arcs changed → ArePut cut order changed none passing → ArePut cut order changed none_live live → IsCurrent cut order ranks starts ends passing live flows
+    → AreFirst cut.width cut.whole.arcs changed → ArePut (passing_weight cut) order changed none passing → ArePut (passing_mark cut) order changed none_live live → IsCurrent cut order ranks starts ends passing live flows
 current_first cut order ranks starts ends none none_live passing live flows changed places first some narrow fits ordered starting ending full all empty empty_live firsts put put_live =
     let arcs : List OuterArc = cut.whole.arcs in
     let zero : replicate {A = ℕ} places 0 ≡ map (λ (i : ℕ). 0) order = zeros order places all in
-    let outside : (r : ℕ) → r < length order → has changed (get_or order r 0) ≡ false → 0 ≡ passing_weight cut (get_or order r 0) =
-    λ r low apart.
-    ap (λ b. cond b (arc_at arcs (get_or order r 0)).weight 0)
-    (sym (ap (λ k. passes cut.width k (arc_at arcs (get_or order r 0))) first ∙ firsts.outside (get_or order r 0) (numbers_within cut.width arcs order ordered.all r 0 low) apart)) in
+    let outside : (r : ℕ) → r < length order → has changed (get_or order r 0) ≡ false → passes_at cut (get_or order r 0) ≡ false =
+    λ r low apart. ap (λ k. passes cut.width k (arc_at arcs (get_or order r 0))) first ∙ firsts.outside (get_or order r 0) (numbers_within cut.width arcs order ordered.all r 0 low) apart in
     let weight : (i : ℕ) → i < length arcs → get_or flows i 0 ≡ (arc_at arcs i).weight = λ i low. ap (λ xs. get_or xs i 0) full ∙ get_or-map (λ (arc : OuterArc). arc.weight) arcs i no_arc 0 low in
     record {
       in_range = fits;
@@ -272,8 +263,8 @@ current_first cut order ranks starts ends none none_live passing live flows chan
       ordered = ordered;
       first_windows = starting;
       last_windows = ending;
-      weights = weights_put cut order changed none passing (λ i. 0) (empty ∙ zero) put outside;
-      lives = lives_first cut order live flows (weights_put cut order changed none_live live (λ i. 0) (empty_live ∙ zero) put_live outside) (weights_some cut.width cut.whole.steps arcs order ranks ordered fits.arcs_fit);
+      weights = numbers_put (passing_weight cut) (λ i. 0) order changed none passing (empty ∙ zero) put (λ r low apart. ap (λ b. cond b (arc_at arcs (get_or order r 0)).weight 0) (sym (outside r low apart)));
+      lives = lives_first cut order live flows (numbers_put (passing_mark cut) (λ i. 0) order changed none_live live (empty_live ∙ zero) put_live (λ r low apart. ap (λ b. cond b 1 0) (sym (outside r low apart))));
       each_arc = ap length full ∙ length-map arcs (λ (arc : OuterArc). arc.weight);
       within_weights = λ i low. omega (arith, weight i low);
     }

@@ -1,5 +1,5 @@
 -- The arcs that are kept, and whether prices suit the passing arcs that aren't.
-use Rattle.std.proofs.Common.{◌≡◌, ◌∙◌, ℕ, ◌+◌, ◌-◌, ◌<◌, ◌≤◌, ap, refl, Bool, cond, eqb, arith, List, [], ◌∷◌, length, map, filter, take, get_or, sum, sum_by, count_by, ◌⊎◌, ⊎_elim, All}
+use Rattle.std.proofs.Common.{◌≡◌, ◌∙◌, ℕ, ◌+◌, ◌-◌, ◌<◌, ◌≤◌, ap, refl, Bool, cond, eqb, arith, List, [], ◌∷◌, length, map, filter, take, get_or, sum_by, count_by, All}
 use Rattle.std.specs.List.{range_with_len}
 use Rattle.std.proofs.lemmas.List.{get_or-map, length-map, take_all}
 use Rattle.std.proofs.lemmas.List.Elements.{All-append}
@@ -10,9 +10,8 @@ use Rattle.flow_model.specs.declared.arcs.OuterArc.{OuterArc}
 use Rattle.flow_model.specs.Instances.{IsInstance, arc_at, no_arc}
 use Rattle.flow_model.specs.Windows.{meets}
 use Rattle.flow_windows.specs.Cuts.{Cut, numbers_of}
-use Rattle.window_arcs.specs.declared.arcs.KeptRanks.{KeptRanks}
-use Rattle.window_arcs.specs.Current.{Current, FitPrices, IsSplit}
-use Rattle.window_arcs.specs.Passing.{IsOrder, ends_at, local_numbers, starts_at, whole_share}
+use Rattle.window_arcs.specs.Current.{IsSplit}
+use Rattle.window_arcs.specs.Passing.{ends_at, local_numbers, starts_at}
 use Rattle.window_arcs.proofs.Members.{times, times_at, times_once, times_passes}
 
 -- ---- numbers that are kept

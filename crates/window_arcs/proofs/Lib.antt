@@ -1,4 +1,6 @@
 pub mod PlaceLemmas
+pub mod SearchLemmas
+pub mod NextLemmas
 pub mod EventLemmas
 pub mod OrderLemmas
 pub mod Members

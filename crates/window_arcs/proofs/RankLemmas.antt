@@ -10,7 +10,7 @@ use Rattle.cache_model.proofs.Eligible.{or_false}
 use Rattle.flow_model.specs.declared.arcs.OuterArc.{OuterArc}
 use Rattle.flow_model.specs.Instances.{arc_at}
 use Rattle.flow_windows.specs.Cuts.{Cut}
-use Rattle.window_arcs.specs.Current.{ArePut, passing_weight}
+use Rattle.window_arcs.specs.Current.{ArePut, passing_mark, passing_weight}
 use Rattle.window_arcs.specs.Passing.{IsOrder, passes, passes_some}
 use Rattle.window_arcs.proofs.Members.{times_once, times_twice}
 use Rattle.window_arcs.proofs.OrderLemmas.{numbers_pass, numbers_within}
@@ -37,8 +37,8 @@ rank_of width arcs order ranks r ordered within =
     (cases_order s r)
 
 -- at first nothing is put
-pub put_none : (cut : Cut) (order changed old : List ℕ) → ArePut cut order (take 0 changed) old old
-put_none cut order changed old = record { each_rank = refl; put = λ r within. refl }
+pub put_none : (has : ℕ → ℕ) (order changed old : List ℕ) → ArePut has order (take 0 changed) old old
+put_none has order changed old = record { each_rank = refl; put = λ r within. refl }
 
 -- a number is among some with one more that is another, if it is among them
 among_same : (changed : List ℕ) (k number x : ℕ) → k < length changed → number ≡ get_or changed k 0 → number ≢ x → list_any (λ i. eqb i x) (take k changed) ≡ list_any (λ i. eqb i x) (take (k + 1) changed)
@@ -48,16 +48,16 @@ among_same changed k number x more is other =
     ∙ ap (λ i. list_any (λ i. eqb i x) (take k changed) || eqb i x) is
     ∙ sym (list_any_more (λ i. eqb i x) changed k 0 more)
 
--- the weight of one more arc is put
-pub put_more : (cut : Cut) (width : ℕ) (order ranks changed old sums : List ℕ) (k number weight : ℕ) → ArePut cut order (take k changed) old sums → IsOrder width cut.whole.arcs order ranks → length old ≡ length order
-    → k < length changed → number ≡ get_or changed k 0 → number < length cut.whole.arcs → passes_some width (arc_at cut.whole.arcs number) ≡ true → weight ≡ passing_weight cut number
-    → ArePut cut order (take (k + 1) changed) old (set sums (get_or ranks number 0) weight)
-put_more cut width order ranks changed old sums k number weight are ordered long more is low passing weighs =
+-- the number of one more arc is put
+pub put_more : (has : ℕ → ℕ) (width : ℕ) (arcs : List OuterArc) (order ranks changed old sums : List ℕ) (k number value : ℕ) → ArePut has order (take k changed) old sums → IsOrder width arcs order ranks → length old ≡ length order
+    → k < length changed → number ≡ get_or changed k 0 → number < length arcs → passes_some width (arc_at arcs number) ≡ true → value ≡ has number
+    → ArePut has order (take (k + 1) changed) old (set sums (get_or ranks number 0) value)
+put_more has width arcs order ranks changed old sums k number value are ordered long more is low passing is_value =
     let place : ℕ = get_or ranks number 0 in
     let inside : place < length sums = omega (arith, are.each_rank, long, ordered.ranks_within number low passing) in
     let among : ℕ → Bool = λ x. list_any (λ i. eqb i x) (take (k + 1) changed) in
     record {
-      each_rank = length-set sums place weight ∙ are.each_rank;
+      each_rank = length-set sums place value ∙ are.each_rank;
       put = λ r within.
           let x : ℕ = get_or order r 0 in
           ⊎_elim
@@ -67,28 +67,28 @@ put_more cut width order ranks changed old sums k number weight are ordered long
           list_any_more (λ i. eqb i x) changed k 0 more
           ∙ ap (λ i. list_any (λ i. eqb i x) (take k changed) || eqb i x) (sym is)
           ∙ or_right (list_any (λ i. eqb i x) (take k changed)) (eqb number x) (eq-eqb number x (sym this)) in
-          ap (λ s. get_or (set sums place weight) s 0) same ∙ get_or-set_same sums place weight 0 inside ∙ weighs ∙ ap (passing_weight cut) (sym this) ∙ ap (λ b. cond b (passing_weight cut x) (get_or old r 0)) (sym found))
+          ap (λ s. get_or (set sums place value) s 0) same ∙ get_or-set_same sums place value 0 inside ∙ is_value ∙ ap has (sym this) ∙ ap (λ b. cond b (has x) (get_or old r 0)) (sym found))
           (λ (apart : r ≢ place).
-          let other : number ≢ x = λ this. apart (sym (rank_of width cut.whole.arcs order ranks r ordered within) ∙ ap (λ i. get_or ranks i 0) (sym this)) in
-          get_or-set_other sums place r weight 0 apart ∙ are.put r within ∙ ap (λ b. cond b (passing_weight cut x) (get_or old r 0)) (among_same changed k number x more is other))
+          let other : number ≢ x = λ this. apart (sym (rank_of width arcs order ranks r ordered within) ∙ ap (λ i. get_or ranks i 0) (sym this)) in
+          get_or-set_other sums place r value 0 apart ∙ are.put r within ∙ ap (λ b. cond b (has x) (get_or old r 0)) (among_same changed k number x more is other))
           (cases_eq r place);
     }
 
 -- one more arc that passes through no window has no rank
-pub put_same : (cut : Cut) (width : ℕ) (order ranks changed old sums : List ℕ) (k number : ℕ) → ArePut cut order (take k changed) old sums → IsOrder width cut.whole.arcs order ranks
-    → k < length changed → number ≡ get_or changed k 0 → passes_some width (arc_at cut.whole.arcs number) ≡ false → ArePut cut order (take (k + 1) changed) old sums
-put_same cut width order ranks changed old sums k number are ordered more is outside = record {
+pub put_same : (has : ℕ → ℕ) (width : ℕ) (arcs : List OuterArc) (order ranks changed old sums : List ℕ) (k number : ℕ) → ArePut has order (take k changed) old sums → IsOrder width arcs order ranks
+    → k < length changed → number ≡ get_or changed k 0 → passes_some width (arc_at arcs number) ≡ false → ArePut has order (take (k + 1) changed) old sums
+put_same has width arcs order ranks changed old sums k number are ordered more is outside = record {
   each_rank = are.each_rank;
   put = λ r within.
       let x : ℕ = get_or order r 0 in
       let other : number ≢ x = λ this.
-      both_ways (passes_some width (arc_at cut.whole.arcs number)) outside (ap (λ i. passes_some width (arc_at cut.whole.arcs i)) this ∙ numbers_pass width cut.whole.arcs order ordered.all r 0 within) in
-      are.put r within ∙ ap (λ b. cond b (passing_weight cut x) (get_or old r 0)) (among_same changed k number x more is other);
+      both_ways (passes_some width (arc_at arcs number)) outside (ap (λ i. passes_some width (arc_at arcs i)) this ∙ numbers_pass width arcs order ordered.all r 0 within) in
+      are.put r within ∙ ap (λ b. cond b (has x) (get_or old r 0)) (among_same changed k number x more is other);
 }
 
--- the weights of all of them are put
-pub put_all : (cut : Cut) (order changed old sums : List ℕ) (k : ℕ) → ArePut cut order (take k changed) old sums → length changed ≤ k → ArePut cut order changed old sums
-put_all cut order changed old sums k are end = subst (λ xs. ArePut cut order xs old sums) (take_all k changed end) are
+-- the numbers of all of them are put
+pub put_all : (has : ℕ → ℕ) (order changed old sums : List ℕ) (k : ℕ) → ArePut has order (take k changed) old sums → length changed ≤ k → ArePut has order changed old sums
+put_all has order changed old sums k are end = subst (λ xs. ArePut has order xs old sums) (take_all k changed end) are
 
 -- an arc that passes has its weight put
 pub weight_put : (cut : Cut) (arcs : List OuterArc) (number weight : ℕ) (passed : Bool) → arcs ≡ cut.whole.arcs → passed ≡ passes cut.width cut.number (arc_at arcs number) → passed ≡ true → weight ≡ (arc_at arcs number).weight
@@ -101,3 +101,12 @@ pub none_put : (cut : Cut) (arcs : List OuterArc) (number weight : ℕ) (passed 
     → weight ≡ passing_weight cut number
 none_put cut arcs number weight passed same is outside weighs =
     weighs ∙ ap (λ b. cond b (arc_at cut.whole.arcs number).weight 0) (sym outside ∙ is ∙ ap (λ xs. passes cut.width cut.number (arc_at xs number)) same)
+
+-- and 1 is put for an arc that passes, and 0 for another
+pub mark_put : (mark_of : Bool → ℕ) (cut : Cut) (arcs : List OuterArc) (number mark : ℕ) (passed : Bool) → mark_of true ≡ 1 → mark_of false ≡ 0 → arcs ≡ cut.whole.arcs → passed ≡ passes cut.width cut.number (arc_at arcs number) → mark ≡ mark_of passed
+    → mark ≡ passing_mark cut number
+mark_put mark_of cut arcs number mark passed one none same is marks = marks ∙ at passed ∙ ap (λ b. cond b 1 0) (is ∙ ap (λ xs. passes cut.width cut.number (arc_at xs number)) same)
+  where
+    at : (b : Bool) → mark_of b ≡ cond b 1 0
+    at true = one
+    at false = none

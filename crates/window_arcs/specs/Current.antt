@@ -71,10 +71,14 @@ pub record AreEmptied (numbers old new : List ℕ) : Type 0 where
 abbrev pub passing_weight : Cut → ℕ → ℕ
 passing_weight cut i = if passes_at cut i then (arc_at cut.whole.arcs i).weight else 0
 
--- at the ranks of these arcs stand the weights of those that pass, and at the others what stood there
-pub record ArePut (cut : Cut) (order changed old new : List ℕ) : Type 0 where
+-- 1 for an arc that passes through the window, and 0 for another
+abbrev pub passing_mark : Cut → ℕ → ℕ
+passing_mark cut i = if passes_at cut i then 1 else 0
+
+-- at the ranks of these arcs stands what they have, and at the others what stood there
+pub record ArePut (has : ℕ → ℕ) (order changed old new : List ℕ) : Type 0 where
   pub each_rank : length new ≡ length old
-  pub put : (r : ℕ) → r < length order → slice_index new r ≡ (if list_any (λ i. i == slice_index order r) changed then passing_weight cut (slice_index order r) else slice_index old r)
+  pub put : (r : ℕ) → r < length order → slice_index new r ≡ (if list_any (λ i. i == slice_index order r) changed then has (slice_index order r) else slice_index old r)
 
 -- each live arc passes, and a passing arc that isn't live has no flow
 pub record AreLive (cut : Cut) (order live flows : List ℕ) : Type 0 where

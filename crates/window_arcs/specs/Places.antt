@@ -6,12 +6,12 @@ use Rattle.sum_tree.specs.Sums.{IsTree, sum_from}
 abbrev pub numbers_at : ℕ → ℕ → List ℕ → List ℕ
 numbers_at places leaves sums = take places (drop leaves sums)
 
--- the leaves are a power of two, and past the places they are 0
-pub record IsPlaced (places leaves : ℕ) (sums : List ℕ) : Type 0 where
+-- the leaves are a power of two, no number is above the greatest, and past the places they are 0
+pub record IsPlaced (greatest places leaves : ℕ) (sums : List ℕ) : Type 0 where
   pub levels : ℕ
   pub power : leaves ≡ 2 ^ levels
   pub within : places ≤ leaves
-  pub tree : IsTree (2 ^ 48) leaves sums
+  pub tree : IsTree greatest leaves sums
   pub none_past : (i : ℕ) → places ≤ i → slice_index (drop leaves sums) i ≡ 0
 
 -- a level of the tree has as many nodes as the number of its first one, `start`; as much is left of the leaves from a place on as of this level from a node on

@@ -4,13 +4,13 @@ ghost use Rattle.std.specs.List.{range_with_len};
 ghost use Rattle.flow_model.specs.Instances.{arc_at};
 ghost use Rattle.flow_model.specs.Windows.{last_window};
 ghost use Rattle.flow_windows.specs.Cuts.{Cut, cut_of};
-ghost use Rattle.window_arcs.specs.Current.{AreDistinct, AreEmptied, AreEmptiedLive, AreInRange, AreKept, AreLive, AreLowered, ArePut, AreRanks, FitPrices, empty_numbers, kept_instance};
+ghost use Rattle.window_arcs.specs.Current.{AreDistinct, AreEmptied, AreEmptiedLive, AreInRange, AreKept, AreLive, AreLowered, ArePut, AreRanks, FitPrices, empty_numbers, kept_instance, passing_mark, passing_weight};
 ghost use Rattle.window_arcs.specs.Passing.{IsOrder, ends_at, local_numbers, passing_numbers, starts_at, whole_share};
 
 use crate::events::Events;
 use crate::order::{Order, order_of, whole_share};
 use crate::passing::{passes, passes_some};
-use crate::sums::PlaceSums;
+use crate::places::PlaceTree;
 use bound_base::NoMemory;
 use flow_model::{Instance, OuterArc};
 use flow_windows::window_instance;
@@ -28,7 +28,7 @@ pub struct KeptRanks {
 
 /// The windows of an instance from the first on, with the flows of the arcs so far: at first their weights. To go
 /// through all windows takes time in the number of windows, of arcs, and of those that are kept, times the logarithm
-/// of the number of arcs. It takes 28 bytes for each arc, and up to 132 for each that passes through some window.
+/// of the number of arcs. It takes 28 bytes for each arc, and up to 84 for each that passes through some window.
 #[derive(Drop)]
 pub struct WindowArcs<'a> {
     whole: &'a Instance,
@@ -37,8 +37,8 @@ pub struct WindowArcs<'a> {
     order: Order,
     starts: Events,
     ends: Events,
-    passing: PlaceSums,
-    live: PlaceSums,
+    passing: PlaceTree<u128>,
+    live: PlaceTree<u32>,
     flows: Vec<u64>,
 }
 
@@ -80,10 +80,11 @@ fn last_windows(alloc: Global, arcs: &[OuterArc], width: u32) -> Result<Vec<u32>
     )
 }
 
-// Sets what stands at the ranks of these arcs for a window: the weight of an arc that passes through it, and 0 for
-// another. An arc that passes through no window has no rank.
-fn put_weights(
-    sums: &mut PlaceSums,
+// Sets what stands at the ranks of these arcs for a window: the weight of an arc that passes through it, which is then
+// live, and 0 for another. An arc that passes through no window has no rank.
+fn put_passing(
+    passing: &mut PlaceTree<u128>,
+    live: &mut PlaceTree<u32>,
     order: &Order,
     whole: &Instance,
     width: u32,
@@ -93,19 +94,20 @@ fn put_weights(
     requires some { 0 < width }
     requires ordered { IsOrder width whole.now.arcs order.now.numbers.items order.now.ranks.items }
     requires within { All (λ i. i < length whole.now.arcs) changed.now }
-    requires each { length sums.old ≡ length order.now.numbers.items }
-    ensures { ArePut (cut_of whole.now width number) order.now.numbers.items changed.now sums.old sums.new }
+    requires each { length passing.old ≡ length order.now.numbers.items }
+    requires each_live { length live.old ≡ length order.now.numbers.items }
+    ensures weights { ArePut (passing_weight (cut_of whole.now width number)) order.now.numbers.items changed.now passing.old passing.new }
+    ensures lives { ArePut (passing_mark (cut_of whole.now width number)) order.now.numbers.items changed.now live.old live.new }
 {
     let arcs = whole.arcs();
     for at in changed {
         let arc = &arcs[*at as usize];
         if passes_some(arc, width) {
-            let weight = if passes(arc, width, number) {
-                arc.weight
-            } else {
-                0
-            };
-            sums.set(order.ranks[*at as usize], weight);
+            let rank = order.ranks[*at as usize];
+            let passes = passes(arc, width, number);
+            let weight = if passes { arc.weight } else { 0 };
+            passing.set(rank, u128::from(weight));
+            live.set(rank, u32::from(passes));
         }
     }
 }
@@ -135,7 +137,7 @@ fn lower_flows(flows: &mut [u64], kept: &[u32], part_flows: &[u64])
 }
 
 // Takes their flow from the live arcs from this rank on, which are live no more.
-fn empty_live(live: &mut PlaceSums, flows: &mut [u64], order: &[u32], from: u32)
+fn empty_live(live: &mut PlaceTree<u32>, flows: &mut [u64], order: &[u32], from: u32)
     requires from { from ≤ length order.now }
     requires few { length order.now ≤ 2 ^ 26 }
     requires within { All (λ i. i < length flows.old) order.now }
@@ -166,12 +168,11 @@ impl<'a> WindowArcs<'a> {
         let places = order.numbers.len() as u32;
         let starts = Events::new(alloc, first_windows(alloc, arcs, width)?, lists)?;
         let ends = Events::new(alloc, last_windows(alloc, arcs, width)?, lists)?;
-        let mut passing = PlaceSums::new(alloc, places)?;
-        let mut live = PlaceSums::new(alloc, places)?;
+        let mut passing = PlaceTree::new(alloc, places)?;
+        let mut live = PlaceTree::new(alloc, places)?;
         let mut changed = Vec::new(alloc);
         starts.push_numbers(0, &mut changed)?;
-        put_weights(&mut passing, &order, whole, width, 0, &changed);
-        put_weights(&mut live, &order, whole, width, 0, &changed);
+        put_passing(&mut passing, &mut live, &order, whole, width, 0, &changed);
         Ok(WindowArcs {
             whole,
             width,
@@ -326,13 +327,13 @@ impl<'a> WindowArcs<'a> {
     }
 
     /// A guess which of the ranks will do, if the prices sum to nearly this, as those of the window before: the ranks
-    /// of which a window costs up to an eighth more or less. There is none for the price 0, nor if the passing arcs
+    /// of which a window costs up to a 32nd more or less. There is none for the price 0, nor if the passing arcs
     /// before the ranks leave no unit.
     pub fn near(&self, ranks: KeptRanks, price: u128) -> Option<KeptRanks>
         requires { AreRanks self.now ranks }
         ensures { IfSome result (λ near. AreRanks self.now near) }
     {
-        let margin = price / 8;
+        let margin = price / 32;
         let dear = self.dearer(price.saturating_add(margin));
         let first = dear.max(ranks.first).min(ranks.end);
         let end = self.dearer(price - margin).saturating_add(1);
@@ -451,15 +452,8 @@ impl<'a> WindowArcs<'a> {
         self.starts.push_numbers(self.number, &mut changed)?;
         self.starts.push_numbers(next, &mut changed)?;
         self.ends.push_numbers(next, &mut changed)?;
-        put_weights(
+        put_passing(
             &mut self.passing,
-            &self.order,
-            self.whole,
-            self.width,
-            next,
-            &changed,
-        );
-        put_weights(
             &mut self.live,
             &self.order,
             self.whole,

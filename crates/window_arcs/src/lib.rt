@@ -8,6 +8,7 @@ mod arcs;
 mod events;
 mod order;
 mod passing;
+mod places;
 mod sums;
 
 pub use arcs::{KeptRanks, WindowArcs};

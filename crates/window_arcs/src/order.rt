@@ -40,7 +40,8 @@ fn ranked_arcs(alloc: Global, whole: &Instance, width: u32) -> Result<Vec<Ranked
     ensures { IfOk result (λ ranked. AreOrdered width whole.now.arcs (map (λ r. r.number) ranked.items)) }
 {
     let arcs = whole.arcs();
-    let mut ranked = Vec::new(alloc);
+    let passing = arcs.iter().filter(|arc| passes_some(arc, width)).count();
+    let mut ranked = Vec::with_capacity(alloc, passing)?;
     for (number, arc) in arcs.iter().enumerate() {
         if passes_some(arc, width) {
             ranked.push(Ranked {
@@ -77,7 +78,7 @@ fn ranks_of(alloc: Global, numbers: &[u32], arcs: usize) -> Result<Vec<u32>, NoM
 }
 
 /// The order of the arcs for windows of that width. It takes 4 bytes for each arc and 4 for each that passes through
-/// some window, and while it is made up to 96 more for each of these.
+/// some window, and while it is made 32 more for each of these.
 pub(crate) fn order_of(alloc: Global, whole: &Instance, width: u32) -> Result<Order, NoMemory>
     requires some { 0 < width }
     requires narrow { width ≤ 2 ^ 25 }

@@ -1,7 +1,6 @@
-use Rattle.std.proofs.Common.{◌≡◌, ◌∙◌, ℕ, List, ap, arith, length, subst}
-use Rattle.std.proofs.lemmas.List.{length-map}
+use Rattle.std.proofs.Common.{◌≡◌, ◌∙◌, ℕ, List, ap, arith, subst}
 use Rattle.flow_windows.specs.Cuts.{Cut, cut_of}
-use Rattle.window_arcs.specs.Current.{Current, passing_weight}
+use Rattle.window_arcs.specs.Current.{Current}
 use Rattle.window_arcs.specs.Passing.{passing_numbers, weight_of}
 use Rattle.window_arcs.proofs.CurrentLemmas.{passing_weights}
 use Rattle.window_arcs.proofs.arcs.WindowArcs.near.Goals as goal

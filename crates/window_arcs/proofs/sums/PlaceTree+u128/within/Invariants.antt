@@ -1,6 +1,6 @@
 use Rattle.std.proofs.Common.{◌-◌, ◌≡◌}
-use Rattle.window_arcs.proofs.PlaceLemmas.{IsSearched}
-use Rattle.window_arcs.proofs.sums.PlaceSums.within.Given as goal
+use Rattle.window_arcs.proofs.SearchLemmas.{IsSearched}
+use Rattle.window_arcs.proofs.sums.PlaceTree+u128.within.Given as goal
 
 -- the levels so far are searched
 abbrev pub invariant-down : goal.invariant-down
