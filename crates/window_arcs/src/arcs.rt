@@ -326,24 +326,23 @@ impl<'a> WindowArcs<'a> {
         low
     }
 
-    /// A guess which of the ranks will do, if the prices sum to nearly this, as those of the window before: the ranks
-    /// of which a window costs up to a 32nd more or less. There is none for the price 0, nor if the passing arcs
-    /// before the ranks leave no unit.
-    pub fn near(&self, ranks: KeptRanks, price: u128) -> Option<KeptRanks>
+    /// A guess which of the ranks will do, if the prices sum to this, or up to the margin more or less: those of which a
+    /// window costs as much. There is none for the price 0, nor if the passing arcs before the ranks leave no unit.
+    pub fn near(&self, ranks: KeptRanks, price: u128, margin: u128) -> Option<KeptRanks>
         requires { AreRanks self.now ranks }
         ensures { IfSome result (λ near. AreRanks self.now near) }
     {
-        let margin = price / 32;
         let dear = self.dearer(price.saturating_add(margin));
         let first = dear.max(ranks.first).min(ranks.end);
-        let end = self.dearer(price - margin).saturating_add(1);
+        let cheap = self.dearer(price.saturating_sub(margin));
+        let end = cheap.saturating_add(1).max(first);
         let full = self.passing.before(first);
         if price == 0 || full >= u128::from(self.whole.units()) {
             return None;
         }
         Some(KeptRanks {
             first,
-            end: end.max(first).min(ranks.end),
+            end: end.min(ranks.end),
             full: full as u64,
         })
     }

@@ -4,6 +4,7 @@
 //! one after another, bound the whole. One window at least as wide as the steps is the whole.
 #![tactic(auto)]
 
+mod guess;
 mod laws;
 mod solution;
 mod solving;

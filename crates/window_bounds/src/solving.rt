@@ -5,6 +5,7 @@ ghost use Rattle.window_arcs.specs.Current.{AreRanks};
 ghost use Rattle.window_arcs.specs.Passing.{local_numbers};
 ghost use Rattle.window_bounds.specs.Solutions.{AreSolutions, IsFitting, IsKeptSolution, IsNextSolution, full_of, value_of_windows};
 
+use crate::guess::Guess;
 use crate::solution::WindowSolution;
 use bound_base::NoMemory;
 use flow_model::{Instance, OuterArc, Solution};
@@ -35,9 +36,11 @@ fn solve(alloc: Global, instance: &Instance) -> Result<Solution, NoMemory>
     }
 }
 
-// A solution of the current window, with the arcs that are kept and their flows.
+// A solution of the current window over the arcs that are kept: the ranks of the passing ones, their numbers and those of
+// the others, and their flows.
 #[derive(Drop)]
 struct KeptSolution {
+    ranks: KeptRanks,
     kept: Vec<u32>,
     solution: Solution,
 }
@@ -52,12 +55,17 @@ fn solve_kept(
     requires has_step { windows.now.cut.width * windows.now.cut.number < windows.now.cut.whole.steps }
     requires local { local.now ≡ local_numbers windows.now.cut }
     requires ranks { AreRanks windows.now ranks }
-    ensures { IfOk result (λ s. IsKeptSolution windows.now ranks s.kept.items s.solution.prices s.solution.flows) }
+    ensures ranks { IfOk result (λ s. s.ranks ≡ ranks) }
+    ensures solution { IfOk result (λ s. IsKeptSolution windows.now ranks s.kept.items s.solution.prices s.solution.flows) }
 {
     let kept = windows.kept(alloc, local, ranks)?;
     let window = windows.instance(alloc, &kept, ranks)?;
     let solution = solve(alloc, &window)?;
-    Ok(KeptSolution { kept, solution })
+    Ok(KeptSolution {
+        ranks,
+        kept,
+        solution,
+    })
 }
 
 // The same, if its prices suit the arcs that were left out.
@@ -70,35 +78,55 @@ fn solve_suited(
     requires has_step { windows.now.cut.width * windows.now.cut.number < windows.now.cut.whole.steps }
     requires local { local.now ≡ local_numbers windows.now.cut }
     requires ranks { AreRanks windows.now ranks }
-    ensures { IfOk result (λ found. IfSome found (λ s. IsFitting windows.now ranks s.kept.items s.solution.prices s.solution.flows)) }
+    ensures { IfOk result (λ found. IfSome found (λ s. IsFitting windows.now s.ranks s.kept.items s.solution.prices s.solution.flows)) }
 {
     let found = solve_kept(alloc, windows, local, ranks)?;
     let suits = windows.fits(ranks, found.solution.prices());
     Ok(if suits { Some(found) } else { None })
 }
 
-// Solves the current window with as few passing arcs as will do, by what the prices of the window before sum to; with
-// more of them if those were too few, and then with all.
+// Solves it with those of the passing arcs of these ranks that a guess names, if there is one and it holds.
+fn solve_near(
+    alloc: Global,
+    windows: &WindowArcs,
+    local: &[u32],
+    ranks: KeptRanks,
+    guess: Guess,
+) -> Result<Option<KeptSolution>, NoMemory>
+    requires has_step { windows.now.cut.width * windows.now.cut.number < windows.now.cut.whole.steps }
+    requires local { local.now ≡ local_numbers windows.now.cut }
+    requires ranks { AreRanks windows.now ranks }
+    ensures { IfOk result (λ found. IfSome found (λ s. IsFitting windows.now s.ranks s.kept.items s.solution.prices s.solution.flows)) }
+{
+    match windows.near(ranks, guess.price(), guess.margin()) {
+        None => Ok(None),
+        Some(near) => solve_suited(alloc, windows, local, near),
+    }
+}
+
+// Solves the current window with as few passing arcs as will do, by a guess what its prices sum to; with more of them if
+// those were too few, and in the end with all. It says whether the guess held.
 fn solve_fitting(
     alloc: Global,
     windows: &WindowArcs,
-    price: u128,
-) -> Result<(KeptRanks, KeptSolution), NoMemory>
+    guess: Guess,
+) -> Result<(KeptSolution, bool), NoMemory>
     requires { windows.now.cut.width * windows.now.cut.number < windows.now.cut.whole.steps }
-    ensures { IfOk result (λ (ranks, s). IsFitting windows.now ranks s.kept.items s.solution.prices s.solution.flows) }
+    ensures { IfOk result (λ (s, held). IsFitting windows.now s.ranks s.kept.items s.solution.prices s.solution.flows) }
 {
     let local = windows.local(alloc)?;
     let likely = windows.likely(&local);
-    if let Some(near) = windows.near(likely, price) {
-        if let Some(found) = solve_suited(alloc, windows, &local, near)? {
-            return Ok((near, found));
-        }
+    if let Some(found) = solve_near(alloc, windows, &local, likely, guess)? {
+        return Ok((found, true));
+    }
+    if let Some(found) = solve_near(alloc, windows, &local, likely, guess.wider())? {
+        return Ok((found, false));
     }
     if let Some(found) = solve_suited(alloc, windows, &local, likely)? {
-        return Ok((likely, found));
+        return Ok((found, false));
     }
-    let all = windows.everything();
-    Ok((all, solve_kept(alloc, windows, &local, all)?))
+    let found = solve_kept(alloc, windows, &local, windows.everything())?;
+    Ok((found, false))
 }
 
 // What the prices sum to, or the greatest number if that is less.
@@ -110,24 +138,24 @@ fn sum_of(prices: &[u128]) -> u128 {
     sum
 }
 
-// Solves the current window, and says what its prices sum to. They come after those before, and the flows fall to those
-// of its parts.
+// Solves the current window, and guesses what the prices of the next one sum to. Its prices come after those before, and
+// the flows fall to those of its parts.
 fn solve_window(
     alloc: Global,
     windows: &mut WindowArcs,
     prices: &mut Vec<u128>,
-    price: u128,
-) -> Result<u128, NoMemory>
+    guess: Guess,
+) -> Result<Guess, NoMemory>
     requires { windows.old.cut.width * windows.old.cut.number < windows.old.cut.whole.steps }
     ensures cut { IfOk result (λ done. windows.new.cut ≡ windows.old.cut) }
     ensures each_arc { IfOk result (λ done. length windows.new.flows ≡ length windows.old.flows) }
     ensures next { IfOk result (λ done. IsNextSolution windows.old.cut prices.old.items windows.old.flows prices.new.items windows.new.flows) }
 {
-    let (ranks, found) = solve_fitting(alloc, windows, price)?;
+    let (found, held) = solve_fitting(alloc, windows, guess)?;
     prices.extend_from_slice(found.solution.prices())?;
-    windows.lower(&found.kept, ranks, found.solution.flows());
-    windows.empty(ranks);
-    Ok(sum_of(found.solution.prices()))
+    windows.lower(&found.kept, found.ranks, found.solution.flows());
+    windows.empty(found.ranks);
+    Ok(guess.next(sum_of(found.solution.prices()), held))
 }
 
 // Prices of the steps and flows of the arcs, from one window after another.
@@ -140,9 +168,9 @@ fn solve_each(alloc: Global, whole: &Instance, width: u32) -> Result<Solution, N
     let _arcs = whole.arcs();
     let mut prices = Vec::with_capacity(alloc, whole.steps() as usize)?;
     let mut windows = WindowArcs::new(alloc, whole, width)?;
-    let mut price = 0;
+    let mut guess = Guess::none();
     while windows.has_step() {
-        price = solve_window(alloc, &mut windows, &mut prices, price)?;
+        guess = solve_window(alloc, &mut windows, &mut prices, guess)?;
         windows.advance(alloc)?;
     }
     Ok(Solution::new(prices, windows.into_flows()))
@@ -150,7 +178,7 @@ fn solve_each(alloc: Global, whole: &Instance, width: u32) -> Result<Solution, N
 
 /// The prices and flows of the instance by windows of that width. The price of a step is that of its window, and the
 /// flow of an arc the least of its flows in the windows that it meets. One window has the memory of its solver at a
-/// time. Windows narrower than the steps take 8 bytes for each window and up to 180 for each arc besides, and 68 for
+/// time. Windows narrower than the steps take 8 bytes for each window and up to 132 for each arc besides, and 68 for
 /// each part of the one that is solved. The answer takes 16 bytes for each step, and 9 for each arc.
 pub fn solve_windows(
     alloc: Global,

@@ -22,14 +22,14 @@ loop-alloc-preserved c =
     let before = c.loop-alloc.invariant in
     let prices = c.loop-alloc.prices.items in
     let flows = c.loop-alloc.windows.flows in
-    let next = rw (before.whole, before.width) at c.in_ok-price.ensures.next in
+    let next = rw (before.whole, before.width) at c.in_ok-guess.ensures.next in
     let new = c.solve_window.new.windows.flows in
     let has_step = rw (before.whole, before.width) at (c.has_step.ensures.0 c.loop-alloc-test.true) in
-    let number : c.advance.new.self.cut.number ≡ n + 1 = ap (λ (cut : Cut). cut.number) c.in_ok-advance.ensures.cut ∙ ap (λ (cut : Cut). cut.number + 1) c.in_ok-price.ensures.cut in
-    let more : AreSolved whole width (n + 1) (prices ++ next.found) new = solved_more whole width n prices flows next.found next.parts new has_step before.solved next.solution c.in_ok-price.ensures.each_arc next.fallen in
+    let number : c.advance.new.self.cut.number ≡ n + 1 = ap (λ (cut : Cut). cut.number) c.in_ok-advance.ensures.cut ∙ ap (λ (cut : Cut). cut.number + 1) c.in_ok-guess.ensures.cut in
+    let more : AreSolved whole width (n + 1) (prices ++ next.found) new = solved_more whole width n prices flows next.found next.parts new has_step before.solved next.solution c.in_ok-guess.ensures.each_arc next.fallen in
     record {
-      whole = ap (λ (cut : Cut). cut.whole) c.in_ok-advance.ensures.cut ∙ ap (λ (cut : Cut). cut.whole) c.in_ok-price.ensures.cut ∙ before.whole;
-      width = ap (λ (cut : Cut). cut.width) c.in_ok-advance.ensures.cut ∙ ap (λ (cut : Cut). cut.width) c.in_ok-price.ensures.cut ∙ before.width;
+      whole = ap (λ (cut : Cut). cut.whole) c.in_ok-advance.ensures.cut ∙ ap (λ (cut : Cut). cut.whole) c.in_ok-guess.ensures.cut ∙ before.whole;
+      width = ap (λ (cut : Cut). cut.width) c.in_ok-advance.ensures.cut ∙ ap (λ (cut : Cut). cut.width) c.in_ok-guess.ensures.cut ∙ before.width;
       solved = rw (number, next.extended, c.in_ok-advance.ensures.flows) more;
     }
 

@@ -13,7 +13,7 @@ returns c =
     let order : List ℕ = inside.order.numbers.items in
     let first : ℕ = c.min-first.result in
     record {
-      sorted = omega (arith, c.requires.sorted, c.min-first.ensures, c.max.ensures, c.min.ensures, c.max-2.ensures);
+      sorted = omega (arith, c.requires.sorted, c.min-first.ensures, c.max.ensures, c.min.ensures, c.max-end.ensures);
       within = omega (arith, c.requires.within, c.min.ensures);
       full = subst (λ (w : Current). c.before-full.result ≡ weight_of w.cut (passing_numbers w.cut w.order 0 first)) c.self.view_is (c.before-full.ensures ∙ passing_weights cut order inside.passing first c.self.invariant.weights);
       room = omega (arith, c.if-full-from.false, c.from.ensures, c.units.ensures, ap (λ (w : Current). w.cut.whole.units) c.self.view_is);
