@@ -46,7 +46,6 @@ use Rattle.bound_words.specs.declared.settings.Settings.{Settings}
 use Rattle.bound_words.specs.declared.settings.Settings.TheVariants.{Bounds, Check, Replay, Curve, CapacityCurve, Judge, Demo, Upgrade, Refine}
 use Rattle.bound_words.specs.Settings.{settings_of}
 
--- ---- the walk over a trace that isn't refused
 
 -- no refusal of the trace
 abbrev IsOfCert : Option Event → Type 0
@@ -107,7 +106,7 @@ some_is_not_none x o is none = false≢true (ap is_some (sym none ∙ is))
 whole_is : (r : Trace) (requests : Trail) (dropped : ℕ) → IsWhole r requests dropped → trace_in r ≡ requests
 whole_is r requests dropped whole = ap (λ xs. record { objects = xs; fills = r.fills }) whole.requests ∙ ap (λ fills. record { objects = requests.objects; fills = fills }) whole.marks
 
--- ---- bounds
+-- bounds
 
 module _ (format : Format) (asked : BoundSettings) (source report made : Device) (good : IsGoodTrace format source.before) (denominator : HasDenominator format asked source.before)
     (source_works : ¬ (HasFailed source)) (report_works : ¬ (HasFailed report)) (made_works : ¬ (HasFailed made)) where
@@ -137,7 +136,7 @@ module _ (format : Format) (asked : BoundSettings) (source report made : Device)
   bounds_complete (FlagCount flags requests) e = absurd e.0
   bounds_complete (Impossible cause capacity) e = absurd e.0
 
--- ---- checks
+-- checks
 
 module _ (format : Format) where
   yes_at : (before text : Option (List ℕ)) (requests : Trail) (dropped : ℕ) (h : Header) (records : List Record) → IsGoodTrace format before → IsSome text
@@ -207,7 +206,7 @@ module _ (format : Format) where
     refine_complete (FlagCount flags requests) e = absurd e.0
     refine_complete (Impossible cause capacity) e = absurd e.0
 
--- ---- replays, and curves over capacities
+-- replays, and curves over capacities
 
 module _ (format : Format) (IsText : List ℕ → Type 0) (source report : Device) (good : IsGoodTrace format source.before)
     (source_works : ¬ (HasFailed source)) (report_works : ¬ (HasFailed report)) where
@@ -233,7 +232,7 @@ module _ (format : Format) (IsText : List ℕ → Type 0) (source report : Devic
   report_complete (FlagCount flags requests) e = absurd e.0
   report_complete (Impossible cause capacity) e = absurd e.0
 
--- ---- curves
+-- curves
 
 module _ (format : Format) (source report : Device) (good : IsGoodTrace format source.before)
     (source_works : ¬ (HasFailed source)) (report_works : ¬ (HasFailed report)) where
@@ -269,7 +268,7 @@ module _ (format : Format) (source report : Device) (good : IsGoodTrace format s
   curve_complete (FlagCount flags requests) e = absurd e.0
   curve_complete (Impossible cause capacity) e = absurd e.0
 
--- ---- demos
+-- demos
 
 module _ (drawing : DrawSettings) (asked : BoundSettings) (report : Device) (denominator : ¬ (RefusesDenominator asked (trace_drawn drawing))) (report_works : ¬ (HasFailed report)) where
   demo_complete : (status : Status) → DemoEnds drawing asked report (ending_of status) → (status ≡ Done) ⊎ (status ≡ NoMemory)
@@ -290,7 +289,7 @@ module _ (drawing : DrawSettings) (asked : BoundSettings) (report : Device) (den
   demo_complete (FlagCount flags requests) e = absurd e.0
   demo_complete (Impossible cause capacity) e = absurd e.0
 
--- ---- upgrades
+-- upgrades
 
 module _ (source report made : Device) (good : IsGoodCertificate source.before) (source_works : ¬ (HasFailed source)) (report_works : ¬ (HasFailed report)) (made_works : ¬ (HasFailed made)) where
   -- a certificate without a fault isn't refused for one
@@ -314,7 +313,6 @@ module _ (source report made : Device) (good : IsGoodCertificate source.before) 
   upgrade_complete (FlagCount flags requests) e = absurd e.0
   upgrade_complete (Impossible cause capacity) e = absurd e.0
 
--- ---- a whole run
 
 -- a command whose inputs are good ends in its answer
 module _ (d : Devices) (status : Status) (works : NoneFails d) where

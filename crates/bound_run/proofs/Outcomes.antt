@@ -47,7 +47,6 @@ not_loaded format before after faults_before faults_after trace.InputTooLong why
 not_loaded format before after faults_before faults_after trace.TooManyRequests why lost = (refused_all format before after faults_before faults_after trace.TooManyRequests why, lost)
 not_loaded format before after faults_before faults_after trace.NoMemory why lost = tt
 
--- ---- bounds
 
 -- the bounds of a trace, once it is loaded
 pub ready_of : (format : Format) (asked : BoundSettings) (d : Device) (requests : Trail) (dropped : ℕ) (cert report : List ℕ)
@@ -100,7 +99,7 @@ reports_written IsText Refuses report text done is all = (text, is, all)
 reports_written IsText Refuses report text unreported is less = (text, is, less)
 reports_written IsText Refuses report text (refused why) is written = absurd written
 
--- ---- curves
+-- curves
 
 module _ (format : Format) (source : Device) where
   -- what refuses the trace refuses its curve
@@ -113,7 +112,6 @@ module _ (format : Format) (source : Device) where
   curve_refused requests dropped (curve.Unequal first other) loaded why = record { requests = requests; dropped = dropped; loaded = loaded; clash = why }
   curve_refused requests dropped curve.NoMemory loaded why = tt
 
--- ---- demos
 
 -- what refuses the bounds of the trace refuses the demo
 pub demo_refused : (drawing : DrawSettings) (asked : BoundSettings) (fault : BoundsFault) → FailsBounds asked (trace_drawn drawing) fault → RefusesDemo drawing asked (refusal_of_bounds fault)

@@ -28,7 +28,7 @@ use Rattle.bound_run.specs.Reports.{refined_report}
 use Rattle.bound_run.proofs.HeaderRanges.{still_in_range}
 use Rattle.bound_run.proofs.MadeOf.{some_units}
 
--- ---- the records
+-- the records
 
 pub prices_of-with_prices : (records : List Record) (prices : List ℕ) → length prices ≡ length records → prices_of (with_prices records prices) ≡ prices
 prices_of-with_prices [] [] same = refl
@@ -65,7 +65,7 @@ in_range (r ∷ records) (p ∷ prices) each small =
     (record { price = omega (arith, sum_by-cons (λ (n : ℕ). n) p prices); flow = (All-head IsRecordInRange r records each).flow })
     (in_range records prices (All-tail IsRecordInRange r records each) (omega (arith, sum_by-cons (λ (n : ℕ). n) p prices)))
 
--- ---- the prices
+-- the prices
 
 module _ {E : Type 0} (width : ℕ) (trace : Requests) (h : Header) (records : List Record) (valid : IsValid trace.objects trace.fills h records) where
   -- prices that are refined for the intervals of the trace refine those of its certificate
@@ -89,7 +89,7 @@ module _ {E : Type 0} (width : ℕ) (trace : Requests) (h : Header) (records : L
         settled = subst (λ xs. AreSettled xs h.unit (units_of h) h.denominator width x.prices) items settled;
       }
 
--- ---- the certificate
+-- the certificate
 
 module _ (width : ℕ) (trace : Requests) (h : Header) (records : List Record) (valid : IsValid trace.objects trace.fills h records) (to : Refinement) (refines : RefinesPrices width trace h to) where
   abbrev made : Header
@@ -173,7 +173,6 @@ module _ (width : ℕ) (trace : Requests) (h : Header) (records : List Record) (
   pub refined_texts : (format : Format) (dropped : ℕ) (cert report : List ℕ) → cert ≡ cert_text made refined → report ≡ refined_report (counting_of format h trace) h.upper (verdict_on trace made) dropped → AreRefinedTexts format width trace dropped h records cert report
   refined_texts format dropped cert report cert_is report_is = record { made = made; refined = refined; refinement = refinement; cert_is = cert_is; report_is = report_is }
 
--- ---- the run
 
 -- what comes of a certificate that was kept
 pub refined_all : (format : Format) (width : ℕ) (source cert : Device) (requests : Requests) (dropped : ℕ) (h : Header) (records : List Record) (written report : List ℕ)

@@ -53,7 +53,6 @@ pub record HasRewritten (before : Option (List ℕ)) (faults : ℕ) (h : Header)
   pub loses : LosesPrefix before left
   pub taken : IsTaken lines.fresh.lines cert.lines before left
 
--- ---- what is refused
 
 -- little was read beyond a line that was reached
 near_of : (before after : Option (List ℕ)) (x y n : ℕ) (end : lines.Reader) → IsTaken lines.fresh.lines end.lines before after → IfSome before (λ t. taken end ≤ bytes_through n t + 65536) → IsNearLineOf n (device before after x y)
@@ -74,7 +73,7 @@ refused_by before left after x y z cert end (text.Trailing n) why later within n
     (if_one before _ _ (fault_is (text.Trailing n) why) (λ t is. ap text_event is), near_of before after x z n end lost (near n within))
 refused_by before left after x y z cert end text.ReadFault why later within near fault_is lost = new_fault_since x y z later why
 
--- ---- the header
+-- the header
 
 module _ (before after : Option (List ℕ)) (x z : ℕ) (end : lines.Reader) where
   -- the bytes of the lines of the header
@@ -114,7 +113,7 @@ module _ (before after : Option (List ℕ)) (x z : ℕ) (end : lines.Reader) whe
     taken = lost;
   }
 
--- ---- a record
+-- a record
 
 module _ (before left after : Option (List ℕ)) (x y z : ℕ) (h : Header) (cert end : lines.Reader) (written : List ℕ) (records : List Record) (so_far : HasRewritten before x h cert left y written records) where
   -- what is taken through the call
@@ -150,7 +149,7 @@ module _ (before left after : Option (List ℕ)) (x y z : ℕ) (h : Header) (cer
     taken = lost_through loses lost;
   }
 
-  -- ---- the end
+  -- the end
 
   pub all_rewritten : (rewritten : List ℕ) → cert.left ≡ 0 → lines.EndRead {A = Unit {0}} cert end (device left after y z) (Ok tt) → rewritten ≡ written ++ line (codes "end") → IsRewritten (device before after x z) h rewritten
   all_rewritten rewritten full read is = record {
@@ -168,7 +167,6 @@ module _ (before left after : Option (List ℕ)) (x y z : ℕ) (h : Header) (cer
         is ∙ ap (λ w. w ++ line (codes "end")) so_far.text ∙ three_parts head all (codes "end");
   }
 
--- ---- what is upgraded
 
 -- a valid certificate is valid in each version of its text
 as_valid : (trace : List Object) (fills : List Bool) (h : Header) (version : ℕ) (records : List Record) → IsHeaderInRange (record h { version = version }) → IsValid trace fills h records → IsValid trace fills (record h { version = version }) records

@@ -35,7 +35,6 @@ less-at x y ys b same = ap (λ s. cond (not s) (y ∷ less x ys) (less x ys)) sa
 asks-at_other : (x y : Object) (ys : List Object) → same_object x y ≡ false → asks_for x (y ∷ ys) ≡ asks_for x ys
 asks-at_other x y ys other = ap (λ b. b || asks_for x ys) other
 
--- ---- whether an object is in it
 -- the sizes down to x itself
 abbrev pub down_to : Object → List Object → ℕ
 down_to x ys = total_size (since x ys) + x.size
@@ -94,7 +93,6 @@ fitting-size x room ys there =
 pub fitting-large : (x : Object) (room : ℕ) (ys : List Object) → room < x.size → asks_for x (fitting room ys) ≡ false
 fitting-large x room ys large = asks-fitting x room ys ∙ and_right (asks_for x ys) (leb (down_to x ys) room) (lt-leb (down_to x ys) room (omega arith))
 
--- ---- x moves to the front
 -- where it is in the prefix, the others of the prefix are those that fit behind it
 pub fitting-hit : (x : Object) (room : ℕ) (ys : List Object) → Distinct ys → asks_for x (fitting room ys) ≡ true → less x (fitting room ys) ≡ fitting (room - x.size) (less x ys)
 fitting-hit x room [] apart there = cc
@@ -155,7 +153,7 @@ fitting-miss x room (y ∷ ys) small none =
     ∙ sym (ap (fitting (room - x.size)) goes))
     (cases_lt room y.size)
 
--- ---- whole lists
+-- whole lists
 pub fitting-all : (room : ℕ) (xs : List Object) → total_size xs ≤ room → fitting room xs ≡ xs
 fitting-all room [] within = refl
 fitting-all room (x ∷ xs) within =

@@ -12,7 +12,7 @@ use Rattle.byte_curve.specs.Curves.{AreHits}
 use Rattle.byte_curve.specs.Distances.{is_hit, is_counted_hit}
 use Rattle.byte_curve.proofs.LruBytes.{sum-more}
 
--- ---- one place has more
+-- one place has more
 sum_take-raised : (f : Hits → ℕ) (found : List Hits) (d k extra : ℕ) (new : Hits) → d < length found → f new ≡ f (get_or found d no_hits) + extra
     → sum_by f (take k (set found d new)) ≡ sum_by f (take k found) + cond (ltb d k) extra 0
 sum_take-raised f [] d k extra new within more = absurd (omega arith)
@@ -125,7 +125,7 @@ module _ (trace : List Object) (fills : List Bool) (warmup : ℕ) (capacities : 
     pub hits-missed : ((k : ℕ) → k < length capacities → is_hit (get_or capacities k 0) trace t ≡ false) → (k : ℕ) → k < length capacities → is_counted_hit (get_or capacities k 0) warmup trace fills t ≡ false
     hits-missed none k low = and_right (counts_past warmup fills t) (is_hit (get_or capacities k 0) trace t) (none k low)
 
--- ---- the hits found for each capacity become the sums of those up to it
+-- the hits found for each capacity become the sums of those up to it
 pub record IsSummed (found sums : List Hits) (k : ℕ) : Type 0 where
   pub places : length sums ≡ length found
   pub hits : (j : ℕ) → j < k → j < length found → (get_or sums j no_hits).hits ≡ hits_to found j
@@ -178,7 +178,7 @@ module _ (found sums : List Hits) (k : ℕ) (low : 1 ≤ k) (within : k < length
           subst (λ i. f (get_or (set sums k new) i no_hits) ≡ total i) e (ap f (get_or-set_same sums k new no_hits (omega (arith, so_far.places))) ∙ here))
           (cases_lt j k)
 
--- ---- after the last request
+-- after the last request
 module _ (trace : List Object) (fills : List Bool) (warmup : ℕ) (capacities : List ℕ) where
   -- the sums of what was found are the hits
   pub are-hits : (found hits : List Hits) → AreFound trace fills warmup capacities (length trace) found → length hits ≡ length found

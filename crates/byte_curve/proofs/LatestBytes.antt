@@ -30,7 +30,7 @@ or_true : (b : Bool) → (b || true) ≡ true
 or_true true = refl
 or_true false = refl
 
--- ---- which requests are the latest of their objects
+-- which requests are the latest of their objects
 length-latest : (xs : List Object) → length (latest_bytes xs) ≡ length xs
 length-latest [] = refl
 length-latest (x ∷ xs) = omega (arith, length-latest xs)

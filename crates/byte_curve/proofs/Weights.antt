@@ -63,7 +63,7 @@ weigh-reverse f (y ∷ ys) =
     at true w n = refl
     at false w n = omega arith
 
--- ---- the objects of a list
+-- the objects of a list
 module _ (f : Object → ℕ) (trace : List Object) where
   prefixes : (t : ℕ) → t ≤ length trace → sum_by f (objects_of (take t trace)) ≡ weigh f (take t trace)
   prefixes zero within = refl
@@ -99,7 +99,7 @@ sum-objects f xs =
     let all : take (length xs) xs ≡ xs = take_all (length xs) xs (omega arith) in
     ap (λ ys. sum_by f (objects_of ys)) (sym all) ∙ prefixes f xs (length xs) (omega arith) ∙ ap (weigh f) all
 
--- ---- the most recently used objects
+-- the most recently used objects
 less-at : (x y : Object) (ys : List Object) (b : Bool) → same_object x y ≡ b → less x (y ∷ ys) ≡ cond (not b) (y ∷ less x ys) (less x ys)
 less-at x y ys b same = ap (λ s. cond (not s) (y ∷ less x ys) (less x ys)) same
 
@@ -138,7 +138,7 @@ sum-recent f (x ∷ h) =
     ))
     (cases_Bool (asks_for x h))
 
--- ---- the requests that pass a test
+-- the requests that pass a test
 module _ (p : Object → Bool) where
   filter-at : (y : Object) (ys : List Object) (b : Bool) → p y ≡ b → filter p (y ∷ ys) ≡ cond b (y ∷ filter p ys) (filter p ys)
   filter-at y ys b is = ap (λ t. cond t (y ∷ filter p ys) (filter p ys)) is

@@ -18,7 +18,7 @@ use Rattle.stack_curve.specs.Distances.{counted_distance, earlier, since, differ
 use Rattle.stack_curve.proofs.Different.{asks_for, kinds, kinds-last, kinds-reverse, asks-last, asks-reverse, asks-first, asks-next, asks-none, asks-at, different-kinds, different-since, since-here, since-other}
 use Rattle.stack_curve.proofs.LruCurve.{hits-more}
 
--- ---- which requests are the latest of their objects
+-- which requests are the latest of their objects
 length-latest : (xs : List Object) → length (latest_of xs) ≡ length xs
 length-latest [] = refl
 length-latest (x ∷ xs) = omega (arith, length-latest xs)
@@ -72,14 +72,14 @@ latest-again x (y ∷ ys) (suc a) within same later =
     or_false true = refl
     or_false false = refl
 
--- ---- the requests after the latest one for x
+-- the requests after the latest one for x
 since-seam : (x y : Object) (ms ns : List Object) → asks_for x ms ≡ false → same_object x y ≡ true → since x (ms ++ y ∷ ns) ≡ ms
 since-seam x y [] ns none same = since-here x y ns same
 since-seam x y (m ∷ ms) ns none same =
     let parts : (same_object x m ≡ false) × (asks_for x ms ≡ false) = or_parts _ _ none in
     since-other x m (ms ++ y ∷ ns) parts.0 ∙ ap (λ zs. m ∷ zs) (since-seam x y ms ns parts.1 same)
 
--- ---- a count goes up by one
+-- a count goes up by one
 sum_take-raised : (counts : List ℕ) (d k : ℕ) → d < length counts
     → sum_by (λ n. n) (take k (set counts d (get_or counts d 0 + 1))) ≡ sum_by (λ n. n) (take k counts) + cond (ltb d k) 1 0
 sum_take-raised [] d k within = absurd (omega arith)
@@ -118,7 +118,7 @@ module _ (trace : List Object) where
   kinds-all zero t end = omega (arith, ap kinds (take_all t trace (omega arith)), different-kinds trace)
   kinds-all (suc n) t end = omega (arith, kinds-more t (omega arith), kinds-all n (t + 1) (omega arith))
 
-  -- ---- the marks
+  -- the marks
   pub marks-start : (marks : List Bool) (n : ℕ) → n ≡ length trace → marks ≡ replicate n false → marks ≡ marks_at trace 0
   marks-start marks n end none = let e : n ≡ length trace - 0 = omega arith in none ∙ ap (λ k. replicate k false) e
 
@@ -224,7 +224,7 @@ module _ (trace : List Object) where
     pub no_distance : IsFirst trace t → stack_distance trace t ≡ None
     no_distance first = ap (λ b. cond b (Some (different (request_at trace t ∷ since (request_at trace t) (earlier trace t)))) None) (asks-reverse (request_at trace t) (take t trace) ∙ asks-first trace t within first)
 
-    -- ---- the counts
+    -- the counts
     pub counted-none : (fills : List Bool) (counts : List ℕ) → counted_distance trace fills t ≡ None → AreCounts trace fills t counts → AreCounts trace fills (t + 1) counts
     counted-none fills counts none so_far = record {
       places = so_far.places;
@@ -304,7 +304,7 @@ module _ (trace : List Object) where
       (λ t low high. ap {B = ℕ} (λ b. cond b 1 0) (counted-clipped fills slots t (omega arith) all)))
       (cases_lt slots (length (objects_of trace)))
 
--- ---- each count becomes the sum of those up to it
+-- each count becomes the sum of those up to it
 pub record IsSummed (counts sums : List ℕ) (k : ℕ) : Type 0 where
   pub places : length sums ≡ length counts
   pub before : (j : ℕ) → j < k → j < length counts → get_or sums j 0 ≡ sum_to counts j

@@ -79,7 +79,7 @@ kinds-reverse (y ∷ ys) =
     ∙ ap (λ b. cond b (kinds (reverse ys)) (1 + kinds (reverse ys))) (asks-reverse y ys)
     ∙ ap (λ k. cond (asks_for y ys) k (1 + k)) (kinds-reverse ys)
 
--- ---- the objects of a list
+-- the objects of a list
 pub asks-none : (x : Object) (xs : List Object) → ((k : ℕ) → k < length xs → same_object x (request_at xs k) ≡ false) → asks_for x xs ≡ false
 asks-none x [] none = refl
 asks-none x (y ∷ ys) none = ap (λ b. b || asks_for x ys) (none 0 (omega arith)) ∙ asks-none x ys (λ k low. none (suc k) (omega arith))
@@ -145,7 +145,7 @@ different-kinds xs =
     let all : take (length xs) xs ≡ xs = take_all (length xs) xs (omega arith) in
     ap different (sym all) ∙ prefixes xs (length xs) (omega arith) ∙ ap kinds all
 
--- ---- the requests after the latest one for x
+-- the requests after the latest one for x
 pub since-other : (x y : Object) (ys : List Object) → same_object x y ≡ false → since x (y ∷ ys) ≡ y ∷ since x ys
 since-other x y ys other = take_while-cons (λ z. not (same_object x z)) y ys ∙ ap (λ b. cond (not b) (y ∷ since x ys) []) other
 

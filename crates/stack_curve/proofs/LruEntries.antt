@@ -18,7 +18,7 @@ use Rattle.policy_model.proofs.Sound.{after-hit, after-small, after-large}
 use Rattle.stack_curve.proofs.Different.{asks_for}
 use Rattle.stack_curve.proofs.Recent.{less, recent, Distinct-recent, asks-shorter, take-hit, take-miss}
 
--- ---- each element of a list
+-- each element of a list
 all-less : (P : Object → Type 0) (x : Object) (ys : List Object) → AllByRecursion P ys → AllByRecursion P (less x ys)
 all-less P x [] each = tt
 all-less P x (y ∷ ys) each = at (not (same_object x y)) (all-less P x ys each.1)
@@ -36,7 +36,7 @@ all-take P zero xs each = tt
 all-take P (suc k) [] each = tt
 all-take P (suc k) (x ∷ xs) each = (each.0, all-take P k xs each.1)
 
--- ---- entries in the other order
+-- entries in the other order
 has_entry-last : (k : ℕ) (entries : List Entry) (e : Entry) → has_entry (entries ++ e ∷ []) k ≡ (eqb e.object k || has_entry entries k)
 has_entry-last k [] e = refl
 has_entry-last k (f ∷ rest) e = ap (λ b. eqb f.object k || b) (has_entry-last k rest e) ∙ swap (eqb f.object k) (eqb e.object k) (has_entry rest k)

@@ -22,7 +22,7 @@ abbrev pub Distinct : List Object → Type 0
 Distinct [] = Unit {0}
 Distinct (x ∷ xs) = (asks_for x xs ≡ false) × Distinct xs
 
--- ---- a list without an object
+-- a list without an object
 less-head : (x y : Object) (ys : List Object) (b : Bool) → same_object x y ≡ b → less x (y ∷ ys) ≡ cond (not b) (y ∷ less x ys) (less x ys)
 less-head x y ys b same = ap (λ s. cond (not s) (y ∷ less x ys) (less x ys)) same
 
@@ -80,7 +80,7 @@ length-less x (y ∷ ys) apart there =
     (λ (other : same_object x y ≡ false). omega (arith, ap length (less-head x y ys false other), length-less x ys apart.1 (sym (asks-head x y ys other) ∙ there)))
     (cases_Bool (same_object x y))
 
--- ---- the most recently used objects
+-- the most recently used objects
 pub asks-recent : (x : Object) (h : List Object) → asks_for x (recent h) ≡ asks_for x h
 asks-recent x [] = refl
 asks-recent x (y ∷ h) =
@@ -150,7 +150,6 @@ asks-take x (suc k) (y ∷ ys) =
     ∙ sym (ap (λ b. (b || asks_for x ys) && nat_lt (length (since x (y ∷ ys))) (suc k)) later ∙ ap (λ zs. asks_for x ys && nat_lt (length zs) (suc k)) (since-other x y ys later)))
     (cases_Bool (same_object x y))
 
--- ---- the first k of them after one more request
 -- where x is among them it moves to the front
 pub take-hit : (x : Object) (k : ℕ) (ys : List Object) → Distinct ys → asks_for x (take (suc k) ys) ≡ true → less x (take (suc k) ys) ≡ take k (less x ys)
 take-hit x k [] apart there = cc

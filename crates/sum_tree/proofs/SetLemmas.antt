@@ -158,7 +158,6 @@ mended-tree greatest places node sums end mended = record {
   small = mended.small;
 }
 
--- ---- in a list of other numbers
 -- a leaf is set
 pub leaf-set : {A : Type 0} (value : A → ℕ) (greatest places place : ℕ) (sums : List A) (leaf : A) → IsTree greatest places (map value sums) → place < places → value leaf ≤ greatest
     → IsMended greatest places (places + place) (map value (set sums (places + place) leaf))

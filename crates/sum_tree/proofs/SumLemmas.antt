@@ -96,7 +96,6 @@ module _ (greatest places from to : ℕ) (sums : List ℕ) (tree : IsTree greate
             (cases_lt low high);
       }
 
--- ---- in a list of other numbers
 -- the sum at a node is the value that stands there
 pub value-at : {A : Type 0} (value : A → ℕ) (sums : List A) (node : ℕ) (here : A) → node < length sums → here ≡ get_or sums node here → value here ≡ sum_at (map value sums) node
 value-at value sums node here within is = ap value is ∙ sym (get_or-map value sums node here 0 within)
@@ -138,7 +137,6 @@ module _ {A : Type 0} (value : A → ℕ) (greatest places from to : ℕ) (sums 
     high-fits limit fits =
         omega (arith, at_high, sum-small greatest places from to (map value sums) tree order within _ _ _ (high-odd greatest places from to (map value sums) tree order within low high (value sum) even odd counted).0)
 
--- ---- no leaf
 -- every sum of no leaf is 0
 pub tree-none : (greatest places : ℕ) (sums : List ℕ) → places < 2 ^ 32 → sums ≡ replicate (2 * places) 0 → IsTree greatest places sums
 tree-none greatest places sums few none =

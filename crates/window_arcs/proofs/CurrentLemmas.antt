@@ -34,7 +34,6 @@ arc_of_rank whole width r i order ranks arcs in_range is within read same =
       subst (λ (some : List OuterArc). IsArc whole.steps (arc_at some i)) (sym same) (in_range.arcs_fit i no_arc low),
     )
 
--- ---- ranges of a list
 -- one after another
 pub slice_range-append : {X : Type 0} (xs : List X) (a b c : ℕ) → a ≤ b → b ≤ c → slice_range xs a b ++ slice_range xs b c ≡ slice_range xs a c
 slice_range-append xs a b c first second =
@@ -70,7 +69,7 @@ pub filter_none : (p : ℕ → Bool) (xs : List ℕ) → ((j : ℕ) → j < leng
 filter_none p [] none = refl
 filter_none p (x ∷ xs) none = ap (λ (b : Bool). cond b (x ∷ filter p xs) (filter p xs)) (none 0 (omega arith)) ∙ filter_none p xs (λ j within. none (suc j) (omega arith))
 
--- ---- passing arcs by their ranks
+-- passing arcs by their ranks
 module _ (cut : Cut) (order : List ℕ) where
   pub passing-append : (a b c : ℕ) → a ≤ b → b ≤ c → passing_numbers cut order a c ≡ passing_numbers cut order a b ++ passing_numbers cut order b c
   passing-append a b c first second =
@@ -100,7 +99,7 @@ module _ (cut : Cut) (order : List ℕ) where
 abbrev pub IsNext : Cut → List ℕ → ℕ → Type 0
 IsNext cut order r = r < length order → passes_at cut (get_or order r 0) ≡ true
 
--- ---- what the next rank with a weight says of passing arcs
+-- what the next rank with a weight says of passing arcs
 module _ (cut : Cut) (order passing : List ℕ) (in_range : IsInstance cut.whole) (low : (r : ℕ) → r < length order → get_or order r 0 < length cut.whole.arcs) (are : passing ≡ map (passing_weight cut) order) where
   weight_at : (r : ℕ) → r < length order → get_or passing r 0 ≡ passing_weight cut (get_or order r 0)
   weight_at r within = ap (λ ps. get_or ps r 0) are ∙ get_or-map (passing_weight cut) order r 0 0 within
@@ -158,7 +157,7 @@ module _ (cut : Cut) (order passing : List ℕ) (in_range : IsInstance cut.whole
       ∙ ap (λ ns. old ++ (passing_numbers cut order first (r + 1) ++ ns)) (sym rest)
       ∙ ap (λ ns. old ++ ns) (sym (passing-append cut order first (r + 1) n (omega arith) (omega arith)))
 
--- ---- numbers that have a key, and pass a test
+-- numbers that have a key, and pass a test
 filter-filter : (p q : ℕ → Bool) (xs : List ℕ) → filter p (filter q xs) ≡ filter (λ i. q i && p i) xs
 filter-filter p q [] = refl
 filter-filter p q (x ∷ xs) = at (q x) (filter-filter p q xs)
@@ -188,7 +187,7 @@ pub number_low : (keys : List ℕ) (k n j : ℕ) → length keys ≡ n → j < l
 number_low keys k n j many within =
     All-filter_range (λ i. i < n) (λ i. eqb (get_or keys i 0) k) 0 (length keys) (λ i low high passes. omega (arith, many)) j 0 within
 
--- ---- a loop that keeps those that pass
+-- a loop that keeps those that pass
 pub passes_more : (p : ℕ → Bool) (xs old now new : List ℕ) (i : ℕ) → i < length xs → now ≡ old ++ filter p (take i xs) → p (get_or xs i 0) ≡ true → new ≡ now ++ get_or xs i 0 ∷ [] → new ≡ old ++ filter p (take (i + 1) xs)
 passes_more p xs old now new i within so_far passes is =
     is

@@ -56,7 +56,6 @@ lowered_le kept parts old flows lower i =
     (λ (none : times i kept ≤ 0). omega (arith, lower.others i (outside i kept (omega arith))))
     (cases_lt 0 (times i kept))
 
--- ---- passing arcs that lose their flow
 -- those from some rank to the one before another have none, and no flow but theirs has changed
 pub record IsEmptying (cut : Cut) (order : List ℕ) (end : ℕ) (old : List ℕ) (rank : ℕ) (live flows : List ℕ) : Type 0 where
   pub lives : AreLive cut order live flows

@@ -14,7 +14,7 @@ use Rattle.window_arcs.specs.Current.{IsSplit}
 use Rattle.window_arcs.specs.Passing.{ends_at, local_numbers, starts_at}
 use Rattle.window_arcs.proofs.Members.{times, times_at, times_once, times_passes}
 
--- ---- numbers that are kept
+-- numbers that are kept
 module _ (cut : Cut) (kept full empty : List ℕ) (split : IsSplit cut kept full empty) where
   abbrev test : ℕ → Bool
   test i = meets cut.width cut.number (arc_at cut.whole.arcs i)

@@ -85,7 +85,7 @@ beside_at (x ∷ xs) (v ∷ vs) (suc j) same once within =
     ap (λ (b : Bool). cond b v (beside xs vs i)) (ne_eqb x i other)
     ∙ beside_at xs vs j (omega arith) (λ k. omega (arith, once k, times-cons k x xs)) (omega arith)
 
--- ---- the numbers of a range that pass a test
+-- the numbers of a range that pass a test
 module _ (p : ℕ → Bool) (i : ℕ) where
   abbrev counts : ℕ → ℕ
   counts x = cond (p x) (cond (eqb x i) 1 0) 0
@@ -154,7 +154,6 @@ module _ (p : ℕ → Bool) (i : ℕ) where
       (λ (past : n ≤ i). absurd (omega (arith, some, times_past n past)))
       (cases_lt i n)
 
--- ---- what a filter has
 -- a filter passes what it has
 pub passes_in : (p : ℕ → Bool) (xs : List ℕ) (j : ℕ) → j < length (filter p xs) → p (get_or (filter p xs) j 0) ≡ true
 passes_in p [] j within = absurd (omega arith)

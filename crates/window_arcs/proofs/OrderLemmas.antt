@@ -82,7 +82,7 @@ ordered width k arcs collected sorted are all few moved rising =
           );
     }
 
--- ---- the numbers of an order
+-- the numbers of an order
 module _ (width : ℕ) (arcs : List OuterArc) (numbers : List ℕ) (all : IsPermutation (ranked_numbers width arcs) numbers) where
   abbrev test : ℕ → Bool
   test i = passes_some width (arc_at arcs i)

@@ -17,7 +17,7 @@ use Rattle.window_arcs.specs.Passing.{IsOrder, ends_at, local_numbers, passes, p
 use Rattle.window_arcs.proofs.CurrentLemmas.{passing-append}
 use Rattle.window_arcs.proofs.Members.{sum_by-agree_in}
 
--- ---- one arc
+-- one arc
 module _ (width k : ℕ) (arc : OuterArc) (some : 0 < width) (order : arc.start < arc.end) where
   start_low : width * (arc.start / width) ≤ arc.start
   start_low = omega arith
@@ -105,7 +105,7 @@ pass_somewhere width k arc some passing =
     let before : width * (first + 1) ≤ width * (k + 1) = mul-le-mul_left width (omega (arith, early)) in
     and_from (nat_le arc.start (width * first)) (nat_lt (width * (first + 1)) arc.end) (le-leb arc.start (width * first) (omega (arith, near.0))) (lt-ltb (width * (first + 1)) arc.end (omega (arith, before, until)))
 
--- ---- sums over a range
+-- sums over a range
 sum_of_three : (f a b c : ℕ → ℕ) (from n past : ℕ) → from + n ≡ past → ((i : ℕ) → i < past → f i ≡ a i + b i + c i)
     → sum_by f (range_with_len from n) ≡ sum_by a (range_with_len from n) + sum_by b (range_with_len from n) + sum_by c (range_with_len from n)
 sum_of_three f a b c from zero past all each = refl
@@ -120,7 +120,7 @@ sum_of_three f a b c from (suc n) past all each =
       sum_of_three f a b c (from + 1) n past (omega arith) each,
     )
 
--- ---- all arcs
+-- all arcs
 module _ (cut : Cut) (order ranks : List ℕ) (some : 0 < cut.width) (in_range : IsInstance cut.whole) (is : IsOrder cut.width cut.whole.arcs order ranks) (h : ℕ → ℕ) where
   abbrev all : List ℕ
   all = range_with_len 0 (length cut.whole.arcs)

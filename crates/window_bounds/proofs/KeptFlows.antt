@@ -22,7 +22,7 @@ use Rattle.window_bounds.proofs.Places.{place_of}
 use Rattle.window_arcs.proofs.CurrentLemmas.{length-slice_range-le, slice_range-at}
 use Rattle.window_arcs.proofs.Members.{beside, beside_at, beside_none, outside, passes_in, place_in, place_of_member, sum_by-agree_in, sum_by-le_in, times, times_at, times_failing, times_once, times_passes, times_there}
 
--- ---- lists of pairs
+-- lists of pairs
 pub sum_zip_maps : {X Y : Type 0} (g : X × Y → ℕ) (a : ℕ → X) (b : ℕ → Y) (xs : List ℕ) → sum_by g (zip (map a xs) (map b xs)) ≡ sum_by (λ i. g (a i, b i)) xs
 sum_zip_maps g a b [] = refl
 sum_zip_maps g a b (x ∷ xs) =
@@ -46,7 +46,6 @@ paid a w c s (x ∷ xs) each =
     let both : (w x + sum_by w xs) * s ≡ w x * s + sum_by w xs * s = grind arith in
     omega (arith, sum_by-cons a x xs, sum_by-cons w x xs, sum_by-cons c x xs, ap (λ n. n * s) (sum_by-cons w x xs), rest, first, both)
 
--- ---- a passing arc
 -- its part covers all steps of the window, and costs the share of a whole window
 pub record IsWholePart (width : ℕ) (arc part : OuterArc) : Type 0 where
   pub start : part.start ≡ 0
@@ -103,7 +102,7 @@ flow_in_map cut width k flow i within meeting =
     ∙ get_or-map flow numbers (count_by test (take i range)) 0 0 has.within
     ∙ ap flow (has.found ∙ there)
 
--- ---- all arcs of the window
+-- all arcs of the window
 module _ (c : Current) (ranks : KeptRanks) (kept prices flows : List ℕ) (fitting : IsFitting c ranks kept prices flows) where
   abbrev width : ℕ
   width = c.cut.width
@@ -274,7 +273,7 @@ module _ (c : Current) (ranks : KeptRanks) (kept prices flows : List ℕ) (fitti
         zeros [] = refl
         zeros (y ∷ ys) = omega (arith, sum_by-cons (λ (i : ℕ). 0) y ys, zeros ys)
 
-    -- ---- the instances
+    -- the instances
     abbrev window : Instance
     window = window_instance c.cut.whole width k
 
@@ -332,7 +331,7 @@ module _ (c : Current) (ranks : KeptRanks) (kept prices flows : List ℕ) (fitti
         together : (u f s : ℕ) → f ≤ u → (u - f) * s + f * s ≡ u * s
         together u f s low = let e : (u - f) + f ≡ u = omega arith in let d : ((u - f) + f) * s ≡ (u - f) * s + f * s = grind arith in sym d ∙ ap (λ n. n * s) e
 
-    -- ---- the schedule
+    -- the schedule
     abbrev over : ℕ → ℕ → ℕ
     over t i = cond (covers t (part i)) (flow i) 0
 
@@ -413,7 +412,7 @@ module _ (c : Current) (ranks : KeptRanks) (kept prices flows : List ℕ) (fitti
       equal_values = values;
     }
 
-    -- ---- the flows so far
+    -- the flows so far
     module _ (mid new : List ℕ) (lower : AreLowered kept flows c.flows mid) (emptied : AreEmptied empty mid new) where
       -- one that meets the window falls to its flow there
       falls : (i : ℕ) → i < length arcs → meets width k (arc i) ≡ true → get_or new i 0 ≡ min (get_or c.flows i 0) (flow i)
