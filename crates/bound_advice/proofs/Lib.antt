@@ -1,1 +1,4 @@
+pub mod GivenWordsLemmas
+pub mod RecentLemmas
+pub mod RefusalLemmas
 pub mod ShownLemmas

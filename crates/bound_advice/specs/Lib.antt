@@ -1,3 +1,9 @@
+pub mod Advices
+pub mod Devices
+pub mod GivenWords
+pub mod Lines
+pub mod Oddities
 pub mod Pages
 pub mod Shell
 pub mod Shown
+pub mod Starts

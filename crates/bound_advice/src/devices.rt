@@ -1,4 +1,7 @@
 //! Why a call of a device failed.
+ghost use Rattle.std.specs.Prelude.{◌≡◌, ◌↔◌, ◌++◌, codes, string_bytes, IfOk, IsTrue};
+ghost use Rattle.bound_advice.specs.Devices.{IsDeviceAdvice, IsLeft, name_of};
+
 use crate::escape::quoted;
 use std::alloc::{AllocError, Global};
 use std::io;
@@ -14,7 +17,9 @@ pub struct Seen<'a> {
 
 impl<'a> Seen<'a> {
     /// What it is called in a message.
-    pub(crate) fn name(&self) -> &'a str {
+    pub(crate) fn name(&self) -> &'a str
+        ensures { result.now ≡ name_of self.now }
+    {
         if self.path == "-" {
             self.standard
         } else {
@@ -23,9 +28,11 @@ impl<'a> Seen<'a> {
     }
 
     /// Whether nobody reads any more what it writes.
-    pub fn is_left(&self) -> bool {
+    pub fn is_left(&self) -> bool
+        ensures { IsTrue result ↔ IsLeft self.now }
+    {
         match self.reason {
-            Some(reason) => reason.kind() == ErrorKind::BrokenPipe,
+            Some(reason) => matches!(reason.kind(), ErrorKind::BrokenPipe),
             None => false,
         }
     }
@@ -51,14 +58,25 @@ impl<'a> Seen<'a> {
     }
 }
 
+// What is said of a device.
+fn named(alloc: Global, name: &str, reason: &str) -> Result<String, AllocError>
+    ensures { IfOk result (λ text. string_bytes text ≡ name.now ++ codes ": " ++ reason.now) }
+{
+    format!(in alloc; "{name}: {reason}")
+}
+
 /// Why a call of a device failed, in the system's words, if anybody is there to hear it.
-pub fn device_advice(alloc: Global, seen: Seen<'_>) -> Result<Option<String>, AllocError> {
+pub fn device_advice(alloc: Global, seen: Seen<'_>) -> Result<Option<String>, AllocError>
+    ensures { IfOk result (λ advice. IsDeviceAdvice seen.entry advice) }
+{
     if seen.is_left() {
         return Ok(None);
     }
-    let name = seen.name();
-    Ok(Some(match seen.reason {
-        Some(reason) => format!(in alloc; "{name}: {reason}")?,
-        None => format!(in alloc; "{name}: it took no more bytes")?,
-    }))
+    match seen.reason {
+        Some(reason) => {
+            let reason = format!(in alloc; "{reason}")?;
+            Ok(Some(named(alloc, seen.name(), reason.as_str())?))
+        }
+        None => Ok(Some(named(alloc, seen.name(), "it took no more bytes")?)),
+    }
 }

@@ -7,6 +7,7 @@
 mod certificates;
 mod devices;
 mod escape;
+mod first_bytes;
 mod pages;
 mod recent;
 mod refusals;

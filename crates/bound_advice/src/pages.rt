@@ -1,8 +1,10 @@
 //! The pages that the program prints in place of a run: how it is called, and its version.
-ghost use Rattle.std.specs.Prelude.{◌≡◌, IsSome};
+ghost use Rattle.std.specs.Prelude.{◌≡◌, map, length, IfSome, IsSome, IsTrue};
 ghost use Rattle.std.specs.Str.{bytes_eq};
 ghost use Rattle.bound_words.specs.Commands.{command_named};
-ghost use Rattle.bound_advice.specs.Pages.{page_named};
+ghost use Rattle.bound_advice.specs.Pages.{is_usage_of, page_named};
+
+use bound_words::{Command, command_named};
 
 /// The program and its version.
 pub const VERSION: &str = "bound_cli 1.0.0";
@@ -42,38 +44,50 @@ pub const COMMANDS: [&str; 9] = [
     "bounds", "check", "replay", "curve", "judge", "demo", "upgrade", "refine", "help",
 ];
 
-/// How a command is called, a line each; of no command one line on where to look.
-pub fn usage_of(command: &str) -> &'static [&'static str] {
+// How a command is called, a line each.
+fn lines_of(command: Command) -> &'static [&'static str]
+    ensures { IsTrue (is_usage_of command (map (λ line. line.now) result.now)) }
+{
     match command {
-        "bounds" => &[
+        Command::Bounds => &[
             "bound_cli bounds TRACE CERT format=FORM capacity=BYTES [block=BYTES] [count=COUNTED]",
             "    [objective=OBJECTIVE] [mode=MODE] [window=STEPS] [denominator=NUMBER]",
             "    [warmup=REQUESTS] [version=VERSION]",
         ],
-        "check" => &["bound_cli check TRACE CERT format=FORM [block=BYTES] [count=COUNTED]"],
-        "replay" => &[
+        Command::Check => &["bound_cli check TRACE CERT format=FORM [block=BYTES] [count=COUNTED]"],
+        Command::Replay => &[
             "bound_cli replay TRACE format=FORM capacity=BYTES policy=POLICY [block=BYTES]",
             "    [count=COUNTED] [warmup=REQUESTS]",
         ],
-        "curve" => &[
+        Command::Curve | Command::CapacityCurve => &[
             "bound_cli curve TRACE format=FORM [capacities=LIST] [block=BYTES] [count=COUNTED]",
             "    [objective=OBJECTIVE] [denominator=NUMBER] [warmup=REQUESTS]",
         ],
-        "judge" => &[
+        Command::Judge => &[
             "bound_cli judge TRACE HITS format=FORM capacity=BYTES [block=BYTES] [count=COUNTED]",
             "    [warmup=REQUESTS]",
         ],
-        "demo" => &[
+        Command::Demo => &[
             "bound_cli demo [seed=NUMBER] [requests=NUMBER] [objects=NUMBER] [capacity=BYTES]",
             "    [objective=OBJECTIVE] [mode=MODE] [window=STEPS] [denominator=NUMBER]",
         ],
-        "upgrade" => &["bound_cli upgrade CERT MADE"],
-        "refine" => &[
+        Command::Upgrade => &["bound_cli upgrade CERT MADE"],
+        Command::Refine => &[
             "bound_cli refine TRACE CERT MADE format=FORM window=STEPS [block=BYTES]",
             "    [count=COUNTED]",
         ],
-        "help" => &["bound_cli help"],
-        _ => &["bound_cli COMMAND ..; bound_cli help has the commands and their words"],
+    }
+}
+
+/// How a command is called, a line each; of no command one line on where to look.
+pub fn usage_of(command: &str) -> &'static [&'static str]
+    ensures command { IfSome (command_named command.now) (λ named. IsTrue (is_usage_of named (map (λ line. line.now) result.now))) }
+    ensures no_command { command_named command.now ≡ None → length result.now ≡ 1 }
+{
+    match command_named(command) {
+        Some(named) => lines_of(named),
+        None if is(command, "help") => &["bound_cli help"],
+        None => &["bound_cli COMMAND ..; bound_cli help has the commands and their words"],
     }
 }
 
@@ -84,8 +98,8 @@ pub enum Page {
     Version,
 }
 
-// Whether a word is this one.
-fn is(word: &str, other: &str) -> bool
+/// Whether a word is this one.
+pub(crate) fn is(word: &str, other: &str) -> bool
     ensures { result ≡ bytes_eq word.now other.now }
 {
     word == other

@@ -1,4 +1,8 @@
 //! The last bytes that were read from a source.
+ghost use Rattle.std.specs.Prelude.{◌≡◌, ◌+◌, ◌-◌, ◌≤◌, ◌++◌, [], drop, find, length, vec_capacity, vec_len, if◌then◌else◌, true, IfOk};
+ghost use Rattle.std.specs.Option.{option_copied};
+ghost use Rattle.bound_advice.specs.Lines.{KeepsLast, is_no_line, is_refused, whole_lines};
+
 use bound_base::NoMemory;
 use std::alloc::Global;
 use trace_lines::{is_blank, trim_cr};
@@ -17,14 +21,13 @@ const BLOCK: u64 = 4096;
 pub(crate) struct Recent {
     bytes: Vec<u8>,
     are_all: bool,
+    ghost has_room: { 262144 ≤ vec_capacity bytes },
 }
 
-// Whether a form refuses a line.
-fn is_refused(form: &str, line: &[u8]) -> bool {
-    let text = trim_cr(line);
-    if is_blank(text) {
-        return false;
-    }
+// Whether a text is no line of a form.
+fn is_no_line(form: &str, text: &[u8]) -> bool
+    ensures { result ≡ is_no_line form.now text.now }
+{
     match form {
         "arc" => trace_arc::parse(text).is_err(),
         "msr" => trace_msr::parse(text, BLOCK).is_err(),
@@ -32,8 +35,20 @@ fn is_refused(form: &str, line: &[u8]) -> bool {
     }
 }
 
+// Whether a form refuses a line.
+fn is_refused(form: &str, line: &[u8]) -> bool
+    ensures { result ≡ is_refused form.now line.now }
+{
+    let text = trim_cr(line);
+    !is_blank(text) && is_no_line(form, text)
+}
+
 impl Recent {
-    pub(crate) fn new(alloc: Global) -> Result<Self, NoMemory> {
+    /// No byte was read yet.
+    pub(crate) fn new(alloc: Global) -> Result<Self, NoMemory>
+        ensures none_read { IfOk result (λ recent. recent.bytes.items ≡ []) }
+        ensures are_all { IfOk result (λ recent. recent.are_all ≡ true) }
+    {
         Ok(Recent {
             bytes: Vec::with_capacity(alloc, ROOM)?,
             are_all: true,
@@ -41,28 +56,52 @@ impl Recent {
     }
 
     // Forgets all bytes but the last that are kept.
-    fn forget(&mut self) {
+    fn forget(&mut self)
+        ensures last { self.new.bytes.items ≡ drop (length self.old.bytes.items - 131072) self.old.bytes.items }
+        ensures all { self.new.are_all ≡ true → (self.old.are_all ≡ true) × (self.new.bytes.items ≡ self.old.bytes.items) }
+    {
         let gone = self.bytes.len().saturating_sub(KEPT);
         self.are_all = self.are_all && gone == 0;
         self.bytes.drain(..gone);
     }
 
-    /// Keeps a piece that was read. Takes a copy of it, and one of the kept bytes now and then.
-    pub(crate) fn keep(&mut self, piece: &[u8]) {
-        for part in piece.chunks(KEPT) {
-            if self.bytes.len() > KEPT {
-                self.forget();
-            }
-            let _ = self.bytes.extend_from_slice(part);
+    // Puts a piece behind the bytes that are kept. There is room for it.
+    fn append(&mut self, piece: &[u8])
+        requires { vec_len self.old.bytes + length piece.now ≤ 262144 }
+        ensures bytes { self.new.bytes.items ≡ self.old.bytes.items ++ piece.now }
+        ensures are_all { self.new.are_all ≡ self.old.are_all }
+    {
+        let _ = self.bytes.extend_from_slice(piece);
+    }
+
+    /// Keeps the last bytes of a piece that was read. Takes a copy of them and of the kept bytes.
+    pub(crate) fn keep(&mut self, piece: &[u8])
+        ensures { KeepsLast self.old.bytes.items self.new.bytes.items piece.now self.old.are_all self.new.are_all }
+    {
+        if piece.len() > KEPT {
+            self.bytes.clear();
+            self.are_all = false;
+            self.append(&piece[piece.len() - KEPT..]);
+            return;
         }
+        self.forget();
+        self.append(piece);
+    }
+
+    // Which line is the first that can't be cut.
+    fn first_whole(&self) -> usize
+        ensures { result ≡ (if self.now.are_all then 0 else 1) }
+    {
+        if self.are_all { 0 } else { 1 }
     }
 
     /// The first line of a trace that is refused, without its end. Those before it were taken, so that it is among the
     /// bytes that are kept; the line with which these begin may be cut.
-    pub(crate) fn refused_line(&self, form: &str) -> Option<&[u8]> {
-        let cut = if self.are_all { 0 } else { 1 };
+    pub(crate) fn refused_line(&self, form: &str) -> Option<&[u8]>
+        ensures { option_copied result ≡ find (is_refused form.now) (whole_lines self.now.are_all self.now.bytes.items) }
+    {
         let lines = self.bytes.as_slice().split(|byte| *byte == b'\n');
-        let mut lines = lines.skip(cut);
+        let mut lines = lines.skip(self.first_whole());
         lines.find(|line| is_refused(form, line))
     }
 }

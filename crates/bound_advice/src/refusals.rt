@@ -1,10 +1,15 @@
 //! What a refusal means, and what to do about it.
+ghost use Rattle.std.specs.Prelude.{◌≡◌, ◌++◌, codes, string_bytes, IfOk, IsSomeAnd};
+ghost use Rattle.bound_report.specs.Refusals.{refusal_line};
+ghost use Rattle.bound_advice.specs.Advices.{IsAdviceOn, IsAsciiLine};
+
 use crate::certificates::certificate_advice;
 use crate::devices::{Seen, device_advice};
 use crate::traces::BadLine;
 use crate::words::{Words, word_advice};
 use bound_report::{Impossible, LimitName, Refusal, refusal_text};
 use std::alloc::{AllocError, Global};
+use trace_lines::LineKind;
 
 /// What was seen of a run beside its words: its devices, how the trace begins, and the refused line if there is one.
 #[derive(Clone, Copy)]
@@ -18,11 +23,23 @@ pub struct Devices<'a> {
     pub line: Option<&'a [u8]>,
 }
 
+// A line of ASCII letters without its end.
+fn without_end(text: &[u8]) -> &str
+    requires { IsAsciiLine text.now }
+    ensures { text.now ≡ result.now ++ codes "\n" }
+{
+    match str::from_utf8(&text[..text.len() - 1]) {
+        Ok(line) => line,
+        Err(_) => "",
+    }
+}
+
 /// The line of a refusal as the report has it, without its end.
-pub fn refusal_line(alloc: Global, refusal: &Refusal) -> Result<String, AllocError> {
+pub fn refusal_line(alloc: Global, refusal: &Refusal) -> Result<String, AllocError>
+    ensures { IfOk result (λ line. refusal_line refusal.now ≡ string_bytes line ++ codes "\n") }
+{
     let text = refusal_text(refusal);
-    let line = str::from_utf8(text.as_bytes()).unwrap_or("");
-    String::from_str(alloc, line.trim_end())
+    String::from_str(alloc, without_end(text.as_bytes()))
 }
 
 // What may be done about a limit.
@@ -55,50 +72,70 @@ fn impossible_advice(cause: Impossible) -> &'static str {
     }
 }
 
+// A text that is said.
+fn said(alloc: Global, text: &str) -> Result<Option<String>, AllocError>
+    ensures { IfOk result (λ advice. IsSomeAnd advice (λ said. string_bytes said ≡ text.now)) }
+{
+    Ok(Some(String::from_str(alloc, text)?))
+}
+
+// What to do about a refused line of the trace.
+fn line_advice(
+    alloc: Global,
+    words: Words<'_>,
+    devices: Devices<'_>,
+    number: u64,
+    kind: LineKind,
+) -> Result<String, AllocError> {
+    let bad = BadLine {
+        command: words.command(),
+        form: words.form(),
+        reads: words.value_of("count") == Some("reads"),
+        trace: devices.trace,
+        start: devices.start,
+        number,
+        kind,
+        text: devices.line,
+    };
+    bad.advice(alloc)
+}
+
 /// What to do about a refusal, if something is known to do.
 pub fn advice_on(
     alloc: Global,
     words: &[String],
     devices: Devices<'_>,
     refusal: &Refusal,
-) -> Result<Option<String>, AllocError> {
+) -> Result<Option<String>, AllocError>
+    ensures { IfOk result (λ advice. IsAdviceOn devices.entry refusal.now advice) }
+{
     let words = Words::new(words);
-    let text = match *refusal {
-        Refusal::Words { place, kind } => {
-            return Ok(Some(word_advice(alloc, words, place, kind)?));
-        }
+    match *refusal {
+        Refusal::Words { place, kind } => Ok(Some(word_advice(alloc, words, place, kind)?)),
         Refusal::BadLine { line, kind } => {
-            let bad = BadLine {
-                command: words.command(),
-                form: words.value_of("format").unwrap_or(""),
-                reads: words.value_of("count") == Some("reads"),
-                trace: devices.trace,
-                start: devices.start,
-                number: line,
-                kind,
-                text: devices.line,
-            };
-            return bad.advice(alloc);
+            Ok(Some(line_advice(alloc, words, devices, line, kind)?))
         }
-        Refusal::TraceFault => return device_advice(alloc, devices.trace),
-        Refusal::CertFault => return device_advice(alloc, devices.cert),
-        Refusal::MadeFault => return device_advice(alloc, devices.made),
-        Refusal::Unequal { .. } => {
-            "a curve without capacities needs one size; give capacities=LIST, or cut the objects into blocks"
-        }
-        Refusal::Limit(name) => limit_advice(name),
-        Refusal::NotFlag { .. } => {
-            "each line of the hits is 1 or 0, without a blank or a carriage return"
-        }
-        Refusal::FlagCount { .. } => {
-            "the hits need a line for each request of the trace, and none for a line of size 0"
-        }
-        Refusal::Impossible { cause, .. } => impossible_advice(cause),
-        Refusal::Invalid { kind, .. } => certificate_advice(kind).unwrap_or(""),
-        Refusal::NoMemory => "",
-    };
-    if text.is_empty() {
-        return Ok(None);
+        Refusal::TraceFault => device_advice(alloc, devices.trace),
+        Refusal::CertFault => device_advice(alloc, devices.cert),
+        Refusal::MadeFault => device_advice(alloc, devices.made),
+        Refusal::Unequal { .. } => said(
+            alloc,
+            "a curve without capacities needs one size; give capacities=LIST, or cut the objects into blocks",
+        ),
+        Refusal::Limit(name) => said(alloc, limit_advice(name)),
+        Refusal::NotFlag { .. } => said(
+            alloc,
+            "each line of the hits is 1 or 0, without a blank or a carriage return",
+        ),
+        Refusal::FlagCount { .. } => said(
+            alloc,
+            "the hits need a line for each request of the trace, and none for a line of size 0",
+        ),
+        Refusal::Impossible { cause, .. } => said(alloc, impossible_advice(cause)),
+        Refusal::Invalid { kind, .. } => match certificate_advice(kind) {
+            Some(text) => said(alloc, text),
+            None => Ok(None),
+        },
+        Refusal::NoMemory => Ok(None),
     }
-    Ok(Some(String::from_str(alloc, text)?))
 }

@@ -1,5 +1,9 @@
 //! What looks odd in the report of a run that ended well.
+ghost use Rattle.std.specs.Prelude.{◌≡◌, is_some, map, slice_index_or, string_bytes, IfOk};
+ghost use Rattle.bound_advice.specs.Oddities.{may_be_packed};
+
 use crate::devices::Seen;
+use crate::pages::is;
 use crate::starts::packed_by;
 use crate::traces::packed_advice;
 use crate::words::Words;
@@ -84,10 +88,12 @@ fn packed_records(
     words: Words<'_>,
     trace: Seen<'_>,
     start: &[u8],
-) -> Result<Option<String>, AllocError> {
+) -> Result<Option<String>, AllocError>
+    ensures { IfOk result (λ odd. is_some odd ≡ may_be_packed (map string_bytes words.entry.words.now) start.now) }
+{
     match packed_by(start) {
-        Some((by, unpack)) if words.value_of("format") == Some("oracle") => {
-            packed_advice(alloc, trace, words.command(), by, unpack)
+        Some((by, unpack)) if is(words.form(), "oracle") => {
+            Ok(Some(packed_advice(alloc, trace, words.command(), by, unpack)?))
         }
         _ => Ok(None),
     }
@@ -100,7 +106,9 @@ pub fn oddities_of(
     trace: Seen<'_>,
     trace_start: &[u8],
     report_start: &[u8],
-) -> Result<[Option<String>; 4], AllocError> {
+) -> Result<[Option<String>; 4], AllocError>
+    ensures { IfOk result (λ odd. is_some (slice_index_or odd 0 None) ≡ may_be_packed (map string_bytes words.now) trace_start.now) }
+{
     let text = str::from_utf8(report_start).unwrap_or("");
     let report = Report { text };
     Ok([

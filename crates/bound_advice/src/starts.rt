@@ -1,4 +1,6 @@
 //! What a file is by its first bytes.
+ghost use Rattle.std.specs.Prelude.{◌≡◌, is_some};
+ghost use Rattle.bound_advice.specs.Oddities.{is_packed};
 
 /// What a file may be that is no trace of lines.
 #[derive(Clone, Copy, PartialEq, Eq)]
@@ -21,7 +23,9 @@ pub(crate) enum Looks {
 }
 
 /// The program by which a file is packed, and the one that unpacks it.
-pub(crate) fn packed_by(start: &[u8]) -> Option<(&'static str, &'static str)> {
+pub(crate) fn packed_by(start: &[u8]) -> Option<(&'static str, &'static str)>
+    ensures { is_some result ≡ is_packed start.now }
+{
     if start.starts_with(b"\x1f\x8b") {
         Some(("gzip", "zcat"))
     } else if start.starts_with(b"\x28\xb5\x2f\xfd") {

@@ -1,29 +1,28 @@
 //! A sink that remembers the first bytes that it took.
-ghost use Rattle.std.specs.Prelude.{◌≡◌, ◌≤◌};
+ghost use Rattle.std.specs.Prelude.{◌≡◌, ◌≤◌, ◌<◌, [], length, IfOk, OnOk};
+ghost use Rattle.std.specs.Io.KnownBytes.{WriteAppends};
+ghost use Rattle.bound_io.specs.Causes.{HasCause};
+ghost use Rattle.bound_advice.specs.Starts.{KeepsStart};
 
+use crate::first_bytes::FirstBytes;
 use bound_io::{Failed, Sink};
-
-// How many bytes are kept. A report of bounds, of a check or of a replay has fewer.
-const KEPT: usize = 1024;
 
 /// A sink that remembers the first 1,024 bytes that it took. Else it is the sink that it is made of.
 #[derive(Drop)]
 pub struct Told<K: Drop> {
     sink: K,
-    start: [u8; KEPT],
-    len: usize,
-    ghost within: { len ≤ 1024 },
+    start: FirstBytes,
 }
 
 impl<K: Sink + Drop> Told<K> {
     /// Watches a sink from here on.
     pub fn new(sink: K) -> Self
-        ensures { result.sink ≡ sink }
+        ensures sink { result.sink ≡ sink }
+        ensures none_taken { result.start ≡ [] }
     {
         Told {
             sink,
-            start: [0; KEPT],
-            len: 0,
+            start: FirstBytes::new(),
         }
     }
 
@@ -35,18 +34,10 @@ impl<K: Sink + Drop> Told<K> {
     }
 
     /// The first bytes that it took.
-    pub fn start(&self) -> &[u8] {
-        &self.start[..self.len]
-    }
-
-    // Keeps what still has room of a piece that was taken.
-    fn keep(&mut self, piece: &[u8])
-        ensures { self.new.sink ≡ self.old.sink }
+    pub fn start(&self) -> &[u8]
+        ensures { result.now ≡ self.now.start }
     {
-        let count = piece.len().min(KEPT - self.len);
-        let end = self.len + count;
-        self.start[self.len..end].copy_from_slice(&piece[..count]);
-        self.len = end;
+        self.start.as_slice()
     }
 }
 
@@ -55,10 +46,17 @@ impl<K: Sink + Drop> Sink for Told<K> {
 
     ghost faults = { λ t. K.faults t.sink };
 
-    fn write(&mut self, bytes: &[u8]) -> Result<usize, Failed> {
+    fn write(&mut self, bytes: &[u8]) -> Result<usize, Failed>
+        ensures bound { IfOk result (λ n. n ≤ length bytes.now) }
+        ensures progress { IfOk result (λ n. 0 < length bytes.now → 0 < n) }
+        ensures bytes { WriteAppends (K.written self.old.sink) (K.written self.new.sink) result bytes.now }
+        ensures cause { HasCause (K.faults self.old.sink) (K.faults self.new.sink) result }
+        ensures none_failed { OnOk result (K.faults self.new.sink ≡ K.faults self.old.sink) }
+        ensures start { KeepsStart self.old.start self.new.start bytes.now result }
+    {
         let taken = self.sink.write(bytes);
         if let Ok(count) = taken {
-            self.keep(&bytes[..count]);
+            self.start.keep(&bytes[..count]);
         }
         taken
     }

@@ -66,38 +66,33 @@ fn is_access_log(text: &[u8]) -> bool {
 
 impl<'a> BadLine<'a> {
     // That a part of the line is not what it must be.
-    fn part_advice(
-        &self,
-        alloc: Global,
-        number: u8,
-        must: &str,
-    ) -> Result<Option<String>, AllocError> {
+    fn part_advice(&self, alloc: Global, number: u8, must: &str) -> Result<String, AllocError> {
         let found = self
             .text
             .and_then(|text| part_of(self.form, trim_cr(text), number));
         let part = part_name(self.form);
-        Ok(Some(match found {
+        match found {
             Some(found) => {
                 let found = shown(alloc, found)?;
                 let found = found.as_str();
-                format!(in alloc; "{part} {number} is \"{found}\": {must}")?
+                format!(in alloc; "{part} {number} is \"{found}\": {must}")
             }
-            None => format!(in alloc; "{must}")?,
-        }))
+            None => String::from_str(alloc, must),
+        }
     }
 
     // The line as it stands, and what it must have.
-    fn line_advice(&self, alloc: Global, must: &str) -> Result<Option<String>, AllocError> {
+    fn line_advice(&self, alloc: Global, must: &str) -> Result<String, AllocError> {
         let Some(text) = self.text else {
-            return Ok(Some(String::from_str(alloc, must)?));
+            return String::from_str(alloc, must);
         };
         let text = shown(alloc, trim_cr(text))?;
         let text = text.as_str();
-        Ok(Some(format!(in alloc; "the line is \"{text}\": {must}")?))
+        format!(in alloc; "the line is \"{text}\": {must}")
     }
 
     // What a line must have.
-    fn kind_advice(&self, alloc: Global) -> Result<Option<String>, AllocError> {
+    fn kind_advice(&self, alloc: Global) -> Result<String, AllocError> {
         match self.kind {
             LineKind::BadNumber { word } => {
                 self.part_advice(alloc, word, number_in(self.form, word))
@@ -129,19 +124,19 @@ impl<'a> BadLine<'a> {
                 alloc,
                 "quoted fields are not read; take the quotes out",
             ),
-            LineKind::TooLong => Ok(Some(String::from_str(
+            LineKind::TooLong => String::from_str(
                 alloc,
                 "a line has at most 65535 bytes; is it a text?",
-            )?)),
-            LineKind::PartRecord { .. } => Ok(Some(String::from_str(
+            ),
+            LineKind::PartRecord { .. } => String::from_str(
                 alloc,
                 "records have 24 bytes; the trace is cut short, packed, or of another form",
-            )?)),
+            ),
         }
     }
 
     // What a file of lines may be if it is another form.
-    fn first_line_advice(&self, alloc: Global) -> Result<Option<String>, AllocError> {
+    fn first_line_advice(&self, alloc: Global) -> Result<String, AllocError> {
         let name = self.trace.name();
         let Some(text) = self.text else {
             return self.kind_advice(alloc);
@@ -150,68 +145,64 @@ impl<'a> BadLine<'a> {
             let filter = "awk -f examples/forms/access_log.awk";
             let pipe = self.trace.piped(alloc, filter, self.command)?;
             let pipe = pipe.as_str();
-            return Ok(Some(format!(in alloc;
+            return format!(in alloc;
                 "{name}: it is the log of a web server, which is brought to format=webcache: {pipe}"
-            )?));
+            );
         }
         if self.form != "msr" && trace_msr::parse(trim_cr(text), 4096).is_ok() {
-            return Ok(Some(format!(in alloc; "{name}: its first line is one of format=msr")?));
+            return format!(in alloc; "{name}: its first line is one of format=msr");
         }
         if text.contains(&b',') && self.form != "msr" {
-            return Ok(Some(format!(in alloc;
+            return format!(in alloc;
                 "{name}: its first line has commas; for a table see examples/README.md"
-            )?));
+            );
         }
         if is_heading(trim_cr(text)) {
             let pipe = self.trace.piped(alloc, "tail -n +2", self.command)?;
             let pipe = pipe.as_str();
-            return Ok(Some(format!(in alloc;
+            return format!(in alloc;
                 "{name}: its first line may be a heading; leave it out: {pipe}"
-            )?));
+            );
         }
         self.kind_advice(alloc)
     }
 
     // What a file may be of which the first line is refused.
-    fn file_advice(&self, alloc: Global) -> Result<Option<String>, AllocError> {
+    fn file_advice(&self, alloc: Global) -> Result<String, AllocError> {
         let name = self.trace.name();
-        Ok(Some(match looks_of(self.start) {
-            Looks::Packed { by, unpack } => return packed_advice(
-                alloc,
-                self.trace,
-                self.command,
-                by,
-                unpack,
-            ),
+        match looks_of(self.start) {
+            Looks::Packed { by, unpack } => {
+                packed_advice(alloc, self.trace, self.command, by, unpack)
+            }
             Looks::Wide => {
                 let pipe = self
                     .trace
                     .piped(alloc, "iconv -f UTF-16 -t UTF-8", self.command)?;
                 let pipe = pipe.as_str();
-                format!(in alloc; "{name}: it has bytes of 0; if it is UTF-16: {pipe}")?
+                format!(in alloc; "{name}: it has bytes of 0; if it is UTF-16: {pipe}")
             }
             Looks::Binary => format!(in alloc;
                 "{name}: it has bytes of 0, which no line has; are its records those of format=oracle?"
-            )?,
+            ),
             Looks::Marked => {
                 let pipe = self.trace.piped(alloc, "tail -c +4", self.command)?;
                 let pipe = pipe.as_str();
-                format!(in alloc; "{name}: it begins with a byte order mark; leave it out: {pipe}")?
+                format!(in alloc; "{name}: it begins with a byte order mark; leave it out: {pipe}")
             }
             Looks::Certificate => {
-                format!(in alloc; "{name}: it is a certificate; the path of the trace comes first")?
+                format!(in alloc; "{name}: it is a certificate; the path of the trace comes first")
             }
             Looks::Json => {
                 format!(in alloc;
                     "{name}: it is JSON; examples/README.md has a program for JSON lines"
-                )?
+                )
             }
-            Looks::Lines => return self.first_line_advice(alloc),
-        }))
+            Looks::Lines => self.first_line_advice(alloc),
+        }
     }
 
     /// What to do about it.
-    pub(crate) fn advice(&self, alloc: Global) -> Result<Option<String>, AllocError> {
+    pub(crate) fn advice(&self, alloc: Global) -> Result<String, AllocError> {
         match self.kind {
             LineKind::PartRecord { .. } => match packed_by(self.start) {
                 Some((by, unpack)) => packed_advice(alloc, self.trace, self.command, by, unpack),
@@ -230,9 +221,9 @@ pub(crate) fn packed_advice(
     command: &str,
     by: &str,
     unpack: &str,
-) -> Result<Option<String>, AllocError> {
+) -> Result<String, AllocError> {
     let name = trace.name();
     let pipe = trace.piped(alloc, unpack, command)?;
     let pipe = pipe.as_str();
-    Ok(Some(format!(in alloc; "{name}: it is packed by {by}; unpack it: {pipe}")?))
+    format!(in alloc; "{name}: it is packed by {by}; unpack it: {pipe}")
 }

@@ -1,5 +1,11 @@
 //! A source that remembers its last bytes.
-ghost use Rattle.std.specs.Prelude.{◌≡◌, IfOk};
+ghost use Rattle.std.specs.Prelude.{◌≡◌, ◌≤◌, [], find, length, map, string_bytes, take, true, IfOk, OnErr, OnOk};
+ghost use Rattle.std.specs.Io.{ReadsAtMost};
+ghost use Rattle.std.specs.Io.KnownBytes.{ReadConsumes};
+ghost use Rattle.std.specs.Option.{option_copied};
+ghost use Rattle.bound_io.specs.Causes.{HasCause};
+ghost use Rattle.bound_advice.specs.GivenWords.{form_in};
+ghost use Rattle.bound_advice.specs.Lines.{KeepsLast, is_refused, whole_lines};
 
 use crate::recent::Recent;
 use crate::words::Words;
@@ -17,7 +23,9 @@ pub struct Watched<S: Drop> {
 impl<S: Source + Drop> Watched<S> {
     /// Watches a source from here on. Takes 256 KiB.
     pub fn new(alloc: Global, source: S) -> Result<Self, NoMemory>
-        ensures { IfOk result (λ watched. watched.source ≡ source) }
+        ensures source { IfOk result (λ watched. watched.source ≡ source) }
+        ensures none_read { IfOk result (λ watched. watched.recent.bytes.items ≡ []) }
+        ensures are_all { IfOk result (λ watched. watched.recent.are_all ≡ true) }
     {
         Ok(Watched {
             source,
@@ -33,9 +41,11 @@ impl<S: Source + Drop> Watched<S> {
     }
 
     /// The line of a trace that was just refused, without its end, if its form has lines. The words name the form.
-    pub fn refused_line(&self, words: &[String]) -> Option<&[u8]> {
-        let form = Words::new(words).value_of("format").unwrap_or("");
-        self.recent.refused_line(form)
+    pub fn refused_line(&self, words: &[String]) -> Option<&[u8]>
+        ensures { option_copied result ≡ find (is_refused (form_in (map string_bytes words.now)))
+            (whole_lines self.now.recent.are_all self.now.recent.bytes.items) }
+    {
+        self.recent.refused_line(Words::new(words).form())
     }
 }
 
@@ -44,7 +54,15 @@ impl<S: Source + Drop> Source for Watched<S> {
 
     ghost faults = { λ w. S.faults w.source };
 
-    fn read(&mut self, buf: &mut [u8]) -> Result<usize, Failed> {
+    fn read(&mut self, buf: &mut [u8]) -> Result<usize, Failed>
+        ensures bound { ReadsAtMost result buf.new }
+        ensures bytes { ReadConsumes (S.left self.old.source) (S.left self.new.source) result buf.new }
+        ensures cause { HasCause (S.faults self.old.source) (S.faults self.new.source) result }
+        ensures none_failed { OnOk result (S.faults self.new.source ≡ S.faults self.old.source) }
+        ensures kept { IfOk result (λ n. KeepsLast self.old.recent.bytes.items self.new.recent.bytes.items (take n buf.new)
+            self.old.recent.are_all self.new.recent.are_all) }
+        ensures unchanged { OnErr result (self.new.recent ≡ self.old.recent) }
+    {
         let read = self.source.read(buf);
         if let Ok(count) = read {
             self.recent.keep(&buf[..count]);

@@ -1,4 +1,9 @@
 //! What is wrong with a word of the command line, and what may stand there.
+ghost use Rattle.std.specs.Prelude.{◌≡◌, drop, map, string_bytes};
+ghost use Rattle.std.specs.Option.{option_copied};
+ghost use Rattle.bound_words.specs.Named.{has_equals, name_of, value_of};
+ghost use Rattle.bound_advice.specs.GivenWords.{first_operand, form_in, gives, value_in};
+
 use crate::sizes::size_of;
 use bound_report::PolicyName;
 use bound_terms::WordKind;
@@ -63,6 +68,29 @@ fn policies_listed(alloc: Global) -> Result<String, AllocError> {
     listed(alloc, &names, " or ")
 }
 
+fn has_equals(word: &str) -> bool
+    ensures { result ≡ has_equals word.now }
+{
+    word.as_bytes().iter().any(|byte| *byte == b'=')
+}
+
+// Whether a word gives a value to a name.
+fn gives(name: &str, word: &str) -> bool
+    ensures { result ≡ gives name.now word.now }
+{
+    has_equals(word) && name_of(word) == name
+}
+
+// What stands after the first `=`, or nothing.
+fn value_of(word: &str) -> &str
+    ensures { result.now ≡ value_of word.now }
+{
+    match word.split_once('=') {
+        Some((_, value)) => value,
+        None => "",
+    }
+}
+
 /// The words of a command line: the command first.
 #[derive(Clone, Copy)]
 pub(crate) struct Words<'a> {
@@ -70,7 +98,9 @@ pub(crate) struct Words<'a> {
 }
 
 impl<'a> Words<'a> {
-    pub(crate) fn new(words: &'a [String]) -> Self {
+    pub(crate) fn new(words: &'a [String]) -> Self
+        ensures { result.words.now ≡ words.now }
+    {
         Words { words }
     }
 
@@ -104,20 +134,37 @@ impl<'a> Words<'a> {
         }
     }
 
+    // Which word is the first operand.
+    fn first_operand(&self) -> usize
+        ensures { result ≡ first_operand (map string_bytes self.now.words.now) }
+    {
+        match command_asked(self.words) {
+            Some(command) => command.paths().len() + 1,
+            None => 1,
+        }
+    }
+
     // The words behind the command and its paths.
-    fn operands(&self) -> &'a [String] {
-        let first = self.paths().len() + 1;
-        self.words.get(first..).unwrap_or(&[])
+    fn operands(&self) -> &'a [String]
+        ensures { map string_bytes result.now ≡ drop (first_operand (map string_bytes self.now.words.now)) (map string_bytes self.now.words.now) }
+    {
+        self.words.get(self.first_operand()..).unwrap_or(&[])
     }
 
     /// The value of an operand, or nothing if it isn't given.
-    pub(crate) fn value_of(&self, name: &str) -> Option<&'a str> {
-        let parts = self
-            .operands()
-            .iter()
-            .filter_map(|word| word.as_str().split_once('='));
-        let mut values = parts.filter(|(found, _)| *found == name);
-        values.next().map(|(_, value)| value)
+    pub(crate) fn value_of(&self, name: &str) -> Option<&'a str>
+        ensures { option_copied result ≡ value_in name.now (map string_bytes self.now.words.now) }
+    {
+        let mut operands = self.operands().iter();
+        let word = operands.find(|word| gives(name, word.as_str()))?;
+        Some(value_of(word.as_str()))
+    }
+
+    /// The word for the form of the trace, or nothing if none is given.
+    pub(crate) fn form(&self) -> &'a str
+        ensures { result.now ≡ form_in (map string_bytes self.now.words.now) }
+    {
+        self.value_of("format").unwrap_or("")
     }
 
     // The first operand that the command needs and that isn't given.
@@ -150,7 +197,9 @@ fn is_operand(word: &str) -> bool {
 }
 
 // The name of an operand: what stands before the `=`.
-fn name_of(word: &str) -> &str {
+fn name_of(word: &str) -> &str
+    ensures { result.now ≡ name_of word.now }
+{
     match word.split_once('=') {
         Some((name, _)) => name,
         None => word,

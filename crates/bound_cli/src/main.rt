@@ -3,7 +3,10 @@
 //! The words, the files and the texts are described in docs/REFERENCE.md, and what a run does stands in bound_run.
 #![tactic(auto)]
 
-ghost use Rattle.std.specs.Prelude.{◌≡◌, ◌⊎◌, map, string_bytes, IfErr};
+ghost use Rattle.std.specs.Prelude.{◌≡◌, ◌⊎◌, is_ok, map, string_bytes, IfErr};
+ghost use Rattle.std.specs.Option.{option_map_or};
+ghost use Rattle.bound_cli.specs.Exits.{is_whole, page_status, settled};
+ghost use Rattle.bound_run.specs.Statuses.{code_of};
 ghost use Rattle.bound_words.specs.Words.{plan};
 
 use crate::saying::{say, say_oddities, say_refusal, say_report_fault, say_unplaced};
@@ -12,7 +15,7 @@ use bound_advice::{
     COMMANDS, Devices, EXAMPLES, PURPOSE, Page, Seen, Told, VERSION, WORDS, Watched, page_of,
     usage_of,
 };
-use bound_io::{FileSink, FileSource};
+use bound_io::{FileSink, FileSource, Unplaced};
 use bound_report::PolicyName;
 use bound_run::{Status, paths_of, run};
 use std::alloc::Global;
@@ -69,24 +72,38 @@ fn refused_line<'a, R: Files + Input>(
     }
 }
 
-// Ends the writing of the certificate. That it can't take its place is a fault of its sink.
-fn settle<R: Files + Print + Eprint>(
+// Whether a run came to its end, so that the certificate it made is whole.
+fn is_whole(status: Status) -> bool
+    ensures { result ≡ is_whole status }
+{
+    matches!(status, Status::Done | Status::ReportFault)
+}
+
+// The status once the certificate was placed, or not. That a whole one has no place is a fault of its sink.
+fn settled(placed: bool, status: Status) -> Status
+    ensures { result ≡ settled placed status }
+{
+    if !placed && is_whole(status) {
+        Status::MadeFault
+    } else {
+        status
+    }
+}
+
+// Says that the certificate has no place, if it has none, and gives the status then.
+fn settle<R: Eprint>(
     rt: &R,
     alloc: Global,
-    made: FileSink<'_, R>,
     path: &str,
+    placed: Result<(), Unplaced>,
     status: Status,
 ) -> Status
-    ensures { (result ≡ status) ⊎ (((status ≡ Status.Done) ⊎ (status ≡ Status.ReportFault)) × (result ≡ Status.MadeFault)) }
+    ensures { result ≡ settled (is_ok placed) status }
 {
-    let is_whole = matches!(status, Status::Done | Status::ReportFault);
-    match made.finish(is_whole) {
-        Ok(()) => status,
-        Err(unplaced) => {
-            say_unplaced(rt, alloc, path, &unplaced, is_whole);
-            if is_whole { Status::MadeFault } else { status }
-        }
+    if let Err(unplaced) = &placed {
+        say_unplaced(rt, alloc, path, unplaced, is_whole(status));
     }
+    settled(placed.is_ok(), status)
 }
 
 // Makes the real sources and sinks, and runs.
@@ -124,7 +141,8 @@ fn run_files<R: Files + Input + Print + Eprint>(rt: &R, alloc: Global, words: &[
         Status::ReportFault => say_report_fault(rt, alloc, seen_sink(report.sink())),
         _ => say_refusal(rt, alloc, words, devices, status),
     }
-    settle(rt, alloc, made, paths.made, status)
+    let placed = made.finish(is_whole(status));
+    settle(rt, alloc, paths.made, placed, status)
 }
 
 // How a command is called.
@@ -164,33 +182,53 @@ fn print_help<R: Print>(rt: &R) -> io::Result<()> {
     println!(rt; "{EXAMPLES}")
 }
 
-// The exit status of printing a page.
-fn print_page<R: Print>(rt: &R, page: Page) -> u8 {
+// The status of printing a page. That it can't be printed is a fault of the report.
+fn status_of_page(printed: &io::Result<()>) -> Status
+    ensures { result ≡ page_status (is_ok printed.now) }
+{
+    match printed {
+        Ok(()) => Status::Done,
+        Err(_) => Status::ReportFault,
+    }
+}
+
+// Prints a page.
+fn print_page<R: Print>(rt: &R, page: Page) -> Status
+    ensures { (result ≡ Status.Done) ⊎ (result ≡ Status.ReportFault) }
+{
     let printed = match page {
         Page::Help => print_help(rt),
         Page::Version => println!(rt; "{VERSION}"),
     };
-    match printed {
-        Ok(()) => Status::Done.code(),
-        Err(_) => Status::ReportFault.code(),
-    }
+    status_of_page(&printed)
 }
 
-// The exit status of a run with the words after the program's name.
-fn run_words<R: Files + Input + Print + Eprint + Env + AllocGlobal>(rt: &R) -> u8 {
+// Runs with the words after the program's name, if the system gives them.
+fn run_words<R: Files + Input + Print + Eprint + Env + AllocGlobal>(rt: &R) -> Option<Status> {
     let alloc = rt.alloc();
     let words = match env::args(rt) {
         Ok(words) => words.skip(1).collect(alloc),
-        Err(error) if error.kind() == ErrorKind::OutOfMemory => return Status::NoMemory.code(),
-        Err(_) => return NO_START,
+        Err(error) if error.kind() == ErrorKind::OutOfMemory => return Some(Status::NoMemory),
+        Err(_) => return None,
     };
     let words: Result<Vec<String>, _> = words;
     let Ok(words) = words else {
-        return Status::NoMemory.code();
+        return Some(Status::NoMemory);
     };
-    match words.first().and_then(|word| page_of(word.as_str())) {
+    let page = words.first().and_then(|word| page_of(word.as_str()));
+    Some(match page {
         Some(page) => print_page(rt, page),
-        None => run_files(rt, alloc, &words).code(),
+        None => run_files(rt, alloc, &words),
+    })
+}
+
+// The exit status of a run, or that of none.
+fn exit_status(ended: Option<Status>) -> u8
+    ensures { result ≡ option_map_or code_of ended NO_START }
+{
+    match ended {
+        Some(status) => status.code(),
+        None => NO_START,
     }
 }
 
@@ -205,7 +243,7 @@ fn say_closed(rt: &HostRuntime, error: io::Error) {
 fn main(rt: HostRuntime) -> ExitCode {
     if let Err(error) = fill_closed(&rt) {
         say_closed(&rt, error);
-        return ExitCode::from(NO_START);
+        return ExitCode::from(exit_status(None));
     }
-    ExitCode::from(run_words(&rt))
+    ExitCode::from(exit_status(run_words(&rt)))
 }

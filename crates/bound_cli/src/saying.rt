@@ -1,4 +1,7 @@
 //! What the program says on the standard error. That it can't be written changes nothing.
+ghost use Rattle.std.specs.Prelude.{◌≡◌, ◌⊎◌, MatchOption};
+ghost use Rattle.bound_run.specs.Statuses.{status_of};
+
 use bound_advice::{
     Devices, Seen, advice_on, device_advice, escaped, oddities_of, refusal_line, usage_of,
 };
@@ -16,7 +19,9 @@ pub fn say<R: Eprint>(rt: &R, alloc: Global, text: &str) {
 }
 
 // The refusal that a status is of.
-fn refusal_of(status: Status) -> Option<Refusal> {
+fn refusal_of(status: Status) -> Option<Refusal>
+    ensures { MatchOption result ((status ≡ Status.Done) ⊎ (status ≡ Status.ReportFault)) (λ refusal. status_of refusal ≡ status) }
+{
     match status {
         Status::Done | Status::ReportFault => None,
         Status::Invalid { line, kind } => Some(Refusal::Invalid { line, kind }),

@@ -1,24 +1,24 @@
-use Rattle.std.proofs.Common.{◌≡◌, ◌∙◌, ◌⊎◌, ℕ, List, inl, inr, sym, Result, Ok, Err, IfErr}
+use Rattle.std.proofs.Common.{◌≡◌, ◌∙◌, ◌⊎◌, ℕ, List, Bool, true, false, inl, ap, refl, Result, Ok, Err, IfErr}
+use Rattle.std.specs.Result.{is_ok}
 use Rattle.bound_words.specs.declared.words.Plan.{Plan}
 use Rattle.bound_run.specs.Run.{Devices, RunEnds}
 use Rattle.bound_words.specs.declared.words.WordFault.{WordFault}
 use Rattle.bound_run.specs.declared.status.Status.{Status}
-use Rattle.bound_run.specs.declared.status.Status.TheVariants.{Done, MadeFault, NoMemory, ReportFault, Words}
+use Rattle.bound_run.specs.declared.status.Status.TheVariants.{NoMemory, Words}
+use Rattle.bound_cli.specs.Exits.{settled}
 use Rattle.bound_cli.proofs.run_files.Goals as goal
 
--- a settled status of refused words is the one before
-stays : (status settled : Status) → (settled ≡ status) ⊎ (((status ≡ Done) ⊎ (status ≡ ReportFault)) × (settled ≡ MadeFault))
-    → (fault : WordFault) → status ≡ Words fault → settled ≡ status
-stays status settled (inl same) fault refused = same
-stays status settled (inr (inl done, made)) fault refused = let clash : Done ≡ Words fault = sym done ∙ refused in cc
-stays status settled (inr (inr failed, made)) fault refused = let clash : ReportFault ≡ Words fault = sym failed ∙ refused in cc
+-- refused words stay the status, whether the certificate was placed or not
+stays : (placed : Bool) (fault : WordFault) → settled placed (Words fault) ≡ Words fault
+stays true fault = refl
+stays false fault = refl
 
 -- what refuses the words is the status, and stays it
-refused_words : (read : Result Plan WordFault) (capacities : List ℕ) (d : Devices) (status settled : Status) → RunEnds read capacities d status
-    → ((fault : WordFault) → status ≡ Words fault → settled ≡ status) → IfErr read (λ fault. (settled ≡ Words fault) ⊎ (settled ≡ NoMemory))
-refused_words (Ok plan) capacities d status settled ends stays = tt
-refused_words (Err fault) capacities d status settled ends stays = inl (stays fault ends.0 ∙ ends.0)
+refused_words : (read : Result Plan WordFault) (capacities : List ℕ) (d : Devices) (status ended : Status) (placed : Bool) → RunEnds read capacities d status
+    → ended ≡ settled placed status → IfErr read (λ fault. (ended ≡ Words fault) ⊎ (ended ≡ NoMemory))
+refused_words (Ok plan) capacities d status ended placed ends is = tt
+refused_words (Err fault) capacities d status ended placed ends is = inl (is ∙ ap (settled placed) ends.0 ∙ stays placed fault)
 
 pub returns : goal.returns
 returns g c =
-    refused_words _ _ _ c.run-status.result c.settle.result c.run-status.ensures.explains (stays c.run-status.result c.settle.result c.settle.ensures)
+    refused_words _ _ _ c.run-status.result c.settle.result (is_ok c.finish-placed.result) c.run-status.ensures.explains c.settle.ensures

@@ -1,0 +1,33 @@
+-- What is said of a refusal.
+use Rattle.std.specs.Prelude.{◌≡◌, ℕ, List, ◌++◌, Bool, true, false, codes, None, IsSome, is_some, String}
+use Rattle.std.specs.declared.option.Option.{Option}
+use Rattle.std.specs.Str.{IsAscii}
+use Rattle.cert_checker.specs.declared.invalid.InvalidKind.{InvalidKind}
+use Rattle.cert_checker.specs.declared.invalid.InvalidKind.TheVariants as invalid
+use Rattle.bound_report.specs.declared.refusal.Refusal.{Refusal}
+use Rattle.bound_report.specs.declared.refusal.Refusal.TheVariants.{Invalid, TraceFault, CertFault, MadeFault, NoMemory}
+use Rattle.bound_advice.specs.Devices.{IsDeviceAdvice}
+use Rattle.bound_advice.specs.declared.refusals.Devices.{Devices}
+
+-- a line of ASCII letters, with its end
+abbrev pub IsAsciiLine : List ℕ → Type 0
+IsAsciiLine text = (line : List ℕ) × IsAscii line × (text ≡ line ++ codes "\n")
+
+-- whether something is known to look at if a certificate isn't valid: it may be of another trace, or end too early
+abbrev pub has_advice : InvalidKind → Bool
+has_advice (invalid.RequestCount written read) = true
+has_advice (invalid.UnitNotDivisor unit size) = true
+has_advice (invalid.FlowAboveWeight flow weight) = true
+has_advice (invalid.Unused number) = true
+has_advice (invalid.LowerDiffers written counted) = true
+has_advice invalid.Truncated = true
+has_advice kind = false
+
+-- what is said of a refusal: nothing if memory ran out, of a device why its call failed, and something of all else but some certificates that aren't valid
+abbrev pub IsAdviceOn : {A : Type 0} → Devices → Refusal → Option (String A) → Type 0
+IsAdviceOn devices NoMemory advice = advice ≡ None
+IsAdviceOn devices TraceFault advice = IsDeviceAdvice devices.trace advice
+IsAdviceOn devices CertFault advice = IsDeviceAdvice devices.cert advice
+IsAdviceOn devices MadeFault advice = IsDeviceAdvice devices.made advice
+IsAdviceOn devices (Invalid line kind) advice = is_some advice ≡ has_advice kind
+IsAdviceOn devices refusal advice = IsSome advice
