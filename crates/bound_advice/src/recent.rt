@@ -65,6 +65,17 @@ impl Recent {
         self.bytes.drain(..gone);
     }
 
+    // Makes room for so many bytes. If they don't fit, all are forgotten but the last that are kept.
+    fn make_room(&mut self, count: usize)
+        requires { count ≤ 131072 }
+        ensures room { vec_len self.new.bytes + count ≤ 262144 }
+        ensures last { KeepsLast self.old.bytes.items self.new.bytes.items [] self.old.are_all self.new.are_all }
+    {
+        if self.bytes.len() > ROOM - count {
+            self.forget();
+        }
+    }
+
     // Puts a piece behind the bytes that are kept. There is room for it.
     fn append(&mut self, piece: &[u8])
         requires { vec_len self.old.bytes + length piece.now ≤ 262144 }
@@ -74,7 +85,7 @@ impl Recent {
         let _ = self.bytes.extend_from_slice(piece);
     }
 
-    /// Keeps the last bytes of a piece that was read. Takes a copy of them and of the kept bytes.
+    /// Keeps the last bytes of a piece that was read. Takes a copy of them, and one of the kept bytes now and then.
     pub(crate) fn keep(&mut self, piece: &[u8])
         ensures { KeepsLast self.old.bytes.items self.new.bytes.items piece.now self.old.are_all self.new.are_all }
     {
@@ -84,7 +95,7 @@ impl Recent {
             self.append(&piece[piece.len() - KEPT..]);
             return;
         }
-        self.forget();
+        self.make_room(piece.len());
         self.append(piece);
     }
 

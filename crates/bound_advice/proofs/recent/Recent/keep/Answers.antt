@@ -9,4 +9,4 @@ returns-then-piece-gt-KEPT c =
 
 pub returns : goal.returns
 returns c =
-    keeps_behind _ c.forget.new.self.bytes.items _ _ _ c.forget.new.self.are_all _ c.forget.ensures.last c.forget.ensures.all c.append-2.ensures.bytes c.append-2.ensures.are_all
+    keeps_behind _ c.make_room.new.self.bytes.items _ _ _ c.make_room.new.self.are_all _ c.make_room.ensures.last c.append-2.ensures.bytes c.append-2.ensures.are_all
