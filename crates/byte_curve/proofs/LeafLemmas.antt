@@ -1,9 +1,9 @@
 -- The bytes at the places are the leaves of a tree of sums.
-use Rattle.std.proofs.Common.{◌≡◌, ℕ, zero, suc, ◌+◌, ◌-◌, ◌*◌, ◌≤◌, ◌^◌, ◌∙◌, sym, refl, ap, List, length, set, drop, take, arith, sum}
+use Rattle.std.proofs.Common.{◌≡◌, ℕ, ◌+◌, ◌-◌, ◌≤◌, ◌^◌, ◌∙◌, sym, ap, List, set, drop, take, arith, sum}
 use Rattle.std.specs.Prelude.{slice_range}
-use Rattle.std.proofs.lemmas.List.{drop-drop, length-drop, drop_more}
-use Rattle.std.proofs.lemmas.List.Sums.{sum_by-cons}
-use Rattle.sum_tree.specs.Sums.{sum_at, sum_from, IsTree}
+use Rattle.std.proofs.lemmas.List.{drop-drop}
+use Rattle.sum_tree.specs.Sums.{sum_from, IsTree}
+use Rattle.sum_tree.proofs.LeafLemmas.{sum-leaves}
 
 -- one leaf is set
 pub leaves-set : (places place leaf : ℕ) (old new sums : List ℕ) → sums ≡ new → drop places new ≡ set (drop places old) place leaf → drop places sums ≡ set (drop places old) place leaf

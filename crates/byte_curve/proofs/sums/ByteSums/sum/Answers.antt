@@ -1,6 +1,7 @@
 use Rattle.std.proofs.Common.{ℕ, ap, sym, length, arith}
 use Rattle.std.proofs.lemmas.List.{map-id}
-use Rattle.byte_curve.proofs.LeafLemmas.{length-leaves, leaves-sum}
+use Rattle.sum_tree.proofs.LeafLemmas.{length-leaves}
+use Rattle.byte_curve.proofs.LeafLemmas.{leaves-sum}
 use Rattle.byte_curve.proofs.sums.ByteSums.sum.Goals as goal
 
 pub returns : goal.returns
