@@ -46,7 +46,6 @@ use Rattle.bound_words.specs.declared.settings.Settings.{Settings}
 use Rattle.bound_words.specs.declared.settings.Settings.TheVariants.{Bounds, Check, Replay, Curve, CapacityCurve, Judge, Demo, Upgrade, Refine}
 use Rattle.bound_words.specs.Settings.{settings_of}
 
-
 -- no refusal of the trace
 abbrev IsOfCert : Option Event → Type 0
 IsOfCert None = Unit {0}
@@ -312,7 +311,6 @@ module _ (source report made : Device) (good : IsGoodCertificate source.before) 
   upgrade_complete (NotFlag line) e = absurd e.0
   upgrade_complete (FlagCount flags requests) e = absurd e.0
   upgrade_complete (Impossible cause capacity) e = absurd e.0
-
 
 -- a command whose inputs are good ends in its answer
 module _ (d : Devices) (status : Status) (works : NoneFails d) where

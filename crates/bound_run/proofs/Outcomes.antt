@@ -47,7 +47,6 @@ not_loaded format before after faults_before faults_after trace.InputTooLong why
 not_loaded format before after faults_before faults_after trace.TooManyRequests why lost = (refused_all format before after faults_before faults_after trace.TooManyRequests why, lost)
 not_loaded format before after faults_before faults_after trace.NoMemory why lost = tt
 
-
 -- the bounds of a trace, once it is loaded
 pub ready_of : (format : Format) (asked : BoundSettings) (d : Device) (requests : Trail) (dropped : ℕ) (cert report : List ℕ)
     → IsLoaded format d requests dropped → AreTexts format asked requests dropped cert report → IsReady format asked d cert report
@@ -111,7 +110,6 @@ module _ (format : Format) (source : Device) where
   pub curve_refused : (requests : Trail) (dropped : ℕ) (fault : CurveFault) → IsLoaded format source requests dropped → IsCause requests.objects fault → RefusesCurve format source (refusal_of_curve fault)
   curve_refused requests dropped (curve.Unequal first other) loaded why = record { requests = requests; dropped = dropped; loaded = loaded; clash = why }
   curve_refused requests dropped curve.NoMemory loaded why = tt
-
 
 -- what refuses the bounds of the trace refuses the demo
 pub demo_refused : (drawing : DrawSettings) (asked : BoundSettings) (fault : BoundsFault) → FailsBounds asked (trace_drawn drawing) fault → RefusesDemo drawing asked (refusal_of_bounds fault)

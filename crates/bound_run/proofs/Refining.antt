@@ -173,7 +173,6 @@ module _ (width : ℕ) (trace : Requests) (h : Header) (records : List Record) (
   pub refined_texts : (format : Format) (dropped : ℕ) (cert report : List ℕ) → cert ≡ cert_text made refined → report ≡ refined_report (counting_of format h trace) h.upper (verdict_on trace made) dropped → AreRefinedTexts format width trace dropped h records cert report
   refined_texts format dropped cert report cert_is report_is = record { made = made; refined = refined; refinement = refinement; cert_is = cert_is; report_is = report_is }
 
-
 -- what comes of a certificate that was kept
 pub refined_all : (format : Format) (width : ℕ) (source cert : Device) (requests : Requests) (dropped : ℕ) (h : Header) (records : List Record) (written report : List ℕ)
     → IsRefinable format source cert requests dropped h records → AreRefinedTexts format width requests dropped h records written report → IsRefined format width source cert written report

@@ -53,7 +53,6 @@ pub record HasRewritten (before : Option (List ℕ)) (faults : ℕ) (h : Header)
   pub loses : LosesPrefix before left
   pub taken : IsTaken lines.fresh.lines cert.lines before left
 
-
 -- little was read beyond a line that was reached
 near_of : (before after : Option (List ℕ)) (x y n : ℕ) (end : lines.Reader) → IsTaken lines.fresh.lines end.lines before after → IfSome before (λ t. taken end ≤ bytes_through n t + 65536) → IsNearLineOf n (device before after x y)
 near_of None after x y n end lost most = tt
@@ -166,7 +165,6 @@ module _ (before left after : Option (List ℕ)) (x y z : ℕ) (h : Header) (cer
         let all : List (List ℕ) = record_lines SHORT_VERSION 0 records in
         is ∙ ap (λ w. w ++ line (codes "end")) so_far.text ∙ three_parts head all (codes "end");
   }
-
 
 -- a valid certificate is valid in each version of its text
 as_valid : (trace : List Object) (fills : List Bool) (h : Header) (version : ℕ) (records : List Record) → IsHeaderInRange (record h { version = version }) → IsValid trace fills h records → IsValid trace fills (record h { version = version }) records
