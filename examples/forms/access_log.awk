@@ -18,6 +18,7 @@ function reasons_text(  text, why, most, n) {
     return text (left_out > 0 ? ", " left_out " for other reasons" : "")
 }
 BEGIN {
+    if (length("a\0b") != 3) refuse("this awk ends a line at a NUL byte; take mawk or gawk")
     FS = "\""
     if (status == "") status = "200"
     if (status !~ /^[0-9][0-9][0-9](,[0-9][0-9][0-9])*$/) refuse("status must be numbers of three digits, with commas between them")

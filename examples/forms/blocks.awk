@@ -7,7 +7,7 @@ function is_number(word) { return word ~ /^[0-9]+$/ }
 function plain(number) { sub(/^0+/, "", number); return number == "" ? "0" : number }
 function is_right() {
     if (form == "arc") return is_number($1) && is_number($2) && $1 + $2 < 2 ^ 53
-    return NF >= 6 && is_number($3) && tolower($4) ~ /^(read|write)$/ && is_number($5) && is_number($6) &&
+    return NF >= 6 && is_number($3) && $4 ~ /^([Rr][Ee][Aa][Dd]|[Ww][Rr][Ii][Tt][Ee])$/ && is_number($5) && is_number($6) &&
         $5 + $6 < 2 ^ 53
 }
 BEGIN {

@@ -9,6 +9,14 @@ function is_right() {
     return NF == columns && (!at["time"] || $at["time"] ~ /^[^ \t]+$/) && $at["key"] != "" && $at["size"] ~ /^[0-9]+$/ &&
         (!at["op"] || $at["op"] ~ /^[A-Za-z_]+$/)
 }
+# A word with the small letters of A to Z, whatever the locale.
+function lower(word,  i, at, small) {
+    for (i = 1; i <= length(word); i++) {
+        at = index("ABCDEFGHIJKLMNOPQRSTUVWXYZ", substr(word, i, 1))
+        small = small (at ? substr("abcdefghijklmnopqrstuvwxyz", at, 1) : substr(word, i, 1))
+    }
+    return small
+}
 # The number of the column of a role: the one that is given, or the only one that has a name of it.
 function column_of(role, given,  i, found) {
     if (given != "") {
@@ -16,7 +24,7 @@ function column_of(role, given,  i, found) {
         return given + 0
     }
     for (i = 1; i <= NF; i++) {
-        if ($i !~ /^[A-Za-z_]+$/ || !index(names[role], " " tolower($i) " ")) continue
+        if ($i !~ /^[A-Za-z_]+$/ || !index(names[role], " " lower($i) " ")) continue
         if (found) refuse("line 1 has two columns of a " role "; give the number of one, as -v " role "=" i)
         found = i
     }
@@ -24,6 +32,7 @@ function column_of(role, given,  i, found) {
     return found
 }
 BEGIN {
+    if (length("a\0b") != 3) refuse("this awk ends a line at a NUL byte; take mawk or gawk")
     FS = "[ \t]*,[ \t]*"
     names["time"] = " time timestamp ts date datetime epoch "
     names["key"] = " key id url uri path object object_id obj_id name "
@@ -42,8 +51,8 @@ FNR == 1 {
 }
 FNR == 2 && has_heading && !is_right() { refuse("line 2 must have the columns of line 1, a word as time and a number as size") }
 is_right() {
-    reads = at["op"] && tolower($at["op"]) ~ /^(gets?|read|get_lease)$/
-    if (at["op"] && tolower($at["op"]) ~ /^del(ete)?$/) next
+    reads = at["op"] && $at["op"] ~ /^([Gg][Ee][Tt][Ss]?|[Rr][Ee][Aa][Dd]|[Gg][Ee][Tt]_[Ll][Ee][Aa][Ss][Ee])$/
+    if (at["op"] && $at["op"] ~ /^[Dd][Ee][Ll]([Ee][Tt][Ee])?$/) next
     word = $at["key"]
     if (!(word in number)) number[word] = ++keys
     bytes = reads && $at["size"] + 0 == 0 && (word in last) ? last[word] : $at["size"]

@@ -10,5 +10,5 @@ FNR == 1 && !is_right() {
     print "spc.awk: line 1 must be: unit,address,size,opcode (r or w),time" > "/dev/stderr"
     exit 1
 }
-is_right() { print $5, "spc", $1, (tolower($4) == "r" ? "Read" : "Write"), sprintf("%.0f", 512 * $2), $3; kept++ }
+is_right() { print $5, "spc", $1, ($4 ~ /^[Rr]$/ ? "Read" : "Write"), sprintf("%.0f", 512 * $2), $3; kept++ }
 END { fflush(); printf "kept %d of %d lines\n", kept, NR > "/dev/stderr"; if (!kept) exit 1 }

@@ -5,12 +5,13 @@
 # key. A line whose key has a comma is left out.
 function is_number(word) { return word ~ /^[0-9]+$/ }
 function is_right() { return NF == 7 && is_number($1) && $2 != "" && is_number($3) && is_number($4) && $6 ~ /^[a-z]+$/ }
-BEGIN { FS = "," }
-{ sub(/\r$/, "") }
-FNR == 1 && !is_right() {
-    print "twitter.awk: line 1 must be: timestamp,key,key size,value size,client id,operation,TTL" > "/dev/stderr"
-    exit 1
+function refuse(why) { print "twitter.awk: " why > "/dev/stderr"; exit 1 }
+BEGIN {
+    if (length("a\0b") != 3) refuse("this awk ends a line at a NUL byte; take mawk or gawk")
+    FS = ","
 }
+{ sub(/\r$/, "") }
+FNR == 1 && !is_right() { refuse("line 1 must be: timestamp,key,key size,value size,client id,operation,TTL") }
 is_right() && $6 ~ /^(gets?|set|add|replace|cas|append|prepend|incr|decr)$/ {
     if (!($2 in number)) number[$2] = ++keys
     reads = $6 ~ /^get/
