@@ -1,13 +1,14 @@
--- GDSF and LFUDA: the entry of the least rank is removed, and the floor rises to its rank, so that an entry that is asked for no more is in time the least.
-use Rattle.std.specs.Prelude.{ℕ, ◌+◌, ◌-◌, ◌*◌, ◌/◌, ◌^◌, ◌==◌, Bool, false, ◌&&◌, ◌||◌, nat_lt, min, List, [], ◌∷◌, length, None}
+-- GDSF, in its form of today and that of 1998, and LFUDA: the entry of the least rank is removed, and the floor rises to its rank, so that an entry that is asked for no more is in time the least.
+use Rattle.std.specs.Prelude.{ℕ, ◌+◌, ◌-◌, ◌*◌, ◌/◌, ◌^◌, ◌==◌, Bool, false, ◌&&◌, ◌||◌, nat_lt, nat_le, min, if◌then◌else◌, List, [], ◌∷◌, length, None}
 use Rattle.policy_model.specs.declared.names.PolicyName.{PolicyName}
-use Rattle.policy_model.specs.declared.names.PolicyName.TheVariants.{Gdsf}
+use Rattle.policy_model.specs.declared.names.PolicyName.TheVariants.{Gdsf, Gdsf98}
 use Rattle.policy_model.specs.States.{Entry, Beside, Stock, State, used}
 use Rattle.policy_model.specs.Steps.{until_fits, change, without_entry, foremost, put_in, served}
 
 -- what a request of an object of this size is worth: by GDSF the more the smaller it is, by LFUDA one
 abbrev pub worth_of : PolicyName → ℕ → ℕ
 worth_of Gdsf size = 2 ^ 48 / size
+worth_of Gdsf98 size = 2 ^ 48 / size
 worth_of name size = 1
 
 -- the rank of this many requests over a floor
@@ -53,9 +54,26 @@ stock_used kept = used kept.entries
 abbrev pub ranked_in : PolicyName → ℕ → ℕ → ℕ → Stock → Stock
 ranked_in name now object size kept = over_floor kept.beside.floor (put_in (ranked_entry name kept.beside.floor now object size) kept.entries)
 
+-- the least ranks are removed until this many bytes fit
+abbrev pub freed_for : State → ℕ → Stock
+freed_for s size = until_fits age stock_used s.capacity size (length s.entries) (over_floor s.beside.floor s.entries)
+
 -- a hit raises the rank; on a miss the least ranks are removed until the object fits
 abbrev pub aged_after : PolicyName → State → ℕ → ℕ → Stock
 aged_after name s object size =
     served s object size
     (record { entries = change (raised name s.beside.floor s.now) object s.entries; beside = s.beside })
-    (ranked_in name s.now object size (until_fits age stock_used s.capacity size (length s.entries) (over_floor s.beside.floor s.entries)))
+    (ranked_in name s.now object size (freed_for s size))
+
+-- the entry comes in if no rank above its own is removed for it; else all that was kept stays
+abbrev pub admitted_in : Entry → Stock → Stock → Stock
+admitted_in e kept freed =
+    if nat_le freed.beside.floor e.rank then over_floor freed.beside.floor (put_in e freed.entries) else kept
+
+-- the same by the rule of 1998: an object that comes in has its rank over the former floor, and it comes in only if no greater rank has to go
+abbrev pub admitted_after : State → ℕ → ℕ → Stock
+admitted_after s object size =
+    let kept : Stock = record { entries = s.entries; beside = s.beside } in
+    served s object size
+    (record kept { entries = change (raised Gdsf98 s.beside.floor s.now) object s.entries })
+    (admitted_in (ranked_entry Gdsf98 s.beside.floor s.now object size) kept (freed_for s size))
