@@ -1,5 +1,5 @@
 -- The segments of W-TinyLFU: what a request makes of them is a part of them and of the object requested, and each has no more than its part of the capacity.
-use Rattle.std.proofs.Common.{◌≡◌, ℕ, zero, suc, ◌+◌, ◌-◌, ◌≤◌, ◌∙◌, refl, ap, Bool, true, false, not, ◌||◌, ◌&&◌, cond, eqb, leb, ltb, List, [], ◌∷◌, ◌++◌, length, take, drop, arith, None}
+use Rattle.std.proofs.Common.{◌≡◌, ℕ, zero, suc, ◌+◌, ◌-◌, ◌≤◌, ◌∙◌, refl, ap, Bool, true, false, not, ◌||◌, ◌&&◌, cond, eqb, leb, ltb, List, [], ◌∷◌, ◌++◌, length, get_or, take, drop, arith, None}
 use Rattle.std.proofs.lemmas.Bool.{cond_both, leb-true, eqb-true, and_parts}
 use Rattle.std.proofs.lemmas.List.{take-append-drop}
 use Rattle.std.proofs.lemmas.List.Sums.{sum_by-cons}
@@ -68,10 +68,10 @@ weight-drop f zero entries = omega arith
 weight-drop f (suc n) [] = omega arith
 weight-drop f (suc n) (e ∷ rest) = omega (arith, weight-drop f n rest, weight-cons f e rest)
 
-admit-weight : (f : ℕ → ℕ → ℕ) (most : ℕ) (counts : ℕ → ℕ) (e : Entry) (m : Main) → main_weight f (admit most counts e m) ≤ main_weight f m + f e.object e.size
+admit-weight : (f : ℕ → ℕ → ℕ) (most : ℕ) (counts : List ℕ) (e : Entry) (m : Main) → main_weight f (admit most counts e m) ≤ main_weight f m + f e.object e.size
 admit-weight f most counts e m =
     let leaving : List Entry = victims most e.size m in
-    cond_both (leb e.size most && (leb (main_used m + e.size) most || ltb (count_of counts leaving) (counts e.object))) (on_probation e (without_first (length leaving) m)) m
+    cond_both (leb e.size most && (leb (main_used m + e.size) most || ltb (count_of counts leaving) (get_or counts e.object 0))) (on_probation e (without_first (length leaving) m)) m
     (λ (n : Main). main_weight f n ≤ main_weight f m + f e.object e.size)
     (λ _.
     omega (
@@ -96,13 +96,13 @@ first-frees bytes (e ∷ rest) few =
     (λ is. omega (arith, eqb-true bytes 0 is))
     (λ _. omega (arith, first-frees (bytes - e.size) rest (omega (arith, sum_by-cons (λ (g : Entry). g.size) e rest)), sum_by-cons (λ (g : Entry). g.size) e rest))
 
-pub admit-room : (most : ℕ) (counts : ℕ → ℕ) (e : Entry) (m : Main) → main_used m ≤ most → main_used (admit most counts e m) ≤ most
+pub admit-room : (most : ℕ) (counts : List ℕ) (e : Entry) (m : Main) → main_used m ≤ most → main_used (admit most counts e m) ≤ most
 admit-room most counts e m fits =
     let leaving : List Entry = victims most e.size m in
-    cond_both (leb e.size most && (leb (main_used m + e.size) most || ltb (count_of counts leaving) (counts e.object))) (on_probation e (without_first (length leaving) m)) m
+    cond_both (leb e.size most && (leb (main_used m + e.size) most || ltb (count_of counts leaving) (get_or counts e.object 0))) (on_probation e (without_first (length leaving) m)) m
     (λ (n : Main). main_used n ≤ most)
     (λ is.
-    let small : e.size ≤ most = leb-true e.size most (and_parts (leb e.size most) (leb (main_used m + e.size) most || ltb (count_of counts leaving) (counts e.object)) is).0 in
+    let small : e.size ≤ most = leb-true e.size most (and_parts (leb e.size most) (leb (main_used m + e.size) most || ltb (count_of counts leaving) (get_or counts e.object 0)) is).0 in
     omega (
       arith,
       weight-push (λ o s. s) (drop (length leaving) m.probation) e,
@@ -113,7 +113,7 @@ admit-room most counts e m fits =
     (λ _. fits)
 
 -- ---- the window
-module _ (capacity : ℕ) (counts : ℕ → ℕ) where
+module _ (capacity : ℕ) (counts : List ℕ) where
   made : (e : Entry) (window : List Entry) (m : Main) (P : Segments → Type 0)
       → (leb (used (e ∷ window)) (window_part capacity) ≡ true → P (record { window = e ∷ window; main = m }))
       → P (spill capacity counts window (admit (main_part capacity) counts e m)) → P (spill capacity counts (e ∷ window) m)

@@ -1,5 +1,5 @@
 -- W-TinyLFU: an object comes into a window, and from there into a main part of two queues if it fits there or was asked for more often than what it displaces.
-use Rattle.std.specs.Prelude.{ℕ, ◌+◌, ◌-◌, ◌*◌, ◌/◌, ◌==◌, ◌&&◌, ◌||◌, nat_lt, nat_le, min, max, if◌then◌else◌, List, [], ◌∷◌, ◌++◌, length, take, drop, filter, sum_by, None}
+use Rattle.std.specs.Prelude.{ℕ, zero, suc, ◌+◌, ◌-◌, ◌*◌, ◌/◌, ◌==◌, ◌&&◌, ◌||◌, nat_lt, nat_le, min, max, if◌then◌else◌, List, [], ◌∷◌, ◌++◌, length, map, take, drop, filter, sum_by, slice_index, None}
 use Rattle.policy_model.specs.declared.names.PolicyName.TheVariants.{WTinyLfu}
 use Rattle.policy_model.specs.States.{Entry, Stock, State, nothing_beside, used, has_entry}
 use Rattle.policy_model.specs.Steps.{without_entry, fresh_entry, served}
@@ -14,9 +14,9 @@ pub record Segments : Type 0 where
   pub window : List Entry
   pub main : Main
 
--- of each object how often it was asked for, and how many requests there were; both are halved at times
+-- how often each object was asked for, by its number up to the greatest so far, and how many requests there were; both are halved at times
 pub record Frequencies : Type 0 where
-  pub counts : ℕ → ℕ
+  pub counts : List ℕ
   pub asked : ℕ
 
 -- the bytes of the window are a hundredth of the capacity, at least 1
@@ -33,12 +33,15 @@ protected_part capacity = 8 * main_part capacity / 10
 
 -- ---- counts
 -- one more request of an object counts, up to 15
-abbrev pub one_more : ℕ → (ℕ → ℕ) → ℕ → ℕ
-one_more object counts k = let count = counts k in if k == object then min (count + 1) 15 else count
+abbrev pub one_more : ℕ → List ℕ → List ℕ
+one_more zero [] = 1 ∷ []
+one_more zero (count ∷ rest) = min (count + 1) 15 ∷ rest
+one_more (suc object) [] = 0 ∷ one_more object []
+one_more (suc object) (count ∷ rest) = count ∷ one_more object rest
 
 -- all is halved once there were ten times as many requests as entries are held, or as 16
 abbrev pub halved_in_time : ℕ → Frequencies → Frequencies
-halved_in_time held f = if nat_le (10 * max 16 held) f.asked then record { counts = λ k. f.counts k / 2; asked = f.asked / 2 } else f
+halved_in_time held f = if nat_le (10 * max 16 held) f.asked then record { counts = map (λ count. count / 2) f.counts; asked = f.asked / 2 } else f
 
 -- after one more request
 abbrev pub with_request : ℕ → ℕ → Frequencies → Frequencies
@@ -95,25 +98,25 @@ abbrev pub on_probation : Entry → Main → Main
 on_probation e m = record { probation = m.probation ++ e ∷ []; protected = m.protected }
 
 -- the counts of entries, summed
-abbrev pub count_of : (ℕ → ℕ) → List Entry → ℕ
-count_of counts entries = sum_by (λ e. counts e.object) entries
+abbrev pub count_of : List ℕ → List Entry → ℕ
+count_of counts entries = sum_by (λ e. slice_index counts e.object) entries
 
 -- a candidate comes in if it fits, or if its count is above that of its victims, which leave
-abbrev pub admit : ℕ → (ℕ → ℕ) → Entry → Main → Main
+abbrev pub admit : ℕ → List ℕ → Entry → Main → Main
 admit most counts e m =
     let leaving = victims most e.size m in
-    if nat_le e.size most && (nat_le (main_used m + e.size) most || nat_lt (count_of counts leaving) (counts e.object))
+    if nat_le e.size most && (nat_le (main_used m + e.size) most || nat_lt (count_of counts leaving) (slice_index counts e.object))
     then on_probation e (without_first (length leaving) m) else m
 
 -- while the window has more bytes than its part, its first entry leaves it and is a candidate
-abbrev pub spill : ℕ → (ℕ → ℕ) → List Entry → Main → Segments
+abbrev pub spill : ℕ → List ℕ → List Entry → Main → Segments
 spill capacity counts [] m = record { window = []; main = m }
 spill capacity counts (e ∷ window) m =
     if nat_le (used (e ∷ window)) (window_part capacity) then record { window = e ∷ window; main = m }
     else spill capacity counts window (admit (main_part capacity) counts e m)
 
 -- what is larger than the window is a candidate at once, and else comes in at the back of the window
-abbrev pub missed_in : ℕ → (ℕ → ℕ) → Entry → Segments → Segments
+abbrev pub missed_in : ℕ → List ℕ → Entry → Segments → Segments
 missed_in capacity counts e q =
     if nat_lt (window_part capacity) e.size then record { window = q.window; main = admit (main_part capacity) counts e q.main }
     else spill capacity counts (q.window ++ e ∷ []) q.main

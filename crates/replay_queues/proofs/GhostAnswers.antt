@@ -8,7 +8,7 @@ use Rattle.std.proofs.lemmas.List.Sums.{sum_by-cons, sum_by_push}
 use Rattle.policy_model.specs.States.{Member, member, members_size, has_member}
 use Rattle.policy_model.proofs.Comparisons.{eqb-sym}
 use Rattle.cache_model.proofs.Eligible.{or_false}
-use Rattle.replay_queues.specs.declared.ghosts.Node.{Node}
+use Rattle.replay_queues.specs.declared.nodes.Node.{Node}
 use Rattle.replay_queues.specs.GhostQueues.{GhostQueue}
 use Rattle.replay_queues.specs.Rings.{node_at, is_among, Distinct, Links, Joins, Notes, walk, ring_of, members_at, ghosts_of, IsRing}
 use Rattle.replay_queues.proofs.RingLemmas.{after, before, without, without-none, without-head, Links-same, last-beside, before-among, after-among, takes_last, goes_on, taken_out, walked, length-walk}

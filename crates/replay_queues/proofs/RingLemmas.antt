@@ -2,7 +2,7 @@
 use Rattle.std.proofs.Common.{◌≡◌, ℕ, zero, suc, ◌∙◌, sym, refl, ap, subst, Bool, true, false, not, ◌||◌, cond, eqb, List, [], ◌∷◌, ◌++◌, length, filter, arith}
 use Rattle.std.proofs.lemmas.Bool.{eqb-true, eq-eqb, or_parts, or_from, or_left, or_right}
 use Rattle.policy_model.proofs.Comparisons.{eqb-sym}
-use Rattle.replay_queues.specs.declared.ghosts.Node.{Node}
+use Rattle.replay_queues.specs.declared.nodes.Node.{Node}
 use Rattle.replay_queues.specs.Rings.{node_at, is_among, Distinct, Links, Joins, walk}
 
 abbrev pub after : List Node → ℕ → ℕ
