@@ -5,14 +5,16 @@ use Rattle.cache_model.specs.declared.objects.Object.{Object}
 use Rattle.cache_model.specs.Objects.{objects_of}
 use Rattle.cache_model.specs.Claim.{counts_past, request_at}
 use Rattle.policy_model.specs.declared.names.PolicyName.{PolicyName}
-use Rattle.policy_model.specs.States.{State, members_of, has_entry, used, start_of, IsFit}
+use Rattle.policy_model.specs.declared.names.PolicyName.TheVariants.{WTinyLfu}
+use Rattle.policy_model.specs.States.{State, nothing_beside, members_of, has_entry, used, start_of, IsFit}
 use Rattle.policy_model.specs.Rules.{entries_after}
 use Rattle.policy_model.specs.Asks.{ask_at, number_of, next_request}
 use Rattle.policy_model.specs.Runs.{Run, run_step, AreScores}
 use Rattle.policy_model.proofs.Holdings.{size-held}
 use Rattle.policy_model.proofs.MemberLemmas.{size-members, apart-members, sizes-entries}
 use Rattle.policy_model.proofs.Replays.{AreScoresTo, IsAsked, played-none, played-more, played-all, run_to, run_to-more, run_to-all, has_entry-members}
-use Rattle.policy_model.proofs.RulesSound.{fit-step, enters-step}
+use Rattle.policy_model.proofs.WTinyLfuSound.{KeepsShares}
+use Rattle.policy_model.proofs.RulesSound.{fit-step, shares-step, enters-step}
 use Rattle.policy_laws.specs.Laws.{RunsAreAllowed}
 use Rattle.policy_laws.proofs.Asked.{number_of-object}
 
@@ -21,6 +23,7 @@ record Stands (capacity : ℕ) (counted : ℕ → Bool) (trace : List Object) (t
   pub played : AreScoresTo capacity counted trace t (members_of run.state.entries) run.hits run.bytes
   pub fit : IsFit capacity run.state.entries
   pub same_capacity : run.state.capacity ≡ capacity
+  pub shares : KeepsShares run.state.name run.state.capacity run.state.entries run.state.beside
 
 asked_at : (trace : List Object) (t : ℕ) → t < length trace → IsAsked trace t (number_of trace (request_at trace t)) (request_at trace t).size
 asked_at trace t within =
@@ -43,7 +46,7 @@ one_more capacity counted trace t run within stands =
     let hit : Bool = has_entry s.entries k in
     let fit_before : IsFit s.capacity s.entries = subst (λ c. IsFit c s.entries) (sym stands.same_capacity) stands.fit in
     let fit_after : IsFit s.capacity (entries_after s k x.size next) =
-    fit-step s k x.size next (sizes-entries k x.size s.entries (size-held trace x k asked.found asked.object (members_of s.entries) stands.played.numbered)) fit_before in
+    fit-step s k x.size next stands.shares (sizes-entries k x.size s.entries (size-held trace x k asked.found asked.object (members_of s.entries) stands.played.numbered)) fit_before in
     let fit : IsFit capacity (entries_after s k x.size next) = subst (λ c. IsFit c (entries_after s k x.size next)) stands.same_capacity fit_after in
     let low : used (entries_after s k x.size next) ≤ capacity = fit.room in
     record {
@@ -53,13 +56,20 @@ one_more capacity counted trace t run within stands =
           (has_entry-members s.entries k) refl refl;
       fit = fit;
       same_capacity = stands.same_capacity;
+      shares = shares-step s k x.size next stands.shares;
     }
+
+-- of no entries
+no_shares : (name : PolicyName) (capacity : ℕ) → KeepsShares name capacity [] nothing_beside
+no_shares WTinyLfu capacity = record { window = omega arith; main = omega arith }
+no_shares name capacity = tt
 
 stands_at : (name : PolicyName) (capacity : ℕ) (counted : ℕ → Bool) (trace : List Object) (t : ℕ) → t ≤ length trace → Stands capacity counted trace t (run_to counted (start_of name capacity) trace t)
 stands_at name capacity counted trace zero within = record {
   played = played-none capacity counted trace (members_of []) refl;
   fit = record { room = omega arith; apart = tt };
   same_capacity = refl;
+  shares = no_shares name capacity;
 }
 stands_at name capacity counted trace (suc t) within =
     let low : t < length trace = omega arith in

@@ -12,4 +12,5 @@ pub mod Parts
 pub mod SieveSound
 pub mod S3FifoSound
 pub mod AgingSound
+pub mod WTinyLfuSound
 pub mod RulesSound

@@ -4,17 +4,18 @@ use Rattle.std.specs.declared.option.Option.{Option}
 use Rattle.std.specs.List.{AllByRecursion}
 use Rattle.std.proofs.lemmas.Bool.{leb-true, le-leb, lt-leb}
 use Rattle.policy_model.specs.declared.names.PolicyName.{PolicyName}
-use Rattle.policy_model.specs.declared.names.PolicyName.TheVariants.{Sieve, S3Fifo, Gdsf, Lfuda, Gdsf98}
+use Rattle.policy_model.specs.declared.names.PolicyName.TheVariants.{Sieve, S3Fifo, Gdsf, Lfuda, Gdsf98, WTinyLfu}
 use Rattle.policy_model.specs.States.{Member, Entry, Stock, State, member, members_of, used, has_entry}
 use Rattle.policy_model.specs.Steps.{touched, touch, change, fresh_entry, served}
 use Rattle.policy_model.specs.Aging.{ranked_entry, raised}
-use Rattle.policy_model.specs.Rules.{stock_after, entries_after}
+use Rattle.policy_model.specs.Rules.{stock_after, entries_after, beside_after}
 use Rattle.policy_model.proofs.Sound.{IsFit, fit-plain, touched-object, touched-size}
 use Rattle.policy_model.proofs.MemberLemmas.{enters-plain}
 use Rattle.policy_model.proofs.Parts.{IsPart, part-used, part-apart, part-members, part-fit, part-enters, part-change}
 use Rattle.policy_model.proofs.SieveSound.{sieve-part, sieve-room}
 use Rattle.policy_model.proofs.S3FifoSound.{s3fifo-part, s3fifo-room}
 use Rattle.policy_model.proofs.AgingSound.{left_floor, aged-part, aged-room, own_entry, admitted-part, admitted-room, raised-object, raised-size}
+use Rattle.policy_model.proofs.WTinyLfuSound.{tinylfu_hit-part, tinylfu-part, tinylfu-room, tinylfu-shared, KeepsShares}
 
 -- what a rule makes of a hit is a part of the entries, and what it makes of a miss a part of them and of the one requested, that fits
 module _ (s : State) (object size : ℕ) (hit miss : Stock) (e : Entry) where
@@ -58,17 +59,26 @@ module _ (s : State) (object size : ℕ) (next : Option ℕ) where
   raised-part : (name : PolicyName) → IsPart (change (raised name s.beside.floor s.now) object s.entries) s.entries
   raised-part name = part-change (raised name s.beside.floor s.now) (raised-object name s.beside.floor s.now) (raised-size name s.beside.floor s.now) object s.entries
 
-  stock-fit : (name : PolicyName) → AllByRecursion (λ e. e.object ≡ object → e.size ≡ size) s.entries → IsFit s.capacity s.entries → IsFit s.capacity (stock_after name s object size next).entries
-  stock-fit Sieve sizes fit = served-fit s object size _ _ (fresh_entry Sieve s.now object size None) (touched-part Sieve) refl refl (sieve-part s object size) (sieve-room s object size) fit
-  stock-fit S3Fifo sizes fit = served-fit s object size _ _ (fresh_entry S3Fifo s.now object size None) (touched-part S3Fifo) refl refl (s3fifo-part s object size) (s3fifo-room s object size) fit
-  stock-fit Gdsf sizes fit = served-fit s object size _ _ (ranked_entry Gdsf (left_floor s object size) s.now object size) (raised-part Gdsf) refl refl (aged-part s object size Gdsf) (aged-room s object size Gdsf) fit
-  stock-fit Lfuda sizes fit = served-fit s object size _ _ (ranked_entry Lfuda (left_floor s object size) s.now object size) (raised-part Lfuda) refl refl (aged-part s object size Lfuda) (aged-room s object size Lfuda) fit
-  stock-fit Gdsf98 sizes fit = served-fit s object size _ _ (own_entry s object size) (raised-part Gdsf98) refl refl (admitted-part s object size) (admitted-room s object size fit.room) fit
-  stock-fit name sizes fit = fit-plain s object size next sizes fit
+  stock-fit : (name : PolicyName) → KeepsShares name s.capacity s.entries s.beside → AllByRecursion (λ e. e.object ≡ object → e.size ≡ size) s.entries → IsFit s.capacity s.entries → IsFit s.capacity (stock_after name s object size next).entries
+  stock-fit Sieve shares sizes fit = served-fit s object size _ _ (fresh_entry Sieve s.now object size None) (touched-part Sieve) refl refl (sieve-part s object size) (sieve-room s object size) fit
+  stock-fit S3Fifo shares sizes fit = served-fit s object size _ _ (fresh_entry S3Fifo s.now object size None) (touched-part S3Fifo) refl refl (s3fifo-part s object size) (s3fifo-room s object size) fit
+  stock-fit Gdsf shares sizes fit = served-fit s object size _ _ (ranked_entry Gdsf (left_floor s object size) s.now object size) (raised-part Gdsf) refl refl (aged-part s object size Gdsf) (aged-room s object size Gdsf) fit
+  stock-fit Lfuda shares sizes fit = served-fit s object size _ _ (ranked_entry Lfuda (left_floor s object size) s.now object size) (raised-part Lfuda) refl refl (aged-part s object size Lfuda) (aged-room s object size Lfuda) fit
+  stock-fit Gdsf98 shares sizes fit = served-fit s object size _ _ (own_entry s object size) (raised-part Gdsf98) refl refl (admitted-part s object size) (admitted-room s object size fit.room) fit
+  stock-fit WTinyLfu shares sizes fit = served-fit s object size _ _ (fresh_entry WTinyLfu s.now object size None) (tinylfu_hit-part s object size) refl refl (tinylfu-part s object size) (tinylfu-room s object size shares fit.room) fit
+  stock-fit name shares sizes fit = fit-plain s object size next sizes fit
 
   -- the entries after a step fit and are apart
-  pub fit-step : AllByRecursion (λ e. e.object ≡ object → e.size ≡ size) s.entries → IsFit s.capacity s.entries → IsFit s.capacity (entries_after s object size next)
-  fit-step sizes fit = stock-fit s.name sizes fit
+  pub fit-step : KeepsShares s.name s.capacity s.entries s.beside → AllByRecursion (λ e. e.object ≡ object → e.size ≡ size) s.entries → IsFit s.capacity s.entries → IsFit s.capacity (entries_after s object size next)
+  fit-step shares sizes fit = stock-fit s.name shares sizes fit
+
+  stock-shares : (name : PolicyName) → KeepsShares name s.capacity s.entries s.beside → KeepsShares name s.capacity (stock_after name s object size next).entries (stock_after name s object size next).beside
+  stock-shares WTinyLfu shares = tinylfu-shared s object size shares
+  stock-shares name shares = tt
+
+  -- each segment keeps within its part
+  pub shares-step : KeepsShares s.name s.capacity s.entries s.beside → KeepsShares s.name s.capacity (entries_after s object size next) (beside_after s object size next)
+  shares-step shares = stock-shares s.name shares
 
   stock-enters : (name : PolicyName) (m : Member) → Contains (members_of (stock_after name s object size next).entries) m → Contains (members_of s.entries) m ⊎ (m ≡ member object size)
   stock-enters Sieve m c = served-enters s object size _ _ (fresh_entry Sieve s.now object size None) (touched-part Sieve) refl refl (sieve-part s object size) m c
@@ -76,6 +86,7 @@ module _ (s : State) (object size : ℕ) (next : Option ℕ) where
   stock-enters Gdsf m c = served-enters s object size _ _ (ranked_entry Gdsf (left_floor s object size) s.now object size) (raised-part Gdsf) refl refl (aged-part s object size Gdsf) m c
   stock-enters Lfuda m c = served-enters s object size _ _ (ranked_entry Lfuda (left_floor s object size) s.now object size) (raised-part Lfuda) refl refl (aged-part s object size Lfuda) m c
   stock-enters Gdsf98 m c = served-enters s object size _ _ (own_entry s object size) (raised-part Gdsf98) refl refl (admitted-part s object size) m c
+  stock-enters WTinyLfu m c = served-enters s object size _ _ (fresh_entry WTinyLfu s.now object size None) (tinylfu_hit-part s object size) refl refl (tinylfu-part s object size) m c
   stock-enters name m c = enters-plain s object size next m c
 
   -- only the object requested enters

@@ -2,7 +2,7 @@
 use Rattle.std.specs.Prelude.{ℕ, ◌+◌, ◌-◌, ◌*◌, ◌/◌, ◌^◌, ◌==◌, Bool, false, ◌&&◌, ◌||◌, nat_lt, nat_le, min, if◌then◌else◌, List, [], ◌∷◌, length, None}
 use Rattle.policy_model.specs.declared.names.PolicyName.{PolicyName}
 use Rattle.policy_model.specs.declared.names.PolicyName.TheVariants.{Gdsf, Gdsf98}
-use Rattle.policy_model.specs.States.{Entry, Beside, Stock, State, used}
+use Rattle.policy_model.specs.States.{Entry, Beside, Stock, State, nothing_beside, used}
 use Rattle.policy_model.specs.Steps.{until_fits, change, without_entry, foremost, put_in, served}
 
 -- what a request of an object of this size is worth: by GDSF the more the smaller it is, by LFUDA one
@@ -32,7 +32,7 @@ is_below e f = nat_lt e.rank f.rank || ((e.rank == f.rank) && (nat_lt e.last f.l
 
 -- a floor and nothing else beside the entries
 abbrev pub floored : ℕ → Beside
-floored floor = record { first = 0; ghosts = []; floor = floor }
+floored floor = record nothing_beside { floor = floor }
 
 -- entries over a floor
 abbrev pub over_floor : ℕ → List Entry → Stock

@@ -3,7 +3,7 @@ use Rattle.std.specs.Prelude.{ℕ, List, [], ◌∷◌, codes, find}
 use Rattle.std.specs.declared.option.Option.{Option}
 use Rattle.std.specs.Str.{bytes_eq}
 use Rattle.policy_model.specs.declared.names.PolicyName.{PolicyName}
-use Rattle.policy_model.specs.declared.names.PolicyName.TheVariants.{Lru, Fifo, Clock, Lfu, Belady, Sieve, S3Fifo, Gdsf, Lfuda, Gdsf98}
+use Rattle.policy_model.specs.declared.names.PolicyName.TheVariants.{Lru, Fifo, Clock, Lfu, Belady, Sieve, S3Fifo, Gdsf, Lfuda, Gdsf98, WTinyLfu}
 
 -- the word of a policy
 abbrev pub policy_word : PolicyName → List ℕ
@@ -17,10 +17,11 @@ policy_word S3Fifo = codes "s3fifo"
 policy_word Gdsf = codes "gdsf"
 policy_word Lfuda = codes "lfuda"
 policy_word Gdsf98 = codes "gdsf98"
+policy_word WTinyLfu = codes "wtinylfu"
 
 -- each policy
 abbrev pub all_policies : List PolicyName
-all_policies = Lru ∷ Fifo ∷ Clock ∷ Lfu ∷ Belady ∷ Sieve ∷ S3Fifo ∷ Gdsf ∷ Lfuda ∷ Gdsf98 ∷ []
+all_policies = Lru ∷ Fifo ∷ Clock ∷ Lfu ∷ Belady ∷ Sieve ∷ S3Fifo ∷ Gdsf ∷ Lfuda ∷ Gdsf98 ∷ WTinyLfu ∷ []
 
 -- the policy of a word
 abbrev pub policy_named : List ℕ → Option PolicyName

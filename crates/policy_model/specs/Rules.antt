@@ -2,12 +2,13 @@
 use Rattle.std.specs.Prelude.{ℕ, ◌+◌, ◌-◌, ◌^◌, Bool, min, List}
 use Rattle.std.specs.declared.option.Option.{Option}
 use Rattle.policy_model.specs.declared.names.PolicyName.{PolicyName}
-use Rattle.policy_model.specs.declared.names.PolicyName.TheVariants.{Sieve, S3Fifo, Gdsf, Lfuda, Gdsf98}
+use Rattle.policy_model.specs.declared.names.PolicyName.TheVariants.{Sieve, S3Fifo, Gdsf, Lfuda, Gdsf98, WTinyLfu}
 use Rattle.policy_model.specs.States.{Entry, Beside, Stock, State, has_entry}
 use Rattle.policy_model.specs.Steps.{plain_after}
 use Rattle.policy_model.specs.Sieve.{sieve_after}
 use Rattle.policy_model.specs.S3Fifo.{s3fifo_after}
 use Rattle.policy_model.specs.Aging.{aged_after, admitted_after}
+use Rattle.policy_model.specs.WTinyLfu.{tinylfu_after}
 
 -- what is kept after a request, by the rule of this name
 abbrev pub stock_after : PolicyName → State → ℕ → ℕ → Option ℕ → Stock
@@ -16,6 +17,7 @@ stock_after S3Fifo s object size next = s3fifo_after s object size
 stock_after Gdsf s object size next = aged_after Gdsf s object size
 stock_after Lfuda s object size next = aged_after Lfuda s object size
 stock_after Gdsf98 s object size next = admitted_after s object size
+stock_after WTinyLfu s object size next = tinylfu_after s object size
 stock_after name s object size next = record { entries = plain_after s object size next; beside = s.beside }
 
 -- the entries after a request

@@ -1,7 +1,7 @@
 -- S3-FIFO: a small queue, a main queue, and a queue of ghosts, which are objects that the small one gave up.
 use Rattle.std.specs.Prelude.{ℕ, zero, suc, ◌+◌, ◌-◌, ◌*◌, ◌/◌, ◌==◌, Bool, true, false, not, ◌&&◌, ◌||◌, nat_le, if◌then◌else◌, List, [], ◌∷◌, ◌++◌, length, take, drop, filter, sum_by, None}
 use Rattle.policy_model.specs.declared.names.PolicyName.TheVariants.{S3Fifo}
-use Rattle.policy_model.specs.States.{Member, Entry, Stock, State, member_of, members_size, has_member, used}
+use Rattle.policy_model.specs.States.{Member, Entry, Stock, State, nothing_beside, member_of, members_size, has_member, used}
 use Rattle.policy_model.specs.Steps.{until_fits, touch, fresh_entry, served}
 
 -- the three queues, each from its front
@@ -64,7 +64,7 @@ queues_of s = record { small = take s.beside.first s.entries; main = drop s.besi
 
 -- what is kept of queues
 abbrev pub stock_of_queues : Queues → Stock
-stock_of_queues q = record { entries = q.small ++ q.main; beside = record { first = length q.small; ghosts = q.ghosts; floor = 0 } }
+stock_of_queues q = record { entries = q.small ++ q.main; beside = record nothing_beside { first = length q.small; ghosts = q.ghosts } }
 
 -- a hit counts, up to three; on a miss the queues shrink until the object fits
 abbrev pub s3fifo_after : State → ℕ → ℕ → Stock

@@ -1,7 +1,7 @@
 -- SIEVE: the entries stand in the order in which they came in, and a hand cuts them in two.
 use Rattle.std.specs.Prelude.{ℕ, ◌+◌, ◌*◌, false, if◌then◌else◌, List, [], ◌∷◌, ◌++◌, length, take, drop, None}
 use Rattle.policy_model.specs.declared.names.PolicyName.TheVariants.{Sieve}
-use Rattle.policy_model.specs.States.{Entry, Stock, State, used}
+use Rattle.policy_model.specs.States.{Entry, Stock, State, nothing_beside, used}
 use Rattle.policy_model.specs.Steps.{until_fits, touch, fresh_entry, served}
 
 -- the entries that the hand has passed and those ahead of it, each oldest first
@@ -32,7 +32,7 @@ cut_of s = record { behind = take s.beside.first s.entries; ahead = drop s.besid
 
 -- what is kept of a cut
 abbrev pub stock_of_cut : Cut → Stock
-stock_of_cut c = record { entries = c.behind ++ c.ahead; beside = record { first = length c.behind; ghosts = []; floor = 0 } }
+stock_of_cut c = record { entries = c.behind ++ c.ahead; beside = record nothing_beside { first = length c.behind } }
 
 -- an entry comes in ahead of the hand, last of all
 abbrev pub come_in : Entry → Cut → Cut

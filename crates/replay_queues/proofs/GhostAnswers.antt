@@ -8,7 +8,7 @@ use Rattle.std.proofs.lemmas.List.Sums.{sum_by-cons, sum_by_push}
 use Rattle.policy_model.specs.States.{Member, member, members_size, has_member}
 use Rattle.policy_model.proofs.Comparisons.{eqb-sym}
 use Rattle.cache_model.proofs.Eligible.{or_false}
-use Rattle.replay_queues.specs.declared.ghosts.Node.{Node}
+use Rattle.replay_queues.specs.declared.nodes.Node.{Node}
 use Rattle.replay_queues.specs.GhostQueues.{GhostQueue}
 use Rattle.replay_queues.specs.Rings.{node_at, is_among, Distinct, Links, Joins, Notes, walk, ring_of, members_at, ghosts_of, IsRing}
 use Rattle.replay_queues.proofs.RingLemmas.{after, before, without, without-none, without-head, Links-same, last-beside, before-among, after-among, takes_last, goes_on, taken_out, walked, length-walk}
@@ -21,7 +21,7 @@ pub members-among : (nodes : List Node) (numbers : List ℕ) (k : ℕ) → has_m
 members-among nodes [] k = refl
 members-among nodes (j ∷ rest) k = ap (λ b. eqb j k || b) (members-among nodes rest k)
 
-members-but : (old new : List Node) (k : ℕ) → ((j : ℕ) → eqb j k ≡ false → size_at new j ≡ size_at old j) → (numbers : List ℕ) → is_among numbers k ≡ false → members_at new numbers ≡ members_at old numbers
+pub members-but : (old new : List Node) (k : ℕ) → ((j : ℕ) → eqb j k ≡ false → size_at new j ≡ size_at old j) → (numbers : List ℕ) → is_among numbers k ≡ false → members_at new numbers ≡ members_at old numbers
 members-but old new k same [] none = refl
 members-but old new k same (j ∷ rest) none =
     let parts : (eqb j k ≡ false) × (is_among rest k ≡ false) = or_parts _ _ none in
@@ -47,20 +47,20 @@ less-among k q (j ∷ rest) none =
     let parts : (eqb j q ≡ false) × (is_among rest q ≡ false) = or_parts _ _ none in
     cond_both (not (eqb j k)) (j ∷ without k rest) (without k rest) (λ js. is_among js q ≡ false) (λ _. or_from (eqb j q) (is_among (without k rest) q) parts.0 (less-among k q rest parts.1)) (λ _. less-among k q rest parts.1)
 
-more-among : (k q : ℕ) (numbers : List ℕ) → is_among (without k numbers) q ≡ true → is_among numbers q ≡ true
+pub more-among : (k q : ℕ) (numbers : List ℕ) → is_among (without k numbers) q ≡ true → is_among numbers q ≡ true
 more-among k q numbers there = at (is_among numbers q) refl
   where
     at : (t : Bool) → is_among numbers q ≡ t → is_among numbers q ≡ true
     at true is = is
     at false is = let clash : true ≡ false = sym there ∙ less-among k q numbers is in cc
 
-distinct-without : (k : ℕ) (numbers : List ℕ) → Distinct numbers → Distinct (without k numbers)
+pub distinct-without : (k : ℕ) (numbers : List ℕ) → Distinct numbers → Distinct (without k numbers)
 distinct-without k [] apart = tt
 distinct-without k (j ∷ rest) apart =
     cond_both (not (eqb j k)) (j ∷ without k rest) (without k rest) Distinct (λ _. (less-among k j rest apart.0, distinct-without k rest apart.1)) (λ _. distinct-without k rest apart.1)
 
 -- a sum loses its part
-sum-without : (f : ℕ → ℕ) (k : ℕ) (numbers : List ℕ) → Distinct numbers → is_among numbers k ≡ true → sum_by f (without k numbers) + f k ≡ sum_by f numbers
+pub sum-without : (f : ℕ → ℕ) (k : ℕ) (numbers : List ℕ) → Distinct numbers → is_among numbers k ≡ true → sum_by f (without k numbers) + f k ≡ sum_by f numbers
 sum-without f k [] apart there = cc
 sum-without f k (j ∷ rest) apart there = at (eqb j k) refl (sum-without f k rest apart.1)
   where
@@ -83,7 +83,7 @@ sum-without f k (j ∷ rest) apart there = at (eqb j k) refl (sum-without f k re
           sum_by-cons f j (without k rest),
         )
 
-ones : (numbers : List ℕ) → sum_by (λ j. 1) numbers ≡ length numbers
+pub ones : (numbers : List ℕ) → sum_by (λ j. 1) numbers ≡ length numbers
 ones [] = refl
 ones (j ∷ rest) = omega (arith, ones rest, sum_by-cons (λ (i : ℕ). 1) j rest)
 
@@ -92,7 +92,7 @@ sizes nodes [] = refl
 sizes nodes (j ∷ rest) = omega (arith, sizes nodes rest, sum_by-cons (size_at nodes) j rest, sum_by-cons (λ (m : Member). m.size) (member j (size_at nodes j)) (members_at nodes rest))
 
 -- ---- with one more
-among-push : (numbers : List ℕ) (k q : ℕ) → is_among (numbers ++ k ∷ []) q ≡ (is_among numbers q || eqb k q)
+pub among-push : (numbers : List ℕ) (k q : ℕ) → is_among (numbers ++ k ∷ []) q ≡ (is_among numbers q || eqb k q)
 among-push [] k q = or_false (eqb k q)
 among-push (j ∷ rest) k q = ap (λ b. eqb j q || b) (among-push rest k q) ∙ assoc (eqb j q) (is_among rest q) (eqb k q)
   where
@@ -100,7 +100,7 @@ among-push (j ∷ rest) k q = ap (λ b. eqb j q || b) (among-push rest k q) ∙ 
     assoc true b c = refl
     assoc false b c = refl
 
-distinct-push : (numbers : List ℕ) (k : ℕ) → Distinct numbers → is_among numbers k ≡ false → Distinct (numbers ++ k ∷ [])
+pub distinct-push : (numbers : List ℕ) (k : ℕ) → Distinct numbers → is_among numbers k ≡ false → Distinct (numbers ++ k ∷ [])
 distinct-push [] k apart none = (refl, tt)
 distinct-push (j ∷ rest) k apart none =
     let parts : (eqb j k ≡ false) × (is_among rest k ≡ false) = or_parts _ _ none in

@@ -2,7 +2,7 @@
 use Rattle.std.proofs.Common.{◌≡◌, ℕ, zero, suc, ◌∙◌, sym, refl, ap, subst, Bool, true, false, not, ◌||◌, cond, eqb, List, [], ◌∷◌, ◌++◌, length, filter, arith}
 use Rattle.std.proofs.lemmas.Bool.{eqb-true, eq-eqb, or_parts, or_from, or_left, or_right}
 use Rattle.policy_model.proofs.Comparisons.{eqb-sym}
-use Rattle.replay_queues.specs.declared.ghosts.Node.{Node}
+use Rattle.replay_queues.specs.declared.nodes.Node.{Node}
 use Rattle.replay_queues.specs.Rings.{node_at, is_among, Distinct, Links, Joins, walk}
 
 abbrev pub after : List Node → ℕ → ℕ
@@ -12,7 +12,7 @@ abbrev pub before : List Node → ℕ → ℕ
 before nodes k = (node_at nodes k).before
 
 -- ---- numbers that are among others
-differs : (a b : ℕ) (numbers : List ℕ) → is_among numbers a ≡ false → is_among numbers b ≡ true → eqb a b ≡ false
+pub differs : (a b : ℕ) (numbers : List ℕ) → is_among numbers a ≡ false → is_among numbers b ≡ true → eqb a b ≡ false
 differs a b numbers none there = at (eqb a b) refl
   where
     at : (t : Bool) → eqb a b ≡ t → eqb a b ≡ false
@@ -32,20 +32,20 @@ Links-same old new same_after same_before first (k ∷ rest) last l = (same_afte
 
 -- ---- after a join
 module _ (old new : List Node) (p q : ℕ) (joins : Joins old new p q) where
-  after-here : (k : ℕ) → k ≡ p → after new k ≡ q
+  pub after-here : (k : ℕ) → k ≡ p → after new k ≡ q
   after-here k same = joins.follows k ∙ at-same k p q (after old k) same
 
-  after-other : (k : ℕ) → eqb k p ≡ false → after new k ≡ after old k
+  pub after-other : (k : ℕ) → eqb k p ≡ false → after new k ≡ after old k
   after-other k other = joins.follows k ∙ at-other k p q (after old k) other
 
-  before-here : (k : ℕ) → k ≡ q → before new k ≡ p
+  pub before-here : (k : ℕ) → k ≡ q → before new k ≡ p
   before-here k same = joins.goes_before k ∙ at-same k q p (before old k) same
 
-  before-other : (k : ℕ) → eqb k q ≡ false → before new k ≡ before old k
+  pub before-other : (k : ℕ) → eqb k q ≡ false → before new k ≡ before old k
   before-other k other = joins.goes_before k ∙ at-other k q p (before old k) other
 
   -- of others
-  Links-other : (first : ℕ) (numbers : List ℕ) (last : ℕ) → eqb first p ≡ false → is_among numbers p ≡ false → is_among numbers q ≡ false → eqb last q ≡ false → Links old first numbers last → Links new first numbers last
+  pub Links-other : (first : ℕ) (numbers : List ℕ) (last : ℕ) → eqb first p ≡ false → is_among numbers p ≡ false → is_among numbers q ≡ false → eqb last q ≡ false → Links old first numbers last → Links new first numbers last
   Links-other first [] last of_first no_p no_q of_last l = (after-other first of_first ∙ l.0, before-other last of_last ∙ l.1)
   Links-other first (k ∷ rest) last of_first no_p no_q of_last l =
       let p_parts : (eqb k p ≡ false) × (is_among rest p ≡ false) = or_parts _ _ no_p in
@@ -53,7 +53,7 @@ module _ (old new : List Node) (p q : ℕ) (joins : Joins old new p q) where
       (after-other first of_first ∙ l.0, before-other k q_parts.0 ∙ l.1, Links-other k rest last p_parts.0 p_parts.1 q_parts.1 of_last l.2)
 
 -- ---- who stands beside whom
-last-among : (nodes : List Node) (first k : ℕ) (rest : List ℕ) (last : ℕ) → Links nodes first (k ∷ rest) last → is_among (k ∷ rest) (before nodes last) ≡ true
+pub last-among : (nodes : List Node) (first k : ℕ) (rest : List ℕ) (last : ℕ) → Links nodes first (k ∷ rest) last → is_among (k ∷ rest) (before nodes last) ≡ true
 last-among nodes first k [] last l = or_left (eqb k (before nodes last)) false (eq-eqb k (before nodes last) (sym l.2.1))
 last-among nodes first k (j ∷ rest) last l = or_right (eqb k (before nodes last)) (is_among (j ∷ rest) (before nodes last)) (last-among nodes k j rest last l.2)
 

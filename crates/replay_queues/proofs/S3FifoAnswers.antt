@@ -6,7 +6,7 @@ use Rattle.std.proofs.lemmas.List.{map-append, length-map, length-set}
 use Rattle.std.proofs.lemmas.List.Sums.{sum_by_push}
 use Rattle.std.proofs.Math.Seq.{take-append_seam, drop-append_seam}
 use Rattle.policy_model.specs.declared.names.PolicyName.TheVariants.{S3Fifo}
-use Rattle.policy_model.specs.States.{Member, Entry, Stock, State, has_entry, has_member, members_of, IsFit}
+use Rattle.policy_model.specs.States.{Member, Entry, Stock, State, nothing_beside, has_entry, has_member, members_of, IsFit}
 use Rattle.policy_model.specs.Steps.{until_fits, touched, touch, served}
 use Rattle.policy_model.specs.S3Fifo.{Queues, shrink, queues_used, enter, queues_of, stock_of_queues}
 use Rattle.policy_model.proofs.S3FifoSound.{queue_entries, queue-used, shrink-part}
@@ -69,7 +69,7 @@ module _ (objects capacity requests : ℕ) (q : Queues) (k size : ℕ) where
       → (next : Option ℕ) → Answers S3Fifo before (after r) k size next Hit
   hit-answers r there small main ghosts next =
       let by : Entry → Entry = λ f. cond (eqb f.object k) (record f { count = min (f.count + 1) 3 }) f in
-      let stock : List Entry → ℕ → List Member → Stock = λ entries first gone. record { entries = entries; beside = record { first = first; ghosts = gone; floor = 0 } } in
+      let stock : List Entry → ℕ → List Member → Stock = λ entries first gone. record { entries = entries; beside = record nothing_beside { first = first; ghosts = gone } } in
       let touched_small : List Entry = touch S3Fifo requests None k q.small in
       stock-answers r Hit next (sym there)
       (ap (λ es. stock (es ++ r.main) (length es) r.ghosts) small ∙ ap (λ es. stock (touched_small ++ es) (length touched_small) r.ghosts) main

@@ -6,7 +6,7 @@ use Rattle.std.proofs.lemmas.Bool.{eqb-true}
 use Rattle.std.proofs.lemmas.List.Sums.{sum_by_push}
 use Rattle.std.proofs.Math.Seq.{take-append_seam, drop-append_seam}
 use Rattle.policy_model.specs.declared.names.PolicyName.TheVariants.{Sieve}
-use Rattle.policy_model.specs.States.{Entry, Stock, State, has_entry, has_member, members_of, Apart, IsFit}
+use Rattle.policy_model.specs.States.{Entry, Stock, State, nothing_beside, has_entry, has_member, members_of, Apart, IsFit}
 use Rattle.policy_model.specs.Steps.{until_fits, touched, touch, served}
 use Rattle.policy_model.specs.Sieve.{Cut, look, cut_used, cut_of, come_in, stock_of_cut}
 use Rattle.policy_model.proofs.SieveSound.{cut_entries, cut-used, look-part}
@@ -69,7 +69,7 @@ module _ (objects capacity requests : ℕ) (cut : Cut) (k size : ℕ) where
       → (next : Option ℕ) → Answers Sieve before (after c) k size next Hit
   hit-answers c there behind ahead next =
       let by : Entry → Entry = λ f. cond (eqb f.object k) (record f { mark = true }) f in
-      let stock : List Entry → ℕ → Stock = λ entries first. record { entries = entries; beside = record { first = first; ghosts = []; floor = 0 } } in
+      let stock : List Entry → ℕ → Stock = λ entries first. record { entries = entries; beside = record nothing_beside { first = first } } in
       stock-answers c Hit next (sym there)
       (ap (λ es. stock (es ++ c.ahead) (length es)) behind ∙ ap (λ es. stock (touch Sieve requests None k cut.behind ++ es) (length (touch Sieve requests None k cut.behind))) ahead
       ∙ ap (λ es. stock es (length (touch Sieve requests None k cut.behind))) (sym (map-append by cut.behind cut.ahead))

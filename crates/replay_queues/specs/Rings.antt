@@ -2,7 +2,7 @@
 use Rattle.std.specs.Prelude.{◌≡◌, ℕ, zero, suc, ◌+◌, ◌<◌, ◌==◌, Bool, true, false, if◌then◌else◌, List, [], ◌∷◌, map, length, slice_index_or}
 use Rattle.std.specs.List.{list_any}
 use Rattle.policy_model.specs.States.{Member, member, members_size}
-use Rattle.replay_queues.specs.declared.ghosts.Node.{Node}
+use Rattle.replay_queues.specs.declared.nodes.Node.{Node}
 
 -- the node of this number
 abbrev pub node_at : List Node → ℕ → Node

@@ -1,19 +1,11 @@
 //! The queue of ghosts, which any object can leave.
 ghost use Rattle.std.specs.Prelude.{◌≡◌, ◌<◌, ◌+◌, ◌^◌, ◌==◌, ◌++◌, ◌∷◌, [], not, true, false, filter, length, drop, slice_index_or, IfOk};
 ghost use Rattle.policy_model.specs.States.{member, members_size, has_member};
-ghost use Rattle.replay_queues.specs.Rings.{Joins, Notes};
 
+use crate::nodes::{Node, join, note_size};
 use bound_base::NoMemory;
 use std::alloc::Global;
 use std::marker::Model;
-
-// The neighbours of a ghost in the queue, and its size.
-#[derive(Clone, Copy)]
-struct Node {
-    before: u32,
-    after: u32,
-    size: u64,
-}
 
 /// Objects with their sizes, in the order in which they became ghosts.
 ///
@@ -37,26 +29,6 @@ impl Model for Ghosts {
     ghost view = { λ g. record { objects = g.objects; members = ghosts_of g.nodes.items g.objects g.count } };
 
     ghost invariant = { λ g. IsRing g.nodes.items g.objects g.count g.bytes };
-}
-
-// Lets one node follow another.
-#[inline(always)]
-fn join(nodes: &mut Vec<Node>, before: u32, after: u32)
-    requires before { before < length nodes.old.items }
-    requires after { after < length nodes.old.items }
-    ensures joined { Joins nodes.old.items nodes.new.items before after }
-{
-    nodes[before as usize].after = after;
-    nodes[after as usize].before = before;
-}
-
-// Notes the size of an object.
-#[inline(always)]
-fn note_size(nodes: &mut Vec<Node>, object: u32, size: u64)
-    requires { object < length nodes.old.items }
-    ensures { Notes nodes.old.items nodes.new.items object size }
-{
-    nodes[object as usize].size = size;
 }
 
 impl Ghosts {

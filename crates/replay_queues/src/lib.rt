@@ -6,11 +6,13 @@
 
 mod ghosts;
 mod hand;
+mod nodes;
 mod room;
 mod s3fifo;
 mod sieve;
 mod table;
 mod three_queues;
 
+pub use nodes::{Node, join, note_size};
 pub use s3fifo::S3Fifo;
 pub use sieve::Sieve;

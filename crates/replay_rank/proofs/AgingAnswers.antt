@@ -10,7 +10,7 @@ use Rattle.std.proofs.lemmas.Bool.{eqb-true}
 use Rattle.std.proofs.lemmas.List.{length-map}
 use Rattle.cache_model.specs.declared.objects.Objective.{Objective}
 use Rattle.cache_model.specs.declared.objects.Objective.TheVariants.{Object as Hits, Bytes}
-use Rattle.policy_model.specs.States.{Member, Entry, Stock, State, members_of, used, has_entry, has_member}
+use Rattle.policy_model.specs.States.{Beside, Member, Entry, Stock, State, members_of, used, has_entry, has_member}
 use Rattle.policy_model.specs.Steps.{until_fits, change, put_in}
 use Rattle.policy_model.specs.Aging.{age, aged_after, floored, over_floor, raised, ranked_entry, ranked_in, stock_used, worth_of}
 use Rattle.policy_model.specs.Rules.{stock_after}
@@ -20,6 +20,7 @@ use Rattle.policy_model.proofs.MemberLemmas.{sizes-entries}
 use Rattle.policy_model.proofs.Parts.{IsPart, part-none, part-members, weight-change, until-part}
 use Rattle.policy_model.proofs.Replays.{has_entry-members}
 use Rattle.policy_model.proofs.AgingSound.{stock_entries, age-part, raised-object, raised-size}
+use Rattle.policy_model.proofs.WTinyLfuSound.{KeepsShares}
 use Rattle.policy_model.proofs.RulesSound.{served-hit, served-large, served-small}
 use Rattle.policy_model.proofs.Sound.{IsFit}
 use Rattle.replay_core.specs.declared.policy.Outcome.{Outcome}
@@ -48,6 +49,11 @@ gives-former (Err e) old new gives = gives.only_former
 stock-is : (by : Objective) (s : State) (object size : ℕ) (next : Option ℕ) → stock_after (name_of by) s object size next ≡ aged_after (name_of by) s object size
 stock-is Hits s object size next = refl
 stock-is Bytes s object size next = refl
+
+-- their entries have no shares of the capacity
+no_shares : (by : Objective) (capacity : ℕ) (entries : List Entry) (beside : Beside) → KeepsShares (name_of by) capacity entries beside
+no_shares Hits capacity entries beside = tt
+no_shares Bytes capacity entries beside = tt
 
 module _ (by : Objective) (objects capacity requests floor in_use : ℕ) (pairs : List (ℕ × Held Ranked)) (items : List (Reverse Key)) (b : IsAging capacity in_use pairs items) (k size : ℕ)
     (sizes : All (λ m. m.object ≡ k → m.size ≡ size) (members_of (entries_of pairs))) where
@@ -104,7 +110,7 @@ module _ (by : Objective) (objects capacity requests floor in_use : ℕ) (pairs 
         (renewed ∙ sym (ap (λ (x : Stock). x.entries) (stock next))) (sym (ap (λ (x : Stock). x.beside) (stock next)))
 
     pub hit-fit : IsFit capacity (entries_of left)
-    hit-fit = answers-fit (name_of by) before (keeping objects capacity (min (requests + 1) (2 ^ 64 - 1)) floor (entries_of left)) k size None Hit (hit-answers None) sizes b.fits
+    hit-fit = answers-fit (name_of by) before (keeping objects capacity (min (requests + 1) (2 ^ 64 - 1)) floor (entries_of left)) k size None Hit (hit-answers None) (no_shares by capacity (entries_of pairs) (floored floor)) sizes b.fits
 
     pub hit-aging : (after : List (Reverse Key)) → AreOrdered left after → IsAging capacity in_use left after
     hit-aging after ordered = record {
@@ -153,7 +159,7 @@ module _ (by : Objective) (objects capacity requests floor in_use : ℕ) (pairs 
             (sym (ap (λ (x : Stock). x.entries) (missed next))) (sym (ap (λ (x : Stock). x.beside) (missed next)))
 
         pub miss-fit : IsFit capacity (entries_of after)
-        miss-fit = answers-fit (name_of by) before (keeping objects capacity (min (requests + 1) (2 ^ 64 - 1)) level (entries_of after)) k size None Miss (miss-answers None) sizes b.fits
+        miss-fit = answers-fit (name_of by) before (keeping objects capacity (min (requests + 1) (2 ^ 64 - 1)) level (entries_of after)) k size None Miss (miss-answers None) (no_shares by capacity (entries_of pairs) (floored floor)) sizes b.fits
 
         pub miss-used : used (entries_of after) ≡ used (entries_of left) + size
         miss-used = ap used put ∙ sum_by-put_in (λ (e : Entry). e.size) (entries_of left) (ranked_entry (name_of by) level requests k size)

@@ -15,7 +15,7 @@ use Rattle.policy_model.proofs.Entries.{Apart}
 use Rattle.policy_model.proofs.MemberLemmas.{sizes-entries, among-itself, among-members}
 use Rattle.policy_model.proofs.Replays.{has_entry-members}
 use Rattle.policy_model.proofs.Removals.{make_room-fewer, make_room-apart, make_room-each, Shrinks-drop}
-use Rattle.policy_model.proofs.Sound.{IsFit, sum-without, after-hit, after-large, after-small, each-other, none-other, each-drop}
+use Rattle.policy_model.proofs.Sound.{IsFit, fit-plain, sum-without, after-hit, after-large, after-small, each-other, none-other, each-drop}
 use Rattle.replay_core.specs.declared.policy.Outcome.TheVariants.{Hit, Miss}
 use Rattle.replay_core.specs.Keeping.{Kept, state_of, Answers}
 use Rattle.replay_core.proofs.Kept.{answered, answers-fit}
@@ -98,7 +98,9 @@ module _ (name : PolicyName) (alone : KeepsEntries name) (objects capacity reque
           range = lru.range;
           unbounded = lru.unbounded;
           in_use_is = omega (arith, sum, ap used (put objects capacity requests in_use cap pairs lru k size sizes none left freed small few), sum_by_push (λ (e : Entry). e.size) (entries_of left) (plain_entry (k, size)));
-          fits = answers-fit name (kept objects capacity requests pairs) (kept objects capacity (min (requests + 1) (2 ^ 64 - 1)) (put_entries nat_eq (lru_cache left cap) k size)) k size None Miss (miss-answers None) sizes lru.fits;
+          fits = subst (IsFit capacity)
+              (sym (ap (λ (s : State). s.entries) (miss-answers None).state_is ∙ ap (λ (x : Stock). x.entries) (alone (state_of name (kept objects capacity requests pairs)) k size None)))
+              (fit-plain (state_of name (kept objects capacity requests pairs)) k size None (sizes-entries k size (entries_of pairs) sizes) lru.fits);
         }
 
 -- a hit of FIFO changes nothing, and one of LRU moves its object to the back
@@ -133,5 +135,5 @@ module _ (objects capacity requests in_use cap : ℕ) (pairs : List (ℕ × ℕ)
         sum_by_push (λ (e : Entry). e.size) (without_entry k (entries_of pairs)) (plain_entry (k, size)),
         sum-without k size (entries_of pairs) lru.fits.apart (has_entry-lookup pairs k ∙ there) entry_sizes,
       ));
-      fits = answers-fit Lru (kept objects capacity requests pairs) (kept objects capacity (min (requests + 1) (2 ^ 64 - 1)) (promoted (nat_eq k) pairs)) k size None Hit (lru-hit-answers None) sizes lru.fits;
+      fits = answers-fit Lru (kept objects capacity requests pairs) (kept objects capacity (min (requests + 1) (2 ^ 64 - 1)) (promoted (nat_eq k) pairs)) k size None Hit (lru-hit-answers None) tt sizes lru.fits;
     }

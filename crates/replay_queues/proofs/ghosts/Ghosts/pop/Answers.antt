@@ -1,6 +1,6 @@
 use Rattle.std.proofs.Common.{◌≡◌, ℕ, ◌+◌, ◌<◌, ◌∙◌, sym, ap, subst, not, eqb, List, filter, drop, length, get_or, arith}
 use Rattle.policy_model.specs.States.{Member, member, has_member}
-use Rattle.replay_queues.specs.declared.ghosts.Node.{Node}
+use Rattle.replay_queues.specs.declared.nodes.Node.{Node}
 use Rattle.replay_queues.specs.GhostQueues.{GhostQueue}
 use Rattle.replay_queues.specs.Rings.{is_among, ring_of, ghosts_of, IsRing}
 use Rattle.replay_queues.proofs.RingLemmas.{after}

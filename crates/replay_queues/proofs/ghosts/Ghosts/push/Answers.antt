@@ -1,6 +1,6 @@
 use Rattle.std.proofs.Common.{◌≡◌, ℕ, ◌+◌, ◌<◌, ◌∙◌, ap, subst, false, List, [], ◌∷◌, ◌++◌, length, get_or, arith}
 use Rattle.policy_model.specs.States.{Member, member}
-use Rattle.replay_queues.specs.declared.ghosts.Node.{Node}
+use Rattle.replay_queues.specs.declared.nodes.Node.{Node}
 use Rattle.replay_queues.specs.GhostQueues.{GhostQueue}
 use Rattle.replay_queues.specs.Rings.{node_at, Joins}
 use Rattle.replay_queues.proofs.RingLemmas.{before}

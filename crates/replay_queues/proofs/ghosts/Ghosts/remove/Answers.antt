@@ -1,6 +1,6 @@
 use Rattle.std.proofs.Common.{◌≡◌, ℕ, ◌+◌, ◌-◌, ◌<◌, ◌∙◌, sym, ap, subst, true, not, eqb, List, filter, length, arith}
 use Rattle.policy_model.specs.States.{Member}
-use Rattle.replay_queues.specs.declared.ghosts.Node.{Node}
+use Rattle.replay_queues.specs.declared.nodes.Node.{Node}
 use Rattle.replay_queues.specs.GhostQueues.{GhostQueue}
 use Rattle.replay_queues.specs.Rings.{node_at, is_among, Joins, ring_of, IsRing}
 use Rattle.replay_queues.proofs.RingLemmas.{after, before}

@@ -1,0 +1,4 @@
+pub mod MarkLemmas
+pub mod LinkLemmas
+pub mod KeptLemmas
+pub mod TakenLemmas

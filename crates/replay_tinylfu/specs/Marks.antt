@@ -1,0 +1,25 @@
+-- Numbers in a ring that marks among them cut into parts.
+use Rattle.std.specs.Prelude.{ℕ, ◌==◌, if◌then◌else◌, List, [], ◌∷◌}
+use Rattle.replay_queues.specs.declared.nodes.Node.{Node}
+use Rattle.replay_queues.specs.Rings.{node_at, Joins}
+
+-- the numbers before a mark
+abbrev pub up_to : ℕ → List ℕ → List ℕ
+up_to mark [] = []
+up_to mark (k ∷ rest) = if k == mark then [] else k ∷ up_to mark rest
+
+-- the numbers after it
+abbrev pub past : ℕ → List ℕ → List ℕ
+past mark [] = []
+past mark (k ∷ rest) = if k == mark then rest else past mark rest
+
+-- the numbers with another put before a mark, or at the end if the mark isn't there
+abbrev pub put_in : ℕ → ℕ → List ℕ → List ℕ
+put_in mark k [] = k ∷ []
+put_in mark k (j ∷ rest) = if j == mark then k ∷ j ∷ rest else j ∷ put_in mark k rest
+
+-- a node is put between another and the one before that
+pub record PutsBefore (old new : List Node) (k next : ℕ) : Type 0 where
+  pub mid : List Node
+  pub first_join : Joins old mid (node_at old next).before k
+  pub second_join : Joins mid new k next

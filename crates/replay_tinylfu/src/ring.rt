@@ -1,0 +1,301 @@
+//! The three queues, in one ring.
+ghost use Rattle.std.specs.Prelude.{◌≡◌, ◌≤◌, ◌<◌, ◌+◌, ◌^◌, ◌++◌, ◌∷◌, ◌==◌, [], true, false, length, drop, nat_lt, IfOk};
+ghost use Rattle.policy_model.specs.States.{used, has_entry};
+ghost use Rattle.policy_model.specs.Steps.{without_entry};
+ghost use Rattle.policy_model.specs.WTinyLfu.{main_used, entry_of, segment_entries};
+ghost use Rattle.replay_queues.specs.Rings.{node_at, Joins};
+ghost use Rattle.replay_tinylfu.specs.Marks.{PutsBefore};
+ghost use Rattle.replay_tinylfu.specs.Queues.{plain_entry, no_entries, with_window, with_probation, with_protected};
+
+use bound_base::NoMemory;
+use replay_queues::{Node, join, note_size};
+use std::alloc::Global;
+use std::marker::Model;
+
+// The byte of an object that is in none of the queues, in the window, on probation, and protected.
+const NOWHERE: u8 = 0;
+
+/// The place of an object in the window.
+pub(crate) const WINDOW: u8 = 1;
+
+/// The place of an object on probation.
+pub(crate) const PROBATION: u8 = 2;
+
+/// The place of a protected object.
+pub(crate) const PROTECTED: u8 = 3;
+
+// How many entries a queue has, and their bytes.
+#[derive(Clone, Copy)]
+struct Load {
+    entries: u64,
+    bytes: u64,
+}
+
+/// The window, the objects on probation and the protected ones, each least recently used first.
+///
+/// They are one doubly linked ring over the objects and three marks: the window stands after the first mark, the objects on
+/// probation after the second, and the protected ones after the third.
+#[derive(Drop)]
+pub(crate) struct Ring {
+    nodes: Vec<Node>,
+    places: Vec<u8>,
+    objects: u32,
+    window: Load,
+    probation: Load,
+    protected: Load,
+}
+
+impl Model for Ring {
+    ghost use Rattle.replay_tinylfu.specs.Queues.{Queues};
+
+    ghost Value = { Queues };
+
+    ghost use Rattle.replay_tinylfu.specs.Loads.{numbers_of, IsKept};
+    ghost use Rattle.replay_tinylfu.specs.Queues.{queues_at};
+
+    ghost view = { λ r. queues_at r.nodes.items r.objects (numbers_of r.nodes.items r.objects r.window r.probation r.protected) };
+
+    ghost invariant = { λ r. IsKept r.nodes.items r.places.items r.objects r.window r.probation r.protected (numbers_of r.nodes.items r.objects r.window r.probation r.protected) };
+}
+
+// Puts an object that stands nowhere before another node.
+#[inline(always)]
+fn put_before(nodes: &mut Vec<Node>, object: u32, next: u32)
+    requires object { object < length nodes.old.items }
+    requires next { next < length nodes.old.items }
+    requires last { (node_at nodes.old.items next).before < length nodes.old.items }
+    ensures { PutsBefore nodes.old.items nodes.new.items object next }
+{
+    let last = nodes[next as usize].before;
+    join(nodes, last, object);
+    join(nodes, object, next);
+}
+
+// Takes a node out of the ring, and says its size.
+#[inline(always)]
+fn unlink(nodes: &mut Vec<Node>, object: u32) -> u64
+    requires object { object < length nodes.old.items }
+    requires before { (node_at nodes.old.items object).before < length nodes.old.items }
+    requires after { (node_at nodes.old.items object).after < length nodes.old.items }
+    ensures joins { Joins nodes.old.items nodes.new.items (node_at nodes.old.items object).before (node_at nodes.old.items object).after }
+    ensures size { result ≡ (node_at nodes.old.items object).size }
+{
+    let Node {
+        before,
+        after,
+        size,
+    } = nodes[object as usize];
+    join(nodes, before, after);
+    size
+}
+
+impl Ring {
+    /// Empty, for objects numbered below this. It takes 17 bytes for each.
+    pub(crate) fn new(alloc: Global, objects: u32) -> Result<Self, NoMemory>
+        requires few { objects ≤ 2 ^ 31 }
+        ensures { IfOk result (λ ring. ring ≡ no_entries objects) }
+    {
+        let node = Node {
+            before: objects,
+            after: objects,
+            size: 0,
+        };
+        let mut nodes = vec![in alloc; node; objects as usize + 3]?;
+        join(&mut nodes, objects, objects + 1);
+        join(&mut nodes, objects + 1, objects + 2);
+        join(&mut nodes, objects + 2, objects);
+        let none = Load {
+            entries: 0,
+            bytes: 0,
+        };
+        Ok(Ring {
+            nodes,
+            places: vec![in alloc; NOWHERE; objects as usize]?,
+            objects,
+            window: none,
+            probation: none,
+            protected: none,
+        })
+    }
+
+    /// Where an object stands.
+    #[inline(always)]
+    pub(crate) fn place(&self, object: u32) -> u8
+        requires { object < self.now.objects }
+        ensures window { (result == WINDOW) ≡ has_entry self.now.segments.window object }
+        ensures probation { (result == PROBATION) ≡ has_entry self.now.segments.main.probation object }
+        ensures protected { (result == PROTECTED) ≡ has_entry self.now.segments.main.protected object }
+    {
+        self.places[object as usize]
+    }
+
+    /// How many entries there are.
+    pub(crate) fn len(&self) -> u64
+        ensures len { result ≡ length (segment_entries self.now.segments) }
+        ensures few { result ≤ 2 ^ 32 }
+    {
+        self.window.entries + self.probation.entries + self.protected.entries
+    }
+
+    /// The bytes of the window.
+    pub(crate) fn window_bytes(&self) -> u64
+        ensures { result ≡ used self.now.segments.window }
+    {
+        self.window.bytes
+    }
+
+    /// The bytes of the main part.
+    pub(crate) fn main_bytes(&self) -> u64
+        requires { main_used self.now.segments.main < 2 ^ 64 }
+        ensures { result ≡ main_used self.now.segments.main }
+    {
+        self.probation.bytes + self.protected.bytes
+    }
+
+    /// The bytes of the protected objects.
+    pub(crate) fn protected_bytes(&self) -> u64
+        ensures { result ≡ used self.now.segments.main.protected }
+    {
+        self.protected.bytes
+    }
+
+    /// Whether an object is on probation.
+    pub(crate) fn has_probation(&self) -> bool
+        ensures { result ≡ nat_lt 0 (length self.now.segments.main.probation) }
+    {
+        self.probation.entries > 0
+    }
+
+    /// How many objects are protected.
+    pub(crate) fn protected_len(&self) -> u64
+        ensures { result ≡ length self.now.segments.main.protected }
+    {
+        self.protected.entries
+    }
+
+    /// Puts an object at the back of the window.
+    pub(crate) fn push_window(&mut self, object: u32, size: u64)
+        requires known { object < self.old.objects }
+        requires absent { has_entry (segment_entries self.old.segments) object ≡ false }
+        requires fits { used self.old.segments.window + size < 2 ^ 64 }
+        ensures { self.new ≡ with_window (self.old.segments.window ++ plain_entry object size ∷ []) self.old }
+    {
+        note_size(&mut self.nodes, object, size);
+        put_before(&mut self.nodes, object, self.objects + 1);
+        self.places[object as usize] = WINDOW;
+        self.window.entries += 1;
+        self.window.bytes += size;
+    }
+
+    /// Puts an object at the back of those on probation.
+    pub(crate) fn push_probation(&mut self, object: u32, size: u64)
+        requires known { object < self.old.objects }
+        requires absent { has_entry (segment_entries self.old.segments) object ≡ false }
+        requires fits { used self.old.segments.main.probation + size < 2 ^ 64 }
+        ensures { self.new ≡ with_probation (self.old.segments.main.probation ++ plain_entry object size ∷ []) self.old }
+    {
+        note_size(&mut self.nodes, object, size);
+        put_before(&mut self.nodes, object, self.objects + 2);
+        self.places[object as usize] = PROBATION;
+        self.probation.entries += 1;
+        self.probation.bytes += size;
+    }
+
+    /// Puts an object at the back of the protected ones.
+    pub(crate) fn push_protected(&mut self, object: u32, size: u64)
+        requires known { object < self.old.objects }
+        requires absent { has_entry (segment_entries self.old.segments) object ≡ false }
+        requires fits { used self.old.segments.main.protected + size < 2 ^ 64 }
+        ensures { self.new ≡ with_protected (self.old.segments.main.protected ++ plain_entry object size ∷ []) self.old }
+    {
+        note_size(&mut self.nodes, object, size);
+        put_before(&mut self.nodes, object, self.objects);
+        self.places[object as usize] = PROTECTED;
+        self.protected.entries += 1;
+        self.protected.bytes += size;
+    }
+
+    /// Takes an object out of the window, and says its size.
+    pub(crate) fn take_window(&mut self, object: u32) -> u64
+        requires there { has_entry self.old.segments.window object ≡ true }
+        ensures rest { self.new ≡ with_window (without_entry object self.old.segments.window) self.old }
+        ensures size { entry_of object self.old.segments.window ≡ plain_entry object result ∷ [] }
+        ensures absent { has_entry (segment_entries self.new.segments) object ≡ false }
+        ensures known { object < self.old.objects }
+    {
+        let size = unlink(&mut self.nodes, object);
+        self.places[object as usize] = NOWHERE;
+        self.window.entries -= 1;
+        self.window.bytes -= size;
+        size
+    }
+
+    /// Takes an object out of those on probation, and says its size.
+    pub(crate) fn take_probation(&mut self, object: u32) -> u64
+        requires there { has_entry self.old.segments.main.probation object ≡ true }
+        ensures rest { self.new ≡ with_probation (without_entry object self.old.segments.main.probation) self.old }
+        ensures size { entry_of object self.old.segments.main.probation ≡ plain_entry object result ∷ [] }
+        ensures absent { has_entry (segment_entries self.new.segments) object ≡ false }
+        ensures known { object < self.old.objects }
+    {
+        let size = unlink(&mut self.nodes, object);
+        self.places[object as usize] = NOWHERE;
+        self.probation.entries -= 1;
+        self.probation.bytes -= size;
+        size
+    }
+
+    /// Takes an object out of the protected ones, and says its size.
+    pub(crate) fn take_protected(&mut self, object: u32) -> u64
+        requires there { has_entry self.old.segments.main.protected object ≡ true }
+        ensures rest { self.new ≡ with_protected (without_entry object self.old.segments.main.protected) self.old }
+        ensures size { entry_of object self.old.segments.main.protected ≡ plain_entry object result ∷ [] }
+        ensures absent { has_entry (segment_entries self.new.segments) object ≡ false }
+        ensures known { object < self.old.objects }
+    {
+        let size = unlink(&mut self.nodes, object);
+        self.places[object as usize] = NOWHERE;
+        self.protected.entries -= 1;
+        self.protected.bytes -= size;
+        size
+    }
+
+    /// Takes the first object out of the window, and says its size.
+    pub(crate) fn pop_window(&mut self) -> (u32, u64)
+        requires some { 0 < length self.old.segments.window }
+        ensures first { self.old.segments.window ≡ plain_entry result.0 result.1 ∷ self.new.segments.window }
+        ensures rest { self.new ≡ with_window (drop 1 self.old.segments.window) self.old }
+        ensures absent { has_entry (segment_entries self.new.segments) result.0 ≡ false }
+        ensures known { result.0 < self.old.objects }
+    {
+        let object = self.nodes[self.objects as usize].after;
+        let size = self.take_window(object);
+        (object, size)
+    }
+
+    /// Takes the first object out of those on probation, and says its size.
+    pub(crate) fn pop_probation(&mut self) -> (u32, u64)
+        requires some { 0 < length self.old.segments.main.probation }
+        ensures first { self.old.segments.main.probation ≡ plain_entry result.0 result.1 ∷ self.new.segments.main.probation }
+        ensures rest { self.new ≡ with_probation (drop 1 self.old.segments.main.probation) self.old }
+        ensures absent { has_entry (segment_entries self.new.segments) result.0 ≡ false }
+        ensures known { result.0 < self.old.objects }
+    {
+        let object = self.nodes[(self.objects + 1) as usize].after;
+        let size = self.take_probation(object);
+        (object, size)
+    }
+
+    /// Takes the first object out of the protected ones, and says its size.
+    pub(crate) fn pop_protected(&mut self) -> (u32, u64)
+        requires some { 0 < length self.old.segments.main.protected }
+        ensures first { self.old.segments.main.protected ≡ plain_entry result.0 result.1 ∷ self.new.segments.main.protected }
+        ensures rest { self.new ≡ with_protected (drop 1 self.old.segments.main.protected) self.old }
+        ensures absent { has_entry (segment_entries self.new.segments) result.0 ≡ false }
+        ensures known { result.0 < self.old.objects }
+    {
+        let object = self.nodes[(self.objects + 2) as usize].after;
+        let size = self.take_protected(object);
+        (object, size)
+    }
+}
