@@ -1,5 +1,5 @@
 -- The words of a command line, for advice.
-use Rattle.std.specs.Prelude.{ℕ, List, [], drop, Bool, ◌&&◌, codes, find, unwrap_or}
+use Rattle.std.specs.Prelude.{ℕ, List, [], drop, Bool, false, ◌&&◌, codes, find, unwrap_or}
 use Rattle.std.specs.declared.option.Option.{Option}
 use Rattle.std.specs.Option.{option_map, option_map_or}
 use Rattle.std.specs.Str.{bytes_eq}
@@ -18,6 +18,10 @@ first_operand words = option_map_or operands_at (command_asked words) 1
 -- the value that the words give to a name: that of the first operand which gives it one
 abbrev pub value_in : List ℕ → List (List ℕ) → Option (List ℕ)
 value_in name words = option_map value_of (find (gives name) (drop (first_operand words) words))
+
+-- whether the words say that reads alone count
+abbrev pub counts_reads : List (List ℕ) → Bool
+counts_reads words = option_map_or (λ value. bytes_eq value (codes "reads")) (value_in (codes "count") words) false
 
 -- the word for the form of the trace, or nothing if none is given
 abbrev pub form_in : List (List ℕ) → List ℕ

@@ -1,10 +1,10 @@
 //! Text of a stranger, as a terminal and a shell may have it.
-ghost use Rattle.std.specs.Prelude.{◌≡◌, ◌/◌, ◌%◌, [], ◌∷◌, ◌++◌, IfOk, OnOk, codes, string_bytes};
+ghost use Rattle.std.specs.Prelude.{◌≡◌, ◌%◌, ◌++◌, true, IfOk, OnOk, string_bytes};
 ghost use Rattle.std.specs.Char.{digit_char};
 ghost use Rattle.std.specs.List.{list_all};
 ghost use Rattle.std.specs.Str.{encode_utf8_all};
 ghost use Rattle.bound_advice.specs.Shell.{is_plain, is_plain_word, quoted_letter, quoted_word, shell_word};
-ghost use Rattle.bound_advice.specs.Shown.{IsShown, shown_letter, shown_text};
+ghost use Rattle.bound_advice.specs.Shown.{IsShown, is_hidden, shown_letter, shown_text, two_digits};
 
 use std::alloc::{AllocError, Global};
 
@@ -20,33 +20,57 @@ fn digit_of(value: u32) -> char
     }
 }
 
-// Appends `\x` and the last two digits of a letter's code.
-fn push_code(text: &mut String, letter: char) -> Result<(), AllocError>
-    ensures { OnOk result (string_bytes text.new ≡ string_bytes text.old ++ encode_utf8_all (codes "\\x" ++ digit_char (letter / 16 % 16) ∷ digit_char (letter % 16) ∷ [])) }
+// Appends the last two digits of a code.
+fn push_digits(text: &mut String, code: u32) -> Result<(), AllocError>
+    ensures { OnOk result (string_bytes text.new ≡ string_bytes text.old ++ encode_utf8_all (two_digits code)) }
 {
-    let code = letter as u32;
-    text.push('\\')?;
-    text.push('x')?;
     text.push(digit_of(code / 16))?;
     text.push(digit_of(code))
+}
+
+// Appends the code of a letter that is hidden.
+fn push_code(text: &mut String, letter: char) -> Result<(), AllocError>
+    requires { is_hidden letter ≡ true }
+    ensures { OnOk result (string_bytes text.new ≡ string_bytes text.old ++ encode_utf8_all (shown_letter letter)) }
+{
+    let code = letter as u32;
+    if code < 256 {
+        text.push_str("\\x")?;
+    } else {
+        text.push_str("\\u")?;
+        push_digits(text, code / 256)?;
+    }
+    push_digits(text, code)
+}
+
+// Whether a terminal obeys a letter and doesn't show it.
+fn is_hidden(letter: char) -> bool
+    ensures { result ≡ is_hidden letter }
+{
+    let code = letter as u32;
+    letter.is_control()
+        || code == 0x61c
+        || (0x200e..=0x200f).contains(&code)
+        || (0x2028..=0x202e).contains(&code)
+        || (0x2066..=0x2069).contains(&code)
 }
 
 // Appends a letter as it is shown.
 fn push_shown(text: &mut String, letter: char) -> Result<(), AllocError>
     ensures { OnOk result (string_bytes text.new ≡ string_bytes text.old ++ encode_utf8_all (shown_letter letter)) }
 {
-    if letter.is_control() {
+    if is_hidden(letter) {
         push_code(text, letter)
     } else {
         text.push(letter)
     }
 }
 
-/// A text in which each control character stands as `\x` and the two digits of its code, so that it can't move the
-/// cursor, set a title or forge a line.
+/// A text in which each letter that a terminal obeys, as a control character or one that turns the direction of the text,
+/// stands as `\x` or `\u` and the digits of its code, so that it can't move the cursor, set a title or forge a line.
 pub fn escaped(alloc: Global, text: &str) -> Result<String, AllocError>
     ensures letters { IfOk result (λ shown. string_bytes shown ≡ shown_text text.now) }
-    ensures no_control { IfOk result (λ shown. IsShown (string_bytes shown)) }
+    ensures none_hidden { IfOk result (λ shown. IsShown (string_bytes shown)) }
 {
     let mut shown = String::with_capacity(alloc, text.len())?;
     for letter in text.chars() {

@@ -24,23 +24,25 @@ pub(crate) struct Recent {
     ghost has_room: { 262144 ≤ vec_capacity bytes },
 }
 
-// Whether a text is no line of a form.
-fn is_no_line(form: &str, text: &[u8]) -> bool
-    ensures { result ≡ is_no_line form.now text.now }
+// Whether a text is no line of a form of lines, which has a mark in webcache if reads alone count.
+fn is_no_line(form: &str, reads: bool, text: &[u8]) -> bool
+    ensures { result ≡ is_no_line form.now reads text.now }
 {
     match form {
         "arc" => trace_arc::parse(text).is_err(),
         "msr" => trace_msr::parse(text, BLOCK).is_err(),
-        _ => trace_webcache::parse(text).is_err(),
+        "webcache" if reads => trace_webcache::parse_marked(text).is_err(),
+        "webcache" => trace_webcache::parse(text).is_err(),
+        _ => false,
     }
 }
 
 // Whether a form refuses a line.
-fn is_refused(form: &str, line: &[u8]) -> bool
-    ensures { result ≡ is_refused form.now line.now }
+fn is_refused(form: &str, reads: bool, line: &[u8]) -> bool
+    ensures { result ≡ is_refused form.now reads line.now }
 {
     let text = trim_cr(line);
-    !is_blank(text) && is_no_line(form, text)
+    !is_blank(text) && is_no_line(form, reads, text)
 }
 
 impl Recent {
@@ -108,11 +110,11 @@ impl Recent {
 
     /// The first line of a trace that is refused, without its end. Those before it were taken, so that it is among the
     /// bytes that are kept; the line with which these begin may be cut.
-    pub(crate) fn refused_line(&self, form: &str) -> Option<&[u8]>
-        ensures { option_copied result ≡ find (is_refused form.now) (whole_lines self.now.are_all self.now.bytes.items) }
+    pub(crate) fn refused_line(&self, form: &str, reads: bool) -> Option<&[u8]>
+        ensures { option_copied result ≡ find (is_refused form.now reads) (whole_lines self.now.are_all self.now.bytes.items) }
     {
         let lines = self.bytes.as_slice().split(|byte| *byte == b'\n');
         let mut lines = lines.skip(self.first_whole());
-        lines.find(|line| is_refused(form, line))
+        lines.find(|line| is_refused(form, reads, line))
     }
 }

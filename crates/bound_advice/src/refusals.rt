@@ -67,7 +67,7 @@ fn impossible_advice(cause: Impossible) -> &'static str {
             "an object above the capacity can't be held: compare the capacity and the sizes in bytes of the simulator"
         }
         Impossible::Load { .. } => {
-            "what these hits need does not fit in the capacity at this step: look for a size that is left out, or an object that entered when it was not asked for"
+            "what these hits need does not fit in the capacity at this step: look for a size that is left out, an object that entered when it was not asked for, or one that is stored once its fetch completes: give that moment a line with w, and count=reads"
         }
     }
 }
@@ -90,7 +90,7 @@ fn line_advice(
     let bad = BadLine {
         command: words.command(),
         form: words.form(),
-        reads: words.value_of("count") == Some("reads"),
+        reads: words.counts_reads(),
         trace: devices.trace,
         start: devices.start,
         number,

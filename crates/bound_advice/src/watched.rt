@@ -4,7 +4,7 @@ ghost use Rattle.std.specs.Io.{ReadsAtMost};
 ghost use Rattle.std.specs.Io.KnownBytes.{ReadConsumes};
 ghost use Rattle.std.specs.Option.{option_copied};
 ghost use Rattle.bound_io.specs.Causes.{HasCause};
-ghost use Rattle.bound_advice.specs.GivenWords.{form_in};
+ghost use Rattle.bound_advice.specs.GivenWords.{counts_reads, form_in};
 ghost use Rattle.bound_advice.specs.Lines.{KeepsLast, is_refused, whole_lines};
 
 use crate::recent::Recent;
@@ -40,12 +40,14 @@ impl<S: Source + Drop> Watched<S> {
         &self.source
     }
 
-    /// The line of a trace that was just refused, without its end, if its form has lines. The words name the form.
+    /// The line of a trace that was just refused, without its end, if its form has lines. The words name the form, and
+    /// whether reads alone count.
     pub fn refused_line(&self, words: &[String]) -> Option<&[u8]>
-        ensures { option_copied result ≡ find (is_refused (form_in (map string_bytes words.now)))
+        ensures { option_copied result ≡ find (is_refused (form_in (map string_bytes words.now)) (counts_reads (map string_bytes words.now)))
             (whole_lines self.now.recent.are_all self.now.recent.bytes.items) }
     {
-        self.recent.refused_line(Words::new(words).form())
+        let words = Words::new(words);
+        self.recent.refused_line(words.form(), words.counts_reads())
     }
 }
 

@@ -2,8 +2,9 @@
 ghost use Rattle.std.specs.Prelude.{◌≡◌, drop, map, string_bytes};
 ghost use Rattle.std.specs.Option.{option_copied};
 ghost use Rattle.bound_words.specs.Named.{has_equals, name_of, value_of};
-ghost use Rattle.bound_advice.specs.GivenWords.{first_operand, form_in, gives, value_in};
+ghost use Rattle.bound_advice.specs.GivenWords.{counts_reads, first_operand, form_in, gives, value_in};
 
+use crate::pages::is;
 use crate::sizes::size_of;
 use bound_report::PolicyName;
 use bound_terms::WordKind;
@@ -165,6 +166,16 @@ impl<'a> Words<'a> {
         ensures { result.now ≡ form_in (map string_bytes self.now.words.now) }
     {
         self.value_of("format").unwrap_or("")
+    }
+
+    /// Whether reads alone count.
+    pub(crate) fn counts_reads(&self) -> bool
+        ensures { result ≡ counts_reads (map string_bytes self.now.words.now) }
+    {
+        match self.value_of("count") {
+            Some(value) => is(value, "reads"),
+            None => false,
+        }
     }
 
     // The first operand that the command needs and that isn't given.

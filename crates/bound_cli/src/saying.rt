@@ -112,7 +112,9 @@ pub fn say_unplaced<R: Eprint>(
     let aside = unplaced.aside.as_str();
     let text = match (is_whole, unplaced.is_left) {
         (true, true) => {
-            format!(in alloc; "{path}: {reason}; the new certificate stands in {aside}")
+            format!(in alloc;
+                "{path}: {reason}; what was written stands in {aside}, and may not be whole"
+            )
         }
         (true, false) => format!(in alloc; "{path}: {reason}"),
         (false, _) => {

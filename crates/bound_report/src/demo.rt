@@ -64,7 +64,8 @@ fn append_replays(text: &mut Vec<u8>, replays: &PolicyReplays) -> Result<(), NoM
     Ok(())
 }
 
-/// The report of a demo, whose bounds have this report and a certificate that a check found valid.
+/// The report of a demo whose bounds have this report. It says that the certificate of these is valid, whatever they are: its
+/// caller has checked that.
 pub fn demo_text(
     alloc: Global,
     facts: &DemoFacts,

@@ -46,7 +46,7 @@ use Rattle.bound_words.specs.declared.settings.Settings.{Settings}
 use Rattle.bound_words.specs.declared.settings.Settings.TheVariants.{Bounds, Check, Replay, Curve, CapacityCurve, Judge, Demo, Upgrade, Refine}
 use Rattle.bound_words.specs.Settings.{settings_of}
 
--- what the line flow and the form exact say: no prices over any denominator have a bound below the flow, and in the form exact prices and flows have the upper bound as their value
+-- what the line flow and the form exact say: no prices over its unit and any denominator have a bound below the flow, and in the form exact prices and flows have the upper bound as their value
 pub record AreValues (trace : Requests) (h : Header) (records : List Record) : Type 0 where
   pub flow : (e : ℕ) (prices : List ℕ) → e * h.flow ≤ h.denominator * bound_of (eligible_of trace.objects trace.fills h) h.unit (units_of h) e prices
   pub equal_values : IsTrue h.exact → (upper_of trace.objects trace.fills h records ≡ h.upper) × (flow_of trace.objects trace.fills h records ≡ h.upper)

@@ -76,7 +76,7 @@ abbrev pub IsFirstEvent : Format → Device → Device → Event → Type 0
 IsFirstEvent format trace cert event =
     IfSome trace.before (λ bytes. IfSome cert.before (λ text. walk (reading format full_limits bytes) text ≡ Some event))
 
--- a yes: all that the sources had left is a trace and the text of a valid certificate of it, so no policy scores more than its upper bound, and in the form exact no prices have a smaller one
+-- a yes: all that the sources had left is a trace and the text of a valid certificate of it, so no policy scores more than its upper bound, and in the form exact no prices over its unit have a smaller one
 pub record IsAccepted (format : Format) (trace cert : Device) (verdict : Verdict) (dropped : ℕ) : Type 0 where
   pub requests : Requests
   pub records : List Record

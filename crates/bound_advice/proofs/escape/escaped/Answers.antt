@@ -16,5 +16,5 @@ returns-clause-letters c =
     let all = YieldsList-end (YieldsList-from_chars c.args.text.now c.utf8.text cc) c.loop-letter.yielded _ c.loop-letter.yielded_by _ _ c.in-None.is c.next.ensures.steps in
     c.loop-letter.invariant ∙ ap (λ letters. encode_utf8_all (flat_map shown_letter letters)) (sym (map-id c.loop-letter.yielded) ∙ all.0)
 
-pub returns-clause-no_control : goal.returns-clause-no_control
-returns-clause-no_control c = subst IsShown (sym c.loop-letter.invariant) (IsShown-shown c.loop-letter.yielded)
+pub returns-clause-none_hidden : goal.returns-clause-none_hidden
+returns-clause-none_hidden c = subst IsShown (sym c.loop-letter.invariant) (IsShown-shown c.loop-letter.yielded)
