@@ -8,6 +8,7 @@ over the floor before. It writes the hits and their bytes, or with the word `fla
 0 for a miss, as `bound_cli judge` takes them.
 """
 import heapq
+import re
 import sys
 
 WORTH = 2**48  # of a request of one byte; so that ranks are whole numbers
@@ -51,15 +52,35 @@ class Cache:
         return gone
 
 
+def fail(why):
+    sys.exit(f"gdsf.py: {why}")
+
+
+def objects_in(lines):
+    """The id and the size of each line that asks for something, read as the program reads it."""
+    for number, line in enumerate(lines, 1):
+        words = re.split(rb"[ \t]+", line.removesuffix(b"\n").removesuffix(b"\r").strip(b" \t"))
+        if words == [b""]:
+            continue
+        if len(words) < 3 or not all(re.fullmatch(rb"0*[0-9]{1,20}", word) for word in words[1:3]):
+            fail(f"line {number} must be: time id size")
+        name, size = int(words[1]), int(words[2])
+        if name >= 2**64 or size > 2**48:
+            fail(f"line {number} has a number that is too large")
+        if size:
+            yield name, size
+
+
 def main():
-    words = sys.argv[2:]
-    cache, hits, size_of_hits = Cache(int(sys.argv[1]), "gdsf98" in words), 0, 0
-    for now, (_, name, size, *_) in enumerate(filter(None, map(str.split, sys.stdin))):
-        if size := int(size):
-            is_hit = cache.request(now, (int(name), size), size)
-            hits, size_of_hits = hits + is_hit, size_of_hits + is_hit * size
-            if "flags" in words:
-                print(int(is_hit))
+    capacity, *words = sys.argv[1:] or [""]
+    if not re.fullmatch("0*[1-9][0-9]{0,19}", capacity) or not set(words) <= {"gdsf98", "flags"}:
+        fail("usage: examples/gdsf.py CAPACITY [gdsf98] [flags] <TRACE")
+    cache, hits, size_of_hits = Cache(int(capacity), "gdsf98" in words), 0, 0
+    for now, (name, size) in enumerate(objects_in(sys.stdin.buffer)):
+        is_hit = cache.request(now, (name, size), size)
+        hits, size_of_hits = hits + is_hit, size_of_hits + is_hit * size
+        if "flags" in words:
+            print(int(is_hit))
     if "flags" not in words:
         print(f"hits {hits} bytes {size_of_hits}")
 
