@@ -1,3 +1,4 @@
 pub mod Marks
 pub mod Queues
 pub mod Loads
+pub mod Counts

@@ -3,4 +3,5 @@
 //! Its rule is that of docs/DEFINITIONS.md. Its three queues are one ring, so that an object takes 16 bytes for them.
 #![tactic(auto)]
 
+mod counts;
 mod ring;
