@@ -31,13 +31,13 @@ abbrev pub halve : Frequencies → Frequencies
 halve f = record { counts = map (λ count. count / 2) f.counts; asked = f.asked / 2 }
 
 -- what is kept of each object: its count is 0 if it wasn't asked for
-pub record AreCounts (counts seen : List ℕ) (known halvings asked : ℕ) : Type 0 where
+pub record AreCounts (counts seen : List ℕ) (known halvings : ℕ) : Type 0 where
   pub each_seen : length seen ≡ length counts
   pub within : known ≤ length counts
+  pub few : length counts ≤ 2 ^ 31
   pub small : (k : ℕ) → slice_index counts k ≤ 15
   pub past : (k : ℕ) → slice_index seen k ≤ halvings
   pub unknown : (k : ℕ) → known ≤ k → slice_index counts k ≡ 0
-  pub range : asked ≤ 2 ^ 36
 
 -- each count has seen all halvings, and none is left to see
 pub record AreSettled (counts seen counts_after seen_after : List ℕ) (halvings : ℕ) : Type 0 where

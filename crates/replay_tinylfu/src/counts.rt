@@ -38,7 +38,7 @@ impl Model for Counts {
 
     ghost view = { λ c. record { objects = length c.counts.items; frequencies = frequencies_at c.counts.items c.seen.items c.known c.halvings c.asked } };
 
-    ghost invariant = { λ c. AreCounts c.counts.items c.seen.items c.known c.halvings c.asked };
+    ghost invariant = { λ c. AreCounts c.counts.items c.seen.items c.known c.halvings };
 }
 
 // What this many halvings leave of a count.
@@ -67,6 +67,7 @@ fn settle(counts: &mut Vec<u8>, seen: &mut Vec<u32>, halvings: u32)
 impl Counts {
     /// No requests, for objects numbered below this. It takes 5 bytes for each.
     pub(crate) fn new(alloc: Global, objects: u32) -> Result<Self, NoMemory>
+        requires few { objects ≤ 2 ^ 31 }
         ensures { IfOk result (λ counts. counts ≡ no_counts objects) }
     {
         Ok(Counts {
@@ -88,7 +89,7 @@ impl Counts {
         faded(self.counts[object], self.halvings - self.seen[object])
     }
 
-    // Halves all.
+    // Halves all. If the halvings could be counted no further, they are all done at once.
     fn halve(&mut self)
         ensures { self.new ≡ with_frequencies (halve self.old.frequencies) self.old }
     {
@@ -103,6 +104,7 @@ impl Counts {
     // Counts a request of an object.
     fn raise(&mut self, object: u32)
         requires known { object < self.old.objects }
+        requires room { self.old.frequencies.asked ≤ 2 ^ 36 }
         ensures { self.new ≡ with_frequencies (record { counts = one_more object self.old.frequencies.counts; asked = self.old.frequencies.asked + 1 }) self.old }
     {
         let count = self.count(object);
@@ -117,7 +119,9 @@ impl Counts {
     pub(crate) fn note(&mut self, object: u32, entries: u64)
         requires known { object < self.old.objects }
         requires few { entries ≤ 2 ^ 32 }
-        ensures { self.new ≡ with_frequencies (with_request entries object self.old.frequencies) self.old }
+        requires room { self.old.frequencies.asked ≤ 2 ^ 36 }
+        ensures counts { self.new ≡ with_frequencies (with_request entries object self.old.frequencies) self.old }
+        ensures room { self.new.frequencies.asked ≤ 2 ^ 36 }
     {
         self.raise(object);
         if self.asked >= REQUESTS * entries.max(ENTRIES) {
