@@ -4,3 +4,6 @@ pub mod KeptLemmas
 pub mod TakenLemmas
 pub mod EmptyRing
 pub mod CountLemmas
+pub mod WalkLemmas
+pub mod MoveLemmas
+pub mod TinyAnswers

@@ -2,3 +2,4 @@ pub mod Marks
 pub mod Queues
 pub mod Loads
 pub mod Counts
+pub mod TinyKept

@@ -4,4 +4,8 @@
 #![tactic(auto)]
 
 mod counts;
+mod moves;
 mod ring;
+mod wtinylfu;
+
+pub use wtinylfu::WTinyLfu;
