@@ -19,7 +19,7 @@ pub weight-segments : (f : ℕ → ℕ → ℕ) (q : Segments) → weight f (seg
 weight-segments f q = omega (arith, weight-append f q.window (q.main.probation ++ q.main.protected), weight-append f q.main.probation q.main.protected)
 
 -- ---- a hit
-weight-apart : (f : ℕ → ℕ → ℕ) (k : ℕ) (entries : List Entry) → weight f (without_entry k entries) + weight f (entry_of k entries) ≡ weight f entries
+pub weight-apart : (f : ℕ → ℕ → ℕ) (k : ℕ) (entries : List Entry) → weight f (without_entry k entries) + weight f (entry_of k entries) ≡ weight f entries
 weight-apart f k [] = refl
 weight-apart f k (e ∷ rest) = at (eqb e.object k) (weight-apart f k rest)
   where
@@ -31,7 +31,7 @@ weight-apart f k (e ∷ rest) = at (eqb e.object k) (weight-apart f k rest)
 weight-back : (f : ℕ → ℕ → ℕ) (k : ℕ) (entries : List Entry) → weight f (to_back k entries) ≡ weight f entries
 weight-back f k entries = omega (arith, weight-append f (without_entry k entries) (entry_of k entries), weight-apart f k entries)
 
-weight-demote : (f : ℕ → ℕ → ℕ) (most : ℕ) (probation protected : List Entry) → main_weight f (demote most probation protected) ≡ weight f probation + weight f protected
+pub weight-demote : (f : ℕ → ℕ → ℕ) (most : ℕ) (probation protected : List Entry) → main_weight f (demote most probation protected) ≡ weight f probation + weight f protected
 weight-demote f most probation [] = refl
 weight-demote f most probation (e ∷ protected) =
     cond_both (leb (used (e ∷ protected)) most || eqb (length protected) 0) (record { probation = probation; protected = e ∷ protected }) (demote most (probation ++ e ∷ []) protected)
@@ -52,7 +52,7 @@ weight-hit_main f most k m =
       weight-apart f k m.probation,
     ))
 
-weight-hit_window : (f : ℕ → ℕ → ℕ) (most k : ℕ) (q : Segments) → weight f (hit_in most k q).window ≡ weight f q.window
+pub weight-hit_window : (f : ℕ → ℕ → ℕ) (most k : ℕ) (q : Segments) → weight f (hit_in most k q).window ≡ weight f q.window
 weight-hit_window f most k q =
     cond_both (has_entry q.window k) (record { window = to_back k q.window; main = q.main }) (record { window = q.window; main = hit_main most k q.main })
     (λ (r : Segments). weight f r.window ≡ weight f q.window) (λ _. weight-back f k q.window) (λ _. refl)
@@ -63,7 +63,7 @@ weight-hit_of f most k q =
     (λ (r : Segments). main_weight f r.main ≡ main_weight f q.main) (λ _. refl) (λ _. weight-hit_main f most k q.main)
 
 -- ---- a candidate
-weight-drop : (f : ℕ → ℕ → ℕ) (n : ℕ) (entries : List Entry) → weight f (drop n entries) ≤ weight f entries
+pub weight-drop : (f : ℕ → ℕ → ℕ) (n : ℕ) (entries : List Entry) → weight f (drop n entries) ≤ weight f entries
 weight-drop f zero entries = omega arith
 weight-drop f (suc n) [] = omega arith
 weight-drop f (suc n) (e ∷ rest) = omega (arith, weight-drop f n rest, weight-cons f e rest)
@@ -113,47 +113,47 @@ admit-room most counts e m fits =
     (λ _. fits)
 
 -- ---- the window
-module _ (capacity : ℕ) (counts : List ℕ) where
+module _ (part most : ℕ) (counts : List ℕ) where
   made : (e : Entry) (window : List Entry) (m : Main) (P : Segments → Type 0)
-      → (leb (used (e ∷ window)) (window_part capacity) ≡ true → P (record { window = e ∷ window; main = m }))
-      → P (spill capacity counts window (admit (main_part capacity) counts e m)) → P (spill capacity counts (e ∷ window) m)
+      → (leb (used (e ∷ window)) part ≡ true → P (record { window = e ∷ window; main = m }))
+      → P (spill part most counts window (admit most counts e m)) → P (spill part most counts (e ∷ window) m)
   made e window m P fits full =
-      cond_both (leb (used (e ∷ window)) (window_part capacity)) (record { window = e ∷ window; main = m }) (spill capacity counts window (admit (main_part capacity) counts e m)) P fits (λ _. full)
+      cond_both (leb (used (e ∷ window)) part) (record { window = e ∷ window; main = m }) (spill part most counts window (admit most counts e m)) P fits (λ _. full)
 
-  spill-weight : (f : ℕ → ℕ → ℕ) (window : List Entry) (m : Main) → weight f (spill capacity counts window m).window + main_weight f (spill capacity counts window m).main ≤ weight f window + main_weight f m
+  spill-weight : (f : ℕ → ℕ → ℕ) (window : List Entry) (m : Main) → weight f (spill part most counts window m).window + main_weight f (spill part most counts window m).main ≤ weight f window + main_weight f m
   spill-weight f [] m = omega arith
   spill-weight f (e ∷ window) m =
       made e window m (λ (q : Segments). weight f q.window + main_weight f q.main ≤ weight f (e ∷ window) + main_weight f m)
       (λ _. omega arith)
-      (omega (arith, spill-weight f window (admit (main_part capacity) counts e m), admit-weight f (main_part capacity) counts e m, weight-cons f e window))
+      (omega (arith, spill-weight f window (admit most counts e m), admit-weight f most counts e m, weight-cons f e window))
 
-  spill-window : (window : List Entry) (m : Main) → used (spill capacity counts window m).window ≤ window_part capacity
+  spill-window : (window : List Entry) (m : Main) → used (spill part most counts window m).window ≤ part
   spill-window [] m = omega arith
   spill-window (e ∷ window) m =
-      made e window m (λ (q : Segments). used q.window ≤ window_part capacity) (λ is. leb-true (used (e ∷ window)) (window_part capacity) is) (spill-window window (admit (main_part capacity) counts e m))
+      made e window m (λ (q : Segments). used q.window ≤ part) (λ is. leb-true (used (e ∷ window)) part is) (spill-window window (admit most counts e m))
 
-  spill-main : (window : List Entry) (m : Main) → main_used m ≤ main_part capacity → main_used (spill capacity counts window m).main ≤ main_part capacity
+  spill-main : (window : List Entry) (m : Main) → main_used m ≤ most → main_used (spill part most counts window m).main ≤ most
   spill-main [] m fits = fits
   spill-main (e ∷ window) m fits =
-      made e window m (λ (q : Segments). main_used q.main ≤ main_part capacity) (λ _. fits)
-      (spill-main window (admit (main_part capacity) counts e m) (admit-room (main_part capacity) counts e m fits))
+      made e window m (λ (q : Segments). main_used q.main ≤ most) (λ _. fits)
+      (spill-main window (admit most counts e m) (admit-room most counts e m fits))
 
   module _ (e : Entry) (q : Segments) where
-    missed : (P : Segments → Type 0) → P (record { window = q.window; main = admit (main_part capacity) counts e q.main }) → P (spill capacity counts (q.window ++ e ∷ []) q.main) → P (missed_in capacity counts e q)
+    missed : (P : Segments → Type 0) → P (record { window = q.window; main = admit most counts e q.main }) → P (spill part most counts (q.window ++ e ∷ []) q.main) → P (missed_in part most counts e q)
     missed P large small =
-        cond_both (ltb (window_part capacity) e.size) (record { window = q.window; main = admit (main_part capacity) counts e q.main }) (spill capacity counts (q.window ++ e ∷ []) q.main) P (λ _. large) (λ _. small)
+        cond_both (ltb part e.size) (record { window = q.window; main = admit most counts e q.main }) (spill part most counts (q.window ++ e ∷ []) q.main) P (λ _. large) (λ _. small)
 
-    missed-weight : (f : ℕ → ℕ → ℕ) → weight f (missed_in capacity counts e q).window + main_weight f (missed_in capacity counts e q).main ≤ weight f q.window + main_weight f q.main + f e.object e.size
+    missed-weight : (f : ℕ → ℕ → ℕ) → weight f (missed_in part most counts e q).window + main_weight f (missed_in part most counts e q).main ≤ weight f q.window + main_weight f q.main + f e.object e.size
     missed-weight f =
         missed (λ (r : Segments). weight f r.window + main_weight f r.main ≤ weight f q.window + main_weight f q.main + f e.object e.size)
-        (omega (arith, admit-weight f (main_part capacity) counts e q.main))
+        (omega (arith, admit-weight f most counts e q.main))
         (omega (arith, spill-weight f (q.window ++ e ∷ []) q.main, weight-push f q.window e))
 
-    missed-window : used q.window ≤ window_part capacity → used (missed_in capacity counts e q).window ≤ window_part capacity
-    missed-window fits = missed (λ (r : Segments). used r.window ≤ window_part capacity) fits (spill-window (q.window ++ e ∷ []) q.main)
+    missed-window : used q.window ≤ part → used (missed_in part most counts e q).window ≤ part
+    missed-window fits = missed (λ (r : Segments). used r.window ≤ part) fits (spill-window (q.window ++ e ∷ []) q.main)
 
-    missed-main : main_used q.main ≤ main_part capacity → main_used (missed_in capacity counts e q).main ≤ main_part capacity
-    missed-main fits = missed (λ (r : Segments). main_used r.main ≤ main_part capacity) (admit-room (main_part capacity) counts e q.main fits) (spill-main (q.window ++ e ∷ []) q.main fits)
+    missed-main : main_used q.main ≤ most → main_used (missed_in part most counts e q).main ≤ most
+    missed-main fits = missed (λ (r : Segments). main_used r.main ≤ most) (admit-room most counts e q.main fits) (spill-main (q.window ++ e ∷ []) q.main fits)
 
 -- ---- the shares of a state
 -- the window and the main part have no more than their parts of the capacity
@@ -202,7 +202,7 @@ module _ (s : State) where
     tinylfu_hit = stock_of_segments then (hit_in (protected_part s.capacity) object (segments_of s))
 
     abbrev pub tinylfu_missed : Stock
-    tinylfu_missed = stock_of_segments then (missed_in s.capacity then.counts (fresh_entry WTinyLfu s.now object size None) (segments_of s))
+    tinylfu_missed = stock_of_segments then (missed_in (window_part s.capacity) (main_part s.capacity) then.counts (fresh_entry WTinyLfu s.now object size None) (segments_of s))
 
     pub tinylfu_hit-part : IsPart tinylfu_hit.entries s.entries
     tinylfu_hit-part f =
@@ -220,8 +220,8 @@ module _ (s : State) where
         let e : Entry = fresh_entry WTinyLfu s.now object size None in
         omega (
           arith,
-          weight-segments f (missed_in s.capacity then.counts e (segments_of s)),
-          missed-weight s.capacity then.counts e (segments_of s) f,
+          weight-segments f (missed_in (window_part s.capacity) (main_part s.capacity) then.counts e (segments_of s)),
+          missed-weight (window_part s.capacity) (main_part s.capacity) then.counts e (segments_of s) f,
           weight-state f,
           weight-cons f e s.entries,
         )
@@ -238,8 +238,8 @@ module _ (s : State) where
       missed_shared : IsShared s.capacity tinylfu_missed.entries tinylfu_missed.beside
       missed_shared =
           let e : Entry = fresh_entry WTinyLfu s.now object size None in
-          shared_segments s.capacity then (missed_in s.capacity then.counts e (segments_of s))
-          (missed-window s.capacity then.counts e (segments_of s) shared.window) (missed-main s.capacity then.counts e (segments_of s) shared.main)
+          shared_segments s.capacity then (missed_in (window_part s.capacity) (main_part s.capacity) then.counts e (segments_of s))
+          (missed-window (window_part s.capacity) (main_part s.capacity) then.counts e (segments_of s) shared.window) (missed-main (window_part s.capacity) (main_part s.capacity) then.counts e (segments_of s) shared.main)
 
       pub tinylfu-shared : IsShared s.capacity (served s object size tinylfu_hit tinylfu_missed).entries (served s object size tinylfu_hit tinylfu_missed).beside
       tinylfu-shared = at (has_entry s.entries object) (leb size s.capacity)
@@ -258,7 +258,7 @@ module _ (s : State) where
               let low : used tinylfu_missed.entries ≤ used (fresh_entry WTinyLfu s.now object size None ∷ s.entries) = tinylfu-part (λ o n. n) in
               omega (arith, sum_by-cons (λ (g : Entry). g.size) (fresh_entry WTinyLfu s.now object size None) s.entries)
           at (suc c) is =
-              let q : Segments = missed_in s.capacity then.counts (fresh_entry WTinyLfu s.now object size None) (segments_of s) in
-              let window : used q.window ≤ window_part s.capacity = missed-window s.capacity then.counts (fresh_entry WTinyLfu s.now object size None) (segments_of s) shared.window in
-              let main : main_used q.main ≤ main_part s.capacity = missed-main s.capacity then.counts (fresh_entry WTinyLfu s.now object size None) (segments_of s) shared.main in
+              let q : Segments = missed_in (window_part s.capacity) (main_part s.capacity) then.counts (fresh_entry WTinyLfu s.now object size None) (segments_of s) in
+              let window : used q.window ≤ window_part s.capacity = missed-window (window_part s.capacity) (main_part s.capacity) then.counts (fresh_entry WTinyLfu s.now object size None) (segments_of s) shared.window in
+              let main : main_used q.main ≤ main_part s.capacity = missed-main (window_part s.capacity) (main_part s.capacity) then.counts (fresh_entry WTinyLfu s.now object size None) (segments_of s) shared.main in
               omega (arith, weight-segments (λ o n. n) q)

@@ -109,17 +109,17 @@ admit most counts e m =
     then on_probation e (without_first (length leaving) m) else m
 
 -- while the window has more bytes than its part, its first entry leaves it and is a candidate
-abbrev pub spill : ℕ → List ℕ → List Entry → Main → Segments
-spill capacity counts [] m = record { window = []; main = m }
-spill capacity counts (e ∷ window) m =
-    if nat_le (used (e ∷ window)) (window_part capacity) then record { window = e ∷ window; main = m }
-    else spill capacity counts window (admit (main_part capacity) counts e m)
+abbrev pub spill : ℕ → ℕ → List ℕ → List Entry → Main → Segments
+spill part most counts [] m = record { window = []; main = m }
+spill part most counts (e ∷ window) m =
+    if nat_le (used (e ∷ window)) part then record { window = e ∷ window; main = m }
+    else spill part most counts window (admit most counts e m)
 
 -- what is larger than the window is a candidate at once, and else comes in at the back of the window
-abbrev pub missed_in : ℕ → List ℕ → Entry → Segments → Segments
-missed_in capacity counts e q =
-    if nat_lt (window_part capacity) e.size then record { window = q.window; main = admit (main_part capacity) counts e q.main }
-    else spill capacity counts (q.window ++ e ∷ []) q.main
+abbrev pub missed_in : ℕ → ℕ → List ℕ → Entry → Segments → Segments
+missed_in part most counts e q =
+    if nat_lt part e.size then record { window = q.window; main = admit most counts e q.main }
+    else spill part most counts (q.window ++ e ∷ []) q.main
 
 -- ---- a request
 -- the main part of entries, of which this many are on probation
@@ -151,4 +151,4 @@ tinylfu_after s object size =
     let f = with_request (length s.entries) object (frequencies_of s) in
     served s object size
     (stock_of_segments f (hit_in (protected_part s.capacity) object (segments_of s)))
-    (stock_of_segments f (missed_in s.capacity f.counts (fresh_entry WTinyLfu s.now object size None) (segments_of s)))
+    (stock_of_segments f (missed_in (window_part s.capacity) (main_part s.capacity) f.counts (fresh_entry WTinyLfu s.now object size None) (segments_of s)))

@@ -2,3 +2,8 @@ pub mod MarkLemmas
 pub mod LinkLemmas
 pub mod KeptLemmas
 pub mod TakenLemmas
+pub mod EmptyRing
+pub mod CountLemmas
+pub mod WalkLemmas
+pub mod MoveLemmas
+pub mod TinyAnswers

@@ -1,6 +1,6 @@
 -- The queues of a ring, as an object is taken out.
 use Rattle.std.proofs.Common.{◌≡◌, ℕ, zero, suc, ◌+◌, ◌-◌, ◌<◌, ◌≤◌, ◌∙◌, sym, refl, ap, subst, Bool, true, false, not, ◌||◌, cond, eqb, List, [], ◌∷◌, ◌++◌, length, drop, get_or, set, arith}
-use Rattle.std.proofs.lemmas.Bool.{eqb-true, eq-eqb}
+use Rattle.std.proofs.lemmas.Bool.{eqb-true, eq-eqb, or_left}
 use Rattle.std.proofs.lemmas.List.{length-set}
 use Rattle.policy_model.specs.States.{Entry, used, has_entry}
 use Rattle.policy_model.specs.Steps.{without_entry}
@@ -222,3 +222,40 @@ module _ (old : List Node) (places : List ℕ) (none : ℕ) (w p t : Load) (numb
 
       pub nowhere_protected : has_entry (segment_entries (queues_at new none (without k numbers)).segments) k ≡ false
       nowhere_protected = nowhere low_protected new joins whole_protected w p (record { entries = t.entries - 1; bytes = t.bytes - size_at old k }) kept_protected
+
+-- ---- the first of each part
+module _ (nodes : List Node) (none : ℕ) (numbers : List ℕ) (ring : IsRing nodes none numbers) where
+  pub first_window : 0 < length (window_of none numbers) → window_of none numbers ≡ after nodes none ∷ drop 1 (window_of none numbers)
+  first_window some = first-up_to nodes (none + 1) none numbers none ring.linked some
+
+  pub links_main : Links nodes (none + 1) (main_numbers none numbers) none
+  links_main = Links-past nodes (none + 1) none numbers none ring.linked ring.second_mark
+
+  pub links_protected : Links nodes (none + 2) (protected_of none numbers) none
+  links_protected = Links-past nodes (none + 2) (none + 1) (main_numbers none numbers) none links_main ring.third_mark
+
+  pub first_probation : 0 < length (probation_of none numbers) → probation_of none numbers ≡ after nodes (none + 1) ∷ drop 1 (probation_of none numbers)
+  first_probation some = first-up_to nodes (none + 2) (none + 1) (main_numbers none numbers) none links_main some
+
+  pub first_protected : 0 < length (protected_of none numbers) → protected_of none numbers ≡ after nodes (none + 2) ∷ drop 1 (protected_of none numbers)
+  first_protected some = first-links nodes (none + 2) (protected_of none numbers) none links_protected some
+
+pub first-there : (x : ℕ) (part : List ℕ) → part ≡ x ∷ drop 1 part → is_among part x ≡ true
+first-there x part is = ap (λ ks. is_among ks x) is ∙ or_left (eqb x x) (is_among (drop 1 part) x) (eq-eqb x x refl)
+
+popped_at : (nodes : List Node) (x : ℕ) (rest : List ℕ) (size : ℕ) → Distinct (x ∷ rest) → entry_of x (entries_at nodes (x ∷ rest)) ≡ plain_entry x size ∷ []
+    → (entries_at nodes (x ∷ rest) ≡ plain_entry x size ∷ without_entry x (entries_at nodes (x ∷ rest))) × (without_entry x (entries_at nodes (x ∷ rest)) ≡ drop 1 (entries_at nodes (x ∷ rest)))
+popped_at nodes x rest size apart one =
+    let es : List Entry = entries_at nodes rest in
+    let e : Entry = plain_entry x (size_at nodes x) in
+    let less : without_entry x (e ∷ es) ≡ es =
+    ap (λ b. cond (not b) (e ∷ without_entry x es) (without_entry x es)) (eq-eqb x x refl) ∙ entries-without nodes x rest ∙ ap (entries_at nodes) (without-none x rest apart.0) in
+    let found : e ∷ entry_of x es ≡ plain_entry x size ∷ [] = sym (ap (λ b. cond b (e ∷ entry_of x es) (entry_of x es)) (eq-eqb x x refl)) ∙ one in
+    let same : size_at nodes x ≡ size = ap (λ (fs : List Entry). (get_or fs 0 e).size) found in
+    (ap (λ s. plain_entry x s ∷ es) same ∙ ap (λ fs. plain_entry x size ∷ fs) (sym less), less)
+
+pub popped : (nodes : List Node) (x : ℕ) (part : List ℕ) (size : ℕ) → Distinct part → part ≡ x ∷ drop 1 part → entry_of x (entries_at nodes part) ≡ plain_entry x size ∷ []
+    → (entries_at nodes part ≡ plain_entry x size ∷ without_entry x (entries_at nodes part)) × (without_entry x (entries_at nodes part) ≡ drop 1 (entries_at nodes part))
+popped nodes x part size apart is one =
+    subst (λ ks. (entries_at nodes ks ≡ plain_entry x size ∷ without_entry x (entries_at nodes ks)) × (without_entry x (entries_at nodes ks) ≡ drop 1 (entries_at nodes ks))) (sym is)
+    (popped_at nodes x (drop 1 part) size (subst Distinct is apart) (subst (λ ks. entry_of x (entries_at nodes ks) ≡ plain_entry x size ∷ []) is one))

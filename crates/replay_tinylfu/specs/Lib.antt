@@ -1,3 +1,5 @@
 pub mod Marks
 pub mod Queues
 pub mod Loads
+pub mod Counts
+pub mod TinyKept

@@ -18,6 +18,10 @@ abbrev pub put_in : ℕ → ℕ → List ℕ → List ℕ
 put_in mark k [] = k ∷ []
 put_in mark k (j ∷ rest) = if j == mark then k ∷ j ∷ rest else j ∷ put_in mark k rest
 
+-- the node after this one, or after the mark if the mark is next
+abbrev pub follow : List Node → ℕ → ℕ → ℕ
+follow nodes mark k = let next = (node_at nodes k).after in if next == mark then (node_at nodes mark).after else next
+
 -- a node is put between another and the one before that
 pub record PutsBefore (old new : List Node) (k next : ℕ) : Type 0 where
   pub mid : List Node

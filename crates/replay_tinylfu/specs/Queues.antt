@@ -1,9 +1,9 @@
 -- The three queues of W-TinyLFU as nodes keep them.
-use Rattle.std.specs.Prelude.{ℕ, ◌+◌, List, [], map, None}
+use Rattle.std.specs.Prelude.{◌≡◌, ℕ, ◌+◌, ◌<◌, ◌++◌, List, [], length, map, None}
 use Rattle.policy_model.specs.declared.names.PolicyName.TheVariants.{WTinyLfu}
 use Rattle.policy_model.specs.States.{Entry}
 use Rattle.policy_model.specs.Steps.{fresh_entry}
-use Rattle.policy_model.specs.WTinyLfu.{Main, Segments}
+use Rattle.policy_model.specs.WTinyLfu.{Main, Segments, count_of}
 use Rattle.replay_queues.specs.declared.nodes.Node.{Node}
 use Rattle.replay_queues.specs.Rings.{node_at}
 use Rattle.replay_tinylfu.specs.Marks.{up_to, past}
@@ -48,9 +48,22 @@ queues_at nodes objects numbers = queues_by nodes objects (window_of objects num
 abbrev pub no_entries : ℕ → Queues
 no_entries objects = record { objects = objects; segments = record { window = []; main = record { probation = []; protected = [] } } }
 
+-- queues with other segments
+abbrev pub with_segments : Segments → Queues → Queues
+with_segments segments q = record { objects = q.objects; segments = segments }
+
 -- queues with another main part
 abbrev pub with_main : Main → Queues → Queues
 with_main m q = record { objects = q.objects; segments = record { window = q.segments.window; main = m } }
+
+-- the entries of the main part, those on probation first
+abbrev pub main_entries : Queues → List Entry
+main_entries q = q.segments.main.probation ++ q.segments.main.protected
+
+-- this many entries are displaced, whose counts come to less than this
+pub record DisplacesAll (counts : List ℕ) (leaving : List Entry) (count entries : ℕ) : Type 0 where
+  pub many : entries ≡ length leaving
+  pub less : count_of counts leaving < count
 
 -- queues of which one is another
 abbrev pub with_window : List Entry → Queues → Queues

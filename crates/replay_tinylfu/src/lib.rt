@@ -3,4 +3,9 @@
 //! Its rule is that of docs/DEFINITIONS.md. Its three queues are one ring, so that an object takes 16 bytes for them.
 #![tactic(auto)]
 
+mod counts;
+mod moves;
 mod ring;
+mod wtinylfu;
+
+pub use wtinylfu::WTinyLfu;

@@ -1,12 +1,13 @@
 //! The three queues, in one ring.
-ghost use Rattle.std.specs.Prelude.{◌≡◌, ◌≤◌, ◌<◌, ◌+◌, ◌^◌, ◌++◌, ◌∷◌, ◌==◌, [], true, false, length, drop, nat_lt, IfOk};
+ghost use Rattle.std.specs.Prelude.{◌≡◌, ◌≤◌, ◌<◌, ◌+◌, ◌^◌, ◌++◌, ◌∷◌, ◌==◌, [], true, false, length, drop, nat_lt, IfOk, MatchOption};
 ghost use Rattle.policy_model.specs.States.{used, has_entry};
 ghost use Rattle.policy_model.specs.Steps.{without_entry};
-ghost use Rattle.policy_model.specs.WTinyLfu.{main_used, entry_of, segment_entries};
+ghost use Rattle.policy_model.specs.WTinyLfu.{main_used, entry_of, segment_entries, first_with, count_of};
 ghost use Rattle.replay_queues.specs.Rings.{node_at, Joins};
-ghost use Rattle.replay_tinylfu.specs.Marks.{PutsBefore};
-ghost use Rattle.replay_tinylfu.specs.Queues.{plain_entry, no_entries, with_window, with_probation, with_protected};
+ghost use Rattle.replay_tinylfu.specs.Marks.{PutsBefore, follow};
+ghost use Rattle.replay_tinylfu.specs.Queues.{plain_entry, no_entries, with_window, with_probation, with_protected, main_entries, DisplacesAll};
 
+use crate::counts::Counts;
 use bound_base::NoMemory;
 use replay_queues::{Node, join, note_size};
 use std::alloc::Global;
@@ -89,6 +90,17 @@ fn unlink(nodes: &mut Vec<Node>, object: u32) -> u64
     size
 }
 
+// The node after this one, or after the mark if the mark is next.
+#[inline(always)]
+fn next_but(nodes: &Vec<Node>, node: u32, mark: u32) -> u32
+    requires node { node < length nodes.now.items }
+    requires mark { mark < length nodes.now.items }
+    ensures { result ≡ follow nodes.now.items mark node }
+{
+    let next = nodes[node as usize].after;
+    if next == mark { nodes[mark as usize].after } else { next }
+}
+
 impl Ring {
     /// Empty, for objects numbered below this. It takes 17 bytes for each.
     pub(crate) fn new(alloc: Global, objects: u32) -> Result<Self, NoMemory>
@@ -127,6 +139,16 @@ impl Ring {
         ensures protected { (result == PROTECTED) ≡ has_entry self.now.segments.main.protected object }
     {
         self.places[object as usize]
+    }
+
+    /// Whether an object stands in one of the queues.
+    #[inline(always)]
+    pub(crate) fn holds(&self, object: u32) -> bool
+        requires { object < self.now.objects }
+        ensures { result ≡ has_entry (segment_entries self.now.segments) object }
+    {
+        let place = self.place(object);
+        place == WINDOW || place == PROBATION || place == PROTECTED
     }
 
     /// How many entries there are.
@@ -171,6 +193,32 @@ impl Ring {
         ensures { result ≡ length self.now.segments.main.protected }
     {
         self.protected.entries
+    }
+
+    /// How many of the first objects of the main part have this many bytes, if together they were asked for less often than
+    /// `count` times. It stops as soon as they weren't.
+    pub(crate) fn victims(&self, counts: &Counts, bytes: u64, count: u8) -> Option<u64>
+        requires counted { self.now.objects ≤ counts.now.objects }
+        requires some { 0 < bytes }
+        requires enough { bytes ≤ main_used self.now.segments.main }
+        requires range { main_used self.now.segments.main ≤ 2 ^ 56 }
+        ensures { MatchOption result (count ≤ count_of counts.now.frequencies.counts (first_with bytes (main_entries self.now))) (λ entries. DisplacesAll counts.now.frequencies.counts (first_with bytes (main_entries self.now)) count entries) }
+    {
+        let mark = self.objects + 2;
+        let mut object = next_but(&self.nodes, self.objects + 1, mark);
+        let mut entries = 0;
+        let mut freed = 0;
+        let mut sum = 0;
+        while freed < bytes {
+            sum += counts.count(object) as u64;
+            if sum >= count as u64 {
+                return None;
+            }
+            freed += self.nodes[object as usize].size;
+            entries += 1;
+            object = next_but(&self.nodes, object, mark);
+        }
+        Some(entries)
     }
 
     /// Puts an object at the back of the window.

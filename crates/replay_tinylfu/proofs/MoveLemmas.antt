@@ -1,0 +1,134 @@
+-- What a hit and a miss change in the queues, step by step.
+use Rattle.std.proofs.Common.{◌≡◌, ℕ, zero, suc, ◌+◌, ◌-◌, ◌<◌, ◌≤◌, ◌∙◌, sym, refl, ap, subst, ⊎_elim, Bool, true, false, not, ◌||◌, ◌&&◌, cond, eqb, leb, ltb, List, [], ◌∷◌, ◌++◌, length, drop, get_or, arith}
+use Rattle.std.proofs.lemmas.Bool.{eqb-true, eq-eqb, ne_eqb, or_parts, or_from, or_left, lt-leb, le-leb, lt-ltb, le-ltb, cases_lt, cond_both}
+use Rattle.std.proofs.lemmas.List.{length-append, length-drop, drop-drop}
+use Rattle.std.proofs.Math.ListN.{drop_of_length-le}
+use Rattle.std.proofs.lemmas.List.Sums.{sum_by-cons, sum_by-append, sum_by_push}
+use Rattle.policy_model.specs.States.{Entry, used, has_entry}
+use Rattle.policy_model.specs.Steps.{without_entry}
+use Rattle.policy_model.specs.WTinyLfu.{Main, Segments, main_used, entry_of, to_back, demote, hit_main, hit_in, without_first, on_probation, first_with, victims, count_of, admit, spill, missed_in, segment_entries}
+use Rattle.policy_model.proofs.WTinyLfuSound.{weight-apart}
+use Rattle.replay_queues.proofs.ItemLemmas.{has_entry-append}
+use Rattle.replay_tinylfu.specs.Queues.{Queues, plain_entry, with_main, with_segments, main_entries}
+
+-- ---- entries that are dropped
+pub none-drop : (k n : ℕ) (entries : List Entry) → has_entry entries k ≡ false → has_entry (drop n entries) k ≡ false
+none-drop k zero entries none = none
+none-drop k (suc n) [] none = none
+none-drop k (suc n) (e ∷ rest) none =
+    let parts : (eqb e.object k ≡ false) × (has_entry rest k ≡ false) = or_parts _ _ none in
+    none-drop k n rest parts.1
+
+-- an object in no queue isn't in one after the first of the main part left
+pub none-left : (k n : ℕ) (q : Segments) → has_entry (segment_entries q) k ≡ false → has_entry (segment_entries (record { window = q.window; main = without_first n q.main })) k ≡ false
+none-left k n q none =
+    let first : (has_entry q.window k ≡ false) × (has_entry (q.main.probation ++ q.main.protected) k ≡ false) = or_parts _ _ (sym (has_entry-append q.window (q.main.probation ++ q.main.protected) k) ∙ none) in
+    let second : (has_entry q.main.probation k ≡ false) × (has_entry q.main.protected k ≡ false) = or_parts _ _ (sym (has_entry-append q.main.probation q.main.protected k) ∙ first.1) in
+    has_entry-append q.window (drop n q.main.probation ++ drop (n - length q.main.probation) q.main.protected) k
+    ∙ or_from _ _ first.0
+    (has_entry-append (drop n q.main.probation) (drop (n - length q.main.probation) q.main.protected) k
+    ∙ or_from _ _ (none-drop k n q.main.probation second.0) (none-drop k (n - length q.main.probation) q.main.protected second.1))
+
+-- ---- the first of the main part, one by one
+module _ (m : Main) (n : ℕ) where
+  abbrev of : List Entry → List Entry → Main
+  of p t = record { probation = p; protected = t }
+
+  pub first-probation : 0 < length (drop n m.probation) → record { probation = drop 1 (drop n m.probation); protected = drop (n - length m.probation) m.protected } ≡ without_first (n + 1) m
+  first-probation some =
+      let low : n < length m.probation = omega (arith, length-drop n m.probation) in
+      let same : n - length m.probation ≡ n + 1 - length m.probation = omega arith in
+      ap (λ p. of p (drop (n - length m.probation) m.protected)) (drop-drop 1 n m.probation) ∙ ap (λ i. of (drop (n + 1) m.probation) (drop i m.protected)) same
+
+  pub first-protected : length (drop n m.probation) ≤ 0 → record { probation = drop n m.probation; protected = drop 1 (drop (n - length m.probation) m.protected) } ≡ without_first (n + 1) m
+  first-protected none =
+      let high : length m.probation ≤ n = omega (arith, length-drop n m.probation) in
+      let more : n - length m.probation + 1 ≡ n + 1 - length m.probation = omega arith in
+      let gone : drop n m.probation ≡ drop (n + 1) m.probation = drop_of_length-le m.probation {i = n} high ∙ sym (drop_of_length-le m.probation {i = n + 1} (omega arith)) in
+      ap (λ p. of p (drop 1 (drop (n - length m.probation) m.protected))) gone
+      ∙ ap (of (drop (n + 1) m.probation)) (drop-drop 1 (n - length m.probation) m.protected ∙ ap (λ i. drop i m.protected) more)
+
+  pub some-protected : length (drop n m.probation) ≤ 0 → n < length (m.probation ++ m.protected) → 0 < length (drop (n - length m.probation) m.protected)
+  some-protected none less = omega (arith, length-drop n m.probation, length-drop (n - length m.probation) m.protected, length-append m.probation m.protected)
+
+-- ---- a candidate
+module _ (most : ℕ) (counts : List ℕ) (e : Entry) (m : Main) where
+  abbrev leaving : List Entry
+  leaving = victims most e.size m
+
+  abbrev wins : Bool
+  wins = leb (main_used m + e.size) most || ltb (count_of counts leaving) (get_or counts e.object 0)
+
+  pub admit-large : most < e.size → admit most counts e m ≡ m
+  admit-large large = ap (λ b. cond (b && wins) (on_probation e (without_first (length leaving) m)) m) (lt-leb e.size most large)
+
+  first-zero : (entries : List Entry) (n : ℕ) → n ≡ 0 → first_with n entries ≡ []
+  first-zero [] n none = refl
+  first-zero (f ∷ rest) n none = ap (λ b. cond b [] (f ∷ first_with (n - f.size) rest)) (eq-eqb n 0 none)
+
+  pub admit-fits : e.size ≤ most → main_used m + e.size ≤ most → admit most counts e m ≡ on_probation e m
+  admit-fits small fits =
+      let none : leaving ≡ [] = first-zero (m.probation ++ m.protected) (main_used m + e.size - most) (omega arith) in
+      let zero_less : zero - length m.probation ≡ zero = omega arith in
+      ap (λ b. cond (b && wins) (on_probation e (without_first (length leaving) m)) m) (le-leb e.size most small)
+      ∙ ap (λ b. cond (b || ltb (count_of counts leaving) (get_or counts e.object 0)) (on_probation e (without_first (length leaving) m)) m) (le-leb (main_used m + e.size) most fits)
+      ∙ ap (λ es. on_probation e (without_first (length es) m)) none
+      ∙ ap (λ n. on_probation e (record { probation = m.probation; protected = drop n m.protected })) zero_less
+
+  pub admit-wins : e.size ≤ most → most < main_used m + e.size → count_of counts leaving < get_or counts e.object 0 → admit most counts e m ≡ on_probation e (without_first (length leaving) m)
+  admit-wins small full less =
+      ap (λ b. cond (b && wins) (on_probation e (without_first (length leaving) m)) m) (le-leb e.size most small)
+      ∙ ap (λ b. cond (b || ltb (count_of counts leaving) (get_or counts e.object 0)) (on_probation e (without_first (length leaving) m)) m) (lt-leb (main_used m + e.size) most full)
+      ∙ ap (λ b. cond b (on_probation e (without_first (length leaving) m)) m) (lt-ltb (count_of counts leaving) (get_or counts e.object 0) less)
+
+  pub admit-loses : e.size ≤ most → most < main_used m + e.size → get_or counts e.object 0 ≤ count_of counts leaving → admit most counts e m ≡ m
+  admit-loses small full more =
+      ap (λ b. cond (b && wins) (on_probation e (without_first (length leaving) m)) m) (le-leb e.size most small)
+      ∙ ap (λ b. cond (b || ltb (count_of counts leaving) (get_or counts e.object 0)) (on_probation e (without_first (length leaving) m)) m) (lt-leb (main_used m + e.size) most full)
+      ∙ ap (λ b. cond b (on_probation e (without_first (length leaving) m)) m) (le-ltb (count_of counts leaving) (get_or counts e.object 0) more)
+
+-- ---- the window
+pub spill-over : (part most : ℕ) (counts : List ℕ) (e : Entry) (window : List Entry) (m : Main) → part < used (e ∷ window) → spill part most counts (e ∷ window) m ≡ spill part most counts window (admit most counts e m)
+spill-over part most counts e window m over =
+    ap (λ b. cond b (record { window = e ∷ window; main = m }) (spill part most counts window (admit most counts e m))) (lt-leb (used (e ∷ window)) part over)
+
+pub spill-fits : (part most : ℕ) (counts : List ℕ) (window : List Entry) (m : Main) → used window ≤ part → spill part most counts window m ≡ record { window = window; main = m }
+spill-fits part most counts [] m fits = refl
+spill-fits part most counts (e ∷ window) m fits =
+    ap (λ b. cond b (record { window = e ∷ window; main = m }) (spill part most counts window (admit most counts e m))) (le-leb (used (e ∷ window)) part fits)
+
+-- ---- protected entries
+pub demote-over : (most : ℕ) (probation : List Entry) (e : Entry) (protected : List Entry) → most < used (e ∷ protected) → 1 < length (e ∷ protected) → demote most probation (e ∷ protected) ≡ demote most (probation ++ e ∷ []) protected
+demote-over most probation e protected over several =
+    ap (λ b. cond (b || eqb (length protected) 0) (record { probation = probation; protected = e ∷ protected }) (demote most (probation ++ e ∷ []) protected)) (lt-leb (used (e ∷ protected)) most over)
+    ∙ ap (λ b. cond b (record { probation = probation; protected = e ∷ protected }) (demote most (probation ++ e ∷ []) protected)) (ne_eqb (length protected) 0 (λ none. absurd (omega arith)))
+
+pub demote-fits : (most : ℕ) (probation protected : List Entry) → used protected ≤ most → demote most probation protected ≡ record { probation = probation; protected = protected }
+demote-fits most probation [] fits = refl
+demote-fits most probation (e ∷ protected) fits =
+    ap (λ b. cond (b || eqb (length protected) 0) (record { probation = probation; protected = e ∷ protected }) (demote most (probation ++ e ∷ []) protected)) (le-leb (used (e ∷ protected)) most fits)
+
+pub demote-one : (most : ℕ) (probation protected : List Entry) → length protected ≤ 1 → demote most probation protected ≡ record { probation = probation; protected = protected }
+demote-one most probation [] one = refl
+demote-one most probation (e ∷ protected) one =
+    cond_both (leb (used (e ∷ protected)) most || eqb (length protected) 0) (record { probation = probation; protected = e ∷ protected }) (demote most (probation ++ e ∷ []) protected)
+    (λ (m : Main). m ≡ record { probation = probation; protected = e ∷ protected }) (λ _. refl)
+    (λ neither. absurd (clash (or_parts (leb (used (e ∷ protected)) most) (eqb (length protected) 0) neither).1))
+  where
+    clash : eqb (length protected) 0 ≡ false → ⊥
+    clash differs = let same : true ≡ false = sym (eq-eqb (length protected) 0 (omega arith)) ∙ differs in cc
+
+pub first_with-few : (bytes : ℕ) (entries : List Entry) → length (first_with bytes entries) ≤ length entries
+first_with-few bytes [] = omega arith
+first_with-few bytes (e ∷ rest) =
+    cond_both (eqb bytes 0) [] (e ∷ first_with (bytes - e.size) rest) (λ es. length es ≤ length (e ∷ rest)) (λ _. omega arith) (λ _. omega (arith, first_with-few (bytes - e.size) rest))
+
+-- queues by their parts
+pub queues-as : (q : Queues) (objects : ℕ) (window : List Entry) (m : Main) → q.objects ≡ objects → q.segments.window ≡ window → q.segments.main ≡ m → q ≡ record { objects = objects; segments = record { window = window; main = m } }
+queues-as q objects window m of_objects of_window of_main =
+    let of : ℕ → List Entry → Main → Queues = λ o w n. record { objects = o; segments = record { window = w; main = n } } in
+    ap (λ o. of o q.segments.window q.segments.main) of_objects ∙ ap (λ w. of objects w q.segments.main) of_window ∙ ap (of objects window) of_main
+
+-- the bytes of an object that is taken out
+pub taken-bytes : (k size : ℕ) (entries : List Entry) → entry_of k entries ≡ plain_entry k size ∷ [] → used (without_entry k entries) + size ≡ used entries
+taken-bytes k size entries one = omega (arith, weight-apart (λ o n. n) k entries, ap used one, sum_by-cons (λ (e : Entry). e.size) (plain_entry k size) [])
