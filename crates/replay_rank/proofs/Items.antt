@@ -31,7 +31,7 @@ pub record Ranks (H R I : Type 0) : Type 0 where
   pub exact_rank : (r s : R) → same_rank r s ≡ true → r ≡ s
 
 -- an item that passes, of those that all have a property
-passing : {I : Type 0} (P : I → Type 0) (f : I → Bool) (items : List I) → AllByRecursion P items → list_any f items ≡ true → (i : I) × (P i × (f i ≡ true))
+pub passing : {I : Type 0} (P : I → Type 0) (f : I → Bool) (items : List I) → AllByRecursion P items → list_any f items ≡ true → (i : I) × (P i × (f i ≡ true))
 passing P f [] each some = cc
 passing {I = I} P f (i ∷ items) each some = at (f i) refl (passing P f items each.1)
   where

@@ -1,7 +1,7 @@
 -- The pairs of a map from objects, and the entries that they are.
 use Rattle.std.proofs.Common.{◌≡◌, ℕ, ◌<◌, ◌∙◌, sym, refl, ap, subst, ⊎_elim, Bool, true, false, not, ◌||◌, cond, eqb, List, [], ◌∷◌, map, arith, Some, None, Option, is_some}
 use Rattle.std.specs.declared.cmp.Ordering.{Ordering}
-use Rattle.std.specs.declared.cmp.Ordering.TheVariants.{Less, Greater}
+use Rattle.std.specs.declared.cmp.Ordering.TheVariants.{Less, Equal, Greater}
 use Rattle.std.specs.BTreeMap.{is_at, insert_entry}
 use Rattle.std.specs.List.{AllByRecursion}
 use Rattle.std.specs.List.Sorted.{IsStrictlySortedBy}
@@ -183,6 +183,52 @@ module _ {X : Type 0} (fill : X → Entry) where
     where
       not_less : (a b : ℕ) → b < a → nat_cmp a b ≡ Less → ⊥
       not_less a b high less = let greater : nat_cmp a b ≡ Greater = cmp-greater a b high in cc
+
+  -- a pair that was removed is put in again
+  pub put-removed : (pairs : List (ℕ × X)) (k : ℕ) (x : X) → IsStrictlySortedBy nat_cmp (keys_of pairs) → lookup (is_at (nat_cmp k)) pairs ≡ Some x
+      → put_in (pair_entry (k, x)) (pair_entries (remove_entry (is_at (nat_cmp k)) pairs)) ≡ pair_entries pairs
+  put-removed [] k x sorted found = cc
+  put-removed (p ∷ rest) k x sorted found = at (eqb p.0 k) refl (put-removed rest k x (sorted_tail nat_cmp p.0 (keys_of rest) sorted))
+    where
+      less-true : (a b : ℕ) → nat_cmp a b ≡ Less → a < b
+      less-true a b less =
+          ⊎_elim
+          (λ (same : a ≡ b). absurd (let equal : nat_cmp a b ≡ Equal = cmp-equal a b same in cc))
+          (λ order. ⊎_elim
+          (λ (low : a < b). low)
+          (λ (high : b < a). absurd (let greater : nat_cmp a b ≡ Greater = cmp-greater a b high in cc))
+          order)
+          (cases_order a b)
+
+      found-above : (ps : List (ℕ × X)) → AllByRecursion (λ y. nat_cmp p.0 y ≡ Less) (keys_of ps) → lookup (is_at (nat_cmp k)) ps ≡ Some x → p.0 < k
+      found-above [] each is = cc
+      found-above (q ∷ qs) each is = here (eqb q.0 k) refl (found-above qs each.1)
+        where
+          here : (t : Bool) → eqb q.0 k ≡ t → (lookup (is_at (nat_cmp k)) qs ≡ Some x → p.0 < k) → p.0 < k
+          here true e more = subst (λ n. p.0 < n) (eqb-true q.0 k e) (less-true p.0 q.0 each.0)
+          here false e more = more (sym (ap (λ b. cond b (Some q.1) (lookup (is_at (nat_cmp k)) qs)) (at-eqb k q.0 ∙ e)) ∙ is)
+
+      put-first : (ps : List (ℕ × X)) → AllByRecursion (λ y. nat_cmp k y ≡ Less) (keys_of ps) → put_in (pair_entry (k, x)) (pair_entries ps) ≡ pair_entry (k, x) ∷ pair_entries ps
+      put-first [] each = refl
+      put-first (q ∷ qs) each = ap (λ b. cond b (pair_entry (k, x) ∷ pair_entry q ∷ pair_entries qs) (pair_entry q ∷ put_in (pair_entry (k, x)) (pair_entries qs))) (lt-ltb k q.0 (less-true k q.0 each.0))
+
+      at : (t : Bool) → eqb p.0 k ≡ t → (lookup (is_at (nat_cmp k)) rest ≡ Some x → put_in (pair_entry (k, x)) (pair_entries (remove_entry (is_at (nat_cmp k)) rest)) ≡ pair_entries rest)
+          → put_in (pair_entry (k, x)) (pair_entries (cond (is_at (nat_cmp k) p.0) rest (p ∷ remove_entry (is_at (nat_cmp k)) rest))) ≡ pair_entry p ∷ pair_entries rest
+      at true e more =
+          let first : Some p.1 ≡ Some x = sym (ap (λ b. cond b (Some p.1) (lookup (is_at (nat_cmp k)) rest)) (at-eqb k p.0 ∙ e)) ∙ found in
+          let same : x ≡ p.1 = cc in
+          let object : p.0 ≡ k = eqb-true p.0 k e in
+          ap (λ b. put_in (pair_entry (k, x)) (pair_entries (cond b rest (p ∷ remove_entry (is_at (nat_cmp k)) rest)))) (at-eqb k p.0 ∙ e)
+          ∙ put-first rest (subst (λ n. AllByRecursion (λ y. nat_cmp n y ≡ Less) (keys_of rest)) object (sorted_head nat_cmp p.0 (keys_of rest) sorted))
+          ∙ ap (λ (n : ℕ). pair_entry (n, x) ∷ pair_entries rest) (sym object)
+          ∙ ap (λ (y : X). pair_entry (p.0, y) ∷ pair_entries rest) same
+      at false e more =
+          let later : lookup (is_at (nat_cmp k)) rest ≡ Some x = sym (ap (λ b. cond b (Some p.1) (lookup (is_at (nat_cmp k)) rest)) (at-eqb k p.0 ∙ e)) ∙ found in
+          let high : p.0 < k = found-above rest (sorted_head nat_cmp p.0 (keys_of rest) sorted) later in
+          ap (λ b. put_in (pair_entry (k, x)) (pair_entries (cond b rest (p ∷ remove_entry (is_at (nat_cmp k)) rest)))) (at-eqb k p.0 ∙ e)
+          ∙ ap (λ b. cond b (pair_entry (k, x) ∷ pair_entry p ∷ pair_entries (remove_entry (is_at (nat_cmp k)) rest)) (pair_entry p ∷ put_in (pair_entry (k, x)) (pair_entries (remove_entry (is_at (nat_cmp k)) rest))))
+          (le-ltb k p.0 (omega arith))
+          ∙ ap (λ es. pair_entry p ∷ es) (more later)
 
   -- ---- a pair that is renewed
   module _ (by : Entry → Entry) (k : ℕ) where

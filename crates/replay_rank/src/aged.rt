@@ -12,7 +12,7 @@ use std::alloc::Global;
 use std::marker::Model;
 
 /// The object of the least rank is given up first: the floor at its last request, plus its requests times 2^48 over its
-/// size. The floor rises to the rank of what is given up (Greedy-Dual-Size with Frequency, Cherkasova 1998).
+/// size. The floor rises to the rank of what is given up (GreedyDual-Size, Cao and Irani 1997, with a count of requests).
 ///
 /// Requests take, one with another, time logarithmic in the number of entries, for themselves and for each entry that is
 /// given up. It takes memory for each object with the first entry, and for each entry.

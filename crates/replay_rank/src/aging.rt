@@ -27,14 +27,14 @@ use std::marker::Model;
 const MOST_RANK: u128 = 1 << 127;
 
 // The item of the least pair of rank and last use comes out first, and of equal pairs that of the least object number.
-type Items = BinaryHeap<Reverse<((u128, u64), u32)>>;
+pub(crate) type Items = BinaryHeap<Reverse<((u128, u64), u32)>>;
 
 /// The requests of an object since it entered, the number of requests before its last, and its rank.
 #[derive(Clone, Copy, Debug, PartialEq, Eq)]
-struct Ranked {
-    count: u64,
-    last: u64,
-    rank: u128,
+pub(crate) struct Ranked {
+    pub(crate) count: u64,
+    pub(crate) last: u64,
+    pub(crate) rank: u128,
 }
 
 /// What is held, by object and by rank, and the floor, which is the rank of what was given up last.
@@ -73,7 +73,7 @@ impl Model for Aging {
 }
 
 // What one request of an object of this size is worth: by hits the more the smaller it is, by bytes one.
-fn worth(by: Objective, size: u64) -> u64
+pub(crate) fn worth(by: Objective, size: u64) -> u64
     requires { 1 ≤ size }
     ensures { result ≡ worth_of (name_of by) size }
 {
@@ -93,7 +93,7 @@ fn rank(floor: u128, count: u64, worth: u64) -> u128
 }
 
 // What is held of an object after a hit.
-fn raise(held: Held<Ranked>, floor: u128, worth: u64, now: u64) -> Held<Ranked>
+pub(crate) fn raise(held: Held<Ranked>, floor: u128, worth: u64, now: u64) -> Held<Ranked>
     ensures entry { IsRaised held result floor worth now }
     ensures size { result.size ≡ held.size }
 {
@@ -110,7 +110,7 @@ fn raise(held: Held<Ranked>, floor: u128, worth: u64, now: u64) -> Held<Ranked>
 }
 
 // What is held of an object that comes in.
-fn enter(size: u64, floor: u128, worth: u64, now: u64) -> Held<Ranked>
+pub(crate) fn enter(size: u64, floor: u128, worth: u64, now: u64) -> Held<Ranked>
     ensures entry { IsEntered size result floor worth now }
     ensures size { result.size ≡ size }
 {
@@ -123,7 +123,7 @@ fn enter(size: u64, floor: u128, worth: u64, now: u64) -> Held<Ranked>
 }
 
 // Whether two ranks with their last uses are one.
-fn is_same(former: (u128, u64), now: (u128, u64)) -> bool
+pub(crate) fn is_same(former: (u128, u64), now: (u128, u64)) -> bool
     ensures { result ≡ same_rank former now }
 {
     former.0 == now.0 && former.1 == now.1
@@ -137,7 +137,7 @@ fn is_at_most(former: (u128, u64), now: (u128, u64)) -> bool
 }
 
 // Renews what is held of an object.
-fn renew(
+pub(crate) fn renew(
     holdings: &mut Holdings<Ranked>,
     order: &mut Items,
     object: u32,
@@ -161,14 +161,13 @@ fn renew(
 }
 
 // Puts in an object that is not held.
-fn put(
+pub(crate) fn put(
     holdings: &mut Holdings<Ranked>,
     order: &mut Items,
     objects: u32,
     object: u32,
     held: Held<Ranked>,
 ) -> Result<(), NoMemory>
-    requires known { object < objects }
     requires absent { has_entry (entries_of holdings.old) object ≡ false }
     requires size { 1 ≤ held.size }
     requires ordered { AreOrdered holdings.old (heap_items order.old) }
@@ -182,7 +181,7 @@ fn put(
 }
 
 // Puts an item into the room of one that came out.
-fn put_back(order: &mut Items, item: Reverse<((u128, u64), u32)>)
+pub(crate) fn put_back(order: &mut Items, item: Reverse<((u128, u64), u32)>)
     requires room { heap_len order.old < heap_capacity order.old }
     ensures items { IsPermutation (item ∷ heap_items order.old) (heap_items order.new) }
     ensures heap { KeepsHeap item_cmp (heap_items order.old) (heap_items order.new) }
@@ -214,9 +213,9 @@ fn give_up_least(holdings: &mut Holdings<Ranked>, order: &mut Items) -> Held<Ran
 
 /// The bytes that are still used, and the floor.
 #[derive(Clone, Copy, Debug, PartialEq, Eq)]
-struct Left {
-    used: u64,
-    floor: u128,
+pub(crate) struct Left {
+    pub(crate) used: u64,
+    pub(crate) floor: u128,
 }
 
 // Gives up the entries of the least ranks until this many bytes fit. The floor rises to the rank of each.
@@ -281,7 +280,6 @@ impl Aging {
 
     // One request, as the rule says, whatever the next request is.
     pub(crate) fn ask(&mut self, by: Objective, object: u32, size: u64) -> Result<Outcome, NoMemory>
-        requires known { object < self.old.objects }
         requires size { 1 ≤ size }
         requires kept_size { All (λ m. m.object ≡ object → m.size ≡ size) (contents_of self.old) }
         ensures answers { IfOk result (λ outcome. (next : Option ℕ) → Answers (name_of by) self.old self.new object size next outcome) }

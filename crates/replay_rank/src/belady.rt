@@ -128,7 +128,6 @@ fn put(
     object: u32,
     held: Held<u64>,
 ) -> Result<(), NoMemory>
-    requires known { object < objects }
     requires absent { has_entry (entries_of holdings.old) object ≡ false }
     requires size { 1 ≤ held.size }
     requires ordered { AreOrdered holdings.old (heap_items order.old) }
@@ -199,7 +198,6 @@ impl Belady {
 
     // One request, as the rule says.
     fn ask(&mut self, object: u32, size: u64, next: Option<u32>) -> Result<Outcome, NoMemory>
-        requires known { object < self.old.objects }
         requires size { 1 ≤ size }
         requires kept_size { All (λ m. m.object ≡ object → m.size ≡ size) (contents_of self.old) }
         ensures answers { IfOk result (λ outcome. Answers ByNext self.old self.new object size next outcome) }

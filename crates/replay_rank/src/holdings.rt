@@ -34,20 +34,20 @@ impl<X> Model for Holdings<X> {
     ghost view = { λ h. pairs_from 0 h.cells.items };
 }
 
-// Makes a cell for each object, if there is none for this one.
+// Makes a cell for this object, if there is none, and then for each of the objects.
 fn make_cells<X: Copy>(
     cells: &mut Vec<Held<X>>,
     objects: u32,
     object: u32,
     none: Held<X>,
 ) -> Result<(), NoMemory>
-    requires known { object < objects }
     requires none { none.size ≡ 0 }
     ensures same { pairs_from 0 cells.new.items ≡ pairs_from 0 cells.old.items }
     ensures room { OnOk result (object < length cells.new.items) }
 {
-    if cells.len() <= object as usize {
-        cells.resize(objects as usize, none)?;
+    let needed = object as usize + 1;
+    if cells.len() < needed {
+        cells.resize(needed.max(objects as usize), none)?;
     }
     Ok(())
 }
@@ -66,6 +66,7 @@ impl<X: Copy> Holdings<X> {
     pub(crate) fn get(&self, object: u32) -> Option<Held<X>>
         ensures found { result ≡ lookup (is_at (nat_cmp object)) self.now }
         ensures size { IfSome result (λ held. 1 ≤ held.size) }
+        ensures is_ordered { IsStrictlySortedBy nat_cmp (keys_of self.now) }
     {
         let cell = object as usize;
         if cell >= self.cells.len() {
@@ -78,9 +79,8 @@ impl<X: Copy> Holdings<X> {
         Some(held)
     }
 
-    /// Puts in one of this many objects. It takes memory with the first.
+    /// Puts in an object. It takes memory for this many objects with the first.
     pub(crate) fn put(&mut self, objects: u32, object: u32, held: Held<X>) -> Result<(), NoMemory>
-        requires known { object < objects }
         requires size { 1 ≤ held.size }
         ensures put { OnOk result (self.new ≡ insert_entry nat_cmp self.old object held) }
         ensures stays { OnErr result (self.new ≡ self.old) }

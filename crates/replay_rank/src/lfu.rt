@@ -119,7 +119,6 @@ fn put(
     object: u32,
     held: Held<Uses>,
 ) -> Result<(), NoMemory>
-    requires known { object < objects }
     requires absent { has_entry (entries_of holdings.old) object ≡ false }
     requires size { 1 ≤ held.size }
     requires ordered { AreOrdered holdings.old (heap_items order.old) }
@@ -207,7 +206,6 @@ impl Lfu {
 
     // One request, as the rule says.
     fn ask(&mut self, object: u32, size: u64) -> Result<Outcome, NoMemory>
-        requires known { object < self.old.objects }
         requires size { 1 ≤ size }
         requires kept_size { All (λ m. m.object ≡ object → m.size ≡ size) (contents_of self.old) }
         ensures answers { IfOk result (λ outcome. (next : Option ℕ) → Answers ByCount self.old self.new object size next outcome) }
