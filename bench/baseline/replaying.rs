@@ -4,7 +4,7 @@
 //! hasher, keeps the number and the next request of each request, and replays the policy over them. It prints what
 //! `bound_cli replay` prints. `lru`, `fifo`, `clock` and `sieve` are lists linked by index, and their entries are found by
 //! an array over the objects (`array`) or by a HashMap (`map`). `s3fifo` has queues that are linked in an array over the
-//! objects (`array`). `lfu`, `belady`, `gdsf` and `lfuda` keep entries in a binary heap with an array of places (`heap`);
+//! objects (`array`). `lfu`, `belady`, `gdsf`, `lfuda` and `gdsf98` keep entries in a binary heap with an array of places (`heap`);
 //! `lfu` and `belady` also their order in a BTreeSet and their entries in a BTreeMap (`tree`). `replaying TRACE` only reads
 //! and numbers.
 mod lines;
@@ -152,14 +152,16 @@ fn replay_by(trace: &Trace, capacity: u64, policy: &str, way: &str) -> Option<(u
                 },
             ))
         }
-        ("gdsf" | "lfuda", "heap") => {
+        ("gdsf" | "lfuda" | "gdsf98", "heap") => {
             let aging = Aging {
                 capacity,
                 used,
-                by_size: policy == "gdsf",
+                by_size: policy != "lfuda",
+                admits: policy == "gdsf98",
                 floor: 0,
                 counts: vec![0; objects],
                 order: Heap::new(objects),
+                aside: Vec::new(),
             };
             Some(replay(trace, aging))
         }
