@@ -12,7 +12,7 @@ use compared::same;
 use hit_judge::{Claimed, Impossible, judge};
 use replay_core::{Outcome, Policy, replay};
 use replay_queues::{S3Fifo, Sieve};
-use replay_rank::{Belady, Gdsf, Lfu, Lfuda};
+use replay_rank::{Belady, Gdsf, Gdsf98, Lfu, Lfuda};
 use replay_recency::{Clock, Fifo, Lru};
 use std::alloc::Global;
 use std::process::Abort;
@@ -111,6 +111,8 @@ fn check_each(rt: &impl Abort, alloc: Global, trace: &Trace, capacity: u64) {
     check_hits(rt, alloc, trace, capacity, gdsf);
     let lfuda = Lfuda::new(alloc, capacity, objects).expect(rt, "memory");
     check_hits(rt, alloc, trace, capacity, lfuda);
+    let gdsf98 = Gdsf98::new(alloc, capacity, objects).expect(rt, "memory");
+    check_hits(rt, alloc, trace, capacity, gdsf98);
 }
 
 #[test]

@@ -13,6 +13,8 @@ mod replay_core_counting;
 #[cfg(test)]
 mod replay_core_idle;
 #[cfg(test)]
+mod replay_rank_gdsf98;
+#[cfg(test)]
 mod rows;
 #[cfg(test)]
 mod simulations;

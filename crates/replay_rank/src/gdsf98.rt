@@ -36,6 +36,7 @@ pub struct Gdsf98 {
     left: Left,
     holdings: Holdings<Ranked>,
     order: Items,
+    // The entries that this request has set aside, which are out of the holdings and the order.
     aside: Vec<(u32, Held<Ranked>)>,
 }
 
@@ -102,8 +103,8 @@ fn take_least(
     None
 }
 
-// Sets aside the entries of the least ranks until this many bytes fit, as long as no rank is above the most. The floor
-// rises to the rank of each.
+// Sets aside the entries of the least ranks until this many bytes fit, as long as their ranks are at most this one. The
+// floor rises to the rank of each.
 fn set_aside(
     holdings: &mut Holdings<Ranked>,
     order: &mut Items,
@@ -137,8 +138,8 @@ fn set_aside(
     Ok(())
 }
 
-// Puts in again what was set aside.
-fn put_aside_in(
+// Puts in again what was set aside, the last of it first.
+fn restore(
     holdings: &mut Holdings<Ranked>,
     order: &mut Items,
     aside: &mut Vec<(u32, Held<Ranked>)>,
@@ -211,7 +212,7 @@ impl Gdsf98 {
             self.left.used += size;
             return Ok(());
         }
-        put_aside_in(
+        restore(
             &mut self.holdings,
             &mut self.order,
             &mut self.aside,

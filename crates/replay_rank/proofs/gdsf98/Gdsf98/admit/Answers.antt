@@ -81,8 +81,8 @@ returns-then-self-size-clause-admits c =
     subst (λ (old : Kept). keeping c.self.inside.objects c.self.inside.capacity c.self.inside.requests c.set_aside.new.left.floor (entries_of c.put.new.holdings) ≡ admitted_kept old c.args.object c.args.size) c.self.view_is
     (admits c.self.inside.objects c.self.inside.capacity c.self.inside.requests c.self.inside.left.floor c.self.inside.left.used c.self.inside.holdings (heap_items c.self.inside.order) c.self.invariant c.args.object c.args.size c.set_aside.new.left.floor c.set_aside.new.left.used c.set_aside.new.holdings c.set_aside.new.aside.items sets c.put.new.holdings (c.in_ok-put.ensures.entries ∙ ap (λ (e : Entry). put_in e (entries_of c.set_aside.new.holdings)) entry_is) low c.if-self-size.true)
 
-pub invariant_of-self-in_err-put_aside_in : goal.invariant_of-self-in_err-put_aside_in
-invariant_of-self-in_err-put_aside_in c =
+pub invariant_of-self-in_err-restore : goal.invariant_of-self-in_err-restore
+invariant_of-self-in_err-restore c =
     let own : Entry = ranked_entry Gdsf98 c.self.inside.left.floor c.self.inside.requests c.args.object c.args.size in
     let entry_is : entry_of (c.args.object, c.enter-ranked.result) ≡ own = c.enter-ranked.ensures.entry Hits c.args.object c.worth.ensures in
     let rank_is : c.enter-ranked.result.kept.rank ≡ own.rank = ap (λ (e : Entry). e.rank) entry_is in
@@ -90,18 +90,18 @@ invariant_of-self-in_err-put_aside_in c =
     subst (λ n. SetsAside n c.self.inside.left.floor c.set_aside.new.left.floor c.self.inside.capacity c.args.size c.set_aside.new.left.used c.self.inside.holdings c.set_aside.new.holdings c.set_aside.new.aside.items) rank_is c.in_ok-set_aside.ensures.aside in
     let low : c.set_aside.new.left.floor ≤ own.rank = subst (λ n. c.set_aside.new.left.floor ≤ n) rank_is c.set_aside.ensures.low in
     let most : own.rank ≤ 2 ^ 127 = own-low c.self.inside.objects c.self.inside.capacity c.self.inside.requests c.self.inside.left.floor c.self.inside.left.used c.self.inside.holdings (heap_items c.self.inside.order) c.self.invariant c.args.object c.args.size in
-    part-admitting c.self.inside.objects c.self.inside.capacity c.self.inside.requests c.self.inside.left.floor c.self.inside.left.used c.self.inside.holdings (heap_items c.self.inside.order) c.self.invariant c.set_aside.new.left.floor c.put_aside_in.new.in_use c.put_aside_in.new.holdings (heap_items c.put_aside_in.new.order) (omega arith) c.put_aside_in.ensures.in_use (subst (IsPart (entries_of c.put_aside_in.new.holdings)) sets.again c.put_aside_in.ensures.part) c.put_aside_in.ensures.ordered
+    part-admitting c.self.inside.objects c.self.inside.capacity c.self.inside.requests c.self.inside.left.floor c.self.inside.left.used c.self.inside.holdings (heap_items c.self.inside.order) c.self.invariant c.set_aside.new.left.floor c.restore.new.in_use c.restore.new.holdings (heap_items c.restore.new.order) (omega arith) c.restore.ensures.in_use (subst (IsPart (entries_of c.restore.new.holdings)) sets.again c.restore.ensures.part) c.restore.ensures.ordered
 
-pub returns-in_err-put_aside_in-clause-gives_up : goal.returns-in_err-put_aside_in-clause-gives_up
-returns-in_err-put_aside_in-clause-gives_up c =
+pub returns-in_err-restore-clause-gives_up : goal.returns-in_err-restore-clause-gives_up
+returns-in_err-restore-clause-gives_up c =
     let own : Entry = ranked_entry Gdsf98 c.self.inside.left.floor c.self.inside.requests c.args.object c.args.size in
     let entry_is : entry_of (c.args.object, c.enter-ranked.result) ≡ own = c.enter-ranked.ensures.entry Hits c.args.object c.worth.ensures in
     let rank_is : c.enter-ranked.result.kept.rank ≡ own.rank = ap (λ (e : Entry). e.rank) entry_is in
     let sets : SetsAside own.rank c.self.inside.left.floor c.set_aside.new.left.floor c.self.inside.capacity c.args.size c.set_aside.new.left.used c.self.inside.holdings c.set_aside.new.holdings c.set_aside.new.aside.items =
     subst (λ n. SetsAside n c.self.inside.left.floor c.set_aside.new.left.floor c.self.inside.capacity c.args.size c.set_aside.new.left.used c.self.inside.holdings c.set_aside.new.holdings c.set_aside.new.aside.items) rank_is c.in_ok-set_aside.ensures.aside in
-    MatchResult-from_err c.from_residual-in_err-put_aside_in.result (λ _. ⊤) (λ _. GivesUp c.args.self.now (keeping c.self.inside.objects c.self.inside.capacity c.self.inside.requests c.set_aside.new.left.floor (entries_of c.put_aside_in.new.holdings))) c.from_residual-in_err-put_aside_in.ensures.0
-    (λ _. subst (λ (old : Kept). GivesUp old (keeping c.self.inside.objects c.self.inside.capacity c.self.inside.requests c.set_aside.new.left.floor (entries_of c.put_aside_in.new.holdings))) c.self.view_is
-    (part-gives c.self.inside.objects c.self.inside.capacity c.self.inside.requests c.self.inside.left.floor c.self.inside.left.used c.self.inside.holdings (heap_items c.self.inside.order) c.self.invariant c.set_aside.new.left.floor (entries_of c.put_aside_in.new.holdings) (subst (IsPart (entries_of c.put_aside_in.new.holdings)) sets.again c.put_aside_in.ensures.part)))
+    MatchResult-from_err c.from_residual-in_err-restore.result (λ _. ⊤) (λ _. GivesUp c.args.self.now (keeping c.self.inside.objects c.self.inside.capacity c.self.inside.requests c.set_aside.new.left.floor (entries_of c.restore.new.holdings))) c.from_residual-in_err-restore.ensures.0
+    (λ _. subst (λ (old : Kept). GivesUp old (keeping c.self.inside.objects c.self.inside.capacity c.self.inside.requests c.set_aside.new.left.floor (entries_of c.restore.new.holdings))) c.self.view_is
+    (part-gives c.self.inside.objects c.self.inside.capacity c.self.inside.requests c.self.inside.left.floor c.self.inside.left.used c.self.inside.holdings (heap_items c.self.inside.order) c.self.invariant c.set_aside.new.left.floor (entries_of c.restore.new.holdings) (subst (IsPart (entries_of c.restore.new.holdings)) sets.again c.restore.ensures.part)))
 
 pub returns-clause-admits : goal.returns-clause-admits
 returns-clause-admits c =
@@ -110,5 +110,5 @@ returns-clause-admits c =
     let rank_is : c.enter-ranked.result.kept.rank ≡ own.rank = ap (λ (e : Entry). e.rank) entry_is in
     let sets : SetsAside own.rank c.self.inside.left.floor c.set_aside.new.left.floor c.self.inside.capacity c.args.size c.set_aside.new.left.used c.self.inside.holdings c.set_aside.new.holdings c.set_aside.new.aside.items =
     subst (λ n. SetsAside n c.self.inside.left.floor c.set_aside.new.left.floor c.self.inside.capacity c.args.size c.set_aside.new.left.used c.self.inside.holdings c.set_aside.new.holdings c.set_aside.new.aside.items) rank_is c.in_ok-set_aside.ensures.aside in
-    subst (λ (old : Kept). keeping c.self.inside.objects c.self.inside.capacity c.self.inside.requests c.self.inside.left.floor (entries_of c.put_aside_in.new.holdings) ≡ admitted_kept old c.args.object c.args.size) c.self.view_is
-    (refuses c.self.inside.objects c.self.inside.capacity c.self.inside.requests c.self.inside.left.floor c.self.inside.left.used c.self.inside.holdings (heap_items c.self.inside.order) c.self.invariant c.args.object c.args.size c.set_aside.new.left.floor c.set_aside.new.left.used c.set_aside.new.holdings c.set_aside.new.aside.items sets (entries_of c.put_aside_in.new.holdings) c.in_ok-put_aside_in.ensures.all c.if-self-size.false)
+    subst (λ (old : Kept). keeping c.self.inside.objects c.self.inside.capacity c.self.inside.requests c.self.inside.left.floor (entries_of c.restore.new.holdings) ≡ admitted_kept old c.args.object c.args.size) c.self.view_is
+    (refuses c.self.inside.objects c.self.inside.capacity c.self.inside.requests c.self.inside.left.floor c.self.inside.left.used c.self.inside.holdings (heap_items c.self.inside.order) c.self.invariant c.args.object c.args.size c.set_aside.new.left.floor c.set_aside.new.left.used c.set_aside.new.holdings c.set_aside.new.aside.items sets (entries_of c.restore.new.holdings) c.in_ok-restore.ensures.all c.if-self-size.false)

@@ -6,7 +6,7 @@ use Rattle.policy_model.proofs.Parts.{IsPart}
 use Rattle.replay_rank.specs.AgingEntries.{entry_of, entries_of}
 use Rattle.replay_rank.specs.AdmittedEntries.{put_again}
 use Rattle.replay_rank.proofs.AdmittedOrdered.{again-pushed, whole-part, sizes-popped, last-absent, last-used}
-use Rattle.replay_rank.proofs.gdsf98.put_aside_in.Goals as goal
+use Rattle.replay_rank.proofs.gdsf98.restore.Goals as goal
 
 -- all, by what the last turn began with
 whole : (c : goal.After-put-arg-in-Some-1) → put_again (c.pop.new.self.items ++ (c.in-Some.object, c.in-Some.held) ∷ []) (entries_of c.loop-object.holdings) ≡ put_again c.args.aside.now.items (entries_of c.args.holdings.now)

@@ -3,7 +3,7 @@ use Rattle.std.specs.List.{AllByRecursion}
 use Rattle.policy_model.specs.States.{used}
 use Rattle.replay_rank.specs.AgingEntries.{entries_of, AreOrdered}
 use Rattle.replay_rank.specs.AdmittedEntries.{put_again}
-use Rattle.replay_rank.proofs.gdsf98.put_aside_in.Given as goal
+use Rattle.replay_rank.proofs.gdsf98.restore.Given as goal
 
 abbrev pub invariant-loop-object : goal.invariant-loop-object
 invariant-loop-object l = record {
