@@ -213,6 +213,18 @@ module _ (nodes : List Node) (places : List ℕ) (none : ℕ) (w p t : Load) (nu
       ∙ or_from _ _ (entries-among nodes (window_of none numbers) k ∙ a)
       (has_entry-append (es (probation_of none numbers)) (es (protected_of none numbers)) k ∙ or_from _ _ (entries-among nodes (probation_of none numbers) k ∙ b) (entries-among nodes (protected_of none numbers) k ∙ c))
 
+  -- what is no object is in no queue
+  beyond : (k : ℕ) (part : List ℕ) → none ≤ k → (is_among part k ≡ true → k < none) → is_among part k ≡ false
+  beyond k part high low = at (is_among part k) refl
+    where
+      at : (b : Bool) → is_among part k ≡ b → is_among part k ≡ false
+      at true is = absurd (let less : k < none = low is in omega arith)
+      at false is = is
+
+  pub none-beyond : (k : ℕ) → none ≤ k → has_entry (segment_entries (queues_at nodes none numbers).segments) k ≡ false
+  none-beyond k high =
+      no_entry k (beyond k (window_of none numbers) high (window-low k)) (beyond k (probation_of none numbers) high (probation-low k)) (beyond k (protected_of none numbers) high (protected-low k))
+
 -- ---- one is put in
 module _ (old noted new : List Node) (places : List ℕ) (none : ℕ) (w p t : Load) (numbers : List ℕ) (kept : IsKept old places none w p t numbers) (k size : ℕ) (low : k < none)
     (absent : has_entry (segment_entries (queues_at old none numbers).segments) k ≡ false) (notes : Notes old noted k size) where
