@@ -15,6 +15,7 @@ use replay_core::{Policy, Replay, replay};
 use replay_queues::{S3Fifo, Sieve};
 use replay_rank::{Belady, Gdsf, Lfu, Lfuda};
 use replay_recency::{Clock, Fifo, Lru};
+use replay_tinylfu::WTinyLfu;
 use std::alloc::Global;
 use trace_any::Format;
 
@@ -103,6 +104,13 @@ fn replay_lfuda(alloc: Global, trace: &Trace, r: ReplaySettings) -> Result<Repla
     bounded_replay(alloc, trace, r.warmup, &mut policy)
 }
 
+fn replay_wtinylfu(alloc: Global, trace: &Trace, r: ReplaySettings) -> Result<Replay, NoMemory>
+    ensures { IfOk result (IsReplay PolicyName.WTinyLfu r.capacity r.warmup trace.now) }
+{
+    let mut policy = WTinyLfu::new(alloc, r.capacity, trace.objects())?;
+    bounded_replay(alloc, trace, r.warmup, &mut policy)
+}
+
 /// The replay of a policy.
 pub(crate) fn replay_by(alloc: Global, trace: &Trace, r: ReplaySettings) -> Result<Replay, NoMemory>
     ensures { IfOk result (IsReplay r.policy r.capacity r.warmup trace.now) }
@@ -117,6 +125,7 @@ pub(crate) fn replay_by(alloc: Global, trace: &Trace, r: ReplaySettings) -> Resu
         PolicyName::S3Fifo => replay_s3fifo(alloc, trace, r),
         PolicyName::Gdsf => replay_gdsf(alloc, trace, r),
         PolicyName::Lfuda => replay_lfuda(alloc, trace, r),
+        PolicyName::WTinyLfu => replay_wtinylfu(alloc, trace, r),
     }
 }
 

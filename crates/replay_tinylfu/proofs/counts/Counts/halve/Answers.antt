@@ -1,4 +1,4 @@
-use Rattle.std.proofs.Common.{◌≡◌, ℕ, ◌+◌, ◌/◌, ◌∙◌, sym, ap, subst, List, length, map}
+use Rattle.std.proofs.Common.{◌≡◌, ℕ, ◌+◌, ◌/◌, ◌∙◌, ap, List, length, map}
 use Rattle.replay_tinylfu.specs.declared.counts.Counts.TheInside.{Inside}
 use Rattle.replay_tinylfu.specs.Counts.{Counted, counts_at, frequencies_at, halve, with_frequencies, AreCounts, AreSettled}
 use Rattle.replay_tinylfu.proofs.CountLemmas.{halved-counts, settled-counts, settled-are}

@@ -1,4 +1,4 @@
-use Rattle.std.proofs.Common.{◌≡◌, ◌∙◌, sym, ap}
+use Rattle.std.proofs.Common.{◌∙◌, sym, ap}
 use Rattle.policy_model.specs.States.{has_entry}
 use Rattle.policy_model.specs.WTinyLfu.{segment_entries}
 use Rattle.replay_tinylfu.specs.Queues.{Queues}

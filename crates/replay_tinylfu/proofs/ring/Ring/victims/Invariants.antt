@@ -1,4 +1,4 @@
-use Rattle.std.proofs.Common.{◌≡◌, ◌<◌, ◌≤◌, ◌-◌, ◌++◌, length}
+use Rattle.std.proofs.Common.{◌<◌, ◌≤◌, ◌-◌, ◌++◌, length}
 use Rattle.replay_tinylfu.specs.Queues.{main_entries, probation_of, protected_of}
 use Rattle.replay_tinylfu.specs.Loads.{numbers_of}
 use Rattle.replay_tinylfu.proofs.WalkLemmas.{IsWalk}

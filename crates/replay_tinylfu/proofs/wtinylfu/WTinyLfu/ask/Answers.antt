@@ -1,7 +1,5 @@
-use Rattle.std.proofs.Common.{◌≡◌, ℕ, ◌≤◌, ◌∙◌, sym, refl, ap, subst, true, false, length, None, All}
-use Rattle.std.specs.declared.option.Option.{Option}
-use Rattle.policy_model.specs.declared.names.PolicyName.TheVariants.{WTinyLfu as ByCount}
-use Rattle.policy_model.specs.States.{Member, has_entry, members_of}
+use Rattle.std.proofs.Common.{◌≡◌, ◌∙◌, sym, refl, ap, subst, true, false, length, None, All}
+use Rattle.policy_model.specs.States.{has_entry, members_of}
 use Rattle.policy_model.specs.WTinyLfu.{Segments, Frequencies, window_part, main_part, protected_part, with_request, hit_in, missed_in, segment_entries}
 use Rattle.replay_core.specs.declared.policy.Outcome.TheVariants.{Hit, Miss}
 use Rattle.replay_core.specs.Keeping.{Kept, contents_of}

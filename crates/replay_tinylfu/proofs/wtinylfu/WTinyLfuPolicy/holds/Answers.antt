@@ -1,4 +1,4 @@
-use Rattle.std.proofs.Common.{◌≡◌, ap, ◌∙◌}
+use Rattle.std.proofs.Common.{ap, ◌∙◌}
 use Rattle.policy_model.specs.States.{has_member}
 use Rattle.policy_model.specs.WTinyLfu.{segment_entries}
 use Rattle.policy_model.proofs.Replays.{has_entry-members}

@@ -1,4 +1,3 @@
-use Rattle.std.proofs.Common.{ℕ}
 use Rattle.policy_model.specs.declared.names.PolicyName.TheVariants.{WTinyLfu as ByCount}
 use Rattle.replay_core.proofs.Kept.{answers-outcome, answers-enters, answers-step, answers-capacity}
 use Rattle.replay_tinylfu.proofs.wtinylfu.WTinyLfuPolicy.request.Goals as goal
