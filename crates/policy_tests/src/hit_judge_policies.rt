@@ -14,6 +14,7 @@ use replay_core::{Outcome, Policy, replay};
 use replay_queues::{S3Fifo, Sieve};
 use replay_rank::{Belady, Gdsf, Gdsf98, Lfu, Lfuda};
 use replay_recency::{Clock, Fifo, Lru};
+use replay_tinylfu::WTinyLfu;
 use std::alloc::Global;
 use std::process::Abort;
 
@@ -113,6 +114,8 @@ fn check_each(rt: &impl Abort, alloc: Global, trace: &Trace, capacity: u64) {
     check_hits(rt, alloc, trace, capacity, lfuda);
     let gdsf98 = Gdsf98::new(alloc, capacity, objects).expect(rt, "memory");
     check_hits(rt, alloc, trace, capacity, gdsf98);
+    let wtinylfu = WTinyLfu::new(alloc, capacity, objects).expect(rt, "memory");
+    check_hits(rt, alloc, trace, capacity, wtinylfu);
 }
 
 #[test]

@@ -1,12 +1,11 @@
 -- Counts that are halved late.
-use Rattle.std.proofs.Common.{◌≡◌, ℕ, zero, suc, ◌+◌, ◌-◌, ◌*◌, ◌/◌, ◌^◌, ◌<◌, ◌≤◌, min, max, ⊎_elim, ◌∙◌, sym, refl, ap, subst, Bool, true, false, cond, eqb, List, [], ◌∷◌, length, map, get_or, set, arith}
-use Rattle.std.specs.List.{range_with_len}
+use Rattle.std.proofs.Common.{◌≡◌, ℕ, zero, suc, ◌+◌, ◌-◌, ◌/◌, ◌^◌, ◌<◌, ◌≤◌, min, max, ⊎_elim, ◌∙◌, sym, refl, ap, Bool, true, false, eqb, List, [], ◌∷◌, length, map, get_or, set, arith}
 use Rattle.std.proofs.lemmas.Bool.{eqb-true, eqb-false, eq-eqb, ne_eqb, cases_lt}
-use Rattle.std.proofs.lemmas.List.{get_or_past, get_or_default, length-set, length-map, ext_get_or, get_or-map}
+use Rattle.std.proofs.lemmas.List.{get_or_past, length-set, length-map, ext_get_or, get_or-map}
 use Rattle.std.proofs.lemmas.List.FromFn.{length-map-range_with_len, get_or-map-range_with_len}
 use Rattle.std.proofs.lemmas.Nat.{pow-add}
 use Rattle.std.proofs.Math.Nat.{div-eq_of_lt, pow-le-pow_right, div-one, div-le_self, div-div-eq-div-mul}
-use Rattle.policy_model.specs.WTinyLfu.{Frequencies, one_more}
+use Rattle.policy_model.specs.WTinyLfu.{one_more}
 use Rattle.replay_queues.proofs.ItemLemmas.{here, other}
 use Rattle.replay_tinylfu.specs.Counts.{count_at, counts_at, AreCounts, AreSettled}
 

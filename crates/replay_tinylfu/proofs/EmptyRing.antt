@@ -3,12 +3,12 @@ use Rattle.std.proofs.Common.{◌≡◌, ⊎_elim, ℕ, ◌+◌, ◌<◌, ◌≤
 use Rattle.std.proofs.lemmas.Bool.{eqb-true, eq-eqb, ne_eqb, or_from, or_left, cases_lt}
 use Rattle.std.proofs.lemmas.List.{length-replicate, get_or-replicate, get_or_past}
 use Rattle.replay_queues.specs.declared.nodes.Node.{Node}
-use Rattle.replay_queues.specs.Rings.{is_among, Distinct, Links, Joins}
+use Rattle.replay_queues.specs.Rings.{is_among, Joins}
 use Rattle.replay_queues.proofs.RingLemmas.{after-here, after-other, before-here, before-other}
 use Rattle.replay_tinylfu.specs.declared.ring.Load.{Load}
 use Rattle.replay_tinylfu.specs.Marks.{up_to, past}
-use Rattle.replay_tinylfu.specs.Queues.{Queues, entries_at, window_of, main_numbers, probation_of, protected_of, queues_by, queues_at, no_entries}
-use Rattle.replay_tinylfu.specs.Loads.{numbers_of, IsRing, ArePlaces, IsLoad, IsKept}
+use Rattle.replay_tinylfu.specs.Queues.{Queues, window_of, main_numbers, probation_of, protected_of, queues_by, queues_at, no_entries}
+use Rattle.replay_tinylfu.specs.Loads.{numbers_of, IsRing, IsLoad, IsKept}
 use Rattle.replay_tinylfu.proofs.KeptLemmas.{numbers-are}
 
 abbrev pub no_load : Load

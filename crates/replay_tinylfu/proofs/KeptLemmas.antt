@@ -1,24 +1,24 @@
 -- The queues of a ring, with what is counted of them, as an object is put in or taken out.
-use Rattle.std.proofs.Common.{◌≡◌, ℕ, zero, suc, ◌+◌, ◌-◌, ◌<◌, ◌≤◌, ◌^◌, ◌∙◌, sym, refl, ap, subst, Bool, true, false, not, ◌||◌, cond, eqb, List, [], ◌∷◌, ◌++◌, length, drop, get_or, set, sum_by, arith}
-use Rattle.std.proofs.lemmas.Bool.{eqb-true, eq-eqb, ne_eqb, eqb-false, or_parts, or_from, or_left, or_right}
+use Rattle.std.proofs.Common.{◌≡◌, ℕ, ◌+◌, ◌-◌, ◌<◌, ◌≤◌, ◌∙◌, sym, refl, ap, subst, Bool, true, false, not, ◌||◌, cond, eqb, List, [], ◌∷◌, ◌++◌, length, get_or, set, sum_by, arith}
+use Rattle.std.proofs.lemmas.Bool.{eqb-true, eq-eqb, ne_eqb, or_parts, or_from, or_right}
 use Rattle.std.proofs.lemmas.List.{length-append, map-append, length-set}
 use Rattle.std.proofs.lemmas.List.Sums.{sum_by-cons, sum_by_push}
 use Rattle.cache_model.proofs.Eligible.{or_false}
 use Rattle.policy_model.proofs.Comparisons.{eqb-sym}
 use Rattle.policy_model.specs.States.{Entry, used, has_entry}
 use Rattle.policy_model.specs.Steps.{without_entry}
-use Rattle.policy_model.specs.WTinyLfu.{Main, Segments, entry_of, segment_entries}
+use Rattle.policy_model.specs.WTinyLfu.{entry_of, segment_entries}
 use Rattle.replay_queues.specs.declared.nodes.Node.{Node}
-use Rattle.replay_queues.specs.Rings.{node_at, is_among, Distinct, Links, Joins, Notes, walk}
-use Rattle.replay_queues.proofs.RingLemmas.{after, before, without, without-none, walked}
+use Rattle.replay_queues.specs.Rings.{is_among, Distinct, Notes, walk}
+use Rattle.replay_queues.proofs.RingLemmas.{after, before, without, walked}
 use Rattle.replay_queues.proofs.GhostAnswers.{size_at, few, sum-without, ones, among-push}
 use Rattle.replay_queues.proofs.ItemLemmas.{here, other, within_cells, has_entry-append}
 use Rattle.replay_tinylfu.specs.declared.ring.Load.{Load}
 use Rattle.replay_tinylfu.specs.Marks.{up_to, past, put_in, PutsBefore}
 use Rattle.replay_tinylfu.specs.Queues.{Queues, plain_entry, entries_at, window_of, main_numbers, probation_of, protected_of, queues_by, queues_at, with_window, with_probation, with_protected}
 use Rattle.replay_tinylfu.specs.Loads.{numbers_of, IsRing, ArePlaces, IsLoad, IsKept}
-use Rattle.replay_tinylfu.proofs.LinkLemmas.{not_second, not_third, not_first, before-within, after-within, last-within, ring-noted, window-less, probation-less, protected-less, ring-less, window-window, window-probation, window-protected, probation-window, probation-probation, probation-protected, protected-window, protected-probation, protected-protected, ring-window, ring-probation, ring-protected}
-use Rattle.replay_tinylfu.proofs.MarkLemmas.{among-up_to, among-past, mark-up_to, mark-past, whole-up_to, whole-past, past-up_to, distinct-up_to, distinct-past, length-parts, among-without, gone-without}
+use Rattle.replay_tinylfu.proofs.LinkLemmas.{ring-noted, window-window, window-probation, window-protected, probation-window, probation-probation, probation-protected, protected-window, protected-probation, protected-protected, ring-window, ring-probation, ring-protected}
+use Rattle.replay_tinylfu.proofs.MarkLemmas.{distinct-up_to, distinct-past, length-parts}
 
 -- ---- the entries of numbers
 pub entries-among : (nodes : List Node) (numbers : List ℕ) (k : ℕ) → has_entry (entries_at nodes numbers) k ≡ is_among numbers k
@@ -212,6 +212,18 @@ module _ (nodes : List Node) (places : List ℕ) (none : ℕ) (w p t : Load) (nu
       has_entry-append (es (window_of none numbers)) (es (probation_of none numbers) ++ es (protected_of none numbers)) k
       ∙ or_from _ _ (entries-among nodes (window_of none numbers) k ∙ a)
       (has_entry-append (es (probation_of none numbers)) (es (protected_of none numbers)) k ∙ or_from _ _ (entries-among nodes (probation_of none numbers) k ∙ b) (entries-among nodes (protected_of none numbers) k ∙ c))
+
+  -- what is no object is in no queue
+  beyond : (k : ℕ) (part : List ℕ) → none ≤ k → (is_among part k ≡ true → k < none) → is_among part k ≡ false
+  beyond k part high low = at (is_among part k) refl
+    where
+      at : (b : Bool) → is_among part k ≡ b → is_among part k ≡ false
+      at true is = absurd (let less : k < none = low is in omega arith)
+      at false is = is
+
+  pub none-beyond : (k : ℕ) → none ≤ k → has_entry (segment_entries (queues_at nodes none numbers).segments) k ≡ false
+  none-beyond k high =
+      no_entry k (beyond k (window_of none numbers) high (window-low k)) (beyond k (probation_of none numbers) high (probation-low k)) (beyond k (protected_of none numbers) high (protected-low k))
 
 -- ---- one is put in
 module _ (old noted new : List Node) (places : List ℕ) (none : ℕ) (w p t : Load) (numbers : List ℕ) (kept : IsKept old places none w p t numbers) (k size : ℕ) (low : k < none)

@@ -1,15 +1,15 @@
 -- The ring of marks and objects, as one is put in or taken out.
-use Rattle.std.proofs.Common.{◌≡◌, ℕ, zero, suc, ◌+◌, ◌-◌, ◌<◌, ◌≤◌, ◌∙◌, sym, refl, ap, subst, Bool, true, false, not, ◌||◌, cond, eqb, List, [], ◌∷◌, ◌++◌, length, arith}
-use Rattle.std.proofs.lemmas.Bool.{eqb-true, eq-eqb, ne_eqb, or_parts, or_from, or_left, or_right}
+use Rattle.std.proofs.Common.{◌≡◌, ℕ, suc, ◌+◌, ◌<◌, ◌∙◌, sym, refl, ap, subst, Bool, true, false, ◌||◌, cond, eqb, List, [], ◌∷◌, ◌++◌, length, arith}
+use Rattle.std.proofs.lemmas.Bool.{eqb-true, ne_eqb, or_parts}
 use Rattle.policy_model.proofs.Comparisons.{eqb-sym}
 use Rattle.replay_queues.specs.declared.nodes.Node.{Node}
-use Rattle.replay_queues.specs.Rings.{node_at, is_among, Distinct, Links, Joins, Notes}
+use Rattle.replay_queues.specs.Rings.{is_among, Distinct, Links, Joins, Notes}
 use Rattle.replay_queues.proofs.RingLemmas.{after, before, without, differs, Links-same, Links-other, after-here, after-other, before-here, before-other, before-among, after-among, last-beside, takes_last, goes_on, taken_out}
 use Rattle.replay_queues.proofs.GhostAnswers.{distinct-without, more-among}
 use Rattle.replay_tinylfu.specs.Marks.{up_to, past, put_in, PutsBefore}
 use Rattle.replay_tinylfu.specs.Queues.{window_of, main_numbers, probation_of, protected_of}
 use Rattle.replay_tinylfu.specs.Loads.{IsRing}
-use Rattle.replay_tinylfu.proofs.MarkLemmas.{among-up_to, among-past, mark-up_to, mark-past, whole-up_to, whole-past, past-up_to, distinct-past, among-put, among-kept, distinct-put, put-last, up_to-put, past-put, up_to-later, past-later, up_to-without, past-without, among-without}
+use Rattle.replay_tinylfu.proofs.MarkLemmas.{among-up_to, among-past, whole-past, past-up_to, among-put, among-kept, distinct-put, put-last, up_to-put, past-put, up_to-later, past-later, up_to-without, past-without, among-without}
 
 -- a node is put before a mark that is there
 pub Links-put : (old new : List Node) (k mark : ℕ) (puts : PutsBefore old new k mark) (first : ℕ) (numbers : List ℕ) (last : ℕ)

@@ -1,10 +1,9 @@
 -- Numbers that marks cut into parts, as one is put in or taken out.
-use Rattle.std.proofs.Common.{◌≡◌, ℕ, zero, suc, ◌+◌, ◌∙◌, sym, refl, ap, Bool, true, false, not, ◌||◌, ◌&&◌, cond, eqb, List, [], ◌∷◌, ◌++◌, length, filter, arith}
-use Rattle.std.proofs.lemmas.Bool.{eqb-true, eq-eqb, or_parts, or_from, or_left, or_right, cond_both}
+use Rattle.std.proofs.Common.{◌≡◌, ℕ, ◌+◌, ◌∙◌, sym, refl, ap, Bool, true, false, not, ◌||◌, cond, eqb, List, [], ◌∷◌, ◌++◌, length, arith}
+use Rattle.std.proofs.lemmas.Bool.{eqb-true, or_parts, or_from, or_left, or_right, cond_both}
 use Rattle.policy_model.proofs.Comparisons.{eqb-sym}
 use Rattle.replay_queues.specs.Rings.{is_among, Distinct}
-use Rattle.replay_queues.proofs.RingLemmas.{without, without-none}
-use Rattle.replay_queues.proofs.GhostAnswers.{less-among}
+use Rattle.replay_queues.proofs.RingLemmas.{without}
 use Rattle.replay_tinylfu.specs.Marks.{up_to, past, put_in}
 
 -- ---- what is among a part

@@ -1,15 +1,15 @@
 -- What a hit and a miss change in the queues, step by step.
-use Rattle.std.proofs.Common.{◌≡◌, ℕ, zero, suc, ◌+◌, ◌-◌, ◌<◌, ◌≤◌, ◌∙◌, sym, refl, ap, subst, ⊎_elim, Bool, true, false, not, ◌||◌, ◌&&◌, cond, eqb, leb, ltb, List, [], ◌∷◌, ◌++◌, length, drop, get_or, arith}
-use Rattle.std.proofs.lemmas.Bool.{eqb-true, eq-eqb, ne_eqb, or_parts, or_from, or_left, lt-leb, le-leb, lt-ltb, le-ltb, cases_lt, cond_both}
+use Rattle.std.proofs.Common.{◌≡◌, ℕ, zero, suc, ◌+◌, ◌-◌, ◌<◌, ◌≤◌, ◌∙◌, sym, refl, ap, Bool, true, false, ◌||◌, ◌&&◌, cond, eqb, leb, ltb, List, [], ◌∷◌, ◌++◌, length, drop, get_or, arith}
+use Rattle.std.proofs.lemmas.Bool.{eq-eqb, ne_eqb, or_parts, or_from, lt-leb, le-leb, lt-ltb, le-ltb, cond_both}
 use Rattle.std.proofs.lemmas.List.{length-append, length-drop, drop-drop}
 use Rattle.std.proofs.Math.ListN.{drop_of_length-le}
-use Rattle.std.proofs.lemmas.List.Sums.{sum_by-cons, sum_by-append, sum_by_push}
+use Rattle.std.proofs.lemmas.List.Sums.{sum_by-cons}
 use Rattle.policy_model.specs.States.{Entry, used, has_entry}
 use Rattle.policy_model.specs.Steps.{without_entry}
-use Rattle.policy_model.specs.WTinyLfu.{Main, Segments, main_used, entry_of, to_back, demote, hit_main, hit_in, without_first, on_probation, first_with, victims, count_of, admit, spill, missed_in, segment_entries}
+use Rattle.policy_model.specs.WTinyLfu.{Main, Segments, main_used, entry_of, demote, without_first, on_probation, first_with, victims, count_of, admit, spill, segment_entries}
 use Rattle.policy_model.proofs.WTinyLfuSound.{weight-apart}
 use Rattle.replay_queues.proofs.ItemLemmas.{has_entry-append}
-use Rattle.replay_tinylfu.specs.Queues.{Queues, plain_entry, with_main, with_segments, main_entries}
+use Rattle.replay_tinylfu.specs.Queues.{Queues, plain_entry}
 
 -- ---- entries that are dropped
 pub none-drop : (k n : ℕ) (entries : List Entry) → has_entry entries k ≡ false → has_entry (drop n entries) k ≡ false

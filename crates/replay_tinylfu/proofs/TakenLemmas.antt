@@ -1,8 +1,8 @@
 -- The queues of a ring, as an object is taken out.
-use Rattle.std.proofs.Common.{◌≡◌, ℕ, zero, suc, ◌+◌, ◌-◌, ◌<◌, ◌≤◌, ◌∙◌, sym, refl, ap, subst, Bool, true, false, not, ◌||◌, cond, eqb, List, [], ◌∷◌, ◌++◌, length, drop, get_or, set, arith}
+use Rattle.std.proofs.Common.{◌≡◌, ℕ, ◌+◌, ◌-◌, ◌<◌, ◌≤◌, ◌∙◌, sym, refl, ap, subst, Bool, true, false, not, ◌||◌, cond, eqb, List, [], ◌∷◌, length, drop, get_or, set, arith}
 use Rattle.std.proofs.lemmas.Bool.{eqb-true, eq-eqb, or_left}
 use Rattle.std.proofs.lemmas.List.{length-set}
-use Rattle.policy_model.specs.States.{Entry, used, has_entry}
+use Rattle.policy_model.specs.States.{Entry, has_entry}
 use Rattle.policy_model.specs.Steps.{without_entry}
 use Rattle.policy_model.specs.WTinyLfu.{entry_of, segment_entries}
 use Rattle.replay_queues.specs.declared.nodes.Node.{Node}
@@ -11,10 +11,10 @@ use Rattle.replay_queues.proofs.RingLemmas.{after, before, without, without-none
 use Rattle.replay_queues.proofs.GhostAnswers.{size_at}
 use Rattle.replay_tinylfu.specs.declared.ring.Load.{Load}
 use Rattle.replay_tinylfu.specs.Marks.{up_to, past}
-use Rattle.replay_tinylfu.specs.Queues.{Queues, plain_entry, entries_at, window_of, main_numbers, probation_of, protected_of, queues_by, queues_at, with_window, with_probation, with_protected}
-use Rattle.replay_tinylfu.specs.Loads.{IsRing, ArePlaces, IsLoad, IsKept}
+use Rattle.replay_tinylfu.specs.Queues.{Queues, plain_entry, entries_at, window_of, main_numbers, probation_of, protected_of, queues_at, with_window, with_probation, with_protected}
+use Rattle.replay_tinylfu.specs.Loads.{IsRing, IsLoad, IsKept}
 use Rattle.replay_tinylfu.proofs.MarkLemmas.{whole-up_to, whole-past, among-without, gone-without}
-use Rattle.replay_tinylfu.proofs.LinkLemmas.{before-within, after-within, window-less, probation-less, protected-less, ring-less}
+use Rattle.replay_tinylfu.proofs.LinkLemmas.{window-less, probation-less, protected-less, ring-less}
 use Rattle.replay_tinylfu.proofs.KeptLemmas.{entries-same, entries-without, entry-one, place-set, load-same, load-less, load-has, apart-window, apart-probation, apart-protected, window-low, probation-low, protected-low, apart-place, no_entry}
 
 -- what follows a mark

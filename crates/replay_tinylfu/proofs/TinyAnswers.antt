@@ -1,10 +1,9 @@
 -- What W-TinyLFU answers, by its segments.
-use Rattle.std.proofs.Common.{◌≡◌, ℕ, ◌+◌, ◌-◌, ◌*◌, ◌^◌, ◌<◌, ◌≤◌, ◌∙◌, sym, refl, ap, subst, true, false, min, List, [], ◌∷◌, ◌++◌, length, take, drop, None, All, arith}
+use Rattle.std.proofs.Common.{◌≡◌, ℕ, ◌+◌, ◌-◌, ◌^◌, ◌<◌, ◌≤◌, ◌∙◌, sym, refl, ap, subst, true, false, min, List, ◌++◌, length, take, drop, None, All, arith}
 use Rattle.std.specs.declared.option.Option.{Option}
 use Rattle.std.proofs.Math.Seq.{take-append_seam, drop-append_seam}
-use Rattle.std.proofs.lemmas.List.Sums.{sum_by-append}
 use Rattle.policy_model.specs.declared.names.PolicyName.TheVariants.{WTinyLfu}
-use Rattle.policy_model.specs.States.{Entry, Beside, Stock, State, used, has_entry, members_of, IsFit}
+use Rattle.policy_model.specs.States.{Entry, Stock, State, used, has_entry, members_of, IsFit}
 use Rattle.policy_model.specs.Steps.{served}
 use Rattle.policy_model.specs.WTinyLfu.{Main, Segments, Frequencies, window_part, main_part, protected_part, with_request, hit_in, missed_in, main_used, main_of, segments_of, segment_entries, stock_of_segments}
 use Rattle.policy_model.proofs.WTinyLfuSound.{IsShared, shared_segments}

@@ -1,5 +1,5 @@
 -- Counts that are halved when they are looked at again.
-use Rattle.std.specs.Prelude.{◌≡◌, ℕ, ◌+◌, ◌-◌, ◌/◌, ◌<◌, ◌≤◌, ◌^◌, List, [], length, map, slice_index}
+use Rattle.std.specs.Prelude.{◌≡◌, ℕ, ◌-◌, ◌/◌, ◌≤◌, ◌^◌, List, [], length, map, slice_index}
 use Rattle.std.specs.List.{range_with_len}
 use Rattle.policy_model.specs.WTinyLfu.{Frequencies}
 

@@ -104,14 +104,7 @@ fn spill(ring: &mut Ring, counts: &Counts, window: u64, most: u64)
 }
 
 /// A miss of an object within the capacity, where the window and the main part may have these bytes.
-pub(crate) fn miss(
-    ring: &mut Ring,
-    counts: &Counts,
-    window: u64,
-    most: u64,
-    object: u32,
-    size: u64,
-)
+pub(crate) fn miss(ring: &mut Ring, counts: &Counts, window: u64, most: u64, object: u32, size: u64)
     requires known { object < ring.old.objects }
     requires counted { ring.old.objects ≤ counts.now.objects }
     requires absent { has_entry (segment_entries ring.old.segments) object ≡ false }

@@ -98,7 +98,11 @@ fn next_but(nodes: &Vec<Node>, node: u32, mark: u32) -> u32
     ensures { result ≡ follow nodes.now.items mark node }
 {
     let next = nodes[node as usize].after;
-    if next == mark { nodes[mark as usize].after } else { next }
+    if next == mark {
+        nodes[mark as usize].after
+    } else {
+        next
+    }
 }
 
 impl Ring {
@@ -144,9 +148,11 @@ impl Ring {
     /// Whether an object stands in one of the queues.
     #[inline(always)]
     pub(crate) fn holds(&self, object: u32) -> bool
-        requires { object < self.now.objects }
         ensures { result ≡ has_entry (segment_entries self.now.segments) object }
     {
+        if object >= self.objects {
+            return false;
+        }
         let place = self.place(object);
         place == WINDOW || place == PROBATION || place == PROTECTED
     }

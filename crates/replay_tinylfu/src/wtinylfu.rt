@@ -128,7 +128,7 @@ impl Policy for WTinyLfu {
     }
 
     fn holds(&self, object: u32) -> bool {
-        object < self.objects && self.ring.holds(object)
+        self.ring.holds(object)
     }
 
     fn request(

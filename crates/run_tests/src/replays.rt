@@ -129,13 +129,31 @@ const THIRD_REPLAYS: [Row<'static>; 4] = [
     },
 ];
 
-const FOURTH_REPLAYS: [Row<'static>; 2] = [
+const FOURTH_REPLAYS: [Row<'static>; 4] = [
     Row {
         shows: "sizes by LFUDA",
         words: "replay t format=webcache capacity=10 policy=lfuda",
         trace: TODAY_TRACE,
         report: Text(
             b"trace requests 12 objects 4 dropped 0\npolicy lfuda capacity 10\nhits 4 bytes 19\n",
+        ),
+        ..LRU
+    },
+    Row {
+        shows: "sizes by GDSF of 1998",
+        words: "replay t format=webcache capacity=10 policy=gdsf98",
+        trace: TODAY_TRACE,
+        report: Text(
+            b"trace requests 12 objects 4 dropped 0\npolicy gdsf98 capacity 10\nhits 6 bytes 24\n",
+        ),
+        ..LRU
+    },
+    Row {
+        shows: "sizes by W-TinyLFU",
+        words: "replay t format=webcache capacity=10 policy=wtinylfu",
+        trace: TODAY_TRACE,
+        report: Text(
+            b"trace requests 12 objects 4 dropped 0\npolicy wtinylfu capacity 10\nhits 6 bytes 24\n",
         ),
         ..LRU
     },

@@ -1,4 +1,4 @@
-use Rattle.std.proofs.Common.{◌≡◌, ℕ, ◌+◌, ◌-◌, ◌/◌, ◌^◌, ◌<◌, ◌≤◌, ◌∙◌, sym, refl, ap, length, get_or, arith}
+use Rattle.std.proofs.Common.{◌≡◌, ℕ, ◌-◌, ◌/◌, ◌^◌, ◌<◌, ◌≤◌, ◌∙◌, refl, ap, length, get_or, arith}
 use Rattle.std.proofs.lemmas.List.{length-set, get_or_read}
 use Rattle.replay_tinylfu.specs.Counts.{count_at}
 use Rattle.replay_tinylfu.proofs.CountLemmas.{settled, fill-more, fill-rest}

@@ -1,4 +1,4 @@
-use Rattle.std.proofs.Common.{◌≡◌, ℕ, ◌+◌, ◌-◌, ◌<◌, ◌≤◌, ◌∙◌, ap, length, drop, arith}
+use Rattle.std.proofs.Common.{◌-◌, ◌≤◌, ◌∙◌, ap, arith}
 use Rattle.policy_model.specs.States.{used, has_entry}
 use Rattle.policy_model.specs.WTinyLfu.{first_with, segment_entries, main_used}
 use Rattle.policy_model.proofs.WTinyLfuSound.{weight-drop}

@@ -1,5 +1,5 @@
-use Rattle.std.proofs.Common.{◌≡◌, ◌≤◌, ◌∙◌, sym, length, arith}
-use Rattle.policy_model.specs.WTinyLfu.{Main, demote}
+use Rattle.std.proofs.Common.{◌∙◌, sym, arith}
+use Rattle.policy_model.specs.WTinyLfu.{demote}
 use Rattle.replay_tinylfu.specs.Queues.{Queues}
 use Rattle.replay_tinylfu.proofs.MoveLemmas.{queues-as, demote-one, demote-fits}
 use Rattle.replay_tinylfu.proofs.moves.demote.Goals as goal

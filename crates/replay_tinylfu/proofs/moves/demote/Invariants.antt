@@ -1,5 +1,5 @@
 use Rattle.std.proofs.Common.{◌≡◌, ◌≤◌, ◌^◌, length}
-use Rattle.policy_model.specs.WTinyLfu.{Main, demote, main_used}
+use Rattle.policy_model.specs.WTinyLfu.{demote, main_used}
 use Rattle.replay_tinylfu.proofs.moves.demote.Given as goal
 
 abbrev pub invariant-loop-ring : goal.invariant-loop-ring

@@ -1,4 +1,4 @@
-use Rattle.std.proofs.Common.{◌≡◌, ℕ, ◌+◌, ◌<◌, ◌≤◌, ◌^◌, ◌∙◌, ap, arith}
+use Rattle.std.proofs.Common.{◌≤◌, ◌^◌, ap, arith}
 use Rattle.policy_model.specs.States.{used}
 use Rattle.policy_model.specs.WTinyLfu.{main_used}
 use Rattle.replay_tinylfu.specs.Queues.{Queues}

@@ -1,4 +1,4 @@
-use Rattle.std.proofs.Common.{◌≡◌, ℕ, ◌+◌, ◌<◌, ◌≤◌, ◌^◌, ◌∙◌, ap, []  , ◌∷◌, arith}
+use Rattle.std.proofs.Common.{◌≤◌, ◌^◌, ap, arith}
 use Rattle.std.proofs.lemmas.List.Sums.{sum_by_push}
 use Rattle.policy_model.specs.States.{Entry, used}
 use Rattle.policy_model.specs.WTinyLfu.{main_used}

@@ -1,4 +1,4 @@
-use Rattle.std.proofs.Common.{◌≡◌, ℕ, ◌+◌, ◌/◌, ◌∙◌, sym, ap, subst, List, length, map}
+use Rattle.std.proofs.Common.{◌≡◌, ℕ, ◌+◌, ◌/◌, ◌∙◌, ap, List, length, map}
 use Rattle.replay_tinylfu.specs.declared.counts.Counts.TheInside.{Inside}
 use Rattle.replay_tinylfu.specs.Counts.{Counted, counts_at, frequencies_at, halve, with_frequencies, AreCounts, AreSettled}
 use Rattle.replay_tinylfu.proofs.CountLemmas.{halved-counts, settled-counts, settled-are}
@@ -20,12 +20,12 @@ returns c =
     let view : Inside → Counted = λ x. record { objects = length x.counts.items; frequencies = frequencies_at x.counts.items x.seen.items x.known (x.halvings + 1) (x.asked / 2) } in
     let then : with_frequencies (halve first.frequencies) first ≡ with_frequencies (halve c.args.self.now.frequencies) c.args.self.now = ap (λ (q : Counted). with_frequencies (halve q.frequencies) q) c.self.view_is in
     elim c.if-self.branch [
-      then-self w ↦
-      let counts : List ℕ = w.settle.new.counts.items in
-      let seen : List ℕ = w.settle.new.seen.items in
-      let are : AreSettled r.counts.items r.seen.items counts seen r.halvings = w.settle.ensures in
-      ap view w.self-inside-is ∙ halved counts seen r.known 0 r.asked (settled-are r.counts.items r.seen.items counts seen r.known r.halvings c.self.invariant are)
-      ∙ ap (λ ns. seen_as (length counts) (map (λ count. count / 2) ns) (r.asked / 2)) (settled-counts r.counts.items r.seen.items counts seen r.known r.halvings c.self.invariant are)
-      ∙ ap (λ n. seen_as n (map (λ count. count / 2) (counts_at r.counts.items r.seen.items r.known r.halvings)) (r.asked / 2)) are.counts_stay ∙ then
+      | then-self w ↦
+          let counts : List ℕ = w.settle.new.counts.items in
+          let seen : List ℕ = w.settle.new.seen.items in
+          let are : AreSettled r.counts.items r.seen.items counts seen r.halvings = w.settle.ensures in
+          ap view w.self-inside-is ∙ halved counts seen r.known 0 r.asked (settled-are r.counts.items r.seen.items counts seen r.known r.halvings c.self.invariant are)
+          ∙ ap (λ ns. seen_as (length counts) (map (λ count. count / 2) ns) (r.asked / 2)) (settled-counts r.counts.items r.seen.items counts seen r.known r.halvings c.self.invariant are)
+          ∙ ap (λ n. seen_as n (map (λ count. count / 2) (counts_at r.counts.items r.seen.items r.known r.halvings)) (r.asked / 2)) are.counts_stay ∙ then
       | else-self w ↦ ap view w.self-inside-is ∙ halved r.counts.items r.seen.items r.known r.halvings r.asked c.self.invariant ∙ then
     ]

@@ -1,4 +1,4 @@
-use Rattle.std.proofs.Common.{◌≡◌, ℕ, ◌+◌, ◌<◌, ◌≤◌, min, max, ◌∙◌, sym, ap, subst, List, length, get_or, set, arith}
+use Rattle.std.proofs.Common.{◌≡◌, ℕ, ◌+◌, ◌<◌, min, ◌∙◌, sym, ap, subst, List, length, get_or, set, arith}
 use Rattle.std.proofs.lemmas.List.{length-set}
 use Rattle.policy_model.specs.WTinyLfu.{one_more}
 use Rattle.replay_tinylfu.specs.Counts.{Counted, count_at, counts_at, with_frequencies, AreCounts}

@@ -1,4 +1,4 @@
-use Rattle.std.proofs.Common.{◌≡◌, ℕ, ◌+◌, ◌≤◌, arith}
+use Rattle.std.proofs.Common.{◌≤◌, arith}
 use Rattle.replay_tinylfu.specs.Loads.{numbers_of}
 use Rattle.replay_tinylfu.proofs.KeptLemmas.{few-numbers}
 use Rattle.replay_tinylfu.proofs.ring.Ring.len.Goals as goal

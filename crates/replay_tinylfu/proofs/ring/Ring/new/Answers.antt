@@ -1,6 +1,5 @@
-use Rattle.std.proofs.Common.{◌≡◌, ℕ, ◌+◌, ◌∙◌, sym, ap, subst, List, length, replicate, arith}
-use Rattle.std.proofs.lemmas.List.{length-replicate}
-use Rattle.replay_tinylfu.specs.Loads.{IsKept, numbers_of}
+use Rattle.std.proofs.Common.{◌≡◌, ℕ, ◌+◌, sym, subst, List, arith}
+use Rattle.replay_tinylfu.specs.Loads.{IsKept}
 use Rattle.replay_tinylfu.proofs.KeptLemmas.{kept-again}
 use Rattle.replay_tinylfu.proofs.EmptyRing.{no_load, marks, empty-kept}
 use Rattle.replay_tinylfu.proofs.ring.Ring.new.Goals as goal

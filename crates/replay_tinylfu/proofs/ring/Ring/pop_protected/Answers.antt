@@ -1,6 +1,6 @@
-use Rattle.std.proofs.Common.{◌≡◌, ℕ, ◌+◌, ◌<◌, ◌∙◌, sym, ap, subst, true, List, [], ◌∷◌, length, drop, arith}
+use Rattle.std.proofs.Common.{◌≡◌, ℕ, ◌+◌, ◌<◌, ◌∙◌, sym, ap, subst, List, [], ◌∷◌, length, drop, arith}
 use Rattle.std.proofs.lemmas.List.{length-map}
-use Rattle.policy_model.specs.States.{Entry, has_entry}
+use Rattle.policy_model.specs.States.{has_entry}
 use Rattle.policy_model.specs.Steps.{without_entry}
 use Rattle.policy_model.specs.WTinyLfu.{entry_of}
 use Rattle.replay_queues.specs.declared.nodes.Node.{Node}

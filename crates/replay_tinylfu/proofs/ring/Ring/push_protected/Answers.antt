@@ -1,9 +1,8 @@
-use Rattle.std.proofs.Common.{◌≡◌, ℕ, ◌+◌, ◌<◌, ◌∙◌, sym, ap, subst, false, [], ◌∷◌, ◌++◌, length, set, arith}
+use Rattle.std.proofs.Common.{◌≡◌, ◌<◌, ◌∙◌, sym, ap, subst, false, [], ◌∷◌, ◌++◌, arith}
 use Rattle.policy_model.specs.States.{has_entry}
 use Rattle.policy_model.specs.WTinyLfu.{segment_entries}
-use Rattle.replay_tinylfu.specs.Marks.{put_in}
 use Rattle.replay_tinylfu.specs.Queues.{Queues, plain_entry, queues_at, with_protected}
-use Rattle.replay_tinylfu.specs.Loads.{numbers_of, IsKept}
+use Rattle.replay_tinylfu.specs.Loads.{numbers_of}
 use Rattle.replay_tinylfu.proofs.LinkLemmas.{last-within}
 use Rattle.replay_tinylfu.proofs.KeptLemmas.{few-numbers, numbers-are, kept-again, notes-last, kept-protected, queues-protected}
 use Rattle.replay_tinylfu.proofs.ring.Ring.push_protected.Goals as goal

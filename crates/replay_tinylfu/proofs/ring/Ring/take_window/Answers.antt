@@ -5,7 +5,6 @@ use Rattle.policy_model.specs.WTinyLfu.{entry_of, segment_entries}
 use Rattle.replay_queues.specs.declared.nodes.Node.{Node}
 use Rattle.replay_queues.specs.Rings.{is_among}
 use Rattle.replay_queues.proofs.RingLemmas.{without}
-use Rattle.replay_tinylfu.specs.declared.ring.Load.{Load}
 use Rattle.replay_tinylfu.specs.Queues.{Queues, plain_entry, entries_at, window_of, queues_at, with_window}
 use Rattle.replay_tinylfu.specs.Loads.{numbers_of, IsKept}
 use Rattle.replay_tinylfu.proofs.LinkLemmas.{before-within, after-within}

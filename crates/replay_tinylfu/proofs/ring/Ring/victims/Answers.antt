@@ -1,11 +1,11 @@
-use Rattle.std.proofs.Common.{◌≡◌, ℕ, ◌+◌, ◌-◌, ◌<◌, ◌≤◌, ◌∙◌, sym, ap, subst, length, arith}
+use Rattle.std.proofs.Common.{◌≡◌, ℕ, ◌+◌, ◌<◌, ◌≤◌, ◌∙◌, sym, ap, subst, length, arith}
 use Rattle.std.proofs.lemmas.List.{length-map}
 use Rattle.policy_model.specs.States.{used}
 use Rattle.policy_model.specs.WTinyLfu.{main_used, first_with, count_of}
 use Rattle.replay_queues.specs.declared.nodes.Node.{Node}
 use Rattle.replay_queues.proofs.GhostAnswers.{node_read, size_at}
 use Rattle.replay_tinylfu.specs.Marks.{follow}
-use Rattle.replay_tinylfu.specs.Queues.{Queues, plain_entry, entries_at, main_entries, DisplacesAll}
+use Rattle.replay_tinylfu.specs.Queues.{Queues, plain_entry, entries_at, main_entries}
 use Rattle.replay_tinylfu.specs.Loads.{numbers_of}
 use Rattle.replay_tinylfu.proofs.WalkLemmas.{IsWalk, IsNext, walk-next, walk-done, main_of_ring, main-entries, main-low, main-many, main-bytes, walk-begin}
 use Rattle.replay_tinylfu.proofs.ring.Ring.victims.Goals as goal
