@@ -1,4 +1,4 @@
-//! S3-FIFO, whose queues are linked by the objects' numbers, for the program replaying.rs.
+//! S3-FIFO and W-TinyLFU, whose queues are linked by the objects' numbers, for the program replaying.rs.
 use crate::Policy;
 
 // The queues. An object stands in one of them at most.
@@ -132,6 +132,135 @@ impl Policy for S3Fifo {
             return true;
         }
         if size <= self.capacity {
+            self.put(object, size);
+        }
+        false
+    }
+}
+
+// The queues of W-TinyLFU.
+const WINDOW: usize = 1;
+const PROBATION: usize = 2;
+const PROTECTED: usize = 3;
+
+/// W-TinyLFU over places like those of S3-FIFO, with a count of each object, which is halved when it is looked at again.
+pub struct WTinyLfu {
+    queues: S3Fifo,
+    window: u64,
+    most: u64,
+    entries: u64,
+    asked: u64,
+    halvings: u32,
+    seen: Vec<u32>,
+}
+
+impl WTinyLfu {
+    pub fn new(capacity: u64, objects: usize) -> Self {
+        let window = (capacity / 100).max(1);
+        WTinyLfu {
+            queues: S3Fifo::new(capacity, objects),
+            window,
+            most: capacity - window,
+            entries: 0,
+            asked: 0,
+            halvings: 0,
+            seen: vec![0; objects],
+        }
+    }
+
+    fn count(&self, object: u32) -> u8 {
+        let missed = self.halvings - self.seen[object as usize];
+        self.queues.places[object as usize].count >> missed.min(4)
+    }
+
+    fn note(&mut self, object: u32) {
+        self.queues.places[object as usize].count = (self.count(object) + 1).min(15);
+        self.seen[object as usize] = self.halvings;
+        self.asked += 1;
+        if self.asked >= 10 * self.entries.max(16) {
+            self.asked /= 2;
+            self.halvings += 1;
+        }
+    }
+
+    fn move_to(&mut self, object: u32, queue: usize) {
+        self.queues.leave(object);
+        self.queues.enter(object, queue);
+    }
+
+    fn hit(&mut self, object: u32, queue: usize) {
+        if queue != PROBATION {
+            self.move_to(object, queue);
+            return;
+        }
+        self.move_to(object, PROTECTED);
+        while self.queues.bytes[PROTECTED] > 8 * self.most / 10 && self.queues.first(PROTECTED) != object {
+            self.move_to(self.queues.first(PROTECTED), PROBATION);
+        }
+    }
+
+    // The first of the main part, those on probation first, after this one if it is given.
+    fn next(&self, after: Option<u32>) -> u32 {
+        let end = self.queues.objects + PROBATION as u32;
+        let next = match after {
+            Some(object) => self.queues.places[object as usize].after,
+            None => self.queues.first(PROBATION),
+        };
+        if next == end { self.queues.first(PROTECTED) } else { next }
+    }
+
+    fn offer(&mut self, object: u32, size: u64) {
+        if size > self.most {
+            return;
+        }
+        let held = self.queues.bytes[PROBATION] + self.queues.bytes[PROTECTED];
+        let mut over = (held + size).saturating_sub(self.most);
+        let (mut victims, mut sum, mut last) = (0, 0, None);
+        while over > 0 {
+            let victim = self.next(last);
+            sum += self.count(victim);
+            if sum >= self.count(object) {
+                return;
+            }
+            over = over.saturating_sub(self.queues.places[victim as usize].size);
+            victims += 1;
+            last = Some(victim);
+        }
+        for _ in 0..victims {
+            self.queues.leave(self.next(None));
+        }
+        self.entries -= victims;
+        self.queues.enter(object, PROBATION);
+        self.entries += 1;
+    }
+
+    fn put(&mut self, object: u32, size: u64) {
+        self.queues.places[object as usize].size = size;
+        if size > self.window {
+            self.offer(object, size);
+            return;
+        }
+        self.queues.enter(object, WINDOW);
+        self.entries += 1;
+        while self.queues.bytes[WINDOW] > self.window {
+            let first = self.queues.first(WINDOW);
+            self.queues.leave(first);
+            self.entries -= 1;
+            self.offer(first, self.queues.places[first as usize].size);
+        }
+    }
+}
+
+impl Policy for WTinyLfu {
+    fn request(&mut self, _: u64, object: u32, size: u64, _: u32) -> bool {
+        let queue = self.queues.places[object as usize].queue as usize;
+        if queue != NONE {
+            self.note(object);
+            self.hit(object, queue);
+            return true;
+        }
+        if size <= self.queues.capacity {
+            self.note(object);
             self.put(object, size);
         }
         false

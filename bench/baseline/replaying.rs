@@ -3,8 +3,8 @@
 //! `replaying TRACE CAPACITY POLICY WAY` reads a webcache trace, numbers its objects by the HashMap of std with its own
 //! hasher, keeps the number and the next request of each request, and replays the policy over them. It prints what
 //! `bound_cli replay` prints. `lru`, `fifo`, `clock` and `sieve` are lists linked by index, and their entries are found by
-//! an array over the objects (`array`) or by a HashMap (`map`). `s3fifo` has queues that are linked in an array over the
-//! objects (`array`). `lfu`, `belady`, `gdsf`, `lfuda` and `gdsf98` keep entries in a binary heap with an array of places (`heap`);
+//! an array over the objects (`array`) or by a HashMap (`map`). `s3fifo` and `wtinylfu` have queues that are linked in an
+//! array over the objects (`array`). `lfu`, `belady`, `gdsf`, `lfuda` and `gdsf98` keep entries in a binary heap with an array of places (`heap`);
 //! `lfu` and `belady` also their order in a BTreeSet and their entries in a BTreeMap (`tree`). `replaying TRACE` only reads
 //! and numbers.
 mod lines;
@@ -14,7 +14,7 @@ mod rings;
 mod webcache;
 
 use lines::each_line;
-use queues::S3Fifo;
+use queues::{S3Fifo, WTinyLfu};
 use ranks::{Aging, Belady, Heap, Lfu, Order, Tree};
 use rings::{Ring, Rule};
 use std::collections::HashMap;
@@ -108,6 +108,7 @@ fn replay_by(trace: &Trace, capacity: u64, policy: &str, way: &str) -> Option<(u
             }
         }
         ("s3fifo", "array") => Some(replay(trace, S3Fifo::new(capacity, objects))),
+        ("wtinylfu", "array") => Some(replay(trace, WTinyLfu::new(capacity, objects))),
         ("lfu", "heap") => {
             let order = Heap::new(objects);
             Some(replay(

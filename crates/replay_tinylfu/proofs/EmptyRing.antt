@@ -7,9 +7,8 @@ use Rattle.replay_queues.specs.Rings.{is_among, Joins}
 use Rattle.replay_queues.proofs.RingLemmas.{after-here, after-other, before-here, before-other}
 use Rattle.replay_tinylfu.specs.declared.ring.Load.{Load}
 use Rattle.replay_tinylfu.specs.Marks.{up_to, past}
-use Rattle.replay_tinylfu.specs.Queues.{Queues, window_of, main_numbers, probation_of, protected_of, queues_by, queues_at, no_entries}
-use Rattle.replay_tinylfu.specs.Loads.{numbers_of, IsRing, IsLoad, IsKept}
-use Rattle.replay_tinylfu.proofs.KeptLemmas.{numbers-are}
+use Rattle.replay_tinylfu.specs.Queues.{window_of, main_numbers, probation_of, protected_of}
+use Rattle.replay_tinylfu.specs.Loads.{IsRing, IsLoad, IsKept}
 
 abbrev pub no_load : Load
 no_load = record { entries = 0; bytes = 0 }
@@ -77,9 +76,3 @@ module _ (n : ℕ) (few : n ≤ 2 ^ 31) where
       probation_is = subst (λ ks. IsLoad last ks no_load) (sym no_probation) (record { entries_are = refl; bytes_are = refl });
       protected_is = subst (λ ks. IsLoad last ks no_load) (sym no_protected) (record { entries_are = refl; bytes_are = refl });
     }
-
-    pub empty-queues : queues_at last n (numbers_of last n no_load no_load no_load) ≡ no_entries n
-    empty-queues =
-        let es : List ℕ → List ℕ → List ℕ → Queues = queues_by last n in
-        ap (queues_at last n) (numbers-are last (replicate n 0) n no_load no_load no_load marks empty-kept)
-        ∙ ap (λ ks. es ks (probation_of n marks) (protected_of n marks)) no_window ∙ ap (λ ks. es [] ks (protected_of n marks)) no_probation ∙ ap (es [] []) no_protected

@@ -170,9 +170,6 @@ module _ (nodes : List Node) (places : List ℕ) (none : ℕ) (w p t : Load) (nu
       omega (arith, length-numbers nodes none numbers kept.ring, few numbers (none + 3) kept.ring.apart kept.ring.below)
 
   -- an object that has a place
-  pub place-window : (k : ℕ) → is_among (window_of none numbers) k ≡ true → eqb (get_or places k 0) 1 ≡ true
-  place-window k there = kept.places_are.in_window k ∙ there
-
   placed : (k i : ℕ) → 0 < i → eqb (get_or places k 0) i ≡ true → k < none
   placed k i some is = let at : get_or places k 0 ≡ i = eqb-true (get_or places k 0) i is in let low : k < length places = within_cells places k (omega arith) in omega (arith, kept.each_object)
 

@@ -1,5 +1,5 @@
 -- The ring of marks and objects, as one is put in or taken out.
-use Rattle.std.proofs.Common.{◌≡◌, ℕ, suc, ◌+◌, ◌<◌, ◌∙◌, sym, refl, ap, subst, Bool, true, false, ◌||◌, cond, eqb, List, [], ◌∷◌, ◌++◌, length, arith}
+use Rattle.std.proofs.Common.{◌≡◌, ℕ, ◌+◌, ◌<◌, ◌∙◌, sym, refl, ap, subst, Bool, true, false, ◌||◌, cond, eqb, List, [], ◌∷◌, ◌++◌, length, arith}
 use Rattle.std.proofs.lemmas.Bool.{eqb-true, ne_eqb, or_parts}
 use Rattle.policy_model.proofs.Comparisons.{eqb-sym}
 use Rattle.replay_queues.specs.declared.nodes.Node.{Node}
@@ -172,9 +172,6 @@ module _ (nodes : List Node) (none : ℕ) (numbers : List ℕ) (ring : IsRing no
     probation-protected = ap (past (none + 2)) probation-main ∙ past-put (none + 2) k (main_numbers none numbers) (not_third k low)
 
     -- at the back of the protected ones
-    first_differs : (n : ℕ) → eqb (none + suc n) none ≡ false
-    first_differs n = ne_eqb (none + suc n) none (λ same. absurd (omega arith))
-
     second_first : eqb (none + 1) none ≡ false
     second_first = ne_eqb (none + 1) none (λ same. absurd (omega arith))
 

@@ -19,10 +19,6 @@ among-past mark q (k ∷ rest) none =
     let parts : (eqb k q ≡ false) × (is_among rest q ≡ false) = or_parts _ _ none in
     cond_both (eqb k mark) rest (past mark rest) (λ ks. is_among ks q ≡ false) (λ _. parts.1) (λ _. among-past mark q rest parts.1)
 
-pub mark-up_to : (mark : ℕ) (numbers : List ℕ) → is_among (up_to mark numbers) mark ≡ false
-mark-up_to mark [] = refl
-mark-up_to mark (k ∷ rest) = cond_both (eqb k mark) [] (k ∷ up_to mark rest) (λ ks. is_among ks mark ≡ false) (λ _. refl) (λ other. or_from (eqb k mark) (is_among (up_to mark rest) mark) other (mark-up_to mark rest))
-
 pub mark-past : (mark : ℕ) (numbers : List ℕ) → Distinct numbers → is_among (past mark numbers) mark ≡ false
 mark-past mark [] apart = refl
 mark-past mark (k ∷ rest) apart =
@@ -104,10 +100,6 @@ distinct-put mark k (j ∷ rest) apart none =
     cond_both (eqb j mark) (k ∷ j ∷ rest) (j ∷ put_in mark k rest) Distinct (λ _. (none, apart))
     (λ _. (among-put mark k j rest apart.0 (eqb-sym k j ∙ parts.0), distinct-put mark k rest apart.1 parts.1))
 
-pub length-put : (mark k : ℕ) (numbers : List ℕ) → length (put_in mark k numbers) ≡ length numbers + 1
-length-put mark k [] = omega arith
-length-put mark k (j ∷ rest) = cond_both (eqb j mark) (k ∷ j ∷ rest) (j ∷ put_in mark k rest) (λ js. length js ≡ length (j ∷ rest) + 1) (λ _. omega arith) (λ _. omega (arith, length-put mark k rest))
-
 -- at the end, if the mark isn't there
 pub put-last : (mark k : ℕ) (numbers : List ℕ) → is_among numbers mark ≡ false → put_in mark k numbers ≡ numbers ++ k ∷ []
 put-last mark k [] none = refl
@@ -171,9 +163,6 @@ without-step : (k j : ℕ) (rest : List ℕ) (t : Bool) → eqb j k ≡ t → wi
 without-step k j rest t is = ap (λ b. cond (not b) (j ∷ without k rest) (without k rest)) is
 
 module _ (mark k : ℕ) (other : eqb k mark ≡ false) where
-  not_mark : (j : ℕ) → eqb j mark ≡ true → eqb j k ≡ false
-  not_mark j is = ap (λ i. eqb i k) (eqb-true j mark is) ∙ eqb-sym mark k ∙ other
-
   not_it : (j : ℕ) → eqb j k ≡ true → eqb j mark ≡ false
   not_it j is = ap (λ i. eqb i mark) (eqb-true j k is) ∙ other
 

@@ -1,12 +1,12 @@
 -- What a hit and a miss change in the queues, step by step.
-use Rattle.std.proofs.Common.{◌≡◌, ℕ, zero, suc, ◌+◌, ◌-◌, ◌<◌, ◌≤◌, ◌∙◌, sym, refl, ap, Bool, true, false, ◌||◌, ◌&&◌, cond, eqb, leb, ltb, List, [], ◌∷◌, ◌++◌, length, drop, get_or, arith}
-use Rattle.std.proofs.lemmas.Bool.{eq-eqb, ne_eqb, or_parts, or_from, lt-leb, le-leb, lt-ltb, le-ltb, cond_both}
-use Rattle.std.proofs.lemmas.List.{length-append, length-drop, drop-drop}
+use Rattle.std.proofs.Common.{◌≡◌, ℕ, zero, suc, ◌+◌, ◌-◌, ◌<◌, ◌≤◌, ◌∙◌, sym, refl, ap, true, false, ◌||◌, cond, eqb, leb, List, [], ◌∷◌, ◌++◌, length, drop, arith}
+use Rattle.std.proofs.lemmas.Bool.{eq-eqb, or_parts, or_from, lt-leb, le-leb, cond_both}
+use Rattle.std.proofs.lemmas.List.{length-drop, drop-drop}
 use Rattle.std.proofs.Math.ListN.{drop_of_length-le}
 use Rattle.std.proofs.lemmas.List.Sums.{sum_by-cons}
 use Rattle.policy_model.specs.States.{Entry, used, has_entry}
 use Rattle.policy_model.specs.Steps.{without_entry}
-use Rattle.policy_model.specs.WTinyLfu.{Main, Segments, main_used, entry_of, demote, without_first, on_probation, first_with, victims, count_of, admit, spill, segment_entries}
+use Rattle.policy_model.specs.WTinyLfu.{Main, Segments, entry_of, demote, without_first, first_with, admit, spill, segment_entries}
 use Rattle.policy_model.proofs.WTinyLfuSound.{weight-apart}
 use Rattle.replay_queues.proofs.ItemLemmas.{has_entry-append}
 use Rattle.replay_tinylfu.specs.Queues.{Queues, plain_entry}
@@ -48,45 +48,6 @@ module _ (m : Main) (n : ℕ) where
       ap (λ p. of p (drop 1 (drop (n - length m.probation) m.protected))) gone
       ∙ ap (of (drop (n + 1) m.probation)) (drop-drop 1 (n - length m.probation) m.protected ∙ ap (λ i. drop i m.protected) more)
 
-  pub some-protected : length (drop n m.probation) ≤ 0 → n < length (m.probation ++ m.protected) → 0 < length (drop (n - length m.probation) m.protected)
-  some-protected none less = omega (arith, length-drop n m.probation, length-drop (n - length m.probation) m.protected, length-append m.probation m.protected)
-
--- ---- a candidate
-module _ (most : ℕ) (counts : List ℕ) (e : Entry) (m : Main) where
-  abbrev leaving : List Entry
-  leaving = victims most e.size m
-
-  abbrev wins : Bool
-  wins = leb (main_used m + e.size) most || ltb (count_of counts leaving) (get_or counts e.object 0)
-
-  pub admit-large : most < e.size → admit most counts e m ≡ m
-  admit-large large = ap (λ b. cond (b && wins) (on_probation e (without_first (length leaving) m)) m) (lt-leb e.size most large)
-
-  first-zero : (entries : List Entry) (n : ℕ) → n ≡ 0 → first_with n entries ≡ []
-  first-zero [] n none = refl
-  first-zero (f ∷ rest) n none = ap (λ b. cond b [] (f ∷ first_with (n - f.size) rest)) (eq-eqb n 0 none)
-
-  pub admit-fits : e.size ≤ most → main_used m + e.size ≤ most → admit most counts e m ≡ on_probation e m
-  admit-fits small fits =
-      let none : leaving ≡ [] = first-zero (m.probation ++ m.protected) (main_used m + e.size - most) (omega arith) in
-      let zero_less : zero - length m.probation ≡ zero = omega arith in
-      ap (λ b. cond (b && wins) (on_probation e (without_first (length leaving) m)) m) (le-leb e.size most small)
-      ∙ ap (λ b. cond (b || ltb (count_of counts leaving) (get_or counts e.object 0)) (on_probation e (without_first (length leaving) m)) m) (le-leb (main_used m + e.size) most fits)
-      ∙ ap (λ es. on_probation e (without_first (length es) m)) none
-      ∙ ap (λ n. on_probation e (record { probation = m.probation; protected = drop n m.protected })) zero_less
-
-  pub admit-wins : e.size ≤ most → most < main_used m + e.size → count_of counts leaving < get_or counts e.object 0 → admit most counts e m ≡ on_probation e (without_first (length leaving) m)
-  admit-wins small full less =
-      ap (λ b. cond (b && wins) (on_probation e (without_first (length leaving) m)) m) (le-leb e.size most small)
-      ∙ ap (λ b. cond (b || ltb (count_of counts leaving) (get_or counts e.object 0)) (on_probation e (without_first (length leaving) m)) m) (lt-leb (main_used m + e.size) most full)
-      ∙ ap (λ b. cond b (on_probation e (without_first (length leaving) m)) m) (lt-ltb (count_of counts leaving) (get_or counts e.object 0) less)
-
-  pub admit-loses : e.size ≤ most → most < main_used m + e.size → get_or counts e.object 0 ≤ count_of counts leaving → admit most counts e m ≡ m
-  admit-loses small full more =
-      ap (λ b. cond (b && wins) (on_probation e (without_first (length leaving) m)) m) (le-leb e.size most small)
-      ∙ ap (λ b. cond (b || ltb (count_of counts leaving) (get_or counts e.object 0)) (on_probation e (without_first (length leaving) m)) m) (lt-leb (main_used m + e.size) most full)
-      ∙ ap (λ b. cond b (on_probation e (without_first (length leaving) m)) m) (le-ltb (count_of counts leaving) (get_or counts e.object 0) more)
-
 -- ---- the window
 pub spill-over : (part most : ℕ) (counts : List ℕ) (e : Entry) (window : List Entry) (m : Main) → part < used (e ∷ window) → spill part most counts (e ∷ window) m ≡ spill part most counts window (admit most counts e m)
 spill-over part most counts e window m over =
@@ -98,11 +59,6 @@ spill-fits part most counts (e ∷ window) m fits =
     ap (λ b. cond b (record { window = e ∷ window; main = m }) (spill part most counts window (admit most counts e m))) (le-leb (used (e ∷ window)) part fits)
 
 -- ---- protected entries
-pub demote-over : (most : ℕ) (probation : List Entry) (e : Entry) (protected : List Entry) → most < used (e ∷ protected) → 1 < length (e ∷ protected) → demote most probation (e ∷ protected) ≡ demote most (probation ++ e ∷ []) protected
-demote-over most probation e protected over several =
-    ap (λ b. cond (b || eqb (length protected) 0) (record { probation = probation; protected = e ∷ protected }) (demote most (probation ++ e ∷ []) protected)) (lt-leb (used (e ∷ protected)) most over)
-    ∙ ap (λ b. cond b (record { probation = probation; protected = e ∷ protected }) (demote most (probation ++ e ∷ []) protected)) (ne_eqb (length protected) 0 (λ none. absurd (omega arith)))
-
 pub demote-fits : (most : ℕ) (probation protected : List Entry) → used protected ≤ most → demote most probation protected ≡ record { probation = probation; protected = protected }
 demote-fits most probation [] fits = refl
 demote-fits most probation (e ∷ protected) fits =
