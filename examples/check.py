@@ -2,8 +2,7 @@
 """Checks a certificate against a webcache trace, by the rules of docs/DEFINITIONS.md alone: check.py TRACE CERT [reads]
 
 It has nothing of the program, and no proof: a second opinion that can be read whole. With `reads` a line with w only fills."""
-import re
-import sys
+import re, sys
 
 NUMBER = rb"(0|[1-9][0-9]*)"
 HEAD = rb"cache-bound-certificate ([12])\nobjective (object|bytes)\ncapacity N\nrequests N\nunit N\ndenominator N\nform (exact|plain)\n"
@@ -27,7 +26,8 @@ def check(trace, text, reads):
     must(head and text.endswith(b"\nend\n"), "it is no certificate")
     by_bytes, is_exact = head[2] == b"bytes", head[7] == b"exact"
     capacity, count, unit, denominator, upper, flow, lower, warmup = (int(head[at] or 0) for at in (3, 4, 5, 6, 8, 9, 10, 11))
-    must(1 <= capacity <= 2**56 and 1 <= unit <= capacity and 1 <= denominator <= 2**48, "a number of its head is out of range")
+    is_in_range = 1 <= unit <= capacity <= 2**56 and 1 <= denominator <= 2**48 and max(count, warmup) <= 2**25
+    must(is_in_range, "a number of its head is out of range")
     records = records_in(text[head.end() : -4].split(b"\n")[:-1], head[1] == b"2")
     units, latest, held, load, prices = capacity // unit, {}, 0, 0, 0  # latest: of each object the prices so far, keep and flow
     bound = value = score = price = total = 0
