@@ -20,7 +20,7 @@ fn over_both(alloc: Global) -> Result<Instance, NoMemory>
     Instance::from_arcs(alloc, 2, 3, &arcs)
 }
 
-// What is left, and the room of the second hop and of the arc, each onward and back.
+// What is left, and the room of the second inner edge and of the arc, each onward and back.
 fn room(network: &Network<'_>) -> [u64; 5]
     requires { (network.now.instance.steps ≡ 2) × (length network.now.instance.arcs ≡ 1) }
 {

@@ -1,5 +1,6 @@
 -- What a network stands for.
 use Rattle.std.specs.Prelude.{◌≡◌, ℕ, ◌+◌, ◌^◌, ◌≤◌, ◌<◌, List, length, All, slice_index, replicate}
+use Rattle.flow_model.specs.declared.arcs.OuterArc.{OuterArc}
 use Rattle.flow_model.specs.declared.edges.Edge.{Edge}
 use Rattle.flow_model.specs.declared.edges.Edge.TheVariants.{Inner, InnerBack, Outer, OuterBack}
 use Rattle.flow_model.specs.Instances.{Instance, IsInstance}
@@ -38,3 +39,10 @@ HasRoomFor amount flows (Inner t) = (t < length flows.inner) × (slice_index flo
 HasRoomFor amount flows (InnerBack t) = (t < length flows.inner) × (amount ≤ slice_index flows.inner t)
 HasRoomFor amount flows (Outer i) = (i < length flows.outer) × (slice_index flows.outer i + amount < 2 ^ 64)
 HasRoomFor amount flows (OuterBack i) = (i < length flows.outer) × (amount ≤ slice_index flows.outer i)
+
+-- the edge is along one of these arcs, or beside them over a step whose number is not the greatest that 32 bits hold
+abbrev pub FitsArcs : List OuterArc → Edge → Type 0
+FitsArcs arcs (Inner t) = t + 1 < 2 ^ 32
+FitsArcs arcs (InnerBack t) = t + 1 < 2 ^ 32
+FitsArcs arcs (Outer i) = i < length arcs
+FitsArcs arcs (OuterBack i) = i < length arcs

@@ -5,10 +5,10 @@
 //! cost.
 #![tactic(auto)]
 
-mod hops;
+mod ends;
 mod network;
 mod pushing;
 
+pub use ends::{Ends, ends_of};
 pub use flow_model::Edge;
-pub use hops::Hop;
 pub use network::Network;

@@ -4,7 +4,7 @@ ghost use Rattle.flow_model.specs.Networks.{IsEdge, residual, tail, head, gain, 
 ghost use Rattle.flow_model.specs.Pushes.{CanPush, push_path};
 ghost use Rattle.flow_network.specs.States.{IsState, unused};
 
-use crate::hops::{Hop, hop_of};
+use crate::ends::{Ends, ends_of};
 use crate::pushing::push_along;
 use bound_base::NoMemory;
 use flow_model::{Edge, Instance};
@@ -85,18 +85,18 @@ impl<'a> Network<'a> {
         }
     }
 
-    /// The ends and the cost of the edge.
+    /// The ends of the edge, and what a unit along it earns and gives up.
     #[inline(always)]
-    pub fn hop(&self, edge: Edge) -> Hop
+    pub fn ends(&self, edge: Edge) -> Ends
         requires { IsEdge self.now.instance edge }
         ensures tail { result.tail ≡ tail self.now.instance.arcs edge }
         ensures head { result.head ≡ head self.now.instance.arcs edge }
         ensures gain { result.gain ≡ gain self.now.instance.arcs edge }
         ensures loss { result.loss ≡ loss self.now.instance.arcs edge }
-        ensures ends { (result.tail ≤ self.now.instance.steps) × (result.head ≤ self.now.instance.steps) }
+        ensures within { (result.tail ≤ self.now.instance.steps) × (result.head ≤ self.now.instance.steps) }
         ensures small { (result.gain ≤ 2 ^ 97) × (result.loss ≤ 2 ^ 97) }
     {
-        hop_of(self.instance, edge)
+        ends_of(self.instance.arcs(), edge)
     }
 
     /// The potential of the node.
@@ -125,9 +125,9 @@ impl<'a> Network<'a> {
         ensures { result +ℤ pos (loss self.now.instance.arcs edge + slice_index self.now.potentials (tail self.now.instance.arcs edge))
             ≡ pos (gain self.now.instance.arcs edge + slice_index self.now.potentials (head self.now.instance.arcs edge)) }
     {
-        let hop = self.hop(edge);
-        let ahead = hop.gain + self.potential(hop.head);
-        let behind = hop.loss + self.potential(hop.tail);
+        let ends = self.ends(edge);
+        let ahead = ends.gain + self.potential(ends.head);
+        let behind = ends.loss + self.potential(ends.tail);
         ahead as i128 - behind as i128
     }
 

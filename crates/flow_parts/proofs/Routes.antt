@@ -18,7 +18,7 @@ pub record IsRoute (instance : Instance) (flows : Flows) (potential : ℕ → �
   pub leads : Leads instance.arcs node path to
   pub tight : All (IsTight instance flows potential) path
   pub inside : All (IsInside instance.arcs from instance.steps) path
-  pub later : All (IsLater instance.arcs back.hops.0) path
+  pub later : All (IsLater instance.arcs back.tight_parents.0) path
   pub some : 0 < amount
   pub room : All (λ e. amount ≤ residual instance flows e) path
 
@@ -29,15 +29,15 @@ pub route_grows : {instance : Instance} {flows : Flows} {potential : ℕ → ℕ
     → IsRoute instance flows potential from to limit distances parents (tail instance.arcs (edge_at parents node)) (edge_at parents node ∷ path) least
 route_grows {instance} {flows} {potential} {from} {to} {limit} {distances} {parents} {node} {path} {amount} least ends route inside some less room =
     let e : Edge = edge_at parents node in
-    let hop = route.back.hops.1 node inside route.within route.near in
+    let tight_parent = route.back.tight_parents.1 node inside route.within route.near in
     record {
       back = route.back;
-      within = (ends e hop.tight.is_edge).0;
-      near = hop.near;
-      leads = (refl, subst (λ (k : ℕ). Leads instance.arcs k path to) (sym hop.leads) route.leads);
-      tight = All-cons (IsTight instance flows potential) e path hop.tight route.tight;
-      inside = All-cons (IsInside instance.arcs from instance.steps) e path (record { some = λ same. inside (sym hop.leads ∙ same); within = omega (arith, hop.leads, route.within) }) route.inside;
-      later = All-cons (IsLater instance.arcs route.back.hops.0) e path (omega (arith, hop.earlier, ap route.back.hops.0 hop.leads)) route.later;
+      within = (ends e tight_parent.tight.is_edge).0;
+      near = tight_parent.near;
+      leads = (refl, subst (λ (k : ℕ). Leads instance.arcs k path to) (sym tight_parent.leads) route.leads);
+      tight = All-cons (IsTight instance flows potential) e path tight_parent.tight route.tight;
+      inside = All-cons (IsInside instance.arcs from instance.steps) e path (record { some = λ same. inside (sym tight_parent.leads ∙ same); within = omega (arith, tight_parent.leads, route.within) }) route.inside;
+      later = All-cons (IsLater instance.arcs route.back.tight_parents.0) e path (omega (arith, tight_parent.earlier, ap route.back.tight_parents.0 tight_parent.leads)) route.later;
       some = some;
       room = All-cons (λ f. least ≤ residual instance flows f) e path room
           (All-weaker (λ f. amount ≤ residual instance flows f) (λ f. least ≤ residual instance flows f) (λ f h. omega (arith, h, less)) path route.room);
@@ -47,13 +47,13 @@ route_grows {instance} {flows} {potential} {from} {to} {limit} {distances} {pare
 pub route_is_short : {instance : Instance} {flows : Flows} {potential : ℕ → ℕ} {from to limit : ℕ} {distances : List ℕ} {parents : List Edge} {node : ℕ} {path : List Edge} {amount : ℕ}
     → IsRoute instance flows potential from to limit distances parents node path amount → node ≢ from → length path < instance.steps
 route_is_short {instance} {flows} {potential} {from} {to} {limit} {distances} {parents} {node} {path} {amount} route other =
-    path_is_short instance.arcs route.back.hops.0 from instance.steps path node to route.leads route.later route.inside other route.within route.back.from_within
+    path_is_short instance.arcs route.back.tight_parents.0 from instance.steps path node to route.leads route.later route.inside other route.within route.back.from_within
 
 -- no edge of the route stands twice nor beside its back edge
 pub route_is_simple : {instance : Instance} {flows : Flows} {potential : ℕ → ℕ} {from to limit : ℕ} {distances : List ℕ} {parents : List Edge} {node : ℕ} {path : List Edge} {amount : ℕ}
     → IsRoute instance flows potential from to limit distances parents node path amount → IsSimple path
 route_is_simple {instance} {flows} {potential} {from} {to} {limit} {distances} {parents} {node} {path} {amount} route =
-    later_is_simple instance.arcs route.back.hops.0 path node to route.leads route.later
+    later_is_simple instance.arcs route.back.tight_parents.0 path node to route.leads route.later
 
 -- an edge that is written ahead of the path is its first
 pub written_ahead : (path : List Edge) (start : ℕ) (given e : Edge) → 0 < start → start ≤ length path → given ≡ e → drop (start - 1) (set path (start - 1) given) ≡ e ∷ drop start path

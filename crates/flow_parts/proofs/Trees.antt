@@ -7,7 +7,7 @@ use Rattle.flow_model.specs.Instances.{Instance}
 use Rattle.flow_model.specs.Networks.{Flows, tail, head, gain, residual, IsEdge, IsRelaxed}
 use Rattle.flow_model.specs.Pushes.{edge_at}
 use Rattle.flow_model.proofs.Lists.{set_at}
-use Rattle.flow_parts.specs.Searches.{IsParent, IsTree, IsSettled, IsHop, at_tail, at_head, lowered}
+use Rattle.flow_parts.specs.Searches.{IsParent, IsTree, IsSettled, IsTightParent, at_tail, at_head, lowered}
 
 -- the node where the search begins was found, and no other
 pub first_tree : (instance : Instance) (flows : Flows) (potentials : List ℕ) (from far : ℕ) (distances : List ℕ) (parents : List Edge)
@@ -110,13 +110,13 @@ tree_more instance flows potentials from far distances parents e near tree is_ed
         (cases_eq u h)
 
 -- the edge by which a node within the limit was found is tight under the lowered potentials
-pub parent_is_hop : (instance : Instance) (flows : Flows) (potentials distances : List ℕ) (limit : ℕ) (low times : ℕ → ℕ) (e : Edge) (node : ℕ)
+pub parent_is_tight : (instance : Instance) (flows : Flows) (potentials distances : List ℕ) (limit : ℕ) (low times : ℕ → ℕ) (e : Edge) (node : ℕ)
     → IsParent instance flows potentials distances times e node → IsRelaxed instance flows (slice_index potentials) e → IsSettled instance flows potentials distances limit e → slice_index distances node ≤ limit
     → low (head instance.arcs e) ≡ lowered potentials distances limit (head instance.arcs e) → low (tail instance.arcs e) ≡ lowered potentials distances limit (tail instance.arcs e)
     → limit ≤ slice_index potentials (head instance.arcs e) + min limit (slice_index distances (head instance.arcs e))
     → limit ≤ slice_index potentials (tail instance.arcs e) + min limit (slice_index distances (tail instance.arcs e))
-    → IsHop instance flows low distances limit times e node
-parent_is_hop instance flows potentials distances limit low times e node parent valid settled near head_low tail_low head_enough tail_enough =
+    → IsTightParent instance flows low distances limit times e node
+parent_is_tight instance flows potentials distances limit low times e node parent valid settled near head_low tail_low head_enough tail_enough =
     let least = valid parent.room in
     let same : slice_index distances (head instance.arcs e) ≡ slice_index distances node = ap (slice_index distances) parent.leads in
     let even : at_tail instance.arcs potentials distances e ≡ at_head instance.arcs potentials distances e = omega (arith, parent.along, settled parent.room, same, near) in

@@ -50,7 +50,7 @@ abbrev pub AreLowered : ℕ → List ℕ → List ℕ → ℕ → List ℕ → T
 AreLowered steps potentials distances limit low = (node : ℕ) → node ≤ steps → slice_index low node ≡ lowered potentials distances limit node
 
 -- the edge is tight and leads to the node, from a node within the limit that was found before
-pub record IsHop (instance : Instance) (flows : Flows) (potential : ℕ → ℕ) (distances : List ℕ) (limit : ℕ) (times : ℕ → ℕ) (e : Edge) (node : ℕ) : Type 0 where
+pub record IsTightParent (instance : Instance) (flows : Flows) (potential : ℕ → ℕ) (distances : List ℕ) (limit : ℕ) (times : ℕ → ℕ) (e : Edge) (node : ℕ) : Type 0 where
   pub tight : IsTight instance flows potential e
   pub leads : head instance.arcs e ≡ node
   pub near : slice_index distances (tail instance.arcs e) ≤ limit
@@ -60,5 +60,5 @@ pub record IsHop (instance : Instance) (flows : Flows) (potential : ℕ → ℕ)
 pub record LeadsBack (instance : Instance) (flows : Flows) (potential : ℕ → ℕ) (from limit : ℕ) (distances : List ℕ) (parents : List Edge) : Type 0 where
   pub from_within : from ≤ instance.steps
   pub each_parent : instance.steps + 1 ≤ length parents
-  pub hops : (times : ℕ → ℕ)
-      × ((node : ℕ) → node ≢ from → node ≤ instance.steps → slice_index distances node ≤ limit → IsHop instance flows potential distances limit times (edge_at parents node) node)
+  pub tight_parents : (times : ℕ → ℕ)
+      × ((node : ℕ) → node ≢ from → node ≤ instance.steps → slice_index distances node ≤ limit → IsTightParent instance flows potential distances limit times (edge_at parents node) node)

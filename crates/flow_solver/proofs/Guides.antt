@@ -5,8 +5,8 @@ use Rattle.flow_model.specs.declared.edges.Edge.TheVariants.{Inner}
 use Rattle.flow_model.specs.Networks.{tail, head, gain, loss, residual, IsEdge}
 use Rattle.flow_model.specs.Pushes.{edge_at}
 use Rattle.flow_network.specs.States.{State, IsState}
-use Rattle.flow_parts.specs.Searches.{IsHop}
-use Rattle.flow_parts.proofs.Trees.{parent_is_hop}
+use Rattle.flow_parts.specs.Searches.{IsTightParent}
+use Rattle.flow_parts.proofs.Trees.{parent_is_tight}
 use Rattle.flow_solver.specs.Searches.{FoundToLast, AreLoweredToLast, IsReady, IsSearchToLast, IsSettledToLast, LeadsBackToFirst, above_first, limit_of}
 use Rattle.flow_parts.proofs.EdgeLists.{ends_within}
 
@@ -68,15 +68,15 @@ ready_lowered state found potentials ready settled fits low =
 pub leads_back : (state : State) (found : FoundToLast) (potentials : List ℕ) → IsReady state → IsSearchToLast state found → ((e : Edge) → IsEdge state.instance e → IsSettledToLast state found.distances e)
     → AreLoweredToLast state found.distances potentials → LeadsBackToFirst (record state { potentials = potentials }) found
 leads_back state found potentials ready search settled low =
-    record { from_within = omega arith; each_parent = search.tree.each_parent; hops = (search.tree.found_by.0, hop) }
+    record { from_within = omega arith; each_parent = search.tree.each_parent; tight_parents = (search.tree.found_by.0, tight_parent) }
   where
-    hop : (node : ℕ) → node ≢ 0 → node ≤ state.instance.steps → slice_index found.distances node ≤ limit_of state found.distances
-        → IsHop state.instance state.flows (slice_index potentials) found.distances (limit_of state found.distances) search.tree.found_by.0 (edge_at found.parents node) node
-    hop node other within near =
+    tight_parent : (node : ℕ) → node ≢ 0 → node ≤ state.instance.steps → slice_index found.distances node ≤ limit_of state found.distances
+        → IsTightParent state.instance state.flows (slice_index potentials) found.distances (limit_of state found.distances) search.tree.found_by.0 (edge_at found.parents node) node
+    tight_parent node other within near =
         let e : Edge = edge_at found.parents node in
         let last_found : limit_of state found.distances < above_first state = omega (arith, within_first state found state.instance.steps ready search settled (omega arith)) in
         let parent = search.tree.found_by.1 node other within (omega (arith, near, last_found)) in
         let ends = ends_within state.instance ready.fits.in_range e parent.is_edge in
-        parent_is_hop state.instance state.flows state.potentials found.distances (limit_of state found.distances) (slice_index potentials) search.tree.found_by.0 e node
+        parent_is_tight state.instance state.flows state.potentials found.distances (limit_of state found.distances) (slice_index potentials) search.tree.found_by.0 e node
         parent (ready.valid e parent.is_edge) (settled e parent.is_edge) near (low (head state.instance.arcs e) ends.1) (low (tail state.instance.arcs e) ends.0)
         (enough_at state found (head state.instance.arcs e) ready settled ends.1) (enough_at state found (tail state.instance.arcs e) ready settled ends.0)

@@ -10,4 +10,4 @@ pub record IsAtStart (state : State) (lists : Lists) (found : FoundToLast) (dead
   pub edges : AreListed state.instance lists (2 * length state.instance.arcs)
   pub room : HasSearchRoom state.instance.steps found
   pub marks : length dead ≡ state.instance.steps + 1
-  pub each_hop : path ≡ state.instance.steps
+  pub path_room : path ≡ state.instance.steps

@@ -1,4 +1,5 @@
-//! The exact solver of the flow on a chain: paths of greatest cost, pushed one after another.
+//! The exact solver of the flow on a chain, by successive shortest paths (Jewell 1958, Busacker and Gowen 1960) with
+//! potentials (Tomizawa 1971, Edmonds and Karp 1972).
 //!
 //! The rules are "Solution" and "Potential" in docs/DEFINITIONS.md. Each round finds how far the nodes are from the
 //! first, with the negated reduced costs of the edges as lengths, lowers the potentials by it, and pushes units along

@@ -74,9 +74,9 @@ fn is_tight(network: &Network, edge: Edge) -> bool
     requires { IsEdge network.now.instance edge }
     ensures { IsTrue result → IsTight network.now.instance network.now.flows (slice_index network.now.potentials) edge }
 {
-    let hop = network.hop(edge);
-    let behind = hop.loss + network.potential(hop.tail);
-    let ahead = hop.gain + network.potential(hop.head);
+    let ends = network.ends(edge);
+    let behind = ends.loss + network.potential(ends.tail);
+    let ahead = ends.gain + network.potential(ends.head);
     ahead == behind && network.residual(edge) > 0
 }
 
@@ -94,7 +94,7 @@ fn arc_on(network: &Network, edges: &OuterEdges, dead: &DeadEnds, node: u32) -> 
         let number = left - 1;
         if number < arcs {
             let edge = Edge::Outer(number);
-            if !dead.has(network.hop(edge).head) && is_tight(network, edge) {
+            if !dead.has(network.ends(edge).head) && is_tight(network, edge) {
                 return Some(edge);
             }
         }
@@ -130,7 +130,7 @@ fn find(
     requires fits { IsState network.now }
     requires edges { AreListed network.now.instance edges.now (2 * length network.now.instance.arcs) }
     requires marks { length dead.old ≡ network.now.instance.steps + 1 }
-    requires each_hop { length path.old ≡ network.now.instance.steps }
+    requires path_room { length path.old ≡ network.now.instance.steps }
     ensures marks { length dead.new ≡ length dead.old }
     ensures within { IfSome result (λ len. len ≤ length path.new) }
     ensures path { IfSome result (λ len. IsOnward network.now network.now.instance.steps (take len path.new)) }
@@ -138,7 +138,7 @@ fn find(
     let last = network.instance().steps();
     let mut node = 0;
     let mut len = 0;
-    // Each turn goes on to a node or marks one, and each mark takes one edge back: three times the nodes are enough.
+    // Each iteration goes on to a node or marks one, and each mark takes one edge back: three times the nodes are enough.
     for _ in 0..3 * (last as u64 + 1) {
         if node == last {
             return Some(len);
@@ -147,7 +147,7 @@ fn find(
             Some(edge) => {
                 path[len] = edge;
                 len += 1;
-                node = network.hop(edge).head;
+                node = network.ends(edge).head;
             }
             None => {
                 dead.mark(node);
@@ -155,7 +155,7 @@ fn find(
                     return None;
                 }
                 len -= 1;
-                node = network.hop(path[len]).tail;
+                node = network.ends(path[len]).tail;
             }
         }
     }
@@ -189,7 +189,7 @@ pub(crate) fn push_onward(
     requires ready { IsReady network.old }
     requires edges { AreListed network.old.instance edges.now (2 * length network.old.instance.arcs) }
     requires marks { length dead.old ≡ network.old.instance.steps + 1 }
-    requires each_hop { length path.old ≡ network.old.instance.steps }
+    requires path_room { length path.old ≡ network.old.instance.steps }
     ensures keeps { Keeps network.old network.new }
     ensures marks { length dead.new ≡ length dead.old }
 {

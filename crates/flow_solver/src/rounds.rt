@@ -44,7 +44,7 @@ pub(crate) fn augment(
     requires edges { AreListed network.old.instance edges.now (2 * length network.old.instance.arcs) }
     requires room { HasSearchRoom network.old.instance.steps search.old }
     requires marks { length dead.old ≡ network.old.instance.steps + 1 }
-    requires each_hop { length path.old ≡ network.old.instance.steps }
+    requires path_room { length path.old ≡ network.old.instance.steps }
     requires left { network.old.pushed < network.old.instance.units }
     ensures advances { Advances network.old network.new }
     ensures room { HasSearchRoom network.old.instance.steps search.new }

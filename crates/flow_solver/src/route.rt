@@ -19,7 +19,7 @@ pub(crate) struct Route {
 pub(crate) fn trace(network: &Network, search: &Search, path: &mut [Edge]) -> Route
     requires fits { IsState network.now }
     requires back { LeadsBackToFirst network.now search.now }
-    requires each_hop { length path.old ≡ network.now.instance.steps }
+    requires path_room { length path.old ≡ network.now.instance.steps }
     requires left { network.now.pushed < network.now.instance.units }
     ensures within { result.start ≤ length path.new }
     ensures tight { All (IsTight network.now.instance network.now.flows (slice_index network.now.potentials)) (drop result.start path.new) }
@@ -37,7 +37,7 @@ pub(crate) fn trace(network: &Network, search: &Search, path: &mut [Edge]) -> Ro
         amount = amount.min(network.residual(edge));
         start -= 1;
         path[start] = edge;
-        node = network.hop(edge).tail;
+        node = network.ends(edge).tail;
     }
     Route { start, amount }
 }

@@ -19,7 +19,7 @@ use std::marker::Model;
 /// How many nodes can wait on the stack.
 const STACK: usize = 4096;
 
-/// How far each node is from the first, by the walks that were found, and the last edge of the walk to it. The length
+/// How far each node is from the first, along the shortest path that was found, and the last edge of that path. The length
 /// of an edge with room is its negated reduced cost. No distance matters beyond that of the last node. Nodes that were
 /// found as far as the node at hand wait on a stack, as long as it has room, and the others in a queue.
 #[derive(Drop)]
@@ -107,19 +107,19 @@ impl Search {
         if network.residual(edge) == 0 {
             return;
         }
-        let hop = network.hop(edge);
+        let ends = network.ends(edge);
         let limit = self.distance(network.instance().steps());
-        let near = self.distance(hop.tail);
-        if near >= limit || near >= self.distance(hop.head) {
+        let near = self.distance(ends.tail);
+        if near >= limit || near >= self.distance(ends.head) {
             return;
         }
-        let behind = near + (hop.loss + network.potential(hop.tail));
-        let along = behind - (hop.gain + network.potential(hop.head));
-        if along >= limit || along >= self.distance(hop.head) {
+        let behind = near + (ends.loss + network.potential(ends.tail));
+        let along = behind - (ends.gain + network.potential(ends.head));
+        if along >= limit || along >= self.distance(ends.head) {
             return;
         }
-        self.lower(hop.head, along, edge);
-        self.enqueue(hop.head, along == near);
+        self.lower(ends.head, along, edge);
+        self.enqueue(ends.head, along == near);
     }
 
     // Writes the lesser distance of the node, and the edge that leads to it.

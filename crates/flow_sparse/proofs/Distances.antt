@@ -7,12 +7,12 @@ use Rattle.flow_model.specs.Networks.{tail, head, gain, residual, IsEdge}
 use Rattle.flow_model.specs.Pushes.{edge_at}
 use Rattle.flow_model.proofs.Lists.{set_at}
 use Rattle.flow_parts.specs.Queues.{Waits, IsQueue, Joins, Leaves}
-use Rattle.flow_parts.proofs.Trees.{first_tree, tree_more, parent_is_hop}
-use Rattle.flow_parts.specs.Searches.{lowered, IsHop, IsTree, at_tail}
+use Rattle.flow_parts.proofs.Trees.{first_tree, tree_more, parent_is_tight}
+use Rattle.flow_parts.specs.Searches.{lowered, IsTightParent, IsTree, at_tail}
 use Rattle.flow_sparse.specs.States.{State, IsReady, IsHigh, IsReached}
 use Rattle.flow_sparse.specs.Searches.{Found, IsAimed, Rests, IsSearch, IsGoal, AreSettled, Nears, IsIdle, far, IsSettledBy, LeadsBackLowered}
 use Rattle.flow_sparse.proofs.Levels.{ends_within}
-use Rattle.flow_sparse.proofs.Lowered.{enough, over_is_reached}
+use Rattle.flow_sparse.proofs.Lowered.{enough, excess_is_reached}
 
 -- the tree of a search from the node
 abbrev pub IsTreeFrom : State → ℕ → List ℕ → List Edge → Type 0
@@ -56,26 +56,26 @@ nears_more state from old new e near ready search is_edge room value nearer belo
             (λ (other : v ≡ head state.instance.arcs e → ⊥). search.waits v (joins.only v waits other))
             (cases_eq v (head state.instance.arcs e));
         small = omega (arith, aimed.limit_falls, search.small);
-        over_is_past = λ v h over.
+        excess_is_past = λ v h excess.
             ⊎_elim
-            (λ (same : v ≡ head state.instance.arcs e). omega (arith, aimed.past (omega (arith, over, ap (slice_index state.over) same)), ap (slice_index new.distances) same))
-            (λ (other : v ≡ head state.instance.arcs e → ⊥). omega (arith, aimed.limit_falls, search.over_is_past v h over, kept v other))
+            (λ (same : v ≡ head state.instance.arcs e). omega (arith, aimed.past (omega (arith, excess, ap (slice_index state.excess) same)), ap (slice_index new.distances) same))
+            (λ (other : v ≡ head state.instance.arcs e → ⊥). omega (arith, aimed.limit_falls, search.excess_is_past v h excess, kept v other))
             (cases_eq v (head state.instance.arcs e));
         goal = λ low.
             ⊎_elim
             (λ (was : (new.limit ≡ old.limit) × (new.goal ≡ old.goal)).
             let goal : IsGoal state old = search.goal (omega (arith, low, was.0)) in
             let other : new.goal ≢ head state.instance.arcs e = λ same.
-            omega (arith, same, was.1, was.0, below, nearer, goal.at_limit, aimed.past (omega (arith, goal.over, ap (slice_index state.over) (sym was.1 ∙ same))), own) in
+            omega (arith, same, was.1, was.0, below, nearer, goal.at_limit, aimed.past (omega (arith, goal.excess, ap (slice_index state.excess) (sym was.1 ∙ same))), own) in
             record {
               within = omega (arith, goal.within, was.1);
-              over = omega (arith, goal.over, ap (slice_index state.over) was.1);
+              excess = omega (arith, goal.excess, ap (slice_index state.excess) was.1);
               at_limit = omega (arith, kept new.goal other, ap (slice_index old.distances) was.1, goal.at_limit, was.0);
             })
-            (λ (is : (new.limit ≡ slice_index new.distances (head state.instance.arcs e)) × (new.goal ≡ head state.instance.arcs e) × (0 < slice_index state.over (head state.instance.arcs e))).
+            (λ (is : (new.limit ≡ slice_index new.distances (head state.instance.arcs e)) × (new.goal ≡ head state.instance.arcs e) × (0 < slice_index state.excess (head state.instance.arcs e))).
             record {
               within = omega (arith, is.1, ends.1);
-              over = omega (arith, is.2, ap (slice_index state.over) is.1);
+              excess = omega (arith, is.2, ap (slice_index state.excess) is.1);
               at_limit = omega (arith, is.0, ap (slice_index new.distances) is.1);
             })
             aimed.goal_is;
@@ -119,12 +119,12 @@ search_taken state from old new search is queue only =
       queue = queue;
       waits = λ v h. search.waits v (only v h);
       small = subst (λ (f : Found). f.limit ≤ far) (sym is) search.small;
-      over_is_past = subst (λ (f : Found). (node : ℕ) → node ≤ state.instance.steps → 0 < slice_index state.over node → f.limit ≤ slice_index f.distances node) (sym is) search.over_is_past;
+      excess_is_past = subst (λ (f : Found). (node : ℕ) → node ≤ state.instance.steps → 0 < slice_index state.excess node → f.limit ≤ slice_index f.distances node) (sym is) search.excess_is_past;
       goal = λ low.
           let goal : IsGoal state old = search.goal (omega (arith, low, ap (λ (f : Found). f.limit) is)) in
           record {
             within = omega (arith, goal.within, ap (λ (f : Found). f.goal) is);
-            over = omega (arith, goal.over, ap (λ (f : Found). slice_index state.over f.goal) is);
+            excess = omega (arith, goal.excess, ap (λ (f : Found). slice_index state.excess f.goal) is);
             at_limit = ap (λ (f : Found). slice_index f.distances f.goal) is ∙ goal.at_limit ∙ sym (ap (λ (f : Found). f.limit) is);
           };
     }
@@ -158,30 +158,30 @@ all_settled state old ready settled far_off e is has =
 
 -- what the search says of distances
 pub reached : (state : State) (from : ℕ) (found : Found) → IsSearch state from found → ((e : Edge) → IsEdge state.instance e → IsSettledBy state found e) → IsReached state from found.distances found.limit
-reached state from found search settled = record { from_within = search.tree.from_within; start = search.tree.start; settled = settled; over_is_past = search.over_is_past }
+reached state from found search settled = record { from_within = search.tree.from_within; start = search.tree.start; settled = settled; excess_is_past = search.excess_is_past }
 
--- where units are missing, a node with units over was found
+-- from a node with a deficit, a node with an excess was found
 pub goal_found : (state : State) (from : ℕ) (found : Found) → IsReady state → IsHigh state → IsSearch state from found → ((e : Edge) → IsEdge state.instance e → IsSettledBy state found e)
-    → 0 < slice_index state.under from → IsGoal state found
-goal_found state from found ready high search settled missing = search.goal (over_is_reached state from found.limit found.distances ready high (reached state from found search settled) missing)
+    → 0 < slice_index state.deficit from → IsGoal state found
+goal_found state from found ready high search settled deficit = search.goal (excess_is_reached state from found.limit found.distances ready high (reached state from found search settled) deficit)
 
 -- under the lowered potentials, tight edges lead back from each node within the limit
 pub leads_back : (state : State) (from : ℕ) (found : Found) → IsReady state → IsHigh state → IsSearch state from found → ((e : Edge) → IsEdge state.instance e → IsSettledBy state found e)
-    → 0 < slice_index state.under from → LeadsBackLowered state from found
-leads_back state from found ready high search settled missing =
-    record { from_within = search.tree.from_within; each_parent = search.tree.each_parent; hops = (search.tree.found_by.0, hop) }
+    → 0 < slice_index state.deficit from → LeadsBackLowered state from found
+leads_back state from found ready high search settled deficit =
+    record { from_within = search.tree.from_within; each_parent = search.tree.each_parent; tight_parents = (search.tree.found_by.0, tight_parent) }
   where
-    hop : (node : ℕ) → node ≢ from → node ≤ state.instance.steps → slice_index found.distances node ≤ found.limit
-        → IsHop state.instance state.flows (lowered state.potentials found.distances found.limit) found.distances found.limit search.tree.found_by.0 (edge_at found.parents node) node
-    hop node some within near =
+    tight_parent : (node : ℕ) → node ≢ from → node ≤ state.instance.steps → slice_index found.distances node ≤ found.limit
+        → IsTightParent state.instance state.flows (lowered state.potentials found.distances found.limit) found.distances found.limit search.tree.found_by.0 (edge_at found.parents node) node
+    tight_parent node some within near =
         let e : Edge = edge_at found.parents node in
         let is : IsReached state from found.distances found.limit = reached state from found search settled in
-        let parent = search.tree.found_by.1 node some within (omega (arith, near, over_is_reached state from found.limit found.distances ready high is missing)) in
+        let parent = search.tree.found_by.1 node some within (omega (arith, near, excess_is_reached state from found.limit found.distances ready high is deficit)) in
         let ends = ends_within state.instance ready.fits.in_range e parent.is_edge in
-        parent_is_hop state.instance state.flows state.potentials found.distances found.limit (lowered state.potentials found.distances found.limit) search.tree.found_by.0 e node
+        parent_is_tight state.instance state.flows state.potentials found.distances found.limit (lowered state.potentials found.distances found.limit) search.tree.found_by.0 e node
         parent (ready.valid e parent.is_edge) (settled e parent.is_edge) near refl refl
-        (omega (arith, enough state from found.limit found.distances ready high is missing (head state.instance.arcs e) ends.1))
-        (omega (arith, enough state from found.limit found.distances ready high is missing (tail state.instance.arcs e) ends.0))
+        (omega (arith, enough state from found.limit found.distances ready high is deficit (head state.instance.arcs e) ends.1))
+        (omega (arith, enough state from found.limit found.distances ready high is deficit (tail state.instance.arcs e) ends.0))
 
 -- the node where the search begins was found and waits, and no other
 pub started : (state : State) (from : ℕ) (old new : Found) → IsIdle state.instance.steps old → from ≤ state.instance.steps
@@ -200,18 +200,18 @@ started state from old new idle within far_off distances parents aimed joins que
         (λ (n : v ≢ from). absurd (omega (arith, joins.only v h n, idle.placed.low v, idle.none_waits)))
         (cases_eq v from);
     small = aimed.limit_falls;
-    over_is_past = λ v h over.
+    excess_is_past = λ v h excess.
         ⊎_elim
-        (λ (e : v ≡ from). omega (arith, aimed.past (omega (arith, over, ap (slice_index state.over) e)), ap (slice_index new.distances) e))
+        (λ (e : v ≡ from). omega (arith, aimed.past (omega (arith, excess, ap (slice_index state.excess) e)), ap (slice_index new.distances) e))
         (λ (n : v ≢ from). omega (arith, others v n h, aimed.limit_falls))
         (cases_eq v from);
     goal = λ low.
         ⊎_elim
         (λ (was : (new.limit ≡ far) × (new.goal ≡ old.goal)). absurd (omega (arith, low, was.0)))
-        (λ (is : (new.limit ≡ slice_index new.distances from) × (new.goal ≡ from) × (0 < slice_index state.over from)).
+        (λ (is : (new.limit ≡ slice_index new.distances from) × (new.goal ≡ from) × (0 < slice_index state.excess from)).
         record {
           within = omega (arith, is.1, within);
-          over = omega (arith, is.2, ap (slice_index state.over) is.1);
+          excess = omega (arith, is.2, ap (slice_index state.excess) is.1);
           at_limit = omega (arith, is.0, ap (slice_index new.distances) is.1);
         })
         aimed.goal_is;

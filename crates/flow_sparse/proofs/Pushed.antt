@@ -1,4 +1,4 @@
--- A push along tight edges, from where units are missing to where they are over.
+-- A push along tight edges, from a node with a deficit to one with an excess.
 use Rattle.std.proofs.Common.{◌≡◌, ℕ, ◌+◌, ◌-◌, ◌<◌, ◌≤◌, sym, refl, ap, subst, cond, nat_lt, List, length, arith, ⊎_elim, slice_index, get_or, length-set, All}
 use Rattle.std.proofs.lemmas.Bool.{cases_lt, lt-ltb, le-ltb}
 use Rattle.flow_model.specs.declared.edges.Edge.{Edge}
@@ -48,14 +48,14 @@ module _ (s : State) (from to amount : ℕ) (path : List Edge) (ready : IsReady 
   after : Pushed (wide s) s.flows (push_path amount s.flows path) amount from to
   after = push_path-totals (wide s) amount path s.flows from to (λ i h. (ready.fits.in_range.arcs_fit i no_arc h).order) lengths ready.fits.low can.leads edges room can.simple
 
-  pub over_less : (n : ℕ) → first_sum (pushed s from to path amount).over n + cond (nat_lt to n) amount 0 ≡ first_sum s.over n
-  over_less n = first_sum-less s.over to n amount (omega (arith, can.to_within, ready.fits.each_over)) can.over
+  pub excess_less : (n : ℕ) → first_sum (pushed s from to path amount).excess n + cond (nat_lt to n) amount 0 ≡ first_sum s.excess n
+  excess_less n = first_sum-less s.excess to n amount (omega (arith, can.to_within, ready.fits.each_excess)) can.excess
 
-  pub under_less : (n : ℕ) → first_sum (pushed s from to path amount).under n + cond (nat_lt from n) amount 0 ≡ first_sum s.under n
-  under_less n = first_sum-less s.under from n amount (omega (arith, can.from_within, ready.fits.each_under)) can.missing
+  pub deficit_less : (n : ℕ) → first_sum (pushed s from to path amount).deficit n + cond (nat_lt from n) amount 0 ≡ first_sum s.deficit n
+  deficit_less n = first_sum-less s.deficit from n amount (omega (arith, can.from_within, ready.fits.each_deficit)) can.deficit
 
-  pub all_less : first_sum (pushed s from to path amount).over (s.instance.steps + 1) + amount ≡ first_sum s.over (s.instance.steps + 1)
-  all_less = omega (arith, over_less (s.instance.steps + 1), ap (λ b. cond b amount 0) (lt-ltb to (s.instance.steps + 1) (omega (arith, can.to_within))))
+  pub all_less : first_sum (pushed s from to path amount).excess (s.instance.steps + 1) + amount ≡ first_sum s.excess (s.instance.steps + 1)
+  all_less = omega (arith, excess_less (s.instance.steps + 1), ap (λ b. cond b amount 0) (lt-ltb to (s.instance.steps + 1) (omega (arith, can.to_within))))
 
   pub pushed_state : IsState (pushed s from to path amount)
   pushed_state =
@@ -64,16 +64,16 @@ module _ (s : State) (from to amount : ℕ) (path : List Edge) (ready : IsReady 
         each_arc = after.lengths.outer;
         each_step = omega (arith, after.lengths.inner, ready.fits.each_step);
         each_node = ready.fits.each_node;
-        each_over = omega (arith, length-set s.over to (slice_index s.over to - amount), ready.fits.each_over);
-        each_under = omega (arith, length-set s.under from (slice_index s.under from - amount), ready.fits.each_under);
+        each_excess = omega (arith, length-set s.excess to (slice_index s.excess to - amount), ready.fits.each_excess);
+        each_deficit = omega (arith, length-set s.deficit from (slice_index s.deficit from - amount), ready.fits.each_deficit);
         low = after.within;
         balance = λ t h.
-            omega (arith, after.totals t (omega (arith, h, ready.fits.each_step)), ready.fits.balance t h, over_less (t + 1), under_less (t + 1), parts amount t from, parts amount t to);
+            omega (arith, after.totals t (omega (arith, h, ready.fits.each_step)), ready.fits.balance t h, excess_less (t + 1), deficit_less (t + 1), parts amount t from, parts amount t to);
         total = omega (
           arith,
           ready.fits.total,
           all_less,
-          under_less (s.instance.steps + 1),
+          deficit_less (s.instance.steps + 1),
           ap (λ b. cond b amount 0) (lt-ltb from (s.instance.steps + 1) (omega (arith, can.from_within))),
         );
       }
@@ -98,21 +98,21 @@ module _ (s : State) (from to amount : ℕ) (path : List Edge) (ready : IsReady 
 
   pub pushed_is_ready : IsReady (pushed s from to path amount)
       × IsHigh (pushed s from to path amount)
-      × (first_sum (pushed s from to path amount).over (s.instance.steps + 1) + amount ≡ first_sum s.over (s.instance.steps + 1))
+      × (first_sum (pushed s from to path amount).excess (s.instance.steps + 1) + amount ≡ first_sum s.excess (s.instance.steps + 1))
   pushed_is_ready = (
     record { fits = pushed_state; valid = pushed_valid },
     record {
-      high = λ node h over. high.high node h (omega (arith, over, less_at s.over to amount node (omega (arith, can.to_within, ready.fits.each_over))));
+      high = λ node h excess. high.high node h (omega (arith, excess, less_at s.excess to amount node (omega (arith, can.to_within, ready.fits.each_excess))));
       small = high.small;
       few = omega (arith, high.few, all_less);
     },
     all_less,
   )
 
--- the flow of a step is at most the units and all that is over
+-- the flow of a step is at most the units and all excess
 pub has_room_for : (s : State) (amount : ℕ) (e : Edge) → IsState s → IsHigh s → IsEdge s.instance e → amount ≤ residual s.instance s.flows e → HasWideRoomFor amount s.flows e
 has_room_for s amount (Inner t) is high is_edge room =
-    (omega (arith, is_edge, is.each_step), omega (arith, is.balance t is_edge, is.in_range.few_units, first_sum-le s.over (t + 1) (s.instance.steps + 1) (omega arith), high.few))
+    (omega (arith, is_edge, is.each_step), omega (arith, is.balance t is_edge, is.in_range.few_units, first_sum-le s.excess (t + 1) (s.instance.steps + 1) (omega arith), high.few))
 has_room_for s amount (InnerBack t) is high is_edge room = (omega (arith, is_edge, is.each_step), room)
 has_room_for s amount (Outer i) is high is_edge room = (omega (arith, is_edge, is.each_arc), omega (arith, is.low i is_edge, (is.in_range.arcs_fit i no_arc is_edge).small_weight))
 has_room_for s amount (OuterBack i) is high is_edge room = (omega (arith, is_edge, is.each_arc), room, omega (arith, is.low i is_edge, (is.in_range.arcs_fit i no_arc is_edge).small_weight))

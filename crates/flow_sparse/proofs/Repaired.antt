@@ -1,4 +1,4 @@
--- One push to where units are missing, and all of them.
+-- One push from a node with a deficit, and all of them.
 use Rattle.std.proofs.Common.{◌≡◌, ℕ, ◌+◌, ◌-◌, ◌<◌, ◌≤◌, ◌∙◌, sym, refl, ap, subst, List, length, arith, ⊎_elim, slice_index, get_or, length-set, All}
 use Rattle.std.proofs.lemmas.Bool.{cases_lt}
 use Rattle.flow_model.specs.declared.edges.Edge.{Edge}
@@ -23,9 +23,9 @@ tight_lowered s found potentials e fits low tight =
     record { is_edge = tight.is_edge; room = tight.room; tight = omega (arith, tight.tight, low (head s.instance.arcs e) ends.1, low (tail s.instance.arcs e) ends.0) }
 
 module _ (s : State) (from amount : ℕ) (found : Found) (potentials : List ℕ) (path : List Edge) (ready : IsReady s) (high : IsHigh s) (search : IsSearch s from found)
-    (settled : (e : Edge) → IsEdge s.instance e → IsSettledBy s found e) (missing : 0 < slice_index s.under from) (low : AreLowered s.instance.steps s.potentials found.distances found.limit potentials)
+    (settled : (e : Edge) → IsEdge s.instance e → IsSettledBy s found e) (deficit : 0 < slice_index s.deficit from) (low : AreLowered s.instance.steps s.potentials found.distances found.limit potentials)
     (each : length potentials ≡ length s.potentials) (tight : All (IsTight s.instance s.flows (lowered s.potentials found.distances found.limit)) path) (leads : Leads s.instance.arcs from path found.goal)
-    (room : All (λ e. amount ≤ residual s.instance s.flows e) path) (simple : IsSimple path) (some : 0 < amount) (few : amount ≤ slice_index s.under from) (less : amount ≤ slice_index s.over found.goal) where
+    (room : All (λ e. amount ≤ residual s.instance s.flows e) path) (simple : IsSimple path) (some : 0 < amount) (few : amount ≤ slice_index s.deficit from) (less : amount ≤ slice_index s.excess found.goal) where
   abbrev pub middle : State
   middle = record s { potentials = potentials }
 
@@ -33,25 +33,25 @@ module _ (s : State) (from amount : ℕ) (found : Found) (potentials : List ℕ)
   is = reached s from found search settled
 
   goal : IsGoal s found
-  goal = goal_found s from found ready high search settled missing
+  goal = goal_found s from found ready high search settled deficit
 
   pub both : IsReady middle × IsHigh middle
-  both = lowered_is_ready s from found.limit found.distances ready high is missing potentials (omega (arith, each, ready.fits.each_node)) low
+  both = lowered_is_ready s from found.limit found.distances ready high is deficit potentials (omega (arith, each, ready.fits.each_node)) low
 
   pub can : CanPush middle from found.goal path amount
   can =
       record {
         from_within = search.tree.from_within;
         to_within = goal.within;
-        missing = few;
-        over = less;
+        deficit = few;
+        excess = less;
         leads = leads;
         tight = λ k d h. tight_lowered s found potentials (get_or path k d) ready.fits low (tight k d h);
         room = room;
         simple = simple;
       }
 
-  pub repairs : Repairs s (pushed middle from found.goal path amount) from × (first_sum (pushed middle from found.goal path amount).over (s.instance.steps + 1) < first_sum s.over (s.instance.steps + 1))
+  pub repairs : Repairs s (pushed middle from found.goal path amount) from × (first_sum (pushed middle from found.goal path amount).excess (s.instance.steps + 1) < first_sum s.excess (s.instance.steps + 1))
   repairs =
       let done = pushed_is_ready middle from found.goal amount path both.0 both.1 can in
       let lengths = path_lengths middle from found.goal amount path both.0 both.1 can in (
@@ -63,10 +63,10 @@ module _ (s : State) (from amount : ℕ) (found : Found) (potentials : List ℕ)
             inner = lengths.inner;
             outer = omega (arith, lengths.outer, ready.fits.each_arc);
             potentials = each;
-            over = length-set s.over found.goal (slice_index s.over found.goal - amount);
-            under = length-set s.under from (slice_index s.under from - amount);
+            excess = length-set s.excess found.goal (slice_index s.excess found.goal - amount);
+            deficit = length-set s.deficit from (slice_index s.deficit from - amount);
           };
-          others = λ other n. (set_at s.under from other (slice_index s.under from - amount) (omega (arith, search.tree.from_within, ready.fits.each_under))).1 n;
+          others = λ other n. (set_at s.deficit from other (slice_index s.deficit from - amount) (omega (arith, search.tree.from_within, ready.fits.each_deficit))).1 n;
           less = omega (arith, done.2);
         },
         omega (arith, done.2, some),
@@ -75,7 +75,7 @@ module _ (s : State) (from amount : ℕ) (found : Found) (potentials : List ℕ)
 -- nothing happened
 pub Repairs-refl : (s : State) (node : ℕ) → IsReady s → IsHigh s → Repairs s s node
 Repairs-refl s node ready high =
-    record { ready = ready; high = high; same = record { instance = refl; inner = refl; outer = refl; potentials = refl; over = refl; under = refl }; others = λ other n. refl; less = omega arith }
+    record { ready = ready; high = high; same = record { instance = refl; inner = refl; outer = refl; potentials = refl; excess = refl; deficit = refl }; others = λ other n. refl; less = omega arith }
 
 pub repaired_after : (a b c : State) → IsRepaired a b → IsRepaired b c → IsRepaired a c
 repaired_after a b c before after =
@@ -84,8 +84,8 @@ repaired_after a b c before after =
       inner = after.inner ∙ before.inner;
       outer = after.outer ∙ before.outer;
       potentials = after.potentials ∙ before.potentials;
-      over = after.over ∙ before.over;
-      under = after.under ∙ before.under;
+      excess = after.excess ∙ before.excess;
+      deficit = after.deficit ∙ before.deficit;
     }
 
 -- one after the other
@@ -98,19 +98,19 @@ Repairs-trans a b c node before after =
       others = λ other n. after.others other n ∙ before.others other n;
       less =
           let e : b.instance.steps + 1 ≡ a.instance.steps + 1 = ap (λ i. i.steps + 1) before.same.instance in
-          omega (arith, before.less, after.less, ap (first_sum c.over) e, ap (first_sum b.over) e);
+          omega (arith, before.less, after.less, ap (first_sum c.excess) e, ap (first_sum b.excess) e);
     }
 
--- where units are missing nowhere, none are over
-pub none_over : (s : State) → IsState s → ((node : ℕ) → node ≤ s.instance.steps → slice_index s.under node ≡ 0) → first_sum s.over (s.instance.steps + 1) ≡ 0
-none_over s fits none =
+-- if no node has a deficit, none has an excess
+pub no_excess : (s : State) → IsState s → ((node : ℕ) → node ≤ s.instance.steps → slice_index s.deficit node ≡ 0) → first_sum s.excess (s.instance.steps + 1) ≡ 0
+no_excess s fits none =
     ⊎_elim
-    (λ (some : 0 < first_sum s.under (s.instance.steps + 1)).
+    (λ (some : 0 < first_sum s.deficit (s.instance.steps + 1)).
     let e : 0 + (s.instance.steps + 1) ≡ s.instance.steps + 1 = omega arith in
-    let found = first_sum-some s.under 0 (s.instance.steps + 1) (omega (arith, some, ap (first_sum s.under) e)) in
+    let found = first_sum-some s.deficit 0 (s.instance.steps + 1) (omega (arith, some, ap (first_sum s.deficit) e)) in
     absurd (omega (arith, found.3, none found.0 (omega (arith, found.2)))))
-    (λ (zero_sum : first_sum s.under (s.instance.steps + 1) ≤ 0). omega (arith, fits.total))
-    (cases_lt 0 (first_sum s.under (s.instance.steps + 1)))
+    (λ (zero_sum : first_sum s.deficit (s.instance.steps + 1) ≤ 0). omega (arith, fits.total))
+    (cases_lt 0 (first_sum s.deficit (s.instance.steps + 1)))
 
 -- the same of what equals the parts
 pub can_given : (s low : State) (from goal amount : ℕ) (found : Found) (potentials : List ℕ) (path given : List Edge) → low ≡ record s { potentials = potentials } → goal ≡ found.goal → given ≡ path
@@ -128,10 +128,10 @@ pushed_given s low new from goal amount found potentials path given same is take
     ∙ ap (λ (es : List Edge). pushed (record s { potentials = potentials }) from found.goal es amount) taken
 
 pub repairs_given : (s low new : State) (from to amount : ℕ) (path : List Edge) → new ≡ pushed low from to path amount
-    → Repairs s (pushed low from to path amount) from × (first_sum (pushed low from to path amount).over (s.instance.steps + 1) < first_sum s.over (s.instance.steps + 1))
-    → Repairs s new from × (first_sum new.over (s.instance.steps + 1) < first_sum s.over (s.instance.steps + 1))
+    → Repairs s (pushed low from to path amount) from × (first_sum (pushed low from to path amount).excess (s.instance.steps + 1) < first_sum s.excess (s.instance.steps + 1))
+    → Repairs s new from × (first_sum new.excess (s.instance.steps + 1) < first_sum s.excess (s.instance.steps + 1))
 repairs_given s low new from to amount path done both =
-    subst (λ (x : State). Repairs s x from × (first_sum x.over (s.instance.steps + 1) < first_sum s.over (s.instance.steps + 1))) (sym done) both
+    subst (λ (x : State). Repairs s x from × (first_sum x.excess (s.instance.steps + 1) < first_sum s.excess (s.instance.steps + 1))) (sym done) both
 
 -- where there is as much room, a search can begin
 pub idle_kept : (steps : ℕ) (old new : Found) → IsIdle steps old → KeepsRoom old new → IsIdle steps new

@@ -1,4 +1,4 @@
--- A search for the distance of nodes from one of them, as far as the nearest that has units over.
+-- A search for the distance of nodes from one of them, as far as the nearest that has an excess.
 use Rattle.std.specs.Prelude.{◌≡◌, ◌≢◌, ◌⊎◌, ℕ, ◌+◌, ◌-◌, ◌*◌, ◌^◌, ◌<◌, ◌≤◌, ◌==◌, if◌then◌else◌, min, List, length, slice_index, sum}
 use Rattle.flow_model.specs.declared.edges.Edge.{Edge}
 use Rattle.flow_model.specs.Networks.{tail, head, residual, IsEdge, IsTight}
@@ -12,7 +12,7 @@ use Rattle.flow_sparse.specs.Ranges.{Ranges, IsPlacedAt, IsSound, AreSorted, Are
 use Rattle.flow_sparse.specs.States.{State}
 
 -- how far each node is by a walk that was found, the last edge of that walk, the nodes that wait for their edges to be looked
--- at, and the nearest node with units over, with its distance as the limit beyond which no other matters
+-- at, and the nearest node with an excess, with its distance as the limit beyond which no other matters
 pub record Found : Type 0 where
   pub distances : List ℕ
   pub parents : List Edge
@@ -32,19 +32,19 @@ far = 2 ^ 125
 abbrev pub IsSettledBy : State → Found → Edge → Type 0
 IsSettledBy state found e = IsSettled state.instance state.flows state.potentials found.distances found.limit e
 
--- the goal has units over, and is as far as the limit
+-- the goal has an excess, and is as far as the limit
 pub record IsGoal (state : State) (found : Found) : Type 0 where
   pub within : found.goal ≤ state.instance.steps
-  pub over : 0 < slice_index state.over found.goal
+  pub excess : 0 < slice_index state.excess found.goal
   pub at_limit : slice_index found.distances found.goal ≡ found.limit
 
--- a tree of the nodes that were found, a queue by their distances, and the nearest with units over, if one was found
+-- a tree of the nodes that were found, a queue by their distances, and the nearest with an excess, if one was found
 pub record IsSearch (state : State) (from : ℕ) (found : Found) : Type 0 where
   pub tree : IsTree state.instance state.flows state.potentials from far found.distances found.parents
   pub queue : IsQueue found.waiting found.distances
   pub waits : (node : ℕ) → Waits found.waiting node → node ≤ state.instance.steps
   pub small : found.limit ≤ far
-  pub over_is_past : (node : ℕ) → node ≤ state.instance.steps → 0 < slice_index state.over node → found.limit ≤ slice_index found.distances node
+  pub excess_is_past : (node : ℕ) → node ≤ state.instance.steps → 0 < slice_index state.excess node → found.limit ≤ slice_index found.distances node
   pub goal : found.limit < far → IsGoal state found
 
 -- the edges out of nodes that don't wait are settled
@@ -94,7 +94,7 @@ list_of state number = list_of_edge state (edge_of (length state.instance.arcs) 
 abbrev pub listed_potential : State → Ranges → ℕ → ℕ
 listed_potential state lists node = slice_index state.potentials node + slice_index lists.falls node
 
--- each node has a range of places with edges, their slacks rising, and each outer edge with room to another node stands in
+-- each node has a range of places with edges, their lengths rising, and each outer edge with room to another node stands in
 -- that of its tail, or was woken
 pub record IsListed (state : State) (lists : Ranges) : Type 0 where
   pub few : state.instance.steps + 1 < length lists.first
@@ -124,15 +124,15 @@ IsWokenIfShut state woken e =
 abbrev pub AreWaysBackWoken : State → List WokenEdge → List Edge → Type 0
 AreWaysBackWoken state woken path = (j : ℕ) → j < length path → IsWokenIfShut state woken (opposite (edge_at path j))
 
--- by its slack, the listed edge makes its head no nearer within the limit, if it leads out of a node of that distance, whose
+-- by its listed length, the edge makes its head no nearer within the limit, if it leads out of a node of that distance, whose
 -- potential fell by that
 abbrev pub BringsNoNearer : Ranges → Found → ListedEdge → ℕ → ℕ → Type 0
 BringsNoNearer lists found edge near fell =
-    min found.limit (slice_index found.distances edge.head) + fell ≤ near + edge.slack + slice_index lists.falls edge.head
+    min found.limit (slice_index found.distances edge.head) + fell ≤ near + edge.listed_length + slice_index lists.falls edge.head
 
--- by its slack, the listed edge is shorter than 0, if it leads out of a node whose potential fell by that
+-- by its listed length, the edge is shorter than 0, if it leads out of a node whose potential fell by that
 abbrev pub IsShort : Ranges → ListedEdge → ℕ → Type 0
-IsShort lists edge fell = (edge.slack < 2 ^ 64 - 1) × (edge.slack + slice_index lists.falls edge.head < fell)
+IsShort lists edge fell = (edge.listed_length < 2 ^ 64 - 1) × (edge.listed_length + slice_index lists.falls edge.head < fell)
 
 -- the listed edge is no way that brings its head nearer within the limit, if it leads out of a node of that distance, whose
 -- potential fell by that: it is too long for that, or has no room
@@ -167,8 +167,8 @@ IsTightLowered state found e = IsTight state.instance state.flows (lowered state
 abbrev pub LeadsBackLowered : State → ℕ → Found → Type 0
 LeadsBackLowered state from found = LeadsBack state.instance state.flows (lowered state.potentials found.distances found.limit) from found.limit found.distances found.parents
 
--- the nearest with units over after a node was found at the distance
+-- the nearest with an excess after a node was found at the distance
 pub record IsAimed (state : State) (old_limit old_goal : ℕ) (distances : List ℕ) (node limit goal : ℕ) : Type 0 where
   pub limit_falls : limit ≤ old_limit
-  pub past : 0 < slice_index state.over node → limit ≤ slice_index distances node
-  pub goal_is : ((limit ≡ old_limit) × (goal ≡ old_goal)) ⊎ ((limit ≡ slice_index distances node) × (goal ≡ node) × (0 < slice_index state.over node))
+  pub past : 0 < slice_index state.excess node → limit ≤ slice_index distances node
+  pub goal_is : ((limit ≡ old_limit) × (goal ≡ old_goal)) ⊎ ((limit ≡ slice_index distances node) × (goal ≡ node) × (0 < slice_index state.excess node))

@@ -1,4 +1,4 @@
-//! First prices: a constant price on some steps, and then those of blocks, which are settled one after another with the
+//! First prices: a constant price on some steps, and then those of blocks, which are solved one after another with the
 //! prices outside of them fixed. What is proved of them is their number alone, since a solution is found from any prices.
 ghost use Rattle.std.specs.Prelude.{◌≡◌, ◌+◌, ◌-◌, ◌<◌, ◌≤◌, IfOk, length};
 ghost use Rattle.flow_model.specs.Instances.{IsInstance};
@@ -10,13 +10,13 @@ use flow_model::{Instance, OuterArc};
 use flow_windows::Windows;
 use std::alloc::Global;
 
-/// At most this many blocks are settled first. With more of them most arcs of a long trace would be in many.
+/// At most this many blocks are solved first. With more of them most arcs of a long trace would be in many.
 const MOST_BLOCKS: u32 = 64;
 
 /// With fewer steps than this many blocks of the greatest first width there are at least this many blocks.
 const FEWEST_BLOCKS: u32 = 16;
 
-/// Where there are few blocks, the first ones have at most this many steps. Narrower ones cost more turns than they save.
+/// Where there are few blocks, the first ones have at most this many steps. Narrower ones cost more rounds than they save.
 const FIRST_STEPS: u32 = 32768;
 
 /// How many steps a block at least has. With fewer it would cost more to make than it saves.
@@ -87,8 +87,8 @@ fn block_of(
     Ok(Instance::new(past - first, instance.units(), parts))
 }
 
-// Settles the block with the prices outside of it fixed, and takes its prices. It takes the memory of a solver of the block.
-fn settle_block(
+// Solves the block with the prices outside of it fixed, and takes its prices. It takes the memory of a solver of the block.
+fn solve_block(
     alloc: Global,
     instance: &Instance,
     numbers: &[u32],
@@ -110,9 +110,9 @@ fn settle_block(
     Ok(())
 }
 
-// Settles the blocks of that width from the first one on. Before each the sums are of the new prices, and after it of the
+// Solves the blocks of that width from the first one on. Before each the sums are of the new prices, and after it of the
 // old ones.
-fn settle_level(
+fn solve_level(
     alloc: Global,
     instance: &Instance,
     width: u32,
@@ -132,7 +132,7 @@ fn settle_level(
     let mut first = 0;
     while windows.has_step() {
         let past = steps.min(first + width);
-        settle_block(
+        solve_block(
             alloc,
             instance,
             windows.numbers(),
@@ -170,9 +170,9 @@ pub(crate) fn first_prices(alloc: Global, instance: &Instance) -> Result<Vec<u12
     let mut sums = vec![in alloc; 0; steps as usize + 1]?;
     let mut width = first_width(steps);
     while width <= steps / 2 {
-        settle_level(alloc, instance, width, &mut sums, &mut prices)?;
+        solve_level(alloc, instance, width, &mut sums, &mut prices)?;
         width *= WIDER;
     }
-    settle_level(alloc, instance, steps / 3 + 1, &mut sums, &mut prices)?;
+    solve_level(alloc, instance, steps / 3 + 1, &mut sums, &mut prices)?;
     Ok(prices)
 }

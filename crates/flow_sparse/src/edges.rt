@@ -2,11 +2,11 @@
 //!
 //! They are numbered: first come the arcs, and then their back edges.
 
-/// An edge that had room when the lists were made, with the node that it leads to and its slack: how long it was then, as
-/// far as 64 bits hold that.
+/// An edge that had room when the lists were made, with the node that it leads to and its length then: its negated reduced
+/// cost, as far as 64 bits hold that.
 #[derive(Clone, Copy)]
 pub(crate) struct ListedEdge {
-    pub slack: u64,
+    pub listed_length: u64,
     pub head: u32,
     pub number: u32,
 }

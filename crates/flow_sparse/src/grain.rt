@@ -55,7 +55,7 @@ fn marginal(alloc: Global, instance: &Instance) -> Result<u128, NoMemory> {
     Ok(0)
 }
 
-/// The price of each step: that of a grain of steps on the one in the middle of each, and none on the others.
+/// A price for each step: the step in the middle of each grain has the price of the whole grain, and the others have none.
 pub(crate) fn grain_prices(alloc: Global, instance: &Instance) -> Result<Vec<u128>, NoMemory>
     ensures { IfOk result (λ prices. length prices.items ≡ instance.now.steps) }
 {

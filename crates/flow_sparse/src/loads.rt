@@ -1,4 +1,4 @@
-//! The loads of steps, and what they leave over at nodes.
+//! The loads of steps, and the excess and the deficit that they leave at nodes.
 ghost use Rattle.std.specs.Prelude.{◌≡◌, ℕ, ◌+◌, ◌-◌, ◌<◌, ◌≤◌, ◌^◌, min, length, slice_index, slice_set};
 ghost use Rattle.flow_model.specs.Instances.{IsInstance, load_at};
 ghost use Rattle.flow_sparse.specs.Loads.{AreBalanced, HaveLoads, AreChanges};
@@ -78,18 +78,18 @@ fn beside(load: u128, price: u128, units: u64) -> u128
     units as u128 - load
 }
 
-// Writes what is over at a node, or what is missing.
-fn put(node: usize, more: u128, less: u128, over: &mut [u128], under: &mut [u128])
-    requires { (node < length over.old) × (node < length under.old) }
-    ensures over { over.new ≡ slice_set over.old node (more - min more less) }
-    ensures under { under.new ≡ slice_set under.old node (less - min more less) }
+// Writes the excess and the deficit of a node, one of which is 0: by how much the one number is greater than the other.
+fn put(node: usize, more: u128, less: u128, excess: &mut [u128], deficit: &mut [u128])
+    requires { (node < length excess.old) × (node < length deficit.old) }
+    ensures excess { excess.new ≡ slice_set excess.old node (more - min more less) }
+    ensures deficit { deficit.new ≡ slice_set deficit.old node (less - min more less) }
 {
     let both = more.min(less);
-    over[node] = more - both;
-    under[node] = less - both;
+    excess[node] = more - both;
+    deficit[node] = less - both;
 }
 
-/// Writes what flows beside the arcs over the open steps, and what is over and missing at the nodes.
+/// Writes what flows beside the arcs over the open steps, and the excess and the deficit of the nodes.
 pub(crate) fn balance(
     count: u32,
     units: u64,
@@ -97,19 +97,19 @@ pub(crate) fn balance(
     loads: &[u128],
     prices: &[u128],
     inner: &mut [u128],
-    over: &mut [u128],
-    under: &mut [u128],
+    excess: &mut [u128],
+    deficit: &mut [u128],
 )
     requires few { count ≤ 2 ^ 25 }
     requires units { units ≤ 2 ^ 56 }
     requires each_step { (count ≤ length steps_of.now) × (count ≤ length inner.old) }
-    requires each_node { (count < length over.old) × (count < length under.old) }
+    requires each_node { (count < length excess.old) × (count < length deficit.old) }
     requires within { HaveLoads count steps_of.now loads.now prices.now }
     requires small { (k : ℕ) → k < count → slice_index loads.now (slice_index steps_of.now k) ≤ 2 ^ 74 }
-    ensures balanced { AreBalanced count units steps_of.now loads.now prices.now inner.new over.new under.new }
+    ensures balanced { AreBalanced count units steps_of.now loads.now prices.now inner.new excess.new deficit.new }
     ensures inner { length inner.new ≡ length inner.old }
-    ensures over { length over.new ≡ length over.old }
-    ensures under { length under.new ≡ length under.old }
+    ensures excess { length excess.new ≡ length excess.old }
+    ensures deficit { length deficit.new ≡ length deficit.old }
 {
     let mut more = 0;
     let mut less = 0;
@@ -120,9 +120,9 @@ pub(crate) fn balance(
         let passes = total.saturating_sub(units as u128);
         let lacks = (units as u128).saturating_sub(total);
         inner[node] = room;
-        put(node, passes + less, lacks + more, over, under);
+        put(node, passes + less, lacks + more, excess, deficit);
         more = passes;
         less = lacks;
     }
-    put(count as usize, less, more, over, under);
+    put(count as usize, less, more, excess, deficit);
 }

@@ -14,12 +14,12 @@ use crate::numbering::write_prices;
 use crate::pushing::push_along;
 use crate::starting::fit_flows;
 use flow_model::{Edge, Instance, OuterArc};
-use flow_network::Hop;
+use flow_network::{Ends, ends_of};
 use flow_parts::outer_edge;
 use std::marker::Model;
 
 /// The arcs between nodes, with one node for all times between two open steps; the flows along the arcs and beside them, the
-/// potential of each node, and how many units are over at each and how many are missing.
+/// potential of each node, and its excess and its deficit in units.
 #[derive(Drop)]
 pub(crate) struct Network {
     pub arcs: Vec<OuterArc>,
@@ -28,8 +28,8 @@ pub(crate) struct Network {
     pub outer: Vec<u64>,
     pub inner: Vec<u128>,
     pub potentials: Vec<u128>,
-    pub over: Vec<u128>,
-    pub under: Vec<u128>,
+    pub excess: Vec<u128>,
+    pub deficit: Vec<u128>,
 }
 
 impl Model for Network {
@@ -37,7 +37,7 @@ impl Model for Network {
 
     ghost Value = { State };
 
-    ghost view = { λ n. state_of n.count n.units n.arcs.items n.outer.items n.inner.items n.potentials.items n.over.items n.under.items };
+    ghost view = { λ n. state_of n.count n.units n.arcs.items n.outer.items n.inner.items n.potentials.items n.excess.items n.deficit.items };
 }
 
 impl Network {
@@ -75,50 +75,19 @@ impl Network {
         }
     }
 
-    /// The ends and the cost of the edge.
+    /// The ends of the edge, and what a unit along it earns and gives up.
     #[inline(always)]
-    pub fn hop(&self, edge: Edge) -> Hop
+    pub fn ends(&self, edge: Edge) -> Ends
         requires fits { IsNetwork self.now.instance }
         requires edge { IsEdge self.now.instance edge }
         ensures tail { result.tail ≡ tail self.now.instance.arcs edge }
         ensures head { result.head ≡ head self.now.instance.arcs edge }
         ensures gain { result.gain ≡ gain self.now.instance.arcs edge }
         ensures loss { result.loss ≡ loss self.now.instance.arcs edge }
-        ensures ends { (result.tail ≤ self.now.instance.steps) × (result.head ≤ self.now.instance.steps) }
+        ensures within { (result.tail ≤ self.now.instance.steps) × (result.head ≤ self.now.instance.steps) }
         ensures small { (result.gain ≤ 2 ^ 97) × (result.loss ≤ 2 ^ 97) }
     {
-        match edge {
-            Edge::Inner(step) => Hop {
-                tail: step,
-                head: step + 1,
-                gain: 0,
-                loss: 0,
-            },
-            Edge::InnerBack(step) => Hop {
-                tail: step + 1,
-                head: step,
-                gain: 0,
-                loss: 0,
-            },
-            Edge::Outer(arc) => {
-                let arc = self.arcs[arc as usize];
-                Hop {
-                    tail: arc.start,
-                    head: arc.end,
-                    gain: arc.cost,
-                    loss: 0,
-                }
-            }
-            Edge::OuterBack(arc) => {
-                let arc = self.arcs[arc as usize];
-                Hop {
-                    tail: arc.end,
-                    head: arc.start,
-                    gain: 0,
-                    loss: arc.cost,
-                }
-            }
-        }
+        ends_of(&self.arcs, edge)
     }
 
     /// The node in whose list the outer edge of that number stands: the one that it leads out of; or if it has no room, or
@@ -132,19 +101,19 @@ impl Network {
     {
         let past = self.steps() + 1;
         let edge = outer_edge(self.arc_count(), number);
-        let hop = self.hop(edge);
-        if hop.tail == hop.head {
+        let ends = self.ends(edge);
+        if ends.tail == ends.head {
             return past;
         }
         if self.residual(edge) == 0 {
             return past;
         }
-        hop.tail
+        ends.tail
     }
 
     /// How long the edge is, as far as 64 bits hold that. It has room, so it isn't shorter than 0.
     #[inline(always)]
-    pub fn slack(&self, edge: Edge) -> u64
+    pub fn length_of(&self, edge: Edge) -> u64
         requires ready { IsReady self.now }
         requires high { IsHigh self.now }
         requires edge { IsEdge self.now.instance edge }
@@ -152,9 +121,9 @@ impl Network {
         ensures bound { IsAsLong self.now.instance.arcs (slice_index self.now.potentials) result edge }
         ensures exact { IsNoLonger self.now.instance.arcs (slice_index self.now.potentials) result edge }
     {
-        let hop = self.hop(edge);
-        let behind = hop.loss + self.potential(hop.tail);
-        let length = behind - (hop.gain + self.potential(hop.head));
+        let ends = self.ends(edge);
+        let behind = ends.loss + self.potential(ends.tail);
+        let length = behind - (ends.gain + self.potential(ends.head));
         length.min(u64::MAX as u128) as u64
     }
 
@@ -176,32 +145,32 @@ impl Network {
         self.potentials[node as usize] = value;
     }
 
-    /// How many units are over at the node.
+    /// The excess of the node, in units.
     #[inline(always)]
-    pub fn over(&self, node: u32) -> u128
-        requires { node < length self.now.over }
-        ensures { result ≡ slice_index self.now.over node }
+    pub fn excess(&self, node: u32) -> u128
+        requires { node < length self.now.excess }
+        ensures { result ≡ slice_index self.now.excess node }
     {
-        self.over[node as usize]
+        self.excess[node as usize]
     }
 
-    /// How many units are missing at the node.
+    /// The deficit of the node, in units.
     #[inline(always)]
-    pub fn under(&self, node: u32) -> u128
-        requires { node < length self.now.under }
-        ensures { result ≡ slice_index self.now.under node }
+    pub fn deficit(&self, node: u32) -> u128
+        requires { node < length self.now.deficit }
+        ensures { result ≡ slice_index self.now.deficit node }
     {
-        self.under[node as usize]
+        self.deficit[node as usize]
     }
 
-    // Takes the amount from what is over at the one node, and from what is missing at the other.
-    fn settle(&mut self, from: u32, to: u32, amount: u128)
-        requires missing { (from < length self.old.under) × (amount ≤ slice_index self.old.under from) }
-        requires over { (to < length self.old.over) × (amount ≤ slice_index self.old.over to) }
+    // Takes the amount from the deficit of the one node, and from the excess of the other.
+    fn lessen(&mut self, from: u32, to: u32, amount: u128)
+        requires deficit { (from < length self.old.deficit) × (amount ≤ slice_index self.old.deficit from) }
+        requires excess { (to < length self.old.excess) × (amount ≤ slice_index self.old.excess to) }
         ensures { self.new ≡ with_less self.old from to amount }
     {
-        self.under[from as usize] -= amount;
-        self.over[to as usize] -= amount;
+        self.deficit[from as usize] -= amount;
+        self.excess[to as usize] -= amount;
     }
 
     // Pushes the amount along the path.
@@ -213,7 +182,7 @@ impl Network {
         push_along(path, amount, &mut self.outer, &mut self.inner);
     }
 
-    /// Pushes the amount along the path, from a node where it is missing to one where it is over.
+    /// Pushes the amount along the path, from a node with at least that deficit to one with at least that excess.
     pub fn push(&mut self, from: u32, to: u32, path: &[Edge], amount: u128)
         requires ready { IsReady self.old }
         requires high { IsHigh self.old }
@@ -221,7 +190,7 @@ impl Network {
         ensures { self.new ≡ pushed self.old from to path.now amount }
     {
         self.push_path(path, amount);
-        self.settle(from, to, amount);
+        self.lessen(from, to, amount);
     }
 
     /// Writes the price of each step: the fall of the potential between the nodes of its times.

@@ -49,14 +49,14 @@ impl Network {
         requires few { self.old.instance.steps ≤ 2 ^ 25 }
         requires units { self.old.instance.units ≤ 2 ^ 56 }
         requires each_step { (self.old.instance.steps ≤ length steps_of.now) × (self.old.instance.steps ≤ length self.old.flows.inner) }
-        requires each_node { (self.old.instance.steps < length self.old.over) × (self.old.instance.steps < length self.old.under) }
+        requires each_node { (self.old.instance.steps < length self.old.excess) × (self.old.instance.steps < length self.old.deficit) }
         requires within { HaveLoads self.old.instance.steps steps_of.now loads.now prices.now }
         requires small { (k : ℕ) → k < self.old.instance.steps → slice_index loads.now (slice_index steps_of.now k) ≤ 2 ^ 74 }
-        ensures rest { self.new ≡ record self.old { flows = record self.old.flows { inner = self.new.flows.inner }; over = self.new.over; under = self.new.under } }
-        ensures balanced { AreBalanced self.old.instance.steps self.old.instance.units steps_of.now loads.now prices.now self.new.flows.inner self.new.over self.new.under }
+        ensures rest { self.new ≡ record self.old { flows = record self.old.flows { inner = self.new.flows.inner }; excess = self.new.excess; deficit = self.new.deficit } }
+        ensures balanced { AreBalanced self.old.instance.steps self.old.instance.units steps_of.now loads.now prices.now self.new.flows.inner self.new.excess self.new.deficit }
         ensures inner { length self.new.flows.inner ≡ length self.old.flows.inner }
-        ensures over { length self.new.over ≡ length self.old.over }
-        ensures under { length self.new.under ≡ length self.old.under }
+        ensures excess { length self.new.excess ≡ length self.old.excess }
+        ensures deficit { length self.new.deficit ≡ length self.old.deficit }
     {
         balance(
             self.count,
@@ -65,8 +65,8 @@ impl Network {
             loads,
             prices,
             &mut self.inner,
-            &mut self.over,
-            &mut self.under,
+            &mut self.excess,
+            &mut self.deficit,
         );
     }
 
@@ -80,13 +80,13 @@ impl Network {
         let steps = count as usize;
         self.inner = vec![in alloc; 0; steps]?;
         self.potentials = vec![in alloc; 0; steps + 1]?;
-        self.over = vec![in alloc; 0; steps + 1]?;
-        self.under = vec![in alloc; 0; steps + 1]?;
+        self.excess = vec![in alloc; 0; steps + 1]?;
+        self.deficit = vec![in alloc; 0; steps + 1]?;
         Ok(())
     }
 
     /// Lets this many steps be open, and numbers them: takes the arcs between the nodes, the potentials that the prices are
-    /// the falls of, and what the loads leave over.
+    /// the falls of, and the excess and the deficit that the loads leave.
     pub fn open(
         &mut self,
         instance: &Instance,

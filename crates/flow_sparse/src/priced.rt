@@ -1,10 +1,11 @@
 //! A solution that is found from first prices.
-ghost use Rattle.std.specs.Prelude.{◌≡◌, IfOk, length};
+ghost use Rattle.std.specs.Prelude.{◌≡◌, ◌+◌, IfOk, length};
 ghost use Rattle.flow_model.specs.Instances.{IsInstance, IsSolution};
 ghost use Rattle.flow_sparse.specs.Contractions.{IsSized};
+ghost use Rattle.flow_sparse.specs.Rooms.{HasRoom};
 
 use crate::network::Network;
-use crate::settling::settle;
+use crate::rounds::{Workspace, run_rounds};
 use bound_base::NoMemory;
 use flow_model::{Instance, OuterArc, Solution};
 use std::alloc::Global;
@@ -30,8 +31,36 @@ fn network_of(alloc: Global, instance: &Instance) -> Result<Network, NoMemory>
         outer,
         inner: Vec::new(alloc),
         potentials: Vec::new(alloc),
-        over: Vec::new(alloc),
-        under: Vec::new(alloc),
+        excess: Vec::new(alloc),
+        deficit: Vec::new(alloc),
+    })
+}
+
+// What the rounds work on, with these prices, no step open and no load.
+fn workspace_of(
+    alloc: Global,
+    instance: &Instance,
+    prices: Vec<u128>,
+) -> Result<Workspace, NoMemory>
+    ensures fits { IfOk result (λ work. IsInstance instance.now) }
+    ensures room { IfOk result (λ work. HasRoom instance.now work.network (length work.nodes.items) (length work.steps_of.items)) }
+    ensures each_open { IfOk result (λ work. length work.opens.items ≡ instance.now.steps) }
+    ensures each_start { IfOk result (λ work. length work.loads.items ≡ instance.now.steps + 1) }
+    ensures prices { IfOk result (λ work. work.prices ≡ prices) }
+{
+    let steps = instance.steps() as usize;
+    let network = network_of(alloc, instance)?;
+    let opens = vec![in alloc; false; steps]?;
+    let nodes = vec![in alloc; 0; steps + 1]?;
+    let steps_of = vec![in alloc; 0; steps]?;
+    let loads = vec![in alloc; 0; steps + 1]?;
+    Ok(Workspace {
+        opens,
+        loads,
+        prices,
+        nodes,
+        steps_of,
+        network,
     })
 }
 
@@ -40,26 +69,17 @@ fn network_of(alloc: Global, instance: &Instance) -> Result<Network, NoMemory>
 pub(crate) fn solve_from(
     alloc: Global,
     instance: &Instance,
-    mut prices: Vec<u128>,
+    prices: Vec<u128>,
 ) -> Result<Solution, NoMemory>
     requires { length prices.items ≡ instance.now.steps }
     ensures { IfOk result (λ solution. IsSolution instance.now solution.prices solution.flows) }
 {
-    let steps = instance.steps() as usize;
-    let mut network = network_of(alloc, instance)?;
-    let mut opens = vec![in alloc; false; steps]?;
-    let mut nodes = vec![in alloc; 0; steps + 1]?;
-    let mut steps_of = vec![in alloc; 0; steps]?;
-    let mut loads = vec![in alloc; 0; steps + 1]?;
-    settle(
-        alloc,
-        instance,
-        &mut opens,
-        &mut loads,
-        &mut prices,
-        &mut nodes,
-        &mut steps_of,
-        &mut network,
-    )?;
+    let mut work = workspace_of(alloc, instance, prices)?;
+    run_rounds(alloc, instance, &mut work)?;
+    let Workspace {
+        prices,
+        network,
+        ..
+    } = work;
     Ok(Solution::new(prices, network.into_flows()))
 }

@@ -26,22 +26,22 @@ impl Search {
         ensures nears { Nears network.now from self.old self.new }
         ensures settled { IsSettledBy network.now self.new edge }
     {
-        let hop = network.hop(edge);
-        let near = self.distance(hop.tail);
-        if near >= self.distance(hop.head) || network.residual(edge) == 0 {
+        let ends = network.ends(edge);
+        let near = self.distance(ends.tail);
+        if near >= self.distance(ends.head) || network.residual(edge) == 0 {
             return;
         }
-        let behind = near + (hop.loss + network.potential(hop.tail));
-        let along = behind - (hop.gain + network.potential(hop.head));
-        if along >= self.limit() || along >= self.distance(hop.head) {
+        let behind = near + (ends.loss + network.potential(ends.tail));
+        let along = behind - (ends.gain + network.potential(ends.head));
+        if along >= self.limit() || along >= self.distance(ends.head) {
             return;
         }
-        self.lower(hop.head, along, edge);
-        self.aim(network, hop.head);
-        self.enqueue(hop.head);
+        self.lower(ends.head, along, edge);
+        self.aim(network, ends.head);
+        self.enqueue(ends.head);
     }
 
-    // How long by its slack an edge out of a node of that distance, whose potential fell by that, is at the limit.
+    // The listed length at which an edge out of a node of that distance, whose potential fell by that, leads to the limit.
     #[inline(always)]
     fn reach(&self, near: u128, fell: u128) -> u128
         requires small { self.now.limit ≤ far }
@@ -51,8 +51,8 @@ impl Search {
         (self.limit() + fell).saturating_sub(near)
     }
 
-    // Whether the head of the edge is as near without it, or past the limit along it. The length of the edge is its slack, but
-    // for what the potentials of its ends fell by since.
+    // Whether the head of the edge is as near without it, or past the limit along it. The length of the edge is the
+    // listed one, but for what the potentials of its ends fell by since.
     #[inline(always)]
     fn is_near(
         &self,
@@ -68,12 +68,12 @@ impl Search {
         requires reach { self.now.limit + fell ≤ near + reach }
         ensures { IsTrue result → BringsNoNearer lists.now self.now edge near fell }
     {
-        let slack = edge.slack as u128 + lists.fall(edge.head);
-        slack >= reach || near + slack >= self.distance(edge.head) + fell
+        let length = edge.listed_length as u128 + lists.fall(edge.head);
+        length >= reach || near + length >= self.distance(edge.head) + fell
     }
 
     // The first place from one on whose edge may bring its head nearer, or the place past the last. They stand in order of their
-    // slacks, so none behind one too long does.
+    // lengths, so none behind one too long does.
     fn next_place(&self, lists: &EdgeLists, first: u32, past: u32, near: u128, fell: u128) -> u32
         requires order { first ≤ past }
         requires within { past ≤ length lists.now.edges }
@@ -88,7 +88,7 @@ impl Search {
         let reach = self.reach(near, fell);
         for place in first..past {
             let edge = lists.edge(place);
-            if edge.slack as u128 >= reach {
+            if edge.listed_length as u128 >= reach {
                 return past;
             }
             if !self.is_near(lists, edge, near, fell, reach) && !lists.is_short(edge, fell) {

@@ -1,4 +1,4 @@
-//! The search for the distances of nodes from one of them, nearest first, as far as the nearest that has units over.
+//! The search for the distances of nodes from one of them, nearest first, as far as the nearest that has an excess.
 ghost use Rattle.std.specs.Prelude.{◌≡◌, ℕ, ◌≤◌, ◌<◌, ◌^◌, ◌↔◌, ◌≢◌, IfNone, IfOk, IfSome, IsNone, length, replicate, slice_index, slice_set};
 ghost use Rattle.flow_model.specs.declared.edges.Edge.{Edge as FlowEdge};
 ghost use Rattle.flow_model.specs.Networks.{IsEdge};
@@ -18,8 +18,9 @@ use std::marker::Model;
 /// The distance of a node that was not found.
 const FAR: u128 = 1 << 125;
 
-/// How far each node is from the first, by the walks that were found, and the last edge of the walk to it. The length of an
-/// edge with room is its negated reduced cost. No distance matters beyond that of the nearest node with units over.
+/// How far each node is from the one where the search began, along the shortest path that was found, and the last edge of
+/// that path. The length of an edge with room is its negated reduced cost. No distance matters beyond that of the nearest node
+/// with an excess.
 #[derive(Drop)]
 pub(crate) struct Search {
     pub distances: Vec<u128>,
@@ -75,7 +76,7 @@ impl Search {
         self.parents[node as usize]
     }
 
-    /// How far the nearest node with units over is.
+    /// How far the nearest node with an excess is.
     #[inline(always)]
     pub fn limit(&self) -> u128
         ensures { result ≡ self.now.limit }
@@ -83,7 +84,7 @@ impl Search {
         self.limit
     }
 
-    /// The nearest node with units over.
+    /// The nearest node with an excess.
     #[inline(always)]
     pub fn goal(&self) -> u32
         ensures { result ≡ self.now.goal }
@@ -102,15 +103,15 @@ impl Search {
         self.parents[node as usize] = edge;
     }
 
-    /// Makes the node the goal, if units are over there and it is nearer than the limit.
+    /// Makes the node the goal, if it has an excess and is nearer than the limit.
     #[inline(always)]
     pub fn aim(&mut self, network: &Network, node: u32)
         requires node { node < length self.old.distances }
-        requires over { node < length network.now.over }
+        requires excess { node < length network.now.excess }
         ensures rest { self.new ≡ record self.old { limit = self.new.limit; goal = self.new.goal } }
         ensures aimed { IsAimed network.now self.old.limit self.old.goal self.new.distances node self.new.limit self.new.goal }
     {
-        if network.over(node) > 0 && self.distance(node) < self.limit {
+        if network.excess(node) > 0 && self.distance(node) < self.limit {
             self.limit = self.distance(node);
             self.goal = node;
         }
@@ -161,7 +162,7 @@ impl Search {
     fn start(&mut self, network: &Network, first: u32)
         requires idle { IsIdle network.now.instance.steps self.old }
         requires within { first ≤ network.now.instance.steps }
-        requires over { network.now.instance.steps < length network.now.over }
+        requires excess { network.now.instance.steps < length network.now.excess }
         requires far_off { (node : ℕ) → node ≤ network.now.instance.steps → slice_index self.old.distances node ≡ far }
         ensures search { IsSearch network.now first self.new }
         ensures far_off { (node : ℕ) → node ≢ first → node ≤ network.now.instance.steps → slice_index self.new.distances node ≡ far }
@@ -184,7 +185,7 @@ impl Search {
         self.queue.clear();
     }
 
-    // Relaxes the inner edges that lead on from the node, as far as the first node with units over. So there is a limit before
+    // Relaxes the inner edges that lead on from the node, as far as the first node with an excess. So there is a limit before
     // the edges of any list are looked at.
     fn lead(&mut self, network: &Network, from: u32)
         requires ready { IsReady network.now }
@@ -224,7 +225,7 @@ impl Search {
         }
     }
 
-    /// Finds the distances from the node, as far as the nearest node with units over.
+    /// Finds the distances from the node, as far as the nearest node with an excess.
     pub fn run(&mut self, network: &Network, lists: &EdgeLists, from: u32)
         requires ready { IsReady network.now }
         requires high { IsHigh network.now }

@@ -9,7 +9,7 @@ use flow_model::{Instance, Solution};
 use std::alloc::Global;
 use std::marker::Model;
 
-/// A solver of one instance, with all the memory that it needs.
+/// A solver of one instance. All work is done when it is made, and it holds the solution.
 #[derive(Drop)]
 pub struct Solver<'a> {
     instance: &'a Instance,

@@ -1,4 +1,4 @@
-//! Edges that get room are chained to their nodes.
+//! An edge that gets room joins the chain of woken edges out of its tail.
 ghost use Rattle.std.specs.Prelude.{◌≡◌, ℕ, ◌*◌, ◌<◌, All, IfNone, IfOk, IfSome, length};
 ghost use Rattle.flow_model.specs.Networks.{IsEdge};
 ghost use Rattle.flow_model.specs.Pushes.{opposite};
@@ -13,7 +13,7 @@ use flow_model::Edge;
 use flow_parts::outer_edge;
 
 impl EdgeLists {
-    // Chains the edge of that number to the node that it leads out of.
+    // Adds the outer edge of that number to the chain of woken edges out of its tail.
     fn wake(&mut self, network: &Network, number: u32) -> Result<(), NoMemory>
         requires fits { IsState network.now }
         requires number { number < 2 * length network.now.instance.arcs }
@@ -22,11 +22,11 @@ impl EdgeLists {
         ensures stays { IfOk result (λ done. (k : ℕ) → WasWoken self.old.woken k → WasWoken self.new.woken k) }
         ensures woken { IfOk result (λ done. WasWoken self.new.woken number) }
     {
-        let hop = network.hop(outer_edge(network.arc_count(), number));
-        self.chain(hop.tail, number, hop.head)
+        let ends = network.ends(outer_edge(network.arc_count(), number));
+        self.chain(ends.tail, number, ends.head)
     }
 
-    // Chains the edge, if it is an outer one and has no room yet.
+    // Adds the edge to the chain of its tail, if it is an outer one and has no room yet.
     fn wake_shut(&mut self, network: &Network, edge: Edge) -> Result<(), NoMemory>
         requires fits { IsState network.now }
         requires edge { IsEdge network.now.instance edge }
@@ -44,7 +44,7 @@ impl EdgeLists {
         self.wake(network, number)
     }
 
-    /// Chains the opposites of the edges of the path that have no room yet, but will once units go along it.
+    /// Adds to their chains the opposites of the edges of the path that have no room yet, but will once units go along it.
     pub fn wake_path(&mut self, network: &Network, path: &[Edge]) -> Result<(), NoMemory>
         requires fits { IsState network.now }
         requires edges { All (IsEdge network.now.instance) path.now }

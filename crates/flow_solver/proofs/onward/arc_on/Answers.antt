@@ -20,11 +20,11 @@ loop-left-init c =
 pub overflow_sub-number : goal.overflow_sub-number
 overflow_sub-number c = omega (arith, c.loop-left-test.true)
 
-pub hop-requires : goal.hop-requires
-hop-requires c = omega (arith, c.if-number-arcs.true, ap length c.arcs.ensures.arcs, ap (λ (i : Instance). length i.arcs) c.instance.ensures.instance)
+pub ends-requires : goal.ends-requires
+ends-requires c = omega (arith, c.if-number-arcs.true, ap length c.arcs.ensures.arcs, ap (λ (i : Instance). length i.arcs) c.instance.ensures.instance)
 
 pub has-requires : goal.has-requires
-has-requires c = omega (arith, c.hop.ensures.ends.1, c.requires.marks)
+has-requires c = omega (arith, c.ends.ensures.within.1, c.requires.marks)
 
 pub is_tight-requires : goal.is_tight-requires
 is_tight-requires c = omega (arith, c.if-number-arcs.true, ap length c.arcs.ensures.arcs, ap (λ (i : Instance). length i.arcs) c.instance.ensures.instance)

@@ -23,7 +23,7 @@ bounds-path-len c =
       c.steps-last.ensures,
       ap (λ i. i.steps) c.instance.ensures.instance,
       c.loop.auto.path,
-      c.requires.each_hop,
+      c.requires.path_room,
     )
 
 pub loop-preserved : goal.loop-preserved
@@ -47,13 +47,13 @@ loop-preserved c =
             c.steps-last.ensures,
             ap (λ i. i.steps) c.instance.ensures.instance,
             c.loop.auto.path,
-            c.requires.each_hop,
+            c.requires.path_room,
           ) in
           record {
             marks = omega (arith, ap length w.dead-is, inv.marks);
-            within = omega (arith, w.node-is, w.hop-node.ensures.head, on.within);
+            within = omega (arith, w.node-is, w.ends-node.ensures.head, on.within);
             fits = omega (arith, w.len-is, ap length w.path-is, length-set path len e, room);
-            onward = rw (w.node-is, w.hop-node.ensures.head, w.len-is, w.path-is, take_more_set path len e room) (onward_grows n node (take len path) e inv.onward on);
+            onward = rw (w.node-is, w.ends-node.ensures.head, w.len-is, w.path-is, take_more_set path len e room) (onward_grows n node (take len path) e inv.onward on);
           }
       | in-None+else-len-eq0 w ↦
           let m : ℕ = len - 1 in
@@ -63,9 +63,9 @@ loop-preserved c =
           let whole : take len path ≡ take m path ++ e ∷ [] = ap (λ k. take k path) (sym next) ∙ take-suc path m (Inner 0) room in
           record {
             marks = omega (arith, ap length w.dead-is, ap length w.mark.ensures, length-set c.loop.dead node true, inv.marks);
-            within = omega (arith, w.node-is, w.hop-node-in-None.ensures.ends.0);
+            within = omega (arith, w.node-is, w.ends-node-in-None.ensures.within.0);
             fits = omega (arith, w.len-is, ap length w.path-is, room);
-            onward = rw (w.node-is, w.hop-node-in-None.ensures.tail, w.len-is, w.path-is) (onward_shrinks n node (take m path) e (subst (λ (es : List Edge). IsOnward n node es) whole inv.onward));
+            onward = rw (w.node-is, w.ends-node-in-None.ensures.tail, w.len-is, w.path-is) (onward_shrinks n node (take m path) e (subst (λ (es : List Edge). IsOnward n node es) whole inv.onward));
           }
     ]
 
@@ -99,8 +99,8 @@ edge_on-requires-clause-node c = omega (arith, c.loop.invariant.within, c.if-nod
 pub edge_on-requires-clause-marks : goal.edge_on-requires-clause-marks
 edge_on-requires-clause-marks c = c.loop.invariant.marks
 
-pub hop-node-requires : goal.hop-node-requires
-hop-node-requires c = c.in-Some.ensures.tight.is_edge
+pub ends-node-requires : goal.ends-node-requires
+ends-node-requires c = c.in-Some.ensures.tight.is_edge
 
 pub mark-requires : goal.mark-requires
 mark-requires c = omega (arith, c.loop.invariant.marks, c.loop.invariant.within)

@@ -31,7 +31,7 @@ loop-network-preserved c =
       edges = subst (λ (i : Instance). AreListed i c.args.edges.now (2 * length i.arcs)) (sym same) inv.edges;
       marks = omega (arith, c.in-Some.ensures.marks, inv.marks, ap (λ (i : Instance). i.steps) same);
       same_marks = c.in-Some.ensures.marks ∙ inv.same_marks;
-      each_hop = omega (arith, c.find.auto.path, inv.each_hop, ap (λ (i : Instance). i.steps) same);
+      path_room = omega (arith, c.find.auto.path, inv.path_room, ap (λ (i : Instance). i.steps) same);
     }
 
 pub loop-network-init : goal.loop-network-init
@@ -41,7 +41,7 @@ loop-network-init c =
       edges = c.requires.edges;
       marks = c.clear.ensures ∙ c.requires.marks;
       same_marks = refl;
-      each_hop = c.requires.each_hop;
+      path_room = c.requires.path_room;
     }
 
 pub find-requires-clause-fits : goal.find-requires-clause-fits
@@ -53,8 +53,8 @@ find-requires-clause-edges c = c.loop-network.invariant.edges
 pub find-requires-clause-marks : goal.find-requires-clause-marks
 find-requires-clause-marks c = c.loop-network.invariant.marks
 
-pub find-requires-clause-each_hop : goal.find-requires-clause-each_hop
-find-requires-clause-each_hop c = c.loop-network.invariant.each_hop
+pub find-requires-clause-path_room : goal.find-requires-clause-path_room
+find-requires-clause-path_room c = c.loop-network.invariant.path_room
 
 pub returns-in_default-clause-keeps : goal.returns-in_default-clause-keeps
 returns-in_default-clause-keeps c = c.loop-network.invariant.keeps

@@ -10,7 +10,7 @@ invariant-loop-network l =
       edges : AreListed l.network.instance l.edges (2 * length l.network.instance.arcs);
       marks : length l.dead ≡ l.network.instance.steps + 1;
       same_marks : length l.dead ≡ length l.initial.dead;
-      each_hop : length l.path ≡ l.network.instance.steps;
+      path_room : length l.path ≡ l.network.instance.steps;
     }
 
 abbrev pub decreases-loop-network : goal.decreases-loop-network

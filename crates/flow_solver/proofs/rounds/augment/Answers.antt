@@ -70,8 +70,8 @@ lower-requires-clause-each_distance c = c.run.ensures.search.each_distance
 pub trace-route-requires-clause-fits : goal.trace-route-requires-clause-fits
 trace-route-requires-clause-fits c = c.lower.ensures.fits
 
-pub trace-route-requires-clause-each_hop : goal.trace-route-requires-clause-each_hop
-trace-route-requires-clause-each_hop c = c.requires.each_hop ∙ sym (ap (λ (x : State). x.instance.steps) c.lower.ensures.same)
+pub trace-route-requires-clause-path_room : goal.trace-route-requires-clause-path_room
+trace-route-requires-clause-path_room c = c.requires.path_room ∙ sym (ap (λ (x : State). x.instance.steps) c.lower.ensures.same)
 
 pub trace-route-requires-clause-left : goal.trace-route-requires-clause-left
 trace-route-requires-clause-left c = omega (arith, c.requires.left, ap (λ (x : State). x.pushed) c.lower.ensures.same, ap (λ (x : State). x.instance.units) c.lower.ensures.same)
@@ -98,10 +98,10 @@ push_onward-requires-clause-marks c =
     let same : c.push.new.self.instance ≡ c.args.network.now.instance = ap (λ (x : State). x.instance) c.push.ensures.pushed ∙ ap (λ (x : State). x.instance) c.lower.ensures.same in
     omega (arith, c.requires.marks, ap (λ (i : Instance). i.steps) same)
 
-pub push_onward-requires-clause-each_hop : goal.push_onward-requires-clause-each_hop
-push_onward-requires-clause-each_hop c =
+pub push_onward-requires-clause-path_room : goal.push_onward-requires-clause-path_room
+push_onward-requires-clause-path_room c =
     let same : c.push.new.self.instance ≡ c.args.network.now.instance = ap (λ (x : State). x.instance) c.push.ensures.pushed ∙ ap (λ (x : State). x.instance) c.lower.ensures.same in
-    omega (arith, c.requires.each_hop, c.trace-route.auto.path, ap (λ (i : Instance). i.steps) same)
+    omega (arith, c.requires.path_room, c.trace-route.auto.path, ap (λ (i : Instance). i.steps) same)
 
 pub returns-clause-room : goal.returns-clause-room
 returns-clause-room c =

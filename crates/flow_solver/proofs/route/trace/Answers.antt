@@ -15,7 +15,7 @@ overflow_sub-start c =
       route_is_short c.loop-node.invariant.route (omega (arith, c.loop-node-test.true)),
       length-drop c.loop-node.start c.loop-node.path,
       c.loop-node.auto.path,
-      c.requires.each_hop,
+      c.requires.path_room,
     )
 
 pub loop-node-smaller : goal.loop-node-smaller
@@ -25,7 +25,7 @@ loop-node-smaller c =
       route_is_short c.loop-node.invariant.route (omega (arith, c.loop-node-test.true)),
       length-drop c.loop-node.start c.loop-node.path,
       c.loop-node.auto.path,
-      c.requires.each_hop,
+      c.requires.path_room,
     )
 
 pub loop-node-preserved : goal.loop-node-preserved
@@ -45,12 +45,12 @@ loop-node-preserved c =
       route_is_short inv.route other,
       length-drop s path,
       c.loop-node.auto.path,
-      c.requires.each_hop,
+      c.requires.path_room,
     ) in
     let whole : drop (s - 1) (set path (s - 1) c.parent-edge.result) ≡ e ∷ drop s path = written_ahead path s c.parent-edge.result e some inv.within own in
-    let from : c.hop-node.result.tail ≡ tail n.instance.arcs e = c.hop-node.ensures.tail ∙ ap (tail n.instance.arcs) own in
+    let from : c.ends-node.result.tail ≡ tail n.instance.arcs e = c.ends-node.ensures.tail ∙ ap (tail n.instance.arcs) own in
     let room_is : c.residual.result ≡ residual n.instance n.flows e = c.residual.ensures.residual ∙ ap (residual n.instance n.flows) own in
-    let tight_room = (inv.route.back.hops.1 node other inv.route.within inv.route.near).tight.room in
+    let tight_room = (inv.route.back.tight_parents.1 node other inv.route.within inv.route.near).tight.room in
     let route : IsRouteToLast n found (tail n.instance.arcs e) (e ∷ drop s path) least =
     route_grows least (ends_within n.instance c.requires.fits.in_range) inv.route other
     (omega (arith, c.min-amount.ensures, room_is, tight_room, inv.route.some)) (omega (arith, c.min-amount.ensures)) (omega (arith, c.min-amount.ensures, room_is)) in

@@ -17,38 +17,38 @@ loop-node-preserved c =
     let within : k < c.args.count = omega (arith, c.loop-node-test.true, c.loop-node.auto.node-end) in
     let more : ℕ = passes + c.loop-node.less - min (passes + c.loop-node.less) (lacks + c.loop-node.more) in
     let less : ℕ = lacks + c.loop-node.more - min (passes + c.loop-node.less) (lacks + c.loop-node.more) in
-    let over_put : first_sum c.put.new.over (k + 1) ≡ first_sum c.loop-node.over k + more = ap (λ xs. first_sum xs (k + 1)) c.put.ensures.over ∙ first_sum-put c.loop-node.over k more (omega (arith, inv.over, c.requires.each_node)) in
-    let under_put : first_sum c.put.new.under (k + 1) ≡ first_sum c.loop-node.under k + less = ap (λ xs. first_sum xs (k + 1)) c.put.ensures.under ∙ first_sum-put c.loop-node.under k less (omega (arith, inv.under, c.requires.each_node)) in
+    let excess_put : first_sum c.put.new.excess (k + 1) ≡ first_sum c.loop-node.excess k + more = ap (λ xs. first_sum xs (k + 1)) c.put.ensures.excess ∙ first_sum-put c.loop-node.excess k more (omega (arith, inv.excess, c.requires.each_node)) in
+    let deficit_put : first_sum c.put.new.deficit (k + 1) ≡ first_sum c.loop-node.deficit k + less = ap (λ xs. first_sum xs (k + 1)) c.put.ensures.deficit ∙ first_sum-put c.loop-node.deficit k less (omega (arith, inv.deficit, c.requires.each_node)) in
     let passes_is = c.saturating_sub-passes.ensures in
     let lacks_is = c.saturating_sub-lacks.ensures in
     let at : (j : ℕ) → (j ≡ k → slice_index (set c.loop-node.inner k room) j ≡ room) × (j ≢ k → slice_index (set c.loop-node.inner k room) j ≡ slice_index c.loop-node.inner j) = λ j. set_at c.loop-node.inner k j room (omega (arith, inv.inner, c.requires.each_step)) in
     record {
-      carried = omega (arith, over_put, under_put, inv.carried, passes_is, lacks_is);
+      carried = omega (arith, excess_put, deficit_put, inv.carried, passes_is, lacks_is);
       small_more = omega (arith, passes_is, c.requires.small k within, c.beside-room.ensures.small);
       small_less = omega (arith, lacks_is, c.requires.units);
-      few = omega (arith, over_put, inv.few, inv.small_less, passes_is, c.requires.small k within, c.beside-room.ensures.small);
+      few = omega (arith, excess_put, inv.few, inv.small_less, passes_is, c.requires.small k within, c.beside-room.ensures.small);
       balance = λ j h.
           ⊎_elim
           (λ (e : j ≡ k).
           omega (
             arith,
             (at j).0 e,
-            over_put,
-            under_put,
+            excess_put,
+            deficit_put,
             inv.carried,
             passes_is,
             lacks_is,
             ap (λ n. slice_index c.args.loads.now (slice_index c.args.steps_of.now n)) e,
-            ap (λ n. first_sum c.put.new.over (n + 1)) e,
-            ap (λ n. first_sum c.put.new.under (n + 1)) e,
+            ap (λ n. first_sum c.put.new.excess (n + 1)) e,
+            ap (λ n. first_sum c.put.new.deficit (n + 1)) e,
           ))
           (λ (n : j ≢ k).
           omega (
             arith,
             (at j).1 n,
             inv.balance j (omega arith),
-            ap (λ xs. first_sum xs (j + 1)) c.put.ensures.over ∙ first_sum-before c.loop-node.over k (j + 1) more (omega arith),
-            ap (λ xs. first_sum xs (j + 1)) c.put.ensures.under ∙ first_sum-before c.loop-node.under k (j + 1) less (omega arith),
+            ap (λ xs. first_sum xs (j + 1)) c.put.ensures.excess ∙ first_sum-before c.loop-node.excess k (j + 1) more (omega arith),
+            ap (λ xs. first_sum xs (j + 1)) c.put.ensures.deficit ∙ first_sum-before c.loop-node.deficit k (j + 1) less (omega arith),
           ))
           (cases_eq j k);
       shut = λ j h some.
@@ -57,6 +57,6 @@ loop-node-preserved c =
           (λ (n : j ≢ k). inv.shut j (omega arith) (omega (arith, some, (at j).1 n)))
           (cases_eq j k);
       inner = length-set c.loop-node.inner k room ∙ inv.inner;
-      over = ap length c.put.ensures.over ∙ length-set c.loop-node.over k more ∙ inv.over;
-      under = ap length c.put.ensures.under ∙ length-set c.loop-node.under k less ∙ inv.under;
+      excess = ap length c.put.ensures.excess ∙ length-set c.loop-node.excess k more ∙ inv.excess;
+      deficit = ap length c.put.ensures.deficit ∙ length-set c.loop-node.deficit k less ∙ inv.deficit;
     }

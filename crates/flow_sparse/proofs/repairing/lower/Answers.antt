@@ -27,7 +27,7 @@ overflow_sub-potential c =
     let is : IsReached s c.args.from found.distances found.limit = reached s c.args.from found c.requires.search c.requires.settled in
     omega (
       arith,
-      enough s c.args.from found.limit found.distances c.requires.ready c.requires.high is c.requires.missing node within,
+      enough s c.args.from found.limit found.distances c.requires.ready c.requires.high is c.requires.deficit node within,
       c.potential.ensures,
       c.distance-near.ensures,
       c.limit-limit.ensures,
@@ -63,7 +63,7 @@ loop-node-preserved c =
     let low : fall ≤ c.potential.result =
     omega (
       arith,
-      enough s c.args.from found.limit found.distances c.requires.ready c.requires.high reach c.requires.missing node within,
+      enough s c.args.from found.limit found.distances c.requires.ready c.requires.high reach c.requires.deficit node within,
       c.potential.ensures,
       c.distance-near.ensures,
       c.limit-limit.ensures,

@@ -1,4 +1,4 @@
 use Rattle.flow_network.proofs.network.Network.reduced.Goals as goal
 
-pub hop-hop-requires : goal.hop-hop-requires
-hop-hop-requires c = c.requires
+pub ends-ends-requires : goal.ends-ends-requires
+ends-ends-requires c = c.requires

@@ -38,7 +38,7 @@ invariant_of-result c =
       edges = subst (λ (i : Instance). AreListed i c.in_ok-edges.edges (2 * length i.arcs)) (sym same) c.in_ok-edges.ensures;
       room = subst (λ (k : ℕ). HasSearchRoom k c.in_ok-search.search) steps c.in_ok-search.ensures;
       marks = omega (arith, c.in_ok-dead.ensures, steps);
-      each_hop = omega (arith, c.in_ok-path.ensures.len, c.in_ok-path.path.ok.0, steps);
+      path_room = omega (arith, c.in_ok-path.ensures.len, c.in_ok-path.path.ok.0, steps);
     }
 
 pub returns : goal.returns

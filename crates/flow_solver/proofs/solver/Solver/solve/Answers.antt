@@ -26,7 +26,7 @@ returns c =
 pub loop-network-init : goal.loop-network-init
 loop-network-init c =
     let at = c.self.invariant in
-    record { ready = at.ready; same = refl; edges = at.edges; room = at.room; marks = at.marks; path = at.each_hop }
+    record { ready = at.ready; same = refl; edges = at.edges; room = at.room; marks = at.marks; path = at.path_room }
 
 pub augment-requires-clause-ready : goal.augment-requires-clause-ready
 augment-requires-clause-ready c = c.loop-network.invariant.ready
@@ -40,8 +40,8 @@ augment-requires-clause-room c = c.loop-network.invariant.room
 pub augment-requires-clause-marks : goal.augment-requires-clause-marks
 augment-requires-clause-marks c = c.loop-network.invariant.marks
 
-pub augment-requires-clause-each_hop : goal.augment-requires-clause-each_hop
-augment-requires-clause-each_hop c = ap length c.deref_mut.ensures.value ∙ c.loop-network.invariant.path
+pub augment-requires-clause-path_room : goal.augment-requires-clause-path_room
+augment-requires-clause-path_room c = ap length c.deref_mut.ensures.value ∙ c.loop-network.invariant.path
 
 pub loop-network-preserved : goal.loop-network-preserved
 loop-network-preserved c =

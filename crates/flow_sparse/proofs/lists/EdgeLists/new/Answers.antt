@@ -7,7 +7,7 @@ use Rattle.flow_sparse.specs.Ranges.{AreRising, IsPlacedAt, IsSound, listed_at}
 use Rattle.flow_sparse.specs.Searches.{IsListed, list_of}
 use Rattle.flow_sparse.specs.States.{State}
 use Rattle.flow_sparse.proofs.Listed.{listed, order, placed, within, written_twice, zeros_all}
-use Rattle.flow_sparse.proofs.Turned.{written_all}
+use Rattle.flow_sparse.proofs.Rested.{written_all}
 use Rattle.flow_sparse.proofs.lists.EdgeLists.new.Goals as goal
 use Rattle.flow_sparse.proofs.lists.EdgeLists.new.Goals.{After-deref_mut-4}
 

@@ -15,8 +15,8 @@ returns-clause-nears c =
     let low : Found = c.lower.new.self in
     let mid : Found = c.aim.new.self in
     let new : Found = c.enqueue.new.self in
-    let h = c.hop-hop.result in
-    let is = c.hop-hop.ensures in
+    let h = c.ends-ends.result in
+    let is = c.ends-ends.ensures in
     let along : ℕ = c.distance-near.result + (h.loss + c.potential.result) - (h.gain + c.potential-2.result) in
     let room : 0 < residual n.instance n.flows e = omega (arith, c.residual.ensures, c.if-residual-eq0.false) in
     let target : ℕ = head n.instance.arcs e in
@@ -51,10 +51,10 @@ pub enqueue-requires-clause-queue : goal.enqueue-requires-clause-queue
 enqueue-requires-clause-queue c =
     let old : Found = c.args.self.now in
     let mid : Found = c.aim.new.self in
-    let h = c.hop-hop.result in
+    let h = c.ends-ends.result in
     let along : ℕ = c.distance-near.result + (h.loss + c.potential.result) - (h.gain + c.potential-2.result) in
     let waiting : mid.waiting ≡ old.waiting = ap (λ (f : Found). f.waiting) c.aim.ensures.rest ∙ ap (λ (f : Found). f.waiting) c.lower.ensures in
     let distances : mid.distances ≡ set old.distances h.head along = ap (λ (f : Found). f.distances) c.aim.ensures.rest ∙ ap (λ (f : Found). f.distances) c.lower.ensures in
-    let low = queue_lowered old.waiting old.distances h.head along c.requires.search.queue (omega (arith, c.requires.search.tree.each_distance, c.hop-hop.ensures.ends))
+    let low = queue_lowered old.waiting old.distances h.head along c.requires.search.queue (omega (arith, c.requires.search.tree.each_distance, c.ends-ends.ensures.within))
     (λ waits. omega (arith, c.if-along-distance.false, c.distance-else-along-limit.ensures)) in
     subst (λ (w : Waiting). IsQueueBut w mid.distances h.head) (sym waiting) (subst (λ (ds : List ℕ). IsQueueBut old.waiting ds h.head) (sym distances) low)

@@ -5,7 +5,7 @@ use Rattle.std.specs.List.{range_with_len}
 use Rattle.flow_model.specs.Instances.{Instance, arc_at}
 use Rattle.flow_model.specs.Windows.{meets}
 use Rattle.flow_windows.specs.Cuts.{Cut, numbers_of}
-use Rattle.flow_sparse.proofs.blocks.settle_level.Goals as goal
+use Rattle.flow_sparse.proofs.blocks.solve_level.Goals as goal
 
 -- no more arcs meet a window than there are
 numbers_few : (cut : Cut) → length (numbers_of cut) ≤ length cut.whole.arcs
@@ -17,8 +17,8 @@ numbers_few cut =
       length-range_with_len 0 (length cut.whole.arcs),
     )
 
-pub settle_block-requires-clause-few : goal.settle_block-requires-clause-few
-settle_block-requires-clause-few c =
+pub solve_block-requires-clause-few : goal.solve_block-requires-clause-few
+solve_block-requires-clause-few c =
     omega (arith, ap length c.numbers.ensures, numbers_few c.loop-alloc.windows, ap (λ (i : Instance). length i.arcs) c.loop-alloc.invariant.whole)
 
 pub overflow_add-first : goal.overflow_add-first

@@ -1,5 +1,5 @@
 use Rattle.std.proofs.Common.{◌≡◌, ◌*◌, ◌-◌, length}
-use Rattle.flow_sparse.proofs.blocks.settle_level.Given as goal
+use Rattle.flow_sparse.proofs.blocks.solve_level.Given as goal
 
 abbrev pub invariant-loop-alloc : goal.invariant-loop-alloc
 invariant-loop-alloc l =
