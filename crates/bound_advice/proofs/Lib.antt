@@ -1,4 +1,3 @@
-pub mod GivenWordsLemmas
 pub mod RecentLemmas
 pub mod RefusalLemmas
 pub mod ShownLemmas

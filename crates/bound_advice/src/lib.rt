@@ -21,8 +21,9 @@ mod words;
 
 pub use devices::{Seen, device_advice};
 pub use escape::{escaped, quoted};
-pub use pages::{COMMANDS, EXAMPLES, PURPOSE, Page, VERSION, WORDS, page_of, usage_of};
+pub use pages::{EXAMPLES, PURPOSE, Page, VERSION, page_of, usage_of};
 pub use refusals::{Devices, advice_on, refusal_line};
 pub use reports::oddities_of;
 pub use told::Told;
 pub use watched::Watched;
+pub use words::Words;

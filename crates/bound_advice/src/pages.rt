@@ -1,10 +1,10 @@
 //! The pages that the program prints in place of a run: how it is called, and its version.
 ghost use Rattle.std.specs.Prelude.{◌≡◌, map, length, IfSome, IsSome, IsTrue};
 ghost use Rattle.std.specs.Str.{bytes_eq};
-ghost use Rattle.bound_words.specs.Commands.{command_named};
-ghost use Rattle.bound_advice.specs.Pages.{is_usage_of, page_named};
+ghost use Rattle.bound_words.specs.Commands.{command_named, is_usage_of};
+ghost use Rattle.bound_advice.specs.Pages.{page_named};
 
-use bound_words::{Command, command_named};
+use bound_words::Command;
 
 /// The program and its version.
 pub const VERSION: &str = "bound_cli 1.0.0";
@@ -14,11 +14,6 @@ pub const PURPOSE: &str =
     "bound_cli computes how well any cache could do on a trace of requests: an upper bound that no
 replacement policy can exceed, a schedule that reaches the lower bound, and a certificate of both.
 ";
-
-/// What stands for what, but for the policies.
-pub const WORDS: &str = "
-FORM is webcache, arc, msr or oracle, OBJECTIVE is object or bytes, MODE is flow, constant or infinite,
-VERSION is 1 or 2, COUNTED is all or reads, LIST is BYTES,BYTES,.. from the smallest to the largest.";
 
 /// What else is to know, and seven examples.
 pub const EXAMPLES: &str =
@@ -39,54 +34,13 @@ examples:
 
 docs/GUIDE.md goes from a trace to a decision, docs/REFERENCE.md and man -l docs/bound_cli.1 have every operand.";
 
-/// The commands in the order of the help.
-pub const COMMANDS: [&str; 9] = [
-    "bounds", "check", "replay", "curve", "judge", "demo", "upgrade", "refine", "help",
-];
-
-// How a command is called, a line each.
-fn lines_of(command: Command) -> &'static [&'static str]
-    ensures { IsTrue (is_usage_of command (map (λ line. line.now) result.now)) }
+/// How a command is called, a line each; of no command one line on where to look.
+pub fn usage_of(command: Option<Command>) -> &'static [&'static str]
+    ensures command { IfSome command (λ named. IsTrue (is_usage_of named (map (λ line. line.now) result.now))) }
+    ensures no_command { command ≡ None → length result.now ≡ 1 }
 {
     match command {
-        Command::Bounds => &[
-            "bound_cli bounds TRACE CERT format=FORM capacity=BYTES [block=BYTES] [count=COUNTED]",
-            "    [objective=OBJECTIVE] [mode=MODE] [window=STEPS] [denominator=NUMBER]",
-            "    [warmup=REQUESTS] [version=VERSION]",
-        ],
-        Command::Check => &["bound_cli check TRACE CERT format=FORM [block=BYTES] [count=COUNTED]"],
-        Command::Replay => &[
-            "bound_cli replay TRACE format=FORM capacity=BYTES policy=POLICY [block=BYTES]",
-            "    [count=COUNTED] [warmup=REQUESTS]",
-        ],
-        Command::Curve | Command::CapacityCurve => &[
-            "bound_cli curve TRACE format=FORM [capacities=LIST] [block=BYTES] [count=COUNTED]",
-            "    [objective=OBJECTIVE] [denominator=NUMBER] [warmup=REQUESTS]",
-        ],
-        Command::Judge => &[
-            "bound_cli judge TRACE HITS format=FORM capacity=BYTES [block=BYTES] [count=COUNTED]",
-            "    [warmup=REQUESTS]",
-        ],
-        Command::Demo => &[
-            "bound_cli demo [seed=NUMBER] [requests=NUMBER] [objects=NUMBER] [capacity=BYTES]",
-            "    [objective=OBJECTIVE] [mode=MODE] [window=STEPS] [denominator=NUMBER]",
-        ],
-        Command::Upgrade => &["bound_cli upgrade CERT MADE"],
-        Command::Refine => &[
-            "bound_cli refine TRACE CERT MADE format=FORM window=STEPS [block=BYTES]",
-            "    [count=COUNTED]",
-        ],
-    }
-}
-
-/// How a command is called, a line each; of no command one line on where to look.
-pub fn usage_of(command: &str) -> &'static [&'static str]
-    ensures command { IfSome (command_named command.now) (λ named. IsTrue (is_usage_of named (map (λ line. line.now) result.now))) }
-    ensures no_command { command_named command.now ≡ None → length result.now ≡ 1 }
-{
-    match command_named(command) {
-        Some(named) => lines_of(named),
-        None if is(command, "help") => &["bound_cli help"],
+        Some(command) => command.usage(),
         None => &["bound_cli COMMAND ..; bound_cli help has the commands and their words"],
     }
 }
@@ -98,8 +52,8 @@ pub enum Page {
     Version,
 }
 
-/// Whether a word is this one.
-pub(crate) fn is(word: &str, other: &str) -> bool
+// Whether a word is this one.
+fn is(word: &str, other: &str) -> bool
     ensures { result ≡ bytes_eq word.now other.now }
 {
     word == other

@@ -5,6 +5,7 @@ ghost use Rattle.bound_advice.specs.Lines.{KeepsLast, is_no_line, is_refused, wh
 
 use bound_base::NoMemory;
 use std::alloc::Global;
+use trace_any::Format;
 use trace_lines::{is_blank, trim_cr};
 
 // How many bytes are kept at least, if there were as many: a line and a buffer of a reader of lines.
@@ -24,25 +25,27 @@ pub(crate) struct Recent {
     ghost has_room: { 262144 ≤ vec_capacity bytes },
 }
 
-// Whether a text is no line of a form of lines, which has a mark in webcache if reads alone count.
-fn is_no_line(form: &str, reads: bool, text: &[u8]) -> bool
-    ensures { result ≡ is_no_line form.now reads text.now }
+// Whether a text is no line of a form of lines.
+fn is_no_line(format: Option<Format>, text: &[u8]) -> bool
+    ensures { result ≡ is_no_line format text.now }
 {
-    match form {
-        "arc" => trace_arc::parse(text).is_err(),
-        "msr" => trace_msr::parse(text, BLOCK).is_err(),
-        "webcache" if reads => trace_webcache::parse_marked(text).is_err(),
-        "webcache" => trace_webcache::parse(text).is_err(),
-        _ => false,
+    match format {
+        Some(Format::Webcache) => trace_webcache::parse(text).is_err(),
+        Some(Format::MarkedWebcache) => trace_webcache::parse_marked(text).is_err(),
+        Some(Format::Arc) => trace_arc::parse(text).is_err(),
+        Some(Format::Msr { .. } | Format::MsrReads { .. }) => trace_msr::parse(
+            text, BLOCK,
+        ).is_err(),
+        Some(Format::Oracle) | None => false,
     }
 }
 
 // Whether a form refuses a line.
-fn is_refused(form: &str, reads: bool, line: &[u8]) -> bool
-    ensures { result ≡ is_refused form.now reads line.now }
+fn is_refused(format: Option<Format>, line: &[u8]) -> bool
+    ensures { result ≡ is_refused format line.now }
 {
     let text = trim_cr(line);
-    !is_blank(text) && is_no_line(form, reads, text)
+    !is_blank(text) && is_no_line(format, text)
 }
 
 impl Recent {
@@ -110,11 +113,11 @@ impl Recent {
 
     /// The first line of a trace that is refused, without its end. Those before it were taken, so that it is among the
     /// bytes that are kept; the line with which these begin may be cut.
-    pub(crate) fn refused_line(&self, form: &str, reads: bool) -> Option<&[u8]>
-        ensures { option_copied result ≡ find (is_refused form.now reads) (whole_lines self.now.are_all self.now.bytes.items) }
+    pub(crate) fn refused_line(&self, format: Option<Format>) -> Option<&[u8]>
+        ensures { option_copied result ≡ find (is_refused format) (whole_lines self.now.are_all self.now.bytes.items) }
     {
         let lines = self.bytes.as_slice().split(|byte| *byte == b'\n');
         let mut lines = lines.skip(self.first_whole());
-        lines.find(|line| is_refused(form, reads, line))
+        lines.find(|line| is_refused(format, line))
     }
 }

@@ -9,6 +9,7 @@ use crate::traces::BadLine;
 use crate::words::{Words, word_advice};
 use bound_report::{Impossible, LimitName, Refusal, refusal_text};
 use std::alloc::{AllocError, Global};
+use trace_any::Format;
 use trace_lines::LineKind;
 
 /// What was seen of a run beside its words: its devices, how the trace begins, and the refused line if there is one.
@@ -88,9 +89,8 @@ fn line_advice(
     kind: LineKind,
 ) -> Result<String, AllocError> {
     let bad = BadLine {
-        command: words.command(),
-        form: words.form(),
-        reads: words.counts_reads(),
+        command: words.command_word(),
+        form: words.form().unwrap_or(Format::Webcache),
         trace: devices.trace,
         start: devices.start,
         number,
@@ -103,13 +103,12 @@ fn line_advice(
 /// What to do about a refusal, if something is known to do.
 pub fn advice_on(
     alloc: Global,
-    words: &[String],
+    words: Words<'_>,
     devices: Devices<'_>,
     refusal: &Refusal,
 ) -> Result<Option<String>, AllocError>
     ensures { IfOk result (λ advice. IsAdviceOn devices.entry refusal.now advice) }
 {
-    let words = Words::new(words);
     match *refusal {
         Refusal::Words { place, kind } => Ok(Some(word_advice(alloc, words, place, kind)?)),
         Refusal::BadLine { line, kind } => {

@@ -1,43 +1,20 @@
 //! What looks odd in the report of a run that ended well.
-ghost use Rattle.std.specs.Prelude.{◌≡◌, is_some, map, slice_index_or, string_bytes, IfOk};
+ghost use Rattle.std.specs.Prelude.{◌≡◌, is_some, slice_index_or, IfOk};
 ghost use Rattle.bound_advice.specs.Oddities.{may_be_packed};
 
 use crate::devices::Seen;
-use crate::pages::is;
 use crate::starts::packed_by;
 use crate::traces::packed_advice;
 use crate::words::Words;
+use bound_report::Numbers;
+use bound_words::MOST_DENOMINATOR;
 use std::alloc::{AllocError, Global};
-
-// The greatest denominator.
-const MOST: u64 = 281_474_976_710_656;
-
-// The numbers of a report, by the lines on which they stand.
-#[derive(Clone, Copy)]
-struct Report<'a> {
-    text: &'a str,
-}
-
-impl<'a> Report<'a> {
-    // The word after a name, on the line that begins with a word.
-    fn word(&self, line: &str, name: &str) -> Option<&'a str> {
-        let mut lines = self.text.lines();
-        let found = lines.find(|text| text.split(' ').next() == Some(line))?;
-        let mut words = found.split(' ').skip_while(|word| *word != name);
-        words.next()?;
-        words.next()
-    }
-
-    fn number(&self, line: &str, name: &str) -> Option<u64> {
-        self.word(line, name)?.parse::<u64>().ok()
-    }
-}
+use trace_any::Format;
 
 // That the trace has nothing to count.
-fn empty_advice(alloc: Global, report: Report<'_>) -> Result<Option<String>, AllocError> {
-    let requests = report.number("trace", "requests");
-    let dropped = report.number("trace", "dropped").unwrap_or(0);
-    match (requests, report.number("warmup", "warmup")) {
+fn empty_advice(alloc: Global, report: Numbers) -> Result<Option<String>, AllocError> {
+    let dropped = report.dropped.unwrap_or(0);
+    match (report.requests, report.warmup) {
         (Some(0), _) if dropped > 0 => Ok(Some(format!(in alloc;
             "the trace has no request: all its {dropped} lines have the size 0"
         )?)),
@@ -50,14 +27,11 @@ fn empty_advice(alloc: Global, report: Report<'_>) -> Result<Option<String>, All
 }
 
 // That the capacity may be too small for nearly all that is asked for again. A warm-up leaves fewer intervals.
-fn capacity_advice(alloc: Global, report: Report<'_>) -> Result<Option<String>, AllocError> {
-    let requests = report.number("trace", "requests").unwrap_or(0);
-    let objects = report.number("trace", "objects").unwrap_or(0);
-    let again = requests.saturating_sub(objects);
-    let capacity = report.word("capacity", "capacity").unwrap_or("");
-    match report.number("intervals", "intervals") {
-        Some(fitting)
-            if report.word("warmup", "warmup").is_none() && again > 0 && fitting <= again / 10 => {
+fn capacity_advice(alloc: Global, report: Numbers) -> Result<Option<String>, AllocError> {
+    let requests = report.requests.unwrap_or(0);
+    let again = requests.saturating_sub(report.objects.unwrap_or(0));
+    match (report.intervals, report.capacity, report.warmup) {
+        (Some(fitting), Some(capacity), None) if again > 0 && fitting <= again / 10 => {
             Ok(Some(format!(in alloc;
                 "of {again} requests that ask for an object again, {fitting} ask for one that fits {capacity} bytes; is the capacity in bytes?"
             )?))
@@ -67,17 +41,13 @@ fn capacity_advice(alloc: Global, report: Report<'_>) -> Result<Option<String>, 
 }
 
 // That costs were shared among windows in numbers that are too coarse.
-fn window_advice(alloc: Global, report: Report<'_>) -> Result<Option<String>, AllocError> {
-    let requests = report.number("trace", "requests").unwrap_or(0);
-    match (
-        report.number("mode", "window"),
-        report.number("unit", "denominator"),
-    ) {
-        (Some(window), Some(denominator)) if window < requests && denominator < MOST => Ok(Some(
-            format!(in alloc;
-                "windows share costs in whole numbers over the denominator, here {denominator}; denominator=281474976710656 rounds least"
-            )?,
-        )),
+fn window_advice(alloc: Global, report: Numbers) -> Result<Option<String>, AllocError> {
+    let requests = report.requests.unwrap_or(0);
+    match (report.window, report.denominator) {
+        (Some(window), Some(denominator)) if window < requests && denominator < MOST_DENOMINATOR =>
+            Ok(Some(format!(in alloc;
+                "windows share costs in whole numbers over the denominator, here {denominator}; denominator={MOST_DENOMINATOR} rounds least"
+            )?)),
         _ => Ok(None),
     }
 }
@@ -89,30 +59,32 @@ fn packed_records(
     trace: Seen<'_>,
     start: &[u8],
 ) -> Result<Option<String>, AllocError>
-    ensures { IfOk result (λ odd. is_some odd ≡ may_be_packed (map string_bytes words.entry.words.now) start.now) }
+    ensures { IfOk result (λ odd. is_some odd ≡ may_be_packed words.entry start.now) }
 {
-    match packed_by(start) {
-        Some((by, unpack)) if is(words.form(), "oracle") => {
-            Ok(Some(packed_advice(alloc, trace, words.command(), by, unpack)?))
-        }
+    match (packed_by(start), words.form()) {
+        (Some((by, unpack)), Some(Format::Oracle)) => Ok(Some(packed_advice(
+            alloc,
+            trace,
+            words.command_word(),
+            by,
+            unpack,
+        )?)),
         _ => Ok(None),
     }
 }
 
-/// What looks odd in a run that ended well, of which the report begins with these bytes and the trace with those.
+/// What looks odd in a run that ended well, of which the report has these numbers, and the trace begins with these bytes.
 pub fn oddities_of(
     alloc: Global,
-    words: &[String],
+    words: Words<'_>,
     trace: Seen<'_>,
     trace_start: &[u8],
-    report_start: &[u8],
+    report: Numbers,
 ) -> Result<[Option<String>; 4], AllocError>
-    ensures { IfOk result (λ odd. is_some (slice_index_or odd 0 None) ≡ may_be_packed (map string_bytes words.now) trace_start.now) }
+    ensures { IfOk result (λ odd. is_some (slice_index_or odd 0 None) ≡ may_be_packed words.entry trace_start.now) }
 {
-    let text = str::from_utf8(report_start).unwrap_or("");
-    let report = Report { text };
     Ok([
-        packed_records(alloc, Words::new(words), trace, trace_start)?,
+        packed_records(alloc, words, trace, trace_start)?,
         empty_advice(alloc, report)?,
         capacity_advice(alloc, report)?,
         window_advice(alloc, report)?,

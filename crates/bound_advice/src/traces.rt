@@ -3,15 +3,14 @@ use crate::devices::Seen;
 use crate::escape::shown;
 use crate::starts::{Looks, looks_of, packed_by};
 use std::alloc::{AllocError, Global};
+use trace_any::Format;
 use trace_lines::{LineKind, field, trim_cr, word};
 
 /// A line of a trace that was refused: the form, where it stands, why, and the bytes of it that are known.
 #[derive(Clone, Copy)]
 pub(crate) struct BadLine<'a> {
     pub(crate) command: &'a str,
-    pub(crate) form: &'a str,
-    /// Whether only reads count, so that a webcache line has a mark.
-    pub(crate) reads: bool,
+    pub(crate) form: Format,
     pub(crate) trace: Seen<'a>,
     pub(crate) start: &'a [u8],
     pub(crate) number: u64,
@@ -19,31 +18,53 @@ pub(crate) struct BadLine<'a> {
     pub(crate) text: Option<&'a [u8]>,
 }
 
+// Whether a line of the form is one of fields with commas between them.
+fn has_fields(form: Format) -> bool {
+    matches!(form, Format::Msr { .. } | Format::MsrReads { .. })
+}
+
 // What the number in a word of a line is.
-fn number_in(form: &str, word: u8) -> &'static str {
+fn number_in(form: Format, word: u8) -> &'static str {
     match (form, word) {
-        ("webcache", 2) => "an id is digits alone, below 2^64",
-        ("webcache", _) => "a size is in bytes, in digits alone",
-        ("arc", 1) => "a first block is digits alone, below 2^64",
-        ("arc", _) => "a number of blocks is digits alone, below 2^64",
-        (_, 3) => "a disk is a number, in digits alone",
-        (_, 5) => "an offset is in bytes, in digits alone",
+        (Format::Webcache | Format::MarkedWebcache, 2) => "an id is digits alone, below 2^64",
+        (Format::Arc, 1) => "a first block is digits alone, below 2^64",
+        (Format::Arc, _) => "a number of blocks is digits alone, below 2^64",
+        (Format::Msr { .. } | Format::MsrReads { .. }, 3) => "a disk is a number, in digits alone",
+        (Format::Msr { .. } | Format::MsrReads { .. }, 5) => {
+            "an offset is in bytes, in digits alone"
+        }
         _ => "a size is in bytes, in digits alone",
     }
 }
 
-// A word or a field of a line.
-fn part_of<'a>(form: &str, text: &'a [u8], number: u8) -> Option<&'a [u8]> {
-    let number = (number as usize).max(1);
+// What a line of the form has.
+fn parts_of(form: Format) -> &'static str {
     match form {
-        "msr" => field(text, number),
-        _ => word(text, number),
+        Format::Msr { .. } | Format::MsrReads { .. } => {
+            "it needs six fields with commas between: timestamp, host, disk, type, offset and size"
+        }
+        Format::Arc => "it needs two words: a first block, and how many blocks",
+        Format::MarkedWebcache => {
+            "it needs four words with count=reads: a time, an id, a size in bytes, and r or w"
+        }
+        Format::Webcache | Format::Oracle =>
+            "it needs three words: a time, an id and a size in bytes",
+    }
+}
+
+// A word or a field of a line.
+fn part_of(form: Format, text: &[u8], number: u8) -> Option<&[u8]> {
+    let number = (number as usize).max(1);
+    if has_fields(form) {
+        field(text, number)
+    } else {
+        word(text, number)
     }
 }
 
 // What a part of a line is called.
-fn part_name(form: &str) -> &'static str {
-    if form == "msr" { "field" } else { "word" }
+fn part_name(form: Format) -> &'static str {
+    if has_fields(form) { "field" } else { "word" }
 }
 
 // Whether a heading may stand in a line: no word or field of it begins as a number does.
@@ -97,17 +118,7 @@ impl<'a> BadLine<'a> {
             LineKind::BadNumber { word } => {
                 self.part_advice(alloc, word, number_in(self.form, word))
             }
-            LineKind::TooFewWords => self.line_advice(
-                alloc,
-                match self.form {
-                    "msr" =>
-                        "it needs six fields with commas between: timestamp, host, disk, type, offset and size",
-                    "arc" => "it needs two words: a first block, and how many blocks",
-                    "webcache" if self.reads =>
-                        "it needs four words with count=reads: a time, an id, a size in bytes, and r or w",
-                    _ => "it needs three words: a time, an id and a size in bytes",
-                },
-            ),
+            LineKind::TooFewWords => self.line_advice(alloc, parts_of(self.form)),
             LineKind::SizeTooLarge => {
                 self.part_advice(alloc, 3, "a size is in bytes, at most 281474976710656")
             }
@@ -115,7 +126,8 @@ impl<'a> BadLine<'a> {
                 alloc,
                 4,
                 match self.form {
-                    "webcache" => "with count=reads it is r for a read, or w for a write",
+                    Format::MarkedWebcache =>
+                        "with count=reads it is r for a read, or w for a write",
                     _ => "a type is Read or Write",
                 },
             ),
@@ -149,10 +161,10 @@ impl<'a> BadLine<'a> {
                 "{name}: it is the log of a web server, which is brought to format=webcache: {pipe}"
             );
         }
-        if self.form != "msr" && trace_msr::parse(trim_cr(text), 4096).is_ok() {
+        if !has_fields(self.form) && trace_msr::parse(trim_cr(text), 4096).is_ok() {
             return format!(in alloc; "{name}: its first line is one of format=msr");
         }
-        if text.contains(&b',') && self.form != "msr" {
+        if text.contains(&b',') && !has_fields(self.form) {
             return format!(in alloc;
                 "{name}: its first line has commas; for a table see examples/README.md"
             );

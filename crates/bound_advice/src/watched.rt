@@ -1,10 +1,10 @@
 //! A source that remembers its last bytes.
-ghost use Rattle.std.specs.Prelude.{◌≡◌, ◌≤◌, [], find, length, map, string_bytes, take, true, IfOk, OnErr, OnOk};
+ghost use Rattle.std.specs.Prelude.{◌≡◌, ◌≤◌, [], find, length, take, true, IfOk, OnErr, OnOk};
 ghost use Rattle.std.specs.Io.{ReadsAtMost};
 ghost use Rattle.std.specs.Io.KnownBytes.{ReadConsumes};
 ghost use Rattle.std.specs.Option.{option_copied};
 ghost use Rattle.bound_io.specs.Causes.{HasCause};
-ghost use Rattle.bound_advice.specs.GivenWords.{counts_reads, form_in};
+ghost use Rattle.bound_advice.specs.GivenWords.{form_given};
 ghost use Rattle.bound_advice.specs.Lines.{KeepsLast, is_refused, whole_lines};
 
 use crate::recent::Recent;
@@ -40,14 +40,12 @@ impl<S: Source + Drop> Watched<S> {
         &self.source
     }
 
-    /// The line of a trace that was just refused, without its end, if its form has lines. The words name the form, and
-    /// whether reads alone count.
-    pub fn refused_line(&self, words: &[String]) -> Option<&[u8]>
-        ensures { option_copied result ≡ find (is_refused (form_in (map string_bytes words.now)) (counts_reads (map string_bytes words.now)))
+    /// The line of a trace that was just refused, without its end, if the form that the words give has lines.
+    pub fn refused_line(&self, words: Words<'_>) -> Option<&[u8]>
+        ensures { option_copied result ≡ find (is_refused (form_given words.entry))
             (whole_lines self.now.recent.are_all self.now.recent.bytes.items) }
     {
-        let words = Words::new(words);
-        self.recent.refused_line(words.form(), words.counts_reads())
+        self.recent.refused_line(words.form())
     }
 }
 

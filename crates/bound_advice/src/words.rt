@@ -1,38 +1,17 @@
 //! What is wrong with a word of the command line, and what may stand there.
-ghost use Rattle.std.specs.Prelude.{◌≡◌, drop, map, string_bytes};
-ghost use Rattle.std.specs.Option.{option_copied};
-ghost use Rattle.bound_words.specs.Named.{has_equals, name_of, value_of};
-ghost use Rattle.bound_advice.specs.GivenWords.{counts_reads, first_operand, form_in, gives, value_in};
+ghost use Rattle.std.specs.Prelude.{◌≡◌, map, string_bytes};
+ghost use Rattle.bound_words.specs.Words.{command_asked};
+ghost use Rattle.bound_advice.specs.GivenWords.{form_given, operands_behind};
 
-use crate::pages::is;
 use crate::sizes::size_of;
 use bound_report::PolicyName;
 use bound_terms::WordKind;
-use bound_words::{Command, command_asked};
+use bound_words::{
+    Command, Kind, MOST_CAPACITIES, MOST_CAPACITY, Values, command_asked, format_given, has_equals,
+    is_operand, kind_of, name_of, operands_of, value_given, value_of,
+};
 use std::alloc::{AllocError, Global};
-
-// What an operand's value may be.
-fn values_of(name: &str) -> Option<&'static str> {
-    match name {
-        "format" => Some("webcache, arc, msr or oracle"),
-        "block" => Some("digits alone, from 1 to 281474976710656"),
-        "count" => Some("all or reads"),
-        "capacities" => Some(
-            "1 to 1000 numbers from 1 to 72057594037927936 with commas between, each more than the one before",
-        ),
-        "capacity" => Some("digits alone, from 1 to 72057594037927936"),
-        "objective" => Some("object or bytes"),
-        "mode" => Some("flow, constant or infinite"),
-        "window" => Some("all, or digits alone, from 1 to 33554432"),
-        "denominator" => Some("auto, exact, or digits alone, from 1 to 281474976710656"),
-        "policy" => Some("the word of a policy"),
-        "warmup" => Some("digits alone, from 0 to 33554432"),
-        "version" => Some("1 or 2"),
-        "seed" => Some("digits alone, from 0 to 18446744073709551615"),
-        "requests" | "objects" => Some("digits alone, from 1 to 33554432"),
-        _ => None,
-    }
-}
+use trace_any::Format;
 
 // Names with commas between, and a word before the last.
 fn listed(alloc: Global, names: &[&str], before_last: &str) -> Result<String, AllocError> {
@@ -69,40 +48,29 @@ fn policies_listed(alloc: Global) -> Result<String, AllocError> {
     listed(alloc, &names, " or ")
 }
 
-fn has_equals(word: &str) -> bool
-    ensures { result ≡ has_equals word.now }
-{
-    word.as_bytes().iter().any(|byte| *byte == b'=')
-}
-
-// Whether a word gives a value to a name.
-fn gives(name: &str, word: &str) -> bool
-    ensures { result ≡ gives name.now word.now }
-{
-    has_equals(word) && name_of(word) == name
-}
-
-// What stands after the first `=`, or nothing.
-fn value_of(word: &str) -> &str
-    ensures { result.now ≡ value_of word.now }
-{
-    match word.split_once('=') {
-        Some((_, value)) => value,
-        None => "",
-    }
-}
-
-/// The words of a command line: the command first.
+/// The words of a command line, and the command that they ask for, if they begin with one.
 #[derive(Clone, Copy)]
-pub(crate) struct Words<'a> {
+pub struct Words<'a> {
     words: &'a [String],
+    command: Option<Command>,
 }
 
 impl<'a> Words<'a> {
-    pub(crate) fn new(words: &'a [String]) -> Self
-        ensures { result.words.now ≡ words.now }
+    pub fn new(words: &'a [String]) -> Self
+        ensures words { result.words.now ≡ words.now }
+        ensures command { result.command ≡ command_asked (map string_bytes words.now) }
     {
-        Words { words }
+        Words {
+            words,
+            command: command_asked(words),
+        }
+    }
+
+    /// The command that they ask for.
+    pub fn command(&self) -> Option<Command>
+        ensures { result ≡ self.now.command }
+    {
+        self.command
     }
 
     // The word at a place, counted from 1.
@@ -113,14 +81,14 @@ impl<'a> Words<'a> {
         }
     }
 
-    /// The command.
-    pub(crate) fn command(&self) -> &'a str {
-        self.at(1)
+    /// The word of the command.
+    pub(crate) fn command_word(&self) -> &'static str {
+        self.command.map_or("", |command| command.word())
     }
 
     // What the paths of the command are called, in their order.
     fn paths(&self) -> &'static [&'static str] {
-        match command_asked(self.words) {
+        match self.command {
             Some(command) => command.paths(),
             None => &[],
         }
@@ -128,61 +96,42 @@ impl<'a> Words<'a> {
 
     // The names of the operands that the command may have, those that it needs first.
     fn operand_names(&self) -> &'static [&'static str] {
-        match command_asked(self.words) {
+        match self.command {
             Some(Command::Curve) => Command::CapacityCurve.operands(),
             Some(command) => command.operands(),
             None => &[],
         }
     }
 
-    // Which word is the first operand.
-    fn first_operand(&self) -> usize
-        ensures { result ≡ first_operand (map string_bytes self.now.words.now) }
-    {
-        match command_asked(self.words) {
-            Some(command) => command.paths().len() + 1,
-            None => 1,
-        }
-    }
-
     // The words behind the command and its paths.
     fn operands(&self) -> &'a [String]
-        ensures { map string_bytes result.now ≡ drop (first_operand (map string_bytes self.now.words.now)) (map string_bytes self.now.words.now) }
+        ensures { map string_bytes result.now ≡ operands_behind self.now.command (map string_bytes self.now.words.now) }
     {
-        self.words.get(self.first_operand()..).unwrap_or(&[])
-    }
-
-    /// The value of an operand, or nothing if it isn't given.
-    pub(crate) fn value_of(&self, name: &str) -> Option<&'a str>
-        ensures { option_copied result ≡ value_in name.now (map string_bytes self.now.words.now) }
-    {
-        let mut operands = self.operands().iter();
-        let word = operands.find(|word| gives(name, word.as_str()))?;
-        Some(value_of(word.as_str()))
-    }
-
-    /// The word for the form of the trace, or nothing if none is given.
-    pub(crate) fn form(&self) -> &'a str
-        ensures { result.now ≡ form_in (map string_bytes self.now.words.now) }
-    {
-        self.value_of("format").unwrap_or("")
-    }
-
-    /// Whether reads alone count.
-    pub(crate) fn counts_reads(&self) -> bool
-        ensures { result ≡ counts_reads (map string_bytes self.now.words.now) }
-    {
-        match self.value_of("count") {
-            Some(value) => is(value, "reads"),
-            None => false,
+        match self.command {
+            Some(command) => operands_of(command, self.words),
+            None => &[],
         }
+    }
+
+    /// The form of the trace, if one is given.
+    pub(crate) fn form(&self) -> Option<Format>
+        ensures { result ≡ form_given self.now }
+    {
+        format_given(self.operands())
     }
 
     // The first operand that the command needs and that isn't given.
     fn first_missing(&self) -> Option<&'static str> {
-        let command = command_asked(self.words)?;
+        let command = self.command?;
         let needed = command.operands().iter().take(command.needed());
-        needed.copied().find(|name| self.value_of(name).is_none())
+        needed
+            .copied()
+            .find(|name| value_given(name, self.operands()).is_none())
+    }
+
+    // What an operand of the command has for its value.
+    fn kind_of(&self, name: &str) -> Option<Kind> {
+        kind_of(self.command?, name)
     }
 
     // What the path at a place is called.
@@ -194,43 +143,43 @@ impl<'a> Words<'a> {
     // The first place of a path where an operand stands.
     fn operand_as_path(&self) -> Option<u64> {
         let paths = self.words.iter().skip(1).take(self.paths().len());
-        let at = paths.map(|word| word.as_str()).position(is_operand)?;
+        let at = paths.map(|word| word.as_str()).position(may_be_operand)?;
         Some(at as u64 + 2)
     }
 }
 
-// Whether a word is an operand of some command.
-fn is_operand(word: &str) -> bool {
-    match word.split_once('=') {
-        Some((name, _)) => values_of(name).is_some(),
-        None => false,
+// Whether a word may be an operand of some command.
+fn may_be_operand(word: &str) -> bool {
+    has_equals(word) && is_operand(name_of(word))
+}
+
+// Which values are of a kind, as it is said.
+fn values_said(alloc: Global, kind: Kind) -> Result<String, AllocError> {
+    match kind.values() {
+        Values::Words(words) => listed(alloc, words, " or "),
+        Values::Number { least, most } if most.saturating_sub(least) == 1 => {
+            format!(in alloc; "{least} or {most}")
+        }
+        Values::Number { least, most } => {
+            format!(in alloc; "digits alone, from {least} to {most}")
+        }
+        Values::WordOrNumber { words, most } => {
+            let words = listed(alloc, words, ", ")?;
+            let words = words.as_str();
+            format!(in alloc; "{words}, or digits alone, from 1 to {most}")
+        }
+        Values::Policy => policies_listed(alloc),
+        Values::Capacities => format!(in alloc;
+            "1 to {MOST_CAPACITIES} numbers from 1 to {MOST_CAPACITY} with commas between, each more than the one before"
+        ),
     }
 }
 
-// The name of an operand: what stands before the `=`.
-fn name_of(word: &str) -> &str
-    ensures { result.now ≡ name_of word.now }
-{
-    match word.split_once('=') {
-        Some((name, _)) => name,
-        None => word,
-    }
-}
-
-// What the value of an operand of a command may be.
-fn values_for(command: &str, name: &str) -> Option<&'static str> {
-    match (command, name) {
-        ("refine", "window") => Some("digits alone, from 1 to 33554432"),
-        ("curve", "denominator") => Some("digits alone, from 1 to 281474976710656"),
-        _ => values_of(name),
-    }
-}
-
-// What the value of an operand of a command may be, as it is said.
-fn values_said(alloc: Global, command: &str, name: &str) -> Result<String, AllocError> {
-    match name {
-        "policy" => policies_listed(alloc),
-        _ => String::from_str(alloc, values_for(command, name).unwrap_or("")),
+// What the value of an operand of the command may be, as it is said.
+fn values_named(alloc: Global, words: Words<'_>, name: &str) -> Result<String, AllocError> {
+    match words.kind_of(name) {
+        Some(kind) => values_said(alloc, kind),
+        None => Ok(String::new(alloc)),
     }
 }
 
@@ -245,14 +194,14 @@ fn missing(alloc: Global, words: Words<'_>, place: u64) -> Result<String, AllocE
         return format!(in alloc; "the path of the {path} is missing");
     }
     let name = words.first_missing().unwrap_or("format");
-    let values = values_said(alloc, words.command(), name)?;
+    let values = values_named(alloc, words, name)?;
     let values = values.as_str();
     format!(in alloc; "{name} is missing: {values}")
 }
 
 // Why an operand may not stand beside the others.
 fn unsuited(alloc: Global, words: Words<'_>, word: &str) -> Result<String, AllocError> {
-    let command = words.command();
+    let command = words.command_word();
     let names = words.operand_names();
     match name_of(word) {
         "block" if names.contains(&"block") => {
@@ -263,13 +212,15 @@ fn unsuited(alloc: Global, words: Words<'_>, word: &str) -> Result<String, Alloc
                 "{word}: reads are told apart with format=webcache or format=msr alone"
             )
         }
-        "objective" | "denominator" | "warmup" if command == "curve" => {
+        "objective" | "denominator" | "warmup" if words.command == Some(Command::Curve) => {
             format!(in alloc; "{word}: it goes with capacities=LIST alone")
         }
-        "window" if command == "bounds" || command == "demo" => {
+        "window" if matches!(words.command, Some(Command::Bounds | Command::Demo)) => {
             format!(in alloc; "{word}: a window goes with mode=flow alone")
         }
-        _ if command == "upgrade" => format!(in alloc; "{word}: an upgrade has no operands"),
+        _ if words.command == Some(Command::Upgrade) => format!(in alloc;
+            "{word}: an upgrade has no operands"
+        ),
         _ => {
             let operands = listed(alloc, names, " and ")?;
             let operands = operands.as_str();
@@ -295,12 +246,11 @@ fn unknown(alloc: Global, words: Words<'_>, place: u64) -> Result<String, AllocE
     unsuited(alloc, words, word)
 }
 
-// The most bytes that an operand may have, if it has a number of bytes.
-fn most_of(name: &str) -> u64 {
-    match name {
-        "capacity" => 72_057_594_037_927_936,
-        "block" => 281_474_976_710_656,
-        _ => 0,
+// The most bytes that a value of a kind may be, if it is a number of bytes.
+fn most_bytes(kind: Kind) -> Option<u64> {
+    match (kind, kind.values()) {
+        (Kind::Capacity | Kind::Block, Values::Number { most, .. }) => Some(most),
+        _ => None,
     }
 }
 
@@ -313,11 +263,12 @@ fn bad_value(alloc: Global, words: Words<'_>, place: u64) -> Result<String, Allo
     if let Some(path) = words.path_at(place) {
         return format!(in alloc; "trace and {path} can't both be the standard input");
     }
-    let (name, value) = word.split_once('=').unwrap_or((word, ""));
-    let values = values_said(alloc, words.command(), name)?;
+    let name = name_of(word);
+    let values = values_named(alloc, words, name)?;
     let values = values.as_str();
-    match size_of(value) {
-        Some(size) if size >= 1 && size <= most_of(name) => {
+    let most = words.kind_of(name).and_then(most_bytes).unwrap_or(0);
+    match size_of(value_of(word)) {
+        Some(size) if size >= 1 && size <= most => {
             format!(in alloc; "{word}: {values}, as {name}={size}")
         }
         _ => format!(in alloc; "{word}: {values}"),
@@ -329,7 +280,7 @@ fn path_forgotten(alloc: Global, words: Words<'_>) -> Result<String, AllocError>
     let place = words.operand_as_path().unwrap_or(2);
     let path = words.path_at(place).unwrap_or("trace");
     let word = words.at(place);
-    let none = if path == "certificate" && words.command() == "bounds" {
+    let none = if path == "certificate" && words.command == Some(Command::Bounds) {
         "; /dev/null stands for none"
     } else {
         ""

@@ -5,18 +5,16 @@
 
 ghost use Rattle.std.specs.Prelude.{◌≡◌, ◌⊎◌, is_ok, map, string_bytes, IfErr};
 ghost use Rattle.std.specs.Option.{option_map_or};
-ghost use Rattle.bound_cli.specs.Exits.{is_whole, page_status, settled};
+ghost use Rattle.bound_cli.specs.Exits.{is_whole, settled};
 ghost use Rattle.bound_run.specs.Statuses.{code_of};
 ghost use Rattle.bound_words.specs.Words.{plan};
 
+use crate::pages::print_page;
 use crate::saying::{say, say_oddities, say_refusal, say_report_fault, say_unplaced};
 use crate::streams::{fill_closed, spared_files};
-use bound_advice::{
-    COMMANDS, Devices, EXAMPLES, PURPOSE, Page, Seen, Told, VERSION, WORDS, Watched, page_of,
-    usage_of,
-};
+use bound_advice::{Devices, Seen, Told, Watched, Words, page_of};
 use bound_io::{FileSink, FileSource, Unplaced};
-use bound_report::PolicyName;
+use bound_report::numbers_in;
 use bound_run::{Status, paths_of, run};
 use std::alloc::Global;
 use std::io::ErrorKind;
@@ -24,6 +22,7 @@ use std::process::ExitCode;
 use std::rt::{Env, Files};
 use std::{env, io};
 
+mod pages;
 mod saying;
 mod streams;
 
@@ -36,11 +35,6 @@ const STANDARD_INPUT: &str = "standard input";
 
 /// What the standard output is called.
 const STANDARD_OUTPUT: &str = "standard output";
-
-// The first word.
-fn command_of(words: &[String]) -> &str {
-    words.first().map_or("", |word| word.as_str())
-}
 
 // What is known of a source for a message.
 fn seen_source<'a, R: Files + Input>(path: &'a str, source: &FileSource<'_, R>) -> Seen<'a> {
@@ -63,7 +57,7 @@ fn seen_sink<'a, R: Files + Print>(sink: &'a FileSink<'_, R>) -> Seen<'a> {
 // The line of the trace that is refused, if one is.
 fn refused_line<'a, R: Files + Input>(
     trace: &'a Watched<FileSource<'_, R>>,
-    words: &[String],
+    words: Words<'_>,
     status: Status,
 ) -> Option<&'a [u8]> {
     match status {
@@ -111,6 +105,7 @@ fn run_files<R: Files + Input + Print + Eprint>(rt: &R, alloc: Global, words: &[
     ensures { IfErr (plan (map string_bytes words.now)) (λ fault. (result ≡ Status.Words fault) ⊎ (result ≡ Status.NoMemory)) }
 {
     let paths = paths_of(words);
+    let asked = Words::new(words);
     let Ok(trace) = FileSource::new(rt, alloc, paths.trace) else {
         return Status::NoMemory;
     };
@@ -127,80 +122,22 @@ fn run_files<R: Files + Input + Print + Eprint>(rt: &R, alloc: Global, words: &[
         return Status::NoMemory;
     };
     let mut report = Told::new(report);
-    made.spare(spared_files(rt, command_of(words), paths));
+    made.spare(spared_files(rt, asked.command(), paths));
     let status = run(alloc, words, &mut trace, &mut cert, &mut report, &mut made);
     let devices = Devices {
         trace: seen_source(paths.trace, trace.source()),
         cert: seen_source(paths.cert, &cert),
         made: seen_sink(&made),
         start: trace.source().start(),
-        line: refused_line(&trace, words, status),
+        line: refused_line(&trace, asked, status),
     };
     match status {
-        Status::Done => say_oddities(rt, alloc, words, devices, report.start()),
+        Status::Done => say_oddities(rt, alloc, asked, devices, numbers_in(report.start())),
         Status::ReportFault => say_report_fault(rt, alloc, seen_sink(report.sink())),
-        _ => say_refusal(rt, alloc, words, devices, status),
+        _ => say_refusal(rt, alloc, asked, devices, status),
     }
     let placed = made.finish(is_whole(status));
     settle(rt, alloc, paths.made, placed, status)
-}
-
-// How a command is called.
-fn print_usage<R: Print>(rt: &R, start: &str, command: &str) -> io::Result<()> {
-    let mut start = start;
-    for line in usage_of(command) {
-        println!(rt; "{start}{line}")?;
-        start = "       ";
-    }
-    Ok(())
-}
-
-// The words of the policies.
-fn print_policies<R: Print>(rt: &R) -> io::Result<()> {
-    let last = PolicyName::ALL.len() - 1;
-    for (at, policy) in PolicyName::ALL.iter().enumerate() {
-        let gap = match at {
-            0 => "POLICY is ",
-            at if at == last => " or ",
-            _ => ", ",
-        };
-        let word = policy.word();
-        print!(rt; "{gap}{word}")?;
-    }
-    println!(rt; ".")
-}
-
-// How the program is called.
-fn print_help<R: Print>(rt: &R) -> io::Result<()> {
-    println!(rt; "{PURPOSE}")?;
-    for (at, command) in COMMANDS.iter().enumerate() {
-        let start = if at == 0 { "usage: " } else { "       " };
-        print_usage(rt, start, command)?;
-    }
-    println!(rt; "{WORDS}")?;
-    print_policies(rt)?;
-    println!(rt; "{EXAMPLES}")
-}
-
-// The status of printing a page. That it can't be printed is a fault of the report.
-fn status_of_page(printed: &io::Result<()>) -> Status
-    ensures { result ≡ page_status (is_ok printed.now) }
-{
-    match printed {
-        Ok(()) => Status::Done,
-        Err(_) => Status::ReportFault,
-    }
-}
-
-// Prints a page.
-fn print_page<R: Print>(rt: &R, page: Page) -> Status
-    ensures { (result ≡ Status.Done) ⊎ (result ≡ Status.ReportFault) }
-{
-    let printed = match page {
-        Page::Help => print_help(rt),
-        Page::Version => println!(rt; "{VERSION}"),
-    };
-    status_of_page(&printed)
 }
 
 // Runs with the words after the program's name, if the system gives them.

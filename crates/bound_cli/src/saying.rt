@@ -1,12 +1,9 @@
 //! What the program says on the standard error. That it can't be written changes nothing.
-ghost use Rattle.std.specs.Prelude.{◌≡◌, ◌⊎◌, MatchOption};
-ghost use Rattle.bound_run.specs.Statuses.{status_of};
-
 use bound_advice::{
-    Devices, Seen, advice_on, device_advice, escaped, oddities_of, refusal_line, usage_of,
+    Devices, Seen, Words, advice_on, device_advice, escaped, oddities_of, refusal_line, usage_of,
 };
 use bound_io::Unplaced;
-use bound_report::Refusal;
+use bound_report::{Numbers, Refusal};
 use bound_run::Status;
 use std::alloc::Global;
 
@@ -18,35 +15,10 @@ pub fn say<R: Eprint>(rt: &R, alloc: Global, text: &str) {
     }
 }
 
-// The refusal that a status is of.
-fn refusal_of(status: Status) -> Option<Refusal>
-    ensures { MatchOption result ((status ≡ Status.Done) ⊎ (status ≡ Status.ReportFault)) (λ refusal. status_of refusal ≡ status) }
-{
-    match status {
-        Status::Done | Status::ReportFault => None,
-        Status::Invalid { line, kind } => Some(Refusal::Invalid { line, kind }),
-        Status::Words(fault) => Some(Refusal::Words {
-            place: fault.place,
-            kind: fault.kind,
-        }),
-        Status::BadLine { line, kind } => Some(Refusal::BadLine { line, kind }),
-        Status::Limit(name) => Some(Refusal::Limit(name)),
-        Status::TraceFault => Some(Refusal::TraceFault),
-        Status::CertFault => Some(Refusal::CertFault),
-        Status::MadeFault => Some(Refusal::MadeFault),
-        Status::NoMemory => Some(Refusal::NoMemory),
-        Status::Unequal { first, other } => Some(Refusal::Unequal { first, other }),
-        Status::NotFlag { line } => Some(Refusal::NotFlag { line }),
-        Status::FlagCount { flags, requests } => Some(Refusal::FlagCount { flags, requests }),
-        Status::Impossible { cause, capacity } => Some(Refusal::Impossible { cause, capacity }),
-    }
-}
-
 // Says how the command of the words is called.
-fn say_usage<R: Eprint>(rt: &R, words: &[String]) {
-    let command = words.first().map_or("", |word| word.as_str());
+fn say_usage<R: Eprint>(rt: &R, words: Words<'_>) {
     let mut start = "usage: ";
-    for line in usage_of(command) {
+    for line in usage_of(words.command()) {
         let _ = eprintln!(rt; "bound_cli: {start}{line}");
         start = "       ";
     }
@@ -56,11 +28,11 @@ fn say_usage<R: Eprint>(rt: &R, words: &[String]) {
 pub fn say_refusal<R: Eprint>(
     rt: &R,
     alloc: Global,
-    words: &[String],
+    words: Words<'_>,
     devices: Devices<'_>,
     status: Status,
 ) {
-    let Some(refusal) = refusal_of(status) else {
+    let Some(refusal) = status.refusal() else {
         return;
     };
     if refusal == Refusal::MadeFault && devices.made.is_left() {
@@ -88,9 +60,9 @@ pub fn say_report_fault<R: Eprint>(rt: &R, alloc: Global, report: Seen<'_>) {
 pub fn say_oddities<R: Eprint>(
     rt: &R,
     alloc: Global,
-    words: &[String],
+    words: Words<'_>,
     devices: Devices<'_>,
-    report: &[u8],
+    report: Numbers,
 ) {
     let Ok(oddities) = oddities_of(alloc, words, devices.trace, devices.start, report) else {
         return;

@@ -1,6 +1,7 @@
 //! The standard streams of the process: that no file takes the place of a closed one, and which files they are.
 use bound_io::{FileId, Spared};
 use bound_run::Paths;
+use bound_words::Command;
 use std::fs::{File, OpenOptions};
 use std::io;
 use std::os::fd::{AsRawFd, IntoRawFd};
@@ -72,18 +73,18 @@ fn id_at<R: Files>(rt: &R, path: &str) -> Option<FileId> {
     }
 }
 
-// The file of a trace at this path, if the command has one. An upgrade reads a certificate alone, which may be replaced.
-fn trace_id<R: Files>(rt: &R, command: &str, trace: &str) -> Option<FileId> {
-    match (command, trace) {
-        ("upgrade", _) => None,
-        (_, "-") => id_at(rt, STANDARD_INPUT),
-        (_, trace) => id_at(rt, trace),
+// The file of a trace at this path, if the command reads one. That of a certificate alone may be replaced.
+fn trace_id<R: Files>(rt: &R, command: Command, trace: &str) -> Option<FileId> {
+    match trace {
+        _ if !command.reads_trace() => None,
+        "-" => id_at(rt, STANDARD_INPUT),
+        trace => id_at(rt, trace),
     }
 }
 
 // The pipe from which a certificate at this path is read, if it is one and the command reads a certificate and makes one.
-fn pipe_id<R: Files>(rt: &R, command: &str, cert: &str) -> Option<FileId> {
-    if command != "upgrade" && command != "refine" {
+fn pipe_id<R: Files>(rt: &R, command: Command, cert: &str) -> Option<FileId> {
+    if !command.remakes_certificate() {
         return None;
     }
     let path = if cert == "-" { STANDARD_INPUT } else { cert };
@@ -95,14 +96,14 @@ fn pipe_id<R: Files>(rt: &R, command: &str, cert: &str) -> Option<FileId> {
 
 /// The files of a run that no certificate may take the place of: those of the output and the messages, of the trace, and
 /// the pipe of a certificate, at these paths.
-pub fn spared_files<R: Files>(rt: &R, command: &str, paths: Paths<'_>) -> Spared {
+pub fn spared_files<R: Files>(rt: &R, command: Option<Command>, paths: Paths<'_>) -> Spared {
     let output = id_at(rt, "/proc/self/fd/1");
     let errors = id_at(rt, "/proc/self/fd/2");
     Spared {
         output,
         errors,
-        trace: trace_id(rt, command, paths.trace),
-        pipe: pipe_id(rt, command, paths.cert),
+        trace: command.and_then(|command| trace_id(rt, command, paths.trace)),
+        pipe: command.and_then(|command| pipe_id(rt, command, paths.cert)),
         is_unsure: output.is_none() || errors.is_none(),
     }
 }

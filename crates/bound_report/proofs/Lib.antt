@@ -1,3 +1,4 @@
 mod Rows
 pub mod CurveLemmas
 pub mod AppendedLines
+mod NumberRows

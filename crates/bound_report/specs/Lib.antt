@@ -9,3 +9,4 @@ pub mod Replays
 pub mod Demos
 pub mod Rendering
 pub mod Judged
+pub mod Numbers

@@ -20,7 +20,7 @@ use Rattle.hit_flags.specs.declared.fault.FlagFault.TheVariants as flag
 use Rattle.hit_flags.specs.Claims.{AreRead, IsStop}
 use Rattle.hit_flags.specs.Flags.{by_turns, flags_in, stop_of}
 use Rattle.bound_report.specs.declared.refusal.LimitName.TheVariants.{Requests as MostRequests, TraceBytes, Denominator}
-use Rattle.bound_words.specs.declared.settings.JudgeSettings.{JudgeSettings}
+use Rattle.bound_words.specs.declared.plans.JudgeSettings.{JudgeSettings}
 use Rattle.bound_run.specs.declared.status.Status.{Status}
 use Rattle.bound_run.specs.declared.status.Status.TheVariants.{Done, Invalid, Words, BadLine, Limit, TraceFault, CertFault, ReportFault, MadeFault, NoMemory, Unequal, NotFlag, FlagCount, Impossible}
 use Rattle.bound_run.specs.Judgements.{ArePossible, IsJudged, claimed_by}

@@ -28,9 +28,9 @@ use Rattle.cert_checker.specs.Rules.{found, first_some, record_fault, end_fault}
 use Rattle.cert_checker.specs.Walks.{Event, at_line, events_at, last_events, refusal_event, text_event, walk, walk_under}
 use Rattle.cert_checker.specs.Walks as walks
 use Rattle.cert_checker.proofs.Walked.{passing_is_valid_lem}
-use Rattle.bound_words.specs.declared.settings.BoundSettings.{BoundSettings}
-use Rattle.bound_words.specs.declared.settings.DrawSettings.{DrawSettings}
-use Rattle.bound_words.specs.declared.words.Plan.{Plan}
+use Rattle.bound_words.specs.declared.plans.BoundSettings.{BoundSettings}
+use Rattle.bound_words.specs.declared.plans.DrawSettings.{DrawSettings}
+use Rattle.bound_words.specs.declared.plans.Plan.{Plan}
 use Rattle.bound_words.specs.declared.words.WordFault.{WordFault}
 use Rattle.bound_run.specs.declared.status.Status.{Status}
 use Rattle.bound_run.specs.declared.status.Status.TheVariants.{Done, Invalid, Words, BadLine, Limit, TraceFault, CertFault, ReportFault, MadeFault, NoMemory, Unequal, NotFlag, FlagCount, Impossible}
@@ -42,9 +42,10 @@ use Rattle.bound_run.specs.Refusals.{RefusesLoading}
 use Rattle.bound_run.specs.Upgrades.{IsGoodCertificate}
 use Rattle.bound_run.specs.Statuses.{ending_of}
 use Rattle.bound_run.proofs.Claimed.{judge_complete}
-use Rattle.bound_words.specs.declared.settings.Settings.{Settings}
-use Rattle.bound_words.specs.declared.settings.Settings.TheVariants.{Bounds, Check, Replay, Curve, CapacityCurve, Judge, Demo, Upgrade, Refine}
-use Rattle.bound_words.specs.Settings.{settings_of}
+use Rattle.bound_words.specs.declared.plans.Settings.{Settings}
+use Rattle.bound_words.specs.declared.plans.Settings.TheVariants.{Bounds, Check, Replay, Curve, CapacityCurve, Judge, Demo, Upgrade, Refine}
+use Rattle.bound_words.specs.Capacities.{capacities_in}
+use Rattle.bound_words.specs.Plans.{settings_of}
 
 -- no refusal of the trace
 abbrev IsOfCert : Option Event → Type 0
@@ -314,18 +315,18 @@ module _ (source report made : Device) (good : IsGoodCertificate source.before) 
 
 -- a command whose inputs are good ends in its answer
 module _ (d : Devices) (status : Status) (works : NoneFails d) where
-  command_complete : (capacities : List ℕ) (settings : Settings) → CommandEnds capacities settings d (ending_of status) → AreGoodInputs settings d → Answers settings d status
-  command_complete capacities (Bounds format asked) e inputs = bounds_complete format asked d.trace d.report d.made inputs.0 inputs.1 works.trace works.report works.made status e.0
-  command_complete capacities (Replay format r) e inputs = report_complete format (IsReplayed format r d.trace) d.trace d.report inputs works.trace works.report status e.0
-  command_complete capacities (Curve format) e inputs = curve_complete format d.trace d.report inputs works.trace works.report status e.0
-  command_complete capacities (CapacityCurve format asked) e inputs =
-      report_complete format (IsCapacityCurved format asked capacities d.trace) d.trace d.report inputs works.trace works.report status e.0
-  command_complete capacities (Judge format asked) e inputs = judge_complete format asked d.trace d.cert d.report inputs.0 inputs.1 works.trace works.cert works.report status e.0
-  command_complete capacities Upgrade e inputs = upgrade_complete d.cert d.report d.made inputs works.cert works.report works.made status e.0
-  command_complete capacities (Check format) e inputs = check_complete format d.trace d.cert d.report inputs.0 inputs.1 works.trace works.cert works.report status e.0
-  command_complete capacities (Refine format width) e inputs = refine_complete format width d.trace d.cert d.report d.made inputs.0 inputs.1 works.trace works.cert works.report works.made status e.0
-  command_complete capacities (Demo drawing asked) e inputs = demo_complete drawing asked d.report inputs works.report status e.0
+  command_complete : (settings : Settings) → CommandEnds settings d (ending_of status) → AreGoodInputs settings d → Answers settings d status
+  command_complete (Bounds format asked) e inputs = bounds_complete format asked d.trace d.report d.made inputs.0 inputs.1 works.trace works.report works.made status e.0
+  command_complete (Replay format r) e inputs = report_complete format (IsReplayed format r d.trace) d.trace d.report inputs works.trace works.report status e.0
+  command_complete (Curve format) e inputs = curve_complete format d.trace d.report inputs works.trace works.report status e.0
+  command_complete (CapacityCurve format capacities asked) e inputs =
+      report_complete format (IsCapacityCurved format asked (capacities_in capacities) d.trace) d.trace d.report inputs works.trace works.report status e.0
+  command_complete (Judge format asked) e inputs = judge_complete format asked d.trace d.beside d.report inputs.0 inputs.1 works.trace works.beside works.report status e.0
+  command_complete Upgrade e inputs = upgrade_complete d.beside d.report d.made inputs works.beside works.report works.made status e.0
+  command_complete (Check format) e inputs = check_complete format d.trace d.beside d.report inputs.0 inputs.1 works.trace works.beside works.report status e.0
+  command_complete (Refine format width) e inputs = refine_complete format width d.trace d.beside d.report d.made inputs.0 inputs.1 works.trace works.beside works.report works.made status e.0
+  command_complete (Demo drawing asked) e inputs = demo_complete drawing asked d.report inputs works.report status e.0
 
-pub complete : (read : Result Plan WordFault) (capacities : List ℕ) (d : Devices) (status : Status) → RunEnds read capacities d status → Completes read d status
-complete (Ok plan) capacities d status ends = λ good works. command_complete d status works capacities (settings_of plan) ends good
-complete (Err fault) capacities d status ends = tt
+pub complete : (read : Result Plan WordFault) (d : Devices) (status : Status) → RunEnds read d status → Completes read d status
+complete (Ok plan) d status ends = λ good works. command_complete d status works (settings_of plan) ends good
+complete (Err fault) d status ends = tt

@@ -20,8 +20,8 @@ use Rattle.bound_report.specs.Demos.{demo_text}
 use Rattle.bound_report.specs.declared.refusal.LimitName.TheVariants.{Requests, TraceBytes, Denominator}
 use Rattle.bound_report.specs.declared.refusal.Refusal.{Refusal}
 use Rattle.bound_report.specs.declared.refusal.Refusal.TheVariants as refusal
-use Rattle.bound_words.specs.declared.settings.BoundSettings.{BoundSettings}
-use Rattle.bound_words.specs.declared.settings.DrawSettings.{DrawSettings}
+use Rattle.bound_words.specs.declared.plans.BoundSettings.{BoundSettings}
+use Rattle.bound_words.specs.declared.plans.DrawSettings.{DrawSettings}
 use Rattle.bound_run.specs.Demos.{AreReplays, IsDemoText, demo_facts, trace_drawn}
 use Rattle.bound_run.specs.Readings.{IsCertified}
 use Rattle.bound_run.specs.BoundsMade.{AreTexts, IsMade}

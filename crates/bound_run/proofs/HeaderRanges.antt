@@ -3,7 +3,7 @@ use Rattle.std.proofs.Common.{ℕ, ◌<◌, ◌≤◌, ◌^◌, Bool}
 use Rattle.cache_model.specs.declared.certificates.Header.{Header}
 use Rattle.cache_model.specs.declared.version.TheConstants.{CERT_VERSION, SHORT_VERSION}
 use Rattle.cache_model.specs.Certificates.{IsHeaderInRange}
-use Rattle.bound_words.specs.declared.settings.BoundSettings.{BoundSettings}
+use Rattle.bound_words.specs.declared.plans.BoundSettings.{BoundSettings}
 use Rattle.bound_words.specs.Ranges.{AreBoundSettingsInRange}
 
 -- the header of these numbers

@@ -8,7 +8,7 @@ use Rattle.cache_model.specs.declared.certificates.Record.{Record}
 use Rattle.cache_model.specs.Claim.{BoundsEveryPolicy, terms_of}
 use Rattle.cache_model.specs.Certificates.{IsValid, eligible_of, flows_of, prices_of, units_of}
 use Rattle.cache_model.proofs.Flows.{flow_value-le}
-use Rattle.bound_words.specs.declared.words.Plan.{Plan}
+use Rattle.bound_words.specs.declared.plans.Plan.{Plan}
 use Rattle.bound_words.specs.declared.words.WordFault.{WordFault}
 use Rattle.bound_run.specs.declared.status.Status.{Status}
 use Rattle.bound_run.specs.declared.status.Status.TheVariants.{Done, Words}
@@ -22,9 +22,9 @@ use Rattle.bound_run.specs.Run.{Devices, RunEnds, CommandEnds}
 use Rattle.bound_run.specs.Statuses.{done, ending_of}
 use Rattle.judge_laws.proofs.Possible.{possible_is_allowed}
 use Rattle.bound_run.proofs.Claimed.{claims_bounded}
-use Rattle.bound_words.specs.declared.settings.Settings.{Settings}
-use Rattle.bound_words.specs.declared.settings.Settings.TheVariants.{Bounds, Check, Replay, Curve, CapacityCurve, Judge, Demo, Upgrade, Refine}
-use Rattle.bound_words.specs.Settings.{settings_of}
+use Rattle.bound_words.specs.declared.plans.Settings.{Settings}
+use Rattle.bound_words.specs.declared.plans.Settings.TheVariants.{Bounds, Check, Replay, Curve, CapacityCurve, Judge, Demo, Upgrade, Refine}
+use Rattle.bound_words.specs.Plans.{settings_of}
 
 -- a valid certificate has true bounds
 true_bounds : (trace : Requests) (h : Header) (records : List Record) → IsValid trace.objects trace.fills h records → BoundsEveryPolicy trace.objects trace.fills h → AreTrueBounds trace h records
@@ -53,8 +53,8 @@ not_done : (fault : WordFault) → Done ≡ Words fault → ⊥
 not_done fault is = cc
 
 -- each command that ends well has shown what it printed
-shown : (capacities : List ℕ) (settings : Settings) (d : Devices) → CommandEnds capacities settings d done → Shows capacities settings d
-shown capacities (Bounds format asked) d ((cert, text, ready, certified, printed), source, untouched) =
+shown : (settings : Settings) (d : Devices) → CommandEnds settings d done → Shows settings d
+shown (Bounds format asked) d ((cert, text, ready, certified, printed), source, untouched) =
     let made = ready.texts.made in (
       ready.requests,
       ready.dropped,
@@ -78,7 +78,7 @@ shown capacities (Bounds format asked) d ((cert, text, ready, certified, printed
         };
       },
     )
-shown capacities (Check format) d ((text, said, printed), trace, cert, untouched) = (
+shown (Check format) d ((text, said, printed), trace, cert, untouched) = (
   said.accepted.requests,
   said.dropped,
   said.accepted.loaded,
@@ -91,25 +91,25 @@ shown capacities (Check format) d ((text, said, printed), trace, cert, untouched
     bounds = true_bounds said.accepted.requests said.verdict.header said.accepted.records said.accepted.valid said.accepted.bounds;
   },
 )
-shown capacities (Replay format r) d ((text, replayed, printed), source, cert, made) = (
+shown (Replay format r) d ((text, replayed, printed), source, cert, made) = (
   replayed.requests,
   replayed.dropped,
   replayed.loaded,
   record { text = text; printed = printed; replay = replayed.report },
 )
-shown capacities (Curve format) d ((text, curved, printed), source, cert, made) = (
+shown (Curve format) d ((text, curved, printed), source, cert, made) = (
   curved.requests,
   curved.dropped,
   curved.loaded,
   record { text = text; printed = printed; curve = curved.report },
 )
-shown capacities (CapacityCurve format asked) d ((text, curved, printed), source, cert, made) = (
+shown (CapacityCurve format capacities asked) d ((text, curved, printed), source, cert, made) = (
   curved.requests,
   curved.dropped,
   curved.loaded,
   record { text = text; printed = printed; curve = curved.report },
 )
-shown capacities (Judge format asked) d ((text, judged, printed), trace, hits, made) = (
+shown (Judge format asked) d ((text, judged, printed), trace, hits, made) = (
   judged.requests,
   judged.dropped,
   judged.read.loaded,
@@ -122,7 +122,7 @@ shown capacities (Judge format asked) d ((text, judged, printed), trace, hits, m
     bounded = claims_bounded asked judged.requests judged.flags judged.possible;
   },
 )
-shown capacities (Demo drawing asked) d ((text, shows, printed), trace, cert, made) =
+shown (Demo drawing asked) d ((text, shows, printed), trace, cert, made) =
     let is = shows.made in
     record {
       header = shows.header;
@@ -142,8 +142,8 @@ shown capacities (Demo drawing asked) d ((text, shows, printed), trace, cert, ma
       };
       replayed = shows.replayed;
     }
-shown capacities Upgrade d ((cert, text, ready, certified, printed), source, untouched) = record { cert = cert; text = text; certified = certified; printed = printed; upgraded = ready }
-shown capacities (Refine format width) d ((cert, text, ready, certified, printed), trace, read) =
+shown Upgrade d ((cert, text, ready, certified, printed), source, untouched) = record { cert = cert; text = text; certified = certified; printed = printed; upgraded = ready }
+shown (Refine format width) d ((cert, text, ready, certified, printed), trace, read) =
     let texts = ready.texts in (
       ready.requests,
       ready.dropped,
@@ -162,6 +162,6 @@ shown capacities (Refine format width) d ((cert, text, ready, certified, printed
       },
     )
 
-pub headlined : (read : Result Plan WordFault) (capacities : List ℕ) (d : Devices) (status : Status) → RunEnds read capacities d status → status ≡ Done → Headline read capacities d
-headlined (Ok plan) capacities d status ends is = shown capacities (settings_of plan) d (subst (λ s. CommandEnds capacities (settings_of plan) d (ending_of s)) is ends)
-headlined (Err fault) capacities d status ends is = not_done fault (sym is ∙ ends.0)
+pub headlined : (read : Result Plan WordFault) (d : Devices) (status : Status) → RunEnds read d status → status ≡ Done → Headline read d
+headlined (Ok plan) d status ends is = shown (settings_of plan) d (subst (λ s. CommandEnds (settings_of plan) d (ending_of s)) is ends)
+headlined (Err fault) d status ends is = not_done fault (sym is ∙ ends.0)

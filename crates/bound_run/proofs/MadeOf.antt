@@ -31,7 +31,7 @@ use Rattle.relaxation.specs.Prices.{most_paid}
 use Rattle.relaxation.proofs.Whole.{timeline_weights}
 use Rattle.schedule_round.specs.Laws.{IsBestSchedule, full_flags}
 use Rattle.schedule_round.proofs.EqualSizes.{best_schedule, equal_sizes_whole}
-use Rattle.bound_words.specs.declared.settings.BoundSettings.{BoundSettings}
+use Rattle.bound_words.specs.declared.plans.BoundSettings.{BoundSettings}
 use Rattle.window_bounds.specs.Solutions.{prices_in}
 use Rattle.bound_run.specs.BoundsMade.{HasLeastWindows, IsBelowWindows, IsMade, IsNear, IsOfMode, is_unwindowed, records_of, width_of}
 use Rattle.bound_words.specs.Ranges.{AreBoundSettingsInRange, IsModeInRange}

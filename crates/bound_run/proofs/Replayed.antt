@@ -1,5 +1,6 @@
 -- What a replay shows, from what it answers: that allowed contents are within the bound of each valid certificate, and whose run it is.
 use Rattle.std.proofs.Common.{◌≡◌, ℕ, ◌≤◌, Bool, true, false, ◌&&◌, not, cond, nat_le, [], ◌∷◌, sym, ap, subst, refl, arith, List, length, sum_by, ◌∙◌, Some, IfOk, Result, Ok, Err}
+use Rattle.std.specs.declared.option.Option.{Option}
 use Rattle.std.specs.List.{range_with_len}
 use Rattle.std.proofs.Math.Nat.{mul-le-mul_left}
 use Rattle.std.proofs.lemmas.Bool.{and_parts, and_from, le-leb, leb-true}
@@ -11,10 +12,10 @@ use Rattle.cache_model.specs.Claim.{BoundsEveryPolicy, IsAllowed, before_request
 use Rattle.cache_model.proofs.Headline.{valid_bounds}
 use Rattle.cache_rules.specs.Stored.{Requests}
 use Rattle.policy_model.specs.Runs.{AreScores, policy_run}
+use Rattle.policy_model.specs.States.{State, start_of}
 use Rattle.policy_model.specs.declared.names.PolicyName.{PolicyName}
 use Rattle.policy_model.specs.declared.names.PolicyName.TheVariants.{Belady}
 use Rattle.replay_core.specs.declared.counts.Replay.{Replay}
-use Rattle.replay_core.specs.Keeping.{Kept, nothing_kept, state_of}
 use Rattle.replay_core.specs.Laws.{IsRunOf}
 use Rattle.belady_laws.proofs.BestLemmas.{best}
 use Rattle.bound_run.specs.Replays.{earned_by, IsWithinBounds, IsReplay}
@@ -79,11 +80,11 @@ is_replay name capacity warmup trace a scores run = record {
       );
 }
 
--- whatever a replay of a policy with a known state answers
-pub replayed : {E : Type 0} (name : PolicyName) (capacity objects warmup : ℕ) (trace : Requests) (r : Result Replay E) (start : Kept) → start ≡ nothing_kept objects capacity
-    → IfOk r (λ a. AreScores start.capacity warmup trace.fills trace.objects a.hits a.bytes) → IfOk r (λ a. IsRunOf (Some (state_of name start)) trace.objects warmup trace.fills a.hits a.bytes)
-    → IfOk r (IsReplay name capacity warmup trace)
-replayed name capacity objects warmup trace (Ok a) start is scores run =
-    is_replay name capacity warmup trace a (subst (λ (p : Kept). AreScores p.capacity warmup trace.fills trace.objects a.hits a.bytes) is scores)
-    (subst (λ (p : Kept). IsRunOf (Some (state_of name p)) trace.objects warmup trace.fills a.hits a.bytes) is run)
-replayed name capacity objects warmup trace (Err e) start is scores run = tt
+-- whatever a replay of a policy answers that begins as the rule does
+pub replayed : {E : Type 0} (name : PolicyName) (capacity warmup : ℕ) (trace : Requests) (r : Result Replay E) (room : ℕ) (known_state : Option State)
+    → room ≡ capacity → known_state ≡ Some (start_of name capacity) → IfOk r (λ a. AreScores room warmup trace.fills trace.objects a.hits a.bytes)
+    → IfOk r (λ a. IsRunOf known_state trace.objects warmup trace.fills a.hits a.bytes) → IfOk r (IsReplay name capacity warmup trace)
+replayed name capacity warmup trace (Ok a) room known_state room_is state_is scores run =
+    is_replay name capacity warmup trace a (subst (λ c. AreScores c warmup trace.fills trace.objects a.hits a.bytes) room_is scores)
+    (subst (λ s. IsRunOf s trace.objects warmup trace.fills a.hits a.bytes) state_is run)
+replayed name capacity warmup trace (Err e) room known_state room_is state_is scores run = tt

@@ -1,6 +1,6 @@
 -- Why a trace has no bounds as asked for.
 use Rattle.cache_rules.specs.Stored.{Requests}
-use Rattle.bound_words.specs.declared.settings.BoundSettings.{BoundSettings}
+use Rattle.bound_words.specs.declared.plans.BoundSettings.{BoundSettings}
 use Rattle.bound_run.specs.declared.bounds.BoundsFault.{BoundsFault}
 use Rattle.bound_run.specs.declared.bounds.BoundsFault.TheVariants.{Denominator, NoMemory}
 use Rattle.bound_run.specs.BoundsMade.{RefusesDenominator}

@@ -24,7 +24,7 @@ use Rattle.relaxation.specs.Faults.{amount_of}
 use Rattle.constant_price.specs.Constants.{IsLeastConstant, constant_prices}
 use Rattle.schedule_round.specs.Laws.{IsBestSchedule, full_flags}
 use Rattle.window_bounds.specs.Solutions.{AreSolutions, prices_in, value_of_windows, window_count}
-use Rattle.bound_words.specs.declared.settings.BoundSettings.{BoundSettings}
+use Rattle.bound_words.specs.declared.plans.BoundSettings.{BoundSettings}
 use Rattle.trace_any.specs.declared.format.Format.{Format}
 use Rattle.bound_run.specs.Countings.{counting_of}
 use Rattle.bound_run.specs.Reports.{bounds_report}

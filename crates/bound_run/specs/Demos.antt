@@ -8,8 +8,8 @@ use Rattle.demo_trace.specs.Requests.{demo_requests}
 use Rattle.bound_report.specs.declared.demo.DemoFacts.{DemoFacts}
 use Rattle.bound_report.specs.declared.demo.PolicyReplays.{PolicyReplays}
 use Rattle.bound_report.specs.Demos.{demo_text}
-use Rattle.bound_words.specs.declared.settings.BoundSettings.{BoundSettings}
-use Rattle.bound_words.specs.declared.settings.DrawSettings.{DrawSettings}
+use Rattle.bound_words.specs.declared.plans.BoundSettings.{BoundSettings}
+use Rattle.bound_words.specs.declared.plans.DrawSettings.{DrawSettings}
 use Rattle.trace_any.specs.declared.format.Format.TheVariants.{Webcache}
 use Rattle.bound_run.specs.BoundsMade.{IsMade}
 use Rattle.bound_run.specs.Countings.{counting_of}

@@ -18,10 +18,10 @@ use Rattle.cert_checker.specs.declared.verdict.Verdict.{Verdict}
 use Rattle.trace_any.specs.declared.format.Format.{Format}
 use Rattle.trace_any.specs.declared.format.Format.TheVariants.{Webcache}
 use Rattle.bound_run.specs.Countings.{counting_of}
-use Rattle.bound_words.specs.declared.settings.BoundSettings.{BoundSettings}
-use Rattle.bound_words.specs.declared.settings.DrawSettings.{DrawSettings}
-use Rattle.bound_words.specs.declared.settings.ReplaySettings.{ReplaySettings}
-use Rattle.bound_words.specs.declared.words.Plan.{Plan}
+use Rattle.bound_words.specs.declared.plans.BoundSettings.{BoundSettings}
+use Rattle.bound_words.specs.declared.plans.DrawSettings.{DrawSettings}
+use Rattle.bound_words.specs.declared.plans.ReplaySettings.{ReplaySettings}
+use Rattle.bound_words.specs.declared.plans.Plan.{Plan}
 use Rattle.bound_words.specs.declared.words.WordFault.{WordFault}
 use Rattle.bound_report.specs.declared.demo.PolicyReplays.{PolicyReplays}
 use Rattle.bound_report.specs.Demos.{demo_text}
@@ -35,16 +35,17 @@ use Rattle.judge_laws.specs.Flags.{HitsFlagged}
 use Rattle.cache_model.specs.declared.objects.Object.{Object}
 use Rattle.cache_model.specs.declared.objects.Objective.TheVariants.{Object as Hits, Bytes}
 use Rattle.bound_run.specs.Judgements.{claimed_by, judged_report}
-use Rattle.bound_words.specs.declared.settings.JudgeSettings.{JudgeSettings}
+use Rattle.bound_words.specs.declared.plans.JudgeSettings.{JudgeSettings}
 use Rattle.bound_run.specs.BoundsMade.{is_unwindowed}
 use Rattle.bound_run.specs.Refined.{IsRefinement, verdict_on}
 use Rattle.bound_run.specs.Replays.{IsReplayText, IsWithinBounds}
 use Rattle.bound_run.specs.Reports.{bounds_report, refined_report, verdict_report}
 use Rattle.bound_run.specs.Upgrades.{IsUpgraded}
 use Rattle.bound_run.specs.Run.{Devices}
-use Rattle.bound_words.specs.declared.settings.Settings.{Settings}
-use Rattle.bound_words.specs.declared.settings.Settings.TheVariants.{Bounds, Check, Replay, Curve, CapacityCurve, Judge, Demo, Upgrade, Refine}
-use Rattle.bound_words.specs.Settings.{settings_of}
+use Rattle.bound_words.specs.declared.plans.Settings.{Settings}
+use Rattle.bound_words.specs.declared.plans.Settings.TheVariants.{Bounds, Check, Replay, Curve, CapacityCurve, Judge, Demo, Upgrade, Refine}
+use Rattle.bound_words.specs.Capacities.{capacities_in}
+use Rattle.bound_words.specs.Plans.{settings_of}
 
 -- what the line flow and the form exact say: no prices over its unit and any denominator have a bound below the flow, and in the form exact prices and flows have the upper bound as their value
 pub record AreValues (trace : Requests) (h : Header) (records : List Record) : Type 0 where
@@ -154,28 +155,28 @@ pub record ShowsRefinement (format : Format) (width : ℕ) (trace : Requests) (d
   pub refinement : IsRefinement width trace header records refined refined_records
   pub bounds : AreTrueBounds trace refined refined_records
 
--- what the other commands show, a curve over capacities at those that the words give
-abbrev pub ShowsElse : List ℕ → Settings → Devices → Type 0
-ShowsElse capacities (Replay format r) d = (trace : Requests) × (dropped : ℕ) × IsLoaded format d.trace trace dropped × ShowsReplay format r trace dropped d.report
-ShowsElse capacities (Curve format) d = (trace : Requests) × (dropped : ℕ) × IsLoaded format d.trace trace dropped × ShowsCurve format trace dropped d.report
-ShowsElse capacities (CapacityCurve format asked) d =
-    (trace : Requests) × (dropped : ℕ) × IsLoaded format d.trace trace dropped × ShowsCapacityCurve format asked capacities trace dropped d.report
-ShowsElse capacities (Judge format asked) d = (trace : Requests) × (dropped : ℕ) × IsLoaded format d.trace trace dropped × ShowsJudgement format asked trace dropped d.cert d.report
-ShowsElse capacities (Demo drawing asked) d = ShowsDemo drawing asked d.report
-ShowsElse capacities Upgrade d = ShowsUpgrade d.cert d.report d.made
-ShowsElse capacities (Refine format width) d = (trace : Requests) × (dropped : ℕ) × IsLoaded format d.trace trace dropped × ShowsRefinement format width trace dropped d.cert d.report d.made
-ShowsElse capacities settings d = ⊥
+-- what the other commands show
+abbrev pub ShowsElse : Settings → Devices → Type 0
+ShowsElse (Replay format r) d = (trace : Requests) × (dropped : ℕ) × IsLoaded format d.trace trace dropped × ShowsReplay format r trace dropped d.report
+ShowsElse (Curve format) d = (trace : Requests) × (dropped : ℕ) × IsLoaded format d.trace trace dropped × ShowsCurve format trace dropped d.report
+ShowsElse (CapacityCurve format capacities asked) d =
+    (trace : Requests) × (dropped : ℕ) × IsLoaded format d.trace trace dropped × ShowsCapacityCurve format asked (capacities_in capacities) trace dropped d.report
+ShowsElse (Judge format asked) d = (trace : Requests) × (dropped : ℕ) × IsLoaded format d.trace trace dropped × ShowsJudgement format asked trace dropped d.beside d.report
+ShowsElse (Demo drawing asked) d = ShowsDemo drawing asked d.report
+ShowsElse Upgrade d = ShowsUpgrade d.beside d.report d.made
+ShowsElse (Refine format width) d = (trace : Requests) × (dropped : ℕ) × IsLoaded format d.trace trace dropped × ShowsRefinement format width trace dropped d.beside d.report d.made
+ShowsElse settings d = ⊥
 
 -- what a command shows; of bounds and a check, that all that the trace source had left was read, and the numbers that were printed are true of it
-abbrev pub Shows : List ℕ → Settings → Devices → Type 0
-Shows capacities (Bounds format asked) d = (trace : Requests) × (dropped : ℕ) × IsLoaded format d.trace trace dropped × ShowsBounds format asked trace dropped d.report d.made
-Shows capacities (Check format) d = (trace : Requests) × (dropped : ℕ) × IsLoaded format d.trace trace dropped × ShowsCheck format trace dropped d.cert d.report
-Shows capacities settings d = ShowsElse capacities settings d
+abbrev pub Shows : Settings → Devices → Type 0
+Shows (Bounds format asked) d = (trace : Requests) × (dropped : ℕ) × IsLoaded format d.trace trace dropped × ShowsBounds format asked trace dropped d.report d.made
+Shows (Check format) d = (trace : Requests) × (dropped : ℕ) × IsLoaded format d.trace trace dropped × ShowsCheck format trace dropped d.beside d.report
+Shows settings d = ShowsElse settings d
 
 -- Whatever trace is read and whatever the capacity, no allowed sequence of cache contents scores more than the printed
 -- upper bound, the certified schedule is allowed and scores exactly the lower bound, exact-form prices and flows have
 -- equal value, equal sizes make both bounds one under an unwindowed flow, and the checker's yes on any file implies the
 -- bounds it prints.
-abbrev pub Headline : Result Plan WordFault → List ℕ → Devices → Type 0
-Headline (Ok plan) capacities d = Shows capacities (settings_of plan) d
-Headline (Err fault) capacities d = ⊥
+abbrev pub Headline : Result Plan WordFault → Devices → Type 0
+Headline (Ok plan) d = Shows (settings_of plan) d
+Headline (Err fault) d = ⊥

@@ -14,8 +14,8 @@ use Rattle.trace_any.specs.Readings.{Reading, reading, full_limits}
 use Rattle.trace_any.specs.Loads.{IsLoaded}
 use Rattle.cert_checker.specs.declared.verdict.Verdict.{Verdict}
 use Rattle.cert_checker.specs.Walks.{Event, walk}
-use Rattle.bound_words.specs.declared.settings.BoundSettings.{BoundSettings}
-use Rattle.bound_words.specs.declared.settings.ReplaySettings.{ReplaySettings}
+use Rattle.bound_words.specs.declared.plans.BoundSettings.{BoundSettings}
+use Rattle.bound_words.specs.declared.plans.ReplaySettings.{ReplaySettings}
 use Rattle.stack_curve.specs.Curves.{IsClash}
 use Rattle.capacity_curve.specs.declared.points.CurveTerms.{CurveTerms}
 use Rattle.bound_run.specs.CapacityCurves.{IsCapacityCurveText}

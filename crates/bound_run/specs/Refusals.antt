@@ -13,9 +13,9 @@ use Rattle.cert_checker.specs.Walks as walk
 use Rattle.bound_report.specs.declared.refusal.LimitName.TheVariants.{Requests, TraceBytes, Denominator}
 use Rattle.bound_report.specs.declared.refusal.Refusal.{Refusal}
 use Rattle.bound_report.specs.declared.refusal.Refusal.TheVariants as refusal
-use Rattle.bound_words.specs.declared.settings.BoundSettings.{BoundSettings}
-use Rattle.bound_words.specs.declared.settings.DrawSettings.{DrawSettings}
-use Rattle.bound_words.specs.declared.settings.JudgeSettings.{JudgeSettings}
+use Rattle.bound_words.specs.declared.plans.BoundSettings.{BoundSettings}
+use Rattle.bound_words.specs.declared.plans.DrawSettings.{DrawSettings}
+use Rattle.bound_words.specs.declared.plans.JudgeSettings.{JudgeSettings}
 use Rattle.bound_run.specs.BoundsMade.{RefusesDenominator}
 use Rattle.bound_run.specs.Demos.{trace_drawn}
 use Rattle.trace_any.specs.Loads.{IsRefused}

@@ -1,5 +1,6 @@
 -- What a replay of a trace shows.
-use Rattle.std.specs.Prelude.{◌≡◌, ℕ, ◌*◌, ◌/◌, ◌≤◌, List, [], length}
+use Rattle.std.specs.Prelude.{◌≡◌, ℕ, ◌*◌, ◌/◌, ◌≤◌, List, [], length, Some}
+use Rattle.std.specs.declared.option.Option.{Option}
 use Rattle.cache_rules.specs.Stored.{Requests}
 use Rattle.cache_model.specs.declared.objects.Objective.{Objective}
 use Rattle.cache_model.specs.declared.objects.Objective.TheVariants.{Object as Hits, Bytes}
@@ -10,6 +11,7 @@ use Rattle.cache_model.specs.Objects.{objects_of}
 use Rattle.policy_model.specs.declared.names.PolicyName.{PolicyName}
 use Rattle.policy_model.specs.declared.names.PolicyName.TheVariants.{Belady}
 use Rattle.policy_model.specs.Runs.{policy_run}
+use Rattle.policy_model.specs.States.{Member, State, start_of}
 use Rattle.policy_laws.specs.Laws.{HaveOneSize}
 use Rattle.belady_laws.specs.Best.{IsBest}
 use Rattle.replay_core.specs.declared.counts.Replay.{Replay}
@@ -17,7 +19,7 @@ use Rattle.bound_report.specs.declared.replays.ReplayFacts.{ReplayFacts}
 use Rattle.bound_report.specs.Rendering.{rendered}
 use Rattle.bound_report.specs.Replays.{replay_lines}
 use Rattle.trace_any.specs.declared.format.Format.{Format}
-use Rattle.bound_words.specs.declared.settings.ReplaySettings.{ReplaySettings}
+use Rattle.bound_words.specs.declared.plans.ReplaySettings.{ReplaySettings}
 use Rattle.bound_run.specs.Countings.{counting_from}
 
 -- what a replay earns by an objective
@@ -35,6 +37,13 @@ abbrev pub IsWithinBounds : ℕ → ℕ → Requests → ℕ → ℕ → Type 0
 IsWithinBounds capacity warmup trace hits bytes =
     (h : Header) (records : List Record) → IsValid trace.objects trace.fills h records → h.capacity ≡ capacity → h.warmup ≤ warmup
     → IsUnder h (earned_by h.objective hits bytes)
+
+-- a policy begins as the rule of a name does: it was asked for nothing, has the room of the capacity, and takes the numbers of so many objects
+pub record BeginsAs (name : PolicyName) (capacity objects numbers room : ℕ) (contents : List Member) (known_state : Option State) : Type 0 where
+  pub takes_all : objects ≤ numbers
+  pub room_is : room ≡ capacity
+  pub empty : contents ≡ []
+  pub state_is : known_state ≡ Some (start_of name capacity)
 
 -- the counts are those of the rule's run; no valid certificate is below them; and those of Belady's rule are the greatest scores if all that fits has one size and every request counts
 pub record IsReplay (policy : PolicyName) (capacity warmup : ℕ) (trace : Requests) (replay : Replay) : Type 0 where

@@ -11,7 +11,7 @@ use Rattle.bound_report.specs.Rendering.{rendered}
 use Rattle.bound_report.specs.Reports.{bound_lines}
 use Rattle.bound_report.specs.Verdicts.{verdict_lines}
 use Rattle.cert_checker.specs.declared.verdict.Verdict.{Verdict}
-use Rattle.bound_words.specs.declared.settings.BoundSettings.{BoundSettings}
+use Rattle.bound_words.specs.declared.plans.BoundSettings.{BoundSettings}
 
 -- what the report of bounds states beside the header
 abbrev pub facts_of : BoundSettings → Requests → ℕ → ℕ → Header → BoundFacts

@@ -13,11 +13,11 @@ use Rattle.bound_report.specs.declared.refusal.Refusal.{Refusal}
 use Rattle.bound_report.specs.declared.refusal.Refusal.TheVariants.{MadeFault}
 use Rattle.bound_report.specs.declared.refusal.Refusal.TheVariants as refusal
 use Rattle.bound_report.specs.Refusals.{refusal_line}
-use Rattle.bound_words.specs.declared.settings.BoundSettings.{BoundSettings}
-use Rattle.bound_words.specs.declared.settings.DrawSettings.{DrawSettings}
-use Rattle.bound_words.specs.declared.settings.JudgeSettings.{JudgeSettings}
-use Rattle.bound_words.specs.declared.settings.ReplaySettings.{ReplaySettings}
-use Rattle.bound_words.specs.declared.words.Plan.{Plan}
+use Rattle.bound_words.specs.declared.plans.BoundSettings.{BoundSettings}
+use Rattle.bound_words.specs.declared.plans.DrawSettings.{DrawSettings}
+use Rattle.bound_words.specs.declared.plans.JudgeSettings.{JudgeSettings}
+use Rattle.bound_words.specs.declared.plans.ReplaySettings.{ReplaySettings}
+use Rattle.bound_words.specs.declared.plans.Plan.{Plan}
 use Rattle.bound_words.specs.declared.words.WordFault.{WordFault}
 use Rattle.bound_run.specs.declared.status.Status.{Status}
 use Rattle.bound_run.specs.declared.status.Status.TheVariants.{Done, Invalid, Words, BadLine, Limit, NoMemory, Unequal, NotFlag, FlagCount, Impossible}
@@ -29,20 +29,21 @@ use Rattle.bound_run.specs.Readings.{HasDenominator, IsCertified, IsGoodTrace, I
 use Rattle.bound_run.specs.Refined.{IsRefined}
 use Rattle.bound_run.specs.Upgrades.{IsGoodCertificate, IsUpgraded}
 use Rattle.bound_run.specs.Statuses.{Ending, done, refused, unreported, ending_of}
-use Rattle.bound_words.specs.declared.settings.Settings.{Settings}
-use Rattle.bound_words.specs.declared.settings.Settings.TheVariants.{Bounds, Check, Replay, Curve, CapacityCurve, Judge, Demo, Upgrade, Refine}
-use Rattle.bound_words.specs.Settings.{settings_of}
+use Rattle.bound_words.specs.declared.plans.Settings.{Settings}
+use Rattle.bound_words.specs.declared.plans.Settings.TheVariants.{Bounds, Check, Replay, Curve, CapacityCurve, Judge, Demo, Upgrade, Refine}
+use Rattle.bound_words.specs.Capacities.{capacities_in}
+use Rattle.bound_words.specs.Plans.{settings_of}
 
 -- what is seen of the four devices of a run
 pub record Devices : Type 0 where
   pub trace : Device
-  pub cert : Device
+  pub beside : Device
   pub report : Device
   pub made : Device
 
 -- the four devices, by name
 abbrev pub devices : Device → Device → Device → Device → Devices
-devices trace cert report made = record { trace = trace; cert = cert; report = report; made = made }
+devices trace beside report made = record { trace = trace; beside = beside; report = report; made = made }
 
 -- how a run ends that makes a certificate, and what the sinks got then: for which certificate and report it writes, and for which refusals it writes none
 abbrev pub MakesEnd : (List ℕ → List ℕ → Type 0) → (Refusal → Type 0) → Device → Device → Ending → Type 0
@@ -100,51 +101,51 @@ DemoEnds drawing asked report ending = ReportsEnd (IsDemoText drawing asked) (Re
 abbrev pub IsReadFrom : Device → Type 0
 IsReadFrom source = LosesPrefix source.before source.after
 
--- how a command ends, if its words give these capacities: what it doesn't need is left alone, and what it reads loses no more than a prefix
-abbrev pub CommandEnds : List ℕ → Settings → Devices → Ending → Type 0
-CommandEnds capacities (Bounds format asked) d ending = BoundsEnd format asked d.trace d.report d.made ending × IsReadFrom d.trace × IsUntouched d.cert
-CommandEnds capacities (Check format) d ending = CheckEnds format d.trace d.cert d.report ending × IsReadFrom d.trace × IsReadFrom d.cert × IsUntouched d.made
-CommandEnds capacities (Replay format r) d ending = ReplayEnds format r d.trace d.report ending × IsReadFrom d.trace × IsUntouched d.cert × IsUntouched d.made
-CommandEnds capacities (Curve format) d ending = CurveEnds format d.trace d.report ending × IsReadFrom d.trace × IsUntouched d.cert × IsUntouched d.made
-CommandEnds capacities (CapacityCurve format asked) d ending =
-    CapacityCurveEnds format asked capacities d.trace d.report ending × IsReadFrom d.trace × IsUntouched d.cert × IsUntouched d.made
-CommandEnds capacities (Judge format asked) d ending = JudgeEnds format asked d.trace d.cert d.report ending × IsReadFrom d.trace × IsReadFrom d.cert × IsUntouched d.made
-CommandEnds capacities (Demo drawing asked) d ending = DemoEnds drawing asked d.report ending × IsUntouched d.trace × IsUntouched d.cert × IsUntouched d.made
-CommandEnds capacities Upgrade d ending = UpgradeEnds d.cert d.report d.made ending × IsReadFrom d.cert × IsUntouched d.trace
-CommandEnds capacities (Refine format width) d ending = RefineEnds format width d.trace d.cert d.report d.made ending × IsReadFrom d.trace × IsReadFrom d.cert
+-- how a command ends: what it doesn't need is left alone, and what it reads loses no more than a prefix
+abbrev pub CommandEnds : Settings → Devices → Ending → Type 0
+CommandEnds (Bounds format asked) d ending = BoundsEnd format asked d.trace d.report d.made ending × IsReadFrom d.trace × IsUntouched d.beside
+CommandEnds (Check format) d ending = CheckEnds format d.trace d.beside d.report ending × IsReadFrom d.trace × IsReadFrom d.beside × IsUntouched d.made
+CommandEnds (Replay format r) d ending = ReplayEnds format r d.trace d.report ending × IsReadFrom d.trace × IsUntouched d.beside × IsUntouched d.made
+CommandEnds (Curve format) d ending = CurveEnds format d.trace d.report ending × IsReadFrom d.trace × IsUntouched d.beside × IsUntouched d.made
+CommandEnds (CapacityCurve format capacities asked) d ending =
+    CapacityCurveEnds format asked (capacities_in capacities) d.trace d.report ending × IsReadFrom d.trace × IsUntouched d.beside × IsUntouched d.made
+CommandEnds (Judge format asked) d ending = JudgeEnds format asked d.trace d.beside d.report ending × IsReadFrom d.trace × IsReadFrom d.beside × IsUntouched d.made
+CommandEnds (Demo drawing asked) d ending = DemoEnds drawing asked d.report ending × IsUntouched d.trace × IsUntouched d.beside × IsUntouched d.made
+CommandEnds Upgrade d ending = UpgradeEnds d.beside d.report d.made ending × IsReadFrom d.beside × IsUntouched d.trace
+CommandEnds (Refine format width) d ending = RefineEnds format width d.trace d.beside d.report d.made ending × IsReadFrom d.trace × IsReadFrom d.beside
 
 -- how a run ends: the command of its plan does, or its words are refused and all but the report is left alone
-abbrev pub RunEnds : Result Plan WordFault → List ℕ → Devices → Status → Type 0
-RunEnds (Ok plan) capacities d status = CommandEnds capacities (settings_of plan) d (ending_of status)
-RunEnds (Err fault) capacities d status =
+abbrev pub RunEnds : Result Plan WordFault → Devices → Status → Type 0
+RunEnds (Ok plan) d status = CommandEnds (settings_of plan) d (ending_of status)
+RunEnds (Err fault) d status =
     (status ≡ Words fault) × Gets d.report (refusal_line (refusal.Words fault.place fault.kind))
-    × IsUntouched d.trace × IsUntouched d.cert × IsUntouched d.made
+    × IsUntouched d.trace × IsUntouched d.beside × IsUntouched d.made
 
 -- no call of a device failed
 pub record NoneFails (d : Devices) : Type 0 where
   pub trace : ¬ (HasFailed d.trace)
-  pub cert : ¬ (HasFailed d.cert)
+  pub beside : ¬ (HasFailed d.beside)
   pub report : ¬ (HasFailed d.report)
   pub made : ¬ (HasFailed d.made)
 
 -- the count of faults of each device is as it was
 pub record IsCalm (d : Devices) : Type 0 where
   pub trace : d.trace.faults_after ≡ d.trace.faults_before
-  pub cert : d.cert.faults_after ≡ d.cert.faults_before
+  pub beside : d.beside.faults_after ≡ d.beside.faults_before
   pub report : d.report.faults_after ≡ d.report.faults_before
   pub made : d.made.faults_after ≡ d.made.faults_before
 
 -- the inputs are known, and nothing of them is refused before the certificate is looked at
 abbrev pub AreGoodInputs : Settings → Devices → Type 0
 AreGoodInputs (Bounds format asked) d = IsGoodTrace format d.trace.before × HasDenominator format asked d.trace.before
-AreGoodInputs (Check format) d = IsGoodTrace format d.trace.before × IsSome d.cert.before
+AreGoodInputs (Check format) d = IsGoodTrace format d.trace.before × IsSome d.beside.before
 AreGoodInputs (Replay format r) d = IsGoodTrace format d.trace.before
 AreGoodInputs (Curve format) d = IsGoodTrace format d.trace.before
-AreGoodInputs (CapacityCurve format asked) d = IsGoodTrace format d.trace.before
-AreGoodInputs (Judge format asked) d = IsSome d.trace.before × IsSome d.cert.before
+AreGoodInputs (CapacityCurve format capacities asked) d = IsGoodTrace format d.trace.before
+AreGoodInputs (Judge format asked) d = IsSome d.trace.before × IsSome d.beside.before
 AreGoodInputs (Demo drawing asked) d = ¬ (RefusesDenominator asked (trace_drawn drawing))
-AreGoodInputs Upgrade d = IsGoodCertificate d.cert.before
-AreGoodInputs (Refine format width) d = IsGoodTrace format d.trace.before × IsSome d.cert.before
+AreGoodInputs Upgrade d = IsGoodCertificate d.beside.before
+AreGoodInputs (Refine format width) d = IsGoodTrace format d.trace.before × IsSome d.beside.before
 
 -- what a check or a refinement answers of good inputs: Done of a valid certificate, and Invalid of every other
 abbrev pub AnswersOf : Format → Option (List ℕ) → Option (List ℕ) → Status → Type 0
@@ -179,14 +180,14 @@ AnswersJudge format asked before hits status = ⊥
 -- what is answered of good inputs, unless memory ran out
 abbrev pub Answers : Settings → Devices → Status → Type 0
 Answers (Bounds format asked) d status = (status ≡ Done) ⊎ (status ≡ NoMemory)
-Answers (Check format) d status = AnswersOf format d.trace.before d.cert.before status
+Answers (Check format) d status = AnswersOf format d.trace.before d.beside.before status
 Answers (Replay format r) d status = (status ≡ Done) ⊎ (status ≡ NoMemory)
 Answers (Curve format) d status = AnswersCurveOf format d.trace.before status
-Answers (CapacityCurve format asked) d status = (status ≡ Done) ⊎ (status ≡ NoMemory)
-Answers (Judge format asked) d status = AnswersJudge format asked d.trace.before d.cert.before status
+Answers (CapacityCurve format capacities asked) d status = (status ≡ Done) ⊎ (status ≡ NoMemory)
+Answers (Judge format asked) d status = AnswersJudge format asked d.trace.before d.beside.before status
 Answers (Demo drawing asked) d status = (status ≡ Done) ⊎ (status ≡ NoMemory)
 Answers Upgrade d status = (status ≡ Done) ⊎ (status ≡ NoMemory)
-Answers (Refine format width) d status = AnswersOf format d.trace.before d.cert.before status
+Answers (Refine format width) d status = AnswersOf format d.trace.before d.beside.before status
 
 -- good words, good inputs and no fault lead to the answer
 abbrev pub Completes : Result Plan WordFault → Devices → Status → Type 0

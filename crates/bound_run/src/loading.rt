@@ -1,10 +1,10 @@
 //! What comes of reading the whole trace.
-ghost use Rattle.std.specs.Prelude.{◌≡◌, ◌≤◌, ◌^◌, IfOk, IfErr, OnOk, map, string_bytes};
+ghost use Rattle.std.specs.Prelude.{◌≡◌, ◌≤◌, ◌^◌, IfOk, IfErr, OnOk};
 ghost use Rattle.bound_io.specs.Devices.{seen};
 ghost use Rattle.bound_io.specs.Reading.{LosesPrefix};
 ghost use Rattle.trace_any.specs.Readings.{IsFormat};
 ghost use Rattle.trace_any.specs.Loads.{IsLoaded};
-ghost use Rattle.bound_words.specs.Capacities.{capacities_given};
+ghost use Rattle.bound_words.specs.Capacities.{capacities_in};
 ghost use Rattle.bound_run.specs.Readings.{IsCapacityCurved, IsCurved, IsReady, IsReplayed};
 ghost use Rattle.bound_run.specs.Refusals.{RefusesBounds, RefusesCurve, RefusesLoading};
 
@@ -15,7 +15,7 @@ use crate::status::{refusal_of, refusal_of_curve};
 use crate::writing::Texts;
 use bound_io::Source;
 use bound_report::Refusal;
-use bound_words::{BoundSettings, ReplaySettings, capacities_given};
+use bound_words::{BoundSettings, CapacityList, ReplaySettings};
 use cache_rules::Trace;
 use capacity_curve::CurveTerms;
 use std::alloc::Global;
@@ -109,23 +109,23 @@ pub(crate) fn curve_all<T: Source>(
     }
 }
 
-/// The report of the curve over the capacities that the words give, of all that the source has left.
+/// The report of the curve over these capacities, of all that the source has left.
 pub(crate) fn capacity_curve_all<T: Source>(
     alloc: Global,
     format: Format,
     asked: &CurveTerms,
-    words: &[String],
+    capacities: &CapacityList<'_>,
     trace: &mut T,
 ) -> Result<Vec<u8>, Refusal>
     requires format { IsFormat format }
     requires denominator { (1 ≤ asked.now.denominator) × (asked.now.denominator ≤ 2 ^ 48) }
-    ensures curved { IfOk result (λ text. IsCapacityCurved format asked.now (capacities_given (map string_bytes words.now))
+    ensures curved { IfOk result (λ text. IsCapacityCurved format asked.now (capacities_in capacities.now)
         (seen T.left T.faults trace.old trace.new) text.items) }
     ensures refused { IfErr result (RefusesLoading format (seen T.left T.faults trace.old trace.new)) }
     ensures source { LosesPrefix (T.left trace.old) (T.left trace.new) }
     ensures none_failed { OnOk result (T.faults trace.new ≡ T.faults trace.old) }
 {
-    let capacities = capacities_given(alloc, words)?;
+    let capacities = capacities.capacities(alloc)?;
     // Dropped here, for the proof.
     let text = {
         let (requests, dropped) = load_all(alloc, format, trace)?;

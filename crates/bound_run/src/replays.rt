@@ -3,7 +3,7 @@ ghost use Rattle.std.specs.Prelude.{◌≡◌, ◌≤◌, [], length, IfOk, IfSo
 ghost use Rattle.cache_model.specs.Objects.{objects_of};
 ghost use Rattle.policy_model.specs.Runs.{AreScores};
 ghost use Rattle.replay_core.specs.Laws.{IsFresh, IsRunOf, IsStateAfter, IsTallied};
-ghost use Rattle.bound_run.specs.Replays.{IsReplay, IsReplayText, IsWithinBounds};
+ghost use Rattle.bound_run.specs.Replays.{BeginsAs, IsReplay, IsReplayText, IsWithinBounds};
 
 use crate::counting::counting_from;
 use bound_base::NoMemory;
@@ -39,82 +39,17 @@ pub fn bounded_replay<P: Policy>(
     replay(alloc, trace, warmup, policy)
 }
 
-fn replay_lru(alloc: Global, trace: &Trace, r: ReplaySettings) -> Result<Replay, NoMemory>
-    ensures { IfOk result (IsReplay PolicyName.Lru r.capacity r.warmup trace.now) }
+// Replays the trace by a policy that was made for it. It begins as the rule of the settings does.
+fn replay_as<P: Policy + Drop>(
+    alloc: Global,
+    trace: &Trace,
+    r: ReplaySettings,
+    made: Result<P, NoMemory>,
+) -> Result<Replay, NoMemory>
+    requires { IfOk made (λ policy. BeginsAs r.policy r.capacity (length (objects_of trace.now.objects)) (P.objects policy) (P.room policy) (P.contents policy) (P.known_state policy)) }
+    ensures { IfOk result (IsReplay r.policy r.capacity r.warmup trace.now) }
 {
-    let mut policy = Lru::new(alloc, r.capacity, trace.objects())?;
-    bounded_replay(alloc, trace, r.warmup, &mut policy)
-}
-
-fn replay_fifo(alloc: Global, trace: &Trace, r: ReplaySettings) -> Result<Replay, NoMemory>
-    ensures { IfOk result (IsReplay PolicyName.Fifo r.capacity r.warmup trace.now) }
-{
-    let mut policy = Fifo::new(alloc, r.capacity, trace.objects())?;
-    bounded_replay(alloc, trace, r.warmup, &mut policy)
-}
-
-fn replay_clock(alloc: Global, trace: &Trace, r: ReplaySettings) -> Result<Replay, NoMemory>
-    ensures { IfOk result (IsReplay PolicyName.Clock r.capacity r.warmup trace.now) }
-{
-    let mut policy = Clock::new(alloc, r.capacity, trace.objects())?;
-    bounded_replay(alloc, trace, r.warmup, &mut policy)
-}
-
-fn replay_lfu(alloc: Global, trace: &Trace, r: ReplaySettings) -> Result<Replay, NoMemory>
-    ensures { IfOk result (IsReplay PolicyName.Lfu r.capacity r.warmup trace.now) }
-{
-    let mut policy = Lfu::new(alloc, r.capacity, trace.objects())?;
-    bounded_replay(alloc, trace, r.warmup, &mut policy)
-}
-
-// Belady's rule gives up what is asked for farthest in the future. If every request counts and all that fits has one
-// size, that is best.
-fn replay_belady(alloc: Global, trace: &Trace, r: ReplaySettings) -> Result<Replay, NoMemory>
-    ensures { IfOk result (IsReplay PolicyName.Belady r.capacity r.warmup trace.now) }
-{
-    let mut policy = Belady::new(alloc, r.capacity, trace.objects())?;
-    bounded_replay(alloc, trace, r.warmup, &mut policy)
-}
-
-fn replay_sieve(alloc: Global, trace: &Trace, r: ReplaySettings) -> Result<Replay, NoMemory>
-    ensures { IfOk result (IsReplay PolicyName.Sieve r.capacity r.warmup trace.now) }
-{
-    let mut policy = Sieve::new(alloc, r.capacity, trace.objects())?;
-    bounded_replay(alloc, trace, r.warmup, &mut policy)
-}
-
-fn replay_s3fifo(alloc: Global, trace: &Trace, r: ReplaySettings) -> Result<Replay, NoMemory>
-    ensures { IfOk result (IsReplay PolicyName.S3Fifo r.capacity r.warmup trace.now) }
-{
-    let mut policy = S3Fifo::new(alloc, r.capacity, trace.objects())?;
-    bounded_replay(alloc, trace, r.warmup, &mut policy)
-}
-
-fn replay_gdsf(alloc: Global, trace: &Trace, r: ReplaySettings) -> Result<Replay, NoMemory>
-    ensures { IfOk result (IsReplay PolicyName.Gdsf r.capacity r.warmup trace.now) }
-{
-    let mut policy = Gdsf::new(alloc, r.capacity, trace.objects())?;
-    bounded_replay(alloc, trace, r.warmup, &mut policy)
-}
-
-fn replay_lfuda(alloc: Global, trace: &Trace, r: ReplaySettings) -> Result<Replay, NoMemory>
-    ensures { IfOk result (IsReplay PolicyName.Lfuda r.capacity r.warmup trace.now) }
-{
-    let mut policy = Lfuda::new(alloc, r.capacity, trace.objects())?;
-    bounded_replay(alloc, trace, r.warmup, &mut policy)
-}
-
-fn replay_gdsf98(alloc: Global, trace: &Trace, r: ReplaySettings) -> Result<Replay, NoMemory>
-    ensures { IfOk result (IsReplay PolicyName.Gdsf98 r.capacity r.warmup trace.now) }
-{
-    let mut policy = Gdsf98::new(alloc, r.capacity, trace.objects())?;
-    bounded_replay(alloc, trace, r.warmup, &mut policy)
-}
-
-fn replay_wtinylfu(alloc: Global, trace: &Trace, r: ReplaySettings) -> Result<Replay, NoMemory>
-    ensures { IfOk result (IsReplay PolicyName.WTinyLfu r.capacity r.warmup trace.now) }
-{
-    let mut policy = WTinyLfu::new(alloc, r.capacity, trace.objects())?;
+    let mut policy = made?;
     bounded_replay(alloc, trace, r.warmup, &mut policy)
 }
 
@@ -122,18 +57,24 @@ fn replay_wtinylfu(alloc: Global, trace: &Trace, r: ReplaySettings) -> Result<Re
 pub(crate) fn replay_by(alloc: Global, trace: &Trace, r: ReplaySettings) -> Result<Replay, NoMemory>
     ensures { IfOk result (IsReplay r.policy r.capacity r.warmup trace.now) }
 {
+    let objects = trace.objects();
     match r.policy {
-        PolicyName::Lru => replay_lru(alloc, trace, r),
-        PolicyName::Fifo => replay_fifo(alloc, trace, r),
-        PolicyName::Clock => replay_clock(alloc, trace, r),
-        PolicyName::Lfu => replay_lfu(alloc, trace, r),
-        PolicyName::Belady => replay_belady(alloc, trace, r),
-        PolicyName::Sieve => replay_sieve(alloc, trace, r),
-        PolicyName::S3Fifo => replay_s3fifo(alloc, trace, r),
-        PolicyName::Gdsf => replay_gdsf(alloc, trace, r),
-        PolicyName::Lfuda => replay_lfuda(alloc, trace, r),
-        PolicyName::Gdsf98 => replay_gdsf98(alloc, trace, r),
-        PolicyName::WTinyLfu => replay_wtinylfu(alloc, trace, r),
+        PolicyName::Lru => replay_as(alloc, trace, r, Lru::new(alloc, r.capacity, objects)),
+        PolicyName::Fifo => replay_as(alloc, trace, r, Fifo::new(alloc, r.capacity, objects)),
+        PolicyName::Clock => replay_as(alloc, trace, r, Clock::new(alloc, r.capacity, objects)),
+        PolicyName::Lfu => replay_as(alloc, trace, r, Lfu::new(alloc, r.capacity, objects)),
+        PolicyName::Belady => replay_as(alloc, trace, r, Belady::new(alloc, r.capacity, objects)),
+        PolicyName::Sieve => replay_as(alloc, trace, r, Sieve::new(alloc, r.capacity, objects)),
+        PolicyName::S3Fifo => replay_as(alloc, trace, r, S3Fifo::new(alloc, r.capacity, objects)),
+        PolicyName::Gdsf => replay_as(alloc, trace, r, Gdsf::new(alloc, r.capacity, objects)),
+        PolicyName::Lfuda => replay_as(alloc, trace, r, Lfuda::new(alloc, r.capacity, objects)),
+        PolicyName::Gdsf98 => replay_as(alloc, trace, r, Gdsf98::new(alloc, r.capacity, objects)),
+        PolicyName::WTinyLfu => replay_as(
+            alloc,
+            trace,
+            r,
+            WTinyLfu::new(alloc, r.capacity, objects),
+        ),
     }
 }
 

@@ -1,6 +1,6 @@
 //! How a run ends.
-ghost use Rattle.std.specs.Prelude.{◌≡◌};
-ghost use Rattle.bound_run.specs.Statuses.{code_of, refusal_of, refusal_of_check, refusal_of_curve, refusal_of_flags};
+ghost use Rattle.std.specs.Prelude.{◌≡◌, ◌⊎◌, MatchOption};
+ghost use Rattle.bound_run.specs.Statuses.{code_of, refusal_of, refusal_of_check, refusal_of_curve, refusal_of_flags, status_of};
 
 use crate::bounds::BoundsFault;
 use bound_report::{Impossible, InvalidKind, LimitName, Refusal};
@@ -63,6 +63,27 @@ impl Status {
             Status::NoMemory => 9,
             Status::Unequal { .. } => 10,
             Status::Impossible { .. } => 13,
+        }
+    }
+
+    /// The refusal that it is of, if the run was refused.
+    pub fn refusal(self) -> Option<Refusal>
+        ensures { MatchOption result ((self ≡ Status.Done) ⊎ (self ≡ Status.ReportFault)) (λ refusal. status_of refusal ≡ self) }
+    {
+        match self {
+            Status::Done | Status::ReportFault => None,
+            Status::Invalid { line, kind } => Some(Refusal::Invalid { line, kind }),
+            Status::Words(WordFault { place, kind }) => Some(Refusal::Words { place, kind }),
+            Status::BadLine { line, kind } => Some(Refusal::BadLine { line, kind }),
+            Status::Limit(name) => Some(Refusal::Limit(name)),
+            Status::TraceFault => Some(Refusal::TraceFault),
+            Status::CertFault => Some(Refusal::CertFault),
+            Status::MadeFault => Some(Refusal::MadeFault),
+            Status::NoMemory => Some(Refusal::NoMemory),
+            Status::Unequal { first, other } => Some(Refusal::Unequal { first, other }),
+            Status::NotFlag { line } => Some(Refusal::NotFlag { line }),
+            Status::FlagCount { flags, requests } => Some(Refusal::FlagCount { flags, requests }),
+            Status::Impossible { cause, capacity } => Some(Refusal::Impossible { cause, capacity }),
         }
     }
 }

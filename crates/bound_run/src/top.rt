@@ -7,8 +7,8 @@ ghost use Rattle.bound_run.specs.Headline.{Headline};
 ghost use Rattle.bound_run.specs.Run.{BoundsEnd, CapacityCurveEnds, CheckEnds, Completes, CurveEnds, DemoEnds};
 ghost use Rattle.bound_run.specs.Run.{IsCalm, JudgeEnds, RefineEnds, ReplayEnds, RunEnds, UpgradeEnds, devices};
 ghost use Rattle.bound_run.specs.Statuses.{ending_of};
-ghost use Rattle.bound_words.specs.Capacities.{capacities_given};
-ghost use Rattle.bound_words.specs.Settings.{IsPlanInRange};
+ghost use Rattle.bound_words.specs.Capacities.{capacities_in};
+ghost use Rattle.bound_words.specs.Plans.{IsPlanInRange};
 ghost use Rattle.bound_words.specs.Words.{plan};
 
 use crate::checking::verdict_of;
@@ -22,8 +22,8 @@ use crate::writing::{refuse, write_out, write_report};
 use bound_io::{Sink, Source};
 use bound_report::Refusal;
 use bound_words::{
-    BoundSettings, DrawSettings, JudgeSettings, Plan, ReplaySettings, Settings, WordFault, plan_of,
-    settings_of,
+    BoundSettings, CapacityList, DrawSettings, JudgeSettings, Plan, ReplaySettings, Settings,
+    WordFault, plan_of, settings_of,
 };
 use capacity_curve::CurveTerms;
 use std::alloc::Global;
@@ -116,24 +116,24 @@ fn run_curve<T: Source, R: Sink>(
     }
 }
 
-// Reads the trace, and writes the report of its curve over the capacities that the words give.
+// Reads the trace, and writes the report of its curve over these capacities.
 fn run_capacity_curve<T: Source, R: Sink>(
     alloc: Global,
     format: Format,
     asked: &CurveTerms,
-    words: &[String],
+    capacities: &CapacityList<'_>,
     trace: &mut T,
     report: &mut R,
 ) -> Status
     requires format { IsFormat format }
     requires denominator { (1 ≤ asked.now.denominator) × (asked.now.denominator ≤ 2 ^ 48) }
-    ensures ends { CapacityCurveEnds format asked.now (capacities_given (map string_bytes words.now))
+    ensures ends { CapacityCurveEnds format asked.now (capacities_in capacities.now)
         (seen T.left T.faults trace.old trace.new)
         (seen R.written R.faults report.old report.new) (ending_of result) }
     ensures source { LosesPrefix (T.left trace.old) (T.left trace.new) }
     ensures none_failed { result ≡ Status.Done → (T.faults trace.new ≡ T.faults trace.old) × (R.faults report.new ≡ R.faults report.old) }
 {
-    match capacity_curve_all(alloc, format, asked, words, trace) {
+    match capacity_curve_all(alloc, format, asked, capacities, trace) {
         Ok(curved) => write_report(report, &curved),
         Err(refusal) => refuse(report, refusal),
     }
@@ -229,19 +229,18 @@ fn run_refine<T: Source, Q: Source, R: Sink, K: Sink>(
 // Does what the words ask for, or says why they are refused.
 fn run_plan<T: Source, Q: Source, R: Sink, K: Sink>(
     alloc: Global,
-    plan: Result<Plan, WordFault>,
-    words: &[String],
+    plan: Result<Plan<'_>, WordFault>,
     trace: &mut T,
-    cert: &mut Q,
+    beside: &mut Q,
     report: &mut R,
     made: &mut K,
 ) -> Status
     requires { IfOk plan IsPlanInRange }
-    ensures ends { RunEnds plan (capacities_given (map string_bytes words.now)) (devices
-        (seen T.left T.faults trace.old trace.new) (seen Q.left Q.faults cert.old cert.new)
+    ensures ends { RunEnds plan.entry (devices
+        (seen T.left T.faults trace.old trace.new) (seen Q.left Q.faults beside.old beside.new)
         (seen R.written R.faults report.old report.new) (seen K.written K.faults made.old made.new)) result }
     ensures none_failed { result ≡ Status.Done → IsCalm (devices
-        (seen T.left T.faults trace.old trace.new) (seen Q.left Q.faults cert.old cert.new)
+        (seen T.left T.faults trace.old trace.new) (seen Q.left Q.faults beside.old beside.new)
         (seen R.written R.faults report.old report.new) (seen K.written K.faults made.old made.new)) }
 {
     let plan = match plan {
@@ -250,48 +249,48 @@ fn run_plan<T: Source, Q: Source, R: Sink, K: Sink>(
     };
     match settings_of(plan) {
         Settings::Bounds(format, asked) => run_bounds(alloc, format, &asked, trace, report, made),
-        Settings::Check(format) => run_check(alloc, format, trace, cert, report),
+        Settings::Check(format) => run_check(alloc, format, trace, beside, report),
         Settings::Replay(format, asked) => run_replay(alloc, format, asked, trace, report),
         Settings::Curve(format) => run_curve(alloc, format, trace, report),
-        Settings::CapacityCurve(format, asked) => {
-            run_capacity_curve(alloc, format, &asked, words, trace, report)
+        Settings::CapacityCurve(format, capacities, asked) => {
+            run_capacity_curve(alloc, format, &asked, &capacities, trace, report)
         }
-        Settings::Judge(format, asked) => run_judge(alloc, format, asked, trace, cert, report),
+        Settings::Judge(format, asked) => run_judge(alloc, format, asked, trace, beside, report),
         Settings::Demo(drawing, asked) => run_demo(alloc, drawing, &asked, report),
-        Settings::Upgrade => run_upgrade(alloc, cert, report, made),
+        Settings::Upgrade => run_upgrade(alloc, beside, report, made),
         Settings::Refine(format, width) => {
-            run_refine(alloc, format, width, trace, cert, report, made)
+            run_refine(alloc, format, width, trace, beside, report, made)
         }
     }
 }
 
 /// Does all that the program does. It reads the words, and for bounds the trace, and writes the certificate and then
 /// the report; for a check it reads the trace and the certificate side by side, for a replay or a curve the trace, and
-/// writes the report; for claimed hits it reads the trace and, in place of the certificate, their flags by turns, and
-/// writes the report; for a demo it reads nothing and writes the report; for an upgrade it reads the certificate, and
-/// writes it in the second version of its text and then the report; for a refinement it reads the trace and the
-/// certificate, and writes the certificate with refined prices and then the report.
+/// writes the report; for claimed hits it reads the trace and their flags by turns, and writes the report; for a demo it
+/// reads nothing and writes the report; for an upgrade it reads the certificate, and writes it in the second version of
+/// its text and then the report; for a refinement it reads the trace and the certificate, and writes the certificate with
+/// refined prices and then the report. What is read beside the trace, a certificate or flags, comes from `beside`.
 /// The words are those after the program's name. All memory is taken before the first byte is written.
 pub fn run<T: Source, Q: Source, R: Sink, K: Sink>(
     alloc: Global,
     words: &[String],
     trace: &mut T,
-    cert: &mut Q,
+    beside: &mut Q,
     report: &mut R,
     made: &mut K,
 ) -> Status
-    ensures headline { result ≡ Status.Done → Headline (plan (map string_bytes words.now)) (capacities_given (map string_bytes words.now)) (devices
-        (seen T.left T.faults trace.old trace.new) (seen Q.left Q.faults cert.old cert.new)
+    ensures headline { result ≡ Status.Done → Headline (plan (map string_bytes words.now)) (devices
+        (seen T.left T.faults trace.old trace.new) (seen Q.left Q.faults beside.old beside.new)
         (seen R.written R.faults report.old report.new) (seen K.written K.faults made.old made.new)) }
-    ensures explains { RunEnds (plan (map string_bytes words.now)) (capacities_given (map string_bytes words.now)) (devices
-        (seen T.left T.faults trace.old trace.new) (seen Q.left Q.faults cert.old cert.new)
+    ensures explains { RunEnds (plan (map string_bytes words.now)) (devices
+        (seen T.left T.faults trace.old trace.new) (seen Q.left Q.faults beside.old beside.new)
         (seen R.written R.faults report.old report.new) (seen K.written K.faults made.old made.new)) result }
     ensures completes { Completes (plan (map string_bytes words.now)) (devices
-        (seen T.left T.faults trace.old trace.new) (seen Q.left Q.faults cert.old cert.new)
+        (seen T.left T.faults trace.old trace.new) (seen Q.left Q.faults beside.old beside.new)
         (seen R.written R.faults report.old report.new) (seen K.written K.faults made.old made.new)) result }
     ensures none_failed { result ≡ Status.Done → IsCalm (devices
-        (seen T.left T.faults trace.old trace.new) (seen Q.left Q.faults cert.old cert.new)
+        (seen T.left T.faults trace.old trace.new) (seen Q.left Q.faults beside.old beside.new)
         (seen R.written R.faults report.old report.new) (seen K.written K.faults made.old made.new)) }
 {
-    run_plan(alloc, plan_of(words), words, trace, cert, report, made)
+    run_plan(alloc, plan_of(words), trace, beside, report, made)
 }

@@ -8,7 +8,8 @@ use Rattle.std.proofs.lemmas.List.{take_more, drop_more, take-map, get_or-map, l
 use Rattle.bound_terms.specs.declared.words.WordKind.{WordKind}
 use Rattle.bound_words.specs.declared.commands.Command.{Command}
 use Rattle.bound_words.specs.Named.{name_of, place_given, value_given, value_of}
-use Rattle.bound_words.specs.Words.{fault, operand_fault, operands_fault}
+use Rattle.bound_words.specs.Faults.{fault}
+use Rattle.bound_words.specs.Words.{operand_fault, operands_fault}
 
 -- a choice among images
 choice_mapped : {A B : Type 0} (f : A → B) (b : Bool) (x : A) (xs : Option A) (ys : Option B) → ys ≡ option_map f xs → cond b (Some (f x)) ys ≡ option_map f (cond b (Some x) xs)

@@ -4,11 +4,13 @@ use Rattle.std.specs.declared.option.Option.{Option}
 use Rattle.std.specs.Option.{is_some, option_and_then, option_map}
 use Rattle.bound_words.specs.declared.commands.Command.{Command}
 use Rattle.bound_words.specs.declared.commands.Command.TheVariants as command
-use Rattle.bound_words.specs.declared.words.Plan.{Plan}
+use Rattle.bound_words.specs.declared.plans.Plan.{Plan}
 use Rattle.bound_words.specs.declared.words.WordFault.{WordFault}
 use Rattle.bound_words.specs.Commands.{command_named, operands_at, operands_of, places_of}
 use Rattle.bound_words.specs.Named.{value_given}
-use Rattle.bound_words.specs.Words.{◌>>=◌, HasNeeded, beside_fault, has_needed, inputs_fault, known_command, command_of, command_with, operands_fault, passed, paths, plan, plan_of_command, plan_of_operands, required}
+use Rattle.bound_words.specs.Faults.{◌>>=◌, passed, required}
+use Rattle.bound_words.specs.Plans.{inputs_fault, plan_of_command}
+use Rattle.bound_words.specs.Words.{HasNeeded, beside_fault, has_needed, known_command, command_of, command_with, operands_fault, paths, plan, plan_of_operands}
 
 -- what holds behind each value holds if there is one
 behind : {A B : Type 0} (r : Result A WordFault) (g : A → Result B WordFault) (P : Type 0) → ((x : A) → IfOk (g x) (λ b. P)) → IfOk (r >>= g) (λ b. P)
@@ -21,12 +23,6 @@ given : {A B : Type 0} (end : ℕ) (f : List ℕ → Option A) (value : Option (
 given end f None g rest each = tt
 given end f (Some value) g rest each = behind (required end (f value)) g (rest ≡ true) each
 
--- so is one whose word is required
-word_given : {B : Type 0} (end : ℕ) (value : Option (List ℕ)) (g : List ℕ → Result B WordFault) (rest : Bool)
-    → ((x : List ℕ) → IfOk (g x) (λ b. rest ≡ true)) → IfOk (required end value >>= g) (λ b. (is_some value && rest) ≡ true)
-word_given end None g rest each = tt
-word_given end (Some value) g rest each = each value
-
 -- a plan is of operands that give each one that the command needs
 needed : (asked : Command) (words operands : List (List ℕ)) → IfOk (plan_of_command asked words operands) (λ p. has_needed asked operands ≡ true)
 needed command.Bounds words operands =
@@ -34,7 +30,7 @@ needed command.Bounds words operands =
     given _ _ (value_given (codes "capacity") operands) _ _ (λ capacity. refl))
 needed command.Check words operands =
     given _ _ (value_given (codes "format") operands) _ _ (λ format.
-    behind (passed (inputs_fault (places_of command.Check).trace (places_of command.Check).cert words)) _ _ (λ apart. refl))
+    behind (passed (inputs_fault (places_of command.Check).trace (places_of command.Check).beside words)) _ _ (λ apart. refl))
 needed command.Replay words operands =
     given _ _ (value_given (codes "format") operands) _ _ (λ format.
     given _ _ (value_given (codes "capacity") operands) _ _ (λ capacity.
@@ -42,17 +38,17 @@ needed command.Replay words operands =
 needed command.Curve words operands = given _ _ (value_given (codes "format") operands) _ _ (λ format. refl)
 needed command.CapacityCurve words operands =
     given _ _ (value_given (codes "format") operands) _ _ (λ format.
-    word_given _ (value_given (codes "capacities") operands) _ _ (λ capacities. refl))
+    given _ _ (value_given (codes "capacities") operands) _ _ (λ capacities. refl))
 needed command.Judge words operands =
     given _ _ (value_given (codes "format") operands) _ _ (λ format.
     given _ _ (value_given (codes "capacity") operands) _ _ (λ capacity.
-    behind (passed (inputs_fault (places_of command.Judge).trace (places_of command.Judge).cert words)) _ _ (λ apart. refl)))
+    behind (passed (inputs_fault (places_of command.Judge).trace (places_of command.Judge).beside words)) _ _ (λ apart. refl)))
 needed command.Demo words operands = refl
 needed command.Upgrade words operands = refl
 needed command.Refine words operands =
     given _ _ (value_given (codes "format") operands) _ _ (λ format.
     given _ _ (value_given (codes "window") operands) _ _ (λ width.
-    behind (passed (inputs_fault (places_of command.Refine).trace (places_of command.Refine).cert words)) _ _ (λ apart. refl)))
+    behind (passed (inputs_fault (places_of command.Refine).trace (places_of command.Refine).beside words)) _ _ (λ apart. refl)))
 
 -- the operands of a curve over capacities stand where those of a curve do
 same_operands : (named : Command) (operands words : List (List ℕ)) → operands_of (command_with named operands) words ≡ operands_of named words

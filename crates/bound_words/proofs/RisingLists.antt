@@ -10,7 +10,7 @@ use Rattle.bound_base.specs.declared.digits.NumFault.{NumFault}
 use Rattle.bound_base.specs.Digits.{number_of}
 use Rattle.capacity_curve.specs.Points.{IsInRange}
 use Rattle.bound_words.specs.Values.{capacity_of, checked}
-use Rattle.bound_words.specs.Capacities.{IsNext, capacities_of, rising, words_left, words_of_list}
+use Rattle.bound_words.specs.Capacities.{IsNext, capacities_in, capacities_of, rising, words_left, words_of_list}
 
 -- the capacities behind one that is named
 abbrev behind : ℕ → List (List ℕ) → ℕ → Option (List ℕ)
@@ -90,18 +90,34 @@ pub list-decided : (value : List ℕ) (last n : ℕ) (left : Option (Bor (List �
     → is_some (rising 0 (words_of_list value)) ≡ is_some (rising last (words_left (option_copied left))) → none ≡ is_some (capacities_of value)
 list-decided value last n left none is all counted same = sym (decided value last n left all counted same ∙ ap not is ∙ not-not none)
 
--- if something is left then, there are no capacities
-pub none-gathered : (value : List ℕ) (n : ℕ) (left : Option (Bor (List ℕ))) → is_some left ≡ true → 1000 ≤ n → length (words_of_list value) ≡ n + length (words_left (option_copied left))
-    → unwrap_or (capacities_of value) [] ≡ []
-none-gathered value n None some many counted = absurd cc
-none-gathered value n (Some list) some many counted = ap (λ found. unwrap_or found []) (too-many value n (Some list) list refl many counted)
-
--- and else those that were read
+-- if nothing is left, the capacities are those that were read
 pub all-gathered : (value items : List ℕ) (last n : ℕ) (left : Option (Bor (List ℕ))) → is_some left ≡ false → n ≤ 1000 → length (words_of_list value) ≡ n + length (words_left (option_copied left))
     → rising 0 (words_of_list value) ≡ option_map (λ more. items ++ more) (rising last (words_left (option_copied left))) → unwrap_or (capacities_of value) [] ≡ items
 all-gathered value items last n None none few counted same =
     ap (λ found. unwrap_or found []) (all-read value n None refl few counted ∙ same) ∙ append-nil items
 all-gathered value items last n (Some list) none few counted same = absurd cc
+
+-- so they are after 1,000 words of a list
+pub all-of-list : (value items : List ℕ) (last n : ℕ) (left : Option (Bor (List ℕ))) → is_some (capacities_of value) ≡ true → n ≡ 1000
+    → length (words_of_list value) ≡ n + length (words_left (option_copied left))
+    → rising 0 (words_of_list value) ≡ option_map (λ more. items ++ more) (rising last (words_left (option_copied left))) → unwrap_or (capacities_of value) [] ≡ items
+all-of-list value items last n None listed all counted same = all-gathered value items last n None refl (omega arith) counted same
+all-of-list value items last n (Some list) listed all counted same =
+    absurd (some-none (ap is_some (sym (too-many value n (Some list) list refl (omega arith) counted)) ∙ listed))
+  where
+    some-none : false ≡ true → ⊥
+    some-none is = cc
+
+-- no word of a list ends it early
+pub never-stops : (value items : List ℕ) (found : Option (List ℕ)) → is_some (capacities_of value) ≡ true → found ≡ None
+    → rising 0 (words_of_list value) ≡ option_map (λ more. items ++ more) found → unwrap_or (capacities_of value) [] ≡ items
+never-stops value items found listed none same = absurd (some-none (ap is_some (sym stops) ∙ listed))
+  where
+    some-none : false ≡ true → ⊥
+    some-none is = cc
+
+    stops : capacities_of value ≡ None
+    stops = stopped (nat_le (length (words_of_list value)) 1000) value (rising 0 (words_of_list value)) (same ∙ ap (λ f. option_map (λ more. items ++ more) f) none) refl
 
 -- capacities in range, each greater than the one before it
 abbrev pub Climbs : ℕ → List ℕ → Type 0
@@ -166,16 +182,14 @@ climbs-ascend last (capacity ∷ more) climbs zero (suc j) d order low = omega (
 climbs-ascend last (capacity ∷ more) climbs (suc i) zero d order low = absurd (omega arith)
 climbs-ascend last (capacity ∷ more) climbs (suc i) (suc j) d order low = climbs-ascend capacity more climbs.2 i j d (omega arith) (omega arith)
 
--- the capacities of a value climb
-value-climbs : (few : Bool) (words : List (List ℕ)) → Climbs 0 (unwrap_or (cond few (rising 0 words) None) [])
-value-climbs false words = tt
-value-climbs true words = at (rising 0 words) refl
+-- the capacities of a list climb
+pub list-climbs : (list : List ℕ) → Climbs 0 (capacities_in list)
+list-climbs list = of-words (nat_le (length (words_of_list list)) 1000) (words_of_list list)
   where
-    at : (found : Option (List ℕ)) → rising 0 words ≡ found → Climbs 0 (unwrap_or found [])
-    at None is = tt
-    at (Some capacities) is = rising-climbs 0 words capacities is
+    found-climbs : (words : List (List ℕ)) (found : Option (List ℕ)) → rising 0 words ≡ found → Climbs 0 (unwrap_or found [])
+    found-climbs words None is = tt
+    found-climbs words (Some capacities) is = rising-climbs 0 words capacities is
 
--- so do those that are given, or there are none
-pub given-climbs : (value : Option (List ℕ)) → Climbs 0 (unwrap_or (option_and_then capacities_of value) [])
-given-climbs None = tt
-given-climbs (Some value) = value-climbs (nat_le (length (words_of_list value)) 1000) (words_of_list value)
+    of-words : (few : Bool) (words : List (List ℕ)) → Climbs 0 (unwrap_or (cond few (rising 0 words) None) [])
+    of-words false words = tt
+    of-words true words = found-climbs words (rising 0 words) refl

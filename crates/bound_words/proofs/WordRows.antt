@@ -5,9 +5,10 @@ use Rattle.bound_terms.specs.declared.modes.Mode.TheVariants.{Constant, Flow, In
 use Rattle.bound_terms.specs.declared.modes.Window.TheVariants.{All as Whole}
 use Rattle.relaxation.specs.declared.denominators.DenominatorChoice.TheVariants.{Auto, Exact, Given}
 use Rattle.trace_any.specs.declared.format.Format.TheVariants.{Webcache, Arc, Msr, Oracle, MarkedWebcache, MsrReads}
-use Rattle.bound_words.specs.declared.words.Plan.TheVariants.{Bounds, Check, Curve, CapacityCurve, Judge, Demo, Upgrade}
+use Rattle.bound_words.specs.declared.plans.Plan.TheVariants.{Bounds, Check, Curve, CapacityCurve, Judge, Demo, Upgrade}
 use Rattle.bound_terms.specs.declared.words.WordKind.TheVariants.{Missing, Unknown, Twice, BadValue}
-use Rattle.bound_words.specs.Words.{fault, plan}
+use Rattle.bound_words.specs.Faults.{fault}
+use Rattle.bound_words.specs.Words.{plan}
 
 -- the command, its two paths and these operands
 abbrev bounds_with : List (List ℕ) → List (List ℕ)
@@ -147,11 +148,11 @@ unfolding plan
 curve_without_form = refl
 
 -- with capacities it takes an objective, a denominator and a warm-up too
-a_curve_over : plan (codes "curve" ∷ codes "t" ∷ codes "format=arc" ∷ codes "capacities=1,20,0300" ∷ []) ≡ Ok (CapacityCurve Arc Hits 281474976710656 0)
+a_curve_over : plan (codes "curve" ∷ codes "t" ∷ codes "format=arc" ∷ codes "capacities=1,20,0300" ∷ []) ≡ Ok (CapacityCurve Arc (codes "1,20,0300") Hits 281474976710656 0)
 unfolding plan
 a_curve_over = refl
 
-curve_over_last : plan (codes "curve" ∷ codes "t" ∷ codes "warmup=7" ∷ codes "denominator=5" ∷ codes "objective=bytes" ∷ codes "format=arc" ∷ codes "capacities=9" ∷ []) ≡ Ok (CapacityCurve Arc Bytes 5 7)
+curve_over_last : plan (codes "curve" ∷ codes "t" ∷ codes "warmup=7" ∷ codes "denominator=5" ∷ codes "objective=bytes" ∷ codes "format=arc" ∷ codes "capacities=9" ∷ []) ≡ Ok (CapacityCurve Arc (codes "9") Bytes 5 7)
 unfolding plan
 curve_over_last = refl
 

@@ -1,11 +1,8 @@
 -- The operand capacities: capacities between commas, each greater than the one before it.
-use Rattle.std.specs.Prelude.{◌≡◌, ℕ, ◌<◌, ◌==◌, nat_le, nat_lt, if◌then◌else◌, List, [], ◌∷◌, length, codes, option_and_then, unwrap_or, None, Some}
+use Rattle.std.specs.Prelude.{◌≡◌, ℕ, ◌<◌, ◌==◌, nat_le, nat_lt, if◌then◌else◌, List, [], ◌∷◌, length, option_and_then, unwrap_or, None, Some}
 use Rattle.std.specs.declared.option.Option.{Option}
 use Rattle.std.specs.List.{slice_split}
 use Rattle.std.specs.Option.{option_map}
-use Rattle.bound_words.specs.declared.commands.Command.TheVariants.{Curve}
-use Rattle.bound_words.specs.Commands.{operands_of}
-use Rattle.bound_words.specs.Named.{value_given}
 use Rattle.bound_words.specs.Values.{capacity_of}
 
 -- the words of a list, between its commas
@@ -22,9 +19,13 @@ rising last (word ∷ words) =
 abbrev pub capacities_of : List ℕ → Option (List ℕ)
 capacities_of value = if nat_le (length (words_of_list value)) 1000 then rising 0 (words_of_list value) else None
 
--- the capacities that the words of a curve give, and none if they give no such list
-abbrev pub capacities_given : List (List ℕ) → List ℕ
-capacities_given words = unwrap_or (option_and_then capacities_of (value_given (codes "capacities") (operands_of Curve words))) []
+-- the capacities of a list of them
+abbrev pub capacities_in : List ℕ → List ℕ
+capacities_in list = unwrap_or (capacities_of list) []
+
+-- a value as a list of capacities, if it is one
+abbrev pub capacity_list : List ℕ → Option (List ℕ)
+capacity_list value = option_map (λ capacities. value) (capacities_of value)
 
 -- the words of what is left of a list after a comma, if something is
 abbrev pub words_left : Option (List ℕ) → List (List ℕ)

@@ -1,7 +1,7 @@
 -- The commands: their words, their paths and the names of their operands.
-use Rattle.std.specs.Prelude.{ℕ, ◌+◌, List, [], ◌∷◌, ◌++◌, drop, Bool, codes, find, None, Some}
+use Rattle.std.specs.Prelude.{ℕ, ◌+◌, ◌==◌, nat_eq, List, [], ◌∷◌, ◌++◌, drop, Bool, false, not, codes, find, None, Some}
 use Rattle.std.specs.declared.option.Option.{Option}
-use Rattle.std.specs.List.{list_any}
+use Rattle.std.specs.List.{list_any, starts_with}
 use Rattle.std.specs.Str.{bytes_eq}
 use Rattle.bound_words.specs.declared.commands.Command.{Command}
 use Rattle.bound_words.specs.declared.commands.PathPlaces.{PathPlaces}
@@ -34,17 +34,17 @@ abbrev pub plain : Command → Command
 plain command.CapacityCurve = command.Curve
 plain asked = asked
 
--- where the paths of a command stand among its words, of which the command is word 0
+-- where the paths of a command stand among its words, of which the command is word 0: the trace, a certificate or flags that are read beside it, and a certificate that is made
 abbrev pub places_of : Command → PathPlaces
-places_of command.Bounds = record { count = 2; trace = Some 1; cert = Some 2; made = Some 2 }
-places_of command.Check = record { count = 2; trace = Some 1; cert = Some 2; made = None }
-places_of command.Replay = record { count = 1; trace = Some 1; cert = None; made = None }
-places_of command.Curve = record { count = 1; trace = Some 1; cert = None; made = None }
-places_of command.CapacityCurve = record { count = 1; trace = Some 1; cert = None; made = None }
-places_of command.Judge = record { count = 2; trace = Some 1; cert = Some 2; made = None }
-places_of command.Demo = record { count = 0; trace = None; cert = None; made = None }
-places_of command.Upgrade = record { count = 2; trace = None; cert = Some 1; made = Some 2 }
-places_of command.Refine = record { count = 3; trace = Some 1; cert = Some 2; made = Some 3 }
+places_of command.Bounds = record { count = 2; trace = Some 1; beside = Some 2; made = Some 2 }
+places_of command.Check = record { count = 2; trace = Some 1; beside = Some 2; made = None }
+places_of command.Replay = record { count = 1; trace = Some 1; beside = None; made = None }
+places_of command.Curve = record { count = 1; trace = Some 1; beside = None; made = None }
+places_of command.CapacityCurve = record { count = 1; trace = Some 1; beside = None; made = None }
+places_of command.Judge = record { count = 2; trace = Some 1; beside = Some 2; made = None }
+places_of command.Demo = record { count = 0; trace = None; beside = None; made = None }
+places_of command.Upgrade = record { count = 2; trace = None; beside = Some 1; made = Some 2 }
+places_of command.Refine = record { count = 3; trace = Some 1; beside = Some 2; made = Some 3 }
 
 -- what each path of the command is called, in their order
 abbrev pub path_names : Command → List (List ℕ)
@@ -57,6 +57,16 @@ path_names command.Judge = codes "trace" ∷ codes "hits" ∷ []
 path_names command.Demo = []
 path_names command.Upgrade = codes "certificate" ∷ codes "new certificate" ∷ []
 path_names command.Refine = codes "trace" ∷ codes "certificate" ∷ codes "new certificate" ∷ []
+
+-- whether a certificate is read and another one made, by the words at which their paths stand
+abbrev pub remakes : Option ℕ → Option ℕ → Bool
+remakes (Some read) (Some made) = not (read == made)
+remakes read made = false
+
+-- whether the first of some lines begins with the program's name, the word of a command and a space
+abbrev pub is_usage_of : Command → List (List ℕ) → Bool
+is_usage_of command [] = false
+is_usage_of command (first ∷ lines) = starts_with nat_eq first (codes "bound_cli " ++ command_word command ++ codes " ")
 
 -- the first operand is the word after the command and its paths
 abbrev pub operands_at : Command → ℕ

@@ -5,9 +5,9 @@ use Rattle.relaxation.specs.Denominators.{IsChoice}
 use Rattle.bound_terms.specs.declared.modes.Mode.{Mode}
 use Rattle.bound_terms.specs.declared.modes.Mode.TheVariants.{Flow, Constant, Infinite}
 use Rattle.bound_terms.specs.declared.modes.Window.TheVariants.{Steps, All as Whole}
-use Rattle.bound_words.specs.declared.settings.BoundSettings.TheInside.{Inside as BoundFields}
-use Rattle.bound_words.specs.declared.settings.ReplaySettings.TheInside.{Inside as ReplayFields}
-use Rattle.bound_words.specs.declared.settings.DrawSettings.TheInside.{Inside as DrawFields}
+use Rattle.bound_words.specs.declared.plans.BoundSettings.TheInside.{Inside as BoundFields}
+use Rattle.bound_words.specs.declared.plans.ReplaySettings.TheInside.{Inside as ReplayFields}
+use Rattle.bound_words.specs.declared.plans.DrawSettings.TheInside.{Inside as DrawFields}
 
 -- a window has a step, and at most 2^25 steps
 abbrev pub IsModeInRange : Mode → Type 0

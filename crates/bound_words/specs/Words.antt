@@ -1,11 +1,10 @@
 -- The words of the command line.
-use Rattle.std.specs.Prelude.{ℕ, zero, suc, ◌+◌, List, [], ◌∷◌, ◌++◌, length, ◌==◌, nat_lt, Bool, false, not, ◌&&◌, ◌||◌, if◌then◌else◌, codes, slice_get, option_and_then, IsTrue, IfSome, Result, Ok, Err, None, Some}
+use Rattle.std.specs.Prelude.{ℕ, zero, suc, ◌+◌, List, [], ◌∷◌, ◌++◌, length, ◌==◌, nat_lt, Bool, true, false, not, ◌&&◌, if◌then◌else◌, codes, slice_get, option_and_then, IsTrue, IfSome, Result, Ok, Err, None, Some}
 use Rattle.std.specs.declared.option.Option.{Option}
-use Rattle.std.specs.Option.{is_some, option_map, option_or}
+use Rattle.std.specs.Option.{is_some, option_map, option_map_or, option_or}
 use Rattle.std.specs.List.{list_all}
 use Rattle.std.specs.Str.{bytes_eq}
-use Rattle.bound_words.specs.declared.words.Plan.{Plan}
-use Rattle.bound_words.specs.declared.words.Plan.TheVariants.{Bounds, Check, Replay, Curve, CapacityCurve, Judge, Demo, Upgrade, Refine}
+use Rattle.bound_words.specs.declared.plans.Plan.{Plan}
 use Rattle.bound_words.specs.declared.commands.Command.{Command}
 use Rattle.bound_words.specs.declared.commands.PathPlaces.{PathPlaces}
 use Rattle.bound_words.specs.declared.words.WordFault.{WordFault}
@@ -13,18 +12,12 @@ use Rattle.bound_terms.specs.declared.words.WordKind.{WordKind}
 use Rattle.bound_terms.specs.declared.words.WordKind.TheVariants.{Missing, Unknown, Twice, BadValue}
 use Rattle.bound_words.specs.declared.commands.Command.TheVariants as command
 use Rattle.bound_words.specs.Commands.{command_named, has_operand, needed_names, places_of, operands_at, operands_of}
+use Rattle.bound_words.specs.Faults.{◌>>=◌, fault, passed}
 use Rattle.bound_words.specs.Named.{has_equals, name_of, value_of, value_given, place_given}
-use Rattle.bound_words.specs.Operands.{takes_value, format_given, capacity_given, objective_given, mode_given, denominator_given, number_given, policy_given, warmup_given, version_given, seed_given, requests_given, objects_given, capacity_or_usual, reads_given, width_given}
-
--- go on with the value, or stop at the fault
-infixl 10 ◌>>=◌
-abbrev pub ◌>>=◌ : {A B : Type 0} → Result A WordFault → (A → Result B WordFault) → Result B WordFault
-(Ok x) >>= f = f x
-(Err e) >>= f = Err e
-
--- a fault at a place
-abbrev pub fault : ℕ → WordKind → WordFault
-fault place kind = record { place = place; kind = kind }
+use Rattle.bound_words.specs.Operands.{takes_value, reads_given}
+use Rattle.bound_words.specs.Plans.{plan_of_command}
+use Rattle.bound_words.specs.Values.{format_of}
+use Rattle.trace_any.specs.Readings.{is_marked}
 
 -- a command that is none is unknown
 abbrev pub known_command : Option Command → Result Command WordFault
@@ -82,10 +75,10 @@ takes_no_block (Some format) = not (bytes_eq format (codes "msr"))
 abbrev pub block_fault : ℕ → List (List ℕ) → Option WordFault
 block_fault first operands = if takes_no_block (value_given (codes "format") operands) then unknown_operand first (codes "block") operands else None
 
--- whether a form of the trace is given that has no writes
+-- whether a form of the trace is given that has no marks if only reads count
 abbrev pub has_no_writes : Option (List ℕ) → Bool
 has_no_writes None = false
-has_no_writes (Some format) = not (bytes_eq format (codes "webcache") || bytes_eq format (codes "msr"))
+has_no_writes (Some format) = option_map_or (λ form. not (is_marked form)) (format_of format 4096 true) true
 
 -- that only reads count is unknown beside a form of the trace that has no writes
 abbrev pub count_fault : ℕ → List (List ℕ) → Option WordFault
@@ -110,97 +103,6 @@ earlier (Some first) (Some second) = if nat_lt second.place first.place then Som
 -- the first operand that may not stand beside another
 abbrev pub beside_fault : ℕ → List (List ℕ) → Option WordFault
 beside_fault first operands = earlier (earlier (block_fault first operands) (count_fault first operands)) (window_fault first operands)
-
--- no fault lets the words pass
-abbrev pub passed : Option WordFault → Result (Unit {0}) WordFault
-passed None = Ok tt
-passed (Some e) = Err e
-
--- what must be given is missing at the place after the last word
-abbrev pub required : {A : Type 0} → ℕ → Option A → Result A WordFault
-required end None = Err (fault end Missing)
-required end (Some x) = Ok x
-
--- the plan of bounds that accepted operands give, if the words end before this place
-abbrev pub bounds_plan : ℕ → List (List ℕ) → Result Plan WordFault
-bounds_plan end operands = do
-  format ← required end (format_given operands)
-  capacity ← required end (capacity_given operands)
-  Ok (Bounds format capacity (objective_given operands) (mode_given operands) (denominator_given (mode_given operands) operands)
-      (warmup_given operands) (version_given operands))
-
--- the plan of a replay that accepted operands give, if the words end before this place
-abbrev pub replay_plan : ℕ → List (List ℕ) → Result Plan WordFault
-replay_plan end operands = do
-  format ← required end (format_given operands)
-  capacity ← required end (capacity_given operands)
-  policy ← required end (policy_given operands)
-  Ok (Replay format capacity policy (warmup_given operands))
-
--- the plan of a curve that accepted operands give, if the words end before this place
-abbrev pub curve_plan : ℕ → List (List ℕ) → Result Plan WordFault
-curve_plan end operands = do
-  format ← required end (format_given operands)
-  Ok (Curve format)
-
--- the plan of a curve over capacities that accepted operands give, if the words end before this place
-abbrev pub capacity_curve_plan : ℕ → List (List ℕ) → Result Plan WordFault
-capacity_curve_plan end operands = do
-  format ← required end (format_given operands)
-  capacities ← required end (value_given (codes "capacities") operands)
-  Ok (CapacityCurve format (objective_given operands) (number_given operands) (warmup_given operands))
-
--- the plan of a demo that accepted operands give, none of which is required
-abbrev pub demo_plan : List (List ℕ) → Plan
-demo_plan operands =
-    Demo (seed_given operands) (requests_given operands) (objects_given operands) (capacity_or_usual operands)
-    (objective_given operands) (mode_given operands) (denominator_given (mode_given operands) operands)
-
--- whether a path is that of standard input
-abbrev pub is_dash : Option (List ℕ) → Bool
-is_dash None = false
-is_dash (Some word) = bytes_eq word (codes "-")
-
--- trace and certificate, which stand at these words, can't both be standard input
-abbrev pub inputs_fault : Option ℕ → Option ℕ → List (List ℕ) → Option WordFault
-inputs_fault (Some trace) (Some cert) words =
-    if is_dash (slice_get words trace) && is_dash (slice_get words cert) then Some (fault (cert + 1) BadValue) else None
-inputs_fault trace cert words = None
-
--- the plan of a check, if the operands are accepted
-abbrev pub check_plan : PathPlaces → List (List ℕ) → List (List ℕ) → Result Plan WordFault
-check_plan places words operands = do
-  format ← required (length words + 1) (format_given operands)
-  apart ← passed (inputs_fault places.trace places.cert words)
-  Ok (Check format)
-
--- the plan of claimed hits, if the operands are accepted
-abbrev pub judge_plan : PathPlaces → List (List ℕ) → List (List ℕ) → Result Plan WordFault
-judge_plan places words operands = do
-  format ← required (length words + 1) (format_given operands)
-  capacity ← required (length words + 1) (capacity_given operands)
-  apart ← passed (inputs_fault places.trace places.cert words)
-  Ok (Judge format capacity (warmup_given operands))
-
--- the plan of a refinement, if the operands are accepted
-abbrev pub refine_plan : PathPlaces → List (List ℕ) → List (List ℕ) → Result Plan WordFault
-refine_plan places words operands = do
-  format ← required (length words + 1) (format_given operands)
-  width ← required (length words + 1) (width_given operands)
-  apart ← passed (inputs_fault places.trace places.cert words)
-  Ok (Refine format width)
-
--- the plan of a command, if the operands are accepted
-abbrev pub plan_of_command : Command → List (List ℕ) → List (List ℕ) → Result Plan WordFault
-plan_of_command command.Bounds words operands = bounds_plan (length words + 1) operands
-plan_of_command command.Check words operands = check_plan (places_of command.Check) words operands
-plan_of_command command.Replay words operands = replay_plan (length words + 1) operands
-plan_of_command command.Curve words operands = curve_plan (length words + 1) operands
-plan_of_command command.CapacityCurve words operands = capacity_curve_plan (length words + 1) operands
-plan_of_command command.Judge words operands = judge_plan (places_of command.Judge) words operands
-plan_of_command command.Demo words operands = Ok (demo_plan operands)
-plan_of_command command.Upgrade words operands = Ok Upgrade
-plan_of_command command.Refine words operands = refine_plan (places_of command.Refine) words operands
 
 -- what operands ask for that are the words of a command from this place on, or the first fault in them
 abbrev pub plan_of_operands : Command → ℕ → List (List ℕ) → List (List ℕ) → Result Plan WordFault
@@ -231,7 +133,7 @@ word_or_dash None = codes "-"
 
 -- where the paths stand, if the words begin with a command
 abbrev pub places_in : Option Command → PathPlaces
-places_in None = record { count = 0; trace = None; cert = None; made = None }
+places_in None = record { count = 0; trace = None; beside = None; made = None }
 places_in (Some command) = places_of command
 
 -- the path at a word, or a dash if the command has no such path
@@ -249,7 +151,7 @@ trace_path words = path_at (places_named words).trace words
 
 -- the path of the certificate that is read
 abbrev pub cert_path : List (List ℕ) → List ℕ
-cert_path words = path_at (places_named words).cert words
+cert_path words = path_at (places_named words).beside words
 
 -- the path of the certificate that is made
 abbrev pub made_path : List (List ℕ) → List ℕ

@@ -1,19 +1,17 @@
 //! Capacities between commas.
-ghost use Rattle.std.specs.Prelude.{◌≡◌, [], ◌∷◌, All, MatchOption, map, string_bytes, unwrap_or, IfOk, None};
+ghost use Rattle.std.specs.Prelude.{◌≡◌, ◌∷◌, All, MatchOption, IfOk, None, true};
 ghost use Rattle.std.specs.List.Sorted.{IsNonDecreasing};
 ghost use Rattle.std.specs.Option.{is_some, option_copied};
 ghost use Rattle.capacity_curve.specs.Points.{IsInRange};
-ghost use Rattle.bound_words.specs.Capacities.{IsNext, capacities_given, capacities_of, rising, words_left, words_of_list};
+ghost use Rattle.bound_words.specs.Capacities.{IsNext, capacities_in, capacities_of, capacity_list, rising, words_left, words_of_list};
 
-use crate::commands::Command;
-use crate::named::value_given;
 use crate::values::capacity_of;
-use crate::words::operands_of;
 use bound_base::NoMemory;
 use std::alloc::Global;
+use std::marker::Model;
 
-// The most capacities of a list.
-const MOST_CAPACITIES: usize = 1000;
+/// The most capacities of a list.
+pub const MOST_CAPACITIES: usize = 1000;
 
 // The first capacity of a list, and what is left after its comma, if it has one.
 #[derive(Clone, Copy)]
@@ -43,8 +41,8 @@ fn next_capacity(list: &str, last: u64) -> Option<Next<'_>>
     }
 }
 
-/// Whether a value is a list of capacities.
-pub(crate) fn are_capacities(value: &str) -> bool
+// Whether a value is a list of capacities.
+fn are_capacities(value: &str) -> bool
     ensures { result ≡ is_some (capacities_of value.now) }
 {
     let mut left = Some(value);
@@ -62,9 +60,10 @@ pub(crate) fn are_capacities(value: &str) -> bool
     left.is_none()
 }
 
-// The capacities of a value, and none if it is no list of them.
+// The capacities of a value that is a list of them.
 fn capacities_in(alloc: Global, value: &str) -> Result<Vec<u64>, NoMemory>
-    ensures { IfOk result (λ capacities. capacities.items ≡ unwrap_or (capacities_of value.now) []) }
+    requires { is_some (capacities_of value.now) ≡ true }
+    ensures { IfOk result (λ capacities. capacities.items ≡ capacities_in value.now) }
 {
     let mut capacities = Vec::new(alloc);
     let mut left = Some(value);
@@ -74,29 +73,66 @@ fn capacities_in(alloc: Global, value: &str) -> Result<Vec<u64>, NoMemory>
             return Ok(capacities);
         };
         let Some(next) = next_capacity(list, last) else {
-            return Ok(Vec::new(alloc));
+            return Ok(capacities);
         };
         capacities.push(next.capacity)?;
         last = next.capacity;
         left = next.left;
     }
-    if left.is_some() {
-        capacities.clear();
-    }
     Ok(capacities)
 }
 
-/// The capacities that the words of a curve give, in bytes, and none if they give no list of them.
-pub fn capacities_given(alloc: Global, words: &[String]) -> Result<Vec<u64>, NoMemory>
-    ensures given { IfOk result (λ capacities. capacities.items ≡ capacities_given (map string_bytes words.now)) }
-    ensures ascending { IfOk result (λ capacities. IsNonDecreasing capacities.items) }
-    ensures range { IfOk result (λ capacities. All IsInRange capacities.items) }
-{
-    match value_given("capacities", operands_of(Command::Curve, words)) {
-        Some(value) => {
-            let capacities = capacities_in(alloc, value)?;
-            Ok(capacities)
+/// A list of capacities in bytes, each greater than the one before it: the word that lists them, with commas between.
+#[derive(Debug, Drop)]
+pub struct CapacityList<'a> {
+    list: &'a str,
+}
+
+impl<'a> Model for CapacityList<'a> {
+    ghost use Rattle.std.specs.Prelude.{◌≡◌, List, ℕ, true};
+    ghost use Rattle.std.specs.Option.{is_some};
+    ghost use Rattle.bound_words.specs.Capacities.{capacities_of};
+
+    ghost Value = { List ℕ };
+
+    ghost view = { λ l. l.list.now };
+
+    ghost invariant = { λ l. is_some (capacities_of l.list.now) ≡ true };
+}
+
+impl<'a> PartialEq for CapacityList<'a> {
+    ghost use Rattle.std.specs.Str.{bytes_eq};
+    ghost use Rattle.std.specs.Cmp.Rules.{comparing};
+    ghost use Rattle.std.proofs.Common.{rules};
+
+    ghost eq = { bytes_eq };
+
+    ghost laws = { Prim.search (comparing, rules) };
+
+    fn eq(&self, other: &Self) -> bool {
+        self.list == other.list
+    }
+}
+
+impl<'a> CapacityList<'a> {
+    /// The list that a value is, if it is one.
+    pub(crate) fn of(value: &'a str) -> Option<Self>
+        ensures { result ≡ capacity_list value.now }
+    {
+        if are_capacities(value) {
+            Some(CapacityList { list: value })
+        } else {
+            None
         }
-        None => Ok(Vec::new(alloc)),
+    }
+
+    /// The capacities. Takes 8 bytes for each.
+    pub fn capacities(&self, alloc: Global) -> Result<Vec<u64>, NoMemory>
+        ensures listed { IfOk result (λ capacities. capacities.items ≡ capacities_in self.now) }
+        ensures ascending { IfOk result (λ capacities. IsNonDecreasing capacities.items) }
+        ensures range { IfOk result (λ capacities. All IsInRange capacities.items) }
+    {
+        let capacities = capacities_in(alloc, self.list)?;
+        Ok(capacities)
     }
 }

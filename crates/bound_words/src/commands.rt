@@ -1,8 +1,9 @@
 //! The commands: their words, their paths and the names of their operands.
-ghost use Rattle.std.specs.Prelude.{◌≡◌, ◌≤◌, length, map, Some};
+ghost use Rattle.std.specs.Prelude.{◌≡◌, ◌≤◌, length, map, is_some, IsTrue, Some};
 ghost use Rattle.std.specs.List.{list_any};
 ghost use Rattle.std.specs.Str.{bytes_eq};
-ghost use Rattle.bound_words.specs.Commands.{command_named, command_word, has_operand, needed_names, operand_names, operands_at, path_names, places_of, plain};
+ghost use Rattle.bound_words.specs.Commands.{command_named, command_word, has_operand, needed_names, operand_names, operands_at, path_names, places_of, plain, remakes};
+ghost use Rattle.bound_words.specs.Commands.{is_usage_of};
 
 use crate::values::is;
 
@@ -29,12 +30,13 @@ pub enum Command {
     Refine,
 }
 
-/// Where the paths of a command stand among its words, of which the command is word 0, and how many there are.
+/// Where the paths of a command stand among its words, of which the command is word 0, and how many there are: that of
+/// the trace, that of a certificate or of flags that are read beside it, and that of a certificate which is made.
 #[derive(Clone, Copy)]
 pub(crate) struct PathPlaces {
     pub count: usize,
     pub trace: Option<usize>,
-    pub cert: Option<usize>,
+    pub beside: Option<usize>,
     pub made: Option<usize>,
 }
 
@@ -139,6 +141,61 @@ impl Command {
         }
     }
 
+    /// How it is called, a line each.
+    pub fn usage(self) -> &'static [&'static str]
+        ensures { IsTrue (is_usage_of self (map (λ line. line.now) result.now)) }
+    {
+        match self {
+            Command::Bounds => &[
+                "bound_cli bounds TRACE CERT format=FORM capacity=BYTES [block=BYTES] [count=COUNTED]",
+                "    [objective=OBJECTIVE] [mode=MODE] [window=STEPS] [denominator=NUMBER]",
+                "    [warmup=REQUESTS] [version=VERSION]",
+            ],
+            Command::Check => &[
+                "bound_cli check TRACE CERT format=FORM [block=BYTES] [count=COUNTED]",
+            ],
+            Command::Replay => &[
+                "bound_cli replay TRACE format=FORM capacity=BYTES policy=POLICY [block=BYTES]",
+                "    [count=COUNTED] [warmup=REQUESTS]",
+            ],
+            Command::Curve | Command::CapacityCurve => &[
+                "bound_cli curve TRACE format=FORM [capacities=LIST] [block=BYTES] [count=COUNTED]",
+                "    [objective=OBJECTIVE] [denominator=NUMBER] [warmup=REQUESTS]",
+            ],
+            Command::Judge => &[
+                "bound_cli judge TRACE HITS format=FORM capacity=BYTES [block=BYTES] [count=COUNTED]",
+                "    [warmup=REQUESTS]",
+            ],
+            Command::Demo => &[
+                "bound_cli demo [seed=NUMBER] [requests=NUMBER] [objects=NUMBER] [capacity=BYTES]",
+                "    [objective=OBJECTIVE] [mode=MODE] [window=STEPS] [denominator=NUMBER]",
+            ],
+            Command::Upgrade => &["bound_cli upgrade CERT MADE"],
+            Command::Refine => &[
+                "bound_cli refine TRACE CERT MADE format=FORM window=STEPS [block=BYTES]",
+                "    [count=COUNTED]",
+            ],
+        }
+    }
+
+    /// Whether it reads a trace.
+    pub fn reads_trace(self) -> bool
+        ensures { result ≡ is_some (places_of self).trace }
+    {
+        self.places().trace.is_some()
+    }
+
+    /// Whether it reads a certificate and makes another one.
+    pub fn remakes_certificate(self) -> bool
+        ensures { result ≡ remakes (places_of self).beside (places_of self).made }
+    {
+        let places = self.places();
+        match (places.beside, places.made) {
+            (Some(read), Some(made)) => read != made,
+            _ => false,
+        }
+    }
+
     /// Where its paths stand. The certificate of bounds is made, and has the path of one that is read as well.
     pub(crate) fn places(self) -> PathPlaces
         ensures { result ≡ places_of self }
@@ -147,37 +204,37 @@ impl Command {
             Command::Bounds => PathPlaces {
                 count: 2,
                 trace: Some(1),
-                cert: Some(2),
+                beside: Some(2),
                 made: Some(2),
             },
             Command::Check | Command::Judge => PathPlaces {
                 count: 2,
                 trace: Some(1),
-                cert: Some(2),
+                beside: Some(2),
                 made: None,
             },
             Command::Replay | Command::Curve | Command::CapacityCurve => PathPlaces {
                 count: 1,
                 trace: Some(1),
-                cert: None,
+                beside: None,
                 made: None,
             },
             Command::Demo => PathPlaces {
                 count: 0,
                 trace: None,
-                cert: None,
+                beside: None,
                 made: None,
             },
             Command::Upgrade => PathPlaces {
                 count: 2,
                 trace: None,
-                cert: Some(1),
+                beside: Some(1),
                 made: Some(2),
             },
             Command::Refine => PathPlaces {
                 count: 3,
                 trace: Some(1),
-                cert: Some(2),
+                beside: Some(2),
                 made: Some(3),
             },
         }

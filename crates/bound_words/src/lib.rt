@@ -6,18 +6,21 @@
 
 mod capacities;
 mod commands;
+mod making;
 mod named;
 mod operands;
 mod paths;
 mod plans;
-mod settings;
 mod values;
 mod words;
 
-pub use capacities::capacities_given;
+pub use capacities::{CapacityList, MOST_CAPACITIES};
 pub use commands::{Command, command_named};
+pub use named::{has_equals, name_of, value_given, value_of};
+pub use operands::{Kind, Values, format_given, is_operand, kind_of};
 pub use paths::{Paths, paths_of};
-pub use settings::{
-    BoundSettings, DrawSettings, JudgeSettings, ReplaySettings, Settings, settings_of,
+pub use plans::{
+    BoundSettings, DrawSettings, JudgeSettings, Plan, ReplaySettings, Settings, settings_of,
 };
-pub use words::{Plan, WordFault, command_asked, plan_of};
+pub use values::{MOST_CAPACITY, MOST_DENOMINATOR};
+pub use words::{WordFault, command_asked, operands_of, plan_of};

@@ -5,14 +5,15 @@ ghost use Rattle.bound_words.specs.Named.{has_equals, name_of, place_given, valu
 
 use crate::values::is;
 
-pub(crate) fn has_equals(word: &str) -> bool
+/// Whether a word has a `=`, as an operand has.
+pub fn has_equals(word: &str) -> bool
     ensures { result ≡ has_equals word.now }
 {
     word.as_bytes().iter().any(|byte| *byte == b'=')
 }
 
 /// What stands before the first `=`, or the whole word.
-pub(crate) fn name_of(word: &str) -> &str
+pub fn name_of(word: &str) -> &str
     ensures { result.now ≡ name_of word.now }
 {
     match word.split_once('=') {
@@ -22,7 +23,7 @@ pub(crate) fn name_of(word: &str) -> &str
 }
 
 /// What stands after the first `=`, or nothing.
-pub(crate) fn value_of(word: &str) -> &str
+pub fn value_of(word: &str) -> &str
     ensures { result.now ≡ value_of word.now }
 {
     match word.split_once('=') {
@@ -32,7 +33,7 @@ pub(crate) fn value_of(word: &str) -> &str
 }
 
 /// The value that the operands give to a name.
-pub(crate) fn value_given<'a>(name: &str, operands: &'a [String]) -> Option<&'a str>
+pub fn value_given<'a>(name: &str, operands: &'a [String]) -> Option<&'a str>
     ensures { option_copied result ≡ value_given name.now (map string_bytes operands.now) }
 {
     let word = operands

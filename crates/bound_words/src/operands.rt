@@ -1,26 +1,26 @@
 //! The operands of the command line: which values each may have, and what it gives.
-ghost use Rattle.std.specs.Prelude.{◌≡◌, ◌≤◌, ◌^◌, map, string_bytes, IfSome};
+ghost use Rattle.std.specs.Prelude.{◌≡◌, ◌≤◌, ◌^◌, List, ℕ, map, string_bytes, IfSome};
 ghost use Rattle.bound_terms.specs.declared.modes.Mode.TheVariants.{Flow};
 ghost use Rattle.relaxation.specs.Denominators.{IsChoice};
 ghost use Rattle.trace_any.specs.Readings.{IsFormat};
 ghost use Rattle.bound_words.specs.declared.commands.Command.{Command};
 ghost use Rattle.bound_words.specs.Ranges.{IsModeInRange};
-ghost use Rattle.bound_words.specs.Operands.{block_given, capacity_given, capacity_or_usual, denominator_given};
-ghost use Rattle.bound_words.specs.Operands.{drawn_given, format_given, is_value, mode_given, number_given, objective_given};
+ghost use Rattle.bound_words.specs.Operands.{block_given, capacities_given, capacity_given, capacity_or_usual, denominator_given};
+ghost use Rattle.bound_words.specs.Operands.{accepts, drawn_given, format_given, is_operand, kind_of, mode_given, number_given, objective_given, takes, usual_kind};
 ghost use Rattle.bound_words.specs.Operands.{objects_given, policy_given, reads_given, requests_given, seed_given};
 ghost use Rattle.bound_words.specs.Operands.{takes_value, version_given, warmup_given, width_given, window_given};
 ghost use Rattle.cache_model.specs.declared.version.TheConstants.{CERT_VERSION, SHORT_VERSION};
 
-use crate::capacities::are_capacities;
+use crate::capacities::CapacityList;
 use crate::commands::Command;
 use crate::named::value_given;
 use crate::values::{
-    MOST_DENOMINATOR, USUAL_BLOCK, block_of, capacity_of, count_of, denominator_of, drawn_of,
-    format_of, is, mode_of, number_of, objective_of, reads_of, seed_of, usual_denominator,
-    version_of, width_of, window_of,
+    MOST_BLOCK, MOST_CAPACITY, MOST_DENOMINATOR, MOST_DRAWN, MOST_REQUESTS, MOST_WINDOW,
+    USUAL_BLOCK, block_of, capacity_of, count_of, denominator_of, drawn_of, format_of, is, mode_of,
+    number_of, objective_of, reads_of, seed_of, usual_denominator, version_of, width_of, window_of,
 };
 use bound_terms::{Mode, Window};
-use cache_model::CERT_VERSION;
+use cache_model::{CERT_VERSION, SHORT_VERSION};
 use cache_rules::Objective;
 use policy_model::PolicyName;
 use relaxation::DenominatorChoice;
@@ -35,61 +35,196 @@ const USUAL_OBJECTS: u32 = 200;
 
 const USUAL_CAPACITY: u64 = 65536;
 
-/// Whether the operand of a name may have a value.
-pub(crate) fn is_value(name: &str, value: &str) -> bool
-    ensures { result ≡ is_value name.now value.now }
+/// What an operand has for its value.
+#[derive(Clone, Copy, Debug, PartialEq, Eq)]
+pub enum Kind {
+    Form,
+    Block,
+    Counted,
+    Capacity,
+    Capacities,
+    Objective,
+    Mode,
+    Window,
+    /// The steps of a window, or of a block of a refinement.
+    Width,
+    Denominator,
+    /// A denominator that is a number.
+    Number,
+    Policy,
+    /// How many requests, which may be none.
+    Warmup,
+    Version,
+    Seed,
+    /// How many requests or objects are drawn.
+    Drawn,
+}
+
+/// What a value may be, in words. A number is one of digits alone.
+#[derive(Clone, Copy)]
+pub enum Values {
+    /// One of these words.
+    Words(&'static [&'static str]),
+    /// A number in this range.
+    Number {
+        least: u64,
+        most: u64,
+    },
+    /// One of these words, or a number from 1 on.
+    WordOrNumber {
+        words: &'static [&'static str],
+        most: u64,
+    },
+    /// The word of a policy.
+    Policy,
+    /// At most `MOST_CAPACITIES` capacities with commas between, each greater than the one before it.
+    Capacities,
+}
+
+impl Kind {
+    /// Whether a value is of this kind.
+    pub(crate) fn takes(self, value: &str) -> bool
+        ensures { result ≡ takes self value.now }
+    {
+        match self {
+            Kind::Form => format_of(value, USUAL_BLOCK, false).is_some(),
+            Kind::Block => block_of(value).is_some(),
+            Kind::Counted => reads_of(value).is_some(),
+            Kind::Capacity => capacity_of(value).is_some(),
+            Kind::Capacities => CapacityList::of(value).is_some(),
+            Kind::Objective => objective_of(value).is_some(),
+            Kind::Mode => mode_of(value, Window::All).is_some(),
+            Kind::Window => window_of(value).is_some(),
+            Kind::Width => width_of(value).is_some(),
+            Kind::Denominator => denominator_of(value).is_some(),
+            Kind::Number => number_of(value).is_some(),
+            Kind::Policy => PolicyName::named(value).is_some(),
+            Kind::Warmup => count_of(value).is_some(),
+            Kind::Version => version_of(value).is_some(),
+            Kind::Seed => seed_of(value).is_some(),
+            Kind::Drawn => drawn_of(value).is_some(),
+        }
+    }
+
+    /// Which values are of this kind, for those that say it.
+    pub fn values(self) -> Values
+        ensures { (value : List ℕ) → accepts result value ≡ takes self value }
+    {
+        match self {
+            Kind::Form => Values::Words(&["webcache", "arc", "msr", "oracle"]),
+            Kind::Block => up_to(MOST_BLOCK),
+            Kind::Counted => Values::Words(&["all", "reads"]),
+            Kind::Capacity => up_to(MOST_CAPACITY),
+            Kind::Capacities => Values::Capacities,
+            Kind::Objective => Values::Words(&["object", "bytes"]),
+            Kind::Mode => Values::Words(&["flow", "constant", "infinite"]),
+            Kind::Window => Values::WordOrNumber {
+                words: &["all"],
+                most: MOST_WINDOW,
+            },
+            Kind::Width => up_to(MOST_WINDOW),
+            Kind::Denominator => Values::WordOrNumber {
+                words: &["auto", "exact"],
+                most: MOST_DENOMINATOR,
+            },
+            Kind::Number => up_to(MOST_DENOMINATOR),
+            Kind::Policy => Values::Policy,
+            Kind::Warmup => from_0(MOST_REQUESTS),
+            Kind::Version => up_to(u64::from(SHORT_VERSION)),
+            Kind::Seed => from_0(u64::MAX),
+            Kind::Drawn => up_to(MOST_DRAWN),
+        }
+    }
+}
+
+// A number from 1 on.
+fn up_to(most: u64) -> Values
+    ensures { result ≡ Values.Number 1 most }
+{
+    Values::Number { least: 1, most }
+}
+
+// A number that may be 0.
+fn from_0(most: u64) -> Values
+    ensures { result ≡ Values.Number 0 most }
+{
+    Values::Number { least: 0, most }
+}
+
+// What the operand of a name has for its value in most commands.
+fn usual_kind(name: &str) -> Option<Kind>
+    ensures { result ≡ usual_kind name.now }
 {
     if is(name, "format") {
-        format_of(value, USUAL_BLOCK, false).is_some()
+        Some(Kind::Form)
     } else if is(name, "block") {
-        block_of(value).is_some()
+        Some(Kind::Block)
     } else if is(name, "count") {
-        reads_of(value).is_some()
+        Some(Kind::Counted)
     } else if is(name, "capacity") {
-        capacity_of(value).is_some()
+        Some(Kind::Capacity)
     } else if is(name, "objective") {
-        objective_of(value).is_some()
+        Some(Kind::Objective)
     } else if is(name, "mode") {
-        mode_of(value, Window::All).is_some()
+        Some(Kind::Mode)
     } else if is(name, "window") {
-        window_of(value).is_some()
+        Some(Kind::Window)
     } else if is(name, "denominator") {
-        denominator_of(value).is_some()
+        Some(Kind::Denominator)
     } else if is(name, "policy") {
-        PolicyName::named(value).is_some()
+        Some(Kind::Policy)
     } else if is(name, "warmup") {
-        count_of(value).is_some()
+        Some(Kind::Warmup)
     } else if is(name, "version") {
-        version_of(value).is_some()
+        Some(Kind::Version)
     } else if is(name, "seed") {
-        seed_of(value).is_some()
+        Some(Kind::Seed)
+    } else if is(name, "requests") || is(name, "objects") {
+        Some(Kind::Drawn)
     } else {
-        (is(name, "requests") || is(name, "objects")) && drawn_of(value).is_some()
+        None
     }
 }
 
-// Whether an operand of a curve over capacities may have this value.
-fn takes_over_capacities(name: &str, value: &str) -> bool
-    ensures { result ≡ takes_value Command.CapacityCurve name.now value.now }
+// What the operand of a name has for its value in a curve over capacities.
+fn kind_over_capacities(name: &str) -> Option<Kind>
+    ensures { result ≡ kind_of Command.CapacityCurve name.now }
 {
     if is(name, "capacities") {
-        are_capacities(value)
+        Some(Kind::Capacities)
     } else if is(name, "denominator") {
-        number_of(value).is_some()
+        Some(Kind::Number)
     } else {
-        is_value(name, value)
+        usual_kind(name)
     }
 }
 
-/// Whether an operand of a command may have this value. A refinement has a number of steps for its window, and a curve
-/// over capacities has a number for its denominator.
+/// What the operand of a name has for its value in a command. A refinement has a number of steps for its window, and a
+/// curve over capacities has a number for its denominator.
+pub fn kind_of(command: Command, name: &str) -> Option<Kind>
+    ensures { result ≡ kind_of command name.now }
+{
+    match command {
+        Command::Refine if is(name, "window") => Some(Kind::Width),
+        Command::CapacityCurve => kind_over_capacities(name),
+        _ => usual_kind(name),
+    }
+}
+
+/// Whether a name is that of an operand of some command.
+pub fn is_operand(name: &str) -> bool
+    ensures { result ≡ is_operand name.now }
+{
+    kind_over_capacities(name).is_some()
+}
+
+/// Whether an operand of a command may have this value.
 pub(crate) fn takes_value(command: Command, name: &str, value: &str) -> bool
     ensures { result ≡ takes_value command name.now value.now }
 {
-    match command {
-        Command::Refine if is(name, "window") => width_of(value).is_some(),
-        Command::CapacityCurve => takes_over_capacities(name, value),
-        _ => is_value(name, value),
+    match kind_of(command, name) {
+        Some(kind) => kind.takes(value),
+        None => false,
     }
 }
 
@@ -113,7 +248,8 @@ pub(crate) fn reads_given(operands: &[String]) -> bool
     }
 }
 
-pub(crate) fn format_given(operands: &[String]) -> Option<Format>
+/// The form of the trace, with the block and the requests that count.
+pub fn format_given(operands: &[String]) -> Option<Format>
     ensures value { result ≡ format_given (map string_bytes operands.now) }
     ensures range { IfSome result IsFormat }
 {
@@ -126,6 +262,13 @@ pub(crate) fn capacity_given(operands: &[String]) -> Option<u64>
     ensures range { IfSome result (λ n. (1 ≤ n) × (n ≤ 2 ^ 56)) }
 {
     capacity_of(value_given("capacity", operands)?)
+}
+
+/// The capacities of a curve over them.
+pub(crate) fn capacities_given(operands: &[String]) -> Option<CapacityList<'_>>
+    ensures { result ≡ capacities_given (map string_bytes operands.now) }
+{
+    CapacityList::of(value_given("capacities", operands)?)
 }
 
 pub(crate) fn objective_given(operands: &[String]) -> Objective

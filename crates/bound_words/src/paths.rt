@@ -29,7 +29,7 @@ fn places_in(command: Option<Command>) -> PathPlaces
         None => PathPlaces {
             count: 0,
             trace: None,
-            cert: None,
+            beside: None,
             made: None,
         },
     }
@@ -54,7 +54,7 @@ pub fn paths_of(words: &[String]) -> Paths<'_>
     let places = places_in(command_named(word_or_dash(words, 0)));
     Paths {
         trace: path_at(places.trace, words),
-        cert: path_at(places.cert, words),
+        cert: path_at(places.beside, words),
         made: path_at(places.made, words),
     }
 }

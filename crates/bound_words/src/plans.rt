@@ -1,190 +1,284 @@
-//! What the operands of each command ask for, once they are accepted.
-ghost use Rattle.std.specs.Prelude.{◌≡◌, ◌≤◌, map, string_bytes, IfOk};
-ghost use Rattle.std.specs.Option.{ForSome, option_copied};
-ghost use Rattle.bound_words.specs.Settings.{IsPlanInRange};
-ghost use Rattle.bound_words.specs.Words.{bounds_plan, capacity_curve_plan, check_plan, curve_plan};
-ghost use Rattle.bound_words.specs.Words.{demo_plan, inputs_fault, is_dash, judge_plan};
-ghost use Rattle.bound_words.specs.Words.{plan_of_command, refine_plan, replay_plan, required};
+//! What the words ask for: a plan, and the settings of a run that it gives.
+//!
+//! A plan has each number under its name. Its settings have them as a run takes them, each in its range: clauses and
+//! definitions see the fields as they are, and the ranges are the invariant of a model and no part of its value, so that
+//! a definition takes settings from any plan.
+ghost use Rattle.std.specs.Prelude.{◌≡◌};
+ghost use Rattle.bound_words.specs.Plans.{IsPlanInRange, bound_settings, settings_of};
+ghost use Rattle.bound_words.specs.Ranges.{AreBoundSettingsInRange, AreDrawSettingsInRange, AreReplaySettingsInRange};
 
-use crate::commands::{Command, PathPlaces};
-use crate::named::value_given;
-use crate::operands::{
-    capacity_given, capacity_or_usual, denominator_given, format_given, mode_given, number_given,
-    objective_given, objects_given, policy_given, requests_given, seed_given, version_given,
-    warmup_given, width_given,
-};
-use crate::values::is;
-use crate::words::{Plan, WordFault, passed, refuse, word_at};
-use bound_terms::WordKind;
+use crate::capacities::CapacityList;
+use bound_terms::Mode;
+use cache_model::{CERT_VERSION, Terms};
+use cache_rules::Objective;
+use capacity_curve::CurveTerms;
+use policy_model::PolicyName;
+use relaxation::DenominatorChoice;
+use std::marker::Model;
+use trace_any::Format;
 
-fn required<T: Drop>(end: u64, given: Option<T>) -> Result<T, WordFault>
-    ensures { result ≡ required end given }
-{
-    match given {
-        Some(it) => Ok(it),
-        None => refuse(end, WordKind::Missing),
-    }
+/// What the words ask for.
+#[derive(Debug, PartialEq, Drop)]
+pub enum Plan<'a> {
+    /// Bounds on the best score from request `warmup` on, at a capacity in bytes, and their certificate.
+    Bounds {
+        format: Format,
+        capacity: u64,
+        objective: Objective,
+        mode: Mode,
+        denominator: DenominatorChoice,
+        warmup: u32,
+        version: u8,
+    },
+    /// Whether a certificate is valid for a trace of this form.
+    Check {
+        format: Format,
+    },
+    /// The hits of a policy on a trace of this form, at a capacity in bytes, from request `warmup` on.
+    Replay {
+        format: Format,
+        capacity: u64,
+        policy: PolicyName,
+        warmup: u32,
+    },
+    /// LRU's hits at every number of slots on a trace of this form.
+    Curve {
+        format: Format,
+    },
+    /// LRU's hits on a trace of this form, and bounds over the denominator, from request `warmup` on, at each of the
+    /// capacities.
+    CapacityCurve {
+        format: Format,
+        capacities: CapacityList<'a>,
+        objective: Objective,
+        denominator: u64,
+        warmup: u32,
+    },
+    /// Whether hits that are claimed on a trace of this form are possible at a capacity in bytes, counted from request
+    /// `warmup` on.
+    Judge {
+        format: Format,
+        capacity: u64,
+        warmup: u32,
+    },
+    /// Bounds, their check and replays, at a capacity in bytes, on a trace that is drawn from a seed.
+    Demo {
+        seed: u64,
+        requests: u32,
+        objects: u32,
+        capacity: u64,
+        objective: Objective,
+        mode: Mode,
+        denominator: DenominatorChoice,
+    },
+    /// A certificate in the second version of its text.
+    Upgrade,
+    /// A certificate for a trace of this form with prices that are settled in blocks of this number of steps.
+    Refine {
+        format: Format,
+        width: u32,
+    },
 }
 
-// The plan that accepted operands give, if the words end before a place.
-fn bounds_plan(end: u64, operands: &[String]) -> Result<Plan, WordFault>
-    ensures plan { result ≡ bounds_plan end (map string_bytes operands.now) }
-    ensures range { IfOk result IsPlanInRange }
-{
-    let format = required(end, format_given(operands))?;
-    let capacity = required(end, capacity_given(operands))?;
-    let mode = mode_given(operands);
-    Ok(Plan::Bounds {
-        format,
-        capacity,
-        objective: objective_given(operands),
-        mode,
-        denominator: denominator_given(mode, operands),
-        warmup: warmup_given(operands),
-        version: version_given(operands),
-    })
+/// Which bounds are asked for: their terms, the mode, the denominator, and the version of the certificate's text.
+#[derive(Clone, Copy)]
+pub struct BoundSettings {
+    pub terms: Terms,
+    pub mode: Mode,
+    pub denominator: DenominatorChoice,
+    pub version: u8,
 }
 
-fn is_dash(word: Option<&str>) -> bool
-    ensures { result ≡ is_dash (option_copied word.entry) }
-{
-    match word {
-        Some(word) => is(word, "-"),
-        None => false,
-    }
+/// Which replay is asked for: the policy, its capacity in bytes, and the request from which its hits count.
+#[derive(Clone, Copy)]
+pub struct ReplaySettings {
+    pub policy: PolicyName,
+    pub capacity: u64,
+    pub warmup: u32,
 }
 
-// Standard input holds the trace, or the other file that is read, and not both.
-fn inputs_fault(places: PathPlaces, words: &[String]) -> Option<WordFault>
-    requires { ForSome places.cert (λ at. at ≤ 9) }
-    ensures { result ≡ inputs_fault places.trace places.cert (map string_bytes words.now) }
-{
-    match (places.trace, places.cert) {
-        (Some(trace), Some(cert))
-            if is_dash(word_at(words, trace)) && is_dash(word_at(words, cert)) => {
-            Some(WordFault {
-                place: cert as u64 + 1,
-                kind: WordKind::BadValue,
-            })
+/// At which capacity in bytes hits are judged, and the request from which they count.
+#[derive(Clone, Copy)]
+pub struct JudgeSettings {
+    pub capacity: u64,
+    pub warmup: u32,
+}
+
+/// Which trace is drawn: the seed of its generator, how many requests it has, and how many objects they are drawn from.
+#[derive(Clone, Copy)]
+pub struct DrawSettings {
+    pub seed: u64,
+    pub requests: u32,
+    pub objects: u32,
+}
+
+/// What a run goes by: a command, with the form of the trace that it reads and its settings.
+#[derive(Drop)]
+pub enum Settings<'a> {
+    Bounds(Format, BoundSettings),
+    Check(Format),
+    Replay(Format, ReplaySettings),
+    Curve(Format),
+    CapacityCurve(Format, CapacityList<'a>, CurveTerms),
+    Judge(Format, JudgeSettings),
+    Demo(DrawSettings, BoundSettings),
+    Upgrade,
+    Refine(Format, u32),
+}
+
+impl Model for BoundSettings {
+    ghost use Rattle.bound_words.specs.declared.plans.BoundSettings.TheInside.{Inside as Fields};
+    ghost use Rattle.bound_words.specs.Ranges.{AreBoundSettingsInRange, AreDrawSettingsInRange, AreReplaySettingsInRange};
+
+    ghost Value = { Fields };
+
+    ghost view = { λ s. s };
+
+    ghost inverse = { λ s. s };
+
+    ghost invariant = { AreBoundSettingsInRange };
+}
+
+impl Model for ReplaySettings {
+    ghost use Rattle.bound_words.specs.declared.plans.ReplaySettings.TheInside.{Inside as Fields};
+    ghost use Rattle.bound_words.specs.Ranges.{AreReplaySettingsInRange};
+
+    ghost Value = { Fields };
+
+    ghost view = { λ s. s };
+
+    ghost inverse = { λ s. s };
+
+    ghost invariant = { AreReplaySettingsInRange };
+}
+
+impl Model for DrawSettings {
+    ghost use Rattle.bound_words.specs.declared.plans.DrawSettings.TheInside.{Inside as Fields};
+    ghost use Rattle.bound_words.specs.Ranges.{AreDrawSettingsInRange};
+
+    ghost Value = { Fields };
+
+    ghost view = { λ s. s };
+
+    ghost inverse = { λ s. s };
+
+    ghost invariant = { AreDrawSettingsInRange };
+}
+
+impl BoundSettings {
+    // Those of these numbers, in the order of a plan.
+    fn new(
+        capacity: u64,
+        objective: Objective,
+        mode: Mode,
+        denominator: DenominatorChoice,
+        warmup: u32,
+        version: u8,
+    ) -> Self
+        requires { AreBoundSettingsInRange (bound_settings capacity objective mode denominator warmup version) }
+        ensures { result ≡ bound_settings capacity objective mode denominator warmup version }
+    {
+        let terms = Terms {
+            objective,
+            capacity,
+            warmup,
+        };
+        BoundSettings {
+            terms,
+            mode,
+            denominator,
+            version,
         }
-        _ => None,
     }
 }
 
-// The plan that these words give, of which the operands are accepted.
-fn check_plan(places: PathPlaces, words: &[String], operands: &[String]) -> Result<Plan, WordFault>
-    requires { ForSome places.cert (λ at. at ≤ 9) }
-    ensures plan { result ≡ check_plan places (map string_bytes words.now) (map string_bytes operands.now) }
-    ensures range { IfOk result IsPlanInRange }
-{
-    let format = required(words.len() as u64 + 1, format_given(operands))?;
-    passed(inputs_fault(places, words))?;
-    Ok(Plan::Check { format })
-}
-
-// The plan of claimed hits that these words give, of which the operands are accepted.
-fn judge_plan(places: PathPlaces, words: &[String], operands: &[String]) -> Result<Plan, WordFault>
-    requires { ForSome places.cert (λ at. at ≤ 9) }
-    ensures plan { result ≡ judge_plan places (map string_bytes words.now) (map string_bytes operands.now) }
-    ensures range { IfOk result IsPlanInRange }
-{
-    let format = required(words.len() as u64 + 1, format_given(operands))?;
-    let capacity = required(words.len() as u64 + 1, capacity_given(operands))?;
-    passed(inputs_fault(places, words))?;
-    Ok(Plan::Judge {
-        format,
-        capacity,
-        warmup: warmup_given(operands),
-    })
-}
-
-// The plan of a refinement that these words give, of which the operands are accepted.
-fn refine_plan(places: PathPlaces, words: &[String], operands: &[String]) -> Result<Plan, WordFault>
-    requires { ForSome places.cert (λ at. at ≤ 9) }
-    ensures plan { result ≡ refine_plan places (map string_bytes words.now) (map string_bytes operands.now) }
-    ensures range { IfOk result IsPlanInRange }
-{
-    let format = required(words.len() as u64 + 1, format_given(operands))?;
-    let width = required(words.len() as u64 + 1, width_given(operands))?;
-    passed(inputs_fault(places, words))?;
-    Ok(Plan::Refine { format, width })
-}
-
-// The plan of a replay that accepted operands give, if the words end before a place.
-fn replay_plan(end: u64, operands: &[String]) -> Result<Plan, WordFault>
-    ensures plan { result ≡ replay_plan end (map string_bytes operands.now) }
-    ensures range { IfOk result IsPlanInRange }
-{
-    let format = required(end, format_given(operands))?;
-    let capacity = required(end, capacity_given(operands))?;
-    let policy = required(end, policy_given(operands))?;
-    Ok(Plan::Replay {
-        format,
-        capacity,
-        policy,
-        warmup: warmup_given(operands),
-    })
-}
-
-// The plan of a curve that accepted operands give, if the words end before a place.
-fn curve_plan(end: u64, operands: &[String]) -> Result<Plan, WordFault>
-    ensures plan { result ≡ curve_plan end (map string_bytes operands.now) }
-    ensures range { IfOk result IsPlanInRange }
-{
-    let format = required(end, format_given(operands))?;
-    Ok(Plan::Curve { format })
-}
-
-// The plan of a curve over capacities that accepted operands give, if the words end before a place.
-fn capacity_curve_plan(end: u64, operands: &[String]) -> Result<Plan, WordFault>
-    ensures plan { result ≡ capacity_curve_plan end (map string_bytes operands.now) }
-    ensures range { IfOk result IsPlanInRange }
-{
-    let format = required(end, format_given(operands))?;
-    required(end, value_given("capacities", operands))?;
-    Ok(Plan::CapacityCurve {
-        format,
-        objective: objective_given(operands),
-        denominator: number_given(operands),
-        warmup: warmup_given(operands),
-    })
-}
-
-// The plan of a demo that accepted operands give. Each has a usual value.
-fn demo_plan(operands: &[String]) -> Plan
-    ensures plan { result ≡ demo_plan (map string_bytes operands.now) }
-    ensures range { IsPlanInRange result }
-{
-    let mode = mode_given(operands);
-    Plan::Demo {
-        seed: seed_given(operands),
-        requests: requests_given(operands),
-        objects: objects_given(operands),
-        capacity: capacity_or_usual(operands),
-        objective: objective_given(operands),
-        mode,
-        denominator: denominator_given(mode, operands),
+impl ReplaySettings {
+    /// Those of a policy.
+    pub fn new(policy: PolicyName, capacity: u64, warmup: u32) -> Self
+        requires { AreReplaySettingsInRange (record { policy = policy; capacity = capacity; warmup = warmup }) }
+        ensures { result ≡ record { policy = policy; capacity = capacity; warmup = warmup } }
+    {
+        ReplaySettings {
+            policy,
+            capacity,
+            warmup,
+        }
     }
 }
 
-/// The plan of a command, whose operands are accepted.
-pub(crate) fn plan_of_command(
-    command: Command,
-    words: &[String],
-    operands: &[String],
-) -> Result<Plan, WordFault>
-    ensures plan { result ≡ plan_of_command command (map string_bytes words.now) (map string_bytes operands.now) }
-    ensures range { IfOk result IsPlanInRange }
+impl DrawSettings {
+    // Those of these numbers.
+    fn new(seed: u64, requests: u32, objects: u32) -> Self
+        requires { AreDrawSettingsInRange (record { seed = seed; requests = requests; objects = objects }) }
+        ensures { result ≡ record { seed = seed; requests = requests; objects = objects } }
+    {
+        DrawSettings {
+            seed,
+            requests,
+            objects,
+        }
+    }
+}
+
+/// The settings of a plan. In a demo every request counts, and the certificate has the first version.
+pub fn settings_of(plan: Plan<'_>) -> Settings<'_>
+    requires { IsPlanInRange plan }
+    ensures { result ≡ settings_of plan.entry }
 {
-    match command {
-        Command::Bounds => bounds_plan(words.len() as u64 + 1, operands),
-        Command::Check => check_plan(command.places(), words, operands),
-        Command::Replay => replay_plan(words.len() as u64 + 1, operands),
-        Command::Curve => curve_plan(words.len() as u64 + 1, operands),
-        Command::CapacityCurve => capacity_curve_plan(words.len() as u64 + 1, operands),
-        Command::Judge => judge_plan(command.places(), words, operands),
-        Command::Demo => Ok(demo_plan(operands)),
-        Command::Upgrade => Ok(Plan::Upgrade),
-        Command::Refine => refine_plan(command.places(), words, operands),
+    match plan {
+        Plan::Bounds {
+            format,
+            capacity,
+            objective,
+            mode,
+            denominator,
+            warmup,
+            version,
+        } => Settings::Bounds(
+            format,
+            BoundSettings::new(capacity, objective, mode, denominator, warmup, version),
+        ),
+        Plan::Check { format } => Settings::Check(format),
+        Plan::Replay {
+            format,
+            capacity,
+            policy,
+            warmup,
+        } => Settings::Replay(format, ReplaySettings::new(policy, capacity, warmup)),
+        Plan::Curve { format } => Settings::Curve(format),
+        Plan::CapacityCurve {
+            format,
+            capacities,
+            objective,
+            denominator,
+            warmup,
+        } => Settings::CapacityCurve(
+            format,
+            capacities,
+            CurveTerms {
+                objective,
+                denominator,
+                warmup,
+            },
+        ),
+        Plan::Judge {
+            format,
+            capacity,
+            warmup,
+        } => Settings::Judge(format, JudgeSettings { capacity, warmup }),
+        Plan::Demo {
+            seed,
+            requests,
+            objects,
+            capacity,
+            objective,
+            mode,
+            denominator,
+        } => Settings::Demo(
+            DrawSettings::new(seed, requests, objects),
+            BoundSettings::new(capacity, objective, mode, denominator, 0, CERT_VERSION),
+        ),
+        Plan::Upgrade => Settings::Upgrade,
+        Plan::Refine { format, width } => Settings::Refine(format, width),
     }
 }

@@ -18,23 +18,23 @@ use cache_rules::Objective;
 use relaxation::DenominatorChoice;
 use trace_any::Format;
 
-// The largest capacity, in bytes.
-const MOST_CAPACITY: u64 = 1 << 56;
+/// The largest capacity, in bytes.
+pub const MOST_CAPACITY: u64 = 1 << 56;
 
-// The largest block, in bytes.
-const MOST_BLOCK: u64 = 1 << 48;
+/// The largest block, in bytes.
+pub(crate) const MOST_BLOCK: u64 = 1 << 48;
 
-// The most steps of a window.
-const MOST_WINDOW: u64 = 1 << 25;
+/// The most steps of a window.
+pub(crate) const MOST_WINDOW: u64 = 1 << 25;
 
-// The most requests of a trace.
-const MOST_REQUESTS: u64 = 1 << 25;
+/// The most requests of a trace.
+pub(crate) const MOST_REQUESTS: u64 = 1 << 25;
 
-// The most requests of a demo, and the most objects.
-const MOST_DRAWN: u64 = 1 << 25;
+/// The most requests of a demo, and the most objects.
+pub(crate) const MOST_DRAWN: u64 = 1 << 25;
 
 /// The largest denominator.
-pub(crate) const MOST_DENOMINATOR: u64 = 1 << 48;
+pub const MOST_DENOMINATOR: u64 = 1 << 48;
 
 /// The bytes of a block if no operand gives them.
 pub(crate) const USUAL_BLOCK: u64 = 4096;

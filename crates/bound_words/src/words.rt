@@ -1,90 +1,26 @@
 //! The words of the command line.
 ghost use Rattle.std.specs.Prelude.{◌≡◌, ◌≤◌, [], map, slice_get, string_bytes, IfOk};
 ghost use Rattle.std.specs.Option.{option_copied};
-ghost use Rattle.bound_words.specs.Settings.{IsPlanInRange};
+ghost use Rattle.bound_words.specs.Faults.{passed};
+ghost use Rattle.bound_words.specs.Plans.{IsPlanInRange};
 ghost use Rattle.bound_words.specs.Commands.{operands_of, places_of};
 ghost use Rattle.bound_words.specs.Words.{HasNeeded, beside_fault, block_fault, command_asked, command_of, command_with};
 ghost use Rattle.bound_words.specs.Words.{count_fault, earlier, has_no_writes, operand_fault, operands_fault};
-ghost use Rattle.bound_words.specs.Words.{passed, path, paths, plan, plan_of_operands, unknown_operand, window_fault};
+ghost use Rattle.bound_words.specs.Words.{path, paths, plan, plan_of_operands, unknown_operand, window_fault};
 
 use crate::commands::{Command, command_named, has_operand};
+use crate::making::plan_of_command;
 use crate::named::{has_equals, name_of, place_given, value_given, value_of};
 use crate::operands::{reads_given, takes_value};
-use crate::plans::plan_of_command;
-use crate::values::is;
-use bound_terms::{Mode, WordKind};
-use cache_rules::Objective;
-use policy_model::PolicyName;
-use relaxation::DenominatorChoice;
-use trace_any::Format;
+use crate::plans::Plan;
+use crate::values::{USUAL_BLOCK, format_of, is};
+use bound_terms::WordKind;
 
 /// The first word that is refused. Places count from 1, the command being at place 1.
 #[derive(Clone, Copy, Debug, PartialEq, Eq)]
 pub struct WordFault {
     pub place: u64,
     pub kind: WordKind,
-}
-
-/// What the words ask for.
-#[derive(Clone, Copy, Debug, PartialEq, Eq)]
-pub enum Plan {
-    /// Bounds on the best score from request `warmup` on, at a capacity in bytes, and their certificate.
-    Bounds {
-        format: Format,
-        capacity: u64,
-        objective: Objective,
-        mode: Mode,
-        denominator: DenominatorChoice,
-        warmup: u32,
-        version: u8,
-    },
-    /// Whether a certificate is valid for a trace of this form.
-    Check {
-        format: Format,
-    },
-    /// The hits of a policy on a trace of this form, at a capacity in bytes, from request `warmup` on.
-    Replay {
-        format: Format,
-        capacity: u64,
-        policy: PolicyName,
-        warmup: u32,
-    },
-    /// LRU's hits at every number of slots on a trace of this form.
-    Curve {
-        format: Format,
-    },
-    /// LRU's hits on a trace of this form, and bounds over the denominator, from request `warmup` on, at each of the
-    /// capacities that `capacities_given` reads.
-    CapacityCurve {
-        format: Format,
-        objective: Objective,
-        denominator: u64,
-        warmup: u32,
-    },
-    /// Whether hits that are claimed on a trace of this form are possible at a capacity in bytes, counted from request
-    /// `warmup` on.
-    Judge {
-        format: Format,
-        capacity: u64,
-        warmup: u32,
-    },
-    /// Bounds, their check and replays, at a capacity in bytes, on a trace that is drawn from a seed.
-    Demo {
-        seed: u64,
-        requests: u32,
-        objects: u32,
-        capacity: u64,
-        objective: Objective,
-        mode: Mode,
-        denominator: DenominatorChoice,
-    },
-    /// A certificate in the second version of its text.
-    Upgrade,
-    /// A certificate for a trace of this form with prices that are settled in blocks of this number of steps.
-    Refine {
-        format: Format,
-        width: u32,
-    },
 }
 
 pub(crate) fn refuse<T: Drop>(place: u64, kind: WordKind) -> Result<T, WordFault>
@@ -167,7 +103,8 @@ fn check_paths(command: Command, words: &[String]) -> Result<(), WordFault>
     Ok(())
 }
 
-pub(crate) fn operands_of(command: Command, words: &[String]) -> &[String]
+/// The words behind a command and its paths.
+pub fn operands_of(command: Command, words: &[String]) -> &[String]
     ensures { map string_bytes result.now ≡ operands_of command (map string_bytes words.now) }
 {
     words.get(command.operands_at()..).unwrap_or(&[])
@@ -210,12 +147,15 @@ fn block_fault(first: u64, operands: &[String]) -> Option<WordFault>
     }
 }
 
-// Whether a form of the trace is given that has no writes.
+// Whether a form of the trace is given that has no marks if only reads count.
 fn has_no_writes(format: Option<&str>) -> bool
     ensures { result ≡ has_no_writes (option_copied format.entry) }
 {
     match format {
-        Some(format) => !(is(format, "webcache") || is(format, "msr")),
+        Some(format) => match format_of(format, USUAL_BLOCK, true) {
+            Some(form) => !form.is_marked(),
+            None => true,
+        },
         None => false,
     }
 }
@@ -272,12 +212,12 @@ pub(crate) fn passed(fault: Option<WordFault>) -> Result<(), WordFault>
 }
 
 // What the operands of a command ask for, or the first fault in them.
-fn plan_of_operands(
+fn plan_of_operands<'a>(
     command: Command,
     first: u64,
     words: &[String],
-    operands: &[String],
-) -> Result<Plan, WordFault>
+    operands: &'a [String],
+) -> Result<Plan<'a>, WordFault>
     requires { first ≤ 10 }
     ensures plan { result ≡ plan_of_operands command first (map string_bytes words.now) (map string_bytes operands.now) }
     ensures range { IfOk result IsPlanInRange }
@@ -289,7 +229,7 @@ fn plan_of_operands(
 
 /// What the words ask for, or the first fault in them. The words are those after the program's name.
 #[tactic(auto, unfolding(crate::specs::Words::plan))]
-pub fn plan_of(words: &[String]) -> Result<Plan, WordFault>
+pub fn plan_of(words: &[String]) -> Result<Plan<'_>, WordFault>
     ensures plan { result ≡ plan (map string_bytes words.now) }
     ensures range { IfOk result IsPlanInRange }
     ensures needed { IfOk result (λ plan. HasNeeded (map string_bytes words.now)) }

@@ -1,5 +1,4 @@
 //! How a command is called, beside the names of its operands.
-use bound_advice::usage_of;
 use bound_words::Command;
 use compared::same;
 use std::process::Abort;
@@ -48,7 +47,7 @@ fn fullest(command: Command) -> Command {
 fn the_usage_of_a_command_states_its_operands_in_their_order(rt: HostRuntime) {
     for command in Command::ALL {
         let mut to_come = fullest(command).operands().iter();
-        for line in usage_of(command.word()) {
+        for line in command.usage() {
             take_stated(&rt, command, line, &mut to_come);
         }
         same(command.word(), to_come.next(), None).expect(&rt, "an operand more");

@@ -3,7 +3,7 @@ use bound_report::PolicyName;
 use bound_run::{Paths, Plan, WordFault, paths_of, plan_of};
 use bound_terms::{Mode, Window, WordKind};
 use cache_rules::Objective;
-use compared::{holds, same};
+use compared::holds;
 use plans::TAKEN;
 use refusals::{REFUSED, REFUSED_REFINEMENTS};
 use relaxation::DenominatorChoice;
@@ -15,9 +15,9 @@ use whole_runs::words_of;
 mod plans;
 mod refusals;
 
-fn check_plan(rt: &impl Abort, alloc: Global, text: &str, wanted: Result<Plan, WordFault>) {
+fn check_plan(rt: &impl Abort, alloc: Global, text: &str, wanted: Result<Plan<'_>, WordFault>) {
     let words = words_of(alloc, text).expect(rt, "memory");
-    same(text, plan_of(&words), wanted).expect(rt, "a row");
+    holds(text, plan_of(&words) == wanted).expect(rt, "a row");
 }
 
 #[test]
@@ -58,7 +58,7 @@ const OPERANDS: [&str; 4] = [
     "mode=infinite",
 ];
 
-const ASKED: Plan = Plan::Bounds {
+const ASKED: Plan<'static> = Plan::Bounds {
     format: Format::Webcache,
     capacity: 10,
     objective: Objective::Bytes,
@@ -290,7 +290,7 @@ const DEMOS: [(&str, u64, u32, u32, u64); 5] = [
     ),
 ];
 
-const DEMO: Plan = Plan::Demo {
+const DEMO: Plan<'static> = Plan::Demo {
     seed: 1,
     requests: 2000,
     objects: 200,
@@ -365,6 +365,6 @@ fn one_empty_word_is_no_command(rt: HostRuntime) {
         place: 1,
         kind: WordKind::Unknown,
     };
-    same("its plan", plan_of(&words), Err(fault)).expect(&rt, "a row");
+    holds("its plan", plan_of(&words) == Err(fault)).expect(&rt, "a row");
     holds("its paths", paths_of(&words) == NO_PATHS).expect(&rt, "a row");
 }

@@ -17,7 +17,7 @@ pub(super) struct Bounds<'a> {
 }
 
 impl Bounds<'_> {
-    pub(super) fn plan(&self) -> Plan {
+    pub(super) fn plan(&self) -> Plan<'static> {
         Plan::Bounds {
             format: self.format,
             capacity: self.capacity,

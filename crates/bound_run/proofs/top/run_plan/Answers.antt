@@ -35,28 +35,28 @@ pub returns-in-Err-clause-none_failed : goal.returns-in-Err-clause-none_failed
 returns-in-Err-clause-none_failed g c = λ is. absurd (c.refuse.ensures.never_done is)
 
 pub returns-in-Bounds-clause-none_failed : goal.returns-in-Bounds-clause-none_failed
-returns-in-Bounds-clause-none_failed g c = λ is. let h = c.run_bounds.ensures.none_failed is in record { trace = h.0; cert = refl; report = h.1; made = h.2 }
+returns-in-Bounds-clause-none_failed g c = λ is. let h = c.run_bounds.ensures.none_failed is in record { trace = h.0; beside = refl; report = h.1; made = h.2 }
 
 pub returns-in-Check-clause-none_failed : goal.returns-in-Check-clause-none_failed
-returns-in-Check-clause-none_failed g c = λ is. let h = c.run_check.ensures.none_failed is in record { trace = h.0; cert = h.1; report = h.2; made = refl }
+returns-in-Check-clause-none_failed g c = λ is. let h = c.run_check.ensures.none_failed is in record { trace = h.0; beside = h.1; report = h.2; made = refl }
 
 pub returns-in-Replay-clause-none_failed : goal.returns-in-Replay-clause-none_failed
-returns-in-Replay-clause-none_failed g c = λ is. let h = c.run_replay.ensures.none_failed is in record { trace = h.0; cert = refl; report = h.1; made = refl }
+returns-in-Replay-clause-none_failed g c = λ is. let h = c.run_replay.ensures.none_failed is in record { trace = h.0; beside = refl; report = h.1; made = refl }
 
 pub returns-in-Curve-clause-none_failed : goal.returns-in-Curve-clause-none_failed
-returns-in-Curve-clause-none_failed g c = λ is. let h = c.run_curve.ensures.none_failed is in record { trace = h.0; cert = refl; report = h.1; made = refl }
+returns-in-Curve-clause-none_failed g c = λ is. let h = c.run_curve.ensures.none_failed is in record { trace = h.0; beside = refl; report = h.1; made = refl }
 
 pub returns-in-CapacityCurve-clause-none_failed : goal.returns-in-CapacityCurve-clause-none_failed
-returns-in-CapacityCurve-clause-none_failed g c = λ is. let h = c.run_capacity_curve.ensures.none_failed is in record { trace = h.0; cert = refl; report = h.1; made = refl }
+returns-in-CapacityCurve-clause-none_failed g c = λ is. let h = c.run_capacity_curve.ensures.none_failed is in record { trace = h.0; beside = refl; report = h.1; made = refl }
 
 pub returns-in-Judge-clause-none_failed : goal.returns-in-Judge-clause-none_failed
-returns-in-Judge-clause-none_failed g c = λ is. let h = c.run_judge.ensures.none_failed is in record { trace = h.0; cert = h.1; report = h.2; made = refl }
+returns-in-Judge-clause-none_failed g c = λ is. let h = c.run_judge.ensures.none_failed is in record { trace = h.0; beside = h.1; report = h.2; made = refl }
 
 pub returns-in-Demo-clause-none_failed : goal.returns-in-Demo-clause-none_failed
-returns-in-Demo-clause-none_failed g c = λ is. let h = c.run_demo.ensures.none_failed is in record { trace = refl; cert = refl; report = h; made = refl }
+returns-in-Demo-clause-none_failed g c = λ is. let h = c.run_demo.ensures.none_failed is in record { trace = refl; beside = refl; report = h; made = refl }
 
 pub returns-in-Upgrade-clause-none_failed : goal.returns-in-Upgrade-clause-none_failed
-returns-in-Upgrade-clause-none_failed g c = λ is. let h = c.run_upgrade.ensures.none_failed is in record { trace = refl; cert = h.0; report = h.1; made = h.2 }
+returns-in-Upgrade-clause-none_failed g c = λ is. let h = c.run_upgrade.ensures.none_failed is in record { trace = refl; beside = h.0; report = h.1; made = h.2 }
 
 pub returns-in-Refine-clause-none_failed : goal.returns-in-Refine-clause-none_failed
-returns-in-Refine-clause-none_failed g c = λ is. let h = c.run_refine.ensures.none_failed is in record { trace = h.0; cert = h.1; report = h.2; made = h.3 }
+returns-in-Refine-clause-none_failed g c = λ is. let h = c.run_refine.ensures.none_failed is in record { trace = h.0; beside = h.1; report = h.2; made = h.3 }

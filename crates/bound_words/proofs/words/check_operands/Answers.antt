@@ -1,5 +1,6 @@
 use Rattle.std.proofs.Common.{◌≡◌, ◌∙◌, ap, arith, sym, ◌+◌, map, take, string_bytes, Err}
-use Rattle.bound_words.specs.Words.{fault, operand_fault, passed}
+use Rattle.bound_words.specs.Faults.{fault, passed}
+use Rattle.bound_words.specs.Words.{operand_fault}
 use Rattle.bound_words.proofs.GivenByName.{stops_here, goes_on}
 use Rattle.bound_words.proofs.words.check_operands.Goals as goal
 

@@ -16,7 +16,7 @@ yields_rest {steps = steps} {v = v} {ys = ys} all n is count yields =
 
 pub returns : goal.returns
 returns c =
-    find_from_yields_List (is_refused c.args.form.now c.args.reads) _ _ c.find.result c.find.ensures.ran
+    find_from_yields_List (is_refused c.args.format) _ _ c.find.result c.find.ensures.ran
     (yields_rest _ _ c.skip-lines.ensures.source (c.skip-lines.ensures.count ∙ c.first_whole.ensures)
     (YieldsList-from_slice_split _ (λ byte. byte == 10) c.args.self.now.bytes.items (c.split-lines.ensures.rest ∙ c.as_slice.ensures.value) c.split-lines.ensures.done c.split-lines.ensures.closure (λ x b q k. search (rules, tests))))
     (λ x b q k. search rules)

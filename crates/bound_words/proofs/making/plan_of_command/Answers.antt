@@ -1,5 +1,5 @@
 use Rattle.std.proofs.lemmas.List.{length-map}
-use Rattle.bound_words.proofs.plans.plan_of_command.Goals as goal
+use Rattle.bound_words.proofs.making.plan_of_command.Goals as goal
 
 pub returns-in-Curve-clause-plan : goal.returns-in-Curve-clause-plan
 returns-in-Curve-clause-plan c = rw (c.in-Curve.is, length-map) c.curve_plan.ensures.plan

@@ -1,9 +1,0 @@
-use Rattle.policy_model.specs.declared.names.PolicyName.TheVariants.{Lfu}
-use Rattle.bound_run.proofs.Replayed.{replayed}
-use Rattle.bound_run.proofs.replays.replay_lfu.Goals as goal
-
-pub returns : goal.returns
-returns c =
-    rw (← c.r.view_is)
-    (replayed Lfu _ c.objects.result _ c.args.trace.now c.bounded_replay.result c.in_ok-policy.policy c.in_ok-policy.ensures.nothing
-    c.bounded_replay.ensures.scores c.bounded_replay.ensures.run)
