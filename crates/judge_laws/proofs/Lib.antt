@@ -1,4 +1,4 @@
-mod Flagged
+pub mod Flagged
 pub mod Possible
 pub mod Claimed
 mod Rows

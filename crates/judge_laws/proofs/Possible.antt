@@ -59,7 +59,7 @@ Contains-from_holds xs x h = at (Any-from_list_any (same_object x) xs h)
         let here : y ≡ x = sym (same_object-true x y same) in
         subst (Contains xs) here (k, low, e)
 
-holds-from_Contains : (xs : List Object) (x : Object) → Contains xs x → holds xs x ≡ true
+pub holds-from_Contains : (xs : List Object) (x : Object) → Contains xs x → holds xs x ≡ true
 holds-from_Contains xs x (i, within, e) = list_any_at (same_object x) xs i x within (ap (same_object x) e ∙ same_object-refl x)
 
 asked : (r x : Object) → Some r ≡ Some x → r ≡ x
@@ -101,7 +101,7 @@ module _ (c : ℕ) (trace : List Object) (flags : List Bool) (contents : List (L
       nothing (k, low, e) = absurd (omega arith)
 
   -- the object of a flagged interval that covers step t is held after request t
-  flagged_held : (t a : ℕ) → t < length trace → a < t + 1 → is_held trace (flag_keeps c trace flags) (t + 1) a ≡ true → holds (before_request contents (t + 1)) (request_at trace a) ≡ true
+  pub flagged_held : (t a : ℕ) → t < length trace → a < t + 1 → is_held trace (flag_keeps c trace flags) (t + 1) a ≡ true → holds (before_request contents (t + 1)) (request_at trace a) ≡ true
   flagged_held t a within low held =
       let parts : (is_kept (flag_keeps c trace flags) a ≡ true) × (is_latest trace (t + 1) a ≡ true) = and_parts _ _ held in
       over parts.1 (kept_end c trace flags a (omega arith) parts.0)

@@ -1,0 +1,133 @@
+-- Contents write what the requests that flags keep must write, or more.
+use Rattle.std.proofs.Common.{◌≡◌, ℕ, zero, suc, ◌+◌, ◌<◌, ◌≤◌, ⊎_elim, ◌∙◌, sym, refl, ap, Bool, true, false, not, ◌&&◌, ◌||◌, cond, nat_le, List, [], length, arith, sum_by}
+use Rattle.std.specs.List.{range_with_len}
+use Rattle.std.proofs.lemmas.Bool.{cases_Bool, both_ways, and_from}
+use Rattle.std.proofs.lemmas.List.FromFn.{get_or-map-range_with_len}
+use Rattle.std.proofs.lemmas.List.Sums.{sum_by-cons}
+use Rattle.cache_model.specs.declared.objects.Object.{Object}
+use Rattle.cache_model.specs.Claim.{holds, before_request, only_fills, request_at, is_kept, held_before, contents_of}
+use Rattle.cache_model.specs.Objects.{IsFirst, IsNext, is_first}
+use Rattle.cache_model.proofs.Duality.{same_object-true}
+use Rattle.cache_model.proofs.Streams.{sum_by-range_agree}
+use Rattle.cache_model.proofs.DifferentObjects.{is_first-yes}
+use Rattle.cache_model.proofs.Scores.{first_or_next, holds-first, holds-next, allowed-from_loads}
+use Rattle.judge_laws.specs.Flags.{is_flagged, IsPossible, HitsFlagged}
+use Rattle.judge_laws.proofs.Flagged.{flag_keeps, is_kept-next, kept_end, held-flagged}
+use Rattle.judge_laws.proofs.Possible.{allowed_is_possible, flagged_held}
+use Rattle.write_laws.specs.Claims.{HitsExactly, least_written}
+use Rattle.write_laws.specs.Written.{writes, written_bytes}
+use Rattle.write_laws.specs.Laws.{WriteNoFewer, WriteJust}
+use Rattle.write_laws.proofs.Kept.{is_latest-own, holds-own, own, least_written-kept}
+
+-- ---- no fewer
+-- a sum over a range is no more than another if no term is
+sum_by-range_le : (f g : ℕ → ℕ) (a n : ℕ) → ((k : ℕ) → a ≤ k → k < a + n → f k ≤ g k) → sum_by f (range_with_len a n) ≤ sum_by g (range_with_len a n)
+sum_by-range_le f g a zero below = omega arith
+sum_by-range_le f g a (suc n) below =
+    omega (
+      arith,
+      sum_by-cons f a (range_with_len (a + 1) n),
+      sum_by-cons g a (range_with_len (a + 1) n),
+      below a (omega arith) (omega arith),
+      sum_by-range_le f g (a + 1) n (λ k low high. below k (omega arith) (omega arith)),
+    )
+
+-- a request that is kept adds no more than one whose object is held after it
+kept_writes : (past kept held unclaimed : Bool) (n : ℕ) → (kept ≡ true → held ≡ true) → cond (past && (kept && unclaimed)) n 0 ≤ cond (past && (held && unclaimed)) n 0
+kept_writes false kept held unclaimed n then_held = omega arith
+kept_writes true false held unclaimed n then_held = omega arith
+kept_writes true true held unclaimed n then_held =
+    let same : cond (held && unclaimed) n 0 ≡ cond unclaimed n 0 = ap (λ s. cond (s && unclaimed) n 0) (then_held refl) in omega arith
+
+pub claimed_hits_write_no_fewer : WriteNoFewer
+claimed_hits_write_no_fewer c warmup fills trace flags contents allowed hits =
+    let written : ℕ → ℕ = λ t. cond (nat_le warmup t && writes fills trace contents t) (request_at trace t).size 0 in
+    omega (
+      arith,
+      least_written-kept c warmup fills trace flags (allowed_is_possible c trace flags contents allowed flagged_hit),
+      sum_by-range_le (own c warmup fills trace flags) written 0 (length trace) (λ t low high. each t (omega arith)),
+    )
+  where
+    flagged_hit : HitsFlagged trace contents flags
+    flagged_hit t within flagged = hits t within ∙ flagged
+
+    each : (t : ℕ) → t < length trace → own c warmup fills trace flags t ≤ cond (nat_le warmup t && writes fills trace contents t) (request_at trace t).size 0
+    each t within =
+        let held : Bool = holds (before_request contents (t + 1)) (request_at trace t) in
+        let kept : Bool = is_kept (flag_keeps c trace flags) t in
+        let was : cond (nat_le warmup t && (held && (only_fills fills t || not (holds (before_request contents t) (request_at trace t))))) (request_at trace t).size 0
+        ≡ cond (nat_le warmup t && (held && (only_fills fills t || not (is_flagged flags t)))) (request_at trace t).size 0 =
+        ap (λ s. cond (nat_le warmup t && (held && (only_fills fills t || not s))) (request_at trace t).size 0) (hits t within) in
+        let more : own c warmup fills trace flags t ≤ cond (nat_le warmup t && (held && (only_fills fills t || not (is_flagged flags t)))) (request_at trace t).size 0 =
+        kept_writes (nat_le warmup t) kept held (only_fills fills t || not (is_flagged flags t)) (request_at trace t).size
+        (λ is. flagged_held c trace flags contents allowed flagged_hit t t within (omega arith) (and_from _ _ is (is_latest-own trace t within))) in
+        omega (arith, was, more)
+
+-- ---- just these
+module _ (c : ℕ) (trace : List Object) (flags : List Bool) (possible : IsPossible c trace flags) where
+  abbrev keeps : List Bool
+  keeps = flag_keeps c trace flags
+
+  -- the contents of these keeps before a request
+  before : (t : ℕ) → t ≤ length trace → before_request (contents_of trace keeps) t ≡ held_before trace keeps t
+  before t within = get_or-map-range_with_len (held_before trace keeps) 0 (length trace + 1) t t [] (omega arith) (omega arith)
+
+  -- a request is kept exactly if the next one of its object is flagged, also if the object is too large
+  kept-next : (a b : ℕ) → IsNext trace a b → is_kept keeps a ≡ is_flagged flags b
+  kept-next a b next =
+      ⊎_elim
+      (λ (flagged : is_flagged flags b ≡ true). is_kept-next c trace flags a b next (fits b next flagged))
+      (λ (no : is_flagged flags b ≡ false).
+      ⊎_elim
+      (λ (kept : is_kept keeps a ≡ true).
+      let end : (d : ℕ) × IsNext trace a d × (is_flagged flags d ≡ true) = kept_end c trace flags a (omega (arith, next.before, next.within)) kept in
+      is_kept-next c trace flags a b next (fits end.0 end.1 end.2))
+      (λ (bypassed : is_kept keeps a ≡ false). bypassed ∙ sym no)
+      (cases_Bool (is_kept keeps a)))
+      (cases_Bool (is_flagged flags b))
+    where
+      fits : (d : ℕ) → IsNext trace a d → is_flagged flags d ≡ true → (request_at trace a).size ≤ c
+      fits d n flagged =
+          let same : request_at trace a ≡ request_at trace d = same_object-true (request_at trace a) (request_at trace d) n.same in
+          omega (arith, ap (λ (x : Object). x.size) same, possible.fits d n.within flagged)
+
+  -- the first request of an object is not flagged
+  first_unflagged : (t : ℕ) → t < length trace → IsFirst trace t → is_flagged flags t ≡ false
+  first_unflagged t within first =
+      ⊎_elim
+      (λ (flagged : is_flagged flags t ≡ true). absurd (both_ways (is_first trace t) (possible.asked_before t within flagged) (is_first-yes trace t (omega arith) first)))
+      (λ (no : is_flagged flags t ≡ false). no)
+      (cases_Bool (is_flagged flags t))
+
+  -- the contents of these keeps hit exactly at the flagged requests
+  exactly : HitsExactly trace (contents_of trace keeps) flags
+  exactly t within =
+      ap (λ held. holds held (request_at trace t)) (before t (omega arith))
+      ∙ ⊎_elim
+      (λ (first : IsFirst trace t). holds-first trace t within keeps first ∙ sym (first_unflagged t within first))
+      (λ (found : (a : ℕ) × IsNext trace a t). holds-next trace t within keeps found.0 found.1 ∙ kept-next found.0 t found.1)
+      (first_or_next trace t within)
+
+  -- and they write what these must
+  just : (warmup : ℕ) (fills : List Bool) → written_bytes warmup fills trace (contents_of trace keeps) ≡ least_written c warmup fills trace flags
+  just warmup fills =
+      sum_by-range_agree (λ t. cond (nat_le warmup t && writes fills trace (contents_of trace keeps) t) (request_at trace t).size 0) (own c warmup fills trace flags) 0 (length trace)
+      (λ t low high. each t (omega arith))
+      ∙ sym (least_written-kept c warmup fills trace flags possible)
+    where
+      each : (t : ℕ) → t < length trace
+          → cond (nat_le warmup t && writes fills trace (contents_of trace keeps) t) (request_at trace t).size 0 ≡ own c warmup fills trace flags t
+      each t within =
+          let after : holds (before_request (contents_of trace keeps) (t + 1)) (request_at trace t) ≡ is_kept keeps t
+          = ap (λ held. holds held (request_at trace t)) (before (t + 1) (omega arith)) ∙ holds-own trace keeps t within in
+          ap (λ s. cond (nat_le warmup t && (s && (only_fills fills t || not (holds (before_request (contents_of trace keeps) t) (request_at trace t))))) (request_at trace t).size 0) after
+          ∙ ap (λ s. cond (nat_le warmup t && (is_kept keeps t && (only_fills fills t || not s))) (request_at trace t).size 0) (exactly t within)
+
+pub claimed_hits_write_just : WriteJust
+claimed_hits_write_just c warmup fills trace flags possible =
+    let kept : List Bool = flag_keeps c trace flags in (
+      contents_of trace kept,
+      allowed-from_loads trace c kept (λ t within. omega (arith, held-flagged c trace flags t within, possible.within_capacity t within)),
+      exactly c trace flags possible,
+      just c trace flags possible warmup fills,
+    )
