@@ -1,0 +1,2 @@
+mod Laxer
+mod Rows

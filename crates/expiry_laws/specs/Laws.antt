@@ -1,0 +1,38 @@
+-- What is proved of freshness; each law is the contract of a function.
+use Rattle.std.specs.Prelude.{ℕ, ◌*◌, ◌≤◌, Bool, IsTrue, List, None, Some}
+use Rattle.std.specs.declared.option.Option.{Option}
+use Rattle.cache_model.specs.declared.objects.Object.{Object}
+use Rattle.cache_model.specs.declared.objects.Objective.{Objective}
+use Rattle.cache_model.specs.declared.certificates.Header.{Header}
+use Rattle.cache_model.specs.declared.certificates.Record.{Record}
+use Rattle.cache_model.specs.Certificates.{IsValid}
+use Rattle.cache_model.specs.Claim.{IsAllowed, score, terms_from}
+use Rattle.expiry_laws.specs.Stale.{Freshness, stale_marks}
+
+-- what is fresh for one time is fresh for a longer one, and if nothing expires
+abbrev pub IsLonger : Option ℕ → Option ℕ → Type 0
+IsLonger idle None = Unit {0}
+IsLonger None (Some longer) = ⊥
+IsLonger (Some idle) (Some longer) = idle ≤ longer
+
+-- one freshness is laxer than another: objects stay fresh at least as long, and are replaced only if the other replaces them too
+pub record IsLaxer (strict lax : Freshness) : Type 0 where
+  pub idle : IsLonger strict.idle lax.idle
+  pub replace : IsTrue lax.replace → IsTrue strict.replace
+
+-- whatever contents score, they score at least that with a laxer freshness
+abbrev pub LaxerScoresMore : Type 0
+LaxerScoresMore =
+    (strict lax : Freshness) (objective : Objective) (capacity warmup : ℕ) (fills : List Bool) (trace : List Object) (times : List ℕ) (contents : List (List Object))
+    → IsLaxer strict lax
+    → score (terms_from objective capacity warmup (stale_marks strict trace times fills)) trace contents
+    ≤ score (terms_from objective capacity warmup (stale_marks lax trace times fills)) trace contents
+
+-- so a valid certificate of a freshness bounds each stricter one: no allowed contents score more there
+abbrev pub LaxerBounds : Type 0
+LaxerBounds =
+    (strict lax : Freshness) (fills : List Bool) (trace : List Object) (times : List ℕ) (h : Header) (records : List Record) (contents : List (List Object))
+    → IsLaxer strict lax
+    → IsValid trace (stale_marks lax trace times fills) h records
+    → IsAllowed h.capacity trace contents
+    → h.denominator * score (terms_from h.objective h.capacity h.warmup (stale_marks strict trace times fills)) trace contents ≤ h.upper
