@@ -2,8 +2,9 @@
 # names, in any order, among others, in letters of either case: those in BEGIN below. Where they are called otherwise, give
 # their numbers: awk -v time=1 -v key=2 -v size=3 -f key_table.awk; time=0 takes the number of the line as the time. With all
 # three given the heading may be missing. A key is any text without a comma. Blanks around a comma don't count. With -v op=4
-# that column has the operation, for count=reads: a get or a read is a line with r, a delete is left out, and each other
-# operation is one with w, which fills the cache and scores nothing. A get of size 0 missed: it has the last size of its key.
+# that column has the operation, for count=reads: a get or a read is a line with r, a delete is left out and counted, and each
+# other operation is one with w, which fills the cache and scores nothing. A get of size 0 missed: it has the last size of its
+# key.
 function refuse(why) { print "key_table.awk: " why > "/dev/stderr"; exit 1 }
 function is_right() {
     return NF == columns && (!at["time"] || $at["time"] ~ /^[^ \t]+$/) && $at["key"] != "" && $at["size"] ~ /^[0-9]+$/ &&
@@ -28,7 +29,8 @@ function column_of(role, given,  i, found) {
         if (found) refuse("line 1 has two columns of a " role "; give the number of one, as -v " role "=" i)
         found = i
     }
-    if (!found) refuse("line 1 has no column of a " role "; it must be a heading with time, key and size, or give their numbers: -v time=1 -v key=2 -v size=3")
+    if (!found) refuse("line 1 has no column of a " role "; it must be a heading with time, key and size, or give their numbers: " \
+        "-v time=1 -v key=2 -v size=3" (role == "time" ? "; -v time=0 if there is no time" : ""))
     return found
 }
 BEGIN {
@@ -49,10 +51,13 @@ FNR == 1 {
     headings += has_heading
     if (has_heading) next
 }
-FNR == 2 && has_heading && !is_right() { refuse("line 2 must have the columns of line 1, a word as time and a number as size") }
+FNR == 2 && has_heading && !is_right() {
+    refuse("line 2 must have the columns of line 1, " (at["time"] ? "a word as time and " : "") "a number as size" \
+        (at["op"] ? " and a word as operation" : ""))
+}
 is_right() {
     reads = at["op"] && $at["op"] ~ /^([Gg][Ee][Tt][Ss]?|[Rr][Ee][Aa][Dd]|[Gg][Ee][Tt]_[Ll][Ee][Aa][Ss][Ee])$/
-    if (at["op"] && $at["op"] ~ /^[Dd][Ee][Ll]([Ee][Tt][Ee])?$/) next
+    if (at["op"] && $at["op"] ~ /^[Dd][Ee][Ll]([Ee][Tt][Ee])?$/) { deletes++; next }
     word = $at["key"]
     if (!(word in number)) number[word] = ++keys
     bytes = reads && $at["size"] + 0 == 0 && (word in last) ? last[word] : $at["size"]
@@ -60,4 +65,10 @@ is_right() {
     print (at["time"] ? $at["time"] : NR), number[word], bytes (at["op"] ? (reads ? " r" : " w") : "")
     kept++
 }
-END { fflush(); printf "kept %d of %d lines\n", kept, NR - headings > "/dev/stderr"; if (!kept) exit 1 }
+END {
+    fflush()
+    others = NR - headings - kept - deletes
+    if (deletes) print "left out: " deletes " with a delete" (others ? ", " others " of another form" : "") > "/dev/stderr"
+    printf "kept %d of %d lines\n", kept, NR - headings > "/dev/stderr"
+    if (!kept) exit 1
+}
