@@ -58,12 +58,15 @@ fn print_words<R: Print>(rt: &R, words: &[&str]) -> io::Result<()> {
     Ok(())
 }
 
-// The values of a kind that has few.
+// The values of a kind that has few, or between which numbers they are.
 fn print_values<R: Print>(rt: &R, kind: Kind) -> io::Result<()> {
     match kind.values() {
         Values::Words(words) => print_words(rt, words),
         Values::Policy => print_policies(rt),
-        Values::Number { least, most } => print!(rt; "{least} or {most}"),
+        Values::Number { least, most } if most.saturating_sub(least) == 1 => {
+            print!(rt; "{least} or {most}")
+        }
+        Values::Number { least, most } => print!(rt; "{least} to {most}"),
         _ => Ok(()),
     }
 }

@@ -1,6 +1,6 @@
 pub mod Moves
 pub mod Filters
-mod Ranges
+pub mod Ranges
 pub mod Adding
 mod Marks
 pub mod Joining

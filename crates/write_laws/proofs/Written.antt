@@ -1,9 +1,7 @@
 -- Contents write what the requests that flags keep must write, or more.
-use Rattle.std.proofs.Common.{◌≡◌, ℕ, zero, suc, ◌+◌, ◌<◌, ◌≤◌, ⊎_elim, ◌∙◌, sym, refl, ap, Bool, true, false, not, ◌&&◌, ◌||◌, cond, nat_le, List, [], length, arith, sum_by}
-use Rattle.std.specs.List.{range_with_len}
+use Rattle.std.proofs.Common.{◌≡◌, ℕ, ◌+◌, ◌<◌, ◌≤◌, zero-add, ⊎_elim, ◌∙◌, sym, refl, ap, Bool, true, false, not, ◌&&◌, ◌||◌, cond, nat_le, List, [], length, arith}
 use Rattle.std.proofs.lemmas.Bool.{cases_Bool, both_ways, and_from}
 use Rattle.std.proofs.lemmas.List.FromFn.{get_or-map-range_with_len}
-use Rattle.std.proofs.lemmas.List.Sums.{sum_by-cons}
 use Rattle.cache_model.specs.declared.objects.Object.{Object}
 use Rattle.cache_model.specs.Claim.{holds, before_request, only_fills, request_at, is_kept, held_before, contents_of}
 use Rattle.cache_model.specs.Objects.{IsFirst, IsNext, is_first}
@@ -11,6 +9,7 @@ use Rattle.cache_model.proofs.Duality.{same_object-true}
 use Rattle.cache_model.proofs.Streams.{sum_by-range_agree}
 use Rattle.cache_model.proofs.DifferentObjects.{is_first-yes}
 use Rattle.cache_model.proofs.Scores.{first_or_next, holds-first, holds-next, allowed-from_loads}
+use Rattle.part_laws.proofs.Ranges.{sum_by-range_below}
 use Rattle.judge_laws.specs.Flags.{is_flagged, IsPossible, HitsFlagged}
 use Rattle.judge_laws.proofs.Flagged.{flag_keeps, is_kept-next, kept_end, held-flagged}
 use Rattle.judge_laws.proofs.Possible.{allowed_is_possible, flagged_held}
@@ -18,19 +17,6 @@ use Rattle.write_laws.specs.Claims.{HitsExactly, least_written}
 use Rattle.write_laws.specs.Written.{writes, written_bytes}
 use Rattle.write_laws.specs.Laws.{WriteNoFewer, WriteJust}
 use Rattle.write_laws.proofs.Kept.{is_latest-own, holds-own, own, least_written-kept}
-
--- ---- no fewer
--- a sum over a range is no more than another if no term is
-sum_by-range_le : (f g : ℕ → ℕ) (a n : ℕ) → ((k : ℕ) → a ≤ k → k < a + n → f k ≤ g k) → sum_by f (range_with_len a n) ≤ sum_by g (range_with_len a n)
-sum_by-range_le f g a zero below = omega arith
-sum_by-range_le f g a (suc n) below =
-    omega (
-      arith,
-      sum_by-cons f a (range_with_len (a + 1) n),
-      sum_by-cons g a (range_with_len (a + 1) n),
-      below a (omega arith) (omega arith),
-      sum_by-range_le f g (a + 1) n (λ k low high. below k (omega arith) (omega arith)),
-    )
 
 -- a request that is kept adds no more than one whose object is held after it
 kept_writes : (past kept held unclaimed : Bool) (n : ℕ) → (kept ≡ true → held ≡ true) → cond (past && (kept && unclaimed)) n 0 ≤ cond (past && (held && unclaimed)) n 0
@@ -45,7 +31,7 @@ claimed_hits_write_no_fewer c warmup fills trace flags contents allowed hits =
     omega (
       arith,
       least_written-kept c warmup fills trace flags (allowed_is_possible c trace flags contents allowed flagged_hit),
-      sum_by-range_le (own c warmup fills trace flags) written 0 (length trace) (λ t low high. each t (omega arith)),
+      sum_by-range_below (own c warmup fills trace flags) written 0 0 (length trace) (λ t within. rw zero-add (each t within)),
     )
   where
     flagged_hit : HitsFlagged trace contents flags
@@ -63,7 +49,6 @@ claimed_hits_write_no_fewer c warmup fills trace flags contents allowed hits =
         (λ is. flagged_held c trace flags contents allowed flagged_hit t t within (omega arith) (and_from _ _ is (is_latest-own trace t within))) in
         omega (arith, was, more)
 
--- ---- just these
 module _ (c : ℕ) (trace : List Object) (flags : List Bool) (possible : IsPossible c trace flags) where
   abbrev keeps : List Bool
   keeps = flag_keeps c trace flags
