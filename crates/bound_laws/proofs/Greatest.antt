@@ -11,7 +11,8 @@ use Rattle.cache_model.proofs.Duality.{after, earned, same_object-true, without,
 use Rattle.cache_model.proofs.Headline.{valid_bounds}
 use Rattle.cache_model.proofs.Pairs.{same_object-sym}
 use Rattle.cache_model.proofs.Steps.{same_object-from, score-earned}
-use Rattle.part_laws.proofs.Moves.{IsMove, Moves, Contains-from_holds, holds-from_Contains, moves_of_allowed, allowed_of_moves}
+use Rattle.part_laws.proofs.Moves.{IsMove, Moves, Contains-from_holds, moves_of_allowed, allowed_of_moves}
+use Rattle.cache_model.proofs.Steps.{holds-from_Contains}
 use Rattle.part_laws.proofs.Filters.{holds-filter}
 use Rattle.bound_laws.specs.Laws.{GreatestScoreExists, GreatestScoreIsWithin}
 

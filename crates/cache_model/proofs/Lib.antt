@@ -20,3 +20,4 @@ pub mod Units
 pub mod DifferentObjects
 pub mod Unpriced
 pub mod Scores
+pub mod Written

@@ -1,5 +1,5 @@
 -- The sum over all pairs of requests, by recursion on the trace.
-use Rattle.std.proofs.Common.{◌≡◌, ℕ, zero, suc, ◌+◌, ◌-◌, ◌*◌, ◌/◌, ◌<◌, ◌≤◌, ◌∙◌, sym, refl, ap, Bool, true, false, not, ◌&&◌, ◌||◌, cond, nat_lt, nat_le, ltb, List, [], ◌∷◌, length, arith, ⊎_elim, sum, sum_by, filter, map, take, drop, slice_range}
+use Rattle.std.proofs.Common.{◌≡◌, ℕ, suc, ◌+◌, ◌-◌, ◌*◌, ◌/◌, ◌<◌, ◌≤◌, ◌∙◌, sym, refl, ap, Bool, true, false, not, ◌&&◌, ◌||◌, cond, nat_lt, nat_le, ltb, List, [], ◌∷◌, length, arith, ⊎_elim, sum, sum_by, filter, map, take, drop, slice_range}
 use Rattle.std.specs.List.{range_with_len, list_any}
 use Rattle.std.proofs.lemmas.Bool.{cases_lt, lt-ltb, le-ltb, and_left, and_right}
 use Rattle.std.proofs.lemmas.List.Sums.{sum_by-cons}

@@ -1,5 +1,5 @@
 -- What each request adds to the load and to the score of the contents of keeps.
-use Rattle.std.proofs.Common.{◌≡◌, ◌≢◌, ℕ, suc, zero, ◌+◌, ◌<◌, ◌≤◌, ◌∙◌, sym, refl, ap, subst, Bool, true, false, not, ◌&&◌, ◌||◌, cond, nat_le, List, [], ◌∷◌, length, arith, inl, inr, ◌⊎◌, ⊎_elim, Any, Contains, sum_by, zip, drop, map, filter, get_or, slice_range}
+use Rattle.std.proofs.Common.{◌≡◌, ◌≢◌, ℕ, suc, zero, ◌+◌, ◌<◌, ◌≤◌, ◌∙◌, sym, refl, ap, subst, Bool, true, false, not, ◌&&◌, ◌||◌, cond, nat_le, List, [], ◌∷◌, length, arith, inl, inr, ◌⊎◌, ⊎_elim, Any, Contains, sum_by, zip, drop, filter, slice_range}
 use Rattle.std.specs.List.{range_with_len, list_any}
 use Rattle.std.proofs.Math.Dec.{leb-suc-zero, leb-suc-suc}
 use Rattle.std.proofs.lemmas.Bool.{cases_Bool, cases_lt, cases_eq, both_ways, and_parts, and_from, and_right, le-leb}
@@ -63,7 +63,7 @@ module _ (trace : List Object) (t : ℕ) (within : t < length trace) where
       ap not (list_any-range_true (same_object (request_at trace a)) trace no_object (a + 1) j b (omega arith) high end same)
 
   -- a request is the latest of its object right after it
-  is_latest-own : is_latest trace (t + 1) t ≡ true
+  pub is_latest-own : is_latest trace (t + 1) t ≡ true
   is_latest-own =
       ap not (list_any-range_false (same_object (request_at trace t)) trace no_object (t + 1) (t + 1) (omega arith) (λ k low high. absurd (omega arith)))
 
@@ -229,7 +229,7 @@ earned_at terms trace keeps t =
     cond (counts terms t && holds (held_before trace keeps t) (request_at trace t)) (gain_of terms.objective (request_at trace t)) 0
 
 -- the contents of keeps before request t
-before_request-contents_of : (trace : List Object) (keeps : List Bool) (t : ℕ) → t < length trace → before_request (contents_of trace keeps) t ≡ held_before trace keeps t
+pub before_request-contents_of : (trace : List Object) (keeps : List Bool) (t : ℕ) → t ≤ length trace → before_request (contents_of trace keeps) t ≡ held_before trace keeps t
 before_request-contents_of trace keeps t within = get_or-map-range_with_len (held_before trace keeps) 0 (length trace + 1) t t [] (omega arith) (omega arith)
 
 -- the score of the contents of keeps is what each request earns, summed

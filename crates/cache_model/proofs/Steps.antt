@@ -26,7 +26,7 @@ pub weights-le : (u c : ℕ) (xs : List Object) → total_size xs ≤ c → sum_
 weights-le zero c xs h = omega (arith, sum_by-nothing (weight_of 0) xs (λ x. div-zero x.size))
 weights-le (suc u) c xs h = le-div (sum_by (weight_of (suc u)) xs) c (suc u) (omega arith) (omega (arith, weights-mul-le (suc u) xs))
 
-holds-from_Contains : (xs : List Object) (x : Object) → Contains xs x → holds xs x ≡ true
+pub holds-from_Contains : (xs : List Object) (x : Object) → Contains xs x → holds xs x ≡ true
 holds-from_Contains xs x (i, within, e) = list_any_at (same_object x) xs i x within (ap (same_object x) e ∙ same_object-refl x)
 
 counted_if_fits : (o : Objective) (c d : ℕ) (x : Object) → x.size ≤ c → earns_of o d x ≤ counted_of o c d x

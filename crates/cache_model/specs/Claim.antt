@@ -1,5 +1,5 @@
 -- What a bound claims: no contents that the rules allow score more. This page is all that the claim rests on.
-use Rattle.std.specs.Prelude.{nat_le, ◌≡◌, ◌≢◌, ℕ, ◌+◌, ◌*◌, ◌/◌, ◌<◌, ◌≤◌, ◌⊎◌, Bool, false, not, ◌&&◌, ◌==◌, if◌then◌else◌, List, [], length, slice_get, slice_index_or, slice_range, Some, All, AllPairs, Contains, sum_by, zip, map, filter}
+use Rattle.std.specs.Prelude.{nat_le, ◌≡◌, ◌≢◌, ℕ, ◌+◌, ◌*◌, ◌/◌, ◌<◌, ◌≤◌, ◌⊎◌, Bool, false, not, ◌&&◌, ◌==◌, if◌then◌else◌, List, [], length, slice_get, slice_index_or, slice_range, Some, All, AllPairs, Contains, sum_by, map, filter}
 use Rattle.std.specs.List.{list_any, range_with_len}
 use Rattle.cache_model.specs.declared.objects.Object.{Object}
 use Rattle.cache_model.specs.declared.objects.Objective.{Objective}

@@ -4,6 +4,7 @@ pub mod Intervals
 pub mod Units
 pub mod Schedules
 pub mod Keeps
+pub mod Written
 pub mod Rounding
 pub mod Certificates
 pub mod Texts

@@ -8,8 +8,10 @@
 mod builder;
 mod scoring;
 mod trace;
+mod writing;
 
 pub use builder::Builder;
 pub use cache_model::{Object, Objective, Terms};
 pub use scoring::{Overfull, gain, score, score_of_fitting};
 pub use trace::Trace;
+pub use writing::written_bytes;

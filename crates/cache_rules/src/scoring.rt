@@ -24,7 +24,7 @@ pub fn gain(objective: Objective, object: &Object) -> u64
 }
 
 // The object of request `t`.
-fn requested(trace: &Trace, t: u32) -> Object
+pub(crate) fn requested(trace: &Trace, t: u32) -> Object
     requires within { t < length trace.now.objects }
     ensures object { result ≡ request_at trace.now.objects t }
     ensures size { (1 ≤ result.size) × (result.size ≤ 2 ^ 48) }
@@ -33,7 +33,7 @@ fn requested(trace: &Trace, t: u32) -> Object
 }
 
 // Whether the object of request `t` is held before it: the latest keep of an object is that of its request before.
-fn is_hit(trace: &Trace, keeps: &[bool], t: u32) -> bool
+pub(crate) fn is_hit(trace: &Trace, keeps: &[bool], t: u32) -> bool
     requires one_keep_each { length keeps.now ≡ length trace.now.objects }
     requires within { t < length trace.now.objects }
     ensures { result ≡ holds (held_before trace.now.objects keeps.now t) (request_at trace.now.objects t) }

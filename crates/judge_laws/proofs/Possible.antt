@@ -4,15 +4,15 @@ use Rattle.std.specs.Prelude.{IsTrue}
 use Rattle.std.specs.List.{range_with_len}
 use Rattle.std.proofs.lemmas.Bool.{cases_lt, both_ways, and_parts, not-true}
 use Rattle.std.proofs.lemmas.List.Elements.{All-map, recursion_from_All}
-use Rattle.std.proofs.lemmas.List.Folds.{list_any_at, Any-from_list_any}
+use Rattle.std.proofs.lemmas.List.Folds.{Any-from_list_any}
 use Rattle.std.proofs.lemmas.List.FromFn.{get_or-map-range_with_len}
 use Rattle.std.proofs.lemmas.Option.{slice_get-get_or}
 use Rattle.cache_model.specs.declared.objects.Object.{Object}
 use Rattle.cache_model.specs.Claim.{same_object, total_size, holds, before_request, IsAllowed, request_at, no_object, is_kept, is_held, is_latest, held_before, contents_of}
 use Rattle.cache_model.specs.Objects.{IsFirst, IsNext, is_first}
-use Rattle.cache_model.proofs.Duality.{same_object-true, same_object-refl, sum_by-subset}
+use Rattle.cache_model.proofs.Duality.{same_object-true, sum_by-subset}
 use Rattle.cache_model.proofs.Pairs.{same_object-sym}
-use Rattle.cache_model.proofs.Steps.{same_object-from}
+use Rattle.cache_model.proofs.Steps.{same_object-from, holds-from_Contains}
 use Rattle.cache_model.proofs.Eligible.{list_any-range_true}
 use Rattle.cache_model.proofs.Keeps.{All-filter_range, held-distinct}
 use Rattle.cache_model.proofs.DifferentObjects.{is_first-yes, is_first-no}
@@ -58,9 +58,6 @@ Contains-from_holds xs x h = at (Any-from_list_any (same_object x) xs h)
     at (k, y, low, e, same) =
         let here : y ≡ x = sym (same_object-true x y same) in
         subst (Contains xs) here (k, low, e)
-
-pub holds-from_Contains : (xs : List Object) (x : Object) → Contains xs x → holds xs x ≡ true
-holds-from_Contains xs x (i, within, e) = list_any_at (same_object x) xs i x within (ap (same_object x) e ∙ same_object-refl x)
 
 asked : (r x : Object) → Some r ≡ Some x → r ≡ x
 asked r x e = cc

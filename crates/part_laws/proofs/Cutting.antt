@@ -9,7 +9,8 @@ use Rattle.cache_model.specs.declared.objects.Objective.{Objective}
 use Rattle.cache_model.specs.Claim.{same_object, gain_of, total_size, holds, before_request, request_at, no_object, only_fills, IsAllowed}
 use Rattle.cache_model.proofs.Duality.{same_object-true, same_object-refl}
 use Rattle.part_laws.specs.Laws.{earned_at, IsPrelude, CutIsBounded}
-use Rattle.part_laws.proofs.Moves.{IsMove, Moves, holds-from_Contains, Contains-from_holds, moves_of_allowed, allowed_of_moves}
+use Rattle.part_laws.proofs.Moves.{IsMove, Moves, Contains-from_holds, moves_of_allowed, allowed_of_moves}
+use Rattle.cache_model.proofs.Steps.{holds-from_Contains}
 use Rattle.part_laws.proofs.Ranges.{sum_by-range_below}
 use Rattle.part_laws.proofs.Adding.{adds, scores_add_up}
 use Rattle.part_laws.proofs.Filters.{holds-filter, held_and_passed, total_size-filter}

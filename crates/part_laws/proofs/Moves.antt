@@ -1,11 +1,12 @@
 -- Allowed contents, move by move.
 use Rattle.std.proofs.Common.{◌≡◌, ◌≢◌, ℕ, zero, suc, ◌+◌, ◌<◌, ◌≤◌, ◌⊎◌, inl, inr, ⊎_elim, ◌∙◌, sym, refl, ap, subst, true, List, [], ◌∷◌, length, arith, Some, slice_get, All, AllPairs, Contains}
 use Rattle.std.specs.List.{Any}
-use Rattle.std.proofs.lemmas.List.Folds.{list_any_at, Any-from_list_any}
+use Rattle.std.proofs.lemmas.List.Folds.{Any-from_list_any}
 use Rattle.std.proofs.lemmas.List.Elements.{All-head, All-tail, All-cons, All-nil}
 use Rattle.cache_model.specs.declared.objects.Object.{Object}
 use Rattle.cache_model.specs.Claim.{same_object, total_size, holds, before_request, IsAllowed}
-use Rattle.cache_model.proofs.Duality.{same_object-true, same_object-refl}
+use Rattle.cache_model.proofs.Duality.{same_object-true}
+use Rattle.cache_model.proofs.Steps.{holds-from_Contains}
 
 -- one request: nothing comes in but its object, and what is held fits
 pub record IsMove (c : ℕ) (held : List Object) (r : Object) (next : List Object) : Type 0 where
@@ -19,9 +20,6 @@ Moves c held [] [] = Unit {0}
 Moves c held [] (next ∷ nexts) = ⊥
 Moves c held (r ∷ later) [] = ⊥
 Moves c held (r ∷ later) (next ∷ nexts) = IsMove c held r next × Moves c next later nexts
-
-pub holds-from_Contains : (xs : List Object) (x : Object) → Contains xs x → holds xs x ≡ true
-holds-from_Contains xs x (i, within, e) = list_any_at (same_object x) xs i x within (ap (same_object x) e ∙ same_object-refl x)
 
 pub Contains-from_holds : (xs : List Object) (x : Object) → holds xs x ≡ true → Contains xs x
 Contains-from_holds xs x h = at (Any-from_list_any (same_object x) xs h)

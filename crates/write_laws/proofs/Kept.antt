@@ -1,65 +1,53 @@
--- The least written bytes of possible flags, as a sum over the requests that are kept.
-use Rattle.std.proofs.Common.{◌≡◌, ◌≢◌, ℕ, ◌+◌, ◌<◌, ◌≤◌, ⊎_elim, ◌∙◌, sym, refl, ap, Bool, true, false, not, ◌&&◌, ◌||◌, cond, nat_le, List, [], ◌∷◌, length, arith, filter, get_or, sum_by}
-use Rattle.std.specs.List.{range_with_len}
-use Rattle.std.proofs.lemmas.Bool.{cases_Bool, cases_eq, both_ways, and_parts, and_from, and_right, not-true, le-leb}
-use Rattle.std.proofs.lemmas.List.Elements.{All-map}
-use Rattle.std.proofs.lemmas.List.Folds.{list_any_none}
+-- Which requests possible flags keep, and their least written bytes as a sum over these.
+use Rattle.std.proofs.Common.{◌≡◌, ℕ, ◌<◌, ◌≤◌, ⊎_elim, ◌∙◌, sym, refl, ap, Bool, true, false, not, ◌&&◌, ◌||◌, cond, nat_le, List, [], ◌∷◌, length, arith, get_or, sum_by}
+use Rattle.std.proofs.lemmas.Bool.{cases_Bool, both_ways, and_from, and_right, le-leb}
 use Rattle.std.proofs.lemmas.List.Sums.{sum_by-cons}
 use Rattle.cache_model.specs.declared.objects.Object.{Object}
 use Rattle.cache_model.specs.declared.objects.Objective.TheVariants.{Object as Hits}
 use Rattle.cache_model.specs.declared.intervals.Interval.{Interval}
-use Rattle.cache_model.specs.Claim.{terms_from, same_object, holds, only_fills, request_at, no_object, is_kept, is_held, is_latest, held_before}
-use Rattle.cache_model.specs.Objects.{IsNext, numbers_of}
+use Rattle.cache_model.specs.Claim.{terms_from, same_object, only_fills, request_at, is_kept}
+use Rattle.cache_model.specs.Objects.{IsLast, IsNext, numbers_of}
 use Rattle.cache_model.specs.Intervals.{interval_of, eligible_from}
 use Rattle.cache_model.specs.Laws.{IsEligible}
 use Rattle.cache_model.proofs.Duality.{same_object-true}
-use Rattle.cache_model.proofs.Pairs.{same_object-sym}
 use Rattle.cache_model.proofs.Sums.{sum_by-flat_map}
 use Rattle.cache_model.proofs.Streams.{sum_by-range_agree}
-use Rattle.cache_model.proofs.Eligible.{eligible_from_one, list_any-range_false, list_any-range_true}
+use Rattle.cache_model.proofs.Eligible.{eligible_from_one}
 use Rattle.cache_model.proofs.Members.{All-eligible_from}
 use Rattle.cache_model.proofs.Rounding.{sum_by-none}
-use Rattle.cache_model.proofs.Keeps.{All-filter_range, Contains-filter_range}
 use Rattle.judge_laws.specs.Flags.{is_flagged, IsPossible}
 use Rattle.judge_laws.proofs.Flagged.{flag_keeps, is_kept-next, kept_end}
-use Rattle.judge_laws.proofs.Possible.{holds-from_Contains}
 use Rattle.write_laws.specs.Claims.{must_write, least_written}
 
--- right after a request it is the latest of its object
-pub is_latest-own : (trace : List Object) (t : ℕ) → t < length trace → is_latest trace (t + 1) t ≡ true
-is_latest-own trace t within =
-    ap not (list_any-range_false (same_object (request_at trace t)) trace no_object (t + 1) (t + 1) (omega arith) (λ k low high. absurd (omega arith)))
+module _ (c : ℕ) (trace : List Object) (flags : List Bool) where
+  -- a request is kept exactly if the next one of its object is flagged, also if the object is too large
+  pub kept-next : IsPossible c trace flags → (a b : ℕ) → IsNext trace a b → is_kept (flag_keeps c trace flags) a ≡ is_flagged flags b
+  kept-next possible a b next =
+      ⊎_elim
+      (λ (flagged : is_flagged flags b ≡ true). is_kept-next c trace flags a b next (fits b next flagged))
+      (λ (no : is_flagged flags b ≡ false).
+      ⊎_elim
+      (λ (kept : is_kept (flag_keeps c trace flags) a ≡ true).
+      let end : (d : ℕ) × IsNext trace a d × (is_flagged flags d ≡ true) = kept_end c trace flags a (omega (arith, next.before, next.within)) kept in
+      is_kept-next c trace flags a b next (fits end.0 end.1 end.2))
+      (λ (bypassed : is_kept (flag_keeps c trace flags) a ≡ false). bypassed ∙ sym no)
+      (cases_Bool (is_kept (flag_keeps c trace flags) a)))
+      (cases_Bool (is_flagged flags b))
+    where
+      fits : (d : ℕ) → IsNext trace a d → is_flagged flags d ≡ true → (request_at trace a).size ≤ c
+      fits d n flagged =
+          let same : request_at trace a ≡ request_at trace d = same_object-true (request_at trace a) (request_at trace d) n.same in
+          omega (arith, ap (λ (x : Object). x.size) same, possible.fits d n.within flagged)
 
--- the contents of keeps have the object of a request right after it exactly if it is kept
-pub holds-own : (trace : List Object) (keeps : List Bool) (t : ℕ) → t < length trace → holds (held_before trace keeps (t + 1)) (request_at trace t) ≡ is_kept keeps t
-holds-own trace keeps t within =
-    ⊎_elim
-    (λ (kept : is_kept keeps t ≡ true).
-    holds-from_Contains (held_before trace keeps (t + 1)) (request_at trace t)
-    (Contains-filter_range (request_at trace) (is_held trace keeps (t + 1)) t 0 (t + 1) (omega arith) (omega arith) (and_from _ _ kept (is_latest-own trace t within)))
-    ∙ sym kept)
-    (λ (bypassed : is_kept keeps t ≡ false). none bypassed ∙ sym bypassed)
-    (cases_Bool (is_kept keeps t))
-  where
-    others : is_kept keeps t ≡ false → (k : ℕ) → k < t + 1 → is_held trace keeps (t + 1) k ≡ true → same_object (request_at trace t) (request_at trace k) ≡ false
-    others bypassed k low held =
-        let parts : (is_kept keeps k ≡ true) × (is_latest trace (t + 1) k ≡ true) = and_parts _ _ held in
-        ⊎_elim
-        (λ (e : k ≡ t). absurd (both_ways (is_kept keeps t) bypassed (ap (is_kept keeps) (sym e) ∙ parts.0)))
-        (λ (ne : k ≢ t).
-        ⊎_elim
-        (λ (same : same_object (request_at trace k) (request_at trace t) ≡ true).
-        absurd (both_ways _ (not-true _ parts.1) (list_any-range_true (same_object (request_at trace k)) trace no_object (k + 1) (t + 1) t (omega arith) (omega arith) (omega arith) same)))
-        (λ (differs : same_object (request_at trace k) (request_at trace t) ≡ false). same_object-sym (request_at trace t) (request_at trace k) ∙ differs)
-        (cases_Bool (same_object (request_at trace k) (request_at trace t))))
-        (cases_eq k t)
-
-    none : is_kept keeps t ≡ false → holds (held_before trace keeps (t + 1)) (request_at trace t) ≡ false
-    none bypassed =
-        let P : Object → Type 0 = λ x. same_object (request_at trace t) x ≡ false in
-        list_any_none (same_object (request_at trace t)) (held_before trace keeps (t + 1))
-        (All-map P (request_at trace) (filter (is_held trace keeps (t + 1)) (range_with_len 0 (t + 1)))
-        (All-filter_range (λ k. P (request_at trace k)) (is_held trace keeps (t + 1)) 0 (t + 1) (λ k low high held. others bypassed k (omega arith) held)))
+  -- the last request of an object is not kept
+  pub kept-last : (a : ℕ) → a < length trace → IsLast trace a → is_kept (flag_keeps c trace flags) a ≡ false
+  kept-last a within last =
+      ⊎_elim
+      (λ (kept : is_kept (flag_keeps c trace flags) a ≡ true).
+      let end : (b : ℕ) × IsNext trace a b × (is_flagged flags b ≡ true) = kept_end c trace flags a within kept in
+      absurd (both_ways (same_object (request_at trace a) (request_at trace end.0)) (last end.0 end.1.before end.1.within) end.1.same))
+      (λ (bypassed : is_kept (flag_keeps c trace flags) a ≡ false). bypassed)
+      (cases_Bool (is_kept (flag_keeps c trace flags) a))
 
 module _ (c warmup : ℕ) (fills : List Bool) (trace : List Object) (flags : List Bool) where
   -- what an interval adds to the least written bytes

@@ -1,3 +1,3 @@
-mod Kept
-mod Written
+pub mod Kept
+pub mod Written
 mod Rows

@@ -4,7 +4,7 @@ use Rattle.cache_model.specs.declared.objects.Object.{Object}
 use Rattle.cache_model.specs.Claim.{before_request, holds, request_at}
 use Rattle.cache_model.specs.Objects.{numbers_of}
 use Rattle.write_laws.specs.Claims.{least_written}
-use Rattle.write_laws.specs.Written.{writes, written_bytes}
+use Rattle.cache_model.specs.Written.{writes, written_bytes}
 
 -- objects of 2 bytes and of 1
 abbrev large : Object

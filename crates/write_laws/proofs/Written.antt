@@ -5,49 +5,46 @@ use Rattle.std.proofs.lemmas.List.FromFn.{get_or-map-range_with_len}
 use Rattle.cache_model.specs.declared.objects.Object.{Object}
 use Rattle.cache_model.specs.Claim.{holds, before_request, only_fills, request_at, is_kept, held_before, contents_of}
 use Rattle.cache_model.specs.Objects.{IsFirst, IsNext, is_first}
-use Rattle.cache_model.proofs.Duality.{same_object-true}
 use Rattle.cache_model.proofs.Streams.{sum_by-range_agree}
 use Rattle.cache_model.proofs.DifferentObjects.{is_first-yes}
 use Rattle.cache_model.proofs.Scores.{first_or_next, holds-first, holds-next, allowed-from_loads}
 use Rattle.part_laws.proofs.Ranges.{sum_by-range_below}
 use Rattle.judge_laws.specs.Flags.{is_flagged, IsPossible, HitsFlagged}
-use Rattle.judge_laws.proofs.Flagged.{flag_keeps, is_kept-next, kept_end, held-flagged}
+use Rattle.judge_laws.proofs.Flagged.{flag_keeps, held-flagged}
 use Rattle.judge_laws.proofs.Possible.{allowed_is_possible, flagged_held}
 use Rattle.write_laws.specs.Claims.{HitsExactly, least_written}
-use Rattle.write_laws.specs.Written.{writes, written_bytes}
+use Rattle.cache_model.specs.Written.{writes, written_bytes}
 use Rattle.write_laws.specs.Laws.{WriteNoFewer, WriteJust}
-use Rattle.write_laws.proofs.Kept.{is_latest-own, holds-own, own, least_written-kept}
+use Rattle.cache_model.proofs.Scores.{is_latest-own}
+use Rattle.cache_model.proofs.Written.{holds-own}
+use Rattle.write_laws.proofs.Kept.{own, kept-next, least_written-kept}
 
--- a request that is kept adds no more than one whose object is held after it
-kept_writes : (past kept held unclaimed : Bool) (n : ℕ) → (kept ≡ true → held ≡ true) → cond (past && (kept && unclaimed)) n 0 ≤ cond (past && (held && unclaimed)) n 0
-kept_writes false kept held unclaimed n then_held = omega arith
-kept_writes true false held unclaimed n then_held = omega arith
-kept_writes true true held unclaimed n then_held =
-    let same : cond (held && unclaimed) n 0 ≡ cond unclaimed n 0 = ap (λ s. cond (s && unclaimed) n 0) (then_held refl) in omega arith
+-- a request that is kept adds no more than one whose object is held after it, and was not before it if it counts and is not flagged
+kept_writes : (past kept held fill flag was : Bool) (n : ℕ) → (kept ≡ true → held ≡ true) → (past ≡ true → fill ≡ false → flag ≡ false → was ≡ false)
+    → cond (past && (kept && (fill || not flag))) n 0 ≤ cond (past && (held && (fill || not was))) n 0
+kept_writes false kept held fill flag was n then_held no_other = omega arith
+kept_writes true false held fill flag was n then_held no_other = omega arith
+kept_writes true true held true flag was n then_held no_other =
+    let same : cond (held && true) n 0 ≡ n = ap (λ s. cond (s && true) n 0) (then_held refl) in omega arith
+kept_writes true true held false true was n then_held no_other = omega arith
+kept_writes true true held false false was n then_held no_other =
+    let same : cond (held && not was) n 0 ≡ n = ap (λ s. cond (s && not was) n 0) (then_held refl) ∙ ap (λ b. cond (not b) n 0) (no_other refl refl refl) in omega arith
 
 pub claimed_hits_write_no_fewer : WriteNoFewer
 claimed_hits_write_no_fewer c warmup fills trace flags contents allowed hits =
     let written : ℕ → ℕ = λ t. cond (nat_le warmup t && writes fills trace contents t) (request_at trace t).size 0 in
     omega (
       arith,
-      least_written-kept c warmup fills trace flags (allowed_is_possible c trace flags contents allowed flagged_hit),
+      least_written-kept c warmup fills trace flags (allowed_is_possible c trace flags contents allowed hits.flagged),
       sum_by-range_below (own c warmup fills trace flags) written 0 0 (length trace) (λ t within. rw zero-add (each t within)),
     )
   where
-    flagged_hit : HitsFlagged trace contents flags
-    flagged_hit t within flagged = hits t within ∙ flagged
-
     each : (t : ℕ) → t < length trace → own c warmup fills trace flags t ≤ cond (nat_le warmup t && writes fills trace contents t) (request_at trace t).size 0
     each t within =
-        let held : Bool = holds (before_request contents (t + 1)) (request_at trace t) in
-        let kept : Bool = is_kept (flag_keeps c trace flags) t in
-        let was : cond (nat_le warmup t && (held && (only_fills fills t || not (holds (before_request contents t) (request_at trace t))))) (request_at trace t).size 0
-        ≡ cond (nat_le warmup t && (held && (only_fills fills t || not (is_flagged flags t)))) (request_at trace t).size 0 =
-        ap (λ s. cond (nat_le warmup t && (held && (only_fills fills t || not s))) (request_at trace t).size 0) (hits t within) in
-        let more : own c warmup fills trace flags t ≤ cond (nat_le warmup t && (held && (only_fills fills t || not (is_flagged flags t)))) (request_at trace t).size 0 =
-        kept_writes (nat_le warmup t) kept held (only_fills fills t || not (is_flagged flags t)) (request_at trace t).size
-        (λ is. flagged_held c trace flags contents allowed flagged_hit t t within (omega arith) (and_from _ _ is (is_latest-own trace t within))) in
-        omega (arith, was, more)
+        kept_writes (nat_le warmup t) (is_kept (flag_keeps c trace flags) t) (holds (before_request contents (t + 1)) (request_at trace t))
+        (only_fills fills t) (is_flagged flags t) (holds (before_request contents t) (request_at trace t)) (request_at trace t).size
+        (λ is. flagged_held c trace flags contents allowed hits.flagged t t within (omega arith) (and_from _ _ is (is_latest-own trace t within)))
+        (λ past counted unflagged. hits.no_other t within (and_from _ _ past (ap not counted)) unflagged)
 
 module _ (c : ℕ) (trace : List Object) (flags : List Bool) (possible : IsPossible c trace flags) where
   abbrev keeps : List Bool
@@ -56,25 +53,6 @@ module _ (c : ℕ) (trace : List Object) (flags : List Bool) (possible : IsPossi
   -- the contents of these keeps before a request
   before : (t : ℕ) → t ≤ length trace → before_request (contents_of trace keeps) t ≡ held_before trace keeps t
   before t within = get_or-map-range_with_len (held_before trace keeps) 0 (length trace + 1) t t [] (omega arith) (omega arith)
-
-  -- a request is kept exactly if the next one of its object is flagged, also if the object is too large
-  kept-next : (a b : ℕ) → IsNext trace a b → is_kept keeps a ≡ is_flagged flags b
-  kept-next a b next =
-      ⊎_elim
-      (λ (flagged : is_flagged flags b ≡ true). is_kept-next c trace flags a b next (fits b next flagged))
-      (λ (no : is_flagged flags b ≡ false).
-      ⊎_elim
-      (λ (kept : is_kept keeps a ≡ true).
-      let end : (d : ℕ) × IsNext trace a d × (is_flagged flags d ≡ true) = kept_end c trace flags a (omega (arith, next.before, next.within)) kept in
-      is_kept-next c trace flags a b next (fits end.0 end.1 end.2))
-      (λ (bypassed : is_kept keeps a ≡ false). bypassed ∙ sym no)
-      (cases_Bool (is_kept keeps a)))
-      (cases_Bool (is_flagged flags b))
-    where
-      fits : (d : ℕ) → IsNext trace a d → is_flagged flags d ≡ true → (request_at trace a).size ≤ c
-      fits d n flagged =
-          let same : request_at trace a ≡ request_at trace d = same_object-true (request_at trace a) (request_at trace d) n.same in
-          omega (arith, ap (λ (x : Object). x.size) same, possible.fits d n.within flagged)
 
   -- the first request of an object is not flagged
   first_unflagged : (t : ℕ) → t < length trace → IsFirst trace t → is_flagged flags t ≡ false
@@ -90,7 +68,7 @@ module _ (c : ℕ) (trace : List Object) (flags : List Bool) (possible : IsPossi
       ap (λ held. holds held (request_at trace t)) (before t (omega arith))
       ∙ ⊎_elim
       (λ (first : IsFirst trace t). holds-first trace t within keeps first ∙ sym (first_unflagged t within first))
-      (λ (found : (a : ℕ) × IsNext trace a t). holds-next trace t within keeps found.0 found.1 ∙ kept-next found.0 t found.1)
+      (λ (found : (a : ℕ) × IsNext trace a t). holds-next trace t within keeps found.0 found.1 ∙ kept-next c trace flags possible found.0 t found.1)
       (first_or_next trace t within)
 
   -- and they write what these must

@@ -1,3 +1,2 @@
-pub mod Written
 pub mod Claims
 pub mod Laws
