@@ -1,12 +1,12 @@
 //! What may be the matter with a certificate.
 ghost use Rattle.std.specs.Prelude.{◌≡◌, is_some};
-ghost use Rattle.bound_advice.specs.Advices.{has_advice};
+ghost use Rattle.bound_advice.specs.Advices.{has_look};
 
 use cert_checker::InvalidKind;
 
 /// What to look at if a certificate isn't valid for a trace, if something is known to look at.
 pub(crate) fn certificate_advice(kind: InvalidKind) -> Option<&'static str>
-    ensures { is_some result ≡ has_advice kind }
+    ensures { is_some result ≡ has_look kind }
 {
     match kind {
         InvalidKind::RequestCount { .. }

@@ -1,13 +1,15 @@
 //! What a refusal means, and what to do about it.
-ghost use Rattle.std.specs.Prelude.{◌≡◌, ◌++◌, codes, string_bytes, IfOk, IsSomeAnd};
+ghost use Rattle.std.specs.Prelude.{◌≡◌, ◌++◌, codes, is_some, string_bytes, IfOk, IsSomeAnd};
 ghost use Rattle.bound_report.specs.Refusals.{refusal_line};
-ghost use Rattle.bound_advice.specs.Advices.{IsAdviceOn, IsAsciiLine};
+ghost use Rattle.bound_advice.specs.Advices.{IsAdviceOn, IsAsciiLine, has_advice};
 
 use crate::certificates::certificate_advice;
 use crate::devices::{Seen, device_advice};
+use crate::starts::{Looks, looks_of, packed_by};
 use crate::traces::BadLine;
 use crate::words::{Words, word_advice};
-use bound_report::{Impossible, LimitName, Refusal, refusal_text};
+use bound_report::{Impossible, InvalidKind, LimitName, Refusal, refusal_text};
+use bound_words::Command;
 use std::alloc::{AllocError, Global};
 use trace_any::Format;
 use trace_lines::LineKind;
@@ -20,6 +22,8 @@ pub struct Devices<'a> {
     pub made: Seen<'a>,
     /// The first bytes of the trace.
     pub start: &'a [u8],
+    /// The first bytes of the certificate, or of the hits, that are read.
+    pub cert_start: &'a [u8],
     /// The line of the trace that is refused, as far as it is known.
     pub line: Option<&'a [u8]>,
 }
@@ -100,6 +104,53 @@ fn line_advice(
     bad.advice(alloc)
 }
 
+// What a file may be whose first line is none of a certificate.
+fn no_certificate_advice(
+    alloc: Global,
+    words: Words<'_>,
+    devices: Devices<'_>,
+) -> Result<String, AllocError> {
+    let name = devices.cert.name();
+    match looks_of(devices.cert_start) {
+        Looks::Packed { by, unpack } => {
+            format!(in alloc; "{name}: it is packed by {by}; unpack it first, by {unpack}")
+        }
+        Looks::Certificate => {
+            format!(in alloc; "{name}: it is a certificate of a version that is not known here")
+        }
+        _ if words.command().is_some_and(Command::reads_trace) => {
+            format!(in alloc;
+                "{name}: it begins as no certificate does; the path of the trace comes before it"
+            )
+        }
+        _ => format!(in alloc; "{name}: it begins as no certificate does"),
+    }
+}
+
+// What to look at if a certificate isn't valid, if something is known to look at.
+fn invalid_advice(
+    alloc: Global,
+    words: Words<'_>,
+    devices: Devices<'_>,
+    line: u64,
+    kind: InvalidKind,
+) -> Result<Option<String>, AllocError>
+    ensures { IfOk result (λ advice. is_some advice ≡ has_advice line kind) }
+{
+    let is_none = match kind {
+        InvalidKind::Shape | InvalidKind::TooLong => line == 1,
+        InvalidKind::Truncated => packed_by(devices.cert_start).is_some(),
+        _ => false,
+    };
+    if is_none {
+        return Ok(Some(no_certificate_advice(alloc, words, devices)?));
+    }
+    match certificate_advice(kind) {
+        Some(text) => Ok(Some(String::from_str(alloc, text)?)),
+        None => Ok(None),
+    }
+}
+
 /// What to do about a refusal, if something is known to do.
 pub fn advice_on(
     alloc: Global,
@@ -131,10 +182,7 @@ pub fn advice_on(
             "the hits need a line for each request of the trace, and none for a line of size 0",
         ),
         Refusal::Impossible { cause, .. } => said(alloc, impossible_advice(cause)),
-        Refusal::Invalid { kind, .. } => match certificate_advice(kind) {
-            Some(text) => said(alloc, text),
-            None => Ok(None),
-        },
+        Refusal::Invalid { line, kind } => invalid_advice(alloc, words, devices, line, kind),
         Refusal::NoMemory => Ok(None),
     }
 }

@@ -212,6 +212,9 @@ fn unsuited(alloc: Global, words: Words<'_>, word: &str) -> Result<String, Alloc
                 "{word}: reads are told apart with format=webcache or format=msr alone"
             )
         }
+        "writes" if names.contains(&"print") => {
+            format!(in alloc; "{word}: print=flags prints flags in place of the report")
+        }
         "objective" | "denominator" | "warmup" if words.command == Some(Command::Curve) => {
             format!(in alloc; "{word}: it goes with capacities=LIST alone")
         }

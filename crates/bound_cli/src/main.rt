@@ -129,6 +129,7 @@ fn run_files<R: Files + Input + Print + Eprint>(rt: &R, alloc: Global, words: &[
         cert: seen_source(paths.cert, &cert),
         made: seen_sink(&made),
         start: trace.source().start(),
+        cert_start: cert.start(),
         line: refused_line(&trace, asked, status),
     };
     match status {

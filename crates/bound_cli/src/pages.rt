@@ -9,11 +9,13 @@ use bound_words::{Command, Kind, Values};
 use std::io;
 
 // What stands for which values, and what is printed behind them.
-const CHOICES: [(&str, Kind, &str); 6] = [
+const CHOICES: [(&str, Kind, &str); 8] = [
     ("FORM", Kind::Form, ", "),
     ("OBJECTIVE", Kind::Objective, ", "),
     ("MODE", Kind::Mode, ",\n"),
     ("VERSION", Kind::Version, ", "),
+    ("WRITTEN", Kind::Writes, ",\n"),
+    ("PRINTED", Kind::Print, ", "),
     (
         "COUNTED",
         Kind::Counted,

@@ -17,13 +17,13 @@ abbrev header : Header
 header = record { objective = Bytes; capacity = 12; requests = 7; unit = 3; denominator = 48; exact = false; upper = 96; flow = 90; lower = 1; warmup = 2; version = 1 }
 
 -- bounds in windows, with a warm-up and marks
-windowed : numbers_of (rendered (record { warmup = 2; counted = Some 5 }) (bound_lines (record { header = header; objects = 4; dropped = 1; mode = Flow (Steps 6); price = 0; intervals = 3 })))
+windowed : numbers_of (rendered (record { warmup = 2; counted = Some 5 }) (bound_lines (record { header = header; objects = 4; dropped = 1; mode = Flow (Steps 6); price = 0; intervals = 3; written = Some 9 })))
     ≡ record { requests = Some 7; objects = Some 4; dropped = Some 1; capacity = Some 12; window = Some 6; denominator = Some 48; intervals = Some 3; warmup = Some 2 }
 unfolding digits
 windowed = refl
 
 -- a price is no window
-priced : numbers_of (report_text (record { header = header; objects = 4; dropped = 1; mode = Constant; price = 9; intervals = 3 }))
+priced : numbers_of (report_text (record { header = header; objects = 4; dropped = 1; mode = Constant; price = 9; intervals = 3; written = None }))
     ≡ record { requests = Some 7; objects = Some 4; dropped = Some 1; capacity = Some 12; window = None; denominator = Some 48; intervals = Some 3; warmup = None }
 unfolding digits
 priced = refl
@@ -35,7 +35,7 @@ unfolding digits
 checked = refl
 
 -- a replay names its capacity behind its policy
-replayed : numbers_of (rendered (record { warmup = 7; counted = None }) (replay_lines (record { requests = 7; objects = 4; dropped = 0; policy = Lru; capacity = 12; replay = record { hits = 3; bytes = 9 } })))
+replayed : numbers_of (rendered (record { warmup = 7; counted = None }) (replay_lines (record { requests = 7; objects = 4; dropped = 0; policy = Lru; capacity = 12; replay = record { hits = 3; bytes = 9; written = 6 }; written = Some 6 })))
     ≡ record { requests = Some 7; objects = Some 4; dropped = Some 0; capacity = None; window = None; denominator = None; intervals = None; warmup = Some 7 }
 unfolding digits
 replayed = refl

@@ -1,5 +1,5 @@
 -- Reports worked out by hand.
-use Rattle.std.proofs.Common.{◌≡◌, ℕ, Bool, true, false, [], ◌∷◌, codes, refl, Some}
+use Rattle.std.proofs.Common.{◌≡◌, ℕ, Bool, true, false, [], ◌∷◌, codes, refl, None, Some}
 use Rattle.std.specs.Fmt.{digits}
 use Rattle.cache_model.specs.declared.objects.Objective.TheVariants.{Object as Hits}
 use Rattle.cache_model.specs.declared.certificates.Header.{Header}
@@ -9,6 +9,7 @@ use Rattle.bound_terms.specs.declared.modes.Window.TheVariants.{All as Whole}
 use Rattle.bound_report.specs.Reports.{report_text}
 use Rattle.replay_core.specs.declared.counts.Replay.{Replay}
 use Rattle.bound_report.specs.Demos.{demo_text}
+use Rattle.bound_report.specs.Judged.{judged_lines}
 use Rattle.bound_report.specs.Rendering.{rendered}
 use Rattle.bound_report.specs.Refinements.{refined_lines}
 use Rattle.bound_report.specs.Curves.{curve_lines, curve_text}
@@ -18,7 +19,7 @@ use Rattle.stack_curve.specs.Curves.{hits_with}
 abbrev pair_header : Bool → ℕ → Header
 pair_header exact flow = record { objective = Hits; capacity = 10; requests = 2; unit = 4; denominator = 1; exact = exact; upper = 1; flow = flow; lower = 1; warmup = 0; version = 1 }
 
-pair_report : report_text (record { header = pair_header true 1; objects = 1; dropped = 0; mode = Flow Whole; price = 0; intervals = 1 }) ≡ text_of (
+pair_report : report_text (record { header = pair_header true 1; objects = 1; dropped = 0; mode = Flow Whole; price = 0; intervals = 1; written = None }) ≡ text_of (
     codes "trace requests 2 objects 1 dropped 0"
     ∷ codes "capacity 10 objective object"
     ∷ codes "mode flow window all form exact"
@@ -31,7 +32,7 @@ pair_report : report_text (record { header = pair_header true 1; objects = 1; dr
 unfolding digits
 pair_report = refl
 
-infinite_report : report_text (record { header = pair_header false 0; objects = 1; dropped = 0; mode = Infinite; price = 0; intervals = 1 }) ≡ text_of (
+infinite_report : report_text (record { header = pair_header false 0; objects = 1; dropped = 0; mode = Infinite; price = 0; intervals = 1; written = None }) ≡ text_of (
     codes "trace requests 2 objects 1 dropped 0"
     ∷ codes "capacity 10 objective object"
     ∷ codes "mode infinite form plain"
@@ -44,9 +45,36 @@ infinite_report : report_text (record { header = pair_header false 0; objects = 
 unfolding digits
 infinite_report = refl
 
+-- what the schedule writes stands behind its score
+written_report : report_text (record { header = pair_header true 1; objects = 1; dropped = 0; mode = Flow Whole; price = 0; intervals = 1; written = Some 4 }) ≡ text_of (
+    codes "trace requests 2 objects 1 dropped 0"
+    ∷ codes "capacity 10 objective object"
+    ∷ codes "mode flow window all form exact"
+    ∷ codes "unit 4 units 2 denominator 1"
+    ∷ codes "intervals 1"
+    ∷ codes "upper 1/1 floor 1"
+    ∷ codes "flow 1/1"
+    ∷ codes "lower 1"
+    ∷ codes "writes 4"
+    ∷ [])
+unfolding digits
+written_report = refl
+
+-- what claimed hits must write stands before the last line
+judged_with_writes : rendered (record { warmup = 1; counted = None }) (judged_lines (record { requests = 3; objects = 1; dropped = 0; capacity = 4; claimed = record { hits = 1; bytes = 4; written = 4 }; written = Some 4 })) ≡ text_of (
+    codes "trace requests 3 objects 1 dropped 0"
+    ∷ codes "judged capacity 4"
+    ∷ codes "hits 1 bytes 4"
+    ∷ codes "writes 4"
+    ∷ codes "possible"
+    ∷ codes "warmup 1"
+    ∷ [])
+unfolding digits
+judged_with_writes = refl
+
 -- two requests of one object of size 1
 abbrev one_hit : Replay
-one_hit = record { hits = 1; bytes = 1 }
+one_hit = record { hits = 1; bytes = 1; written = 1 }
 
 demo_of_two : demo_text (record { seed = 1; requests = 2; objects = 1; capacity = 65536 }) (codes "lower 1\n") (record { lru = one_hit; fifo = one_hit; clock = one_hit; lfu = one_hit; belady = one_hit }) ≡ text_of (
     codes "demo seed 1 requests 2 objects 1 capacity 65536"

@@ -1,5 +1,6 @@
 -- The report of bounds, and the lines that it shares with the verdict.
-use Rattle.std.specs.Prelude.{ℕ, ◌/◌, Bool, List, [], ◌∷◌, ◌++◌, codes, decimal}
+use Rattle.std.specs.Prelude.{ℕ, ◌/◌, Bool, List, [], ◌∷◌, ◌++◌, codes, decimal, None, Some}
+use Rattle.std.specs.declared.option.Option.{Option}
 use Rattle.cache_model.specs.declared.objects.Objective.{Objective}
 use Rattle.cache_model.specs.declared.certificates.Header.{Header}
 use Rattle.cache_model.specs.Certificates.{units_of}
@@ -51,13 +52,18 @@ flow_line h = ratio (codes "flow") h.flow h.denominator
 abbrev pub value_lines : Header → List (List ℕ)
 value_lines h = upper_line h ∷ flow_line h ∷ entry (codes "lower") h.lower ∷ []
 
--- the eight lines of a report of bounds
+-- a line of the bytes that are written, if they are counted
+abbrev pub written_lines : Option ℕ → List (List ℕ)
+written_lines None = []
+written_lines (Some written) = entry (codes "writes") written ∷ []
+
+-- the eight lines of a report of bounds, and that of the bytes that the schedule writes
 abbrev pub bound_lines : BoundFacts → Lines
 bound_lines facts =
     let h = facts.header in
     record {
       front = trace_line h.requests facts.objects facts.dropped ∷ [];
-      back = capacity_line h.capacity h.objective ∷ mode_line facts.mode facts.price h.exact ∷ unit_line h ∷ entry (codes "intervals") facts.intervals ∷ value_lines h;
+      back = capacity_line h.capacity h.objective ∷ mode_line facts.mode facts.price h.exact ∷ unit_line h ∷ entry (codes "intervals") facts.intervals ∷ value_lines h ++ written_lines facts.written;
     }
 
 -- the text of a report of bounds without warm-up and marks

@@ -5,13 +5,13 @@ ghost use Rattle.bound_report.specs.Judged.{possible_line};
 
 use crate::rendering::Report;
 use crate::replays::hits_line;
-use crate::report::{Line, append, append_trace, entry_line};
+use crate::report::{Line, append, append_trace, append_written, entry_line};
 use bound_base::NoMemory;
 use hit_judge::Claimed;
 use line_text::LineText;
 
-/// What a report of possible hits states: the counts of the trace, the capacity in bytes, and the claimed hits with their
-/// bytes.
+/// What a report of possible hits states: the counts of the trace, the capacity in bytes, the claimed hits with their
+/// bytes, and the bytes that they must write, if they are counted.
 #[derive(Clone, Copy, Debug, PartialEq, Eq)]
 pub struct JudgedFacts {
     pub requests: u32,
@@ -19,6 +19,7 @@ pub struct JudgedFacts {
     pub dropped: u64,
     pub capacity: u64,
     pub claimed: Claimed,
+    pub written: Option<u128>,
 }
 
 fn possible_line() -> Line
@@ -46,6 +47,7 @@ impl Report for JudgedFacts {
             &entry_line(b"judged capacity", u128::from(self.capacity)),
         )?;
         append(text, &hits_line(self.claimed.hits, self.claimed.bytes))?;
+        append_written(text, self.written)?;
         append(text, &possible_line())
     }
 }

@@ -4,15 +4,15 @@ ghost use Rattle.cache_model.specs.Texts.{line};
 ghost use Rattle.bound_report.specs.Replays.{hits_line, policy_line, replay_text};
 
 use crate::rendering::{Counting, Report, render};
-use crate::report::{Line, append, append_trace};
+use crate::report::{Line, append, append_trace, append_written};
 use bound_base::NoMemory;
 use line_text::LineText;
 use policy_model::PolicyName;
 use replay_core::Replay;
 use std::alloc::Global;
 
-/// What a report of a replay states: the counts of the trace, the policy and its capacity in bytes, and its hits and their
-/// bytes.
+/// What a report of a replay states: the counts of the trace, the policy and its capacity in bytes, its hits and their
+/// bytes, and the bytes that it writes, if they are counted.
 #[derive(Clone, Copy, Debug, PartialEq, Eq)]
 pub struct ReplayFacts {
     pub requests: u32,
@@ -21,6 +21,7 @@ pub struct ReplayFacts {
     pub policy: PolicyName,
     pub capacity: u64,
     pub replay: Replay,
+    pub written: Option<u128>,
 }
 
 fn policy_line(policy: PolicyName, capacity: u64) -> Line
@@ -56,7 +57,8 @@ impl Report for ReplayFacts {
 
     fn append_back(&self, text: &mut Vec<u8>) -> Result<(), NoMemory> {
         append(text, &policy_line(self.policy, self.capacity))?;
-        append(text, &hits_line(self.replay.hits, self.replay.bytes))
+        append(text, &hits_line(self.replay.hits, self.replay.bytes))?;
+        append_written(text, self.written)
     }
 }
 

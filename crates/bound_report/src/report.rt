@@ -1,7 +1,7 @@
 //! The report of bounds, and the lines that it shares with other reports.
 ghost use Rattle.std.specs.Prelude.{◌≡◌, ◌<◌, ◌≤◌, ◌+◌, ◌++◌, codes, length, OnErr, OnOk, IfOk};
 ghost use Rattle.bound_report.specs.Reports.{capacity_line, flow_line, mode_line, ratio, report_text};
-ghost use Rattle.bound_report.specs.Reports.{trace_line, unit_line, upper_line, value_lines, window_word};
+ghost use Rattle.bound_report.specs.Reports.{trace_line, unit_line, upper_line, value_lines, window_word, written_lines};
 ghost use Rattle.cache_model.specs.Texts.{entry, form_word, line, objective_word, text_of};
 
 use crate::facts::BoundFacts;
@@ -180,6 +180,16 @@ pub(crate) fn append_value_lines(text: &mut Vec<u8>, header: &Header) -> Result<
     Ok(())
 }
 
+/// Appends the bytes that are written, if they are counted.
+pub(crate) fn append_written(text: &mut Vec<u8>, written: Option<u128>) -> Result<(), NoMemory>
+    ensures { OnOk result (text.new.items ≡ text.old.items ++ text_of (written_lines written)) }
+{
+    match written {
+        Some(written) => append(text, &entry_line(b"writes", written)),
+        None => Ok(()),
+    }
+}
+
 impl Report for BoundFacts {
     ghost use Rattle.std.specs.Prelude.{◌<◌};
     ghost use Rattle.bound_report.specs.Reports.{bound_lines};
@@ -199,6 +209,7 @@ impl Report for BoundFacts {
         append(text, &unit_line(header))?;
         append(text, &entry_line(b"intervals", u128::from(self.intervals)))?;
         append_value_lines(text, header)?;
+        append_written(text, self.written)?;
         Ok(())
     }
 }

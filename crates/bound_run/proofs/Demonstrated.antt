@@ -68,7 +68,7 @@ shown_by drawing asked trace cert report text replays drawn texts replayed is = 
   made = subst (λ xs. IsMade asked xs texts.price texts.header texts.records) drawn texts.made;
   replays = replays;
   replayed = subst (λ xs. AreReplays asked.terms.capacity xs replays) drawn replayed;
-  text_is = is ∙ (ap (λ r. demo_text (demo_facts drawing asked) r replays) texts.report_is ∙ ap (λ xs. demo_text (demo_facts drawing asked) (bounds_report (counting_of Webcache texts.header xs) asked xs 0 texts.price texts.header) replays) drawn);
+  text_is = is ∙ (ap (λ r. demo_text (demo_facts drawing asked) r replays) texts.report_is ∙ ap (λ xs. demo_text (demo_facts drawing asked) (bounds_report (counting_of Webcache texts.header xs) asked xs 0 texts.price texts.header texts.records) replays) drawn);
 }
 
 -- what is made of a trace is certified by its lines

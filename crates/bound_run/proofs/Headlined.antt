@@ -10,6 +10,7 @@ use Rattle.cache_model.specs.Certificates.{IsValid, eligible_of, flows_of, price
 use Rattle.cache_model.proofs.Flows.{flow_value-le}
 use Rattle.bound_words.specs.declared.plans.Plan.{Plan}
 use Rattle.bound_words.specs.declared.words.WordFault.{WordFault}
+use Rattle.write_laws.proofs.Written.{claimed_hits_write_just, claimed_hits_write_no_fewer}
 use Rattle.bound_run.specs.declared.status.Status.{Status}
 use Rattle.bound_run.specs.declared.status.Status.TheVariants.{Done, Words}
 use Rattle.bound_terms.specs.declared.modes.Mode.{Mode}
@@ -120,6 +121,10 @@ shown (Judge format asked) d ((text, judged, printed), trace, hits, made) = (
     printed = subst (λ t. Appends d.report.before d.report.after t) judged.text_is printed;
     possible = possible_is_allowed asked.capacity judged.requests.objects judged.flags judged.possible;
     bounded = claims_bounded asked judged.requests judged.flags judged.possible;
+    written = record {
+      none_fewer = claimed_hits_write_no_fewer asked.capacity asked.warmup judged.requests.fills judged.requests.objects judged.flags;
+      some_just = claimed_hits_write_just asked.capacity asked.warmup judged.requests.fills judged.requests.objects judged.flags judged.possible;
+    };
   },
 )
 shown (Demo drawing asked) d ((text, shows, printed), trace, cert, made) =

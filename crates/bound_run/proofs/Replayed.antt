@@ -11,13 +11,16 @@ use Rattle.cache_model.specs.declared.objects.Objective.TheVariants.{Object as H
 use Rattle.cache_model.specs.Claim.{BoundsEveryPolicy, IsAllowed, before_request, gain_of, holds, only_fills, request_at, score, terms_from, terms_of}
 use Rattle.cache_model.proofs.Headline.{valid_bounds}
 use Rattle.cache_rules.specs.Stored.{Requests}
-use Rattle.policy_model.specs.Runs.{AreScores, policy_run}
+use Rattle.policy_model.specs.Runs.{AreScores, IsPlayed, policy_run}
 use Rattle.policy_model.specs.States.{State, start_of}
 use Rattle.policy_model.specs.declared.names.PolicyName.{PolicyName}
 use Rattle.policy_model.specs.declared.names.PolicyName.TheVariants.{Belady}
 use Rattle.replay_core.specs.declared.counts.Replay.{Replay}
 use Rattle.replay_core.specs.Laws.{IsRunOf}
 use Rattle.belady_laws.proofs.BestLemmas.{best}
+use Rattle.bit_list.specs.Bits.{bits_of}
+use Rattle.bit_list.specs.declared.list.BitList.{BitList}
+use Rattle.replay_hits.specs.Hits.{AreHits}
 use Rattle.bound_run.specs.Replays.{earned_by, IsWithinBounds, IsReplay}
 
 -- what contents earn is their score, at any capacity
@@ -67,10 +70,12 @@ bounded capacity warmup trace (Err e) scores = tt
 
 -- the counts of a rule's run that are scores of allowed contents
 is_replay : (name : PolicyName) (capacity warmup : ℕ) (trace : Requests) (a : Replay) → AreScores capacity warmup trace.fills trace.objects a.hits a.bytes
+    → IsPlayed (Some (start_of name capacity)) capacity warmup trace.fills trace.objects a.hits a.bytes a.written
     → (a.hits ≡ (policy_run name trace.objects capacity warmup trace.fills).hits) × (a.bytes ≡ (policy_run name trace.objects capacity warmup trace.fills).bytes) → IsReplay name capacity warmup trace a
-is_replay name capacity warmup trace a scores run = record {
+is_replay name capacity warmup trace a scores played run = record {
   hits = run.0;
   bytes = run.1;
+  played = played;
   bounded = within_bounds capacity warmup trace a.hits a.bytes scores;
   best = λ belady every unmarked one.
       best capacity 0 trace.objects one a.hits a.bytes
@@ -83,8 +88,19 @@ is_replay name capacity warmup trace a scores run = record {
 -- whatever a replay of a policy answers that begins as the rule does
 pub replayed : {E : Type 0} (name : PolicyName) (capacity warmup : ℕ) (trace : Requests) (r : Result Replay E) (room : ℕ) (known_state : Option State)
     → room ≡ capacity → known_state ≡ Some (start_of name capacity) → IfOk r (λ a. AreScores room warmup trace.fills trace.objects a.hits a.bytes)
+    → IfOk r (λ a. IsPlayed known_state room warmup trace.fills trace.objects a.hits a.bytes a.written)
     → IfOk r (λ a. IsRunOf known_state trace.objects warmup trace.fills a.hits a.bytes) → IfOk r (IsReplay name capacity warmup trace)
-replayed name capacity warmup trace (Ok a) room known_state room_is state_is scores run =
+replayed name capacity warmup trace (Ok a) room known_state room_is state_is scores played run =
     is_replay name capacity warmup trace a (subst (λ c. AreScores c warmup trace.fills trace.objects a.hits a.bytes) room_is scores)
+    (subst (λ s. IsPlayed s capacity warmup trace.fills trace.objects a.hits a.bytes a.written) state_is
+    (subst (λ c. IsPlayed known_state c warmup trace.fills trace.objects a.hits a.bytes a.written) room_is played))
     (subst (λ s. IsRunOf s trace.objects warmup trace.fills a.hits a.bytes) state_is run)
-replayed name capacity warmup trace (Err e) room known_state room_is state_is scores run = tt
+replayed name capacity warmup trace (Err e) room known_state room_is state_is scores played run = tt
+
+-- and whatever hits it answers
+pub hits_are : {E : Type 0} (name : PolicyName) (capacity : ℕ) (trace : Requests) (r : Result BitList E) (room : ℕ) (known_state : Option State)
+    → room ≡ capacity → known_state ≡ Some (start_of name capacity) → IfOk r (λ flags. AreHits known_state room trace.objects (bits_of flags))
+    → IfOk r (λ flags. AreHits (Some (start_of name capacity)) capacity trace.objects (bits_of flags))
+hits_are name capacity trace (Ok flags) room known_state room_is state_is hits =
+    subst (λ s. AreHits s capacity trace.objects (bits_of flags)) state_is (subst (λ c. AreHits known_state c trace.objects (bits_of flags)) room_is hits)
+hits_are name capacity trace (Err e) room known_state room_is state_is hits = tt

@@ -100,7 +100,7 @@ pub record AreTexts (format : Format) (asked : BoundSettings) (trace : Requests)
   pub records : List Record
   pub made : IsMade asked trace price header records
   pub cert_is : cert ≡ cert_text header records
-  pub report_is : report ≡ bounds_report (counting_of format header trace) asked trace dropped price header
+  pub report_is : report ≡ bounds_report (counting_of format header trace) asked trace dropped price header records
 
 -- a denominator that rounds no cost is asked for, and the least one passes 2^48
 pub record RefusesDenominator (asked : BoundSettings) (trace : Requests) : Type 0 where

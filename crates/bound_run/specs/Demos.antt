@@ -40,4 +40,4 @@ pub record IsDemoText (drawing : DrawSettings) (asked : BoundSettings) (text : L
   pub made : IsMade asked (trace_drawn drawing) price header records
   pub replays : PolicyReplays
   pub replayed : AreReplays asked.terms.capacity (trace_drawn drawing) replays
-  pub text_is : text ≡ demo_text (demo_facts drawing asked) (bounds_report (counting_of Webcache header (trace_drawn drawing)) asked (trace_drawn drawing) 0 price header) replays
+  pub text_is : text ≡ demo_text (demo_facts drawing asked) (bounds_report (counting_of Webcache header (trace_drawn drawing)) asked (trace_drawn drawing) 0 price header records) replays

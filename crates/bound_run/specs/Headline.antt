@@ -32,9 +32,11 @@ use Rattle.bound_run.specs.Curves.{IsCurveText}
 use Rattle.trace_any.specs.Loads.{IsLoaded}
 use Rattle.hit_flags.specs.Claims.{AreFlags}
 use Rattle.judge_laws.specs.Flags.{HitsFlagged}
+use Rattle.cache_model.specs.Written.{written_bytes}
+use Rattle.write_laws.specs.Claims.{HitsAsCounted, HitsExactly}
 use Rattle.cache_model.specs.declared.objects.Object.{Object}
 use Rattle.cache_model.specs.declared.objects.Objective.TheVariants.{Object as Hits, Bytes}
-use Rattle.bound_run.specs.Judgements.{claimed_by, judged_report}
+use Rattle.bound_run.specs.Judgements.{claimed_by, judged_report, written_for}
 use Rattle.bound_words.specs.declared.plans.JudgeSettings.{JudgeSettings}
 use Rattle.bound_run.specs.BoundsMade.{is_unwindowed}
 use Rattle.bound_run.specs.Refined.{IsRefinement, verdict_on}
@@ -77,7 +79,7 @@ pub record ShowsBounds (format : Format) (asked : BoundSettings) (trace : Reques
   pub header : Header
   pub records : List Record
   pub price : ℕ
-  pub printed : Appends report.before report.after (bounds_report (counting_of format header trace) asked trace dropped price header)
+  pub printed : Appends report.before report.after (bounds_report (counting_of format header trace) asked trace dropped price header records)
   pub certified : Appends made.before made.after (cert_text header records)
   pub terms : terms_of header trace.fills ≡ marked asked.terms trace.fills
   pub version : header.version ≡ asked.version
@@ -94,7 +96,7 @@ pub record ShowsCheck (format : Format) (trace : Requests) (dropped : ℕ) (cert
   pub objects : verdict.objects ≡ length (objects_of trace.objects)
   pub bounds : AreTrueBounds trace verdict.header records
 
--- a replay printed the hits of its rule's run, which no valid certificate of its capacity and no longer warm-up is below
+-- a replay printed the hits of its rule's run, which no valid certificate of its capacity and no longer warm-up is below, or which requests hit
 pub record ShowsReplay (format : Format) (r : ReplaySettings) (trace : Requests) (dropped : ℕ) (report : Device) : Type 0 where
   pub text : List ℕ
   pub printed : Appends report.before report.after text
@@ -112,7 +114,14 @@ pub record ShowsCapacityCurve (format : Format) (asked : CurveTerms) (capacities
   pub printed : Appends report.before report.after text
   pub curve : IsCapacityCurveText format asked capacities trace dropped text
 
--- a judgement printed the hits that the flags claim: some allowed contents hit at each flagged request, and no valid certificate of the capacity and no longer warm-up is below the claim
+-- no allowed contents that hit at the flags, and at no other request that counts, write fewer bytes than is said of them; and some that hit exactly there write just these
+pub record HasLeastWrites (asked : JudgeSettings) (trace : Requests) (flags : List Bool) : Type 0 where
+  pub none_fewer : (contents : List (List Object)) → IsAllowed asked.capacity trace.objects contents → HitsAsCounted asked.warmup trace.fills trace.objects contents flags
+      → written_for asked trace flags ≤ written_bytes asked.warmup trace.fills trace.objects contents
+  pub some_just : (contents : List (List Object)) × IsAllowed asked.capacity trace.objects contents × HitsExactly trace.objects contents flags
+      × (written_bytes asked.warmup trace.fills trace.objects contents ≡ written_for asked trace flags)
+
+-- a judgement printed the hits that the flags claim: some allowed contents hit at each flagged request, and no valid certificate of the capacity and no longer warm-up is below the claim; if it printed written bytes, they are the least
 pub record ShowsJudgement (format : Format) (asked : JudgeSettings) (trace : Requests) (dropped : ℕ) (hits report : Device) : Type 0 where
   pub flags : List Bool
   pub flags_are : AreFlags hits flags
@@ -120,6 +129,7 @@ pub record ShowsJudgement (format : Format) (asked : JudgeSettings) (trace : Req
   pub printed : Appends report.before report.after (judged_report format asked trace dropped flags)
   pub possible : (contents : List (List Object)) × IsAllowed asked.capacity trace.objects contents × HitsFlagged trace.objects contents flags
   pub bounded : IsWithinBounds asked.capacity asked.warmup trace (claimed_by Hits asked trace flags) (claimed_by Bytes asked trace flags)
+  pub written : HasLeastWrites asked trace flags
 
 -- a demo printed true bounds of the trace that it drew, and the hits of each rule's run on it, which no valid certificate is below
 pub record ShowsDemo (drawing : DrawSettings) (asked : BoundSettings) (report : Device) : Type 0 where
@@ -127,7 +137,7 @@ pub record ShowsDemo (drawing : DrawSettings) (asked : BoundSettings) (report : 
   pub records : List Record
   pub price : ℕ
   pub replays : PolicyReplays
-  pub printed : Appends report.before report.after (demo_text (demo_facts drawing asked) (bounds_report (counting_of Webcache header (trace_drawn drawing)) asked (trace_drawn drawing) 0 price header) replays)
+  pub printed : Appends report.before report.after (demo_text (demo_facts drawing asked) (bounds_report (counting_of Webcache header (trace_drawn drawing)) asked (trace_drawn drawing) 0 price header records) replays)
   pub terms : terms_of header [] ≡ marked asked.terms []
   pub priced : IsPriceOf asked.mode price (length (trace_drawn drawing).objects) records
   pub bounds : AreTrueBounds (trace_drawn drawing) header records

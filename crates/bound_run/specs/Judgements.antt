@@ -1,5 +1,5 @@
 -- What comes of judging the hits that a simulator claims.
-use Rattle.std.specs.Prelude.{◌≡◌, ℕ, Bool, List, length, map, Some, None}
+use Rattle.std.specs.Prelude.{◌≡◌, ℕ, Bool, if◌then◌else◌, List, length, map, Some, None}
 use Rattle.bound_io.specs.Devices.{Device}
 use Rattle.cache_rules.specs.Stored.{Requests}
 use Rattle.cache_model.specs.declared.objects.Objective.{Objective}
@@ -7,6 +7,7 @@ use Rattle.cache_model.specs.declared.objects.Objective.TheVariants.{Object as H
 use Rattle.cache_model.specs.Claim.{terms_from}
 use Rattle.cache_model.specs.Objects.{objects_of}
 use Rattle.judge_laws.specs.Flags.{IsPossible, claimed}
+use Rattle.write_laws.specs.Claims.{least_written}
 use Rattle.hit_judge.specs.declared.causes.Impossible.{Impossible}
 use Rattle.hit_judge.specs.Causes.{first_cause}
 use Rattle.hit_flags.specs.Claims.{AreRead}
@@ -23,6 +24,10 @@ use Rattle.bound_run.specs.Countings.{counting_from}
 abbrev pub claimed_by : Objective → JudgeSettings → Requests → List Bool → ℕ
 claimed_by objective asked trace flags = claimed (terms_from objective asked.capacity asked.warmup trace.fills) trace.objects flags
 
+-- the least bytes that contents write which hit exactly at the flags, from the warm-up on
+abbrev pub written_for : JudgeSettings → Requests → List Bool → ℕ
+written_for asked trace flags = least_written asked.capacity asked.warmup trace.fills trace.objects flags
+
 -- what the report of possible hits states
 abbrev pub judged_facts : JudgeSettings → Requests → ℕ → List Bool → JudgedFacts
 judged_facts asked trace dropped flags = record {
@@ -30,7 +35,8 @@ judged_facts asked trace dropped flags = record {
   objects = length (objects_of trace.objects);
   dropped = dropped;
   capacity = asked.capacity;
-  claimed = record { hits = claimed_by Hits asked trace flags; bytes = claimed_by Bytes asked trace flags };
+  claimed = record { hits = claimed_by Hits asked trace flags; bytes = claimed_by Bytes asked trace flags; written = written_for asked trace flags };
+  written = if asked.writes then Some (written_for asked trace flags) else None;
 }
 
 -- the report of possible hits

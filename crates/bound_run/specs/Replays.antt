@@ -1,5 +1,5 @@
 -- What a replay of a trace shows.
-use Rattle.std.specs.Prelude.{◌≡◌, ℕ, ◌*◌, ◌/◌, ◌≤◌, List, [], length, Some}
+use Rattle.std.specs.Prelude.{◌≡◌, ℕ, ◌*◌, ◌/◌, ◌≤◌, Bool, true, false, if◌then◌else◌, List, [], length, None, Some}
 use Rattle.std.specs.declared.option.Option.{Option}
 use Rattle.cache_rules.specs.Stored.{Requests}
 use Rattle.cache_model.specs.declared.objects.Objective.{Objective}
@@ -10,16 +10,21 @@ use Rattle.cache_model.specs.Certificates.{IsValid}
 use Rattle.cache_model.specs.Objects.{objects_of}
 use Rattle.policy_model.specs.declared.names.PolicyName.{PolicyName}
 use Rattle.policy_model.specs.declared.names.PolicyName.TheVariants.{Belady}
-use Rattle.policy_model.specs.Runs.{policy_run}
+use Rattle.policy_model.specs.Runs.{IsPlayed, policy_run}
 use Rattle.policy_model.specs.States.{Member, State, start_of}
 use Rattle.policy_laws.specs.Laws.{HaveOneSize}
 use Rattle.belady_laws.specs.Best.{IsBest}
 use Rattle.replay_core.specs.declared.counts.Replay.{Replay}
+use Rattle.bit_list.specs.Bits.{bits_of}
+use Rattle.hit_flags.specs.Laws.{flags_text}
+use Rattle.replay_hits.specs.Hits.{AreHits}
 use Rattle.bound_report.specs.declared.replays.ReplayFacts.{ReplayFacts}
 use Rattle.bound_report.specs.Rendering.{rendered}
 use Rattle.bound_report.specs.Replays.{replay_lines}
 use Rattle.trace_any.specs.declared.format.Format.{Format}
 use Rattle.bound_words.specs.declared.plans.ReplaySettings.{ReplaySettings}
+use Rattle.bound_run.specs.declared.replays.Answered.{Answered}
+use Rattle.bound_run.specs.declared.replays.Answered.TheVariants.{Counts, Flags}
 use Rattle.bound_run.specs.Countings.{counting_from}
 
 -- what a replay earns by an objective
@@ -45,21 +50,47 @@ pub record BeginsAs (name : PolicyName) (capacity objects numbers room : ℕ) (c
   pub empty : contents ≡ []
   pub state_is : known_state ≡ Some (start_of name capacity)
 
--- the counts are those of the rule's run; no valid certificate is below them; and those of Belady's rule are the greatest scores if all that fits has one size and every request counts
+-- the counts are those of the rule's run, of the contents that it holds; no valid certificate is below them; and those of Belady's rule are the greatest scores if all that fits has one size and every request counts
 pub record IsReplay (policy : PolicyName) (capacity warmup : ℕ) (trace : Requests) (replay : Replay) : Type 0 where
   pub hits : replay.hits ≡ (policy_run policy trace.objects capacity warmup trace.fills).hits
   pub bytes : replay.bytes ≡ (policy_run policy trace.objects capacity warmup trace.fills).bytes
+  pub played : IsPlayed (Some (start_of policy capacity)) capacity warmup trace.fills trace.objects replay.hits replay.bytes replay.written
   pub bounded : IsWithinBounds capacity warmup trace replay.hits replay.bytes
   pub best : policy ≡ Belady → warmup ≡ 0 → trace.fills ≡ [] → HaveOneSize capacity trace.objects → IsBest capacity trace.objects replay.hits replay.bytes
+
+-- the flags are the hits of the contents that the rule holds
+abbrev pub AreHitsOf : ReplaySettings → Requests → List Bool → Type 0
+AreHitsOf r trace flags = AreHits (Some (start_of r.policy r.capacity)) r.capacity trace.objects flags
+
+-- a replay answers its counts, or a flag for each request, as it was asked to
+abbrev pub IsAnswered : ReplaySettings → Requests → Answered → Type 0
+IsAnswered r trace (Counts replay) = (r.flags ≡ false) × IsReplay r.policy r.capacity r.warmup trace replay
+IsAnswered r trace (Flags flags) = (r.flags ≡ true) × AreHitsOf r trace (bits_of flags)
 
 -- what the report of a replay states
 abbrev pub replay_facts : ReplaySettings → Requests → ℕ → Replay → ReplayFacts
 replay_facts r trace dropped replay =
     let objects = length (objects_of trace.objects) in
-    record { requests = length trace.objects; objects = objects; dropped = dropped; policy = r.policy; capacity = r.capacity; replay = replay }
+    let written = if r.writes then Some replay.written else None in
+    record { requests = length trace.objects; objects = objects; dropped = dropped; policy = r.policy; capacity = r.capacity; replay = replay; written = written }
 
 -- the text is the report of the replay that is asked for
-pub record IsReplayText (format : Format) (r : ReplaySettings) (trace : Requests) (dropped : ℕ) (text : List ℕ) : Type 0 where
+pub record IsCountsText (format : Format) (r : ReplaySettings) (trace : Requests) (dropped : ℕ) (text : List ℕ) : Type 0 where
   pub replay : Replay
   pub is_replay : IsReplay r.policy r.capacity r.warmup trace replay
   pub text_is : text ≡ rendered (counting_from format r.warmup trace) (replay_lines (replay_facts r trace dropped replay))
+
+-- the text is a line with a flag for each request, whether it is a hit
+pub record IsFlagsText (r : ReplaySettings) (trace : Requests) (text : List ℕ) : Type 0 where
+  pub flags : List Bool
+  pub hits : AreHitsOf r trace flags
+  pub text_is : text ≡ flags_text flags
+
+-- the text is the flags, or the report
+abbrev pub PrintsReplay : Bool → Format → ReplaySettings → Requests → ℕ → List ℕ → Type 0
+PrintsReplay true format r trace dropped text = IsFlagsText r trace text
+PrintsReplay false format r trace dropped text = IsCountsText format r trace dropped text
+
+-- the text is what the replay is asked to print
+abbrev pub IsReplayText : Format → ReplaySettings → Requests → ℕ → List ℕ → Type 0
+IsReplayText format r trace dropped text = PrintsReplay r.flags format r trace dropped text

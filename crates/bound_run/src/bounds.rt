@@ -10,6 +10,7 @@ ghost use Rattle.relaxation.specs.Faults.{amount_of};
 ghost use Rattle.bound_run.specs.BoundsFaults.{FailsBounds};
 ghost use Rattle.bound_run.specs.BoundsMade.{AreTexts, IsMade, is_unwindowed, records_of};
 ghost use Rattle.bound_run.specs.Records.{HasEach, records_in};
+ghost use Rattle.bound_run.specs.Reports.{written_by};
 
 use crate::counting::counting_of;
 use crate::relaxed::{Relaxed, relax, width_of};
@@ -19,7 +20,7 @@ use bound_report::{BoundFacts, render};
 use bound_terms::Mode;
 use bound_words::BoundSettings;
 use cache_model::{Header, Record, Terms};
-use cache_rules::{Trace, score_of_fitting};
+use cache_rules::{Trace, score_of_fitting, written_bytes};
 use cert_format::{Records, cert_of};
 use interval_maker::Intervals;
 use relaxation::{Denominator, Scale, denominator_for, unit_of};
@@ -224,6 +225,18 @@ impl Records for Bounds {
     }
 }
 
+// The bytes that a schedule writes, if they are counted.
+fn written_by(asked: &BoundSettings, trace: &Trace, keeps: &[bool]) -> Option<u128>
+    requires one_keep_each { length keeps.now ≡ length trace.now.objects }
+    ensures { result ≡ written_by asked.now trace.now keeps.now }
+{
+    if asked.writes {
+        Some(written_bytes(trace, asked.terms.warmup, keeps))
+    } else {
+        None
+    }
+}
+
 // The texts of a certificate that is made of the trace.
 fn texts_with(
     alloc: Global,
@@ -245,6 +258,7 @@ fn texts_with(
         mode: asked.mode,
         price: bounds.relaxed.price,
         intervals: bounds.intervals.as_slice().len() as u32,
+        written: written_by(asked, trace, bounds.keeps.as_slice()),
     };
     let cert = cert_of(alloc, &bounds.header, bounds)?;
     let report = render(alloc, &facts, counting_of(format, &bounds.header, trace))?;

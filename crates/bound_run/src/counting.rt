@@ -1,5 +1,5 @@
-//! How the requests of a trace count.
-ghost use Rattle.std.specs.Prelude.{◌≡◌};
+//! How the requests of a trace count, and what is counted only if it is asked for.
+ghost use Rattle.std.specs.Prelude.{◌≡◌, if◌then◌else◌, None, Some};
 ghost use Rattle.cert_checker.specs.Counting.{count_from};
 ghost use Rattle.bound_run.specs.Countings.{counting_found, counting_from, counting_of};
 
@@ -33,6 +33,13 @@ pub(crate) fn counting_of(format: Format, header: &Header, trace: &Trace) -> Cou
     ensures { result ≡ counting_of format header.now trace.now }
 {
     counting_from(format, header.warmup, trace)
+}
+
+/// Bytes that are written, if they are to be counted.
+pub(crate) fn if_counted(counted: bool, written: u128) -> Option<u128>
+    ensures { result ≡ (if counted then Some written else None) }
+{
+    counted.then_some(written)
 }
 
 /// How they count as a check found it.

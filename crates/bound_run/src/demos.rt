@@ -9,7 +9,7 @@ ghost use Rattle.bound_run.specs.Replays.{IsReplay};
 
 use crate::bounds::texts_of;
 use crate::checking::verdict_of;
-use crate::replays::replay_by;
+use crate::replays::{Answered, replay_by};
 use bound_base::NoMemory;
 use bound_io::CalmSource;
 use bound_report::{DemoFacts, PolicyReplays, Refusal, demo_text};
@@ -45,11 +45,11 @@ fn replay_whole(
 ) -> Result<Replay, NoMemory>
     ensures { IfOk result (IsReplay policy asked.now.terms.capacity 0 trace.now) }
 {
-    replay_by(
-        alloc,
-        trace,
-        ReplaySettings::new(policy, asked.terms.capacity, 0),
-    )
+    let settings = ReplaySettings::new(policy, asked.terms.capacity, 0, false, false);
+    match replay_by(alloc, trace, settings)? {
+        Answered::Counts(replay) => Ok(replay),
+        Answered::Flags(_) => unreachable!(),
+    }
 }
 
 // The replay of each policy.

@@ -5,10 +5,10 @@ ghost use Rattle.bound_io.specs.Devices.{seen};
 ghost use Rattle.bound_io.specs.Reading.{LosesPrefix};
 ghost use Rattle.cache_model.specs.declared.objects.Objective.TheVariants.{Object as Hits, Bytes};
 ghost use Rattle.trace_any.specs.Readings.{IsFormat};
-ghost use Rattle.bound_run.specs.Judgements.{IsJudged, claimed_by, judged_report};
+ghost use Rattle.bound_run.specs.Judgements.{IsJudged, claimed_by, judged_report, written_for};
 ghost use Rattle.bound_run.specs.Refusals.{RefusesJudge};
 
-use crate::counting::counting_from;
+use crate::counting::{counting_from, if_counted};
 use crate::status::refusal_of_flags;
 use bound_base::NoMemory;
 use bound_io::Source;
@@ -29,6 +29,7 @@ fn judged_report(
 ) -> Result<Vec<u8>, NoMemory>
     requires hits { claimed.hits ≡ claimed_by Hits asked claims.now.trace (bits_of claims.now.flags) }
     requires bytes { claimed.bytes ≡ claimed_by Bytes asked claims.now.trace (bits_of claims.now.flags) }
+    requires written { claimed.written ≡ written_for asked claims.now.trace (bits_of claims.now.flags) }
     ensures { IfOk result (λ text. text.items ≡ judged_report format asked claims.now.trace claims.now.dropped (bits_of claims.now.flags)) }
 {
     let facts = JudgedFacts {
@@ -37,6 +38,7 @@ fn judged_report(
         dropped: claims.dropped,
         capacity: asked.capacity,
         claimed,
+        written: if_counted(asked.writes, claimed.written),
     };
     render(
         alloc,

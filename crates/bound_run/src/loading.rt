@@ -10,7 +10,7 @@ ghost use Rattle.bound_run.specs.Refusals.{RefusesBounds, RefusesCurve, RefusesL
 
 use crate::bounds::texts_of;
 use crate::curves::{capacity_curve_report, curve_report};
-use crate::replays::replay_report;
+use crate::replays::replay_text;
 use crate::status::{refusal_of, refusal_of_curve};
 use crate::writing::Texts;
 use bound_io::Source;
@@ -81,7 +81,7 @@ pub(crate) fn replay_all<T: Source>(
     // Dropped here, for the proof.
     let text = {
         let (requests, dropped) = load_all(alloc, format, trace)?;
-        replay_report(alloc, format, r, &requests, dropped)
+        replay_text(alloc, format, r, &requests, dropped)
     };
     Ok(text?)
 }

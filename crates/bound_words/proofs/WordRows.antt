@@ -1,11 +1,12 @@
 -- The words of the command line, at small rows, computed.
-use Rattle.std.proofs.Common.{◌≡◌, ℕ, List, [], ◌∷◌, codes, Ok, Err, refl}
+use Rattle.std.proofs.Common.{◌≡◌, ℕ, true, false, List, [], ◌∷◌, codes, Ok, Err, refl}
 use Rattle.cache_model.specs.declared.objects.Objective.TheVariants.{Object as Hits, Bytes}
 use Rattle.bound_terms.specs.declared.modes.Mode.TheVariants.{Constant, Flow, Infinite}
 use Rattle.bound_terms.specs.declared.modes.Window.TheVariants.{All as Whole}
 use Rattle.relaxation.specs.declared.denominators.DenominatorChoice.TheVariants.{Auto, Exact, Given}
 use Rattle.trace_any.specs.declared.format.Format.TheVariants.{Webcache, Arc, Msr, Oracle, MarkedWebcache, MsrReads}
-use Rattle.bound_words.specs.declared.plans.Plan.TheVariants.{Bounds, Check, Curve, CapacityCurve, Judge, Demo, Upgrade}
+use Rattle.bound_words.specs.declared.plans.Plan.TheVariants.{Bounds, Check, Replay, Curve, CapacityCurve, Judge, Demo, Upgrade}
+use Rattle.policy_model.specs.declared.names.PolicyName.TheVariants.{Lru}
 use Rattle.bound_terms.specs.declared.words.WordKind.TheVariants.{Missing, Unknown, Twice, BadValue}
 use Rattle.bound_words.specs.Faults.{fault}
 use Rattle.bound_words.specs.Words.{plan}
@@ -15,21 +16,21 @@ abbrev bounds_with : List (List ℕ) → List (List ℕ)
 bounds_with operands = codes "bounds" ∷ codes "t" ∷ codes "c" ∷ operands
 
 -- three operands, and the objective where it isn't given
-all_required : plan (bounds_with (codes "format=webcache" ∷ codes "capacity=10" ∷ codes "mode=infinite" ∷ [])) ≡ Ok (Bounds Webcache 10 Hits Infinite (Given 1) 0 1)
+all_required : plan (bounds_with (codes "format=webcache" ∷ codes "capacity=10" ∷ codes "mode=infinite" ∷ [])) ≡ Ok (Bounds Webcache 10 Hits Infinite (Given 1) 0 1 false)
 unfolding plan
 all_required = refl
 
 -- another order, another objective, and another form of the trace
-another_order : plan (bounds_with (codes "objective=bytes" ∷ codes "mode=infinite" ∷ codes "capacity=010" ∷ codes "format=arc" ∷ [])) ≡ Ok (Bounds Arc 10 Bytes Infinite (Given 1) 0 1)
+another_order : plan (bounds_with (codes "objective=bytes" ∷ codes "mode=infinite" ∷ codes "capacity=010" ∷ codes "format=arc" ∷ [])) ≡ Ok (Bounds Arc 10 Bytes Infinite (Given 1) 0 1 false)
 unfolding plan
 another_order = refl
 
 -- the usual denominator of mode constant, and one that is chosen
-usual_denominator : plan (bounds_with (codes "format=arc" ∷ codes "capacity=1" ∷ codes "mode=constant" ∷ [])) ≡ Ok (Bounds Arc 1 Hits Constant (Given 281474976710656) 0 1)
+usual_denominator : plan (bounds_with (codes "format=arc" ∷ codes "capacity=1" ∷ codes "mode=constant" ∷ [])) ≡ Ok (Bounds Arc 1 Hits Constant (Given 281474976710656) 0 1 false)
 unfolding plan
 usual_denominator = refl
 
-chosen_denominator : plan (bounds_with (codes "denominator=exact" ∷ codes "format=arc" ∷ codes "capacity=1" ∷ codes "mode=constant" ∷ [])) ≡ Ok (Bounds Arc 1 Hits Constant Exact 0 1)
+chosen_denominator : plan (bounds_with (codes "denominator=exact" ∷ codes "format=arc" ∷ codes "capacity=1" ∷ codes "mode=constant" ∷ [])) ≡ Ok (Bounds Arc 1 Hits Constant Exact 0 1 false)
 unfolding plan
 chosen_denominator = refl
 
@@ -49,12 +50,12 @@ unfolding plan
 two_equals = refl
 
 -- a block before its form of the trace
-block_first : plan (bounds_with (codes "block=8192" ∷ codes "format=msr" ∷ codes "capacity=1" ∷ codes "mode=infinite" ∷ [])) ≡ Ok (Bounds (Msr 8192) 1 Hits Infinite (Given 1) 0 1)
+block_first : plan (bounds_with (codes "block=8192" ∷ codes "format=msr" ∷ codes "capacity=1" ∷ codes "mode=infinite" ∷ [])) ≡ Ok (Bounds (Msr 8192) 1 Hits Infinite (Given 1) 0 1 false)
 unfolding plan
 block_first = refl
 
 -- the block where it isn't given
-usual_block : plan (bounds_with (codes "format=msr" ∷ codes "capacity=1" ∷ codes "mode=infinite" ∷ [])) ≡ Ok (Bounds (Msr 4096) 1 Hits Infinite (Given 1) 0 1)
+usual_block : plan (bounds_with (codes "format=msr" ∷ codes "capacity=1" ∷ codes "mode=infinite" ∷ [])) ≡ Ok (Bounds (Msr 4096) 1 Hits Infinite (Given 1) 0 1 false)
 unfolding plan
 usual_block = refl
 
@@ -126,7 +127,7 @@ unfolding plan
 no_request = refl
 
 -- claimed hits are judged at a capacity, and stand on one of the two inputs alone
-a_judgement : plan (codes "judge" ∷ codes "t" ∷ codes "-" ∷ codes "format=arc" ∷ codes "capacity=7" ∷ codes "warmup=3" ∷ []) ≡ Ok (Judge Arc 7 3)
+a_judgement : plan (codes "judge" ∷ codes "t" ∷ codes "-" ∷ codes "format=arc" ∷ codes "capacity=7" ∷ codes "warmup=3" ∷ []) ≡ Ok (Judge Arc 7 3 false)
 unfolding plan
 a_judgement = refl
 
@@ -197,8 +198,38 @@ curve_at_no_capacity : plan (codes "curve" ∷ codes "t" ∷ codes "format=arc" 
 unfolding plan
 curve_at_no_capacity = refl
 
+-- written bytes are counted if that is asked for, of bounds, a replay and a judgement alone
+writes_counted : plan (bounds_with (codes "writes=count" ∷ codes "format=arc" ∷ codes "capacity=1" ∷ codes "mode=infinite" ∷ [])) ≡ Ok (Bounds Arc 1 Hits Infinite (Given 1) 0 1 true)
+unfolding plan
+writes_counted = refl
+
+writes_of_claims : plan (codes "judge" ∷ codes "t" ∷ codes "-" ∷ codes "format=arc" ∷ codes "capacity=7" ∷ codes "writes=none" ∷ []) ≡ Ok (Judge Arc 7 0 false)
+unfolding plan
+writes_of_claims = refl
+
+writes_in_a_check : plan (codes "check" ∷ codes "t" ∷ codes "c" ∷ codes "format=arc" ∷ codes "writes=count" ∷ []) ≡ Err (fault 5 Unknown)
+unfolding plan
+writes_in_a_check = refl
+
+writes_of_no_kind : plan (bounds_with (codes "writes=yes" ∷ [])) ≡ Err (fault 4 BadValue)
+unfolding plan
+writes_of_no_kind = refl
+
+-- a replay prints flags in place of the report if that is asked for, and then counts no written bytes
+flags_printed : plan (codes "replay" ∷ codes "t" ∷ codes "print=flags" ∷ codes "format=arc" ∷ codes "capacity=1" ∷ codes "policy=lru" ∷ codes "writes=none" ∷ []) ≡ Ok (Replay Arc 1 Lru 0 false true)
+unfolding plan
+flags_printed = refl
+
+flags_and_writes : plan (codes "replay" ∷ codes "t" ∷ codes "print=flags" ∷ codes "format=arc" ∷ codes "writes=count" ∷ []) ≡ Err (fault 5 Unknown)
+unfolding plan
+flags_and_writes = refl
+
+flags_of_bounds : plan (bounds_with (codes "print=flags" ∷ [])) ≡ Err (fault 4 Unknown)
+unfolding plan
+flags_of_bounds = refl
+
 -- a warm-up and a version of a certificate
-with_warmup : plan (bounds_with (codes "version=2" ∷ codes "format=arc" ∷ codes "warmup=7" ∷ codes "capacity=1" ∷ codes "mode=infinite" ∷ [])) ≡ Ok (Bounds Arc 1 Hits Infinite (Given 1) 7 2)
+with_warmup : plan (bounds_with (codes "version=2" ∷ codes "format=arc" ∷ codes "warmup=7" ∷ codes "capacity=1" ∷ codes "mode=infinite" ∷ [])) ≡ Ok (Bounds Arc 1 Hits Infinite (Given 1) 7 2 false)
 unfolding plan
 with_warmup = refl
 

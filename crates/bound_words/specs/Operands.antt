@@ -24,7 +24,7 @@ use Rattle.bound_words.specs.declared.operands.Values.{Values}
 use Rattle.bound_words.specs.declared.operands.Values.TheVariants as values
 use Rattle.bound_words.specs.Capacities.{capacities_of, capacity_list}
 use Rattle.bound_words.specs.Named.{value_given}
-use Rattle.bound_words.specs.Values.{block_of, format_of, capacity_of, count_of, objective_of, width_of, window_of, mode_of, denominator_of, number_to, reads_of, version_of, seed_of, drawn_of, usual_denominator, named}
+use Rattle.bound_words.specs.Values.{block_of, format_of, capacity_of, count_of, objective_of, width_of, window_of, mode_of, denominator_of, number_to, reads_of, writes_of, flags_of, version_of, seed_of, drawn_of, usual_denominator, named}
 
 -- whether a value is of this kind
 abbrev pub takes : Kind → List ℕ → Bool
@@ -42,6 +42,8 @@ takes kind.Number value = is_some (number_to (2 ^ 48) value)
 takes kind.Policy value = is_some (policy_named value)
 takes kind.Warmup value = is_some (count_of value)
 takes kind.Version value = is_some (version_of value)
+takes kind.Writes value = is_some (writes_of value)
+takes kind.Print value = is_some (flags_of value)
 takes kind.Seed value = is_some (seed_of value)
 takes kind.Drawn value = is_some (drawn_of value)
 
@@ -71,9 +73,11 @@ usual_kind name =
     else (if bytes_eq name (codes "policy") then Some kind.Policy
     else (if bytes_eq name (codes "warmup") then Some kind.Warmup
     else (if bytes_eq name (codes "version") then Some kind.Version
+    else (if bytes_eq name (codes "writes") then Some kind.Writes
+    else (if bytes_eq name (codes "print") then Some kind.Print
     else (if bytes_eq name (codes "seed") then Some kind.Seed
     else (if bytes_eq name (codes "requests") || bytes_eq name (codes "objects") then Some kind.Drawn
-    else None))))))))))))
+    else None))))))))))))))
 
 -- what it has in a command: the window of a refinement is a number of steps, and over capacities the denominator is a number
 abbrev pub kind_of : Command → List ℕ → Option Kind
@@ -148,6 +152,14 @@ warmup_given operands = unwrap_or (option_and_then count_of (value_given (codes 
 -- the version of the certificate that the operands give, and the first where they give none
 abbrev pub version_given : List (List ℕ) → ℕ
 version_given operands = unwrap_or (option_and_then version_of (value_given (codes "version") operands)) CERT_VERSION
+
+-- whether written bytes are counted, and not where the operands don't say it
+abbrev pub writes_given : List (List ℕ) → Bool
+writes_given operands = unwrap_or (option_and_then writes_of (value_given (codes "writes") operands)) false
+
+-- whether flags are printed, and the report where the operands don't say it
+abbrev pub flags_given : List (List ℕ) → Bool
+flags_given operands = unwrap_or (option_and_then flags_of (value_given (codes "print") operands)) false
 
 -- the seed of a demo that the operands give, and 1 where they give none
 abbrev pub seed_given : List (List ℕ) → ℕ

@@ -21,26 +21,27 @@ use Rattle.bound_words.specs.Capacities.{capacities_of}
 use Rattle.bound_words.specs.Commands.{places_of}
 use Rattle.bound_words.specs.Faults.{◌>>=◌, fault, passed, required}
 use Rattle.bound_words.specs.Operands.{capacities_given, capacity_given, capacity_or_usual, denominator_given, format_given, mode_given, number_given}
-use Rattle.bound_words.specs.Operands.{objective_given, objects_given, policy_given, requests_given, seed_given, version_given, warmup_given, width_given}
+use Rattle.bound_words.specs.Operands.{flags_given, objective_given, objects_given, policy_given, requests_given, seed_given, version_given, warmup_given, width_given, writes_given}
 use Rattle.bound_words.specs.Ranges.{AreBoundSettingsInRange, AreDrawSettingsInRange, AreReplaySettingsInRange}
 
 -- the settings of bounds, in the order of a plan
-abbrev pub bound_settings : ℕ → Objective → Mode → DenominatorChoice → ℕ → ℕ → BoundSettings
-bound_settings capacity objective mode denominator warmup version =
-    record { terms = record { objective = objective; capacity = capacity; warmup = warmup }; mode = mode; denominator = denominator; version = version }
+abbrev pub bound_settings : ℕ → Objective → Mode → DenominatorChoice → ℕ → ℕ → Bool → BoundSettings
+bound_settings capacity objective mode denominator warmup version writes =
+    record { terms = record { objective = objective; capacity = capacity; warmup = warmup }; mode = mode; denominator = denominator; version = version; writes = writes }
 
--- the settings of a plan; in a demo every request counts, and the certificate has the first version
+-- the settings of a plan; in a demo every request counts, the certificate has the first version, and no written bytes are counted
 abbrev pub settings_of : Plan → Settings
-settings_of (plan.Bounds format capacity objective mode denominator warmup version) =
-    Bounds format (bound_settings capacity objective mode denominator warmup version)
+settings_of (plan.Bounds format capacity objective mode denominator warmup version writes) =
+    Bounds format (bound_settings capacity objective mode denominator warmup version writes)
 settings_of (plan.Check format) = Check format
-settings_of (plan.Replay format capacity policy warmup) = Replay format (record { policy = policy; capacity = capacity; warmup = warmup })
+settings_of (plan.Replay format capacity policy warmup writes flags) =
+    Replay format (record { policy = policy; capacity = capacity; warmup = warmup; writes = writes; flags = flags })
 settings_of (plan.Curve format) = Curve format
 settings_of (plan.CapacityCurve format capacities objective denominator warmup) =
     CapacityCurve format capacities (record { objective = objective; denominator = denominator; warmup = warmup })
-settings_of (plan.Judge format capacity warmup) = Judge format (record { capacity = capacity; warmup = warmup })
+settings_of (plan.Judge format capacity warmup writes) = Judge format (record { capacity = capacity; warmup = warmup; writes = writes })
 settings_of (plan.Demo seed requests objects capacity objective mode denominator) =
-    Demo (record { seed = seed; requests = requests; objects = objects }) (bound_settings capacity objective mode denominator 0 CERT_VERSION)
+    Demo (record { seed = seed; requests = requests; objects = objects }) (bound_settings capacity objective mode denominator 0 CERT_VERSION false)
 settings_of plan.Upgrade = Upgrade
 settings_of (plan.Refine format width) = Refine format width
 
@@ -66,7 +67,7 @@ bounds_plan end operands = do
   format ← required end (format_given operands)
   capacity ← required end (capacity_given operands)
   Ok (plan.Bounds format capacity (objective_given operands) (mode_given operands) (denominator_given (mode_given operands) operands)
-      (warmup_given operands) (version_given operands))
+      (warmup_given operands) (version_given operands) (writes_given operands))
 
 -- the plan of a replay that accepted operands give, if the words end before this place
 abbrev pub replay_plan : ℕ → List (List ℕ) → Result Plan WordFault
@@ -74,7 +75,7 @@ replay_plan end operands = do
   format ← required end (format_given operands)
   capacity ← required end (capacity_given operands)
   policy ← required end (policy_given operands)
-  Ok (plan.Replay format capacity policy (warmup_given operands))
+  Ok (plan.Replay format capacity policy (warmup_given operands) (writes_given operands) (flags_given operands))
 
 -- the plan of a curve that accepted operands give, if the words end before this place
 abbrev pub curve_plan : ℕ → List (List ℕ) → Result Plan WordFault
@@ -119,7 +120,7 @@ judge_plan places words operands = do
   format ← required (length words + 1) (format_given operands)
   capacity ← required (length words + 1) (capacity_given operands)
   apart ← passed (inputs_fault places.trace places.beside words)
-  Ok (plan.Judge format capacity (warmup_given operands))
+  Ok (plan.Judge format capacity (warmup_given operands) (writes_given operands))
 
 -- the plan of a refinement, if the operands are accepted
 abbrev pub refine_plan : PathPlaces → List (List ℕ) → List (List ℕ) → Result Plan WordFault

@@ -37,6 +37,20 @@ reads_of value =
     else (if bytes_eq value (codes "reads") then Some true
     else None)
 
+-- whether written bytes are counted, by a value
+abbrev pub writes_of : List ℕ → Option Bool
+writes_of value =
+    if bytes_eq value (codes "none") then Some false
+    else (if bytes_eq value (codes "count") then Some true
+    else None)
+
+-- whether flags are printed in place of the report, by a value
+abbrev pub flags_of : List ℕ → Option Bool
+flags_of value =
+    if bytes_eq value (codes "report") then Some false
+    else (if bytes_eq value (codes "flags") then Some true
+    else None)
+
 -- the form of a trace that a value names, if a block has this many bytes, and if only reads count or all requests
 abbrev pub format_of : List ℕ → ℕ → Bool → Option Format
 format_of value block reads =

@@ -14,7 +14,7 @@ use Rattle.bound_words.specs.declared.commands.Command.TheVariants as command
 use Rattle.bound_words.specs.Commands.{command_named, has_operand, needed_names, places_of, operands_at, operands_of}
 use Rattle.bound_words.specs.Faults.{◌>>=◌, fault, passed}
 use Rattle.bound_words.specs.Named.{has_equals, name_of, value_of, value_given, place_given}
-use Rattle.bound_words.specs.Operands.{takes_value, reads_given}
+use Rattle.bound_words.specs.Operands.{flags_given, takes_value, reads_given, writes_given}
 use Rattle.bound_words.specs.Plans.{plan_of_command}
 use Rattle.bound_words.specs.Values.{format_of}
 use Rattle.trace_any.specs.Readings.{is_marked}
@@ -94,6 +94,10 @@ takes_no_window (Some mode) = not (bytes_eq mode (codes "flow"))
 abbrev pub window_fault : ℕ → List (List ℕ) → Option WordFault
 window_fault first operands = if takes_no_window (value_given (codes "mode") operands) then unknown_operand first (codes "window") operands else None
 
+-- that written bytes are counted is unknown beside flags that are printed
+abbrev pub writes_fault : ℕ → List (List ℕ) → Option WordFault
+writes_fault first operands = if writes_given operands && flags_given operands then unknown_operand first (codes "writes") operands else None
+
 -- the fault at the lesser place
 abbrev pub earlier : Option WordFault → Option WordFault → Option WordFault
 earlier None second = second
@@ -102,7 +106,8 @@ earlier (Some first) (Some second) = if nat_lt second.place first.place then Som
 
 -- the first operand that may not stand beside another
 abbrev pub beside_fault : ℕ → List (List ℕ) → Option WordFault
-beside_fault first operands = earlier (earlier (block_fault first operands) (count_fault first operands)) (window_fault first operands)
+beside_fault first operands =
+    earlier (earlier (earlier (block_fault first operands) (count_fault first operands)) (window_fault first operands)) (writes_fault first operands)
 
 -- what operands ask for that are the words of a command from this place on, or the first fault in them
 abbrev pub plan_of_operands : Command → ℕ → List (List ℕ) → List (List ℕ) → Result Plan WordFault

@@ -101,9 +101,12 @@ impl Command {
                 "denominator",
                 "warmup",
                 "version",
+                "writes",
             ],
             Command::Check | Command::Curve => &["format", "block", "count"],
-            Command::Replay => &["format", "capacity", "policy", "block", "count", "warmup"],
+            Command::Replay => &[
+                "format", "capacity", "policy", "block", "count", "warmup", "writes", "print",
+            ],
             Command::CapacityCurve => &[
                 "format",
                 "capacities",
@@ -113,7 +116,7 @@ impl Command {
                 "denominator",
                 "warmup",
             ],
-            Command::Judge => &["format", "capacity", "block", "count", "warmup"],
+            Command::Judge => &["format", "capacity", "block", "count", "warmup", "writes"],
             Command::Demo => &[
                 "seed",
                 "requests",
@@ -149,14 +152,14 @@ impl Command {
             Command::Bounds => &[
                 "bound_cli bounds TRACE CERT format=FORM capacity=BYTES [block=BYTES] [count=COUNTED]",
                 "    [objective=OBJECTIVE] [mode=MODE] [window=STEPS] [denominator=NUMBER]",
-                "    [warmup=REQUESTS] [version=VERSION]",
+                "    [warmup=REQUESTS] [version=VERSION] [writes=WRITTEN]",
             ],
             Command::Check => &[
                 "bound_cli check TRACE CERT format=FORM [block=BYTES] [count=COUNTED]",
             ],
             Command::Replay => &[
                 "bound_cli replay TRACE format=FORM capacity=BYTES policy=POLICY [block=BYTES]",
-                "    [count=COUNTED] [warmup=REQUESTS]",
+                "    [count=COUNTED] [warmup=REQUESTS] [writes=WRITTEN] [print=PRINTED]",
             ],
             Command::Curve | Command::CapacityCurve => &[
                 "bound_cli curve TRACE format=FORM [capacities=LIST] [block=BYTES] [count=COUNTED]",
@@ -164,7 +167,7 @@ impl Command {
             ],
             Command::Judge => &[
                 "bound_cli judge TRACE HITS format=FORM capacity=BYTES [block=BYTES] [count=COUNTED]",
-                "    [warmup=REQUESTS]",
+                "    [warmup=REQUESTS] [writes=WRITTEN]",
             ],
             Command::Demo => &[
                 "bound_cli demo [seed=NUMBER] [requests=NUMBER] [objects=NUMBER] [capacity=BYTES]",

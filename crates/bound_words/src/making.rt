@@ -8,9 +8,9 @@ ghost use Rattle.bound_words.specs.Plans.{refine_plan, replay_plan};
 
 use crate::commands::{Command, PathPlaces};
 use crate::operands::{
-    capacities_given, capacity_given, capacity_or_usual, denominator_given, format_given,
-    mode_given, number_given, objective_given, objects_given, policy_given, requests_given,
-    seed_given, version_given, warmup_given, width_given,
+    capacities_given, capacity_given, capacity_or_usual, denominator_given, flags_given,
+    format_given, mode_given, number_given, objective_given, objects_given, policy_given,
+    requests_given, seed_given, version_given, warmup_given, width_given, writes_given,
 };
 use crate::plans::Plan;
 use crate::values::is;
@@ -42,6 +42,7 @@ fn bounds_plan(end: u64, operands: &[String]) -> Result<Plan<'_>, WordFault>
         denominator: denominator_given(mode, operands),
         warmup: warmup_given(operands),
         version: version_given(operands),
+        writes: writes_given(operands),
     })
 }
 
@@ -103,6 +104,7 @@ fn judge_plan<'a>(
         format,
         capacity,
         warmup: warmup_given(operands),
+        writes: writes_given(operands),
     })
 }
 
@@ -135,6 +137,8 @@ fn replay_plan(end: u64, operands: &[String]) -> Result<Plan<'_>, WordFault>
         capacity,
         policy,
         warmup: warmup_given(operands),
+        writes: writes_given(operands),
+        flags: flags_given(operands),
     })
 }
 

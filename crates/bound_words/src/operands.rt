@@ -6,9 +6,9 @@ ghost use Rattle.trace_any.specs.Readings.{IsFormat};
 ghost use Rattle.bound_words.specs.declared.commands.Command.{Command};
 ghost use Rattle.bound_words.specs.Ranges.{IsModeInRange};
 ghost use Rattle.bound_words.specs.Operands.{block_given, capacities_given, capacity_given, capacity_or_usual, denominator_given};
-ghost use Rattle.bound_words.specs.Operands.{accepts, drawn_given, format_given, is_operand, kind_of, mode_given, number_given, objective_given, takes, usual_kind};
+ghost use Rattle.bound_words.specs.Operands.{accepts, drawn_given, flags_given, format_given, is_operand, kind_of, mode_given, number_given, objective_given, takes, usual_kind};
 ghost use Rattle.bound_words.specs.Operands.{objects_given, policy_given, reads_given, requests_given, seed_given};
-ghost use Rattle.bound_words.specs.Operands.{takes_value, version_given, warmup_given, width_given, window_given};
+ghost use Rattle.bound_words.specs.Operands.{takes_value, version_given, warmup_given, width_given, window_given, writes_given};
 ghost use Rattle.cache_model.specs.declared.version.TheConstants.{CERT_VERSION, SHORT_VERSION};
 
 use crate::capacities::CapacityList;
@@ -16,8 +16,9 @@ use crate::commands::Command;
 use crate::named::value_given;
 use crate::values::{
     MOST_BLOCK, MOST_CAPACITY, MOST_DENOMINATOR, MOST_DRAWN, MOST_REQUESTS, MOST_WINDOW,
-    USUAL_BLOCK, block_of, capacity_of, count_of, denominator_of, drawn_of, format_of, is, mode_of,
-    number_of, objective_of, reads_of, seed_of, usual_denominator, version_of, width_of, window_of,
+    USUAL_BLOCK, block_of, capacity_of, count_of, denominator_of, drawn_of, flags_of, format_of,
+    is, mode_of, number_of, objective_of, reads_of, seed_of, usual_denominator, version_of,
+    width_of, window_of, writes_of,
 };
 use bound_terms::{Mode, Window};
 use cache_model::{CERT_VERSION, SHORT_VERSION};
@@ -55,6 +56,10 @@ pub enum Kind {
     /// How many requests, which may be none.
     Warmup,
     Version,
+    /// Whether written bytes are counted.
+    Writes,
+    /// What a replay prints.
+    Print,
     Seed,
     /// How many requests or objects are drawn.
     Drawn,
@@ -101,6 +106,8 @@ impl Kind {
             Kind::Policy => PolicyName::named(value).is_some(),
             Kind::Warmup => count_of(value).is_some(),
             Kind::Version => version_of(value).is_some(),
+            Kind::Writes => writes_of(value).is_some(),
+            Kind::Print => flags_of(value).is_some(),
             Kind::Seed => seed_of(value).is_some(),
             Kind::Drawn => drawn_of(value).is_some(),
         }
@@ -131,6 +138,8 @@ impl Kind {
             Kind::Policy => Values::Policy,
             Kind::Warmup => from_0(MOST_REQUESTS),
             Kind::Version => up_to(u64::from(SHORT_VERSION)),
+            Kind::Writes => Values::Words(&["none", "count"]),
+            Kind::Print => Values::Words(&["report", "flags"]),
             Kind::Seed => from_0(u64::MAX),
             Kind::Drawn => up_to(MOST_DRAWN),
         }
@@ -177,6 +186,10 @@ fn usual_kind(name: &str) -> Option<Kind>
         Some(Kind::Warmup)
     } else if is(name, "version") {
         Some(Kind::Version)
+    } else if is(name, "writes") {
+        Some(Kind::Writes)
+    } else if is(name, "print") {
+        Some(Kind::Print)
     } else if is(name, "seed") {
         Some(Kind::Seed)
     } else if is(name, "requests") || is(name, "objects") {
@@ -353,6 +366,26 @@ pub(crate) fn version_given(operands: &[String]) -> u8
     match value_given("version", operands) {
         Some(value) => version_of(value).unwrap_or(CERT_VERSION),
         None => CERT_VERSION,
+    }
+}
+
+/// Whether written bytes are counted.
+pub(crate) fn writes_given(operands: &[String]) -> bool
+    ensures { result ≡ writes_given (map string_bytes operands.now) }
+{
+    match value_given("writes", operands) {
+        Some(value) => writes_of(value).unwrap_or(false),
+        None => false,
+    }
+}
+
+/// Whether flags are printed in place of the report.
+pub(crate) fn flags_given(operands: &[String]) -> bool
+    ensures { result ≡ flags_given (map string_bytes operands.now) }
+{
+    match value_given("print", operands) {
+        Some(value) => flags_of(value).unwrap_or(false),
+        None => false,
     }
 }
 

@@ -20,7 +20,8 @@ use trace_any::Format;
 /// What the words ask for.
 #[derive(Debug, PartialEq, Drop)]
 pub enum Plan<'a> {
-    /// Bounds on the best score from request `warmup` on, at a capacity in bytes, and their certificate.
+    /// Bounds on the best score from request `warmup` on, at a capacity in bytes, and their certificate; if written bytes
+    /// are counted, also those of its schedule.
     Bounds {
         format: Format,
         capacity: u64,
@@ -29,17 +30,21 @@ pub enum Plan<'a> {
         denominator: DenominatorChoice,
         warmup: u32,
         version: u8,
+        writes: bool,
     },
     /// Whether a certificate is valid for a trace of this form.
     Check {
         format: Format,
     },
-    /// The hits of a policy on a trace of this form, at a capacity in bytes, from request `warmup` on.
+    /// The hits of a policy on a trace of this form, at a capacity in bytes, from request `warmup` on; if written bytes are
+    /// counted, also those. Or a flag for each request, whether it is a hit.
     Replay {
         format: Format,
         capacity: u64,
         policy: PolicyName,
         warmup: u32,
+        writes: bool,
+        flags: bool,
     },
     /// LRU's hits at every number of slots on a trace of this form.
     Curve {
@@ -55,11 +60,12 @@ pub enum Plan<'a> {
         warmup: u32,
     },
     /// Whether hits that are claimed on a trace of this form are possible at a capacity in bytes, counted from request
-    /// `warmup` on.
+    /// `warmup` on; if written bytes are counted, also the least that the hits must write.
     Judge {
         format: Format,
         capacity: u64,
         warmup: u32,
+        writes: bool,
     },
     /// Bounds, their check and replays, at a capacity in bytes, on a trace that is drawn from a seed.
     Demo {
@@ -80,28 +86,35 @@ pub enum Plan<'a> {
     },
 }
 
-/// Which bounds are asked for: their terms, the mode, the denominator, and the version of the certificate's text.
+/// Which bounds are asked for: their terms, the mode, the denominator, the version of the certificate's text, and whether
+/// the bytes that its schedule writes are counted.
 #[derive(Clone, Copy)]
 pub struct BoundSettings {
     pub terms: Terms,
     pub mode: Mode,
     pub denominator: DenominatorChoice,
     pub version: u8,
+    pub writes: bool,
 }
 
-/// Which replay is asked for: the policy, its capacity in bytes, and the request from which its hits count.
+/// Which replay is asked for: the policy, its capacity in bytes, the request from which its hits count, whether the bytes
+/// that it writes are counted, and whether a flag for each request is printed in place of the report.
 #[derive(Clone, Copy)]
 pub struct ReplaySettings {
     pub policy: PolicyName,
     pub capacity: u64,
     pub warmup: u32,
+    pub writes: bool,
+    pub flags: bool,
 }
 
-/// At which capacity in bytes hits are judged, and the request from which they count.
+/// At which capacity in bytes hits are judged, the request from which they count, and whether the bytes that they must
+/// write are counted.
 #[derive(Clone, Copy)]
 pub struct JudgeSettings {
     pub capacity: u64,
     pub warmup: u32,
+    pub writes: bool,
 }
 
 /// Which trace is drawn: the seed of its generator, how many requests it has, and how many objects they are drawn from.
@@ -174,9 +187,10 @@ impl BoundSettings {
         denominator: DenominatorChoice,
         warmup: u32,
         version: u8,
+        writes: bool,
     ) -> Self
-        requires { AreBoundSettingsInRange (bound_settings capacity objective mode denominator warmup version) }
-        ensures { result ≡ bound_settings capacity objective mode denominator warmup version }
+        requires { AreBoundSettingsInRange (bound_settings capacity objective mode denominator warmup version writes) }
+        ensures { result ≡ bound_settings capacity objective mode denominator warmup version writes }
     {
         let terms = Terms {
             objective,
@@ -188,20 +202,23 @@ impl BoundSettings {
             mode,
             denominator,
             version,
+            writes,
         }
     }
 }
 
 impl ReplaySettings {
     /// Those of a policy.
-    pub fn new(policy: PolicyName, capacity: u64, warmup: u32) -> Self
-        requires { AreReplaySettingsInRange (record { policy = policy; capacity = capacity; warmup = warmup }) }
-        ensures { result ≡ record { policy = policy; capacity = capacity; warmup = warmup } }
+    pub fn new(policy: PolicyName, capacity: u64, warmup: u32, writes: bool, flags: bool) -> Self
+        requires { AreReplaySettingsInRange (record { policy = policy; capacity = capacity; warmup = warmup; writes = writes; flags = flags }) }
+        ensures { result ≡ record { policy = policy; capacity = capacity; warmup = warmup; writes = writes; flags = flags } }
     {
         ReplaySettings {
             policy,
             capacity,
             warmup,
+            writes,
+            flags,
         }
     }
 }
@@ -220,7 +237,8 @@ impl DrawSettings {
     }
 }
 
-/// The settings of a plan. In a demo every request counts, and the certificate has the first version.
+/// The settings of a plan. In a demo every request counts, the certificate has the first version, and no written bytes are
+/// counted.
 pub fn settings_of(plan: Plan<'_>) -> Settings<'_>
     requires { IsPlanInRange plan }
     ensures { result ≡ settings_of plan.entry }
@@ -234,9 +252,18 @@ pub fn settings_of(plan: Plan<'_>) -> Settings<'_>
             denominator,
             warmup,
             version,
+            writes,
         } => Settings::Bounds(
             format,
-            BoundSettings::new(capacity, objective, mode, denominator, warmup, version),
+            BoundSettings::new(
+                capacity,
+                objective,
+                mode,
+                denominator,
+                warmup,
+                version,
+                writes,
+            ),
         ),
         Plan::Check { format } => Settings::Check(format),
         Plan::Replay {
@@ -244,7 +271,12 @@ pub fn settings_of(plan: Plan<'_>) -> Settings<'_>
             capacity,
             policy,
             warmup,
-        } => Settings::Replay(format, ReplaySettings::new(policy, capacity, warmup)),
+            writes,
+            flags,
+        } => Settings::Replay(
+            format,
+            ReplaySettings::new(policy, capacity, warmup, writes, flags),
+        ),
         Plan::Curve { format } => Settings::Curve(format),
         Plan::CapacityCurve {
             format,
@@ -265,7 +297,15 @@ pub fn settings_of(plan: Plan<'_>) -> Settings<'_>
             format,
             capacity,
             warmup,
-        } => Settings::Judge(format, JudgeSettings { capacity, warmup }),
+            writes,
+        } => Settings::Judge(
+            format,
+            JudgeSettings {
+                capacity,
+                warmup,
+                writes,
+            },
+        ),
         Plan::Demo {
             seed,
             requests,
@@ -276,7 +316,15 @@ pub fn settings_of(plan: Plan<'_>) -> Settings<'_>
             denominator,
         } => Settings::Demo(
             DrawSettings::new(seed, requests, objects),
-            BoundSettings::new(capacity, objective, mode, denominator, 0, CERT_VERSION),
+            BoundSettings::new(
+                capacity,
+                objective,
+                mode,
+                denominator,
+                0,
+                CERT_VERSION,
+                false,
+            ),
         ),
         Plan::Upgrade => Settings::Upgrade,
         Plan::Refine { format, width } => Settings::Refine(format, width),

@@ -7,8 +7,8 @@ ghost use Rattle.trace_any.specs.Readings.{IsFormat};
 ghost use Rattle.trace_any.specs.declared.format.Format.TheVariants.{Webcache, Msr, MarkedWebcache, MsrReads};
 ghost use Rattle.bound_words.specs.Ranges.{IsModeInRange};
 ghost use Rattle.bound_words.specs.Values.{block_of, capacity_of, count_of, denominator_of, drawn_of};
-ghost use Rattle.bound_words.specs.Values.{format_of, mode_of, number_to, objective_of, reads_of};
-ghost use Rattle.bound_words.specs.Values.{seed_of, usual_denominator, version_of, width_of, window_of};
+ghost use Rattle.bound_words.specs.Values.{flags_of, format_of, mode_of, number_to, objective_of, reads_of};
+ghost use Rattle.bound_words.specs.Values.{seed_of, usual_denominator, version_of, width_of, window_of, writes_of};
 ghost use Rattle.cache_model.specs.declared.version.TheConstants.{CERT_VERSION, SHORT_VERSION};
 
 use bound_base::read_u64;
@@ -78,6 +78,32 @@ pub(crate) fn reads_of(value: &str) -> Option<bool>
     if is(value, "all") {
         Some(false)
     } else if is(value, "reads") {
+        Some(true)
+    } else {
+        None
+    }
+}
+
+/// Whether written bytes are counted, by a value.
+pub(crate) fn writes_of(value: &str) -> Option<bool>
+    ensures { result ≡ writes_of value.now }
+{
+    if is(value, "none") {
+        Some(false)
+    } else if is(value, "count") {
+        Some(true)
+    } else {
+        None
+    }
+}
+
+/// Whether flags are printed in place of the report, by a value.
+pub(crate) fn flags_of(value: &str) -> Option<bool>
+    ensures { result ≡ flags_of value.now }
+{
+    if is(value, "report") {
+        Some(false)
+    } else if is(value, "flags") {
         Some(true)
     } else {
         None

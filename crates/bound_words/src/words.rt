@@ -6,12 +6,12 @@ ghost use Rattle.bound_words.specs.Plans.{IsPlanInRange};
 ghost use Rattle.bound_words.specs.Commands.{operands_of, places_of};
 ghost use Rattle.bound_words.specs.Words.{HasNeeded, beside_fault, block_fault, command_asked, command_of, command_with};
 ghost use Rattle.bound_words.specs.Words.{count_fault, earlier, has_no_writes, operand_fault, operands_fault};
-ghost use Rattle.bound_words.specs.Words.{path, paths, plan, plan_of_operands, unknown_operand, window_fault};
+ghost use Rattle.bound_words.specs.Words.{path, paths, plan, plan_of_operands, unknown_operand, window_fault, writes_fault};
 
 use crate::commands::{Command, command_named, has_operand};
 use crate::making::plan_of_command;
 use crate::named::{has_equals, name_of, place_given, value_given, value_of};
-use crate::operands::{reads_given, takes_value};
+use crate::operands::{flags_given, reads_given, takes_value, writes_given};
 use crate::plans::Plan;
 use crate::values::{USUAL_BLOCK, format_of, is};
 use bound_terms::WordKind;
@@ -182,6 +182,17 @@ fn window_fault(first: u64, operands: &[String]) -> Option<WordFault>
     }
 }
 
+// That written bytes are counted is unknown beside flags that are printed.
+fn writes_fault(first: u64, operands: &[String]) -> Option<WordFault>
+    requires { first ≤ 10 }
+    ensures { result ≡ writes_fault first (map string_bytes operands.now) }
+{
+    if writes_given(operands) && flags_given(operands) {
+        return unknown_operand(first, "writes", operands);
+    }
+    None
+}
+
 // The fault at the lesser place.
 fn earlier(first: Option<WordFault>, second: Option<WordFault>) -> Option<WordFault>
     ensures { result ≡ earlier first second }
@@ -199,7 +210,8 @@ fn beside_fault(first: u64, operands: &[String]) -> Option<WordFault>
     ensures { result ≡ beside_fault first (map string_bytes operands.now) }
 {
     let of_trace = earlier(block_fault(first, operands), count_fault(first, operands));
-    earlier(of_trace, window_fault(first, operands))
+    let of_mode = earlier(of_trace, window_fault(first, operands));
+    earlier(of_mode, writes_fault(first, operands))
 }
 
 pub(crate) fn passed(fault: Option<WordFault>) -> Result<(), WordFault>

@@ -7,7 +7,9 @@ mod claims;
 mod fault;
 mod laws;
 mod line;
+mod text;
 
 pub use claims::{Claims, read_claims};
 pub use fault::FlagFault;
 pub use laws::flags_are_read;
+pub use text::flags_text;

@@ -2,4 +2,5 @@ pub mod Found
 pub mod FlaggedLoads
 pub mod FirstCause
 pub mod ClaimedSums
+pub mod NextFlagged
 mod Rows

@@ -64,7 +64,7 @@ pub(crate) fn first_at_request(trace: &Trace, flags: &BitList, capacity: u64) ->
 }
 
 // Whether the next request of the object of request `t` is flagged.
-fn next_is_flagged(trace: &Trace, flags: &BitList, t: u32) -> bool
+pub(crate) fn next_is_flagged(trace: &Trace, flags: &BitList, t: u32) -> bool
     requires within { t < length trace.now.objects }
     ensures { IsNextFlagged trace.now.objects (bits_of flags.now) t result }
 {

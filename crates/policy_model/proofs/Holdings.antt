@@ -10,6 +10,7 @@ use Rattle.cache_model.specs.Objects.{objects_of}
 use Rattle.cache_model.proofs.Duality.{same_object-true, same_object-refl}
 use Rattle.policy_model.specs.States.{Member, member, has_member, members_size}
 use Rattle.policy_model.specs.Asks.{object_numbered}
+use Rattle.policy_model.specs.Runs.{objects_held}
 
 -- ---- lists that are mapped
 pub Contains-map : {A B : Type 0} (f : A → B) (xs : List A) (x : A) → Contains xs x → Contains (map f xs) (f x)
@@ -20,10 +21,6 @@ Contains-unmap f [] y (k, within, e) = absurd (omega arith)
 Contains-unmap {A} {B} f (x ∷ xs) y (k, within, e) =
     let low : k < length (x ∷ xs) = omega (arith, length-map xs f) in
     (get_or (x ∷ xs) k x, Contains-get_or (x ∷ xs) k x low, sym (get_or-map f (x ∷ xs) k x y low) ∙ e)
-
--- the objects that the members stand for
-abbrev pub objects_held : List Object → List Member → List Object
-objects_held trace members = map (λ m. object_numbered trace m.object) members
 
 -- a member is an object of the trace, under its number and with its size
 pub record IsNumbered (trace : List Object) (m : Member) : Type 0 where

@@ -14,3 +14,4 @@ pub mod S3FifoSound
 pub mod AgingSound
 pub mod WTinyLfuSound
 pub mod RulesSound
+pub mod Writing

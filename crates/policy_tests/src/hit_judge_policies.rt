@@ -3,6 +3,7 @@ ghost use Rattle.std.specs.Prelude.{◌≡◌, ◌≤◌, [], length};
 ghost use Rattle.cache_model.specs.Objects.{objects_of};
 ghost use Rattle.replay_core.specs.Laws.{IsFresh};
 
+use crate::helpers::{self, Ask};
 use crate::rows::{CYCLE, holds, trace_of};
 use crate::today::{FEW, MORE};
 use bit_list::BitList;
@@ -79,16 +80,9 @@ fn check_hits<P: Policy + Drop>(
         flags: BitList::new(alloc),
     };
     let found = replay(alloc, trace, 0, &mut recorded).expect(rt, "memory");
-    let claimed = Claimed {
-        hits: found.hits,
-        bytes: found.bytes,
-    };
-    same(
-        "possible hits",
-        judge(trace, &recorded.flags, capacity, 0),
-        Ok(claimed),
-    )
-    .expect(rt, "a row");
+    let claimed = judge(trace, &recorded.flags, capacity, 0).expect(rt, "possible hits");
+    same("hits", claimed.hits, found.hits).expect(rt, "a row");
+    same("bytes", claimed.bytes, found.bytes).expect(rt, "a row");
 }
 
 fn check_each(rt: &impl Abort, alloc: Global, trace: &Trace, capacity: u64) {
@@ -138,7 +132,15 @@ fn flags_at(rt: &impl Abort, alloc: Global, requests: u32, flagged: &[u32]) -> B
 
 // A capacity, the requests that are flagged of A B C A B C, each of one byte, and what is judged.
 const CLAIMS: [(u64, &[u32], Result<Claimed, Impossible>); 6] = [
-    (2, &[3, 4], Ok(Claimed { hits: 2, bytes: 2 })),
+    (
+        2,
+        &[3, 4],
+        Ok(Claimed {
+            hits: 2,
+            bytes: 2,
+            written: 2,
+        }),
+    ),
     (2, &[3, 4, 5], Err(Impossible::Load { step: 2, load: 3 })),
     (1, &[3, 4], Err(Impossible::Load { step: 1, load: 2 })),
     (3, &[1, 3], Err(Impossible::First { request: 1 })),
@@ -150,7 +152,15 @@ const CLAIMS: [(u64, &[u32], Result<Claimed, Impossible>); 6] = [
             size: 1,
         }),
     ),
-    (2, &[], Ok(Claimed { hits: 0, bytes: 0 })),
+    (
+        2,
+        &[],
+        Ok(Claimed {
+            hits: 0,
+            bytes: 0,
+            written: 0,
+        }),
+    ),
 ];
 
 #[test]
@@ -159,5 +169,131 @@ fn what_no_cache_hits_is_named(rt: HostRuntime) {
     for (capacity, flagged, judged) in &CLAIMS {
         let flags = flags_at(&rt, rt.alloc(), trace.len(), flagged);
         same("a claim", judge(&trace, &flags, *capacity, 0), *judged).expect(&rt, "a row");
+    }
+}
+
+const LARGE: Ask = Ask {
+    object: 1,
+    size: 2,
+    fills: false,
+};
+
+const SMALL: Ask = Ask {
+    object: 2,
+    size: 1,
+    fills: false,
+};
+
+const FILLING: Ask = Ask {
+    object: 1,
+    size: 2,
+    fills: true,
+};
+
+const COUNTING: [Ask; 5] = [LARGE, SMALL, LARGE, SMALL, LARGE];
+
+const WITH_A_FILL: [Ask; 5] = [LARGE, SMALL, FILLING, SMALL, LARGE];
+
+// Requests, those that are flagged, a warm-up, and what they claim and must write at 3 bytes, worked out by hand.
+#[derive(Clone, Copy)]
+struct WriteRow {
+    shows: &'static str,
+    asks: &'static [Ask],
+    flagged: &'static [u32],
+    warmup: u32,
+    claimed: Claimed,
+}
+
+const WRITES: [WriteRow; 7] = [
+    WriteRow {
+        shows: "each first request writes",
+        asks: &COUNTING,
+        flagged: &[2, 3, 4],
+        warmup: 0,
+        claimed: Claimed {
+            hits: 3,
+            bytes: 5,
+            written: 3,
+        },
+    },
+    WriteRow {
+        shows: "a hit that only fills writes again",
+        asks: &WITH_A_FILL,
+        flagged: &[2, 3, 4],
+        warmup: 0,
+        claimed: Claimed {
+            hits: 2,
+            bytes: 3,
+            written: 5,
+        },
+    },
+    WriteRow {
+        shows: "what is written in the warm-up is left out",
+        asks: &WITH_A_FILL,
+        flagged: &[2, 3, 4],
+        warmup: 1,
+        claimed: Claimed {
+            hits: 2,
+            bytes: 3,
+            written: 3,
+        },
+    },
+    WriteRow {
+        shows: "a fill past the warm-up alone",
+        asks: &WITH_A_FILL,
+        flagged: &[2, 3, 4],
+        warmup: 2,
+        claimed: Claimed {
+            hits: 2,
+            bytes: 3,
+            written: 2,
+        },
+    },
+    WriteRow {
+        shows: "nothing is written past the fill",
+        asks: &WITH_A_FILL,
+        flagged: &[2, 3, 4],
+        warmup: 3,
+        claimed: Claimed {
+            hits: 2,
+            bytes: 3,
+            written: 0,
+        },
+    },
+    WriteRow {
+        shows: "a fill without a later hit writes nothing",
+        asks: &WITH_A_FILL,
+        flagged: &[2, 3],
+        warmup: 0,
+        claimed: Claimed {
+            hits: 1,
+            bytes: 1,
+            written: 3,
+        },
+    },
+    WriteRow {
+        shows: "the request before the only hit writes",
+        asks: &COUNTING,
+        flagged: &[4],
+        warmup: 0,
+        claimed: Claimed {
+            hits: 1,
+            bytes: 2,
+            written: 2,
+        },
+    },
+];
+
+#[test]
+fn what_hits_must_write_is_summed(rt: HostRuntime) {
+    for row in &WRITES {
+        let trace = helpers::trace_of(&rt, rt.alloc(), row.asks);
+        let flags = flags_at(&rt, rt.alloc(), trace.len(), row.flagged);
+        same(
+            row.shows,
+            judge(&trace, &flags, 3, row.warmup),
+            Ok(row.claimed),
+        )
+        .expect(&rt, "a row");
     }
 }

@@ -5,6 +5,8 @@
 #[cfg(test)]
 mod all_contents;
 #[cfg(test)]
+mod curves;
+#[cfg(test)]
 mod helpers;
 #[cfg(test)]
 mod hit_judge_policies;

@@ -48,7 +48,7 @@ impl Policy for Idle {
 }
 
 #[test]
-fn nothing_kept_hits_nothing(rt: HostRuntime) {
+fn nothing_kept_hits_and_writes_nothing(rt: HostRuntime) {
     let trace = trace_of(&rt, rt.alloc(), &CYCLE);
     let mut idle = Idle {
         capacity: 2,
@@ -57,4 +57,5 @@ fn nothing_kept_hits_nothing(rt: HostRuntime) {
     let found = replay(rt.alloc(), &trace, 0, &mut idle).expect(&rt, "memory");
     same("hits", found.hits, 0).expect(&rt, "a row");
     same("bytes", found.bytes, 0).expect(&rt, "a row");
+    same("written bytes", found.written, 0).expect(&rt, "a row");
 }

@@ -1,4 +1,4 @@
-//! Hits and bytes of the policies over three small traces, worked out by hand.
+//! Hits, bytes and written bytes of the policies over three small traces, worked out by hand.
 ghost use Rattle.std.specs.Prelude.{◌≡◌, true};
 
 use belady_laws::{BestFault, Replay, SizeClash, best_replay};
@@ -32,7 +32,7 @@ pub fn trace_of(rt: &impl Abort, alloc: Global, requests: &[[u64; 2]]) -> Trace 
     builder.finish()
 }
 
-/// Hits and bytes of LRU, FIFO, CLOCK, LFU and the rule of Belady, from this request on.
+/// What LRU, FIFO, CLOCK, LFU and the rule of Belady hit and write, from this request on.
 pub fn replays(
     rt: &impl Abort,
     alloc: Global,
@@ -58,7 +58,7 @@ pub fn replays(
 
 pub const CYCLE: [[u64; 2]; 6] = [[1, 1], [2, 1], [3, 1], [1, 1], [2, 1], [3, 1]];
 
-// A trace, its capacity, a warm-up, and the hits and bytes of the five, worked out by hand.
+// A trace, its capacity, a warm-up, and the hits, bytes and written bytes of the five, worked out by hand.
 #[derive(Clone, Copy)]
 struct Row {
     shows: &'static str,
@@ -67,6 +67,7 @@ struct Row {
     warmup: u32,
     hits: [u64; 5],
     bytes: [u128; 5],
+    written: [u128; 5],
 }
 
 const ROWS: [Row; 4] = [
@@ -77,6 +78,7 @@ const ROWS: [Row; 4] = [
         warmup: 0,
         hits: [0, 0, 0, 0, 2],
         bytes: [0, 0, 0, 0, 2],
+        written: [6, 6, 6, 6, 2],
     },
     Row {
         shows: "a hit before the warm-up does not count",
@@ -85,6 +87,7 @@ const ROWS: [Row; 4] = [
         warmup: 5,
         hits: [0, 0, 0, 0, 0],
         bytes: [0, 0, 0, 0, 0],
+        written: [1, 1, 1, 1, 0],
     },
     Row {
         shows: "sizes are counted",
@@ -93,6 +96,7 @@ const ROWS: [Row; 4] = [
         warmup: 0,
         hits: [2, 1, 2, 2, 3],
         bytes: [4, 2, 4, 4, 6],
+        written: [9, 11, 9, 9, 4],
     },
     Row {
         shows: "a large object is kept over small ones by Belady's rule alone",
@@ -101,16 +105,18 @@ const ROWS: [Row; 4] = [
         warmup: 0,
         hits: [0, 0, 0, 0, 2],
         bytes: [0, 0, 0, 0, 240],
+        written: [438, 438, 438, 438, 120],
     },
 ];
 
 #[test]
-fn each_policy_hits_what_its_rule_does(rt: HostRuntime) {
+fn each_policy_hits_and_writes_what_its_rule_does(rt: HostRuntime) {
     for row in &ROWS {
         let trace = trace_of(&rt, rt.alloc(), row.requests);
         let found = replays(&rt, rt.alloc(), &trace, row.capacity, row.warmup);
         same(row.shows, found.map(|r| r.hits), row.hits).expect(&rt, "hits");
         same(row.shows, found.map(|r| r.bytes), row.bytes).expect(&rt, "bytes");
+        same(row.shows, found.map(|r| r.written), row.written).expect(&rt, "written bytes");
     }
 }
 
@@ -118,7 +124,12 @@ fn each_policy_hits_what_its_rule_does(rt: HostRuntime) {
 fn the_best_replay_has_the_hits_of_the_bound(rt: HostRuntime) {
     let trace = trace_of(&rt, rt.alloc(), &CYCLE);
     let found = best_replay(rt.alloc(), &trace, 2);
-    same("a cycle", found, Ok(Replay { hits: 2, bytes: 2 })).expect(&rt, "a row");
+    let want = Replay {
+        hits: 2,
+        bytes: 2,
+        written: 2,
+    };
+    same("a cycle", found, Ok(want)).expect(&rt, "a row");
 }
 
 #[test]

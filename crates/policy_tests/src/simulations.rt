@@ -1,14 +1,12 @@
-//! Replays and curves of made traces with marks, beside plain simulations of the rules.
+//! Replays of made traces with marks, beside plain simulations of the rules.
 use crate::helpers::{Ask, Row, made, trace_of};
 use crate::rows::replays;
 use belady_laws::Replay;
-use byte_curve::{greatest_size, lru_hits};
 use compared::same;
-use stack_curve::curve;
 use std::alloc::Global;
 use std::process::Abort;
 
-const MADE: [Row; 4] = [(12, 4, 1, 12), (12, 4, 3, 12), (30, 6, 1, 8), (30, 7, 5, 8)];
+pub const MADE: [Row; 4] = [(12, 4, 1, 12), (12, 4, 3, 12), (30, 6, 1, 8), (30, 7, 5, 8)];
 
 #[derive(Clone, Copy, PartialEq, Eq)]
 enum Rule {
@@ -148,19 +146,32 @@ fn enter(rt: &impl Abort, rule: Rule, held: &mut Vec<Held>, capacity: u64, entry
     }
 }
 
-// Hits and bytes, with one more hit if it counts.
+// What was counted, with one more hit if it counts.
 fn with_hit(found: Replay, ask: &Ask, is_past: bool) -> Replay {
     if is_past && !ask.fills {
         Replay {
             hits: found.hits.wrapping_add(1),
             bytes: found.bytes.wrapping_add(ask.size as u128),
+            ..found
         }
     } else {
         found
     }
 }
 
-// Hits and bytes of a rule, of the requests that count past a warm-up.
+// What was counted, with the bytes of a request whose object is held after it, if it came in or was written anew.
+fn with_write(found: Replay, ask: &Ask, is_past: bool, was_held: bool) -> Replay {
+    if is_past && (ask.fills || !was_held) {
+        Replay {
+            written: found.written.wrapping_add(ask.size as u128),
+            ..found
+        }
+    } else {
+        found
+    }
+}
+
+// Hits and bytes of a rule, of the requests that count past a warm-up, and the bytes that it writes there.
 fn simulated(
     rt: &impl Abort,
     alloc: Global,
@@ -170,10 +181,15 @@ fn simulated(
     warmup: u32,
 ) -> Replay {
     let mut held: Vec<Held> = Vec::new(alloc);
-    let mut found = Replay { hits: 0, bytes: 0 };
+    let mut found = Replay {
+        hits: 0,
+        bytes: 0,
+        written: 0,
+    };
     for (t, ask) in asks.iter().enumerate() {
         let next = next_from(asks, ask.object, t.wrapping_add(1));
-        if let Some(place) = place_of(&held, ask.object) {
+        let before = place_of(&held, ask.object);
+        if let Some(place) = before {
             touch(rt, rule, &mut held, place, t, next);
             found = with_hit(found, ask, t >= warmup as usize);
         } else if ask.size <= capacity {
@@ -187,11 +203,14 @@ fn simulated(
             };
             enter(rt, rule, &mut held, capacity, entry);
         }
+        if place_of(&held, ask.object).is_some() {
+            found = with_write(found, ask, t >= warmup as usize, before.is_some());
+        }
     }
     found
 }
 
-// Hits and bytes of LRU, FIFO, CLOCK, LFU and the rule of Belady.
+// The same of LRU, FIFO, CLOCK, LFU and the rule of Belady.
 fn all_simulated(
     rt: &impl Abort,
     alloc: Global,
@@ -228,73 +247,8 @@ fn check_all_replays(rt: &impl Abort, alloc: Global, row: &Row) {
 }
 
 #[test]
-fn each_policy_hits_what_a_simulation_does(rt: HostRuntime) {
+fn each_policy_hits_and_writes_what_a_simulation_does(rt: HostRuntime) {
     for row in &MADE {
         check_all_replays(&rt, rt.alloc(), row);
-    }
-}
-
-// The curve of a made trace whose objects have one size, beside LRU's replays.
-fn check_curve(rt: &impl Abort, alloc: Global, row: &Row, first: u32) {
-    let (requests, objects, _, count) = *row;
-    let asks = made(rt, alloc, &(requests, objects, 1, count), first);
-    let trace = trace_of(rt, alloc, &asks);
-    let found = curve(alloc, &trace).expect(rt, "one size");
-    same(first, found.hits(0), 0).expect(rt, "no slots");
-    for slots in 1..9 {
-        let [lru, _, _, _, _] = replays(rt, alloc, &trace, slots as u64, 0);
-        same((first, slots), found.hits(slots), lru.hits).expect(rt, "a row");
-    }
-    drop(found);
-    drop(trace);
-}
-
-// The curve of each trace that is made of a row.
-fn check_curves(rt: &impl Abort, alloc: Global, row: &Row) {
-    for first in 0..row.3 {
-        check_curve(rt, alloc, row, first);
-    }
-}
-
-#[test]
-fn the_curve_has_the_hits_of_each_replay(rt: HostRuntime) {
-    for row in &MADE {
-        check_curves(&rt, rt.alloc(), row);
-    }
-}
-
-// LRU's hits at the greatest size of a made trace and at two greater capacities, beside its replays.
-fn check_capacities(rt: &impl Abort, alloc: Global, row: &Row, first: u32) {
-    let asks = made(rt, alloc, row, first);
-    let trace = trace_of(rt, alloc, &asks);
-    let least = greatest_size(&trace);
-    let more = least.saturating_add(2);
-    let most = more.saturating_add(5);
-    let found = lru_hits(alloc, &trace, &[least, more, most], 3).expect(rt, "memory");
-    same(first, found.len(), 3).expect(rt, "as many as capacities");
-    for (capacity, hits) in [least, more, most].iter().zip(&found) {
-        let [lru, _, _, _, _] = replays(rt, alloc, &trace, *capacity, 3);
-        same(
-            (first, *capacity),
-            [u128::from(hits.hits), hits.bytes],
-            [u128::from(lru.hits), lru.bytes],
-        )
-        .expect(rt, "a row");
-    }
-    drop(found);
-    drop(trace);
-}
-
-// LRU's hits at capacities of each trace that is made of a row.
-fn check_all_capacities(rt: &impl Abort, alloc: Global, row: &Row) {
-    for first in 0..row.3 {
-        check_capacities(rt, alloc, row, first);
-    }
-}
-
-#[test]
-fn one_pass_has_the_hits_of_each_replay(rt: HostRuntime) {
-    for row in &MADE {
-        check_all_capacities(&rt, rt.alloc(), row);
     }
 }

@@ -27,17 +27,19 @@ const HEADER: Header = Header {
     version: CERT_VERSION,
 };
 
-// A mode, the price that it found, and the report.
-const REPORTS: [(Mode, u128, &[u8]); 4] = [
+// A mode, the price that it found, the written bytes if they are counted, and the report.
+const REPORTS: [(Mode, u128, Option<u128>, &[u8]); 5] = [
     (
         Mode::Infinite,
         0,
+        None,
         b"trace requests 4 objects 2 dropped 6\ncapacity 7 objective bytes\nmode infinite form plain\n\
 unit 2 units 3 denominator 3\nintervals 1\nupper 14/3 floor 4\nflow 13/3\nlower 4\n",
     ),
     (
         Mode::Constant,
         5,
+        None,
         b"trace requests 4 objects 2 dropped 6\ncapacity 7 objective bytes\nmode constant price 5 form plain\n\
 unit 2 units 3 denominator 3\nintervals 1\nupper 14/3 floor 4\nflow 13/3\nlower 4\n",
     ),
@@ -46,6 +48,7 @@ unit 2 units 3 denominator 3\nintervals 1\nupper 14/3 floor 4\nflow 13/3\nlower 
             window: Window::All,
         },
         0,
+        None,
         b"trace requests 4 objects 2 dropped 6\ncapacity 7 objective bytes\nmode flow window all form exact\n\
 unit 2 units 3 denominator 3\nintervals 1\nupper 14/3 floor 4\nflow 13/3\nlower 4\n",
     ),
@@ -54,14 +57,23 @@ unit 2 units 3 denominator 3\nintervals 1\nupper 14/3 floor 4\nflow 13/3\nlower 
             window: Window::Steps(9),
         },
         0,
+        None,
         b"trace requests 4 objects 2 dropped 6\ncapacity 7 objective bytes\nmode flow window 9 form exact\n\
 unit 2 units 3 denominator 3\nintervals 1\nupper 14/3 floor 4\nflow 13/3\nlower 4\n",
+    ),
+    (
+        Mode::Infinite,
+        0,
+        Some(u128::MAX),
+        b"trace requests 4 objects 2 dropped 6\ncapacity 7 objective bytes\nmode infinite form plain\n\
+unit 2 units 3 denominator 3\nintervals 1\nupper 14/3 floor 4\nflow 13/3\nlower 4\n\
+writes 340282366920938463463374607431768211455\n",
     ),
 ];
 
 #[test]
 fn reports_each_mode(rt: HostRuntime) {
-    for (row, (mode, price, want)) in REPORTS.iter().enumerate() {
+    for (row, (mode, price, written, want)) in REPORTS.iter().enumerate() {
         let facts = BoundFacts {
             header: HEADER,
             objects: 2,
@@ -69,6 +81,7 @@ fn reports_each_mode(rt: HostRuntime) {
             mode: *mode,
             price: *price,
             intervals: 1,
+            written: *written,
         };
         let text = report_text(rt.alloc(), &facts).expect(&rt, "memory");
         same(row, text.as_slice(), *want).expect(&rt, "a row");
@@ -87,18 +100,36 @@ unit 2 units 3 denominator 3\nupper 14/3 floor 4\nflow 13/3\nlower 4\nvalid\n";
     same("a verdict", text.as_slice(), want.as_slice()).expect(&rt, "a row");
 }
 
+const REPLAY: ReplayFacts = ReplayFacts {
+    requests: 4,
+    objects: 2,
+    dropped: 6,
+    policy: PolicyName::S3Fifo,
+    capacity: 7,
+    replay: Replay {
+        hits: 2,
+        bytes: 5,
+        written: 8,
+    },
+    written: None,
+};
+
 #[test]
 fn says_a_replay_in_three_lines(rt: HostRuntime) {
+    let text = replay_text(rt.alloc(), &REPLAY).expect(&rt, "memory");
+    let want = b"trace requests 4 objects 2 dropped 6\npolicy s3fifo capacity 7\nhits 2 bytes 5\n";
+    same("a replay", text.as_slice(), want.as_slice()).expect(&rt, "a row");
+}
+
+#[test]
+fn says_what_a_replay_writes_in_a_fourth_line(rt: HostRuntime) {
     let facts = ReplayFacts {
-        requests: 4,
-        objects: 2,
-        dropped: 6,
-        policy: PolicyName::S3Fifo,
-        capacity: 7,
-        replay: Replay { hits: 2, bytes: 5 },
+        written: Some(8),
+        ..REPLAY
     };
     let text = replay_text(rt.alloc(), &facts).expect(&rt, "memory");
-    let want = b"trace requests 4 objects 2 dropped 6\npolicy s3fifo capacity 7\nhits 2 bytes 5\n";
+    let want =
+        b"trace requests 4 objects 2 dropped 6\npolicy s3fifo capacity 7\nhits 2 bytes 5\nwrites 8\n";
     same("a replay", text.as_slice(), want.as_slice()).expect(&rt, "a row");
 }
 

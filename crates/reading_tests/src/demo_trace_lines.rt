@@ -33,8 +33,13 @@ fn a_seed_draws_its_trace(rt: HostRuntime) {
     }
 }
 
+// A demo prints no written bytes.
 fn counts(hits: u64, bytes: u128) -> Replay {
-    Replay { hits, bytes }
+    Replay {
+        hits,
+        bytes,
+        written: 99,
+    }
 }
 
 #[test]

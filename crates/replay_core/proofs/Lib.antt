@@ -1,3 +1,4 @@
 pub mod KnownRuns
 pub mod Kept
 pub mod Tallies
+pub mod Writes

@@ -1,9 +1,9 @@
 -- The text of a demo is read in one way.
-use Rattle.std.proofs.Common.{◌≡◌, ℕ, zero, suc, ◌∙◌, sym, refl, ap, true, List, [], ◌∷◌, ◌++◌, append_assoc, get_or, arith, codes, None, Some, Option}
+use Rattle.std.proofs.Common.{◌≡◌, ℕ, ◌∙◌, sym, refl, ap, true, List, [], ◌∷◌, ◌++◌, append_assoc, get_or, arith, codes, None, Some, Option}
 use Rattle.std.specs.List.{AllByRecursion, list_all}
 use Rattle.std.proofs.lemmas.List.Concat.{flat_map-append}
 use Rattle.std.proofs.lemmas.List.Elements.{recursion_from_All}
-use Rattle.cache_model.specs.Texts.{entry, line, text_of}
+use Rattle.cache_model.specs.Texts.{line, text_of}
 use Rattle.policy_model.specs.declared.names.PolicyName.{PolicyName}
 use Rattle.policy_model.specs.declared.names.PolicyName.TheVariants.{Lru, Fifo, Clock, Lfu, Belady}
 use Rattle.replay_core.specs.declared.counts.Replay.{Replay}
@@ -13,12 +13,12 @@ use Rattle.bound_report.specs.declared.demo.PolicyReplays.{PolicyReplays}
 use Rattle.bound_report.specs.Demos.{demo_line, demo_text, replay_line, replay_lines}
 use Rattle.bound_report.specs.declared.rendering.Counting.{Counting}
 use Rattle.bound_report.specs.Rendering.{rendered}
-use Rattle.bound_report.specs.Reports.{bound_lines}
+use Rattle.bound_report.specs.Reports.{bound_lines, written_lines}
 use Rattle.policy_model.specs.Names.{policy_word}
-use Rattle.report_laws.specs.Laws.{ArePrintable, DemosHaveOneReading, IsPrintable, bound_numbers, demo_numbers}
+use Rattle.report_laws.specs.Laws.{ArePrintable, DemosHaveOneReading, IsPrintable, bound_numbers, demo_numbers, replay_numbers}
 use Rattle.report_laws.proofs.Lines.{Lacks, Part, Small, is_part, line_lacks, named, numbers_apart}
-use Rattle.report_laws.proofs.ReportLines.{IsReport, Report, body, bytes_at, lines_of, optional, rendered-lines, reports_apart, warmed}
-use Rattle.report_laws.proofs.Bounds.{SmallBounds, bound_trace, bounds_lack, report_of, same_bounds, small_bounds}
+use Rattle.report_laws.proofs.ReportLines.{BeginsOtherwise, IsReport, Report, body, bytes_at, lines_of, optional, rendered-written, reports_apart, warmed, warmup_of}
+use Rattle.report_laws.proofs.Bounds.{SmallBounds, bound_body, bound_trace, bounds_lack, report_of, same_bounds, small_bounds}
 
 -- ---- what is asked of a demo
 abbrev demo_parts : List Part
@@ -37,14 +37,11 @@ replay_parts p = named (codes "replay " ++ policy_word p ++ codes " hits") ++ na
 abbrev counts : Replay → List ℕ
 counts r = r.hits ∷ r.bytes ∷ []
 
-abbrev counts_of : List ℕ → Replay
-counts_of numbers = record { hits = get_or numbers 0 0; bytes = get_or numbers 1 0 }
-
 replay_lacks : (p : PolicyName) (r : Replay) → list_all is_part (replay_parts p) ≡ true → Small (counts r) → Lacks 10 (replay_line p r)
 replay_lacks p r are small = line_lacks (replay_parts p) (counts r) are small
 
-replay_apart : (p : PolicyName) (r s : Replay) → list_all is_part (replay_parts p) ≡ true → Small (counts r) → Small (counts s) → replay_line p r ≡ replay_line p s → r ≡ s
-replay_apart p r s are small small' e = ap counts_of (numbers_apart (replay_parts p) (counts r) (counts s) are refl refl small small' e)
+replay_apart : (p : PolicyName) (r s : Replay) → list_all is_part (replay_parts p) ≡ true → Small (counts r) → Small (counts s) → replay_line p r ≡ replay_line p s → counts r ≡ counts s
+replay_apart p r s are small small' e = numbers_apart (replay_parts p) (counts r) (counts s) are refl refl small small' e
 
 -- the numbers of each line are small
 record SmallDemo (a : DemoFacts) (r : PolicyReplays) (f : BoundFacts) : Type 0 where
@@ -71,43 +68,44 @@ replays_lack : (a : DemoFacts) (r : PolicyReplays) (f : BoundFacts) → SmallDem
 replays_lack a r f small =
     (replay_lacks Lru r.lru refl small.lru, (replay_lacks Fifo r.fifo refl small.fifo, (replay_lacks Clock r.clock refl small.clock, (replay_lacks Lfu r.lfu refl small.lfu, (replay_lacks Belady r.belady refl small.belady, tt)))))
 
-replays_from : Replay → Replay → Replay → Replay → Replay → PolicyReplays
-replays_from a b c d e = record { lru = a; fifo = b; clock = c; lfu = d; belady = e }
-
-replays_apart : (a b : DemoFacts) (r s : PolicyReplays) (f g : BoundFacts) → SmallDemo a r f → SmallDemo b s g → replay_lines r ≡ replay_lines s → r ≡ s
-unfolding replays_from
+replays_apart : (a b : DemoFacts) (r s : PolicyReplays) (f g : BoundFacts) → SmallDemo a r f → SmallDemo b s g → replay_lines r ≡ replay_lines s → replay_numbers r ≡ replay_numbers s
 replays_apart a b r s f g small small' e =
-    let first : r.lru ≡ s.lru = replay_apart Lru r.lru s.lru refl small.lru small'.lru (at 0) in
-    let second : r.fifo ≡ s.fifo = replay_apart Fifo r.fifo s.fifo refl small.fifo small'.fifo (at 1) in
-    let third : r.clock ≡ s.clock = replay_apart Clock r.clock s.clock refl small.clock small'.clock (at 2) in
-    let fourth : r.lfu ≡ s.lfu = replay_apart Lfu r.lfu s.lfu refl small.lfu small'.lfu (at 3) in
-    let fifth : r.belady ≡ s.belady = replay_apart Belady r.belady s.belady refl small.belady small'.belady (at 4) in
-    let all : replays_from r.lru r.fifo r.clock r.lfu r.belady ≡ replays_from s.lru s.fifo s.clock s.lfu s.belady = cc in
-    all
+    let first : counts r.lru ≡ counts s.lru = replay_apart Lru r.lru s.lru refl small.lru small'.lru (at 0) in
+    let second : counts r.fifo ≡ counts s.fifo = replay_apart Fifo r.fifo s.fifo refl small.fifo small'.fifo (at 1) in
+    let third : counts r.clock ≡ counts s.clock = replay_apart Clock r.clock s.clock refl small.clock small'.clock (at 2) in
+    let fourth : counts r.lfu ≡ counts s.lfu = replay_apart Lfu r.lfu s.lfu refl small.lfu small'.lfu (at 3) in
+    let fifth : counts r.belady ≡ counts s.belady = replay_apart Belady r.belady s.belady refl small.belady small'.belady (at 4) in
+    cc
   where
     at : (i : ℕ) → get_or (replay_lines r) i [] ≡ get_or (replay_lines s) i []
     at i = ap (λ ls. get_or ls i []) e
 
 -- a report among other lines
-rendered-between : (first : List ℕ) (c : Counting) (trace : List ℕ) (lines behind : List (List ℕ))
-    → line first ++ rendered c (record { front = trace ∷ []; back = lines }) ++ text_of behind ≡ text_of (first ∷ trace ∷ optional (codes "counted") c.counted (lines ++ warmed c.warmup behind))
-rendered-between first c trace lines behind =
-    let back = optional (codes "counted") c.counted (lines ++ warmed c.warmup []) in
-    ap (λ text. line first ++ text ++ text_of behind) (rendered-lines c (trace ∷ []) lines)
+rendered-between : (first : List ℕ) (c : Counting) (trace : List ℕ) (lines : List (List ℕ)) (written : Option ℕ) (behind : List (List ℕ))
+    → line first ++ rendered c (record { front = trace ∷ []; back = lines ++ written_lines written }) ++ text_of behind
+    ≡ text_of (first ∷ trace ∷ optional (codes "counted") c.counted (lines ++ optional (codes "writes") written (warmed c.warmup behind)))
+rendered-between first c trace lines written behind =
+    let warmup = warmed c.warmup [] in
+    let writes = optional (codes "writes") written warmup in
+    let back = optional (codes "counted") c.counted (lines ++ writes) in
+    ap (λ text. line first ++ text ++ text_of behind) (rendered-written c (trace ∷ []) lines written)
     ∙ sym (flat_map-append line (first ∷ trace ∷ back) behind)
     ∙ ap (λ ls. text_of (first ∷ trace ∷ ls))
-    (optional-append c.counted (lines ++ warmed c.warmup []) ∙ ap (optional (codes "counted") c.counted) (append_assoc lines (warmed c.warmup []) behind ∙ ap (λ ls. lines ++ ls) (warmed-append c.warmup)))
+    (optional-append (codes "counted") c.counted (lines ++ writes) ∙ ap (optional (codes "counted") c.counted) (append_assoc lines writes behind ∙ ap (λ ls. lines ++ ls) writes-append))
   where
-    warmed-append : (w : ℕ) → warmed w [] ++ behind ≡ warmed w behind
-    warmed-append zero = refl
-    warmed-append (suc n) = refl
+    optional-append : (word : List ℕ) (number : Option ℕ) (ls : List (List ℕ)) → optional word number ls ++ behind ≡ optional word number (ls ++ behind)
+    optional-append word None ls = refl
+    optional-append word (Some n) ls = refl
 
-    optional-append : (counted : Option ℕ) (ls : List (List ℕ)) → optional (codes "counted") counted ls ++ behind ≡ optional (codes "counted") counted (ls ++ behind)
-    optional-append None ls = refl
-    optional-append (Some n) ls = refl
+    writes-append : optional (codes "writes") written (warmed c.warmup []) ++ behind ≡ optional (codes "writes") written (warmed c.warmup behind)
+    writes-append = optional-append (codes "writes") written (warmed c.warmup []) ∙ ap (optional (codes "writes") written) (optional-append (codes "warmup") (warmup_of c.warmup) [])
 
-is_check : (n : ℕ) → codes "check valid" ≡ entry (codes "warmup") n → ⊥
-is_check n e = omega (arith, bytes_at 0 _ _ e)
+-- the line behind the bounds is none of a warm-up, and none of written bytes
+no_warmup : BeginsOtherwise (codes "warmup") (codes "check valid" ∷ [])
+no_warmup n e = omega (arith, bytes_at 0 _ _ e)
+
+no_writes : BeginsOtherwise (codes "writes") (codes "check valid" ∷ [])
+no_writes n e = omega (arith, bytes_at 0 _ _ e)
 
 module _ (a : DemoFacts) (f : BoundFacts) (c : Counting) (r : PolicyReplays) (printable : ArePrintable c (demo_numbers a r ++ bound_numbers f)) where
   small_all : SmallDemo a r f
@@ -127,13 +125,15 @@ module _ (a : DemoFacts) (f : BoundFacts) (c : Counting) (r : PolicyReplays) (pr
         before = (line_lacks demo_parts (asked_numbers a) refl small_all.asked, (lack.0, tt));
         counted = printable.0;
         body = lack.1;
+        written = small_all.bounds.written;
         warmup = printable.1;
         behind = (refl, replays_lack a r f small_all);
-        other = is_check;
+        no_warmup = no_warmup;
+        no_writes = no_writes;
       }
 
   text_whole : demo_text a (rendered c (bound_lines f)) r ≡ text_of (lines_of whole)
-  text_whole = rendered-between (demo_line a) c (bound_trace f) (body whole) behind
+  text_whole = rendered-between (demo_line a) c (bound_trace f) (body whole) f.written behind
 
 pub demos_apart : DemosHaveOneReading
 demos_apart a b f g c d r s printable printable' e =
@@ -146,4 +146,5 @@ demos_apart a b f g c d r s printable printable' e =
     let rest : body x ≡ body y = same.body in
     let checked : codes "check valid" ∷ replay_lines r ≡ codes "check valid" ∷ replay_lines s = same.behind in
     let asked : asked_numbers a ≡ asked_numbers b = numbers_apart demo_parts (asked_numbers a) (asked_numbers b) refl refl refl small.asked small'.asked (ap (λ ls. get_or ls 0 []) before) in
-    (ap asked_of asked, same_bounds f g small.bounds small'.bounds cc, same.counting, replays_apart a b r s f g small small' cc)
+    let lines : bound_body f ≡ bound_body g = cc in
+    (ap asked_of asked, same_bounds f g small.bounds small'.bounds lines same.written, same.counting, replays_apart a b r s f g small small' cc)

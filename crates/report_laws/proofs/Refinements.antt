@@ -46,7 +46,7 @@ module _ (read : ℕ) (x : Verdict) (m : ℕ) (c : Counting) (printable : ArePri
   is_alone : IsReport alone
   is_alone =
       let lack = verdict_lacks x m small_all.verdict in
-      record { before = (first_lacks, (lack.0, tt)); counted = printable.0; body = lack.1; warmup = printable.1; behind = tt; other = none_behind }
+      record { before = (first_lacks, (lack.0, tt)); counted = printable.0; body = lack.1; written = tt; warmup = printable.1; behind = tt; no_warmup = none_behind (codes "warmup"); no_writes = none_behind (codes "writes") }
 
   text_alone : rendered c (refined_lines read x m) ≡ text_of (lines_of alone)
   text_alone = rendered-lines c (refined_line read x.header ∷ verdict_trace x m ∷ []) (body alone)

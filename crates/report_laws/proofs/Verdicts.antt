@@ -1,5 +1,5 @@
 -- What a check prints is read in one way.
-use Rattle.std.proofs.Common.{◌≡◌, ℕ, ◌∙◌, sym, refl, ap, Bool, true, false, List, [], ◌∷◌, ◌++◌, drop, take, get_or, codes}
+use Rattle.std.proofs.Common.{◌≡◌, ℕ, ◌∙◌, sym, refl, ap, Bool, true, false, List, [], ◌∷◌, ◌++◌, drop, take, get_or, codes, None}
 use Rattle.std.specs.List.{AllByRecursion}
 use Rattle.std.proofs.lemmas.List.{append_cancel_left}
 use Rattle.std.proofs.lemmas.List.Elements.{recursion_from_All}
@@ -34,6 +34,7 @@ report_of x c before = record {
   capacity = x.header.capacity;
   objective = x.header.objective;
   others = (codes "form " ++ form_word x.header.exact) ∷ unit_line x.header ∷ value_lines x.header ++ codes "valid" ∷ [];
+  written = None;
   behind = [];
 }
 
@@ -71,7 +72,7 @@ module _ (x : Verdict) (m : ℕ) (c : Counting) (printable : ArePrintable c (ver
   alone = report_of x c (verdict_trace x m ∷ [])
 
   is_alone : IsReport alone
-  is_alone = let lack = verdict_lacks x m small_all in record { before = (lack.0, tt); counted = printable.0; body = lack.1; warmup = printable.1; behind = tt; other = none_behind }
+  is_alone = let lack = verdict_lacks x m small_all in record { before = (lack.0, tt); counted = printable.0; body = lack.1; written = tt; warmup = printable.1; behind = tt; no_warmup = none_behind (codes "warmup"); no_writes = none_behind (codes "writes") }
 
   text_alone : rendered c (verdict_lines x m) ≡ text_of (lines_of alone)
   text_alone = rendered-lines c (verdict_trace x m ∷ []) (body alone)

@@ -1,5 +1,6 @@
 -- A printed report can be read in one way only; each law is the contract of a function.
-use Rattle.std.specs.Prelude.{◌≡◌, ℕ, ◌^◌, ◌<◌, Bool, false, List, [], ◌∷◌, ◌++◌, All, IfSome}
+use Rattle.std.specs.Prelude.{◌≡◌, ℕ, ◌^◌, ◌<◌, Bool, false, List, [], ◌∷◌, ◌++◌, All, IfSome, None, Some}
+use Rattle.std.specs.declared.option.Option.{Option}
 use Rattle.cache_model.specs.declared.certificates.Header.{Header}
 use Rattle.cert_checker.specs.declared.verdict.Verdict.{Verdict}
 use Rattle.bound_terms.specs.declared.modes.Window.TheVariants.{All as Whole, Steps}
@@ -40,9 +41,14 @@ says_exact (Flow window) exact = exact
 says_exact Constant exact = false
 says_exact Infinite exact = false
 
+-- the number of written bytes, if a report prints one
+abbrev pub written_numbers : Option ℕ → List ℕ
+written_numbers None = []
+written_numbers (Some written) = written ∷ []
+
 -- the numbers that a report of bounds prints
 abbrev pub bound_numbers : BoundFacts → List ℕ
-bound_numbers f = f.objects ∷ f.dropped ∷ f.intervals ∷ header_numbers f.header ++ mode_numbers f.mode f.price
+bound_numbers f = f.objects ∷ f.dropped ∷ f.intervals ∷ header_numbers f.header ++ mode_numbers f.mode f.price ++ written_numbers f.written
 
 -- the same is printed of two bounds
 pub record SameBounds (f g : BoundFacts) : Type 0 where
@@ -50,6 +56,7 @@ pub record SameBounds (f g : BoundFacts) : Type 0 where
   pub objective : f.header.objective ≡ g.header.objective
   pub mode : f.mode ≡ g.mode
   pub exact : says_exact f.mode f.header.exact ≡ says_exact g.mode g.header.exact
+  pub written : f.written ≡ g.written
 
 -- two reports of bounds with one text print the same, and how their requests count
 abbrev pub BoundsHaveOneReading : Type 0
@@ -85,21 +92,24 @@ RefinementsHaveOneReading =
     → rendered c (refined_lines read x m) ≡ rendered d (refined_lines other y n)
     → (read ≡ other) × SameVerdicts x y m n × (c ≡ d)
 
--- the numbers that a demo prints beside those of its bounds
-abbrev pub demo_numbers : DemoFacts → PolicyReplays → List ℕ
-demo_numbers facts r =
-    facts.seed ∷ facts.requests ∷ facts.objects ∷ facts.capacity
-    ∷ r.lru.hits ∷ r.lru.bytes
+-- the numbers that a demo prints of its replays: the hits of each policy and their bytes
+abbrev pub replay_numbers : PolicyReplays → List ℕ
+replay_numbers r =
+    r.lru.hits ∷ r.lru.bytes
     ∷ r.fifo.hits ∷ r.fifo.bytes
     ∷ r.clock.hits ∷ r.clock.bytes
     ∷ r.lfu.hits ∷ r.lfu.bytes
     ∷ r.belady.hits ∷ r.belady.bytes
     ∷ []
 
--- two demos with one text were asked the same, and have the same bounds and replays
+-- the numbers that a demo prints beside those of its bounds
+abbrev pub demo_numbers : DemoFacts → PolicyReplays → List ℕ
+demo_numbers facts r = facts.seed ∷ facts.requests ∷ facts.objects ∷ facts.capacity ∷ replay_numbers r
+
+-- two demos with one text were asked the same, and have the same bounds, and the same hits of each policy with their bytes
 abbrev pub DemosHaveOneReading : Type 0
 DemosHaveOneReading =
     (a b : DemoFacts) (f g : BoundFacts) (c d : Counting) (r s : PolicyReplays)
     → ArePrintable c (demo_numbers a r ++ bound_numbers f) → ArePrintable d (demo_numbers b s ++ bound_numbers g)
     → demo_text a (rendered c (bound_lines f)) r ≡ demo_text b (rendered d (bound_lines g)) s
-    → (a ≡ b) × SameBounds f g × (c ≡ d) × (r ≡ s)
+    → (a ≡ b) × SameBounds f g × (c ≡ d) × (replay_numbers r ≡ replay_numbers s)

@@ -16,7 +16,7 @@ pub fn refinements_have_one_reading()
     ensures { RefinementsHaveOneReading }
 {}
 
-/// Two demos with one text were asked the same, and have the same bounds and replays.
+/// Two demos with one text were asked the same, and have the same bounds, and the same hits of each policy with their bytes.
 pub fn demos_have_one_reading()
     ensures { DemosHaveOneReading }
 {}

@@ -20,6 +20,8 @@ mod demos;
 #[cfg(test)]
 mod faults;
 #[cfg(test)]
+mod flags;
+#[cfg(test)]
 mod flow;
 #[cfg(test)]
 mod large;
@@ -35,3 +37,5 @@ mod traces;
 mod usage;
 #[cfg(test)]
 mod words;
+#[cfg(test)]
+mod written;

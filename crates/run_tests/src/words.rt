@@ -14,6 +14,7 @@ use whole_runs::words_of;
 
 mod plans;
 mod refusals;
+mod writes;
 
 fn check_plan(rt: &impl Abort, alloc: Global, text: &str, wanted: Result<Plan<'_>, WordFault>) {
     let words = words_of(alloc, text).expect(rt, "memory");
@@ -66,6 +67,7 @@ const ASKED: Plan<'static> = Plan::Bounds {
     denominator: DenominatorChoice::Given(1),
     warmup: 0,
     version: 1,
+    writes: false,
 };
 
 // How far the other operands stand after the first one, in a circle.
@@ -130,6 +132,7 @@ fn bounds_take_a_warmup_and_a_version(rt: HostRuntime) {
             denominator: DenominatorChoice::Given(1),
             warmup: *warmup,
             version: *version,
+            writes: false,
         };
         check_plan(&rt, rt.alloc(), text, Ok(plan));
     }
@@ -199,6 +202,8 @@ fn a_replay_takes_a_policy_and_a_warmup(rt: HostRuntime) {
             capacity: *capacity,
             policy: *policy,
             warmup: *warmup,
+            writes: false,
+            flags: false,
         };
         check_plan(&rt, rt.alloc(), text, Ok(plan));
     }
@@ -222,6 +227,7 @@ fn a_judgement_takes_a_capacity_and_a_warmup(rt: HostRuntime) {
             format: Format::Arc,
             capacity: *capacity,
             warmup: *warmup,
+            writes: false,
         };
         check_plan(&rt, rt.alloc(), text, Ok(plan));
     }

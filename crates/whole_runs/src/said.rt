@@ -53,9 +53,13 @@ fn push_line(text: &mut String, names: &[&str], words: &str) -> Result<(), NoMem
     Ok(())
 }
 
-// Whether a line has its name with it: how many requests count, that the certificate is valid, or the warm-up.
+// Whether a line has its name with it: that the certificate is valid, how many requests count, the written bytes, or the
+// warm-up.
 fn is_named(words: &str) -> bool {
-    words == "valid" || words.starts_with("counted ") || words.starts_with("warmup ")
+    words == "valid"
+        || words.starts_with("counted ")
+        || words.starts_with("writes ")
+        || words.starts_with("warmup ")
 }
 
 // The lines, of which those that aren't named have these names in turn.

@@ -26,6 +26,7 @@ impl Bounds<'_> {
             denominator: self.denominator,
             warmup: 0,
             version: 1,
+            writes: false,
         }
     }
 }

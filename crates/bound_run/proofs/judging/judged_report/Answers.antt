@@ -1,27 +1,31 @@
-use Rattle.std.proofs.Common.{◌≡◌, ◌∙◌, ℕ, List, ap, length}
+use Rattle.std.proofs.Common.{◌≡◌, ◌∙◌, ℕ, List, ap, cond, length, None, Some}
 use Rattle.std.proofs.lemmas.Result.{IfOk-weaker}
 use Rattle.bit_list.specs.Bits.{bits_of}
 use Rattle.cache_model.specs.Objects.{objects_of}
 use Rattle.bound_report.specs.Judged.{judged_lines}
 use Rattle.bound_report.specs.Rendering.{rendered}
-use Rattle.bound_run.specs.Judgements.{judged_facts, judged_report}
+use Rattle.cache_model.specs.declared.objects.Objective.TheVariants.{Object as Hits, Bytes}
+use Rattle.bound_run.specs.Judgements.{claimed_by, judged_facts, judged_report}
 use Rattle.bound_run.proofs.judging.judged_report.Goals as goal
 
 pub returns : goal.returns
 returns c =
     let claims = c.args.claims.now in
     let trace = claims.trace in
-    let report : ℕ → ℕ → List ℕ
-    = λ hits bytes. rendered c.counting_from.result (judged_lines (record {
+    let flags = bits_of claims.flags in
+    let report : ℕ → ℕ → ℕ → List ℕ
+    = λ hits bytes written. rendered c.counting_from.result (judged_lines (record {
       requests = length trace.objects;
       objects = length (objects_of trace.objects);
       dropped = claims.dropped;
       capacity = c.args.asked.capacity;
-      claimed = record { hits = hits; bytes = bytes };
+      claimed = record { hits = hits; bytes = bytes; written = written };
+      written = cond c.args.asked.writes (Some written) None;
     })) in
     IfOk-weaker c.render.result
-    (λ text. text.items ≡ report c.args.claimed.hits c.args.claimed.bytes)
+    (λ text. text.items ≡ report c.args.claimed.hits c.args.claimed.bytes c.args.claimed.written)
     (λ text. text.items ≡ judged_report c.args.format c.args.asked trace claims.dropped (bits_of claims.flags))
-    (λ text is. is ∙ (ap (λ hits. report hits c.args.claimed.bytes) c.requires.hits ∙ ap (report _) c.requires.bytes
+    (λ text is. is ∙ (ap (λ hits. report hits c.args.claimed.bytes c.args.claimed.written) c.requires.hits ∙ ap (λ bytes. report (claimed_by Hits c.args.asked trace flags) bytes c.args.claimed.written) c.requires.bytes
+    ∙ ap (report (claimed_by Hits c.args.asked trace flags) (claimed_by Bytes c.args.asked trace flags)) c.requires.written
     ∙ ap (λ counting. rendered counting (judged_lines (judged_facts c.args.asked trace claims.dropped (bits_of claims.flags)))) c.counting_from.ensures))
-    (rw (c.len.ensures.requests, c.objects.ensures.different) at c.render.ensures)
+    (rw (c.len.ensures.requests, c.objects.ensures.different, c.if_counted.ensures) at c.render.ensures)

@@ -28,3 +28,6 @@ returns-clause-possible c = (
       (ap (λ o. option_or o (first_at_step c.args.capacity c.args.trace.now.objects (bits_of c.args.flags.now))) (sym c.in_default.ensures) ∙ sym c.in_default-first_at_step.ensures),
   λ _. refl,
 )
+
+pub returns-clause-written : goal.returns-clause-written
+returns-clause-written c = c.count_claimed.ensures.written c.args.capacity ((returns-clause-possible c).0 refl)

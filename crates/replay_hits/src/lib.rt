@@ -1,0 +1,9 @@
+//! Which requests of a trace a policy answers as hits.
+//!
+//! The rule is "Hits of a replay" in docs/DEFINITIONS.md. Whatever policy is replayed, some contents that are allowed hit
+//! just there.
+#![tactic(auto)]
+
+mod recording;
+
+pub use recording::replay_hits;
