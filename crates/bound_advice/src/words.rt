@@ -56,6 +56,7 @@ pub struct Words<'a> {
 }
 
 impl<'a> Words<'a> {
+    /// Those of a command line, without the program's name. The command is sought here, once.
     pub fn new(words: &'a [String]) -> Self
         ensures words { result.words.now ≡ words.now }
         ensures command { result.command ≡ command_asked (map string_bytes words.now) }

@@ -30,8 +30,9 @@ pub(crate) enum Answered {
     Flags(BitList),
 }
 
-/// Replays the trace, and counts the hits and the written bytes from request `warmup` on. Whatever the policy, no certificate that is valid for
-/// the trace, of the same capacity and no longer warm-up, has a smaller upper bound. It takes what a replay takes.
+/// Replays the trace, and counts the hits and the written bytes from request `warmup` on. Whatever the policy, no
+/// certificate that is valid for the trace, of the same capacity and no longer warm-up, has a smaller upper bound. It
+/// takes what a replay takes.
 pub fn bounded_replay<P: Policy>(
     alloc: Global,
     trace: &Trace,

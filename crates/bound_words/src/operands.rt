@@ -39,27 +39,39 @@ const USUAL_CAPACITY: u64 = 65536;
 /// What an operand has for its value.
 #[derive(Clone, Copy, Debug, PartialEq, Eq)]
 pub enum Kind {
+    /// The form of a trace.
     Form,
+    /// The bytes of a block.
     Block,
+    /// Whether all requests count, or reads alone.
     Counted,
+    /// A capacity, in bytes.
     Capacity,
+    /// A list of capacities.
     Capacities,
+    /// What a hit gains.
     Objective,
+    /// How the prices of a bound are made.
     Mode,
+    /// One window for all steps, or a number of steps.
     Window,
     /// The steps of a window, or of a block of a refinement.
     Width,
+    /// What prices are over: a number, or how it is chosen.
     Denominator,
     /// A denominator that is a number.
     Number,
+    /// The rule of a replay.
     Policy,
     /// How many requests, which may be none.
     Warmup,
+    /// The version of a certificate's text.
     Version,
     /// Whether written bytes are counted.
     Writes,
     /// What a replay prints.
     Print,
+    /// What the random numbers of a demo begin with.
     Seed,
     /// How many requests or objects are drawn.
     Drawn,
