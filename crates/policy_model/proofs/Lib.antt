@@ -1,4 +1,5 @@
 mod PolicyRows
+mod LeavingRows
 pub mod AllowedContents
 pub mod Numbers
 pub mod Comparisons
@@ -14,4 +15,6 @@ pub mod S3FifoSound
 pub mod AgingSound
 pub mod WTinyLfuSound
 pub mod RulesSound
+pub mod Leavings
+pub mod Settled
 pub mod Writing

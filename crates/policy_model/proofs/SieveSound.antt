@@ -29,7 +29,7 @@ looks_at behind ahead = length behind + length ahead + marks behind + marks ahea
 abbrev pub looks_left : Cut → ℕ
 looks_left c = looks_at c.behind c.ahead
 
-again-entries : (behind ahead : List Entry) → cut_entries (begin_again behind ahead) ≡ behind ++ ahead
+pub again-entries : (behind ahead : List Entry) → cut_entries (begin_again behind ahead) ≡ behind ++ ahead
 again-entries behind [] = sym (append-nil behind)
 again-entries behind (e ∷ ahead) = refl
 

@@ -1,5 +1,5 @@
 -- What contents write, one request later, and the contents of a rule.
-use Rattle.std.proofs.Common.{◌≡◌, ℕ, suc, ◌+◌, ◌<◌, ◌≤◌, ◌∙◌, sym, refl, ap, Bool, not, ◌&&◌, ◌||◌, cond, nat_le, List, [], ◌∷◌, ◌++◌, length, fold, map, take, arith, sum_by}
+use Rattle.std.proofs.Common.{◌≡◌, ℕ, suc, ◌+◌, ◌∙◌, sym, refl, ap, Bool, not, ◌&&◌, ◌||◌, cond, nat_le, List, [], ◌∷◌, ◌++◌, length, fold, map, take, arith, sum_by}
 use Rattle.std.specs.List.{range_with_len}
 use Rattle.std.proofs.Math.Seq.{get_or-append_seam}
 use Rattle.std.proofs.lemmas.List.{get_or_append_left, length-append}
@@ -8,7 +8,7 @@ use Rattle.cache_model.specs.declared.objects.Object.{Object}
 use Rattle.cache_model.specs.Claim.{holds, before_request, no_object, only_fills, request_at}
 use Rattle.cache_model.specs.Written.{writes, written_bytes}
 use Rattle.cache_model.proofs.Streams.{sum_by-range_agree, sum_by-range_last}
-use Rattle.policy_model.specs.States.{Member, State, members_of}
+use Rattle.policy_model.specs.States.{State, members_of}
 use Rattle.policy_model.specs.Asks.{Ask, asks_of}
 use Rattle.policy_model.specs.Runs.{Run, run_step, run_from, rule_step, held_after, objects_held}
 use Rattle.policy_model.proofs.Replays.{run_to}
@@ -22,7 +22,6 @@ pub written_bytes-more : (warmup : ℕ) (fills : List Bool) (xs : List Object) (
     → written_bytes warmup fills (xs ++ x ∷ []) (ks ++ next ∷ [])
     ≡ written_bytes warmup fills xs ks + own_written warmup fills (length xs) x (before_request ks (length xs)) next
 written_bytes-more warmup fills xs x ks next long =
-    let n : ℕ = length xs in
     let longer : length (xs ++ x ∷ []) ≡ suc (length xs) = omega (arith, length-append xs (x ∷ [])) in
     let at : List Object → List (List Object) → ℕ → ℕ = λ ys cs t. cond (nat_le warmup t && writes fills ys cs t) (request_at ys t).size 0 in
     let f : ℕ → ℕ = at (xs ++ x ∷ []) (ks ++ next ∷ []) in

@@ -2,3 +2,4 @@ pub mod KnownRuns
 pub mod Kept
 pub mod Tallies
 pub mod Writes
+pub mod Leavings

@@ -6,9 +6,9 @@ use Rattle.std.proofs.lemmas.List.{length-take-le, take_all, take_more}
 use Rattle.cache_model.specs.declared.objects.Object.{Object}
 use Rattle.cache_model.specs.Claim.{before_request, counts_past, holds, no_object, only_fills, request_at}
 use Rattle.cache_model.specs.Written.{written_bytes}
-use Rattle.policy_model.specs.States.{Member, State, has_member, member, members_of, members_size, start_of}
-use Rattle.policy_model.specs.Runs.{AreScores, IsPlayed, held_after, objects_held}
-use Rattle.policy_model.proofs.Holdings.{has_member-held, numbered-more}
+use Rattle.policy_model.specs.States.{Member, State, has_member, member, members_size, start_of}
+use Rattle.policy_model.specs.Runs.{IsPlayed, held_after, objects_held}
+use Rattle.policy_model.proofs.Holdings.{has_member-held}
 use Rattle.policy_model.proofs.Replays.{AreScoresTo, IsAsked, played-begin, played-on, played-through, run_to}
 use Rattle.policy_model.proofs.Writing.{own_written, written_bytes-more, held_after-run, held_after-more}
 use Rattle.replay_core.specs.Laws.{IsFresh, StateFits}

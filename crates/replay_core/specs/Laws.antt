@@ -4,6 +4,7 @@ use Rattle.std.specs.declared.option.Option.{Option}
 use Rattle.cache_model.specs.declared.objects.Object.{Object}
 use Rattle.policy_model.specs.States.{Member, State, members_of, members_size, start_of}
 use Rattle.policy_model.specs.Rules.{policy_step}
+use Rattle.policy_model.specs.Leaving.{let_go}
 use Rattle.policy_model.specs.Runs.{policy_run}
 
 -- the members fit into the capacity, and no object is there twice
@@ -18,6 +19,10 @@ StateFits known_state members capacity = IfSome known_state (λ s. (members_of s
 -- a state that was known before is known after, one step of its rule later
 abbrev pub StepsBy : Option State → Option State → ℕ → ℕ → Option ℕ → Type 0
 StepsBy before after object size next = IfSome before (λ s. after ≡ Some (policy_step s object size next).after)
+
+-- a state that was known before is known after, without the object of this number
+abbrev pub LetsGo : Option State → Option State → ℕ → Type 0
+LetsGo before after object = IfSome before (λ s. after ≡ Some (let_go s object))
 
 -- how many requests a policy has answered, and how many of them as hits
 pub record Tally : Type 0 where

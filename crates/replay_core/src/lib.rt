@@ -5,9 +5,11 @@
 #![tactic(auto)]
 
 mod counts;
+mod letting_go;
 mod policy;
 mod replaying;
 
 pub use counts::Replay;
+pub use letting_go::LetGo;
 pub use policy::{Outcome, Policy};
 pub use replaying::replay;

@@ -1,0 +1,79 @@
+-- What stays once the entry of an object has left: the others, in order, whatever the rule.
+use Rattle.std.proofs.Common.{◌≡◌, ℕ, ◌≤◌, ◌∙◌, sym, refl, ap, subst, Bool, true, false, not, cond, eqb, List, [], ◌∷◌, ◌++◌, take, drop, arith}
+use Rattle.std.proofs.lemmas.List.{take-append-drop}
+use Rattle.policy_model.specs.declared.names.PolicyName.{PolicyName}
+use Rattle.policy_model.specs.declared.names.PolicyName.TheVariants.{Sieve, S3Fifo, WTinyLfu}
+use Rattle.policy_model.specs.States.{Entry, State, member_of, members_of, used, IsFit}
+use Rattle.policy_model.specs.Steps.{without_entry}
+use Rattle.policy_model.specs.WTinyLfu.{Segments, window_part, main_part, main_used, segments_of, frequencies_of}
+use Rattle.policy_model.specs.Leaving.{without_member, segments_without, stock_without, let_go}
+use Rattle.policy_model.proofs.Parts.{part-used, part-apart}
+use Rattle.policy_model.proofs.AgingSound.{without-part}
+use Rattle.policy_model.proofs.SieveSound.{again-entries}
+use Rattle.policy_model.proofs.WTinyLfuSound.{KeepsShares, shared_segments}
+
+pub without-append : (k : ℕ) (xs ys : List Entry) → without_entry k (xs ++ ys) ≡ without_entry k xs ++ without_entry k ys
+without-append k [] ys = refl
+without-append k (e ∷ xs) ys = at (eqb e.object k) (without-append k xs ys)
+  where
+    at : (b : Bool) → without_entry k (xs ++ ys) ≡ without_entry k xs ++ without_entry k ys
+        → cond (not b) (e ∷ without_entry k (xs ++ ys)) (without_entry k (xs ++ ys)) ≡ cond (not b) (e ∷ without_entry k xs) (without_entry k xs) ++ without_entry k ys
+    at true more = more
+    at false more = ap (λ es. e ∷ es) more
+
+pub members-without : (k : ℕ) (entries : List Entry) → members_of (without_entry k entries) ≡ without_member k (members_of entries)
+members-without k [] = refl
+members-without k (e ∷ rest) = at (eqb e.object k) (members-without k rest)
+  where
+    at : (b : Bool) → members_of (without_entry k rest) ≡ without_member k (members_of rest)
+        → members_of (cond (not b) (e ∷ without_entry k rest) (without_entry k rest)) ≡ cond (not b) (member_of e ∷ without_member k (members_of rest)) (without_member k (members_of rest))
+    at true more = more
+    at false more = ap (λ ms. member_of e ∷ ms) more
+
+pub fit-without : (c k : ℕ) (entries : List Entry) → IsFit c entries → IsFit c (without_entry k entries)
+fit-without c k entries fit = record {
+  room = (let low : used entries ≤ c = fit.room in omega (arith, part-used (without_entry k entries) entries (without-part k entries)));
+  apart = part-apart (without_entry k entries) entries (without-part k entries) fit.apart;
+}
+
+-- both parts of entries that are cut somewhere
+parts-without : (k n : ℕ) (entries : List Entry) → without_entry k (take n entries) ++ without_entry k (drop n entries) ≡ without_entry k entries
+parts-without k n entries = sym (without-append k (take n entries) (drop n entries)) ∙ ap (without_entry k) (take-append-drop n entries)
+
+module _ (s : State) (k : ℕ) where
+  stock-entries : (name : PolicyName) → (stock_without name s k).entries ≡ without_entry k s.entries
+  stock-entries Sieve = again-entries (without_entry k (take s.beside.first s.entries)) (without_entry k (drop s.beside.first s.entries)) ∙ parts-without k s.beside.first s.entries
+  stock-entries S3Fifo = parts-without k s.beside.first s.entries
+  stock-entries WTinyLfu =
+      ap (λ es. without_entry k (take s.beside.first s.entries) ++ es) (parts-without k s.beside.second (drop s.beside.first s.entries)) ∙ parts-without k s.beside.first s.entries
+  stock-entries name = refl
+
+  -- the entries are those of before without the object's
+  pub entries-let_go : (let_go s k).entries ≡ without_entry k s.entries
+  entries-let_go = stock-entries s.name
+
+  -- and so are the members
+  pub members-let_go : members_of (let_go s k).entries ≡ without_member k (members_of s.entries)
+  members-let_go = ap members_of entries-let_go ∙ members-without k s.entries
+
+  -- they still fit and are apart
+  pub fit-let_go : (c : ℕ) → IsFit c s.entries → IsFit c (let_go s k).entries
+  fit-let_go c fit = subst (IsFit c) (sym entries-let_go) (fit-without c k s.entries fit)
+
+  stock-shares : (name : PolicyName) (c : ℕ) → KeepsShares name c s.entries s.beside → KeepsShares name c (stock_without name s k).entries (stock_without name s k).beside
+  stock-shares WTinyLfu c shares =
+      let q : Segments = segments_of s in
+      let window : used q.window ≤ window_part c = shares.window in
+      let main : main_used q.main ≤ main_part c = shares.main in
+      shared_segments c (frequencies_of s) (segments_without k q)
+      (omega (arith, part-used (without_entry k q.window) q.window (without-part k q.window)))
+      (omega (
+        arith,
+        part-used (without_entry k q.main.probation) q.main.probation (without-part k q.main.probation),
+        part-used (without_entry k q.main.protected) q.main.protected (without-part k q.main.protected),
+      ))
+  stock-shares name c shares = tt
+
+  -- each segment keeps within its part
+  pub shares-let_go : (c : ℕ) → KeepsShares s.name c s.entries s.beside → KeepsShares s.name c (let_go s k).entries (let_go s k).beside
+  shares-let_go c shares = stock-shares s.name c shares
