@@ -1,12 +1,14 @@
 -- What stays once the entry of an object has left: the others, in order, whatever the rule.
 use Rattle.std.proofs.Common.{◌≡◌, ℕ, ◌≤◌, ◌∙◌, sym, refl, ap, subst, Bool, true, false, not, cond, eqb, List, [], ◌∷◌, ◌++◌, take, drop, arith}
+use Rattle.std.proofs.lemmas.Bool.{or_parts, or_from}
 use Rattle.std.proofs.lemmas.List.{take-append-drop}
 use Rattle.policy_model.specs.declared.names.PolicyName.{PolicyName}
 use Rattle.policy_model.specs.declared.names.PolicyName.TheVariants.{Sieve, S3Fifo, WTinyLfu}
-use Rattle.policy_model.specs.States.{Entry, State, member_of, members_of, used, IsFit}
+use Rattle.policy_model.specs.States.{Entry, State, member_of, members_of, used, has_entry, IsFit}
 use Rattle.policy_model.specs.Steps.{without_entry}
-use Rattle.policy_model.specs.WTinyLfu.{Segments, window_part, main_part, main_used, segments_of, frequencies_of}
+use Rattle.policy_model.specs.WTinyLfu.{Segments, window_part, main_part, main_used, segments_of, frequencies_of, segment_entries}
 use Rattle.policy_model.specs.Leaving.{without_member, segments_without, stock_without, let_go}
+use Rattle.policy_model.proofs.Entries.{without-none}
 use Rattle.policy_model.proofs.Parts.{part-used, part-apart}
 use Rattle.policy_model.proofs.AgingSound.{without-part}
 use Rattle.policy_model.proofs.SieveSound.{again-entries}
@@ -36,6 +38,27 @@ fit-without c k entries fit = record {
   apart = part-apart (without_entry k entries) entries (without-part k entries) fit.apart;
 }
 
+-- ---- an object that is in neither part of entries
+pub absent-left : (k : ℕ) (xs ys : List Entry) → has_entry (xs ++ ys) k ≡ false → has_entry xs k ≡ false
+absent-left k [] ys none = refl
+absent-left k (e ∷ xs) ys none =
+    let parts : (eqb e.object k ≡ false) × (has_entry (xs ++ ys) k ≡ false) = or_parts _ _ none in
+    or_from (eqb e.object k) (has_entry xs k) parts.0 (absent-left k xs ys parts.1)
+
+pub absent-right : (k : ℕ) (xs ys : List Entry) → has_entry (xs ++ ys) k ≡ false → has_entry ys k ≡ false
+absent-right k [] ys none = none
+absent-right k (e ∷ xs) ys none = absent-right k xs ys (or_parts (eqb e.object k) (has_entry (xs ++ ys) k) none).1
+
+-- it leaves no segment
+pub segments-none : (k : ℕ) (q : Segments) → has_entry (segment_entries q) k ≡ false → segments_without k q ≡ q
+segments-none k q none =
+    let of : List Entry → List Entry → List Entry → Segments = λ w p t. record { window = w; main = record { probation = p; protected = t } } in
+    let rest : has_entry (q.main.probation ++ q.main.protected) k ≡ false = absent-right k q.window (q.main.probation ++ q.main.protected) none in
+    ap (λ es. of es (without_entry k q.main.probation) (without_entry k q.main.protected)) (without-none k q.window (absent-left k q.window (q.main.probation ++ q.main.protected) none))
+    ∙ ap (λ es. of q.window es (without_entry k q.main.protected)) (without-none k q.main.probation (absent-left k q.main.probation q.main.protected rest))
+    ∙ ap (of q.window q.main.probation) (without-none k q.main.protected (absent-right k q.main.probation q.main.protected rest))
+
+-- ---- every entry but the object's
 -- both parts of entries that are cut somewhere
 parts-without : (k n : ℕ) (entries : List Entry) → without_entry k (take n entries) ++ without_entry k (drop n entries) ≡ without_entry k entries
 parts-without k n entries = sym (without-append k (take n entries) (drop n entries)) ∙ ap (without_entry k) (take-append-drop n entries)

@@ -1,7 +1,6 @@
 -- What the rules leave behind: queues that are in order, of which letting go of what is not held changes nothing.
 use Rattle.std.proofs.Common.{◌≡◌, ℕ, ◌+◌, ◌*◌, ◌∙◌, sym, refl, ap, subst, Bool, true, false, cond, eqb, leb, List, [], ◌∷◌, ◌++◌, length, drop, None}
 use Rattle.std.specs.declared.option.Option.{Option}
-use Rattle.std.proofs.lemmas.Bool.{or_parts, or_from}
 use Rattle.std.proofs.lemmas.List.{length-map}
 use Rattle.std.proofs.Math.Seq.{take-append_seam, drop-append_seam}
 use Rattle.policy_model.specs.declared.names.PolicyName.{PolicyName}
@@ -10,10 +9,11 @@ use Rattle.policy_model.specs.States.{Entry, Stock, State, has_entry, nothing_be
 use Rattle.policy_model.specs.Steps.{until_fits, without_entry, touched, touch, fresh_entry}
 use Rattle.policy_model.specs.Sieve.{Cut, begin_again, look, cut_used, cut_of, come_in, stock_of_cut}
 use Rattle.policy_model.specs.S3Fifo.{Queues, shrink, queues_used, enter, queues_of, stock_of_queues}
-use Rattle.policy_model.specs.WTinyLfu.{Main, Segments, Frequencies, window_part, main_part, protected_part, with_request, hit_in, missed_in, main_of, segments_of, frequencies_of, segment_entries, stock_of_segments}
+use Rattle.policy_model.specs.WTinyLfu.{Main, Segments, Frequencies, window_part, main_part, protected_part, with_request, hit_in, missed_in, main_of, segments_of, frequencies_of, stock_of_segments}
 use Rattle.policy_model.specs.Rules.{stock_after, policy_step}
 use Rattle.policy_model.specs.Leaving.{cut_without, queues_without, segments_without, stock_without, let_go}
 use Rattle.policy_model.proofs.Entries.{without-none}
+use Rattle.policy_model.proofs.Leavings.{absent-left, absent-right, segments-none}
 
 -- what is kept is that of queues, and the hand has an entry ahead if there is one
 abbrev pub IsSettled : PolicyName → Stock → Type 0
@@ -112,6 +112,17 @@ module _ (s : State) where
     pub settled-step : IsSettled s.name (stock_of s) → IsSettled s.name (stock_of (policy_step s object size next).after)
     settled-step is = stock-settled s.name is
 
+  -- the segments of what is kept of them
+  pub segments-kept : (f : Frequencies) (q : Segments) → segments_of (keeping s (stock_of_segments f q)) ≡ q
+  segments-kept f q =
+      let rest : List Entry = q.main.probation ++ q.main.protected in
+      let of : List Entry → Main → Segments = λ w m. record { window = w; main = m } in
+      let main : List Entry → List Entry → Main = λ p t. record { probation = p; protected = t } in
+      ap (λ es. of es (main_of (length q.main.probation) (drop (length q.window) (q.window ++ rest)))) (take-append_seam q.window rest)
+      ∙ ap (λ es. of q.window (main_of (length q.main.probation) es)) (drop-append_seam q.window rest)
+      ∙ ap (λ es. of q.window (main es (drop (length q.main.probation) rest))) (take-append_seam q.main.probation q.main.protected)
+      ∙ ap (λ es. of q.window (main q.main.probation es)) (drop-append_seam q.main.probation q.main.protected)
+
   -- ---- an object that is let go of
   module _ (k : ℕ) where
     without-settled : (name : PolicyName) → IsSettled name (stock_without name s k)
@@ -124,16 +135,6 @@ module _ (s : State) where
     settled-let_go = without-settled s.name
 
     -- ---- one that is not held
-    none-left : (xs ys : List Entry) → has_entry (xs ++ ys) k ≡ false → has_entry xs k ≡ false
-    none-left [] ys none = refl
-    none-left (e ∷ xs) ys none =
-        let parts : (eqb e.object k ≡ false) × (has_entry (xs ++ ys) k ≡ false) = or_parts _ _ none in
-        or_from (eqb e.object k) (has_entry xs k) parts.0 (none-left xs ys parts.1)
-
-    none-right : (xs ys : List Entry) → has_entry (xs ++ ys) k ≡ false → has_entry ys k ≡ false
-    none-right [] ys none = none
-    none-right (e ∷ xs) ys none = none-right xs ys (or_parts (eqb e.object k) (has_entry (xs ++ ys) k) none).1
-
     again-same : (behind ahead : List Entry) → (ahead ≡ [] → behind ≡ []) → begin_again behind ahead ≡ record { behind = behind; ahead = ahead }
     again-same behind [] settled =
         let none : behind ≡ [] = settled refl in
@@ -146,8 +147,8 @@ module _ (s : State) where
         let of : List Entry → List Entry → Stock = λ b a. stock_of_cut (begin_again (without_entry k b) (without_entry k a)) in
         ap (λ es. of es (drop (length c.behind) (c.behind ++ c.ahead))) (take-append_seam c.behind c.ahead)
         ∙ ap (of c.behind) (drop-append_seam c.behind c.ahead)
-        ∙ ap (λ es. stock_of_cut (begin_again es (without_entry k c.ahead))) (without-none k c.behind (none-left c.behind c.ahead none))
-        ∙ ap (λ es. stock_of_cut (begin_again c.behind es)) (without-none k c.ahead (none-right c.behind c.ahead none))
+        ∙ ap (λ es. stock_of_cut (begin_again es (without_entry k c.ahead))) (without-none k c.behind (absent-left k c.behind c.ahead none))
+        ∙ ap (λ es. stock_of_cut (begin_again c.behind es)) (without-none k c.ahead (absent-right k c.behind c.ahead none))
         ∙ ap stock_of_cut (again-same c.behind c.ahead settled)
 
     queues-none : (q : Queues) → has_entry (q.small ++ q.main) k ≡ false → stock_without S3Fifo (keeping s (stock_of_queues q)) k ≡ stock_of_queues q
@@ -155,27 +156,8 @@ module _ (s : State) where
         let of : List Entry → List Entry → Stock = λ b a. stock_of_queues (record { small = b; main = a; ghosts = q.ghosts }) in
         ap (λ es. of (without_entry k es) (without_entry k (drop (length q.small) (q.small ++ q.main)))) (take-append_seam q.small q.main)
         ∙ ap (λ es. of (without_entry k q.small) (without_entry k es)) (drop-append_seam q.small q.main)
-        ∙ ap (λ es. of es (without_entry k q.main)) (without-none k q.small (none-left q.small q.main none))
-        ∙ ap (of q.small) (without-none k q.main (none-right q.small q.main none))
-
-    -- the segments of what is kept of them
-    pub segments-kept : (f : Frequencies) (q : Segments) → segments_of (keeping s (stock_of_segments f q)) ≡ q
-    segments-kept f q =
-        let rest : List Entry = q.main.probation ++ q.main.protected in
-        let of : List Entry → Main → Segments = λ w m. record { window = w; main = m } in
-        let main : List Entry → List Entry → Main = λ p t. record { probation = p; protected = t } in
-        ap (λ es. of es (main_of (length q.main.probation) (drop (length q.window) (q.window ++ rest)))) (take-append_seam q.window rest)
-        ∙ ap (λ es. of q.window (main_of (length q.main.probation) es)) (drop-append_seam q.window rest)
-        ∙ ap (λ es. of q.window (main es (drop (length q.main.probation) rest))) (take-append_seam q.main.probation q.main.protected)
-        ∙ ap (λ es. of q.window (main q.main.probation es)) (drop-append_seam q.main.probation q.main.protected)
-
-    pub segments-none : (q : Segments) → has_entry (segment_entries q) k ≡ false → segments_without k q ≡ q
-    segments-none q none =
-        let of : List Entry → List Entry → List Entry → Segments = λ w p t. record { window = w; main = record { probation = p; protected = t } } in
-        let rest : has_entry (q.main.probation ++ q.main.protected) k ≡ false = none-right q.window (q.main.probation ++ q.main.protected) none in
-        ap (λ es. of es (without_entry k q.main.probation) (without_entry k q.main.protected)) (without-none k q.window (none-left q.window (q.main.probation ++ q.main.protected) none))
-        ∙ ap (λ es. of q.window es (without_entry k q.main.protected)) (without-none k q.main.probation (none-left q.main.probation q.main.protected rest))
-        ∙ ap (of q.window q.main.probation) (without-none k q.main.protected (none-right q.main.probation q.main.protected rest))
+        ∙ ap (λ es. of es (without_entry k q.main)) (without-none k q.small (absent-left k q.small q.main none))
+        ∙ ap (of q.small) (without-none k q.main (absent-right k q.small q.main none))
 
     abbrev SamePart : PolicyName → Stock → Type 0
     SamePart name kept = has_entry kept.entries k ≡ false → stock_without name (keeping s kept) k ≡ kept
@@ -184,7 +166,7 @@ module _ (s : State) where
     stock-none Sieve (c, is, settled) = subst (SamePart Sieve) is (cut-none c settled)
     stock-none S3Fifo (q, is) = subst (SamePart S3Fifo) is (queues-none q)
     stock-none WTinyLfu (f, q, is) =
-        subst (SamePart WTinyLfu) is (λ none. ap (λ r. stock_of_segments f (segments_without k r)) (segments-kept f q) ∙ ap (stock_of_segments f) (segments-none q none))
+        subst (SamePart WTinyLfu) is (λ none. ap (λ r. stock_of_segments f (segments_without k r)) (segments-kept f q) ∙ ap (stock_of_segments f) (segments-none k q none))
     stock-none name is = λ none. ap (λ es. record { entries = es; beside = s.beside }) (without-none k s.entries none)
 
     -- letting go of it changes nothing

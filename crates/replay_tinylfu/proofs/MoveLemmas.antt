@@ -1,5 +1,5 @@
 -- What a hit and a miss change in the queues, step by step.
-use Rattle.std.proofs.Common.{◌≡◌, ℕ, zero, suc, ◌+◌, ◌-◌, ◌<◌, ◌≤◌, ◌∙◌, sym, refl, ap, true, false, ◌||◌, cond, eqb, leb, List, [], ◌∷◌, ◌++◌, length, drop, arith}
+use Rattle.std.proofs.Common.{◌≡◌, ℕ, zero, suc, ◌+◌, ◌-◌, ◌<◌, ◌≤◌, ◌∙◌, sym, refl, ap, subst, true, false, ◌||◌, cond, eqb, leb, List, [], ◌∷◌, ◌++◌, length, drop, arith}
 use Rattle.std.proofs.lemmas.Bool.{eq-eqb, or_parts, or_from, lt-leb, le-leb, cond_both}
 use Rattle.std.proofs.lemmas.List.{length-drop, drop-drop}
 use Rattle.std.proofs.Math.ListN.{drop_of_length-le}
@@ -9,7 +9,10 @@ use Rattle.policy_model.specs.Steps.{without_entry}
 use Rattle.policy_model.specs.WTinyLfu.{Main, Segments, entry_of, demote, without_first, first_with, admit, spill, segment_entries}
 use Rattle.policy_model.proofs.WTinyLfuSound.{weight-apart}
 use Rattle.replay_queues.proofs.ItemLemmas.{has_entry-append}
-use Rattle.replay_tinylfu.specs.Queues.{Queues, plain_entry}
+use Rattle.policy_model.specs.Leaving.{segments_without}
+use Rattle.policy_model.proofs.Entries.{without-none}
+use Rattle.policy_model.proofs.Leavings.{absent-left, absent-right}
+use Rattle.replay_tinylfu.specs.Queues.{Queues, plain_entry, with_segments, with_window, with_probation, with_protected}
 
 -- ---- entries that are dropped
 pub none-drop : (k n : ℕ) (entries : List Entry) → has_entry entries k ≡ false → has_entry (drop n entries) k ≡ false
@@ -88,3 +91,44 @@ queues-as q objects window m of_objects of_window of_main =
 -- the bytes of an object that is taken out
 pub taken-bytes : (k size : ℕ) (entries : List Entry) → entry_of k entries ≡ plain_entry k size ∷ [] → used (without_entry k entries) + size ≡ used entries
 taken-bytes k size entries one = omega (arith, weight-apart (λ o n. n) k entries, ap used one, sum_by-cons (λ (e : Entry). e.size) (plain_entry k size) [])
+
+-- ---- an object that leaves
+module _ (k : ℕ) (old new : Queues) where
+  abbrev with_three : List Entry → List Entry → List Entry → Queues
+  with_three w p t = with_segments (record { window = w; main = record { probation = p; protected = t } }) old
+
+  abbrev here : Segments
+  here = old.segments
+
+  -- from the window, and stands nowhere else
+  pub window-leaves : new ≡ with_window (without_entry k here.window) old → has_entry (segment_entries new.segments) k ≡ false → new ≡ with_segments (segments_without k here) old
+  window-leaves is absent =
+      let rest : has_entry (here.main.probation ++ here.main.protected) k ≡ false =
+      absent-right k (without_entry k here.window) (here.main.probation ++ here.main.protected) (subst (λ (r : Queues). has_entry (segment_entries r.segments) k ≡ false) is absent) in
+      is
+      ∙ sym (ap (λ es. with_three (without_entry k here.window) es here.main.protected) (without-none k here.main.probation (absent-left k here.main.probation here.main.protected rest)))
+      ∙ sym (ap (with_three (without_entry k here.window) (without_entry k here.main.probation)) (without-none k here.main.protected (absent-right k here.main.probation here.main.protected rest)))
+
+  -- from those on probation
+  pub probation-leaves : has_entry here.window k ≡ false → new ≡ with_probation (without_entry k here.main.probation) old → has_entry (segment_entries new.segments) k ≡ false
+      → new ≡ with_segments (segments_without k here) old
+  probation-leaves first is absent =
+      let rest : has_entry (without_entry k here.main.probation ++ here.main.protected) k ≡ false =
+      absent-right k here.window (without_entry k here.main.probation ++ here.main.protected) (subst (λ (r : Queues). has_entry (segment_entries r.segments) k ≡ false) is absent) in
+      is
+      ∙ sym (ap (λ es. with_three es (without_entry k here.main.probation) here.main.protected) (without-none k here.window first))
+      ∙ sym (ap (with_three (without_entry k here.window) (without_entry k here.main.probation)) (without-none k here.main.protected (absent-right k (without_entry k here.main.probation) here.main.protected rest)))
+
+  -- from the protected ones
+  pub protected-leaves : has_entry here.window k ≡ false → has_entry here.main.probation k ≡ false → new ≡ with_protected (without_entry k here.main.protected) old
+      → new ≡ with_segments (segments_without k here) old
+  protected-leaves first second is =
+      is
+      ∙ sym (ap (λ es. with_three es here.main.probation (without_entry k here.main.protected)) (without-none k here.window first))
+      ∙ sym (ap (λ es. with_three (without_entry k here.window) es (without_entry k here.main.protected)) (without-none k here.main.probation second))
+
+-- one that stands nowhere
+pub none-leaves : (k : ℕ) (old : Queues) → has_entry old.segments.window k ≡ false → has_entry old.segments.main.probation k ≡ false → has_entry old.segments.main.protected k ≡ false
+    → old ≡ with_segments (segments_without k old.segments) old
+none-leaves k old first second third =
+    protected-leaves k old old first second (ap (λ es. with_protected es old) (sym (without-none k old.segments.main.protected third)))

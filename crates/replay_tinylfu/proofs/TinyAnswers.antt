@@ -5,15 +5,21 @@ use Rattle.std.proofs.Math.Seq.{take-append_seam, drop-append_seam}
 use Rattle.policy_model.specs.declared.names.PolicyName.TheVariants.{WTinyLfu}
 use Rattle.policy_model.specs.States.{Entry, Stock, State, used, has_entry, members_of, IsFit}
 use Rattle.policy_model.specs.Steps.{served}
-use Rattle.policy_model.specs.WTinyLfu.{Main, Segments, Frequencies, window_part, main_part, protected_part, with_request, hit_in, missed_in, main_used, main_of, segments_of, segment_entries, stock_of_segments}
+use Rattle.policy_model.specs.WTinyLfu.{Segments, Frequencies, window_part, main_part, protected_part, with_request, hit_in, missed_in, main_used, main_of, segments_of, segment_entries, stock_of_segments}
+use Rattle.policy_model.specs.Steps.{without_entry}
+use Rattle.policy_model.specs.Leaving.{segments_without}
+use Rattle.policy_model.proofs.AgingSound.{without-part}
+use Rattle.policy_model.proofs.Leavings.{without-append, fit-without}
+use Rattle.policy_model.proofs.Parts.{part-used}
+use Rattle.policy_model.proofs.Settled.{segments-kept}
 use Rattle.policy_model.proofs.WTinyLfuSound.{IsShared, shared_segments}
 use Rattle.policy_model.proofs.RulesSound.{served-hit, served-large, served-small, shares-step}
 use Rattle.replay_core.specs.declared.policy.Outcome.{Outcome}
 use Rattle.replay_core.specs.declared.policy.Outcome.TheVariants.{Hit, Miss}
 use Rattle.replay_core.specs.Outcomes.{is_hit}
-use Rattle.replay_core.specs.Keeping.{Kept, state_of, Answers}
+use Rattle.replay_core.specs.Keeping.{Kept, state_of, Answers, kept_without}
 use Rattle.replay_core.proofs.Kept.{answered, answers-fit}
-use Rattle.replay_tinylfu.specs.Queues.{Queues, plain_entry}
+use Rattle.replay_tinylfu.specs.Queues.{Queues, plain_entry, with_segments}
 use Rattle.replay_tinylfu.specs.Counts.{Counted}
 use Rattle.replay_tinylfu.specs.TinyKept.{kept_of, IsTinyLfu}
 
@@ -33,14 +39,7 @@ module _ (objects capacity requests : ℕ) (f : Frequencies) (q : Segments) (k s
 
   -- the segments are those of the state
   pub segments-back : segments_of state ≡ q
-  segments-back =
-      let rest : List Entry = q.main.probation ++ q.main.protected in
-      let of : List Entry → Main → Segments = λ w m. record { window = w; main = m } in
-      let main : List Entry → List Entry → Main = λ p t. record { probation = p; protected = t } in
-      ap (λ es. of es (main_of (length q.main.probation) (drop (length q.window) (q.window ++ rest)))) (take-append_seam q.window rest)
-      ∙ ap (λ es. of q.window (main_of (length q.main.probation) es)) (drop-append_seam q.window rest)
-      ∙ ap (λ es. of q.window (main es (drop (length q.main.probation) rest))) (take-append_seam q.main.probation q.main.protected)
-      ∙ ap (λ es. of q.window (main q.main.probation es)) (drop-append_seam q.main.probation q.main.protected)
+  segments-back = segments-kept state f q
 
   abbrev hit : Stock
   hit = stock_of_segments then (hit_in (protected_part capacity) k (segments_of state))
@@ -115,3 +114,37 @@ pub from_view : (old : Kept) (objects capacity requests n : ℕ) (f g : Frequenc
 from_view old objects capacity requests n f g q r k size outcome view now answers next =
     subst (λ (p : Kept). Answers WTinyLfu p (kept_of objects capacity n g r) k size next outcome) view
     (subst (λ (m : ℕ). Answers WTinyLfu (kept_of objects capacity requests f q) (kept_of objects capacity m g r) k size next outcome) (sym now) (answers next))
+
+-- ---- an object that is let go of
+entries-left : (k : ℕ) (q : Segments) → segment_entries (segments_without k q) ≡ without_entry k (segment_entries q)
+entries-left k q =
+    ap (λ es. without_entry k q.window ++ es) (sym (without-append k q.main.probation q.main.protected))
+    ∙ sym (without-append k q.window (q.main.probation ++ q.main.protected))
+
+module _ (k : ℕ) (r t : Queues) (is : t ≡ with_segments (segments_without k r.segments) r) where
+  pub tinylfu-left : (objects capacity : ℕ) (c : Counted) → IsTinyLfu objects capacity c r → IsTinyLfu objects capacity c t
+  tinylfu-left objects capacity c b =
+      let q : Segments = r.segments in
+      let window : used q.window ≤ window_part capacity = b.window in
+      let main : main_used q.main ≤ main_part capacity = b.main in
+      subst (IsTinyLfu objects capacity c) (sym is)
+      (record {
+        range = b.range;
+        each_count = b.each_count;
+        each_object = b.each_object;
+        room = b.room;
+        fits = subst (IsFit capacity) (sym (entries-left k q)) (fit-without capacity k (segment_entries q) b.fits);
+        window = omega (arith, part-used (without_entry k q.window) q.window (without-part k q.window));
+        main = omega (
+          arith,
+          part-used (without_entry k q.main.probation) q.main.probation (without-part k q.main.probation),
+          part-used (without_entry k q.main.protected) q.main.protected (without-part k q.main.protected),
+        );
+      })
+
+  -- what is kept is what the rule keeps without it
+  pub kept-left : (old : Kept) (objects capacity requests : ℕ) (f : Frequencies) → kept_of objects capacity requests f r.segments ≡ old → kept_of objects capacity requests f t.segments ≡ kept_without WTinyLfu old k
+  kept-left old objects capacity requests f view =
+      ap (λ (u : Queues). kept_of objects capacity requests f u.segments) is
+      ∙ ap (λ s. kept_of objects capacity requests f (segments_without k s)) (sym (segments-kept (state_of WTinyLfu (kept_of objects capacity requests f r.segments)) f r.segments))
+      ∙ ap (λ p. kept_without WTinyLfu p k) view

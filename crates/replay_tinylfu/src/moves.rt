@@ -1,12 +1,13 @@
-//! What a hit and a miss change in the queues.
+//! What a hit and a miss change in the queues, and what an object changes that is let go of.
 ghost use Rattle.std.specs.Prelude.{◌≡◌, ◌≤◌, ◌<◌, ◌+◌, ◌*◌, ◌/◌, ◌^◌, ◌++◌, true, false, length};
 ghost use Rattle.policy_model.specs.States.{used, has_entry};
 ghost use Rattle.policy_model.specs.Steps.{without_entry};
+ghost use Rattle.policy_model.specs.Leaving.{segments_without};
 ghost use Rattle.policy_model.specs.WTinyLfu.{window_part, main_part, main_used, entry_of, demote, hit_main, hit_in, without_first, admit, spill, missed_in, segment_entries};
 ghost use Rattle.replay_tinylfu.specs.Queues.{plain_entry, with_main, with_segments, with_window, with_protected, main_entries};
 
 use crate::counts::Counts;
-use crate::ring::{PROTECTED, Ring, WINDOW};
+use crate::ring::{PROBATION, PROTECTED, Ring, WINDOW};
 
 // Protected objects go back on probation, the first ones first, while they are several and have more than this many bytes.
 fn demote(ring: &mut Ring, most: u64)
@@ -118,4 +119,23 @@ pub(crate) fn miss(ring: &mut Ring, counts: &Counts, window: u64, most: u64, obj
     }
     ring.push_window(object, size);
     spill(ring, counts, window, most);
+}
+
+/// Lets go of an object, if it is in one of the queues.
+pub(crate) fn leave(ring: &mut Ring, object: u32)
+    requires known { object < ring.old.objects }
+    ensures { ring.new ≡ with_segments (segments_without object ring.old.segments) ring.old }
+{
+    let place = ring.place(object);
+    if place == WINDOW {
+        ring.take_window(object);
+        return;
+    }
+    if place == PROBATION {
+        ring.take_probation(object);
+        return;
+    }
+    if place == PROTECTED {
+        ring.take_protected(object);
+    }
 }

@@ -9,10 +9,10 @@ ghost use Rattle.replay_core.specs.Laws.{CountsAnswer, IsSound, StepsBy};
 ghost use Rattle.replay_core.specs.Outcomes.{is_hit};
 
 use crate::counts::Counts;
-use crate::moves::{hit, miss};
+use crate::moves::{hit, leave, miss};
 use crate::ring::Ring;
 use bound_base::NoMemory;
-use replay_core::{Outcome, Policy};
+use replay_core::{LetGo, Outcome, Policy};
 use std::alloc::Global;
 use std::marker::Model;
 
@@ -155,4 +155,11 @@ impl Policy for WTinyLfu {
     }
 
     ghost state_fits = { λ p. (refl, refl) };
+}
+
+impl LetGo for WTinyLfu {
+    /// It takes constant time. The object's count stays.
+    fn let_go(&mut self, object: u32) {
+        leave(&mut self.ring, object);
+    }
 }
