@@ -1,17 +1,18 @@
 -- What the policies that keep a queue answer, LRU and FIFO, by the pairs that their cache holds.
-use Rattle.std.proofs.Common.{◌≡◌, ℕ, ◌+◌, ◌-◌, ◌^◌, ◌<◌, ◌≤◌, ◌∙◌, sym, refl, ap, subst, true, false, eqb, min, List, [], ◌∷◌, ◌++◌, length, drop, arith, None, is_some, All, Contains, nat_eq}
+use Rattle.std.proofs.Common.{◌≡◌, ℕ, ◌+◌, ◌-◌, ◌^◌, ◌<◌, ◌≤◌, ◌∙◌, sym, refl, ap, subst, true, false, eqb, min, List, [], ◌∷◌, ◌++◌, length, drop, arith, None, is_some, All, Contains, nat_eq, unwrap_or}
 use Rattle.std.specs.declared.option.Option.{Option}
 use Rattle.std.specs.List.{AllByRecursion}
 use Rattle.std.specs.Map.{lookup, remove_entry}
 use Rattle.std.specs.Option.{option_map_or}
 use Rattle.std.proofs.lemmas.List.Sums.{sum_by_push}
-use Rattle.lru.specs.LruCache.{lru_cache, promoted, put_entries}
+use Rattle.lru.specs.LruCache.{LruCache, lru_cache, promoted, put_entries}
 use Rattle.policy_model.specs.declared.names.PolicyName.{PolicyName}
 use Rattle.policy_model.specs.declared.names.PolicyName.TheVariants.{Lru, Fifo}
 use Rattle.policy_model.specs.States.{Member, Entry, Stock, State, member_of, members_of, used, has_entry, has_member, nothing_beside}
 use Rattle.policy_model.specs.Steps.{make_room, without_entry, on_miss, fresh_entry, plain_after}
 use Rattle.policy_model.specs.Rules.{stock_after}
 use Rattle.policy_model.proofs.Entries.{Apart}
+use Rattle.policy_model.proofs.Leavings.{fit-without}
 use Rattle.policy_model.proofs.MemberLemmas.{sizes-entries, among-itself, among-members}
 use Rattle.policy_model.proofs.Replays.{has_entry-members}
 use Rattle.policy_model.proofs.Removals.{make_room-fewer, make_room-apart, make_room-each, Shrinks-drop}
@@ -20,7 +21,7 @@ use Rattle.replay_core.specs.declared.policy.Outcome.TheVariants.{Hit, Miss}
 use Rattle.replay_core.specs.Keeping.{Kept, state_of, Answers}
 use Rattle.replay_core.proofs.Kept.{answered, answers-fit}
 use Rattle.replay_recency.specs.LruEntries.{entries_of, plain_entry, IsLru}
-use Rattle.replay_recency.proofs.LruLemmas.{length-entries, has_entry-lookup, lookup_entry-none, entries-promoted, entries-put}
+use Rattle.replay_recency.proofs.LruLemmas.{length-entries, has_entry-lookup, lookup_entry-none, entries-removed, used-removed, entries-promoted, entries-put}
 
 abbrev pub kept : ℕ → ℕ → ℕ → List (ℕ × ℕ) → Kept
 kept objects capacity requests pairs = record { objects = objects; capacity = capacity; now = requests; entries = entries_of pairs; beside = nothing_beside }
@@ -137,3 +138,21 @@ module _ (objects capacity requests in_use cap : ℕ) (pairs : List (ℕ × ℕ)
       ));
       fits = answers-fit Lru (kept objects capacity requests pairs) (kept objects capacity (min (requests + 1) (2 ^ 64 - 1)) (promoted (nat_eq k) pairs)) k size None Hit (lru-hit-answers None) tt sizes lru.fits;
     }
+
+-- ---- an object that is let go of
+module _ (capacity in_use cap : ℕ) (pairs : List (ℕ × ℕ)) (lru : IsLru capacity in_use cap pairs) (k gone : ℕ) (is : gone ≡ unwrap_or (lookup (nat_eq k) pairs) 0) where
+  pub gone-few : gone ≤ in_use
+  gone-few = let all : in_use ≡ used (entries_of pairs) = lru.in_use_is in omega (arith, all, is, used-removed pairs k)
+
+  pub left-entries : (cache : LruCache ℕ ℕ) → cache ≡ lru_cache (remove_entry (nat_eq k) pairs) cap → entries_of cache.entries ≡ without_entry k (entries_of pairs)
+  left-entries cache removed = ap (λ (r : LruCache ℕ ℕ). entries_of r.entries) removed ∙ entries-removed pairs k lru.fits.apart
+
+  pub left-lru : (cache : LruCache ℕ ℕ) → cache ≡ lru_cache (remove_entry (nat_eq k) pairs) cap → IsLru capacity (in_use - gone) cache.cap cache.entries
+  left-lru cache removed =
+      let all : in_use ≡ used (entries_of pairs) = lru.in_use_is in
+      record {
+        range = lru.range;
+        unbounded = ap (λ (r : LruCache ℕ ℕ). r.cap) removed ∙ lru.unbounded;
+        in_use_is = omega (arith, all, is, used-removed pairs k, ap (λ (r : LruCache ℕ ℕ). used (entries_of r.entries)) removed);
+        fits = subst (IsFit capacity) (sym (left-entries cache removed)) (fit-without capacity k (entries_of pairs) lru.fits);
+      }

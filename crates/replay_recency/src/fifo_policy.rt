@@ -8,7 +8,7 @@ ghost use Rattle.replay_core.specs.Laws.{IsSound};
 use crate::lru_policy::free_oldest;
 use bound_base::NoMemory;
 use lru::LruCache;
-use replay_core::{Outcome, Policy};
+use replay_core::{LetGo, Outcome, Policy};
 use std::alloc::Global;
 use std::marker::Model;
 
@@ -116,4 +116,11 @@ impl Policy for Fifo {
     }
 
     ghost state_fits = { λ p. (refl, refl) };
+}
+
+impl LetGo for Fifo {
+    /// It takes constant time on average.
+    fn let_go(&mut self, object: u32) {
+        self.used -= self.entries.pop(&object).unwrap_or(0);
+    }
 }

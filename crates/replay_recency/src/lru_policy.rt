@@ -10,7 +10,7 @@ ghost use Rattle.replay_recency.specs.LruEntries.{entries_of};
 
 use bound_base::NoMemory;
 use lru::LruCache;
-use replay_core::{Outcome, Policy};
+use replay_core::{LetGo, Outcome, Policy};
 use std::alloc::Global;
 use std::marker::Model;
 
@@ -143,4 +143,11 @@ impl Policy for Lru {
     }
 
     ghost state_fits = { λ p. (refl, refl) };
+}
+
+impl LetGo for Lru {
+    /// It takes constant time on average.
+    fn let_go(&mut self, object: u32) {
+        self.used -= self.entries.pop(&object).unwrap_or(0);
+    }
 }
