@@ -4,14 +4,15 @@ use Rattle.std.specs.declared.option.Option.{Option}
 use Rattle.std.specs.BTreeMap.{is_at}
 use Rattle.std.specs.declared.cmp.Reverse.{Reverse}
 use Rattle.std.specs.List.{AllByRecursion}
-use Rattle.std.specs.Map.{lookup}
+use Rattle.std.specs.Map.{lookup, remove_entry}
 use Rattle.std.specs.Ordering.{nat_cmp}
 use Rattle.std.proofs.lemmas.Bool.{eqb-true}
 use Rattle.std.proofs.lemmas.List.{length-map}
 use Rattle.cache_model.specs.declared.objects.Objective.{Objective}
 use Rattle.cache_model.specs.declared.objects.Objective.TheVariants.{Object as Hits, Bytes}
 use Rattle.policy_model.specs.States.{Beside, Member, Entry, Stock, State, members_of, used, has_entry, has_member}
-use Rattle.policy_model.specs.Steps.{until_fits, change, put_in}
+use Rattle.policy_model.specs.Steps.{until_fits, change, put_in, without_entry}
+use Rattle.policy_model.specs.Leaving.{stock_without}
 use Rattle.policy_model.specs.Aging.{age, aged_after, floored, over_floor, raised, ranked_entry, ranked_in, stock_used, worth_of}
 use Rattle.policy_model.specs.Rules.{stock_after}
 use Rattle.policy_model.proofs.Comparisons.{at-eqb}
@@ -30,8 +31,10 @@ use Rattle.replay_core.proofs.Kept.{answered, answers-fit, gives_up}
 use Rattle.replay_rank.specs.declared.holdings.Held.{Held}
 use Rattle.replay_rank.specs.declared.aging.Ranked.{Ranked}
 use Rattle.replay_rank.specs.LfuEntries.{Key}
+use Rattle.replay_rank.specs.HeldPairs.{found_size}
 use Rattle.replay_rank.specs.AgingEntries.{entry_of, entries_of, name_of, AreOrdered, IsAging}
 use Rattle.replay_rank.proofs.Pairs.{has_entry-lookup}
+use Rattle.replay_rank.proofs.Leavings.{gone-few, left-entries, left-used, left-fits, left-ordered}
 use Rattle.replay_rank.proofs.AgingOrdered.{by_rank}
 
 abbrev pub keeping : ℕ → ℕ → ℕ → ℕ → List Entry → Kept
@@ -163,3 +166,28 @@ module _ (by : Objective) (objects capacity requests floor in_use : ℕ) (pairs 
 
         pub miss-used : used (entries_of after) ≡ used (entries_of left) + size
         miss-used = ap used put ∙ sum_by-put_in (λ (e : Entry). e.size) (entries_of left) (ranked_entry (name_of by) level requests k size)
+
+-- ---- an object that is let go of
+-- the entries of either rule are one list
+pub one_list : (by : Objective) (s : State) (k : ℕ) → stock_without (name_of by) s k ≡ record { entries = without_entry k s.entries; beside = s.beside }
+one_list Hits s k = refl
+one_list Bytes s k = refl
+
+module _ (capacity in_use : ℕ) (pairs : List (ℕ × Held Ranked)) (items : List (Reverse Key)) (b : IsAging capacity in_use pairs items) (k gone : ℕ) (is : gone ≡ found_size (lookup (is_at (nat_cmp k)) pairs)) where
+  pub aging-gone : gone ≤ in_use
+  aging-gone = gone-few by_rank pairs items b.ordered k gone (λ none. is ∙ ap found_size none) (λ held some. is ∙ ap found_size some) capacity in_use b.in_use_is
+
+  module _ (left : List (ℕ × Held Ranked)) (removed : left ≡ remove_entry (is_at (nat_cmp k)) pairs) where
+    pub aging-entries : entries_of left ≡ without_entry k (entries_of pairs)
+    aging-entries = left-entries by_rank pairs items b.ordered k gone (λ none. is ∙ ap found_size none) (λ held some. is ∙ ap found_size some) capacity in_use b.in_use_is left removed
+
+    pub aging-ordered : AreOrdered left items
+    aging-ordered = left-ordered by_rank pairs items b.ordered k gone (λ none. is ∙ ap found_size none) (λ held some. is ∙ ap found_size some) capacity in_use b.in_use_is left removed
+
+    pub aging-left : (after : List (Reverse Key)) → AreOrdered left after → IsAging capacity (in_use - gone) left after
+    aging-left after ordered = record {
+      range = b.range;
+      in_use_is = left-used by_rank pairs items b.ordered k gone (λ none. is ∙ ap found_size none) (λ held some. is ∙ ap found_size some) capacity in_use b.in_use_is left removed;
+      fits = left-fits by_rank pairs items b.ordered k gone (λ none. is ∙ ap found_size none) (λ held some. is ∙ ap found_size some) capacity in_use b.in_use_is left removed b.fits;
+      ordered = ordered;
+    }

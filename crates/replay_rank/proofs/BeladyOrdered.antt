@@ -51,7 +51,7 @@ key-before r o s j above other =
     (cases_order r s)
 
 module _ (pairs : List (ℕ × Held ℕ)) (items : List (ℕ × ℕ)) (ordered : AreOrdered pairs items) where
-  ranks_left : (k : ℕ) (j : ℕ) (g : Held ℕ) → lookup (is_at (nat_cmp j)) (remove_entry (is_at (nat_cmp k)) pairs) ≡ Some g → g.kept ≤ never
+  pub ranks_left : (k : ℕ) (j : ℕ) (g : Held ℕ) → lookup (is_at (nat_cmp j)) (remove_entry (is_at (nat_cmp k)) pairs) ≡ Some g → g.kept ≤ never
   ranks_left k j g e = at (eqb k j) (sym (lookup-removed by_next.fill pairs k j ordered.stand.apart) ∙ e)
     where
       at : (t : Bool) → cond t None (lookup (is_at (nat_cmp j)) pairs) ≡ Some g → g.kept ≤ never

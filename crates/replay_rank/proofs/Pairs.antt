@@ -45,6 +45,17 @@ lookup-inserted (p ∷ rest) k q x =
         ap (λ b. cond (is_at (nat_cmp q) p.0) (Some p.1) (cond b (Some x) (lookup (is_at (nat_cmp q)) rest))) e
         ∙ ap (λ b. cond b (Some x) (cond (is_at (nat_cmp q) p.0) (Some p.1) (lookup (is_at (nat_cmp q)) rest))) (sym e)
 
+-- nothing is taken out of pairs that have nothing at a number
+pub removed-none : {X : Type 0} (test : ℕ → Bool) (pairs : List (ℕ × X)) → lookup test pairs ≡ None → remove_entry test pairs ≡ pairs
+removed-none test [] none = refl
+removed-none test (p ∷ rest) none = at (test p.0) refl (removed-none test rest)
+  where
+    at : (t : Bool) → test p.0 ≡ t → (lookup test rest ≡ None → remove_entry test rest ≡ rest) → remove_entry test (p ∷ rest) ≡ p ∷ rest
+    at true e more =
+        let some : Some p.1 ≡ None = sym (ap (λ b. cond b (Some p.1) (lookup test rest)) e) ∙ none in
+        cc
+    at false e more = ap (λ b. cond b rest (p ∷ remove_entry test rest)) e ∙ ap (λ ps. p ∷ ps) (more (sym (ap (λ b. cond b (Some p.1) (lookup test rest)) e) ∙ none))
+
 -- the fill is the entry of what is kept of an object, but for its number
 module _ {X : Type 0} (fill : X → Entry) where
   abbrev pub pair_entry : ℕ × X → Entry

@@ -1,6 +1,7 @@
 -- The objects that an array holds, with their numbers, and the items of a heap that stand for them.
-use Rattle.std.specs.Prelude.{◌≡◌, ℕ, ◌+◌, ◌==◌, ◌&&◌, nat_lt, Bool, true, if◌then◌else◌, List, [], ◌∷◌, map, Some}
+use Rattle.std.specs.Prelude.{◌≡◌, ℕ, ◌+◌, ◌==◌, ◌&&◌, nat_lt, Bool, true, if◌then◌else◌, List, [], ◌∷◌, map, Some, None}
 use Rattle.std.specs.declared.cmp.Ordering.{Ordering}
+use Rattle.std.specs.declared.option.Option.{Option}
 use Rattle.std.specs.BTreeMap.{is_at}
 use Rattle.std.specs.BinaryHeap.{IsHeap}
 use Rattle.std.specs.List.{list_any}
@@ -13,6 +14,11 @@ use Rattle.replay_rank.specs.declared.holdings.Held.{Held}
 abbrev pub pairs_from : {X : Type 0} → ℕ → List (Held X) → List (ℕ × Held X)
 pairs_from object [] = []
 pairs_from object (held ∷ rest) = if nat_lt 0 held.size then (object, held) ∷ pairs_from (object + 1) rest else pairs_from (object + 1) rest
+
+-- the size of what may be held of an object
+abbrev pub found_size : {X : Type 0} → Option (Held X) → ℕ
+found_size None = 0
+found_size (Some held) = held.size
 
 -- each object that is held has an item, of a rank and its number, that goes no later than its own rank
 abbrev pub Covers : {H R I : Type 0} → (H → R) → (R → R → Bool) → (I → R × ℕ) → List (ℕ × H) → List I → Type 0

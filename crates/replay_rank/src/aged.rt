@@ -7,7 +7,7 @@ ghost use Rattle.replay_core.specs.Keeping.{nothing_kept, state_of, contents_of}
 use crate::aging::Aging;
 use bound_base::NoMemory;
 use cache_model::Objective;
-use replay_core::{Outcome, Policy};
+use replay_core::{LetGo, Outcome, Policy};
 use std::alloc::Global;
 use std::marker::Model;
 
@@ -74,6 +74,13 @@ impl Policy for Gdsf {
     ghost state_fits = { λ p. (refl, refl) };
 }
 
+impl LetGo for Gdsf {
+    /// It takes constant time. The floor stays.
+    fn let_go(&mut self, object: u32) {
+        self.aging.leave(object);
+    }
+}
+
 /// The object of the least rank is given up first: the floor at its last request, plus its requests. The floor rises to
 /// the rank of what is given up (LFU with Dynamic Aging, Arlitt and others 2000).
 ///
@@ -135,4 +142,11 @@ impl Policy for Lfuda {
     }
 
     ghost state_fits = { λ p. (refl, refl) };
+}
+
+impl LetGo for Lfuda {
+    /// It takes constant time. The floor stays.
+    fn let_go(&mut self, object: u32) {
+        self.aging.leave(object);
+    }
 }

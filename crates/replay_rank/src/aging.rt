@@ -6,10 +6,11 @@ ghost use Rattle.std.specs.BTreeMap.{is_at};
 ghost use Rattle.std.specs.BinaryHeap.{heap_items, heap_len, heap_capacity, KeepsHeap};
 ghost use Rattle.std.specs.Map.{lookup};
 ghost use Rattle.std.specs.Ordering.{nat_cmp};
+ghost use Rattle.cache_model.specs.declared.objects.Objective.{Objective};
 ghost use Rattle.policy_model.specs.States.{used, has_entry, has_member};
 ghost use Rattle.policy_model.specs.Steps.{put_in};
 ghost use Rattle.policy_model.specs.Aging.{age_at, over_floor, rank_over, worth_of};
-ghost use Rattle.replay_core.specs.Keeping.{Answers, GivesUp, nothing_kept, state_of, contents_of};
+ghost use Rattle.replay_core.specs.Keeping.{Answers, GivesUp, nothing_kept, kept_without, state_of, contents_of};
 ghost use Rattle.replay_core.specs.Laws.{IsSound};
 ghost use Rattle.replay_rank.specs.AgingEntries.{entry_of, entries_of, name_of, AreOrdered, FreesLeast, IsEntered, IsRaised, Renews};
 ghost use Rattle.replay_rank.specs.LfuEntries.{same_rank, at_most, item_cmp};
@@ -322,5 +323,13 @@ impl Aging {
         self.used += size;
         self.requests = requests;
         Ok(Outcome::Miss)
+    }
+
+    // Lets go of an object, if it is held. Its item stays in the heap.
+    pub(crate) fn leave(&mut self, object: u32)
+        ensures rest { (by : Objective) → self.new ≡ kept_without (name_of by) self.old object }
+        ensures fits { IsSound self.new.capacity (contents_of self.new) }
+    {
+        self.used -= self.holdings.take(object);
     }
 }

@@ -13,7 +13,7 @@ ghost use Rattle.replay_rank.specs.BeladyEntries.{entry_of, entries_of, next_of,
 
 use crate::holdings::{Held, Holdings};
 use bound_base::NoMemory;
-use replay_core::{Outcome, Policy};
+use replay_core::{LetGo, Outcome, Policy};
 use std::alloc::Global;
 use std::collections::BinaryHeap;
 use std::marker::Model;
@@ -264,4 +264,11 @@ impl Policy for Belady {
     }
 
     ghost state_fits = { λ p. (refl, refl) };
+}
+
+impl LetGo for Belady {
+    /// It takes constant time.
+    fn let_go(&mut self, object: u32) {
+        self.used -= self.holdings.take(object);
+    }
 }

@@ -16,7 +16,7 @@ use crate::aging::{Items, Left, Ranked, enter, is_same, put, put_back, raise, re
 use crate::holdings::{Held, Holdings};
 use bound_base::NoMemory;
 use cache_model::Objective;
-use replay_core::{Outcome, Policy};
+use replay_core::{LetGo, Outcome, Policy};
 use std::alloc::Global;
 use std::cmp::Reverse;
 use std::collections::BinaryHeap;
@@ -277,4 +277,11 @@ impl Policy for Gdsf98 {
     }
 
     ghost state_fits = { λ p. (refl, refl) };
+}
+
+impl LetGo for Gdsf98 {
+    /// It takes constant time. The floor stays.
+    fn let_go(&mut self, object: u32) {
+        self.left.used -= self.holdings.take(object);
+    }
 }

@@ -4,7 +4,7 @@ ghost use Rattle.std.specs.BTreeMap.{is_at, insert_entry};
 ghost use Rattle.std.specs.List.Sorted.{IsStrictlySortedBy};
 ghost use Rattle.std.specs.Map.{keys_of, lookup, remove_entry};
 ghost use Rattle.std.specs.Ordering.{nat_cmp};
-ghost use Rattle.replay_rank.specs.HeldPairs.{pairs_from};
+ghost use Rattle.replay_rank.specs.HeldPairs.{pairs_from, found_size};
 
 use bound_base::NoMemory;
 use std::alloc::Global;
@@ -111,5 +111,17 @@ impl<X: Copy> Holdings<X> {
         ensures { self.new ≡ remove_entry (is_at (nat_cmp object)) self.old }
     {
         self.cells[object as usize].size = 0;
+    }
+
+    /// Lets go of an object, and says its size, or 0 if it isn't held.
+    pub(crate) fn take(&mut self, object: u32) -> u64
+        ensures rest { self.new ≡ remove_entry (is_at (nat_cmp object)) self.old }
+        ensures size { result ≡ found_size (lookup (is_at (nat_cmp object)) self.old) }
+    {
+        let Some(held) = self.get(object) else {
+            return 0;
+        };
+        self.remove(object);
+        held.size
     }
 }

@@ -15,7 +15,7 @@ ghost use Rattle.replay_rank.specs.LfuEntries.{entry_of, entries_of, same_rank, 
 
 use crate::holdings::{Held, Holdings};
 use bound_base::NoMemory;
-use replay_core::{Outcome, Policy};
+use replay_core::{LetGo, Outcome, Policy};
 use std::alloc::Global;
 use std::cmp::Reverse;
 use std::collections::BinaryHeap;
@@ -282,4 +282,11 @@ impl Policy for Lfu {
     }
 
     ghost state_fits = { λ p. (refl, refl) };
+}
+
+impl LetGo for Lfu {
+    /// It takes constant time.
+    fn let_go(&mut self, object: u32) {
+        self.used -= self.holdings.take(object);
+    }
 }
