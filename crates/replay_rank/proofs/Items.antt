@@ -47,7 +47,7 @@ one_found o g h e f = cc
 
 module _ {H R I : Type 0} (by : Ranks H R I) where
   -- whether an item stands for an object that has this rank
-  abbrev stands : ℕ → H → I → Bool
+  abbrev pub stands : ℕ → H → I → Bool
   stands k h i = by.no_later (by.key_of i).0 (by.rank_of h) && eqb (by.key_of i).1 k
 
   abbrev pub Covered : List (ℕ × H) → List I → Type 0
@@ -132,6 +132,28 @@ module _ {H R I : Type 0} (by : Ranks H R I) where
             or_left (stands j g i) (list_any (stands j g) rest) (own_stands j g i (own ∙ ap (λ (x : H). (by.rank_of x, (by.key_of q).1)) one ∙ ap (λ (n : ℕ). (by.rank_of g, n)) (eqb-true (by.key_of q).1 j same)))
         at j g false other e = or_right (stands j g i) (list_any (stands j g) rest) (others j g other e)
 
+  -- ---- items that are thrown away
+  -- in another order
+  pub covered_moved : (pairs : List (ℕ × H)) (items after : List I) → Covered pairs items → IsPermutation items after → Covered pairs after
+  covered_moved pairs items after covered moves = λ j g e. moved items after moves j g (covered j g e)
+
+  -- those that stand for something are kept
+  pub covered_kept : (pairs : List (ℕ × H)) (items : List I) → Covered pairs items → (test : I → Bool)
+      → ((i : I) (g : H) → lookup (is_at (nat_cmp (by.key_of i).1)) pairs ≡ Some g → by.no_later (by.key_of i).0 (by.rank_of g) ≡ true → test i ≡ true) → Covered pairs (filter test items)
+  covered_kept pairs items covered test passes = λ j g e. some j g e items (covered j g e)
+    where
+      some : (j : ℕ) (g : H) → lookup (is_at (nat_cmp j)) pairs ≡ Some g → (is : List I) → list_any (stands j g) is ≡ true → list_any (stands j g) (filter test is) ≡ true
+      some j g e [] any = cc
+      some j g e (i ∷ is) any = at (test i) (stands j g i) refl refl (some j g e is)
+        where
+          at : (t s : Bool) → test i ≡ t → stands j g i ≡ s → (list_any (stands j g) is ≡ true → list_any (stands j g) (filter test is) ≡ true) → list_any (stands j g) (cond t (i ∷ filter test is) (filter test is)) ≡ true
+          at true true kept here more = or_left (stands j g i) (list_any (stands j g) (filter test is)) here
+          at true false kept here more = or_right (stands j g i) (list_any (stands j g) (filter test is)) (more (sym (ap (λ b. b || list_any (stands j g) is) here) ∙ any))
+          at false true kept here more =
+              let parts : (by.no_later (by.key_of i).0 (by.rank_of g) ≡ true) × (eqb (by.key_of i).1 j ≡ true) = and_parts _ _ here in
+              absurd (both_ways (test i) kept (passes i g (subst (λ (n : ℕ). lookup (is_at (nat_cmp n)) pairs ≡ Some g) (sym (eqb-true (by.key_of i).1 j parts.1)) e) parts.0))
+          at false false kept here more = more (sym (ap (λ b. b || list_any (stands j g) is) here) ∙ any)
+
   -- ---- a heap of items
   abbrev pub IsOrdered : List (ℕ × H) → List I → Type 0
   IsOrdered pairs items = StandFor (pair_entry by.fill) by.rank_of by.no_later by.key_of by.item_cmp pairs items
@@ -191,19 +213,7 @@ module _ {H R I : Type 0} (by : Ranks H R I) where
     -- the items that stand for something are kept
     pub items_kept : (test : I → Bool) → ((i : I) (g : H) → lookup (is_at (nat_cmp (by.key_of i).1)) pairs ≡ Some g → by.no_later (by.key_of i).0 (by.rank_of g) ≡ true → test i ≡ true)
         → (after : List I) → IsPermutation (filter test items) after → IsHeap by.item_cmp after → IsOrdered pairs after
-    items_kept test passes after moves heap = record { apart = ordered.apart; heap = heap; covered = λ j g e. moved (filter test items) after moves j g (some j g e items (ordered.covered j g e)) }
-      where
-        some : (j : ℕ) (g : H) → lookup (is_at (nat_cmp j)) pairs ≡ Some g → (is : List I) → list_any (stands j g) is ≡ true → list_any (stands j g) (filter test is) ≡ true
-        some j g e [] any = cc
-        some j g e (i ∷ is) any = at (test i) (stands j g i) refl refl (some j g e is)
-          where
-            at : (t s : Bool) → test i ≡ t → stands j g i ≡ s → (list_any (stands j g) is ≡ true → list_any (stands j g) (filter test is) ≡ true) → list_any (stands j g) (cond t (i ∷ filter test is) (filter test is)) ≡ true
-            at true true kept here more = or_left (stands j g i) (list_any (stands j g) (filter test is)) here
-            at true false kept here more = or_right (stands j g i) (list_any (stands j g) (filter test is)) (more (sym (ap (λ b. b || list_any (stands j g) is) here) ∙ any))
-            at false true kept here more =
-                let parts : (by.no_later (by.key_of i).0 (by.rank_of g) ≡ true) × (eqb (by.key_of i).1 j ≡ true) = and_parts _ _ here in
-                absurd (both_ways (test i) kept (passes i g (subst (λ (n : ℕ). lookup (is_at (nat_cmp n)) pairs ≡ Some g) (sym (eqb-true (by.key_of i).1 j parts.1)) e) parts.0))
-            at false false kept here more = more (sym (ap (λ b. b || list_any (stands j g) is) here) ∙ any)
+    items_kept test passes after moves heap = record { apart = ordered.apart; heap = heap; covered = covered_moved pairs (filter test items) after (covered_kept pairs items ordered.covered test passes) moves }
 
   -- ---- how much is left to settle: the items, and once more those that are not of their object's rank
   of_found : R → Option H → ℕ

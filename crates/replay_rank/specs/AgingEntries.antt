@@ -1,6 +1,10 @@
 -- The entries of GDSF and LFUDA, in order of their objects' numbers, and the items that order them by rank and last use.
-use Rattle.std.specs.Prelude.{◌≡◌, ℕ, ◌≤◌, ◌^◌, false, List, length, map, None}
+use Rattle.std.specs.Prelude.{◌≡◌, ℕ, ◌≤◌, ◌^◌, Bool, false, List, length, map, Some, None}
 use Rattle.std.specs.declared.cmp.Reverse.{Reverse}
+use Rattle.std.specs.declared.option.Option.{Option}
+use Rattle.std.specs.BTreeMap.{is_at}
+use Rattle.std.specs.Map.{lookup}
+use Rattle.std.specs.Ordering.{nat_cmp}
 use Rattle.cache_model.specs.declared.objects.Objective.{Objective}
 use Rattle.cache_model.specs.declared.objects.Objective.TheVariants.{Object as Hits, Bytes}
 use Rattle.policy_model.specs.declared.names.PolicyName.{PolicyName}
@@ -53,6 +57,15 @@ rank_of h = (h.kept.rank, h.kept.last)
 -- the items stand for what is held: each by its rank or a lesser one
 abbrev pub AreOrdered : List (ℕ × Held Ranked) → List (Reverse Key) → Type 0
 AreOrdered pairs items = StandFor entry_of rank_of at_most (λ i. i.0) item_cmp pairs items
+
+-- whether a rank goes no later than that of what may be held
+abbrev pub is_reached : Option (Held Ranked) → ℕ × ℕ → Bool
+is_reached None rank = false
+is_reached (Some held) rank = at_most rank (rank_of held)
+
+-- whether an item stands for its object
+abbrev pub is_standing : List (ℕ × Held Ranked) → Reverse Key → Bool
+is_standing pairs item = is_reached (lookup (is_at (nat_cmp item.0.1)) pairs) item.0.0
 
 -- the bytes used are counted, and the entries fit
 pub record IsAging (capacity in_use : ℕ) (pairs : List (ℕ × Held Ranked)) (items : List (Reverse Key)) : Type 0 where

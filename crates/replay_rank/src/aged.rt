@@ -75,7 +75,7 @@ impl Policy for Gdsf {
 }
 
 impl LetGo for Gdsf {
-    /// It takes constant time. The floor stays.
+    /// Calls take, one with another, time logarithmic in the number of entries. The floor stays.
     fn let_go(&mut self, object: u32) {
         self.aging.leave(object);
     }
@@ -145,7 +145,7 @@ impl Policy for Lfuda {
 }
 
 impl LetGo for Lfuda {
-    /// It takes constant time. The floor stays.
+    /// Calls take, one with another, time logarithmic in the number of entries. The floor stays.
     fn let_go(&mut self, object: u32) {
         self.aging.leave(object);
     }

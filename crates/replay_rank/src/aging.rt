@@ -12,7 +12,7 @@ ghost use Rattle.policy_model.specs.Steps.{put_in};
 ghost use Rattle.policy_model.specs.Aging.{age_at, over_floor, rank_over, worth_of};
 ghost use Rattle.replay_core.specs.Keeping.{Answers, GivesUp, nothing_kept, kept_without, state_of, contents_of};
 ghost use Rattle.replay_core.specs.Laws.{IsSound};
-ghost use Rattle.replay_rank.specs.AgingEntries.{entry_of, entries_of, name_of, AreOrdered, FreesLeast, IsEntered, IsRaised, Renews};
+ghost use Rattle.replay_rank.specs.AgingEntries.{entry_of, entries_of, name_of, is_standing, AreOrdered, FreesLeast, IsEntered, IsRaised, Renews};
 ghost use Rattle.replay_rank.specs.LfuEntries.{same_rank, at_most, item_cmp};
 
 use crate::holdings::{Held, Holdings};
@@ -23,6 +23,10 @@ use std::alloc::Global;
 use std::cmp::Reverse;
 use std::collections::BinaryHeap;
 use std::marker::Model;
+use std::mem;
+
+/// The fewest items among which those are looked for that stand for nothing.
+pub(crate) const FEW: usize = 64;
 
 // No rank is above this one.
 const MOST_RANK: u128 = 1 << 127;
@@ -41,9 +45,12 @@ pub(crate) struct Ranked {
 /// What is held, by object and by rank, and the floor, which is the rank of what was given up last.
 ///
 /// A hit that raises a rank leaves the heap as it is, whose items stand for no greater ranks than those of the objects. An
-/// item that comes out of it with a lesser rank goes back with that of its object.
+/// item that comes out of it with a lesser rank goes back with that of its object. The item of an object that is let go of
+/// stays there too; if there are then twice as many items as were left when such ones were last thrown away, they are thrown
+/// away again.
 #[derive(Drop)]
 pub(crate) struct Aging {
+    alloc: Global,
     capacity: u64,
     objects: u32,
     requests: u64,
@@ -51,6 +58,8 @@ pub(crate) struct Aging {
     floor: u128,
     holdings: Holdings<Ranked>,
     order: Items,
+    // How many items the heap has when it is next looked through.
+    limit: usize,
 }
 
 impl Model for Aging {
@@ -212,6 +221,47 @@ fn give_up_least(holdings: &mut Holdings<Ranked>, order: &mut Items) -> Held<Ran
     unreachable()
 }
 
+// Whether an item stands for its object, which is held, by its rank or a lesser one.
+fn is_standing(holdings: &Holdings<Ranked>, item: &Reverse<((u128, u64), u32)>) -> bool
+    ensures { result ≡ is_standing holdings.now item.now }
+{
+    match holdings.get(item.0.1) {
+        Some(held) => is_at_most(item.0.0, (held.kept.rank, held.kept.last)),
+        None => false,
+    }
+}
+
+// Of the items that stand for their objects, one for each object.
+fn one_each(holdings: &Holdings<Ranked>, items: Vec<Reverse<((u128, u64), u32)>>) -> Items
+    requires ordered { AreOrdered holdings.now items.items }
+    ensures ordered { AreOrdered holdings.now (heap_items result) }
+{
+    let mut items = items;
+    items.retain(|item| is_standing(holdings, item));
+    items.sort_unstable_by_key(|item| item.0.1);
+    items.dedup_by_key(|item| item.0.1);
+    BinaryHeap::from(items)
+}
+
+// Throws away all items but one for each object that is held, if there are this many items, and says at how many to do it
+// again. It takes no memory.
+pub(crate) fn throw_away(
+    alloc: Global,
+    holdings: &Holdings<Ranked>,
+    order: &mut Items,
+    limit: usize,
+) -> usize
+    requires ordered { AreOrdered holdings.now (heap_items order.old) }
+    ensures ordered { AreOrdered holdings.now (heap_items order.new) }
+{
+    if order.len() < limit {
+        return limit;
+    }
+    let items = mem::replace(order, BinaryHeap::new(alloc)).into_vec();
+    *order = one_each(holdings, items);
+    order.len().saturating_mul(2).max(FEW)
+}
+
 /// The bytes that are still used, and the floor.
 #[derive(Clone, Copy, Debug, PartialEq, Eq)]
 pub(crate) struct Left {
@@ -255,6 +305,7 @@ impl Aging {
         ensures nothing { result ≡ nothing_kept objects capacity }
     {
         Aging {
+            alloc,
             capacity,
             objects,
             requests: 0,
@@ -262,6 +313,7 @@ impl Aging {
             floor: 0,
             holdings: Holdings::new(alloc),
             order: BinaryHeap::new(alloc),
+            limit: FEW,
         }
     }
 
@@ -331,5 +383,6 @@ impl Aging {
         ensures fits { IsSound self.new.capacity (contents_of self.new) }
     {
         self.used -= self.holdings.take(object);
+        self.limit = throw_away(self.alloc, &self.holdings, &mut self.order, self.limit);
     }
 }

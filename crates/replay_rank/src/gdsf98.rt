@@ -12,7 +12,9 @@ ghost use Rattle.replay_rank.specs.AdmittedEntries.{AreAbove, RanksAbove, SetsAs
 ghost use Rattle.replay_rank.specs.AgingEntries.{entries_of, AreOrdered};
 ghost use Rattle.replay_rank.specs.LfuEntries.{item_cmp};
 
-use crate::aging::{Items, Left, Ranked, enter, is_same, put, put_back, raise, renew, worth};
+use crate::aging::{
+    FEW, Items, Left, Ranked, enter, is_same, put, put_back, raise, renew, throw_away, worth,
+};
 use crate::holdings::{Held, Holdings};
 use bound_base::NoMemory;
 use cache_model::Objective;
@@ -30,12 +32,15 @@ use std::marker::Model;
 /// for the most entries that were set aside at once.
 #[derive(Drop)]
 pub struct Gdsf98 {
+    alloc: Global,
     capacity: u64,
     objects: u32,
     requests: u64,
     left: Left,
     holdings: Holdings<Ranked>,
     order: Items,
+    // How many items the heap has when it is next looked through.
+    limit: usize,
     // The entries that this request has set aside, which are out of the holdings and the order.
     aside: Vec<(u32, Held<Ranked>)>,
 }
@@ -171,12 +176,14 @@ impl Gdsf98 {
         ensures nothing { IfOk result (λ policy. policy ≡ nothing_kept objects capacity) }
     {
         Ok(Gdsf98 {
+            alloc,
             capacity,
             objects,
             requests: 0,
             left: Left { used: 0, floor: 0 },
             holdings: Holdings::new(alloc),
             order: BinaryHeap::new(alloc),
+            limit: FEW,
             aside: Vec::new(alloc),
         })
     }
@@ -280,8 +287,9 @@ impl Policy for Gdsf98 {
 }
 
 impl LetGo for Gdsf98 {
-    /// It takes constant time. The floor stays.
+    /// Calls take, one with another, time logarithmic in the number of entries. The floor stays.
     fn let_go(&mut self, object: u32) {
         self.left.used -= self.holdings.take(object);
+        self.limit = throw_away(self.alloc, &self.holdings, &mut self.order, self.limit);
     }
 }

@@ -11,7 +11,7 @@ ghost use Rattle.policy_model.specs.States.{used, has_entry};
 ghost use Rattle.policy_model.specs.Steps.{make_room, remove_foremost, is_less_used, touch, put_in};
 ghost use Rattle.replay_core.specs.Keeping.{Answers, GivesUp, nothing_kept, state_of, contents_of};
 ghost use Rattle.replay_core.specs.Laws.{IsSound};
-ghost use Rattle.replay_rank.specs.LfuEntries.{entry_of, entries_of, same_rank, at_most, item_cmp, AreOrdered};
+ghost use Rattle.replay_rank.specs.LfuEntries.{entry_of, entries_of, same_rank, at_most, item_cmp, is_standing, AreOrdered};
 
 use crate::holdings::{Held, Holdings};
 use bound_base::NoMemory;
@@ -20,6 +20,10 @@ use std::alloc::Global;
 use std::cmp::Reverse;
 use std::collections::BinaryHeap;
 use std::marker::Model;
+use std::mem;
+
+// The fewest items among which those are looked for that stand for nothing.
+const FEW: usize = 64;
 
 // The item of the least pair of count and last use comes out first, and of equal pairs that of the least object number.
 type Items = BinaryHeap<Reverse<((u64, u64), u32)>>;
@@ -34,17 +38,21 @@ struct Uses {
 /// The object with the fewest hits since it entered is given up first, and of those the one that was used longest ago.
 ///
 /// A hit changes what is held and leaves the heap as it is, whose items stand for no more uses than there were. An item
-/// that comes out of it with fewer goes back with all of them. So requests take, one with another, time logarithmic in the
+/// that comes out of it with fewer goes back with all of them. The item of an object that is let go of stays there too; if
+/// there are then twice as many items as were left when such ones were last thrown away, they are thrown away again. So requests take, one with another, time logarithmic in the
 /// number of entries, for themselves and for each entry that is given up. It takes memory for each object with the first
 /// entry, and for each entry.
 #[derive(Drop)]
 pub struct Lfu {
+    alloc: Global,
     capacity: u64,
     objects: u32,
     requests: u64,
     used: u64,
     holdings: Holdings<Uses>,
     order: Items,
+    // How many items the heap has when it is next looked through.
+    limit: usize,
 }
 
 impl Model for Lfu {
@@ -187,6 +195,42 @@ fn free_least_used(
     left
 }
 
+// Whether an item stands for its object, which is held, by as many uses or fewer.
+fn is_standing(holdings: &Holdings<Uses>, item: &Reverse<((u64, u64), u32)>) -> bool
+    ensures { result ≡ is_standing holdings.now item.now }
+{
+    match holdings.get(item.0.1) {
+        Some(held) => is_at_most(item.0.0, (held.kept.count, held.kept.last)),
+        None => false,
+    }
+}
+
+// Of the items that stand for their objects, one for each object.
+fn one_each(holdings: &Holdings<Uses>, items: Vec<Reverse<((u64, u64), u32)>>) -> Items
+    requires ordered { AreOrdered holdings.now items.items }
+    ensures ordered { AreOrdered holdings.now (heap_items result) }
+{
+    let mut items = items;
+    items.retain(|item| is_standing(holdings, item));
+    items.sort_unstable_by_key(|item| item.0.1);
+    items.dedup_by_key(|item| item.0.1);
+    BinaryHeap::from(items)
+}
+
+// Throws away all items but one for each object that is held, if there are this many items, and says at how many to do it
+// again. It takes no memory.
+fn throw_away(alloc: Global, holdings: &Holdings<Uses>, order: &mut Items, limit: usize) -> usize
+    requires ordered { AreOrdered holdings.now (heap_items order.old) }
+    ensures ordered { AreOrdered holdings.now (heap_items order.new) }
+{
+    if order.len() < limit {
+        return limit;
+    }
+    let items = mem::replace(order, BinaryHeap::new(alloc)).into_vec();
+    *order = one_each(holdings, items);
+    order.len().saturating_mul(2).max(FEW)
+}
+
 impl Lfu {
     /// A policy that holds nothing, with its capacity in bytes. It takes memory with the first entry.
     pub fn new(alloc: Global, capacity: u64, objects: u32) -> Result<Self, NoMemory>
@@ -195,12 +239,14 @@ impl Lfu {
         ensures nothing { IfOk result (λ policy. policy ≡ nothing_kept objects capacity) }
     {
         Ok(Lfu {
+            alloc,
             capacity,
             objects,
             requests: 0,
             used: 0,
             holdings: Holdings::new(alloc),
             order: BinaryHeap::new(alloc),
+            limit: FEW,
         })
     }
 
@@ -285,8 +331,9 @@ impl Policy for Lfu {
 }
 
 impl LetGo for Lfu {
-    /// It takes constant time.
+    /// Calls take, one with another, time logarithmic in the number of entries.
     fn let_go(&mut self, object: u32) {
         self.used -= self.holdings.take(object);
+        self.limit = throw_away(self.alloc, &self.holdings, &mut self.order, self.limit);
     }
 }

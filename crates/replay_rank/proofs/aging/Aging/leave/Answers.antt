@@ -11,8 +11,7 @@ overflow_sub-self c = aging-gone c.self.inside.capacity c.self.inside.used c.sel
 pub invariant_of-self : goal.invariant_of-self
 invariant_of-self c =
     aging-left c.self.inside.capacity c.self.inside.used c.self.inside.holdings (heap_items c.self.inside.order) c.self.invariant c.args.object c.take.result c.take.ensures.size c.take.new.self c.take.ensures.rest
-    (heap_items c.self.inside.order)
-    (aging-ordered c.self.inside.capacity c.self.inside.used c.self.inside.holdings (heap_items c.self.inside.order) c.self.invariant c.args.object c.take.result c.take.ensures.size c.take.new.self c.take.ensures.rest)
+    (heap_items c.throw_away-self-inside.new.order) c.throw_away-self-inside.ensures.ordered
 
 pub returns-clause-rest : goal.returns-clause-rest
 returns-clause-rest c = λ by.
@@ -22,3 +21,6 @@ returns-clause-rest c = λ by.
 
 pub returns-clause-fits : goal.returns-clause-fits
 returns-clause-fits c = fit-sound c.self.inside.capacity (entries_of c.take.new.self) (invariant_of-self c).fits
+
+pub throw_away-self-inside-requires : goal.throw_away-self-inside-requires
+throw_away-self-inside-requires c = record { ordered = aging-ordered c.self.inside.capacity c.self.inside.used c.self.inside.holdings (heap_items c.self.inside.order) c.self.invariant c.args.object c.take.result c.take.ensures.size c.take.new.self c.take.ensures.rest; }

@@ -14,13 +14,12 @@ overflow_sub-self c =
 pub invariant_of-self : goal.invariant_of-self
 invariant_of-self c = record {
   aging = aging-left c.self.inside.capacity c.self.inside.left.used c.self.inside.holdings (heap_items c.self.inside.order) c.self.invariant.aging c.args.object c.take.result c.take.ensures.size c.take.new.self c.take.ensures.rest
-      (heap_items c.self.inside.order)
-      (aging-ordered c.self.inside.capacity c.self.inside.left.used c.self.inside.holdings (heap_items c.self.inside.order) c.self.invariant.aging c.args.object c.take.result c.take.ensures.size c.take.new.self c.take.ensures.rest);
+      (heap_items c.throw_away-self-inside.new.order) c.throw_away-self-inside.ensures.ordered;
   low = c.self.invariant.low;
 }
 
 -- what is kept is what the rule keeps without it
-left : (c : goal.After-self-1) → keeping c.self.inside.objects c.self.inside.capacity c.self.inside.requests c.self.inside.left.floor (entries_of c.take.new.self) ≡ kept_without ByAdmission c.args.self.now c.args.object
+left : (c : goal.After-self-2-1) → keeping c.self.inside.objects c.self.inside.capacity c.self.inside.requests c.self.inside.left.floor (entries_of c.take.new.self) ≡ kept_without ByAdmission c.args.self.now c.args.object
 left c =
     plain-left ByAdmission (λ s k. refl) (keeping c.self.inside.objects c.self.inside.capacity c.self.inside.requests c.self.inside.left.floor (entries_of c.self.inside.holdings)) c.args.self.now c.args.object
     (entries_of c.take.new.self) c.self.view_is
@@ -36,3 +35,6 @@ returns-clause-sound c = fit-sound c.self.inside.capacity (entries_of c.take.new
 pub returns-clause-state : goal.returns-clause-state
 returns-clause-state c =
     left-state ByAdmission c.args.self.now (keeping c.self.inside.objects c.self.inside.capacity c.self.inside.requests c.self.inside.left.floor (entries_of c.take.new.self)) c.args.object (left c)
+
+pub throw_away-self-inside-requires : goal.throw_away-self-inside-requires
+throw_away-self-inside-requires c = record { ordered = aging-ordered c.self.inside.capacity c.self.inside.left.used c.self.inside.holdings (heap_items c.self.inside.order) c.self.invariant.aging c.args.object c.take.result c.take.ensures.size c.take.new.self c.take.ensures.rest; }

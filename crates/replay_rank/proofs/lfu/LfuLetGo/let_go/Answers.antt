@@ -14,11 +14,10 @@ overflow_sub-self c = lfu-gone c.self.inside.capacity c.self.inside.used c.self.
 pub invariant_of-self : goal.invariant_of-self
 invariant_of-self c =
     lfu-left c.self.inside.capacity c.self.inside.used c.self.inside.holdings (heap_items c.self.inside.order) c.self.invariant c.args.object c.take.result c.take.ensures.size c.take.new.self c.take.ensures.rest
-    (heap_items c.self.inside.order)
-    (lfu-ordered c.self.inside.capacity c.self.inside.used c.self.inside.holdings (heap_items c.self.inside.order) c.self.invariant c.args.object c.take.result c.take.ensures.size c.take.new.self c.take.ensures.rest)
+    (heap_items c.throw_away-self-inside.new.order) c.throw_away-self-inside.ensures.ordered
 
 -- what is kept is what the rule keeps without it
-left : (c : goal.After-self-1) → kept c.self.inside.objects c.self.inside.capacity c.self.inside.requests (entries_of c.take.new.self) ≡ kept_without ByCount c.args.self.now c.args.object
+left : (c : goal.After-self-2-1) → kept c.self.inside.objects c.self.inside.capacity c.self.inside.requests (entries_of c.take.new.self) ≡ kept_without ByCount c.args.self.now c.args.object
 left c =
     plain-left ByCount (λ s k. refl) (kept c.self.inside.objects c.self.inside.capacity c.self.inside.requests (entries_of c.self.inside.holdings)) c.args.self.now c.args.object (entries_of c.take.new.self) c.self.view_is
     (lfu-entries c.self.inside.capacity c.self.inside.used c.self.inside.holdings (heap_items c.self.inside.order) c.self.invariant c.args.object c.take.result c.take.ensures.size c.take.new.self c.take.ensures.rest)
@@ -31,3 +30,6 @@ returns-clause-sound c = fit-sound c.self.inside.capacity (entries_of c.take.new
 
 pub returns-clause-state : goal.returns-clause-state
 returns-clause-state c = left-state ByCount c.args.self.now (kept c.self.inside.objects c.self.inside.capacity c.self.inside.requests (entries_of c.take.new.self)) c.args.object (left c)
+
+pub throw_away-self-inside-requires : goal.throw_away-self-inside-requires
+throw_away-self-inside-requires c = record { ordered = lfu-ordered c.self.inside.capacity c.self.inside.used c.self.inside.holdings (heap_items c.self.inside.order) c.self.invariant c.args.object c.take.result c.take.ensures.size c.take.new.self c.take.ensures.rest; }
