@@ -124,12 +124,18 @@ module _ {H R I : Type 0} (by : Ranks H R I) where
     filter-passes [] = tt
     filter-passes (i ∷ is) = cond_both (test i) (i ∷ filter test is) (filter test is) (AllByRecursion Passes) (λ pass. (pass, filter-passes is)) (λ _. filter-passes is)
 
+    pub dedup-passes : (kept sorted : List I) → kept ≡ filter test items → IsPermutation kept sorted → AllByRecursion Passes (dedup (one_object pairs Passes fit) sorted)
+    dedup-passes kept sorted of_test moves =
+        let same : I → I → Bool = one_object pairs Passes fit in
+        let moved : IsPermutation (filter test items) sorted = subst (λ is. IsPermutation is sorted) of_test moves in
+        let all : All Passes sorted = All-permutation Passes (filter test items) sorted moved (All-from_recursion Passes (filter test items) (filter-passes items)) in
+        recursion_from_All Passes (dedup same sorted) (All-dedup same Passes sorted all)
+
     pub items_once : (kept sorted once after : List I) → kept ≡ filter test items → IsPermutation kept sorted → once ≡ dedup (one_object pairs Passes fit) sorted → IsPermutation once after → IsHeap by.item_cmp after → IsOrdered by pairs after
     items_once kept sorted once after of_test moves of_object moves_after heap =
         let same : I → I → Bool = one_object pairs Passes fit in
         let moved : IsPermutation (filter test items) sorted = subst (λ is. IsPermutation is sorted) of_test moves in
-        let all : All Passes sorted = All-permutation Passes (filter test items) sorted moved (All-from_recursion Passes (filter test items) (filter-passes items)) in
-        let each : AllByRecursion Passes (dedup same sorted) = recursion_from_All Passes (dedup same sorted) (All-dedup same Passes sorted all) in
+        let each : AllByRecursion Passes (dedup same sorted) = dedup-passes kept sorted of_test moves in
         let covered : Covered by pairs (dedup same sorted) =
         covered_once pairs Passes fit sorted (covered_moved by pairs (filter test items) sorted (covered_kept by pairs items ordered.covered test passes) moved) each in
         record {

@@ -1,5 +1,5 @@
 -- The objects that an array holds, with their numbers, and the items of a heap that stand for them.
-use Rattle.std.specs.Prelude.{◌≡◌, ℕ, ◌+◌, ◌==◌, ◌&&◌, nat_lt, Bool, true, if◌then◌else◌, List, [], ◌∷◌, map, Some, None}
+use Rattle.std.specs.Prelude.{◌≡◌, ◌<◌, ◌≤◌, ◌⊎◌, ℕ, ◌+◌, ◌*◌, ◌==◌, ◌&&◌, max, nat_lt, Bool, true, if◌then◌else◌, List, [], ◌∷◌, map, Some, None}
 use Rattle.std.specs.declared.cmp.Ordering.{Ordering}
 use Rattle.std.specs.declared.option.Option.{Option}
 use Rattle.std.specs.BTreeMap.{is_at}
@@ -30,3 +30,7 @@ pub record StandFor {H R I : Type 0} (entry_of : ℕ × H → Entry) (rank_of : 
   pub apart : Apart (map entry_of pairs)
   pub heap : IsHeap item_cmp items
   pub covered : Covers rank_of no_later key_of pairs items
+
+-- there are fewer items than the limit, or no more than objects that are held, and the limit is then twice those at most, or 64
+abbrev pub IsThinned : ℕ → ℕ → ℕ → ℕ → Type 0
+IsThinned limit next items held = ((items < limit) × (next ≡ limit)) ⊎ ((items ≤ held) × (next ≤ max 64 (2 * held)))

@@ -13,6 +13,7 @@ ghost use Rattle.policy_model.specs.Aging.{age_at, over_floor, rank_over, worth_
 ghost use Rattle.replay_core.specs.Keeping.{Answers, GivesUp, nothing_kept, kept_without, state_of, contents_of};
 ghost use Rattle.replay_core.specs.Laws.{IsSound};
 ghost use Rattle.replay_rank.specs.AgingEntries.{entry_of, entries_of, name_of, is_standing, AreOrdered, FreesLeast, IsEntered, IsRaised, Renews};
+ghost use Rattle.replay_rank.specs.HeldPairs.{IsThinned};
 ghost use Rattle.replay_rank.specs.LfuEntries.{same_rank, at_most, item_cmp};
 
 use crate::holdings::{Held, Holdings};
@@ -235,6 +236,7 @@ fn is_standing(holdings: &Holdings<Ranked>, item: &Reverse<((u128, u64), u32)>) 
 fn one_each(holdings: &Holdings<Ranked>, items: Vec<Reverse<((u128, u64), u32)>>) -> Items
     requires ordered { AreOrdered holdings.now items.items }
     ensures ordered { AreOrdered holdings.now (heap_items result) }
+    ensures few { length (heap_items result) ≤ length holdings.now }
 {
     let mut items = items;
     items.retain(|item| is_standing(holdings, item));
@@ -253,6 +255,7 @@ pub(crate) fn throw_away(
 ) -> usize
     requires ordered { AreOrdered holdings.now (heap_items order.old) }
     ensures ordered { AreOrdered holdings.now (heap_items order.new) }
+    ensures few { IsThinned limit result (length (heap_items order.new)) (length holdings.now) }
 {
     if order.len() < limit {
         return limit;

@@ -11,6 +11,7 @@ ghost use Rattle.policy_model.specs.States.{used, has_entry};
 ghost use Rattle.policy_model.specs.Steps.{make_room, remove_foremost, is_less_used, touch, put_in};
 ghost use Rattle.replay_core.specs.Keeping.{Answers, GivesUp, nothing_kept, state_of, contents_of};
 ghost use Rattle.replay_core.specs.Laws.{IsSound};
+ghost use Rattle.replay_rank.specs.HeldPairs.{IsThinned};
 ghost use Rattle.replay_rank.specs.LfuEntries.{entry_of, entries_of, same_rank, at_most, item_cmp, is_standing, AreOrdered};
 
 use crate::holdings::{Held, Holdings};
@@ -209,6 +210,7 @@ fn is_standing(holdings: &Holdings<Uses>, item: &Reverse<((u64, u64), u32)>) -> 
 fn one_each(holdings: &Holdings<Uses>, items: Vec<Reverse<((u64, u64), u32)>>) -> Items
     requires ordered { AreOrdered holdings.now items.items }
     ensures ordered { AreOrdered holdings.now (heap_items result) }
+    ensures few { length (heap_items result) ≤ length holdings.now }
 {
     let mut items = items;
     items.retain(|item| is_standing(holdings, item));
@@ -222,6 +224,7 @@ fn one_each(holdings: &Holdings<Uses>, items: Vec<Reverse<((u64, u64), u32)>>) -
 fn throw_away(alloc: Global, holdings: &Holdings<Uses>, order: &mut Items, limit: usize) -> usize
     requires ordered { AreOrdered holdings.now (heap_items order.old) }
     ensures ordered { AreOrdered holdings.now (heap_items order.new) }
+    ensures few { IsThinned limit result (length (heap_items order.new)) (length holdings.now) }
 {
     if order.len() < limit {
         return limit;

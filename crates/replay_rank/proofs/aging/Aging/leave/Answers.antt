@@ -23,4 +23,4 @@ pub returns-clause-fits : goal.returns-clause-fits
 returns-clause-fits c = fit-sound c.self.inside.capacity (entries_of c.take.new.self) (invariant_of-self c).fits
 
 pub throw_away-self-inside-requires : goal.throw_away-self-inside-requires
-throw_away-self-inside-requires c = record { ordered = aging-ordered c.self.inside.capacity c.self.inside.used c.self.inside.holdings (heap_items c.self.inside.order) c.self.invariant c.args.object c.take.result c.take.ensures.size c.take.new.self c.take.ensures.rest; }
+throw_away-self-inside-requires c = record { ordered = aging-ordered c.self.inside.capacity c.self.inside.used c.self.inside.holdings (heap_items c.self.inside.order) c.self.invariant c.args.object c.take.result c.take.ensures.size c.take.new.self c.take.ensures.rest }

@@ -37,4 +37,4 @@ returns-clause-state c =
     left-state ByAdmission c.args.self.now (keeping c.self.inside.objects c.self.inside.capacity c.self.inside.requests c.self.inside.left.floor (entries_of c.take.new.self)) c.args.object (left c)
 
 pub throw_away-self-inside-requires : goal.throw_away-self-inside-requires
-throw_away-self-inside-requires c = record { ordered = aging-ordered c.self.inside.capacity c.self.inside.left.used c.self.inside.holdings (heap_items c.self.inside.order) c.self.invariant.aging c.args.object c.take.result c.take.ensures.size c.take.new.self c.take.ensures.rest; }
+throw_away-self-inside-requires c = record { ordered = aging-ordered c.self.inside.capacity c.self.inside.left.used c.self.inside.holdings (heap_items c.self.inside.order) c.self.invariant.aging c.args.object c.take.result c.take.ensures.size c.take.new.self c.take.ensures.rest }

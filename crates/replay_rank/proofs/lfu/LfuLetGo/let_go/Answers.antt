@@ -32,4 +32,4 @@ pub returns-clause-state : goal.returns-clause-state
 returns-clause-state c = left-state ByCount c.args.self.now (kept c.self.inside.objects c.self.inside.capacity c.self.inside.requests (entries_of c.take.new.self)) c.args.object (left c)
 
 pub throw_away-self-inside-requires : goal.throw_away-self-inside-requires
-throw_away-self-inside-requires c = record { ordered = lfu-ordered c.self.inside.capacity c.self.inside.used c.self.inside.holdings (heap_items c.self.inside.order) c.self.invariant c.args.object c.take.result c.take.ensures.size c.take.new.self c.take.ensures.rest; }
+throw_away-self-inside-requires c = record { ordered = lfu-ordered c.self.inside.capacity c.self.inside.used c.self.inside.holdings (heap_items c.self.inside.order) c.self.invariant c.args.object c.take.result c.take.ensures.size c.take.new.self c.take.ensures.rest }
