@@ -12,11 +12,11 @@ ghost use Rattle.policy_model.specs.Steps.{put_in};
 ghost use Rattle.policy_model.specs.Aging.{age_at, over_floor, rank_over, worth_of};
 ghost use Rattle.replay_core.specs.Keeping.{Answers, GivesUp, nothing_kept, kept_without, state_of, contents_of};
 ghost use Rattle.replay_core.specs.Laws.{IsSound};
-ghost use Rattle.replay_rank.specs.AgingEntries.{entry_of, entries_of, name_of, is_standing, AreOrdered, FreesLeast, IsEntered, IsRaised, Renews};
-ghost use Rattle.replay_rank.specs.HeldPairs.{IsThinned};
+ghost use Rattle.replay_rank.specs.AgingEntries.{entry_of, entries_of, name_of, AreOrdered, FreesLeast, IsEntered, IsRaised, Renews};
 ghost use Rattle.replay_rank.specs.LfuEntries.{same_rank, at_most, item_cmp};
 
 use crate::holdings::{Held, Holdings};
+use crate::leftovers::{FEW, throw_away};
 use bound_base::NoMemory;
 use cache_model::Objective;
 use replay_core::Outcome;
@@ -24,10 +24,6 @@ use std::alloc::Global;
 use std::cmp::Reverse;
 use std::collections::BinaryHeap;
 use std::marker::Model;
-use std::mem;
-
-/// The fewest items among which those are looked for that stand for nothing.
-pub(crate) const FEW: usize = 64;
 
 // No rank is above this one.
 const MOST_RANK: u128 = 1 << 127;
@@ -141,7 +137,7 @@ pub(crate) fn is_same(former: (u128, u64), now: (u128, u64)) -> bool
 }
 
 // Whether a rank goes no later than another.
-fn is_at_most(former: (u128, u64), now: (u128, u64)) -> bool
+pub(crate) fn is_at_most(former: (u128, u64), now: (u128, u64)) -> bool
     ensures { result ≡ at_most former now }
 {
     former.0 < now.0 || (former.0 == now.0 && former.1 <= now.1)
@@ -220,49 +216,6 @@ fn give_up_least(holdings: &mut Holdings<Ranked>, order: &mut Items) -> Held<Ran
         }
     }
     unreachable()
-}
-
-// Whether an item stands for its object, which is held, by its rank or a lesser one.
-fn is_standing(holdings: &Holdings<Ranked>, item: &Reverse<((u128, u64), u32)>) -> bool
-    ensures { result ≡ is_standing holdings.now item.now }
-{
-    match holdings.get(item.0.1) {
-        Some(held) => is_at_most(item.0.0, (held.kept.rank, held.kept.last)),
-        None => false,
-    }
-}
-
-// Of the items that stand for their objects, one for each object.
-fn one_each(holdings: &Holdings<Ranked>, items: Vec<Reverse<((u128, u64), u32)>>) -> Items
-    requires ordered { AreOrdered holdings.now items.items }
-    ensures ordered { AreOrdered holdings.now (heap_items result) }
-    ensures few { length (heap_items result) ≤ length holdings.now }
-{
-    let mut items = items;
-    items.retain(|item| is_standing(holdings, item));
-    items.sort_unstable_by_key(|item| item.0.1);
-    items.dedup_by_key(|item| item.0.1);
-    BinaryHeap::from(items)
-}
-
-// Throws away all items but one for each object that is held, if there are this many items, and says at how many to do it
-// again. It takes no memory.
-pub(crate) fn throw_away(
-    alloc: Global,
-    holdings: &Holdings<Ranked>,
-    order: &mut Items,
-    limit: usize,
-) -> usize
-    requires ordered { AreOrdered holdings.now (heap_items order.old) }
-    ensures ordered { AreOrdered holdings.now (heap_items order.new) }
-    ensures few { IsThinned limit result (length (heap_items order.new)) (length holdings.now) }
-{
-    if order.len() < limit {
-        return limit;
-    }
-    let items = mem::replace(order, BinaryHeap::new(alloc)).into_vec();
-    *order = one_each(holdings, items);
-    order.len().saturating_mul(2).max(FEW)
 }
 
 /// The bytes that are still used, and the floor.

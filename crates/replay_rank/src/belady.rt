@@ -267,7 +267,7 @@ impl Policy for Belady {
 }
 
 impl LetGo for Belady {
-    /// It takes constant time.
+    /// It takes constant time. The item of the next request stays in the heap until it comes out or is thrown away.
     fn let_go(&mut self, object: u32) {
         self.used -= self.holdings.take(object);
     }

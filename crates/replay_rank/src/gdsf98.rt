@@ -12,10 +12,9 @@ ghost use Rattle.replay_rank.specs.AdmittedEntries.{AreAbove, RanksAbove, SetsAs
 ghost use Rattle.replay_rank.specs.AgingEntries.{entries_of, AreOrdered};
 ghost use Rattle.replay_rank.specs.LfuEntries.{item_cmp};
 
-use crate::aging::{
-    FEW, Items, Left, Ranked, enter, is_same, put, put_back, raise, renew, throw_away, worth,
-};
+use crate::aging::{Items, Left, Ranked, enter, is_same, put, put_back, raise, renew, worth};
 use crate::holdings::{Held, Holdings};
+use crate::leftovers::{FEW, throw_away};
 use bound_base::NoMemory;
 use cache_model::Objective;
 use replay_core::{LetGo, Outcome, Policy};

@@ -17,7 +17,7 @@ use Rattle.replay_rank.proofs.Pairs.{has_entry-lookup}
 use Rattle.replay_rank.proofs.AgingOrdered.{by_rank}
 use Rattle.replay_rank.proofs.Leavings.{dedup-passes, items_once}
 use Rattle.replay_rank.proofs.OneEach.{climbs-dedup, one_each-few}
-use Rattle.replay_rank.proofs.aging.one_each.Goals as goal
+use Rattle.replay_rank.proofs.leftovers.one_each.Goals as goal
 
 abbrev one : Reverse Key → Reverse Key → Bool
 one i k = eqb i.0.1 k.0.1
