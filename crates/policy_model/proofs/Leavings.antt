@@ -1,10 +1,12 @@
 -- What stays once the entry of an object has left: the others, in order, whatever the rule.
-use Rattle.std.proofs.Common.{◌≡◌, ℕ, ◌≤◌, ◌∙◌, sym, refl, ap, subst, Bool, true, false, not, cond, eqb, List, [], ◌∷◌, ◌++◌, take, drop, arith}
-use Rattle.std.proofs.lemmas.Bool.{or_parts, or_from}
+use Rattle.std.proofs.Common.{◌≡◌, ◌≢◌, ℕ, ◌≤◌, ◌∙◌, sym, refl, ap, subst, Bool, true, false, not, cond, eqb, List, [], ◌∷◌, ◌++◌, take, drop, arith, All, ◌||◌}
+use Rattle.std.specs.List.{AllByRecursion}
+use Rattle.std.proofs.lemmas.Bool.{eqb-true, eqb-false, not-true, or_parts, or_from, cond_both}
 use Rattle.std.proofs.lemmas.List.{take-append-drop}
+use Rattle.std.proofs.lemmas.List.Elements.{All-from_recursion}
 use Rattle.policy_model.specs.declared.names.PolicyName.{PolicyName}
 use Rattle.policy_model.specs.declared.names.PolicyName.TheVariants.{Sieve, S3Fifo, WTinyLfu}
-use Rattle.policy_model.specs.States.{Entry, State, member_of, members_of, used, has_entry, IsFit}
+use Rattle.policy_model.specs.States.{Member, Entry, State, member_of, members_of, has_member, used, has_entry, IsFit}
 use Rattle.policy_model.specs.Steps.{without_entry}
 use Rattle.policy_model.specs.WTinyLfu.{Segments, window_part, main_part, main_used, segments_of, frequencies_of, segment_entries}
 use Rattle.policy_model.specs.Leaving.{without_member, segments_without, stock_without, let_go}
@@ -31,6 +33,32 @@ members-without k (e ∷ rest) = at (eqb e.object k) (members-without k rest)
         → members_of (cond (not b) (e ∷ without_entry k rest) (without_entry k rest)) ≡ cond (not b) (member_of e ∷ without_member k (members_of rest)) (without_member k (members_of rest))
     at true more = more
     at false more = ap (λ ms. member_of e ∷ ms) more
+
+-- none of the members is of the object
+pub without_member-gone : (k : ℕ) (members : List Member) → has_member (without_member k members) k ≡ false
+without_member-gone k [] = refl
+without_member-gone k (m ∷ rest) =
+    cond_both (not (eqb m.object k)) (m ∷ without_member k rest) (without_member k rest) (λ ms. has_member ms k ≡ false)
+    (λ other. ap (λ b. b || has_member (without_member k rest) k) (not-true (eqb m.object k) other) ∙ without_member-gone k rest) (λ _. without_member-gone k rest)
+
+pub without_member-apart : (k : ℕ) (members : List Member) → All (λ m. m.object ≢ k) (without_member k members)
+without_member-apart k members = All-from_recursion (λ (m : Member). m.object ≢ k) (without_member k members) (each members)
+  where
+    each : (ms : List Member) → AllByRecursion (λ (m : Member). m.object ≢ k) (without_member k ms)
+    each [] = tt
+    each (m ∷ rest) =
+        cond_both (not (eqb m.object k)) (m ∷ without_member k rest) (without_member k rest) (AllByRecursion (λ (n : Member). n.object ≢ k))
+        (λ other. (eqb-false m.object k (not-true (eqb m.object k) other), each rest)) (λ _. each rest)
+
+-- and each other object is there as before
+pub without_member-others : (k j : ℕ) (members : List Member) → eqb k j ≡ false → has_member (without_member k members) j ≡ has_member members j
+without_member-others k j [] other = refl
+without_member-others k j (m ∷ rest) other = at (eqb m.object k) refl (without_member-others k j rest other)
+  where
+    at : (b : Bool) → eqb m.object k ≡ b → has_member (without_member k rest) j ≡ has_member rest j
+        → has_member (cond (not b) (m ∷ without_member k rest) (without_member k rest)) j ≡ (eqb m.object j || has_member rest j)
+    at true same more = more ∙ sym (ap (λ b. b || has_member rest j) (ap (λ n. eqb n j) (eqb-true m.object k same) ∙ other))
+    at false apart more = ap (λ b. eqb m.object j || b) more
 
 pub fit-without : (c k : ℕ) (entries : List Entry) → IsFit c entries → IsFit c (without_entry k entries)
 fit-without c k entries fit = record {

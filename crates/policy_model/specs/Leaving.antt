@@ -1,4 +1,4 @@
--- What is kept once the entry of an object has left that the rule did not give up, as one that has expired.
+-- What a rule keeps once it has let go of an object that it did not give up itself, as one that has expired.
 use Rattle.std.specs.Prelude.{ℕ, ◌==◌, not, List, filter}
 use Rattle.policy_model.specs.declared.names.PolicyName.{PolicyName}
 use Rattle.policy_model.specs.declared.names.PolicyName.TheVariants.{Sieve, S3Fifo, WTinyLfu}
@@ -16,7 +16,7 @@ without_member object members = filter (λ m. not (m.object == object)) members
 abbrev pub cut_without : ℕ → Cut → Cut
 cut_without object c = begin_again (without_entry object c.behind) (without_entry object c.ahead)
 
--- it leaves the small queue or the main one, and is no ghost
+-- it leaves the small queue or the main one, and no ghost comes or goes
 abbrev pub queues_without : ℕ → Queues → Queues
 queues_without object q = record { small = without_entry object q.small; main = without_entry object q.main; ghosts = q.ghosts }
 
