@@ -1,7 +1,8 @@
 //! Policies with laws, and the replay of a trace through any of them.
 //!
 //! A policy is asked for one object after another, and says whether it held it. Whatever policy is replayed, what it
-//! held is allowed contents of the trace. The rules are those of docs/DEFINITIONS.md.
+//! held is allowed contents of the trace. A policy that is `LetGo` can be told to let go of an object, as one that has
+//! expired. The rules are those of docs/DEFINITIONS.md.
 #![tactic(auto)]
 
 mod counts;
