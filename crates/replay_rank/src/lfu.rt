@@ -39,10 +39,10 @@ struct Uses {
 /// The object with the fewest hits since it entered is given up first, and of those the one that was used longest ago.
 ///
 /// A hit changes what is held and leaves the heap as it is, whose items stand for no more uses than there were. An item
-/// that comes out of it with fewer goes back with all of them. The item of an object that is let go of stays there too; if
-/// there are then twice as many items as were left when such ones were last thrown away, they are thrown away again. So requests take, one with another, time logarithmic in the
-/// number of entries, for themselves and for each entry that is given up. It takes memory for each object with the first
-/// entry, and for each entry.
+/// that comes out of it with fewer goes back with all of them. The item of an object that is let go of stays there too;
+/// if there are then twice as many items as were left when such ones were last thrown away, they are thrown away again.
+/// So requests take, one with another, time logarithmic in the number of entries, for themselves and for each entry
+/// that is given up. It takes memory for each object with the first entry, and for each entry.
 #[derive(Drop)]
 pub struct Lfu {
     alloc: Global,
