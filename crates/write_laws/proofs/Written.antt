@@ -1,22 +1,21 @@
 -- Contents write what the requests that flags keep must write, or more.
-use Rattle.std.proofs.Common.{◌≡◌, ℕ, ◌+◌, ◌<◌, ◌≤◌, zero-add, ⊎_elim, ◌∙◌, sym, refl, ap, Bool, true, false, not, ◌&&◌, ◌||◌, cond, nat_le, List, [], length, arith}
+use Rattle.std.proofs.Common.{◌≡◌, ℕ, ◌+◌, ◌<◌, ◌≤◌, zero-add, ⊎_elim, ◌∙◌, sym, refl, ap, Bool, true, false, not, ◌&&◌, ◌||◌, cond, nat_le, List, length, arith}
 use Rattle.std.proofs.lemmas.Bool.{cases_Bool, both_ways, and_from}
-use Rattle.std.proofs.lemmas.List.FromFn.{get_or-map-range_with_len}
 use Rattle.cache_model.specs.declared.objects.Object.{Object}
-use Rattle.cache_model.specs.Claim.{holds, before_request, only_fills, request_at, is_kept, held_before, contents_of}
+use Rattle.cache_model.specs.Claim.{holds, before_request, only_fills, request_at, is_kept, contents_of}
 use Rattle.cache_model.specs.Objects.{IsFirst, IsNext, is_first}
 use Rattle.cache_model.proofs.Streams.{sum_by-range_agree}
 use Rattle.cache_model.proofs.DifferentObjects.{is_first-yes}
 use Rattle.cache_model.proofs.Scores.{first_or_next, holds-first, holds-next, allowed-from_loads}
 use Rattle.part_laws.proofs.Ranges.{sum_by-range_below}
-use Rattle.judge_laws.specs.Flags.{is_flagged, IsPossible, HitsFlagged}
+use Rattle.judge_laws.specs.Flags.{is_flagged, IsPossible}
 use Rattle.judge_laws.proofs.Flagged.{flag_keeps, held-flagged}
 use Rattle.judge_laws.proofs.Possible.{allowed_is_possible, flagged_held}
 use Rattle.write_laws.specs.Claims.{HitsExactly, least_written}
 use Rattle.cache_model.specs.Written.{writes, written_bytes}
 use Rattle.write_laws.specs.Laws.{WriteNoFewer, WriteJust}
-use Rattle.cache_model.proofs.Scores.{is_latest-own}
-use Rattle.cache_model.proofs.Written.{holds-own}
+use Rattle.cache_model.proofs.Scores.{before_request-contents_of, is_latest-own}
+use Rattle.cache_model.proofs.Written.{written_at, written-requests}
 use Rattle.write_laws.proofs.Kept.{own, kept-next, least_written-kept}
 
 -- a request that is kept adds no more than one whose object is held after it, and was not before it if it counts and is not flagged
@@ -50,10 +49,6 @@ module _ (c : ℕ) (trace : List Object) (flags : List Bool) (possible : IsPossi
   abbrev keeps : List Bool
   keeps = flag_keeps c trace flags
 
-  -- the contents of these keeps before a request
-  before : (t : ℕ) → t ≤ length trace → before_request (contents_of trace keeps) t ≡ held_before trace keeps t
-  before t within = get_or-map-range_with_len (held_before trace keeps) 0 (length trace + 1) t t [] (omega arith) (omega arith)
-
   -- the first request of an object is not flagged
   first_unflagged : (t : ℕ) → t < length trace → IsFirst trace t → is_flagged flags t ≡ false
   first_unflagged t within first =
@@ -65,7 +60,7 @@ module _ (c : ℕ) (trace : List Object) (flags : List Bool) (possible : IsPossi
   -- the contents of these keeps hit exactly at the flagged requests
   exactly : HitsExactly trace (contents_of trace keeps) flags
   exactly t within =
-      ap (λ held. holds held (request_at trace t)) (before t (omega arith))
+      ap (λ held. holds held (request_at trace t)) (before_request-contents_of trace keeps t (omega arith))
       ∙ ⊎_elim
       (λ (first : IsFirst trace t). holds-first trace t within keeps first ∙ sym (first_unflagged t within first))
       (λ (found : (a : ℕ) × IsNext trace a t). holds-next trace t within keeps found.0 found.1 ∙ kept-next c trace flags possible found.0 t found.1)
@@ -74,17 +69,14 @@ module _ (c : ℕ) (trace : List Object) (flags : List Bool) (possible : IsPossi
   -- and they write what these must
   just : (warmup : ℕ) (fills : List Bool) → written_bytes warmup fills trace (contents_of trace keeps) ≡ least_written c warmup fills trace flags
   just warmup fills =
-      sum_by-range_agree (λ t. cond (nat_le warmup t && writes fills trace (contents_of trace keeps) t) (request_at trace t).size 0) (own c warmup fills trace flags) 0 (length trace)
-      (λ t low high. each t (omega arith))
-      ∙ sym (least_written-kept c warmup fills trace flags possible)
+      written-requests warmup fills trace keeps
+      ∙ (sum_by-range_agree (written_at warmup fills trace keeps) (own c warmup fills trace flags) 0 (length trace) (λ t low high. each t (omega arith))
+      ∙ sym (least_written-kept c warmup fills trace flags possible))
     where
-      each : (t : ℕ) → t < length trace
-          → cond (nat_le warmup t && writes fills trace (contents_of trace keeps) t) (request_at trace t).size 0 ≡ own c warmup fills trace flags t
+      each : (t : ℕ) → t < length trace → written_at warmup fills trace keeps t ≡ own c warmup fills trace flags t
       each t within =
-          let after : holds (before_request (contents_of trace keeps) (t + 1)) (request_at trace t) ≡ is_kept keeps t
-          = ap (λ held. holds held (request_at trace t)) (before (t + 1) (omega arith)) ∙ holds-own trace keeps t within in
-          ap (λ s. cond (nat_le warmup t && (s && (only_fills fills t || not (holds (before_request (contents_of trace keeps) t) (request_at trace t))))) (request_at trace t).size 0) after
-          ∙ ap (λ s. cond (nat_le warmup t && (is_kept keeps t && (only_fills fills t || not s))) (request_at trace t).size 0) (exactly t within)
+          ap (λ was. cond (nat_le warmup t && (is_kept keeps t && (only_fills fills t || not was))) (request_at trace t).size 0)
+          (ap (λ held. holds held (request_at trace t)) (sym (before_request-contents_of trace keeps t (omega arith))) ∙ exactly t within)
 
 pub claimed_hits_write_just : WriteJust
 claimed_hits_write_just c warmup fills trace flags possible =

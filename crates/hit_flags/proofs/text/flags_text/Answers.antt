@@ -1,4 +1,4 @@
-use Rattle.std.proofs.Common.{◌≡◌, ◌∙◌, ℕ, Bool, false, List, [], ◌∷◌, ◌++◌, sym, ap, arith, get_or, take}
+use Rattle.std.proofs.Common.{◌∙◌, ℕ, Bool, false, List, [], ◌∷◌, ◌++◌, sym, ap, arith, get_or, take}
 use Rattle.std.proofs.lemmas.List.{take_all, take_more}
 use Rattle.bit_list.specs.Bits.{bits_of}
 use Rattle.hit_flags.specs.Laws.{flag_byte, flags_text}

@@ -67,8 +67,7 @@ returns-clause-hits g c =
 
 pub returns-clause-possible : goal.returns-clause-possible
 returns-clause-possible g c =
-    are_possible (g.P.Policy.known_state c.args.policy.now) (g.P.Policy.room c.args.policy.now) c.args.trace.now.objects _
-    (flagged-all (g.P.Policy.known_state c.args.policy.now) (g.P.Policy.room c.args.policy.now) c.args.trace.now.objects c.loop-t.t (g.P.Policy.contents c.loop-t.policy) _ (omega arith) c.requires.fresh c.loop-t.invariant.hits)
+    are_possible (g.P.Policy.known_state c.args.policy.now) (g.P.Policy.room c.args.policy.now) c.args.trace.now.objects _ (returns-clause-hits g c)
 
 pub returns-clause-counted : goal.returns-clause-counted
 returns-clause-counted g c =

@@ -2,14 +2,19 @@
 use Rattle.std.specs.Prelude.{ℕ, ◌+◌, ◌==◌, max, nat_lt, Bool, false, not, ◌&&◌, ◌||◌, List, fold, map, take, slice_range, None, Some}
 use Rattle.std.specs.declared.option.Option.{Option}
 use Rattle.std.specs.List.{list_any, range_with_len}
+use Rattle.std.specs.Option.{is_some}
 use Rattle.cache_model.specs.declared.objects.Object.{Object}
 use Rattle.cache_model.specs.Claim.{is_latest, only_fills, request_at, same_object}
 use Rattle.cache_model.specs.Objects.{is_first, numbers_of}
+use Rattle.freshness.specs.declared.fresh.Freshness.{Freshness}
 
--- how long an object stays fresh after it was asked for, if it expires, and whether a request for another size of its id replaces it
-pub record Freshness : Type 0 where
-  pub idle : Option ℕ
-  pub replace : Bool
+-- nothing expires, and nothing is replaced
+abbrev pub forever : Freshness
+forever = record { idle = None; replace = false }
+
+-- a request can be stale
+abbrev pub can_end : Freshness → Bool
+can_end fresh = is_some fresh.idle || fresh.replace
 
 -- the clock at request t: the greatest time of it and of all before it, so that a time that goes back counts as no time passed
 abbrev pub clock : List ℕ → ℕ → ℕ
