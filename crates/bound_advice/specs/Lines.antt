@@ -4,20 +4,25 @@ use Rattle.std.specs.declared.option.Option.{Option}
 use Rattle.std.specs.Result.{is_err}
 use Rattle.std.specs.List.{slice_split}
 use Rattle.trace_any.specs.declared.format.Format.{Format}
-use Rattle.trace_any.specs.declared.format.Format.TheVariants as form
+use Rattle.trace_any.specs.declared.format.Layout.{Layout}
+use Rattle.trace_any.specs.declared.format.Layout.TheVariants as form
 use Rattle.trace_lines.specs.Lines.{EndsIn, is_blank, without_cr}
 use Rattle.trace_arc.specs.Lines as arc
 use Rattle.trace_msr.specs.Lines as msr
 use Rattle.trace_webcache.specs.Lines as webcache
 
--- whether a text is no line of a form of lines; whether it is one of msr is the same for each block
+-- whether a text is no line of a layout of lines; whether it is one of msr is the same for each block
+abbrev pub is_no_line_in : Layout → List ℕ → Bool
+is_no_line_in form.Webcache text = is_err (webcache.line_span text)
+is_no_line_in form.MarkedWebcache text = is_err (webcache.marked_span text)
+is_no_line_in form.Arc text = is_err (arc.line_span text)
+is_no_line_in (form.Msr block) text = is_err (msr.line_parts 4096 text)
+is_no_line_in (form.MsrReads block) text = is_err (msr.line_parts 4096 text)
+is_no_line_in form.Oracle text = false
+
+-- the same of a form, if one is known
 abbrev pub is_no_line : Option Format → List ℕ → Bool
-is_no_line (Some form.Webcache) text = is_err (webcache.line_span text)
-is_no_line (Some form.MarkedWebcache) text = is_err (webcache.marked_span text)
-is_no_line (Some form.Arc) text = is_err (arc.line_span text)
-is_no_line (Some (form.Msr block)) text = is_err (msr.line_parts 4096 text)
-is_no_line (Some (form.MsrReads block)) text = is_err (msr.line_parts 4096 text)
-is_no_line (Some form.Oracle) text = false
+is_no_line (Some format) text = is_no_line_in format.layout text
 is_no_line None text = false
 
 -- whether a form refuses a line: one that is not blank, and none of the form without a last CR

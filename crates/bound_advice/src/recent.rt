@@ -5,7 +5,7 @@ ghost use Rattle.bound_advice.specs.Lines.{KeepsLast, is_no_line, is_refused, wh
 
 use bound_base::NoMemory;
 use std::alloc::Global;
-use trace_any::Format;
+use trace_any::{Format, Layout};
 use trace_lines::{is_blank, trim_cr};
 
 // How many bytes are kept at least, if there were as many: a line and a buffer of a reader of lines.
@@ -29,14 +29,14 @@ pub(crate) struct Recent {
 fn is_no_line(format: Option<Format>, text: &[u8]) -> bool
     ensures { result ≡ is_no_line format text.now }
 {
-    match format {
-        Some(Format::Webcache) => trace_webcache::parse(text).is_err(),
-        Some(Format::MarkedWebcache) => trace_webcache::parse_marked(text).is_err(),
-        Some(Format::Arc) => trace_arc::parse(text).is_err(),
-        Some(Format::Msr { .. } | Format::MsrReads { .. }) => trace_msr::parse(
+    match format.map(|format| format.layout) {
+        Some(Layout::Webcache) => trace_webcache::parse(text).is_err(),
+        Some(Layout::MarkedWebcache) => trace_webcache::parse_marked(text).is_err(),
+        Some(Layout::Arc) => trace_arc::parse(text).is_err(),
+        Some(Layout::Msr { .. } | Layout::MsrReads { .. }) => trace_msr::parse(
             text, BLOCK,
         ).is_err(),
-        Some(Format::Oracle) | None => false,
+        Some(Layout::Oracle) | None => false,
     }
 }
 

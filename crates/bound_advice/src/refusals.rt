@@ -11,7 +11,7 @@ use crate::words::{Words, word_advice};
 use bound_report::{Impossible, InvalidKind, LimitName, Refusal, refusal_text};
 use bound_words::Command;
 use std::alloc::{AllocError, Global};
-use trace_any::Format;
+use trace_any::{Format, Layout};
 use trace_lines::LineKind;
 
 /// What was seen of a run beside its words: its devices, how the trace begins, and the refused line if there is one.
@@ -94,7 +94,7 @@ fn line_advice(
 ) -> Result<String, AllocError> {
     let bad = BadLine {
         command: words.command_word(),
-        form: words.form().unwrap_or(Format::Webcache),
+        form: words.form().unwrap_or(Format::lasting(Layout::Webcache)),
         trace: devices.trace,
         start: devices.start,
         number,

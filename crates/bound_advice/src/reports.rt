@@ -9,7 +9,7 @@ use crate::words::Words;
 use bound_report::Numbers;
 use bound_words::MOST_DENOMINATOR;
 use std::alloc::{AllocError, Global};
-use trace_any::Format;
+use trace_any::Layout;
 
 // That the trace has nothing to count.
 fn empty_advice(alloc: Global, report: Numbers) -> Result<Option<String>, AllocError> {
@@ -61,8 +61,8 @@ fn packed_records(
 ) -> Result<Option<String>, AllocError>
     ensures { IfOk result (λ odd. is_some odd ≡ may_be_packed words.entry start.now) }
 {
-    match (packed_by(start), words.form()) {
-        (Some((by, unpack)), Some(Format::Oracle)) => Ok(Some(packed_advice(
+    match (packed_by(start), words.form().map(|form| form.layout)) {
+        (Some((by, unpack)), Some(Layout::Oracle)) => Ok(Some(packed_advice(
             alloc,
             trace,
             words.command_word(),

@@ -3,7 +3,7 @@ use crate::devices::Seen;
 use crate::escape::shown;
 use crate::starts::{Looks, looks_of, packed_by};
 use std::alloc::{AllocError, Global};
-use trace_any::Format;
+use trace_any::{Format, Layout};
 use trace_lines::{LineKind, field, trim_cr, word};
 
 /// A line of a trace that was refused: the form, where it stands, why, and the bytes of it that are known.
@@ -20,17 +20,17 @@ pub(crate) struct BadLine<'a> {
 
 // Whether a line of the form is one of fields with commas between them.
 fn has_fields(form: Format) -> bool {
-    matches!(form, Format::Msr { .. } | Format::MsrReads { .. })
+    matches!(form.layout, Layout::Msr { .. } | Layout::MsrReads { .. })
 }
 
 // What the number in a word of a line is.
 fn number_in(form: Format, word: u8) -> &'static str {
-    match (form, word) {
-        (Format::Webcache | Format::MarkedWebcache, 2) => "an id is digits alone, below 2^64",
-        (Format::Arc, 1) => "a first block is digits alone, below 2^64",
-        (Format::Arc, _) => "a number of blocks is digits alone, below 2^64",
-        (Format::Msr { .. } | Format::MsrReads { .. }, 3) => "a disk is a number, in digits alone",
-        (Format::Msr { .. } | Format::MsrReads { .. }, 5) => {
+    match (form.layout, word) {
+        (Layout::Webcache | Layout::MarkedWebcache, 2) => "an id is digits alone, below 2^64",
+        (Layout::Arc, 1) => "a first block is digits alone, below 2^64",
+        (Layout::Arc, _) => "a number of blocks is digits alone, below 2^64",
+        (Layout::Msr { .. } | Layout::MsrReads { .. }, 3) => "a disk is a number, in digits alone",
+        (Layout::Msr { .. } | Layout::MsrReads { .. }, 5) => {
             "an offset is in bytes, in digits alone"
         }
         _ => "a size is in bytes, in digits alone",
@@ -39,15 +39,15 @@ fn number_in(form: Format, word: u8) -> &'static str {
 
 // What a line of the form has.
 fn parts_of(form: Format) -> &'static str {
-    match form {
-        Format::Msr { .. } | Format::MsrReads { .. } => {
+    match form.layout {
+        Layout::Msr { .. } | Layout::MsrReads { .. } => {
             "it needs six fields with commas between: timestamp, host, disk, type, offset and size"
         }
-        Format::Arc => "it needs two words: a first block, and how many blocks",
-        Format::MarkedWebcache => {
+        Layout::Arc => "it needs two words: a first block, and how many blocks",
+        Layout::MarkedWebcache => {
             "it needs four words with count=reads: a time, an id, a size in bytes, and r or w"
         }
-        Format::Webcache | Format::Oracle =>
+        Layout::Webcache | Layout::Oracle =>
             "it needs three words: a time, an id and a size in bytes",
     }
 }
@@ -125,8 +125,8 @@ impl<'a> BadLine<'a> {
             LineKind::BadType => self.part_advice(
                 alloc,
                 4,
-                match self.form {
-                    Format::MarkedWebcache =>
+                match self.form.layout {
+                    Layout::MarkedWebcache =>
                         "with count=reads it is r for a read, or w for a write",
                     _ => "a type is Read or Write",
                 },

@@ -9,8 +9,7 @@ use Rattle.cache_model.specs.declared.objects.Object.{Object}
 use Rattle.cache_rules.specs.Stored.{Requests as Trail, all_count}
 use Rattle.cache_model.specs.Certificates.{IsValid}
 use Rattle.trace_any.specs.declared.fault.TraceFault.TheVariants as trace
-use Rattle.trace_any.specs.declared.format.Format.TheVariants.{Webcache}
-use Rattle.trace_any.specs.Readings.{Reading, full_limits, reading}
+use Rattle.trace_any.specs.Readings.{Reading, full_limits, reading, webcache_form}
 use Rattle.cert_checker.specs.Walks.{Event, walk}
 use Rattle.cert_checker.specs.Walks as walks
 use Rattle.cert_checker.proofs.Walked.{passing_is_valid_lem}
@@ -34,15 +33,15 @@ no_fault : HasNewFault 0 0 → ⊥
 no_fault (inl less) = omega (arith, less)
 no_fault (inr full) = omega (arith, full)
 
-module _ (lines text : List ℕ) (lines_after text_after : Option (List ℕ)) (good : (reading Webcache full_limits lines).refused ≡ None) (certified : IsCertified Webcache lines text) where
+module _ (lines text : List ℕ) (lines_after text_after : Option (List ℕ)) (good : (reading webcache_form full_limits lines).refused ≡ None) (certified : IsCertified webcache_form lines text) where
   -- the walk has no event
-  no_event : (event : Event) → walk (reading Webcache full_limits lines) text ≡ Some event → ⊥
+  no_event : (event : Event) → walk (reading webcache_form full_limits lines) text ≡ Some event → ⊥
   no_event event is =
-      let passes = (passing_is_valid_lem (reading Webcache full_limits lines) text good).1 (certified.header, certified.records, certified.text_is, certified.valid) in
+      let passes = (passing_is_valid_lem (reading webcache_form full_limits lines) text good).1 (certified.header, certified.records, certified.text_is, certified.valid) in
       false≢true (ap is_some (sym passes ∙ is))
 
   -- a check of a valid certificate over sources in memory is refused only if memory runs out
-  pub only_memory : (why : Refusal) → RefusesCheck Webcache (device (Some lines) lines_after 0 0) (device (Some text) text_after 0 0) why → why ≡ refusal.NoMemory
+  pub only_memory : (why : Refusal) → RefusesCheck webcache_form (device (Some lines) lines_after 0 0) (device (Some text) text_after 0 0) why → why ≡ refusal.NoMemory
   only_memory (refusal.Invalid line kind) e = absurd (no_event (walks.Invalid line kind) e.0)
   only_memory (refusal.BadLine line kind) e = absurd (no_event (walks.Refused (trace.BadLine line kind)) e.0)
   only_memory (refusal.Limit Requests) e = absurd (no_event (walks.Refused trace.TooManyRequests) e.0)
@@ -60,7 +59,7 @@ module _ (lines text : List ℕ) (lines_after text_after : Option (List ℕ)) (g
 
 -- the text of a demo, from its parts
 pub shown_by : (drawing : DrawSettings) (asked : BoundSettings) (trace : Trail) (cert report text : List ℕ) (replays : PolicyReplays) → trace ≡ trace_drawn drawing
-    → AreTexts Webcache asked trace 0 cert report → AreReplays asked.terms.capacity trace replays → text ≡ demo_text (demo_facts drawing asked) report replays → IsDemoText drawing asked text
+    → AreTexts webcache_form asked trace 0 cert report → AreReplays asked.terms.capacity trace replays → text ≡ demo_text (demo_facts drawing asked) report replays → IsDemoText drawing asked text
 shown_by drawing asked trace cert report text replays drawn texts replayed is = record {
   price = texts.price;
   header = texts.header;
@@ -68,10 +67,10 @@ shown_by drawing asked trace cert report text replays drawn texts replayed is = 
   made = subst (λ xs. IsMade asked xs texts.price texts.header texts.records) drawn texts.made;
   replays = replays;
   replayed = subst (λ xs. AreReplays asked.terms.capacity xs replays) drawn replayed;
-  text_is = is ∙ (ap (λ r. demo_text (demo_facts drawing asked) r replays) texts.report_is ∙ ap (λ xs. demo_text (demo_facts drawing asked) (bounds_report (counting_of Webcache texts.header xs) asked xs 0 texts.price texts.header texts.records) replays) drawn);
+  text_is = is ∙ (ap (λ r. demo_text (demo_facts drawing asked) r replays) texts.report_is ∙ ap (λ xs. demo_text (demo_facts drawing asked) (bounds_report (counting_of webcache_form texts.header xs) asked xs 0 texts.price texts.header texts.records) replays) drawn);
 }
 
 -- what is made of a trace is certified by its lines
-pub certified_by_texts : (asked : BoundSettings) (requests : List Object) (lines cert report : List ℕ) → reading Webcache full_limits lines ≡ read_whole requests → AreTexts Webcache asked (all_count requests) 0 cert report → IsCertified Webcache lines cert
+pub certified_by_texts : (asked : BoundSettings) (requests : List Object) (lines cert report : List ℕ) → reading webcache_form full_limits lines ≡ read_whole requests → AreTexts webcache_form asked (all_count requests) 0 cert report → IsCertified webcache_form lines cert
 certified_by_texts asked requests lines cert report read texts =
     record { header = texts.header; records = texts.records; text_is = texts.cert_is; valid = subst (λ (r : Reading). IsValid r.requests r.fills texts.header texts.records) (sym read) texts.made.valid }

@@ -12,8 +12,7 @@ use Rattle.cache_model.specs.declared.version.TheConstants.{SHORT_VERSION}
 use Rattle.cache_model.specs.Certificates.{IsHeaderInRange, IsRecordInRange, IsValid}
 use Rattle.cache_model.specs.Texts.{header_lines, line, record_line, record_lines, text_of}
 use Rattle.cache_model.proofs.RecordLines.{last_price, last_price-append, record_lines-append}
-use Rattle.trace_any.specs.declared.format.Format.TheVariants.{Webcache}
-use Rattle.trace_any.specs.Readings.{full_limits}
+use Rattle.trace_any.specs.Readings.{full_limits, webcache_form}
 use Rattle.trace_any.specs.Readers as requests
 use Rattle.cert_format.specs.declared.fault.CertFault.{CertFault}
 use Rattle.cert_format.specs.declared.fault.CertFault.TheVariants as text
@@ -37,7 +36,7 @@ use Rattle.cert_format.proofs.Written.{three_parts}
 
 -- a reader of a certificate and its source, if nothing is said of a trace
 abbrev pub at_cert : lines.Reader → Option (List ℕ) → ℕ → Inputs
-at_cert cert left faults = inputs (requests.fresh Webcache full_limits) None 0 cert left faults
+at_cert cert left faults = inputs (requests.fresh webcache_form full_limits) None 0 cert left faults
 
 -- the header and these records were read, and written in the second version
 pub record HasRewritten (before : Option (List ℕ)) (faults : ℕ) (h : Header) (cert : lines.Reader) (left : Option (List ℕ)) (faults_now : ℕ) (written : List ℕ) (records : List Record) : Type 0 where

@@ -16,7 +16,7 @@ use Rattle.cache_model.specs.Units.{HasWholeCosts}
 use Rattle.cache_model.specs.Intervals.{bound_of}
 use Rattle.cert_checker.specs.declared.verdict.Verdict.{Verdict}
 use Rattle.trace_any.specs.declared.format.Format.{Format}
-use Rattle.trace_any.specs.declared.format.Format.TheVariants.{Webcache}
+use Rattle.trace_any.specs.Readings.{webcache_form}
 use Rattle.bound_run.specs.Countings.{counting_of}
 use Rattle.bound_words.specs.declared.plans.BoundSettings.{BoundSettings}
 use Rattle.bound_words.specs.declared.plans.DrawSettings.{DrawSettings}
@@ -137,7 +137,7 @@ pub record ShowsDemo (drawing : DrawSettings) (asked : BoundSettings) (report : 
   pub records : List Record
   pub price : ℕ
   pub replays : PolicyReplays
-  pub printed : Appends report.before report.after (demo_text (demo_facts drawing asked) (bounds_report (counting_of Webcache header (trace_drawn drawing)) asked (trace_drawn drawing) 0 price header records) replays)
+  pub printed : Appends report.before report.after (demo_text (demo_facts drawing asked) (bounds_report (counting_of webcache_form header (trace_drawn drawing)) asked (trace_drawn drawing) 0 price header records) replays)
   pub terms : terms_of header [] ≡ marked asked.terms []
   pub priced : IsPriceOf asked.mode price (length (trace_drawn drawing).objects) records
   pub bounds : AreTrueBounds (trace_drawn drawing) header records

@@ -1,7 +1,6 @@
 //! A demo: bounds of a trace that is drawn, their check, and the replay of each policy.
 ghost use Rattle.std.specs.Prelude.{◌≡◌, None, IfOk, IfErr};
-ghost use Rattle.trace_any.specs.Readings.{full_limits, reading};
-ghost use Rattle.trace_any.specs.declared.format.Format.TheVariants.{Webcache};
+ghost use Rattle.trace_any.specs.Readings.{full_limits, reading, webcache_form};
 ghost use Rattle.bound_run.specs.Demos.{AreReplays, IsDemoText};
 ghost use Rattle.bound_run.specs.Refusals.{RefusesDemo};
 ghost use Rattle.bound_run.specs.Readings.{IsCertified};
@@ -19,18 +18,23 @@ use demo_trace::{demo_trace, webcache_text};
 use policy_model::PolicyName;
 use replay_core::Replay;
 use std::alloc::Global;
-use trace_any::Format;
+use trace_any::{Format, Layout};
 
 // Checks a certificate against the lines of a trace, both in memory. No read fails and the certificate is valid, so
 // there is a refusal only if memory runs out.
 fn check_made(alloc: Global, lines: Vec<u8>, cert: Vec<u8>) -> Result<(), Refusal>
-    requires trace { (reading Webcache full_limits lines.items).refused ≡ None }
-    requires certified { IsCertified Webcache lines.items cert.items }
+    requires trace { (reading webcache_form full_limits lines.items).refused ≡ None }
+    requires certified { IsCertified webcache_form lines.items cert.items }
     ensures { IfErr result (λ refusal. refusal ≡ Refusal.NoMemory) }
 {
     let mut trace = CalmSource::new(lines);
     let mut cert = CalmSource::new(cert);
-    match verdict_of(alloc, Format::Webcache, &mut trace, &mut cert) {
+    match verdict_of(
+        alloc,
+        Format::lasting(Layout::Webcache),
+        &mut trace,
+        &mut cert,
+    ) {
         Ok(_) => Ok(()),
         Err(refusal) => Err(refusal),
     }
@@ -80,7 +84,7 @@ pub(crate) fn demo_report(
     ensures refused { IfErr result (RefusesDemo drawing asked.now) }
 {
     let trace = demo_trace(alloc, drawing.seed, drawing.requests, drawing.objects)?;
-    let texts = texts_of(alloc, Format::Webcache, asked, &trace, 0)?;
+    let texts = texts_of(alloc, Format::lasting(Layout::Webcache), asked, &trace, 0)?;
     let lines = webcache_text(alloc, &trace)?;
     check_made(alloc, lines, texts.cert)?;
     let replays = replays_of(alloc, &trace, asked)?;

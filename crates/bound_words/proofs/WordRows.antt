@@ -4,7 +4,8 @@ use Rattle.cache_model.specs.declared.objects.Objective.TheVariants.{Object as H
 use Rattle.bound_terms.specs.declared.modes.Mode.TheVariants.{Constant, Flow, Infinite}
 use Rattle.bound_terms.specs.declared.modes.Window.TheVariants.{All as Whole}
 use Rattle.relaxation.specs.declared.denominators.DenominatorChoice.TheVariants.{Auto, Exact, Given}
-use Rattle.trace_any.specs.declared.format.Format.TheVariants.{Webcache, Arc, Msr, Oracle, MarkedWebcache, MsrReads}
+use Rattle.trace_any.specs.Readings.{lasting}
+use Rattle.trace_any.specs.declared.format.Layout.TheVariants.{Webcache, Arc, Msr, Oracle, MarkedWebcache, MsrReads}
 use Rattle.bound_words.specs.declared.plans.Plan.TheVariants.{Bounds, Check, Replay, Curve, CapacityCurve, Judge, Demo, Upgrade}
 use Rattle.policy_model.specs.declared.names.PolicyName.TheVariants.{Lru}
 use Rattle.bound_terms.specs.declared.words.WordKind.TheVariants.{Missing, Unknown, Twice, BadValue}
@@ -16,21 +17,21 @@ abbrev bounds_with : List (List ℕ) → List (List ℕ)
 bounds_with operands = codes "bounds" ∷ codes "t" ∷ codes "c" ∷ operands
 
 -- three operands, and the objective where it isn't given
-all_required : plan (bounds_with (codes "format=webcache" ∷ codes "capacity=10" ∷ codes "mode=infinite" ∷ [])) ≡ Ok (Bounds Webcache 10 Hits Infinite (Given 1) 0 1 false)
+all_required : plan (bounds_with (codes "format=webcache" ∷ codes "capacity=10" ∷ codes "mode=infinite" ∷ [])) ≡ Ok (Bounds (lasting Webcache) 10 Hits Infinite (Given 1) 0 1 false)
 unfolding plan
 all_required = refl
 
 -- another order, another objective, and another form of the trace
-another_order : plan (bounds_with (codes "objective=bytes" ∷ codes "mode=infinite" ∷ codes "capacity=010" ∷ codes "format=arc" ∷ [])) ≡ Ok (Bounds Arc 10 Bytes Infinite (Given 1) 0 1 false)
+another_order : plan (bounds_with (codes "objective=bytes" ∷ codes "mode=infinite" ∷ codes "capacity=010" ∷ codes "format=arc" ∷ [])) ≡ Ok (Bounds (lasting Arc) 10 Bytes Infinite (Given 1) 0 1 false)
 unfolding plan
 another_order = refl
 
 -- the usual denominator of mode constant, and one that is chosen
-usual_denominator : plan (bounds_with (codes "format=arc" ∷ codes "capacity=1" ∷ codes "mode=constant" ∷ [])) ≡ Ok (Bounds Arc 1 Hits Constant (Given 281474976710656) 0 1 false)
+usual_denominator : plan (bounds_with (codes "format=arc" ∷ codes "capacity=1" ∷ codes "mode=constant" ∷ [])) ≡ Ok (Bounds (lasting Arc) 1 Hits Constant (Given 281474976710656) 0 1 false)
 unfolding plan
 usual_denominator = refl
 
-chosen_denominator : plan (bounds_with (codes "denominator=exact" ∷ codes "format=arc" ∷ codes "capacity=1" ∷ codes "mode=constant" ∷ [])) ≡ Ok (Bounds Arc 1 Hits Constant Exact 0 1 false)
+chosen_denominator : plan (bounds_with (codes "denominator=exact" ∷ codes "format=arc" ∷ codes "capacity=1" ∷ codes "mode=constant" ∷ [])) ≡ Ok (Bounds (lasting Arc) 1 Hits Constant Exact 0 1 false)
 unfolding plan
 chosen_denominator = refl
 
@@ -50,12 +51,12 @@ unfolding plan
 two_equals = refl
 
 -- a block before its form of the trace
-block_first : plan (bounds_with (codes "block=8192" ∷ codes "format=msr" ∷ codes "capacity=1" ∷ codes "mode=infinite" ∷ [])) ≡ Ok (Bounds (Msr 8192) 1 Hits Infinite (Given 1) 0 1 false)
+block_first : plan (bounds_with (codes "block=8192" ∷ codes "format=msr" ∷ codes "capacity=1" ∷ codes "mode=infinite" ∷ [])) ≡ Ok (Bounds (lasting (Msr 8192)) 1 Hits Infinite (Given 1) 0 1 false)
 unfolding plan
 block_first = refl
 
 -- the block where it isn't given
-usual_block : plan (bounds_with (codes "format=msr" ∷ codes "capacity=1" ∷ codes "mode=infinite" ∷ [])) ≡ Ok (Bounds (Msr 4096) 1 Hits Infinite (Given 1) 0 1 false)
+usual_block : plan (bounds_with (codes "format=msr" ∷ codes "capacity=1" ∷ codes "mode=infinite" ∷ [])) ≡ Ok (Bounds (lasting (Msr 4096)) 1 Hits Infinite (Given 1) 0 1 false)
 unfolding plan
 usual_block = refl
 
@@ -80,7 +81,7 @@ unfolding plan
 no_path = refl
 
 -- a check takes the form of the trace and no more
-a_check : plan (codes "check" ∷ codes "t" ∷ codes "-" ∷ codes "format=msr" ∷ codes "block=512" ∷ []) ≡ Ok (Check (Msr 512))
+a_check : plan (codes "check" ∷ codes "t" ∷ codes "-" ∷ codes "format=msr" ∷ codes "block=512" ∷ []) ≡ Ok (Check (lasting (Msr 512)))
 unfolding plan
 a_check = refl
 
@@ -127,7 +128,7 @@ unfolding plan
 no_request = refl
 
 -- claimed hits are judged at a capacity, and stand on one of the two inputs alone
-a_judgement : plan (codes "judge" ∷ codes "t" ∷ codes "-" ∷ codes "format=arc" ∷ codes "capacity=7" ∷ codes "warmup=3" ∷ []) ≡ Ok (Judge Arc 7 3 false)
+a_judgement : plan (codes "judge" ∷ codes "t" ∷ codes "-" ∷ codes "format=arc" ∷ codes "capacity=7" ∷ codes "warmup=3" ∷ []) ≡ Ok (Judge (lasting Arc) 7 3 false)
 unfolding plan
 a_judgement = refl
 
@@ -140,7 +141,7 @@ unfolding plan
 both_inputs = refl
 
 -- a curve takes the form of the trace and no more
-a_curve : plan (codes "curve" ∷ codes "t" ∷ codes "format=msr" ∷ []) ≡ Ok (Curve (Msr 4096))
+a_curve : plan (codes "curve" ∷ codes "t" ∷ codes "format=msr" ∷ []) ≡ Ok (Curve (lasting (Msr 4096)))
 unfolding plan
 a_curve = refl
 
@@ -149,11 +150,11 @@ unfolding plan
 curve_without_form = refl
 
 -- with capacities it takes an objective, a denominator and a warm-up too
-a_curve_over : plan (codes "curve" ∷ codes "t" ∷ codes "format=arc" ∷ codes "capacities=1,20,0300" ∷ []) ≡ Ok (CapacityCurve Arc (codes "1,20,0300") Hits 281474976710656 0)
+a_curve_over : plan (codes "curve" ∷ codes "t" ∷ codes "format=arc" ∷ codes "capacities=1,20,0300" ∷ []) ≡ Ok (CapacityCurve (lasting Arc) (codes "1,20,0300") Hits 281474976710656 0)
 unfolding plan
 a_curve_over = refl
 
-curve_over_last : plan (codes "curve" ∷ codes "t" ∷ codes "warmup=7" ∷ codes "denominator=5" ∷ codes "objective=bytes" ∷ codes "format=arc" ∷ codes "capacities=9" ∷ []) ≡ Ok (CapacityCurve Arc (codes "9") Bytes 5 7)
+curve_over_last : plan (codes "curve" ∷ codes "t" ∷ codes "warmup=7" ∷ codes "denominator=5" ∷ codes "objective=bytes" ∷ codes "format=arc" ∷ codes "capacities=9" ∷ []) ≡ Ok (CapacityCurve (lasting Arc) (codes "9") Bytes 5 7)
 unfolding plan
 curve_over_last = refl
 
@@ -199,11 +200,11 @@ unfolding plan
 curve_at_no_capacity = refl
 
 -- written bytes are counted if that is asked for, of bounds, a replay and a judgement alone
-writes_counted : plan (bounds_with (codes "writes=count" ∷ codes "format=arc" ∷ codes "capacity=1" ∷ codes "mode=infinite" ∷ [])) ≡ Ok (Bounds Arc 1 Hits Infinite (Given 1) 0 1 true)
+writes_counted : plan (bounds_with (codes "writes=count" ∷ codes "format=arc" ∷ codes "capacity=1" ∷ codes "mode=infinite" ∷ [])) ≡ Ok (Bounds (lasting Arc) 1 Hits Infinite (Given 1) 0 1 true)
 unfolding plan
 writes_counted = refl
 
-writes_of_claims : plan (codes "judge" ∷ codes "t" ∷ codes "-" ∷ codes "format=arc" ∷ codes "capacity=7" ∷ codes "writes=none" ∷ []) ≡ Ok (Judge Arc 7 0 false)
+writes_of_claims : plan (codes "judge" ∷ codes "t" ∷ codes "-" ∷ codes "format=arc" ∷ codes "capacity=7" ∷ codes "writes=none" ∷ []) ≡ Ok (Judge (lasting Arc) 7 0 false)
 unfolding plan
 writes_of_claims = refl
 
@@ -216,7 +217,7 @@ unfolding plan
 writes_of_no_kind = refl
 
 -- a replay prints flags in place of the report if that is asked for, and then counts no written bytes
-flags_printed : plan (codes "replay" ∷ codes "t" ∷ codes "print=flags" ∷ codes "format=arc" ∷ codes "capacity=1" ∷ codes "policy=lru" ∷ codes "writes=none" ∷ []) ≡ Ok (Replay Arc 1 Lru 0 false true)
+flags_printed : plan (codes "replay" ∷ codes "t" ∷ codes "print=flags" ∷ codes "format=arc" ∷ codes "capacity=1" ∷ codes "policy=lru" ∷ codes "writes=none" ∷ []) ≡ Ok (Replay (lasting Arc) 1 Lru 0 false true)
 unfolding plan
 flags_printed = refl
 
@@ -229,7 +230,7 @@ unfolding plan
 flags_of_bounds = refl
 
 -- a warm-up and a version of a certificate
-with_warmup : plan (bounds_with (codes "version=2" ∷ codes "format=arc" ∷ codes "warmup=7" ∷ codes "capacity=1" ∷ codes "mode=infinite" ∷ [])) ≡ Ok (Bounds Arc 1 Hits Infinite (Given 1) 7 2 false)
+with_warmup : plan (bounds_with (codes "version=2" ∷ codes "format=arc" ∷ codes "warmup=7" ∷ codes "capacity=1" ∷ codes "mode=infinite" ∷ [])) ≡ Ok (Bounds (lasting Arc) 1 Hits Infinite (Given 1) 7 2 false)
 unfolding plan
 with_warmup = refl
 
@@ -255,7 +256,7 @@ unfolding plan
 upgrade_of_a_form = refl
 
 -- records have no block
-oracle_records : plan (codes "check" ∷ codes "t" ∷ codes "c" ∷ codes "format=oracle" ∷ []) ≡ Ok (Check Oracle)
+oracle_records : plan (codes "check" ∷ codes "t" ∷ codes "c" ∷ codes "format=oracle" ∷ []) ≡ Ok (Check (lasting Oracle))
 unfolding plan
 oracle_records = refl
 
@@ -264,20 +265,20 @@ unfolding plan
 oracle_block = refl
 
 -- only reads count, by marks or by the types of the lines
-marked_check : plan (codes "check" ∷ codes "t" ∷ codes "c" ∷ codes "count=reads" ∷ codes "format=webcache" ∷ []) ≡ Ok (Check MarkedWebcache)
+marked_check : plan (codes "check" ∷ codes "t" ∷ codes "c" ∷ codes "count=reads" ∷ codes "format=webcache" ∷ []) ≡ Ok (Check (lasting MarkedWebcache))
 unfolding plan
 marked_check = refl
 
-reads_curve : plan (codes "curve" ∷ codes "t" ∷ codes "format=msr" ∷ codes "count=reads" ∷ codes "block=512" ∷ []) ≡ Ok (Curve (MsrReads 512))
+reads_curve : plan (codes "curve" ∷ codes "t" ∷ codes "format=msr" ∷ codes "count=reads" ∷ codes "block=512" ∷ []) ≡ Ok (Curve (lasting (MsrReads 512)))
 unfolding plan
 reads_curve = refl
 
 -- all requests count, by default and with every form
-all_count : plan (codes "check" ∷ codes "t" ∷ codes "c" ∷ codes "format=msr" ∷ codes "count=all" ∷ []) ≡ Ok (Check (Msr 4096))
+all_count : plan (codes "check" ∷ codes "t" ∷ codes "c" ∷ codes "format=msr" ∷ codes "count=all" ∷ []) ≡ Ok (Check (lasting (Msr 4096)))
 unfolding plan
 all_count = refl
 
-all_records_count : plan (codes "curve" ∷ codes "t" ∷ codes "count=all" ∷ codes "format=oracle" ∷ []) ≡ Ok (Curve Oracle)
+all_records_count : plan (codes "curve" ∷ codes "t" ∷ codes "count=all" ∷ codes "format=oracle" ∷ []) ≡ Ok (Curve (lasting Oracle))
 unfolding plan
 all_records_count = refl
 

@@ -1,5 +1,5 @@
 -- What a plan asks for, and the plan of each command.
-use Rattle.std.specs.Prelude.{ℕ, ◌+◌, ◌^◌, ◌≤◌, List, length, ◌&&◌, Bool, false, if◌then◌else◌, codes, slice_get, IsSome, Result, Ok, None, Some}
+use Rattle.std.specs.Prelude.{ℕ, ◌+◌, ◌^◌, ◌≤◌, List, length, ◌&&◌, Bool, false, if◌then◌else◌, codes, slice_get, Result, Ok, None, Some}
 use Rattle.std.specs.declared.option.Option.{Option}
 use Rattle.std.specs.Str.{bytes_eq}
 use Rattle.cache_model.specs.declared.objects.Objective.{Objective}
@@ -17,7 +17,6 @@ use Rattle.bound_words.specs.declared.commands.Command.TheVariants as command
 use Rattle.bound_words.specs.declared.commands.PathPlaces.{PathPlaces}
 use Rattle.bound_words.specs.declared.words.WordFault.{WordFault}
 use Rattle.bound_terms.specs.declared.words.WordKind.TheVariants.{BadValue}
-use Rattle.bound_words.specs.Capacities.{capacities_of}
 use Rattle.bound_words.specs.Commands.{places_of}
 use Rattle.bound_words.specs.Faults.{◌>>=◌, fault, passed, required}
 use Rattle.bound_words.specs.Operands.{capacities_given, capacity_given, capacity_or_usual, denominator_given, format_given, mode_given, number_given}

@@ -14,7 +14,9 @@ use Rattle.bound_terms.specs.declared.modes.Window.TheVariants.{Steps, All as Wh
 use Rattle.relaxation.specs.declared.denominators.DenominatorChoice.{DenominatorChoice}
 use Rattle.relaxation.specs.declared.denominators.DenominatorChoice.TheVariants.{Auto, Exact, Given}
 use Rattle.trace_any.specs.declared.format.Format.{Format}
-use Rattle.trace_any.specs.declared.format.Format.TheVariants.{Webcache, Arc, Msr, Oracle, MarkedWebcache, MsrReads}
+use Rattle.trace_any.specs.Readings.{lasting}
+use Rattle.trace_any.specs.declared.format.Layout.{Layout}
+use Rattle.trace_any.specs.declared.format.Layout.TheVariants.{Webcache, Arc, Msr, Oracle, MarkedWebcache, MsrReads}
 use Rattle.cache_model.specs.declared.version.TheConstants.{SHORT_VERSION}
 
 -- a number from 1 to the most that is allowed
@@ -51,14 +53,18 @@ flags_of value =
     else (if bytes_eq value (codes "flags") then Some true
     else None)
 
--- the form of a trace that a value names, if a block has this many bytes, and if only reads count or all requests
-abbrev pub format_of : List ℕ → ℕ → Bool → Option Format
-format_of value block reads =
+-- the layout of a trace that a value names, if a block has this many bytes, and if only reads count or all requests
+abbrev pub layout_of : List ℕ → ℕ → Bool → Option Layout
+layout_of value block reads =
     if bytes_eq value (codes "webcache") then Some (if reads then MarkedWebcache else Webcache)
     else (if bytes_eq value (codes "arc") then Some Arc
     else (if bytes_eq value (codes "msr") then Some (if reads then MsrReads block else Msr block)
     else (if bytes_eq value (codes "oracle") then Some Oracle
     else None)))
+
+-- the form of a trace that a value names, likewise
+abbrev pub format_of : List ℕ → ℕ → Bool → Option Format
+format_of value block reads = option_map lasting (layout_of value block reads)
 
 -- a capacity has 1 to 2^56 bytes
 abbrev pub capacity_of : List ℕ → Option ℕ

@@ -3,11 +3,11 @@ ghost use Rattle.std.specs.Prelude.{◌≡◌, ◌≤◌, ◌^◌, if◌then◌e
 ghost use Rattle.std.specs.Str.{bytes_eq};
 ghost use Rattle.bound_terms.specs.declared.modes.Mode.TheVariants.{Flow};
 ghost use Rattle.relaxation.specs.Denominators.{IsChoice};
-ghost use Rattle.trace_any.specs.Readings.{IsFormat};
-ghost use Rattle.trace_any.specs.declared.format.Format.TheVariants.{Webcache, Msr, MarkedWebcache, MsrReads};
+ghost use Rattle.trace_any.specs.Readings.{IsFormat, IsLayout};
+ghost use Rattle.trace_any.specs.declared.format.Layout.TheVariants.{Webcache, Msr, MarkedWebcache, MsrReads};
 ghost use Rattle.bound_words.specs.Ranges.{IsModeInRange};
 ghost use Rattle.bound_words.specs.Values.{block_of, capacity_of, count_of, denominator_of, drawn_of};
-ghost use Rattle.bound_words.specs.Values.{flags_of, format_of, mode_of, number_to, objective_of, reads_of};
+ghost use Rattle.bound_words.specs.Values.{flags_of, format_of, layout_of, mode_of, number_to, objective_of, reads_of};
 ghost use Rattle.bound_words.specs.Values.{seed_of, usual_denominator, version_of, width_of, window_of, writes_of};
 ghost use Rattle.cache_model.specs.declared.version.TheConstants.{CERT_VERSION, SHORT_VERSION};
 
@@ -16,7 +16,7 @@ use bound_terms::{Mode, Window};
 use cache_model::SHORT_VERSION;
 use cache_rules::Objective;
 use relaxation::DenominatorChoice;
-use trace_any::Format;
+use trace_any::{Format, Layout};
 
 /// The largest capacity, in bytes.
 pub const MOST_CAPACITY: u64 = 1 << 56;
@@ -110,25 +110,44 @@ pub(crate) fn flags_of(value: &str) -> Option<bool>
     }
 }
 
-// The form webcache, with marks if only reads count.
-fn webcache(reads: bool) -> Format
+// The layout webcache, with marks if only reads count.
+fn webcache(reads: bool) -> Layout
     ensures { result ≡ if reads then MarkedWebcache else Webcache }
 {
     if reads {
-        Format::MarkedWebcache
+        Layout::MarkedWebcache
     } else {
-        Format::Webcache
+        Layout::Webcache
     }
 }
 
-// The form msr, with marks if only reads count.
-fn msr(block: u64, reads: bool) -> Format
+// The layout msr, with marks if only reads count.
+fn msr(block: u64, reads: bool) -> Layout
     ensures { result ≡ if reads then MsrReads block else Msr block }
 {
     if reads {
-        Format::MsrReads { block }
+        Layout::MsrReads { block }
     } else {
-        Format::Msr { block }
+        Layout::Msr { block }
+    }
+}
+
+// The layout that a value names, if a block has this many bytes, and if only reads count or all requests.
+fn layout_of(value: &str, block: u64, reads: bool) -> Option<Layout>
+    requires block { (1 ≤ block) × (block ≤ 2 ^ 48) }
+    ensures value { result ≡ layout_of value.now block reads }
+    ensures range { IfSome result IsLayout }
+{
+    if is(value, "webcache") {
+        Some(webcache(reads))
+    } else if is(value, "arc") {
+        Some(Layout::Arc)
+    } else if is(value, "msr") {
+        Some(msr(block, reads))
+    } else if is(value, "oracle") {
+        Some(Layout::Oracle)
+    } else {
+        None
     }
 }
 
@@ -138,17 +157,7 @@ pub(crate) fn format_of(value: &str, block: u64, reads: bool) -> Option<Format>
     ensures value { result ≡ format_of value.now block reads }
     ensures range { IfSome result IsFormat }
 {
-    if is(value, "webcache") {
-        Some(webcache(reads))
-    } else if is(value, "arc") {
-        Some(Format::Arc)
-    } else if is(value, "msr") {
-        Some(msr(block, reads))
-    } else if is(value, "oracle") {
-        Some(Format::Oracle)
-    } else {
-        None
-    }
+    Some(Format::lasting(layout_of(value, block, reads)?))
 }
 
 pub(crate) fn objective_of(value: &str) -> Option<Objective>

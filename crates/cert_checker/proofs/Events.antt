@@ -17,12 +17,12 @@ use Rattle.cert_format.specs.declared.fault.CertFault.{CertFault}
 use Rattle.cert_checker.specs.declared.invalid.InvalidKind.{InvalidKind}
 use Rattle.cert_checker.specs.declared.invalid.InvalidKind.TheVariants.{RequestCount}
 use Rattle.cert_format.specs.Readings as certificates
+use Rattle.trace_any.proofs.Coming.{with_mark-one}
 use Rattle.cert_checker.specs.Checks.{AreMarked, after_records, fault_at}
 use Rattle.cert_checker.specs.Rules.{found, first_some, record_fault, end_fault}
 use Rattle.cert_checker.specs.Walks.{Event, Invalid, Refused, asked_under, at_line, text_event, text_after, refusal_event, events_at, last_events, walk_under}
-use Rattle.trace_any.specs.Readings.{marks_of}
 use Rattle.trace_any.proofs.Marks.{HasMarks}
-use Rattle.cert_checker.proofs.Marked.{only_fills-first, with_mark-marks}
+use Rattle.cert_checker.proofs.Marked.{only_fills-first}
 use Rattle.cert_checker.proofs.Marks.{record_fault-marks}
 use Rattle.cert_checker.proofs.Prefixes.{record_fault-prefix}
 
@@ -111,10 +111,10 @@ module _ (h : Header) (given : List Object) (fills : List Bool) (records : List 
   module _ (marked : Bool) (are : AreMarked marked (record { objects = given; fills = fills })) (x : Object) (mark : Option Bool) (rest : traces.Reading)
       (has : HasMarks marked (requests.after given fills (requests.onto x mark rest))) where
     abbrev all : List Bool
-    all = fills ++ (marks_of mark (x ∷ []) ++ rest.fills)
+    all = fills ++ (with_mark [] mark ++ rest.fills)
 
     first_marks : (t : ℕ) → t < length given → only_fills all t ≡ only_fills fills t
-    first_marks = only_fills-first marked (record { objects = given; fills = fills }) (requests.after given fills (requests.onto x mark rest)) (marks_of mark (x ∷ []) ++ rest.fills) are has refl
+    first_marks = only_fills-first marked (record { objects = given; fills = fills }) (requests.after given fills (requests.onto x mark rest)) (with_mark [] mark ++ rest.fills) are has refl
 
     -- an event at a request is the first of the walk, if none comes before
     event_first : (c : certificates.Reading) (e : Event) → first_some (events_at h all (after_records h records c) (given ++ x ∷ rest.requests) (length given)) ≡ Some e
@@ -165,7 +165,7 @@ module _ (h : Header) (given : List Object) (fills : List Bool) (records : List 
         let rule = at_line (header_len h + 1 + t) (record_fault h all trace next.records t) in
         let trace_is : trace ≡ (given ++ x ∷ []) ++ rest.requests = sym (append_assoc given (x ∷ []) rest.requests) in
         let records_are : next.records ≡ (records ++ r ∷ []) ++ others.records = sym (append_assoc records (r ∷ []) others.records) in
-        let all_are : all ≡ with_mark fills mark ++ rest.fills = sym (append_assoc fills (marks_of mark (x ∷ [])) rest.fills) ∙ ap (λ marks. marks ++ rest.fills) (sym (with_mark-marks fills mark x)) in
+        let all_are : all ≡ with_mark fills mark ++ rest.fills = sym (append_assoc fills (with_mark [] mark) rest.fills) ∙ ap (λ marks. marks ++ rest.fills) (with_mark-one fills mark) in
         let next_marks = only_fills-first marked (with_request (record { objects = given; fills = fills }) x mark) (requests.after given fills (requests.onto x mark rest)) rest.fills are_next has all_are in
         let prefix = ap (λ xs. record_fault h all xs next.records t) trace_is
         ∙ (ap (λ rs. record_fault h all ((given ++ x ∷ []) ++ rest.requests) rs t) records_are

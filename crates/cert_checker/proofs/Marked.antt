@@ -1,15 +1,15 @@
 -- The marks of the requests so far, and one more.
-use Rattle.std.proofs.Common.{◌≡◌, ◌∙◌, ℕ, ◌-◌, ◌<◌, refl, sym, ap, subst, arith, Bool, true, false, ◌&&◌, List, [], ◌∷◌, ◌++◌, length, length-append, Option, Some, None, Result}
-use Rattle.std.proofs.lemmas.List.{append-nil, get_or_append_left, get_or-append_right}
+use Rattle.std.proofs.Common.{◌≡◌, ◌∙◌, ℕ, ◌-◌, ◌<◌, refl, sym, ap, subst, arith, Bool, true, false, ◌&&◌, List, [], ◌∷◌, ◌++◌, length, length-append, Option, Result}
+use Rattle.std.proofs.lemmas.List.{get_or_append_left, get_or-append_right}
 use Rattle.cache_model.specs.declared.objects.Object.{Object}
 use Rattle.cache_model.specs.declared.certificates.Header.{Header}
 use Rattle.cache_model.specs.declared.certificates.Record.{Record}
 use Rattle.cache_model.specs.Claim.{only_fills}
 use Rattle.cache_rules.specs.Stored.{Making, Requests, made_more, mark_if, with_mark, with_request}
 use Rattle.trace_any.specs.declared.format.Format.{Format}
-use Rattle.trace_any.specs.Readings.{Reading, is_marked, marks_of}
-use Rattle.trace_any.specs.Readers.{Reader, after, last_mark, onto}
-use Rattle.trace_any.proofs.Coming.{after-onto}
+use Rattle.trace_any.specs.Readings.{Reading, is_marked}
+use Rattle.trace_any.specs.Readers.{Reader, after, last_fills, last_mark, onto}
+use Rattle.trace_any.proofs.Coming.{after-onto, with_mark-one}
 use Rattle.trace_any.proofs.Marks.{HasMarks}
 use Rattle.cert_checker.specs.declared.checker.StepFault.{StepFault}
 use Rattle.cert_checker.specs.Answers.{IsStepped}
@@ -18,15 +18,10 @@ use Rattle.cert_checker.specs.Keeping.{of_form}
 use Rattle.cert_checker.specs.Summaries.{HoldsOfAll, Summary}
 use Rattle.cert_checker.proofs.Marks.{StandsFor-marks}
 
--- one mark more is the marks of one request
-pub with_mark-marks : (fills : List Bool) (mark : Option Bool) (x : Object) → with_mark fills mark ≡ fills ++ marks_of mark (x ∷ [])
-with_mark-marks fills None x = sym (append-nil fills)
-with_mark-marks fills (Some only) x = refl
-
 -- requests before one more and its mark, or with it
 pub after-both : (given : List Object) (fills : List Bool) (x : Object) (mark : Option Bool) (r : Reading) → after given fills (onto x mark r) ≡ after (given ++ x ∷ []) (with_mark fills mark) r
 after-both given fills x mark r =
-    after-onto given fills x mark r ∙ ap (λ marks. after (given ++ x ∷ []) marks r) (sym (with_mark-marks fills mark x))
+    after-onto given fills x mark r ∙ ap (λ marks. after (given ++ x ∷ []) marks r) (with_mark-one fills mark)
 
 -- the first marks of a trace are those of its first requests
 pub only_fills-first : (marked : Bool) (given : Requests) (trace : Reading) (more : List Bool) → AreMarked marked given → HasMarks marked trace → trace.fills ≡ given.fills ++ more
@@ -70,8 +65,8 @@ stepped_marked marked only old new x r result h given records are stands stepped
     stepped h fills given.objects records (StandsFor-marks h given.fills fills given.objects records (only_fills-before marked only given are) old stands) (only_fills-last marked only given are)
 
 -- a request that only fills is one of a form with marks
-pub marks_kept : (form : Format) (reader : Reader) → form ≡ reader.format → (only : Bool) → only ≡ (is_marked reader.format && reader.ahead.fills) → only ≡ true → is_marked form ≡ true
-marks_kept form reader same only is filling = ap is_marked same ∙ left_true (is_marked reader.format) reader.ahead.fills (sym is ∙ filling)
+pub marks_kept : (form : Format) (reader : Reader) → form ≡ reader.format → (only : Bool) → only ≡ (is_marked reader.format && last_fills reader) → only ≡ true → is_marked form ≡ true
+marks_kept form reader same only is filling = ap is_marked same ∙ left_true (is_marked reader.format) (last_fills reader) (sym is ∙ filling)
   where
     left_true : (a b : Bool) → (a && b) ≡ true → a ≡ true
     left_true true b e = refl
@@ -83,8 +78,8 @@ mark_if-both true only = refl
 mark_if-both false only = refl
 
 -- what a keeper has after a request that the reader gave
-pub kept_next : (has : Making → List Record → Type 0) (form : Format) (reader : Reader) → form ≡ reader.format → (given : Requests) (x : Object) (records : List Record) (only : Bool) → only ≡ (is_marked reader.format && reader.ahead.fills)
+pub kept_next : (has : Making → List Record → Type 0) (form : Format) (reader : Reader) → form ≡ reader.format → (given : Requests) (x : Object) (records : List Record) (only : Bool) → only ≡ (is_marked reader.format && last_fills reader)
     → has (made_more (of_form form given) x only) records → has (of_form form (with_request given x (last_mark reader))) records
 kept_next has form reader same given x records only is kept =
-    let marks : mark_if (is_marked form) only ≡ last_mark reader = ap (mark_if (is_marked form)) is ∙ (ap (λ f. mark_if (is_marked f) (is_marked reader.format && reader.ahead.fills)) same ∙ mark_if-both (is_marked reader.format) reader.ahead.fills) in
+    let marks : mark_if (is_marked form) only ≡ last_mark reader = ap (mark_if (is_marked form)) is ∙ (ap (λ f. mark_if (is_marked f) (is_marked reader.format && last_fills reader)) same ∙ mark_if-both (is_marked reader.format) (last_fills reader)) in
     subst (λ mark. has (of_form form (with_request given x mark)) records) marks kept

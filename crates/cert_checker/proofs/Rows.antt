@@ -162,7 +162,7 @@ last_counts = true ∷ true ∷ true ∷ true ∷ true ∷ false ∷ []
 
 -- ---- walks
 abbrev marked : List Object → List Bool → Option TraceFault → traces.Reading
-marked requests fills refused = record { requests = requests; fills = fills; volumes = []; dropped = 0; lines = 0; bytes = 0; refused = refused }
+marked requests fills refused = record { requests = requests; fills = fills; seen = traces.nothing_read.seen; volumes = []; dropped = 0; lines = 0; bytes = 0; refused = refused }
 
 abbrev known : List Object → Option TraceFault → traces.Reading
 known requests refused = marked requests [] refused

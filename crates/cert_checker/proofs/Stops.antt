@@ -12,12 +12,12 @@ use Rattle.cache_rules.specs.Stored.{Requests, mark_if, with_mark, with_request}
 use Rattle.trace_any.specs.declared.fault.TraceFault.{TraceFault}
 use Rattle.trace_any.specs.declared.fault.TraceFault.TheVariants as refusal
 use Rattle.trace_any.specs.Readings as traces
-use Rattle.trace_any.specs.Readings.{is_marked, marks_of}
+use Rattle.trace_any.specs.Readings.{is_marked}
 use Rattle.trace_any.proofs.Marks.{HasMarks, reading-marks}
 use Rattle.trace_any.specs.Readers as requests
-use Rattle.trace_any.specs.Readers.{IsWhole, bytes_after, last_mark}
+use Rattle.trace_any.specs.Readers.{IsWhole, bytes_after, last_fills, last_mark}
 use Rattle.trace_any.specs.FirstLines.{GoesNoFurther, HasGiven, HasLostFor, HasLostThrough, IsNotPast, StandsAfter, StopsNoFurther}
-use Rattle.trace_any.proofs.Coming.{past_both}
+use Rattle.trace_any.proofs.Coming.{past_both, with_mark-one}
 use Rattle.trace_any.proofs.Lost.{lost_after}
 use Rattle.trace_any.proofs.Stopping.{stands_then}
 use Rattle.trace_any.proofs.Through.{given_next, lost_for}
@@ -38,7 +38,7 @@ use Rattle.cert_checker.specs.Checks.{Inputs, HasChecked, HasCheckedAll, HasAske
 use Rattle.cert_checker.specs.Summaries.{Summary}
 use Rattle.cert_checker.specs.Walks.{Event, Invalid, Refused, asked, text_event, text_kind, walk}
 use Rattle.cert_checker.proofs.OfText.{of_record}
-use Rattle.cert_checker.proofs.Marked.{AreMarked-next, after-both, with_mark-marks}
+use Rattle.cert_checker.proofs.Marked.{AreMarked-next, after-both}
 use Rattle.cert_checker.proofs.Events.{EndsAt, asked_of, walk_of, walked_too_many, walked_text, walked_rule, walked_refused}
 
 -- a fact of both, if both are known
@@ -238,7 +238,7 @@ module _ (start : Inputs) (h : Header) (given : Requests) (records : List Record
       stands : requests.known reader left ≡ Some rest
       reading : traces.reading start.reader.format start.reader.limits b ≡ requests.after given.objects given.fills (requests.onto x (last_mark reader) (requests.to_come reader rest))
       begins : IsFresh start.reader
-      gone : HasGiven (given.objects ++ x ∷ []) (given.fills ++ marks_of (last_mark reader) (x ∷ [])) start.reader reader b
+      gone : HasGiven (given.objects ++ x ∷ []) (given.fills ++ with_mark [] (last_mark reader)) start.reader reader b
       rest_is : rest ≡ bytes_after start.reader reader b
 
     -- the marks of the whole trace
@@ -246,7 +246,7 @@ module _ (start : Inputs) (h : Header) (given : Requests) (records : List Record
     marks_in b p = subst (HasMarks marked) p.reading (reading-marks start.reader.format start.reader.limits b)
 
     are_next : AreMarked marked (with_request given x (last_mark reader))
-    are_next = subst (λ f. AreMarked marked (with_request given x (mark_if (is_marked f) reader.ahead.fills))) (sym (form ∙ checked.same_format)) (AreMarked-next marked reader.ahead.fills given x are)
+    are_next = subst (λ f. AreMarked marked (with_request given x (mark_if (is_marked f) (last_fills reader)))) (sym (form ∙ checked.same_format)) (AreMarked-next marked (last_fills reader) given x are)
 
     took : IfSome start.trace Took
     took = if_one start.trace _ _ checked.trace_read (λ b p.
@@ -272,7 +272,7 @@ module _ (start : Inputs) (h : Header) (given : Requests) (records : List Record
         let many : length (given.objects ++ x ∷ []) ≡ length given.objects + 1 = length-append given.objects (x ∷ []) in
         let all = length-append given.objects (x ∷ coming.requests) in
         subst (λ n. HasLostFor start.reader.format start.reader.limits n b l) many
-        (lost_for start.reader reader start.reader.format start.reader.limits (given.objects ++ x ∷ []) (given.fills ++ marks_of (last_mark reader) (x ∷ [])) b l p.begins p.gone (here ∙ p.rest_is) buffered (omega (arith, many, all, ap (λ r. length r.requests) p.reading)))
+        (lost_for start.reader reader start.reader.format start.reader.limits (given.objects ++ x ∷ []) (given.fills ++ with_mark [] (last_mark reader)) b l p.begins p.gone (here ∙ p.rest_is) buffered (omega (arith, many, all, ap (λ r. length r.requests) p.reading)))
 
     lost_here : (end : Inputs) → end.trace ≡ left → ((b t : List ℕ) → Took b → HasRecords h records now t → asked (traces.reading start.reader.format start.reader.limits b) t ≡ length given.objects + 1) → HasAsked start end
     lost_here end same count =
@@ -365,7 +365,7 @@ module _ (start : Inputs) (h : Header) (given : Requests) (records : List Record
                   ∙ ap (λ (s : requests.Reader). requests.after (given.objects ++ x ∷ []) (with_mark given.fills (last_mark reader)) (requests.to_come s p.rest)) (sym same_reader));
               begins = p.begins;
               gone = subst (λ (s : requests.Reader). HasGiven (given.objects ++ x ∷ []) (with_mark given.fills (last_mark reader)) start.reader s b) (sym same_reader)
-                  (subst (λ fills. HasGiven (given.objects ++ x ∷ []) fills start.reader reader b) (sym (with_mark-marks given.fills (last_mark reader) x)) p.gone);
+                  (subst (λ fills. HasGiven (given.objects ++ x ∷ []) fills start.reader reader b) (with_mark-one given.fills (last_mark reader)) p.gone);
               rest_is = p.rest_is ∙ ap (λ (s : requests.Reader). bytes_after start.reader s b) (sym same_reader);
             });
         records_read = records_on;

@@ -15,7 +15,7 @@ use Rattle.trace_any.specs.declared.format.Limits.{Limits}
 use Rattle.trace_any.specs.Readings as traces
 use Rattle.trace_any.specs.Readings.{is_marked}
 use Rattle.trace_any.specs.FirstLines.{HasGiven, HasLostFor, HasLostThrough}
-use Rattle.trace_any.specs.Readers.{IsWhole, after, bytes_after, last_mark}
+use Rattle.trace_any.specs.Readers.{IsWhole, after, bytes_after, last_fills, last_mark}
 use Rattle.trace_any.specs.Readers as requests
 use Rattle.cert_format.specs.declared.fault.CertFault.{CertFault}
 use Rattle.cert_format.specs.declared.fault.CertFault.TheVariants as text
@@ -109,7 +109,7 @@ IsSteppedWith line h given records x mark r new (Err why) = IsFailing line (faul
 -- a step with a request that only fills the cache, if this is true, and the record of this line: with the mark of a reader that gave such a request last, the checker stands for one request and record more, or the rule that fails is named with the line
 abbrev pub IsSteppedAt : ℕ → Summary → Summary → Object → Bool → Record → Result (Unit {0}) CheckFault → Type 0
 IsSteppedAt line old new x only r result = (reader : requests.Reader) (h : Header) (given : Requests) (records : List Record)
-    → only ≡ (is_marked reader.format && reader.ahead.fills) → AreMarked (is_marked reader.format) given → StandsForAll h given records old
+    → only ≡ (is_marked reader.format && last_fills reader) → AreMarked (is_marked reader.format) given → StandsForAll h given records old
     → IsSteppedWith line h given records x (last_mark reader) r new result
 
 -- if the bytes of both sources are known, this is the first event of the walk over them

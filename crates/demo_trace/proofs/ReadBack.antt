@@ -10,8 +10,7 @@ use Rattle.bound_io.specs.Lines.{is_lf}
 use Rattle.cache_model.specs.declared.objects.Object.{Object}
 use Rattle.cache_model.specs.Texts.{line, text_of}
 use Rattle.trace_lines.specs.declared.line.Span.TheVariants.{One}
-use Rattle.trace_any.specs.declared.format.Format.TheVariants.{Webcache}
-use Rattle.trace_any.specs.Readings.{Reading, ended, full_limits, lines_of, nothing_read, read_line, reading, requested, text_content, with_line}
+use Rattle.trace_any.specs.Readings.{Reading, ended, full_limits, lines_of, nothing_read, read_line, reading, requested, text_content, untimed, with_line, webcache_form}
 use Rattle.demo_trace.specs.Laws.{read_whole}
 use Rattle.demo_trace.specs.Lines.{IsWritable, lines_from, webcache_line, webcache_text}
 use Rattle.demo_trace.proofs.LineParts.{line_not_blank, line_read, line_short, line_without_cr, line_without_lf}
@@ -38,11 +37,11 @@ lines_apart n (x ∷ xs) low each =
 
 -- a reading of these requests and bytes, a line for each request
 abbrev so_far : List Object → ℕ → ℕ → Reading
-so_far requests lines bytes = record { requests = requests; fills = []; volumes = []; dropped = 0; lines = lines; bytes = bytes; refused = None }
+so_far requests lines bytes = record { requests = requests; fills = []; seen = nothing_read.seen; volumes = []; dropped = 0; lines = lines; bytes = bytes; refused = None }
 
 -- there is room for one more
 take_one : (done : List Object) (lines bytes id size : ℕ) → length done < 2 ^ 25
-    → requested (2 ^ 25) (so_far done lines bytes) 0 None id 1 size ≡ so_far (done ++ record { volume = 0; id = id; size = size } ∷ []) lines bytes
+    → requested (2 ^ 25) webcache_form (so_far done lines bytes) 0 (untimed false) id 1 size ≡ so_far (done ++ record { volume = 0; id = id; size = size } ∷ []) lines bytes
 take_one done lines bytes id size room =
     let full : nat_lt (2 ^ 25 - length done) 1 ≡ false = le-ltb (2 ^ 25 - length done) 1 (omega (arith, room)) in
     let one : min 1 (2 ^ 25 - length done) ≡ 1 = omega (arith, room) in
@@ -54,20 +53,20 @@ of_volume_0 x ok = rw (sym ok.volume) refl
 
 -- one more line
 step : (done : List Object) (lines bytes n : ℕ) (x : Object) → length done < 2 ^ 25 → bytes ≤ 64 * length done → n < 2 ^ 64 → IsWritable x
-    → read_line Webcache full_limits (so_far done lines bytes) (sized (webcache_line n x)) ≡ so_far (done ++ x ∷ []) (lines + 1) (bytes + (length (webcache_line n x) + 1))
+    → read_line webcache_form full_limits (so_far done lines bytes) (sized (webcache_line n x)) ≡ so_far (done ++ x ∷ []) (lines + 1) (bytes + (length (webcache_line n x) + 1))
 step done lines bytes n x room low low_n ok =
     let l = webcache_line n x in
     let now = so_far done (lines + 1) (bytes + (length l + 1)) in
     let short_line = line_short n x low_n ok in
     let short : nat_lt 65535 (length l) ≡ false = le-ltb 65535 (length l) (omega (arith, short_line)) in
     let within : nat_lt (2 ^ 36) (bytes + (length l + 1)) ≡ false = le-ltb (2 ^ 36) (bytes + (length l + 1)) (omega (arith, short_line, low, room)) in
-    let content : text_content Webcache l ≡ Ok (Some (record { span = One x.id x.size; volume = None; fills = false })) = rw (line_without_cr n x ok, line_not_blank n x low_n, line_read n x low_n ok) refl in
+    let content : text_content webcache_form l ≡ Ok (Some (record { span = One x.id x.size; volume = None; stamp = untimed false })) = rw (line_without_cr n x ok, line_not_blank n x low_n, line_read n x low_n ok) refl in
     let taken = take_one done (lines + 1) (bytes + (length l + 1)) x.id x.size room in
-    rw (short, within) (ap (with_line (2 ^ 25) false now) content ∙ (taken ∙ ap (λ y. so_far (done ++ y ∷ []) (lines + 1) (bytes + (length l + 1))) (of_volume_0 x ok)))
+    rw (short, within) (ap (with_line (2 ^ 25) webcache_form now) content ∙ (taken ∙ ap (λ y. so_far (done ++ y ∷ []) (lines + 1) (bytes + (length l + 1))) (of_volume_0 x ok)))
 
 -- the lines of the requests after those that are read
 fold_from : (done xs : List Object) (bytes : ℕ) → length done + length xs ≤ 2 ^ 25 → bytes ≤ 64 * length done → All IsWritable xs
-    → fold (read_line Webcache full_limits) (so_far done (length done) bytes) (map sized (lines_from (length done + 1) xs))
+    → fold (read_line webcache_form full_limits) (so_far done (length done) bytes) (map sized (lines_from (length done + 1) xs))
     ≡ so_far (done ++ xs) (length (done ++ xs)) (bytes + length (text_of (lines_from (length done + 1) xs)))
 fold_from done [] bytes few low each = rw (append-nil done, add-zero bytes) refl
 fold_from done (x ∷ xs) bytes few low each =
@@ -76,7 +75,7 @@ fold_from done (x ∷ xs) bytes few low each =
     let l = webcache_line n x in
     let next = done ++ x ∷ [] in
     let size = bytes + (length l + 1) in
-    let go = fold (read_line Webcache full_limits) in
+    let go = fold (read_line webcache_form full_limits) in
     let count : length next ≡ n = length-append done (x ∷ []) in
     let short_line = line_short n x (omega (arith, few)) ok in
     let here = step done (length done) bytes n x (omega (arith, few)) low (omega (arith, few)) ok in
@@ -92,7 +91,7 @@ fold_from done (x ∷ xs) bytes few low each =
     ∙ ap (λ ys. so_far ys (length ys) (bytes + length (line l ++ rest))) all))))
 
 -- requests that are written are read
-pub written_read : (requests : List Object) → length requests ≤ 2 ^ 25 → All IsWritable requests → reading Webcache full_limits (webcache_text requests) ≡ read_whole requests
+pub written_read : (requests : List Object) → length requests ≤ 2 ^ 25 → All IsWritable requests → reading webcache_form full_limits (webcache_text requests) ≡ read_whole requests
 written_read requests few each =
-    ap (fold (read_line Webcache full_limits) nothing_read) (lines_apart 1 requests (omega (arith, few)) each)
+    ap (fold (read_line webcache_form full_limits) nothing_read) (lines_apart 1 requests (omega (arith, few)) each)
     ∙ (fold_from [] requests 0 (omega (arith, few)) (omega arith) each ∙ ap (so_far requests (length requests)) (zero-add (length (webcache_text requests))))

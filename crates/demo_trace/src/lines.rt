@@ -2,7 +2,7 @@
 ghost use Rattle.std.specs.Prelude.{◌≡◌, All, IfOk};
 ghost use Rattle.cache_model.specs.Texts.{line};
 ghost use Rattle.trace_any.specs.Readings.{full_limits, reading};
-ghost use Rattle.trace_any.specs.declared.format.Format.TheVariants.{Webcache};
+ghost use Rattle.trace_any.specs.Readings.{webcache_form};
 ghost use Rattle.demo_trace.specs.Laws.{read_whole};
 ghost use Rattle.demo_trace.specs.Lines.{IsWritable, webcache_line, webcache_text};
 
@@ -33,7 +33,7 @@ fn line_of(number: u32, object: &Object) -> LineText<ROOM>
 /// request asks for, they are read back as this trace.
 pub fn webcache_text(alloc: Global, trace: &Trace) -> Result<Vec<u8>, NoMemory>
     ensures text { IfOk result (λ text. text.items ≡ webcache_text trace.now.objects) }
-    ensures read { All IsWritable trace.now.objects → IfOk result (λ text. reading Webcache full_limits text.items ≡ read_whole trace.now.objects) }
+    ensures read { All IsWritable trace.now.objects → IfOk result (λ text. reading webcache_form full_limits text.items ≡ read_whole trace.now.objects) }
 {
     let mut text = Vec::with_capacity(alloc, trace.len() as usize * USUAL)?;
     for t in 0..trace.len() {

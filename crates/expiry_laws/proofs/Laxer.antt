@@ -11,7 +11,8 @@ use Rattle.cache_model.specs.declared.objects.Object.{Object}
 use Rattle.cache_model.specs.Claim.{Terms, counts, terms_from, before_request, gain_of, holds, is_latest, only_fills, request_at, same_object}
 use Rattle.cache_model.specs.Objects.{is_first, numbers_of}
 use Rattle.cache_model.proofs.Headline.{valid_bounds}
-use Rattle.freshness.specs.Stale.{Freshness, is_older, has_expired, is_replaced, is_stale, stale_marks}
+use Rattle.freshness.specs.declared.fresh.Freshness.{Freshness}
+use Rattle.freshness.specs.Stale.{is_older, has_expired, is_replaced, is_stale, stale_marks}
 use Rattle.expiry_laws.specs.Laws.{IsLonger, IsLaxer, LaxerScoresMore, LaxerBounds}
 
 -- what is older than a longer time is older than a shorter one

@@ -1,2 +1,1 @@
 mod Laxer
-mod Rows

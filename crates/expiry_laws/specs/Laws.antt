@@ -7,7 +7,8 @@ use Rattle.cache_model.specs.declared.certificates.Header.{Header}
 use Rattle.cache_model.specs.declared.certificates.Record.{Record}
 use Rattle.cache_model.specs.Certificates.{IsValid}
 use Rattle.cache_model.specs.Claim.{IsAllowed, score, terms_from}
-use Rattle.freshness.specs.Stale.{Freshness, stale_marks}
+use Rattle.freshness.specs.declared.fresh.Freshness.{Freshness}
+use Rattle.freshness.specs.Stale.{stale_marks}
 
 -- what is fresh for one time is fresh for a longer one, and if nothing expires
 abbrev pub IsLonger : Option ℕ → Option ℕ → Type 0

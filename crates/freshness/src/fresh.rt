@@ -12,7 +12,7 @@ pub struct Freshness {
 
 impl Freshness {
     /// Nothing expires, and nothing is replaced.
-    pub fn forever() -> Freshness
+    pub const fn forever() -> Freshness
         ensures { result ≡ forever }
     {
         Freshness {

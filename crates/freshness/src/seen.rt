@@ -109,11 +109,12 @@ impl SeenObjects {
     }
 
     /// Notes a request for the object at this time, and says whether it is stale. If none can be, it changes nothing and
-    /// takes no memory.
+    /// takes no memory. Without memory no more than the size of the id is noted.
     pub fn note(&mut self, fresh: Freshness, object: Object, time: u64) -> Result<bool, NoMemory>
         requires few { (self.old.late + 1 < 2 ^ 64) × (self.old.stale + 1 < 2 ^ 64) }
         ensures stale { IfOk result (λ stale. stale ≡ is_stale fresh self.old object time) }
         ensures seen { OnOk result (self.new ≡ with_seen fresh self.old object time) }
+        ensures err { OnErr result (self.new ≡ record self.old { sizes = self.new.sizes }) }
         ensures memory { OnErr result (can_end fresh ≡ true) }
     {
         if !fresh.can_end() {

@@ -11,7 +11,7 @@ use Rattle.cache_model.specs.Certificates.{IsValid}
 use Rattle.cache_model.specs.Claim.{BoundsEveryPolicy}
 use Rattle.cache_model.specs.Texts.{cert_text}
 use Rattle.trace_any.specs.declared.fault.TraceFault.TheVariants as refusal
-use Rattle.trace_any.specs.declared.format.Format.TheVariants.{Webcache}
+use Rattle.trace_any.specs.Readings.{webcache_form}
 use Rattle.trace_any.specs.Readers.{IsWhole}
 use Rattle.cert_format.specs.Readings.{reading, whole}
 use Rattle.cert_format.proofs.Wholes.{read_written}
@@ -34,7 +34,7 @@ text_of_whole bytes h records is =
     spelled.text ∙ ap (λ x. cert_text x others) heads ∙ ap (cert_text h) all
 
 -- a certificate that passes is valid for the trace, and has the text
-pub passed_text : {given cert : Device} {verdict : Verdict} {dropped : ℕ} (trace text : List ℕ) → Passes Webcache given cert verdict dropped
+pub passed_text : {given cert : Device} {verdict : Verdict} {dropped : ℕ} (trace text : List ℕ) → Passes webcache_form given cert verdict dropped
     → given.before ≡ Some trace → cert.before ≡ Some text → IsCertified trace text verdict.header
 passed_text {given} {cert} {verdict} {dropped} trace text passes trace_is text_is =
     let passed = passes.passed in
@@ -51,7 +51,7 @@ passed_text {given} {cert} {verdict} {dropped} trace text passes trace_is text_i
     }
 
 -- a count of faults that is 0 has no new one
-none_new : (before now : ℕ) → now ≡ 0 → HasNewFault before now → ⊥
+pub none_new : (before now : ℕ) → now ≡ 0 → HasNewFault before now → ⊥
 none_new before now none (inl more) = omega (arith, none, more)
 none_new before now none (inr most) = omega (arith, none, most)
 
@@ -75,7 +75,7 @@ stopped_text trace text fault.CertReadFault stops = absurd stops
 stopped_text trace text fault.NoMemory stops = tt
 
 -- what stops a check is an event of the texts, if no read failed, and they are not those of a valid certificate and its trace
-pub failed_text : {given cert : Device} {why : CheckFault} (trace text : List ℕ) → Fails Webcache given cert why
+pub failed_text : {given cert : Device} {why : CheckFault} (trace text : List ℕ) → Fails webcache_form given cert why
     → given.before ≡ Some trace → cert.before ≡ Some text → given.faults_after ≡ 0 → cert.faults_after ≡ 0 → StopsAt trace text why × IsUncertified trace text why
 failed_text {given} {cert} {why} trace text fails trace_is text_is calm_trace calm_cert =
     let stops = by why fails.event in
@@ -84,7 +84,7 @@ failed_text {given} {cert} {why} trace text fails trace_is text_is calm_trace ca
     walked : (event : Event) → IfSome given.before (λ bytes. IfSome cert.before (λ lines. walk (reading_of bytes) lines ≡ Some event)) → walk (reading_of trace) text ≡ Some event
     walked event = walked_text given.before cert.before trace text (Some event) trace_is text_is
 
-    by : (cause : CheckFault) → IsEvent (first_inputs Webcache given cert) (last_inputs fails.reader fails.records given cert) cause → StopsAt trace text cause
+    by : (cause : CheckFault) → IsEvent (first_inputs webcache_form given cert) (last_inputs fails.reader fails.records given cert) cause → StopsAt trace text cause
     by (fault.Invalid line kind) event = walked (Invalid line kind) event.0
     by (fault.Trace (refusal.BadLine line kind)) event = walked (Refused (refusal.BadLine line kind)) event.0
     by (fault.Trace refusal.InputTooLong) event = walked (Refused refusal.InputTooLong) event.0

@@ -8,17 +8,16 @@ use Rattle.cache_model.specs.Certificates.{IsValid}
 use Rattle.cache_model.specs.Claim.{BoundsEveryPolicy, IsAllowed, score, terms_from}
 use Rattle.cache_model.specs.Texts.{cert_text}
 use Rattle.cache_rules.specs.Stored.{Requests}
-use Rattle.trace_any.specs.Readings.{Reading, full_limits, reading}
+use Rattle.trace_any.specs.Readings.{Reading, full_limits, reading, webcache_form}
 use Rattle.trace_any.specs.declared.fault.TraceFault.{TraceFault}
 use Rattle.trace_any.specs.declared.fault.TraceFault.TheVariants as refusal
-use Rattle.trace_any.specs.declared.format.Format.TheVariants.{Webcache}
 use Rattle.cert_checker.specs.declared.walking.CheckFault.{CheckFault}
 use Rattle.cert_checker.specs.declared.walking.CheckFault.TheVariants as fault
 use Rattle.cert_checker.specs.Walks.{Invalid, Refused, walk}
 
 -- the reading of a text in the form webcache, to its end or to the first line that is refused
 abbrev pub reading_of : List ℕ → Reading
-reading_of text = reading Webcache full_limits text
+reading_of text = reading webcache_form full_limits text
 
 -- no line of the text is refused, and these are its requests
 pub record IsTraceOf (text : List ℕ) (trace : Requests) : Type 0 where

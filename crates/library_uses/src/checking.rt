@@ -5,7 +5,7 @@ ghost use Rattle.library_uses.specs.Uses.{IsCertified, IsUncertified, StopsAt};
 use bound_io::CalmSource;
 use cert_checker::{CheckFault, Verdict, check_all};
 use std::alloc::Global;
-use trace_any::Format;
+use trace_any::{Format, Layout};
 
 /// What a certificate states of a trace in the form webcache, if it is valid for it.
 pub fn checked(alloc: Global, trace: Vec<u8>, cert: Vec<u8>) -> Result<Verdict, CheckFault>
@@ -15,6 +15,11 @@ pub fn checked(alloc: Global, trace: Vec<u8>, cert: Vec<u8>) -> Result<Verdict, 
 {
     let mut trace = CalmSource::new(trace);
     let mut cert = CalmSource::new(cert);
-    let (verdict, _dropped) = check_all(alloc, Format::Webcache, &mut trace, &mut cert)?;
+    let (verdict, _dropped) = check_all(
+        alloc,
+        Format::lasting(Layout::Webcache),
+        &mut trace,
+        &mut cert,
+    )?;
     Ok(verdict)
 }

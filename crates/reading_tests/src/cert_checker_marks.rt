@@ -5,7 +5,7 @@ use cert_format::CertReader;
 use compared::{holds, same};
 use std::alloc::Global;
 use std::process::Abort;
-use trace_any::{Format, Limits, RequestReader};
+use trace_any::{Format, Layout, Limits, RequestReader};
 
 // One object of 4 bytes: the second request only fills, so that one interval counts.
 const ONE: &[u8] = b"1 7 4 r\n2 7 4 w\n3 7 4 r\n";
@@ -71,9 +71,9 @@ fn answer(rt: &impl Abort, alloc: Global, marked: bool, row: &Row) -> Answer {
     let mut trace = source(rt, alloc, row.0);
     let mut certificate = source(rt, alloc, row.1);
     let format = if marked {
-        Format::MarkedWebcache
+        Format::lasting(Layout::MarkedWebcache)
     } else {
-        Format::Webcache
+        Format::lasting(Layout::Webcache)
     };
     let reader = RequestReader::new(alloc, format, Limits::full());
     let mut reader = reader.expect(rt, "memory");
@@ -102,9 +102,9 @@ fn kept(rt: &impl Abort, alloc: Global, marked: bool, row: &Row) -> Result<Kept,
     let mut trace = source(rt, alloc, row.0);
     let mut certificate = source(rt, alloc, row.1);
     let format = if marked {
-        Format::MarkedWebcache
+        Format::lasting(Layout::MarkedWebcache)
     } else {
-        Format::Webcache
+        Format::lasting(Layout::Webcache)
     };
     let reader = RequestReader::new(alloc, format, Limits::full());
     let mut reader = reader.expect(rt, "memory");

@@ -8,7 +8,7 @@ use cert_format::CertReader;
 use compared::{holds, same};
 use std::alloc::Global;
 use std::process::Abort;
-use trace_any::{Format, Limits, RequestReader, TraceFault};
+use trace_any::{Format, Layout, Limits, RequestReader, TraceFault};
 use trace_lines::LineKind;
 
 // Two requests of one object of 4 bytes, and the header and the other lines of a certificate for them. The answers
@@ -164,7 +164,7 @@ fn source(rt: &impl Abort, alloc: Global, prefix: &[u8], rest: &[u8], failing: u
 fn answer(rt: &impl Abort, alloc: Global, row: &Row) -> Result<Verdict, CheckFault> {
     let mut trace = source(rt, alloc, row.0, b"", row.1);
     let mut certificate = source(rt, alloc, HEAD, row.2, row.3);
-    let reader = RequestReader::new(alloc, Format::Webcache, Limits::full());
+    let reader = RequestReader::new(alloc, Format::lasting(Layout::Webcache), Limits::full());
     let mut reader = reader.expect(rt, "memory");
     let mut cert = CertReader::new(alloc).expect(rt, "memory");
     let answer = check_streams(alloc, &mut reader, &mut trace, &mut cert, &mut certificate);
@@ -186,7 +186,7 @@ fn says_yes_or_names_the_first_event_of_the_walk(rt: HostRuntime) {
 fn kept(rt: &impl Abort, alloc: Global, row: &Row) -> Result<Kept, CheckFault> {
     let mut trace = source(rt, alloc, row.0, b"", row.1);
     let mut certificate = source(rt, alloc, HEAD, row.2, row.3);
-    let reader = RequestReader::new(alloc, Format::Webcache, Limits::full());
+    let reader = RequestReader::new(alloc, Format::lasting(Layout::Webcache), Limits::full());
     let mut reader = reader.expect(rt, "memory");
     let mut cert = CertReader::new(alloc).expect(rt, "memory");
     let kept = check_and_keep(alloc, &mut reader, &mut trace, &mut cert, &mut certificate);

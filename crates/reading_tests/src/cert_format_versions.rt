@@ -9,7 +9,7 @@ use cert_format::{CertReader, write_end, write_header, write_record};
 use compared::{holds, same};
 use std::alloc::Global;
 use std::process::Abort;
-use trace_any::{Format, Limits, RequestReader};
+use trace_any::{Format, Layout, Limits, RequestReader};
 
 // Three objects of 1 byte, each asked for twice, at a capacity of 2.
 const TRACE: &[u8] = b"1 1 1\n2 2 1\n3 3 1\n4 1 1\n5 2 1\n6 3 1\n";
@@ -129,7 +129,7 @@ fn text(rt: &impl Abort, alloc: Global, head: &[u8], rest: &[u8]) -> Vec<u8> {
 fn answer(rt: &impl Abort, alloc: Global, head: &[u8], rest: &[u8]) -> Result<Verdict, CheckFault> {
     let mut trace = MemSource::new(text(rt, alloc, TRACE, b""), Vec::new(alloc), 7);
     let mut certificate = MemSource::new(text(rt, alloc, head, rest), Vec::new(alloc), 7);
-    let reader = RequestReader::new(alloc, Format::Webcache, Limits::full());
+    let reader = RequestReader::new(alloc, Format::lasting(Layout::Webcache), Limits::full());
     let mut reader = reader.expect(rt, "memory");
     let mut cert = CertReader::new(alloc).expect(rt, "memory");
     let answer = check_streams(alloc, &mut reader, &mut trace, &mut cert, &mut certificate);

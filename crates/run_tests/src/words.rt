@@ -9,7 +9,7 @@ use refusals::{REFUSED, REFUSED_REFINEMENTS};
 use relaxation::DenominatorChoice;
 use std::alloc::Global;
 use std::process::Abort;
-use trace_any::Format;
+use trace_any::{Format, Freshness, Layout};
 use whole_runs::words_of;
 
 mod plans;
@@ -59,8 +59,16 @@ const OPERANDS: [&str; 4] = [
     "mode=infinite",
 ];
 
+const WEBCACHE: Format = Format {
+    layout: Layout::Webcache,
+    fresh: Freshness {
+        idle: None,
+        replace: false,
+    },
+};
+
 const ASKED: Plan<'static> = Plan::Bounds {
-    format: Format::Webcache,
+    format: WEBCACHE,
     capacity: 10,
     objective: Objective::Bytes,
     mode: Mode::Infinite,
@@ -125,7 +133,7 @@ const CERTIFICATES: [(&str, u32, u8); 3] = [
 fn bounds_take_a_warmup_and_a_version(rt: HostRuntime) {
     for (text, warmup, version) in &CERTIFICATES {
         let plan = Plan::Bounds {
-            format: Format::Webcache,
+            format: Format::lasting(Layout::Webcache),
             capacity: 10,
             objective: Objective::Bytes,
             mode: Mode::Infinite,
@@ -138,18 +146,20 @@ fn bounds_take_a_warmup_and_a_version(rt: HostRuntime) {
     }
 }
 
-const CHECKS: [(&str, Format); 5] = [
-    ("check t c format=webcache", Format::Webcache),
-    ("check - c format=arc", Format::Arc),
-    ("check t - format=msr", Format::Msr { block: 4096 }),
-    ("check t c block=1 format=msr", Format::Msr { block: 1 }),
-    ("check -- - format=arc", Format::Arc),
+const CHECKS: [(&str, Layout); 5] = [
+    ("check t c format=webcache", Layout::Webcache),
+    ("check - c format=arc", Layout::Arc),
+    ("check t - format=msr", Layout::Msr { block: 4096 }),
+    ("check t c block=1 format=msr", Layout::Msr { block: 1 }),
+    ("check -- - format=arc", Layout::Arc),
 ];
 
 #[test]
 fn a_check_takes_the_form_of_the_trace(rt: HostRuntime) {
-    for (text, format) in &CHECKS {
-        let plan = Plan::Check { format: *format };
+    for (text, layout) in &CHECKS {
+        let plan = Plan::Check {
+            format: Format::lasting(*layout),
+        };
         check_plan(&rt, rt.alloc(), text, Ok(plan));
     }
 }
@@ -198,7 +208,7 @@ const REPLAYS: [(&str, PolicyName, u64, u32); 6] = [
 fn a_replay_takes_a_policy_and_a_warmup(rt: HostRuntime) {
     for (text, policy, capacity, warmup) in &REPLAYS {
         let plan = Plan::Replay {
-            format: Format::Arc,
+            format: Format::lasting(Layout::Arc),
             capacity: *capacity,
             policy: *policy,
             warmup: *warmup,
@@ -224,7 +234,7 @@ const JUDGEMENTS: [(&str, u64, u32); 3] = [
 fn a_judgement_takes_a_capacity_and_a_warmup(rt: HostRuntime) {
     for (text, capacity, warmup) in &JUDGEMENTS {
         let plan = Plan::Judge {
-            format: Format::Arc,
+            format: Format::lasting(Layout::Arc),
             capacity: *capacity,
             warmup: *warmup,
             writes: false,
@@ -234,41 +244,43 @@ fn a_judgement_takes_a_capacity_and_a_warmup(rt: HostRuntime) {
 }
 
 // Words of a curve, and the form of the trace that they name.
-const CURVES: [(&str, Format); 3] = [
-    ("curve t format=webcache", Format::Webcache),
-    ("curve - format=msr", Format::Msr { block: 4096 }),
-    ("curve t block=8192 format=msr", Format::Msr { block: 8192 }),
+const CURVES: [(&str, Layout); 3] = [
+    ("curve t format=webcache", Layout::Webcache),
+    ("curve - format=msr", Layout::Msr { block: 4096 }),
+    ("curve t block=8192 format=msr", Layout::Msr { block: 8192 }),
 ];
 
 #[test]
 fn a_curve_takes_the_form_of_the_trace(rt: HostRuntime) {
-    for (text, format) in &CURVES {
-        let plan = Plan::Curve { format: *format };
+    for (text, layout) in &CURVES {
+        let plan = Plan::Curve {
+            format: Format::lasting(*layout),
+        };
         check_plan(&rt, rt.alloc(), text, Ok(plan));
     }
 }
 
 // Words of a refinement, and the form of the trace and the steps of a block that they name.
-const REFINEMENTS: [(&str, Format, u32); 4] = [
-    ("refine t c m format=webcache window=3", Format::Webcache, 3),
-    ("refine t c - window=1 format=oracle", Format::Oracle, 1),
+const REFINEMENTS: [(&str, Layout, u32); 4] = [
+    ("refine t c m format=webcache window=3", Layout::Webcache, 3),
+    ("refine t c - window=1 format=oracle", Layout::Oracle, 1),
     (
         "refine - c m block=8192 window=033554432 format=msr",
-        Format::Msr { block: 8192 },
+        Layout::Msr { block: 8192 },
         1 << 25,
     ),
     (
         "refine t - - format=msr window=2",
-        Format::Msr { block: 4096 },
+        Layout::Msr { block: 4096 },
         2,
     ),
 ];
 
 #[test]
 fn a_refinement_takes_the_form_of_the_trace_and_a_width(rt: HostRuntime) {
-    for (text, format, width) in &REFINEMENTS {
+    for (text, layout, width) in &REFINEMENTS {
         let plan = Plan::Refine {
-            format: *format,
+            format: Format::lasting(*layout),
             width: *width,
         };
         check_plan(&rt, rt.alloc(), text, Ok(plan));

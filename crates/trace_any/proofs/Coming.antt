@@ -1,5 +1,5 @@
 -- What is to come of a reader, after one line more and after one request more.
-use Rattle.std.proofs.Common.{◌≡◌, ℕ, zero, suc, ◌+◌, ◌-◌, ◌≤◌, ◌<◌, ◌∙◌, sym, refl, ap, List, [], ◌∷◌, ◌++◌, append_assoc, append-nil, length, drop, subst, arith, not, fold, min, nat_lt, if◌then◌else◌, Option, Some, None, Result, Ok, Err, IfSome, Bool, true, false}
+use Rattle.std.proofs.Common.{◌≡◌, ℕ, zero, suc, ◌+◌, ◌-◌, ◌≤◌, ◌<◌, ◌∙◌, sym, refl, ap, List, [], ◌∷◌, ◌++◌, append_assoc, append-nil, length, drop, subst, arith, not, fold, min, nat_lt, if◌then◌else◌, Option, Some, None, Result, Ok, Err, IfSome, Bool, true, false, ◌||◌}
 use Rattle.std.specs.Result.{IsErr, IsErrAnd, is_ok}
 use Rattle.std.proofs.lemmas.List.{drop-drop}
 use Rattle.std.proofs.lemmas.Bool.{le-ltb, lt-ltb, false≢true, true≢false}
@@ -10,6 +10,7 @@ use Rattle.bound_io.specs.declared.line_reader.LineFault.{LineFault}
 use Rattle.bound_io.specs.declared.line_reader.LineFault.TheVariants as line
 use Rattle.cache_model.specs.declared.objects.Object.{Object}
 use Rattle.cache_rules.specs.Stored.{Requests, mark_if, with_mark, with_request}
+use Rattle.freshness.specs.Seen.{Seen, is_stale}
 use Rattle.trace_lines.specs.declared.line.Span.{Span}
 use Rattle.trace_lines.specs.declared.line.Span.TheVariants.{Nothing, One, Blocks}
 use Rattle.trace_lines.specs.declared.line.LineKind.{LineKind}
@@ -17,11 +18,11 @@ use Rattle.trace_lines.specs.declared.line.LineKind.TheVariants.{TooLong}
 use Rattle.trace_any.specs.declared.fault.TraceFault.{TraceFault}
 use Rattle.trace_any.specs.declared.fault.TraceFault.TheVariants.{BadLine, InputTooLong, TooManyRequests}
 use Rattle.trace_any.specs.Volumes.{Volume}
-use Rattle.trace_any.specs.Readings.{blocks, is_marked, LineContents, Reading, has_records, marks_of, spanned, stopped, requested, text_content, with_line, read_line, read_on, reading, nothing_read, fault_of}
+use Rattle.trace_any.specs.Readings.{blocks, is_marked, LineContents, Reading, Stamp, has_records, mark_of, spanned, with_one, stopped, requested, text_content, with_line, read_line, read_on, reading, nothing_read, fault_of}
 use Rattle.trace_any.specs.declared.format.Format.{Format}
 use Rattle.trace_any.specs.declared.format.Limits.{Limits}
 use Rattle.bound_io.specs.Reading.{LosesPrefix}
-use Rattle.trace_any.specs.Readers.{Reader, Ahead, fresh, last_mark, room_left, so_far, to_come, onto, after, with_ahead, with_ahead_by, ahead_by, with_named_by, number_by, bytes_after, GoesOn, GivesNone, IsOver, IsStopped, IsWhole, LineTaken}
+use Rattle.trace_any.specs.Readers.{Reader, Ahead, fresh, last_mark, room_left, seen_with, so_far, to_come, onto, after, with_ahead, with_ahead_by, ahead_by, with_named_by, number_by, bytes_after, GoesOn, GivesNone, IsOver, IsStopped, IsWhole, LineTaken}
 use Rattle.trace_any.specs.FirstLines.{coming_in}
 use Rattle.trace_any.specs.NextPieces.{GivesNext, IsNextRefused, NextPiece, after_next, next_size, next_text}
 use Rattle.trace_any.proofs.NextPieces.{is_given, next_size-le, next_text-le, past_next, refused_past_limit, refused_too_long}
@@ -30,8 +31,8 @@ use Rattle.trace_any.proofs.ReadingSteps.{plain, read_on-first, read_on-none, re
 -- no block is left of the last line
 to_come_lines : (r : Reader) (bytes : List ℕ) → r.ahead.count ≡ 0 → to_come r bytes ≡ read_on r.format (room_left r) (so_far r) bytes
 to_come_lines r bytes none =
-    ap (λ n. read_on r.format (room_left r) (requested (r.limits.requests - r.given) (so_far r) r.ahead.volume (last_mark r) r.ahead.first n r.ahead.size) bytes) none
-    ∙ ap (λ s. read_on r.format (room_left r) s bytes) (requested-none r.volumes (r.limits.requests - r.given) r.dropped r.lines.line r.lines.consumed r.ahead.volume (last_mark r) r.ahead.first r.ahead.size)
+    ap (λ n. read_on r.format (room_left r) (requested (r.limits.requests - r.given) r.format (so_far r) r.ahead.volume r.ahead.stamp r.ahead.first n r.ahead.size) bytes) none
+    ∙ ap (λ s. read_on r.format (room_left r) s bytes) (requested-none r.volumes r.seen (r.limits.requests - r.given) r.dropped r.lines.line r.lines.consumed r.format r.ahead.volume r.ahead.stamp r.ahead.first r.ahead.size)
 
 -- the first line is read, whatever comes of it
 to_come_line : (r : Reader) (bytes : List ℕ) → r.ahead.count ≡ 0 → 0 < length bytes
@@ -41,7 +42,7 @@ to_come_line r bytes none some = to_come_lines r bytes none ∙ read_on-first r.
 -- a line that is neither too long nor past the limit is taken up
 line_read : (r : Reader) (bytes : List ℕ) (line consumed : ℕ) → r.ahead.count ≡ 0 → 0 < length bytes → length (next_text (has_records r.format) bytes) ≤ 65535 → consumed ≤ r.limits.bytes
     → line ≡ r.lines.line + 1 → consumed ≡ r.lines.consumed + next_size (has_records r.format) bytes
-    → to_come r bytes ≡ read_on r.format (room_left r) (with_line (r.limits.requests - r.given) (is_marked r.format) (plain r.volumes r.dropped line consumed) (text_content r.format (next_text (has_records r.format) bytes))) (after_next (has_records r.format) bytes)
+    → to_come r bytes ≡ read_on r.format (room_left r) (with_line (r.limits.requests - r.given) r.format (plain r.volumes r.seen r.dropped line consumed) (text_content r.format (next_text (has_records r.format) bytes))) (after_next (has_records r.format) bytes)
 line_read r bytes line consumed none some short within line_is consumed_is =
     to_come_line r bytes none some
     ∙ rw (line_is, consumed_is, le-ltb 65535 (length (next_text (has_records r.format) bytes)) short, le-ltb r.limits.bytes (r.lines.consumed + next_size (has_records r.format) bytes) (omega (arith, within, consumed_is))) refl
@@ -54,7 +55,7 @@ with_lines r lines = record r { lines = lines }
 pub record TakesUp (r new : Reader) (said : Result (Option LineContents) LineKind) (bytes : List ℕ) (after : Option (List ℕ)) : Type 0 where
   pub further : r.lines.consumed ≤ new.lines.consumed
   pub rest : after ≡ Some (bytes_after r new bytes)
-  pub coming : to_come r bytes ≡ read_on r.format (room_left r) (with_line (r.limits.requests - r.given) (is_marked r.format) (so_far new) said) (bytes_after r new bytes)
+  pub coming : to_come r bytes ≡ read_on r.format (room_left r) (with_line (r.limits.requests - r.given) r.format (so_far new) said) (bytes_after r new bytes)
 
 pub takes_up : (r : Reader) (l : Position) (before after : Option (List ℕ)) (text : List ℕ) → r.ahead.count ≡ 0 → r.lines.limit ≡ r.limits.bytes → GivesNext (has_records r.format) r.lines l before after
     → IfSome before (λ bytes. (text ≡ next_text (has_records r.format) bytes) × (0 < length bytes)) → length text ≤ 65535 → IfSome before (λ bytes. TakesUp r (with_lines r l) (text_content r.format text) bytes after)
@@ -70,8 +71,8 @@ takes_up r l (Some bytes) after text none limit gives_next texts short =
     record {
       further = omega (arith, gives.some);
       rest = gives.rest ∙ ap (λ rest. Some rest) past;
-      coming = taken ∙ (ap (λ t. read_on r.format (room_left r) (with_line (r.limits.requests - r.given) (is_marked r.format) (plain r.volumes r.dropped l.line l.consumed) (text_content r.format t)) (after_next records bytes)) (sym (texts.0))
-          ∙ ap (λ rest. read_on r.format (room_left r) (with_line (r.limits.requests - r.given) (is_marked r.format) (plain r.volumes r.dropped l.line l.consumed) (text_content r.format text)) rest) past);
+      coming = taken ∙ (ap (λ t. read_on r.format (room_left r) (with_line (r.limits.requests - r.given) r.format (plain r.volumes r.seen r.dropped l.line l.consumed) (text_content r.format t)) (after_next records bytes)) (sym (texts.0))
+          ∙ ap (λ rest. read_on r.format (room_left r) (with_line (r.limits.requests - r.given) r.format (plain r.volumes r.seen r.dropped l.line l.consumed) (text_content r.format text)) rest) past);
     }
 
 -- a line without a word changes nothing
@@ -83,46 +84,46 @@ goes_blank r l (Some bytes) after said blank none takes =
     record {
       further = takes.further;
       rest = takes.rest;
-      coming = takes.coming ∙ (ap (λ t. read_on r.format (room_left r) (with_line (r.limits.requests - r.given) (is_marked r.format) (so_far (with_lines r l)) t) rest) blank ∙ sym (to_come_lines (with_lines r l) rest none));
+      coming = takes.coming ∙ (ap (λ t. read_on r.format (room_left r) (with_line (r.limits.requests - r.given) r.format (so_far (with_lines r l)) t) rest) blank ∙ sym (to_come_lines (with_lines r l) rest none));
     }
 
 -- a reader whose last line asked for this
-abbrev pub with_asked : Reader → Option Volume → Bool → Span → Reader
-with_asked r volume fills span = with_ahead_by (record r { volumes = with_named_by span r.volumes volume }) (ahead_by (number_by span r.volumes volume) fills span)
+abbrev pub with_asked : Reader → Option Volume → Stamp → Span → Reader
+with_asked r volume stamp span = with_ahead_by (record r { volumes = with_named_by span r.volumes volume }) (ahead_by (number_by span r.volumes volume) stamp span)
 
 -- the blocks that a line asks for are those to come next
-asked_next : (r : Reader) (volume : Option Volume) (fills : Bool) (span : Span) (rest : List ℕ) → r.ahead.count ≡ 0
-    → read_on r.format (room_left r) (spanned (r.limits.requests - r.given) (so_far r) volume (mark_if (is_marked r.format) fills) span) rest ≡ to_come (with_asked r volume fills span) rest
-asked_next r volume fills Nothing rest none = sym (to_come_lines (with_asked r volume fills Nothing) rest none)
-asked_next r volume fills (One id size) rest none = refl
-asked_next r volume fills (Blocks first count size) rest none = refl
+asked_next : (r : Reader) (volume : Option Volume) (stamp : Stamp) (span : Span) (rest : List ℕ) → r.ahead.count ≡ 0
+    → read_on r.format (room_left r) (spanned (r.limits.requests - r.given) r.format (so_far r) volume stamp span) rest ≡ to_come (with_asked r volume stamp span) rest
+asked_next r volume stamp Nothing rest none = sym (to_come_lines (with_asked r volume stamp Nothing) rest none)
+asked_next r volume stamp (One id size) rest none = refl
+asked_next r volume stamp (Blocks first count size) rest none = refl
 
 -- what a line asks for is no matter of the lines
-pub lines_asked : (r : Reader) (volume : Option Volume) (fills : Bool) (span : Span) → (with_asked r volume fills span).lines ≡ r.lines
-lines_asked r volume fills Nothing = refl
-lines_asked r volume fills (One id size) = refl
-lines_asked r volume fills (Blocks first count size) = refl
+pub lines_asked : (r : Reader) (volume : Option Volume) (stamp : Stamp) (span : Span) → (with_asked r volume stamp span).lines ≡ r.lines
+lines_asked r volume stamp Nothing = refl
+lines_asked r volume stamp (One id size) = refl
+lines_asked r volume stamp (Blocks first count size) = refl
 
 -- a reader that holds the volumes and the blocks of what was asked
-pub is_asked : (r : Reader) (volume : Option Volume) (fills : Bool) (span : Span) (number : ℕ) (volumes : List Volume) (ahead : Option Ahead) → number ≡ number_by span r.volumes volume → volumes ≡ with_named_by span r.volumes volume → ahead_by number fills span ≡ ahead
-    → with_asked r volume fills span ≡ with_ahead_by (record r { volumes = volumes }) ahead
-is_asked r volume fills span number volumes ahead number_is volumes_are ahead_is =
-    ap (λ v. with_ahead_by (record r { volumes = v }) (ahead_by (number_by span r.volumes volume) fills span)) (sym volumes_are)
-    ∙ ap (λ a. with_ahead_by (record r { volumes = volumes }) a) (ap (λ n. ahead_by n fills span) (sym number_is) ∙ ahead_is)
+pub is_asked : (r : Reader) (volume : Option Volume) (stamp : Stamp) (span : Span) (number : ℕ) (volumes : List Volume) (ahead : Option Ahead) → number ≡ number_by span r.volumes volume → volumes ≡ with_named_by span r.volumes volume → ahead_by number stamp span ≡ ahead
+    → with_asked r volume stamp span ≡ with_ahead_by (record r { volumes = volumes }) ahead
+is_asked r volume stamp span number volumes ahead number_is volumes_are ahead_is =
+    ap (λ v. with_ahead_by (record r { volumes = v }) (ahead_by (number_by span r.volumes volume) stamp span)) (sym volumes_are)
+    ∙ ap (λ a. with_ahead_by (record r { volumes = volumes }) a) (ap (λ n. ahead_by n stamp span) (sym number_is) ∙ ahead_is)
 
 -- goes on where the lines have come to this position
 abbrev GoesAt : Reader → Reader → List ℕ → Option (List ℕ) → Position → Type 0
 GoesAt r new bytes after p = (r.lines.consumed ≤ p.consumed) × (after ≡ Some (drop (p.consumed - r.lines.consumed) bytes)) × (to_come r bytes ≡ to_come new (drop (p.consumed - r.lines.consumed) bytes))
 
 pub goes_asked : (r : Reader) (l : Position) (what : LineContents) (before after : Option (List ℕ)) (said : Result (Option LineContents) LineKind) → said ≡ Ok (Some what) → r.ahead.count ≡ 0
-    → IfSome before (λ bytes. TakesUp r (with_lines r l) said bytes after) → IfSome before (λ bytes. GoesOn (λ s. s) r (with_asked (with_lines r l) what.volume what.fills what.span) bytes after)
+    → IfSome before (λ bytes. TakesUp r (with_lines r l) said bytes after) → IfSome before (λ bytes. GoesOn (λ s. s) r (with_asked (with_lines r l) what.volume what.stamp what.span) bytes after)
 goes_asked r l what None after said asks none takes = tt
 goes_asked r l what (Some bytes) after said asks none takes =
     let next = with_lines r l in
     let rest = bytes_after r next bytes in
-    let coming = takes.coming ∙ (ap (λ t. read_on r.format (room_left r) (with_line (r.limits.requests - r.given) (is_marked r.format) (so_far next) t) rest) asks ∙ asked_next next what.volume what.fills what.span rest none) in
-    let lines = sym (lines_asked next what.volume what.fills what.span) in
-    let goes = subst (λ p. GoesAt r (with_asked next what.volume what.fills what.span) bytes after p) lines (takes.further, takes.rest, coming) in
+    let coming = takes.coming ∙ (ap (λ t. read_on r.format (room_left r) (with_line (r.limits.requests - r.given) r.format (so_far next) t) rest) asks ∙ asked_next next what.volume what.stamp what.span rest none) in
+    let lines = sym (lines_asked next what.volume what.stamp what.span) in
+    let goes = subst (λ p. GoesAt r (with_asked next what.volume what.stamp what.span) bytes after p) lines (takes.further, takes.rest, coming) in
     record { further = goes.0; rest = goes.1; coming = goes.2 }
 
 -- a line that is refused ends the reading
@@ -131,7 +132,7 @@ pub refused_line : (r : Reader) (l : Position) (kind : LineKind) (before after :
 refused_line r l kind None after said refused takes = tt
 refused_line r l kind (Some bytes) after said refused takes =
     let now = so_far (with_lines r l) in
-    let stop : to_come r bytes ≡ stopped now (BadLine l.line kind) = takes.coming ∙ (ap (λ t. read_on r.format (room_left r) (with_line (r.limits.requests - r.given) (is_marked r.format) now t) (bytes_after r (with_lines r l) bytes)) refused ∙ read_on-stopped r.format (room_left r) now (BadLine l.line kind) (bytes_after r (with_lines r l) bytes)) in
+    let stop : to_come r bytes ≡ stopped now (BadLine l.line kind) = takes.coming ∙ (ap (λ t. read_on r.format (room_left r) (with_line (r.limits.requests - r.given) r.format now t) (bytes_after r (with_lines r l) bytes)) refused ∙ read_on-stopped r.format (room_left r) now (BadLine l.line kind) (bytes_after r (with_lines r l) bytes)) in
     record { requests = ap (λ s. s.requests) stop; marks = ap (λ s. s.fills) stop; dropped_lines = ap (λ s. s.dropped) stop; stop = ap (λ s. s.refused) stop }
 
 pub too_long : (r : Reader) (line : ℕ) (before : Option (List ℕ)) → r.ahead.count ≡ 0 → line ≡ r.lines.line + 1 → IfSome before (λ bytes. 65535 < length (next_text (has_records r.format) bytes)) → IfSome before (λ bytes. IsOver (to_come r bytes) r.dropped (Some (BadLine line TooLong)))
@@ -140,7 +141,7 @@ too_long r line (Some bytes) none line_is long =
     let records = has_records r.format in
     let text = next_text records bytes in
     let size = next_size records bytes in
-    let now = plain r.volumes r.dropped (r.lines.line + 1) (r.lines.consumed + size) in
+    let now = plain r.volumes r.seen r.dropped (r.lines.line + 1) (r.lines.consumed + size) in
     let read : read_line r.format (room_left r) (so_far r) (text, size) ≡ stopped now (BadLine (r.lines.line + 1) TooLong) = rw (lt-ltb 65535 (length text) long) refl in
     let stop : to_come r bytes ≡ stopped now (BadLine (r.lines.line + 1) TooLong) = to_come_line r bytes none (omega (arith, long, next_text-le records bytes))
     ∙ (ap (λ t. read_on r.format (room_left r) t (after_next records bytes)) read ∙ read_on-stopped r.format (room_left r) now (BadLine (r.lines.line + 1) TooLong) (after_next records bytes)) in
@@ -153,7 +154,7 @@ past_limit r (Some bytes) none limit within past =
     let records = has_records r.format in
     let text = next_text records bytes in
     let size = next_size records bytes in
-    let now = plain r.volumes r.dropped (r.lines.line + 1) (r.lines.consumed + size) in
+    let now = plain r.volumes r.seen r.dropped (r.lines.line + 1) (r.lines.consumed + size) in
     let some : 0 < length bytes = omega (arith, next_size-le records bytes, past.1, limit, within) in
     let read : read_line r.format (room_left r) (so_far r) (text, size) ≡ stopped now InputTooLong = rw (le-ltb 65535 (length text) (past.0), lt-ltb r.limits.bytes (r.lines.consumed + size) (omega (arith, past.1, limit))) refl in
     let stop : to_come r bytes ≡ stopped now InputTooLong = to_come_line r bytes none some
@@ -167,35 +168,53 @@ no_line r (Some bytes) none end =
     let over : to_come r bytes ≡ so_far r = to_come_lines r bytes none ∙ (ap (λ b. read_on r.format (room_left r) (so_far r) b) end ∙ read_on-none r.format (room_left r) (so_far r)) in
     record { requests = ap (λ s. s.requests) over; marks = ap (λ s. s.fills) over; dropped_lines = ap (λ s. s.dropped) over; stop = ap (λ s. s.refused) over }
 
--- a reader that has given the first of its blocks, if the next one is this
-abbrev pub with_given : Reader → ℕ → Reader
-with_given r next = record r { given = r.given + 1; ahead = record { volume = r.ahead.volume; fills = r.ahead.fills; first = next; count = r.ahead.count - 1; size = r.ahead.size } }
+-- the first of the blocks to come
+abbrev pub first_ahead : Reader → Object
+first_ahead r = record { volume = r.ahead.volume; id = r.ahead.first; size = r.ahead.size }
 
-same_blocks : (volumes : List Volume) (most dropped lines bytes volume : ℕ) (mark : Option Bool) (first next count size : ℕ) → (0 < count → next ≡ first)
-    → requested most (plain volumes dropped lines bytes) volume mark first count size ≡ requested most (plain volumes dropped lines bytes) volume mark next count size
-same_blocks volumes most dropped lines bytes volume mark first next zero size same = requested-none volumes most dropped lines bytes volume mark first size ∙ sym (requested-none volumes most dropped lines bytes volume mark next size)
-same_blocks volumes most dropped lines bytes volume mark first next (suc count) size same = ap (λ n. requested most (plain volumes dropped lines bytes) volume mark n (suc count) size) (sym (same (omega arith)))
+-- a reader that has given the first of its blocks, if the next one is this, and this is known then of the objects and of the first
+abbrev pub with_given : Reader → ℕ → Seen → Bool → Reader
+with_given r next seen stale = record r {
+  given = r.given + 1;
+  seen = seen;
+  ahead = record { volume = r.ahead.volume; stamp = r.ahead.stamp; first = next; count = r.ahead.count - 1; size = r.ahead.size };
+  stale = stale;
+}
+
+same_blocks : (volumes : List Volume) (seen : Seen) (most dropped lines bytes : ℕ) (format : Format) (volume : ℕ) (stamp : Stamp) (first next count size : ℕ) → (0 < count → next ≡ first)
+    → requested most format (plain volumes seen dropped lines bytes) volume stamp first count size ≡ requested most format (plain volumes seen dropped lines bytes) volume stamp next count size
+same_blocks volumes seen most dropped lines bytes format volume stamp first next zero size same =
+    requested-none volumes seen most dropped lines bytes format volume stamp first size ∙ sym (requested-none volumes seen most dropped lines bytes format volume stamp next size)
+same_blocks volumes seen most dropped lines bytes format volume stamp first next (suc count) size same =
+    ap (λ n. requested most format (plain volumes seen dropped lines bytes) volume stamp n (suc count) size) (sym (same (omega arith)))
 
 -- the first of the blocks is given
-pub gives_block : (r : Reader) (next : ℕ) (lines : List (List ℕ × ℕ)) → r.given < r.limits.requests → 0 < r.ahead.count → (1 < r.ahead.count → next ≡ r.ahead.first + 1)
-    → coming_in r lines ≡ onto (record { volume = r.ahead.volume; id = r.ahead.first; size = r.ahead.size }) (last_mark r) (coming_in (with_given r next) lines)
-gives_block r next lines room some follows =
+pub gives_block : (r : Reader) (next : ℕ) (seen : Seen) (stale : Bool) (lines : List (List ℕ × ℕ)) → r.given < r.limits.requests → 0 < r.ahead.count → (1 < r.ahead.count → next ≡ r.ahead.first + 1)
+    → stale ≡ is_stale r.format.fresh r.seen (first_ahead r) r.ahead.stamp.time → seen ≡ seen_with r (first_ahead r)
+    → coming_in r lines ≡ onto (first_ahead r) (last_mark (with_given r next seen stale)) (coming_in (with_given r next seen stale) lines)
+gives_block r next seen stale lines room some follows stale_is seen_is =
     let a = r.ahead in
-    let mark = last_mark r in
+    let f = r.format in
+    let x = first_ahead r in
+    let mark = mark_of f r.seen a.stamp x in
+    let now = with_given r next seen stale in
     let most = r.limits.requests - (r.given + 1) in
     let count = a.count - 1 in
-    let x : Object = record { volume = a.volume; id = a.first; size = a.size } in
     let places : r.limits.requests - r.given ≡ most + 1 = omega (arith, room) in
     let blocks : a.count ≡ count + 1 = omega (arith, some) in
     let v = r.volumes in let d = r.dropped in let l = r.lines.line in let c = r.lines.consumed in
-    let start : requested (r.limits.requests - r.given) (plain v d l c) a.volume mark a.first a.count a.size ≡ onto x mark (requested most (plain v d l c) a.volume mark next count a.size)
-    = ap (λ n. requested n (plain v d l c) a.volume mark a.first a.count a.size) places
-    ∙ (ap (λ n. requested (most + 1) (plain v d l c) a.volume mark a.first n a.size) blocks
-    ∙ (requested-next v most d l c a.volume mark a.first count a.size
-    ∙ ap (onto x mark) (same_blocks v most d l c a.volume mark (a.first + 1) next count a.size (λ h. follows (omega (arith, h, blocks)))))) in
+    let s = seen_with r x in
+    let left = requested most f (plain v s d l c) a.volume a.stamp next count a.size in
+    let start : requested (r.limits.requests - r.given) f (plain v r.seen d l c) a.volume a.stamp a.first a.count a.size ≡ onto x mark left
+    = ap (λ n. requested n f (plain v r.seen d l c) a.volume a.stamp a.first a.count a.size) places
+    ∙ (ap (λ n. requested (most + 1) f (plain v r.seen d l c) a.volume a.stamp a.first n a.size) blocks
+    ∙ (requested-next v r.seen most d l c f a.volume a.stamp a.first count a.size
+    ∙ ap (onto x mark) (same_blocks v s most d l c f a.volume a.stamp (a.first + 1) next count a.size (λ h. follows (omega (arith, h, blocks)))))) in
     ap (λ s. fold (read_line r.format (room_left r)) s lines) start
-    ∙ (ap (λ n. fold (read_line r.format (record { requests = n; bytes = r.limits.bytes })) (onto x mark (requested most (plain v d l c) a.volume mark next count a.size)) lines) places
-    ∙ fold-onto r.format most r.limits.bytes x mark (requested most (plain v d l c) a.volume mark next count a.size) lines)
+    ∙ (ap (λ n. fold (read_line r.format (record { requests = n; bytes = r.limits.bytes })) (onto x mark left) lines) places
+    ∙ (fold-onto r.format most r.limits.bytes x mark left lines
+    ∙ (ap (λ n. onto x mark (fold (read_line r.format (room_left now)) (requested most f (plain v n d l c) a.volume a.stamp next count a.size) lines)) (sym seen_is)
+    ∙ ap (λ b. onto x (mark_if (is_marked f) (a.stamp.fills || b)) (coming_in now lines)) (sym stale_is))))
 
 -- no request more is allowed
 pub no_room : (r : Reader) (bytes : List ℕ) → r.given ≡ r.limits.requests → 0 < r.ahead.count → IsOver (to_come r bytes) r.dropped (Some TooManyRequests)
@@ -203,8 +222,7 @@ no_room r bytes full some =
     let a = r.ahead in
     let now = so_far r in
     let none : r.limits.requests - r.given ≡ 0 = omega (arith, full) in
-    let mark = last_mark r in
-    let start = ap (λ n. requested n now a.volume mark a.first a.count a.size) none ∙ requested-full r.volumes r.dropped r.lines.line r.lines.consumed a.volume mark a.first a.count a.size some in
+    let start = ap (λ n. requested n r.format now a.volume a.stamp a.first a.count a.size) none ∙ requested-full r.volumes r.seen r.dropped r.lines.line r.lines.consumed r.format a.volume a.stamp a.first a.count a.size some in
     let stop : to_come r bytes ≡ stopped now TooManyRequests = ap (λ s. read_on r.format (room_left r) s bytes) start ∙ read_on-stopped r.format (room_left r) now TooManyRequests bytes in
     record { requests = ap (λ s. s.requests) stop; marks = ap (λ s. s.fills) stop; dropped_lines = ap (λ s. s.dropped) stop; stop = ap (λ s. s.refused) stop }
 
@@ -218,7 +236,7 @@ past_room r bytes past =
     let most = r.limits.requests - r.given - 0 in
     let same : most ≡ r.limits.requests - r.given = omega arith in
     let next = blocks r.ahead.volume r.ahead.first (min r.ahead.count most) r.ahead.size in
-    let taken : Reading = record (so_far r) { requests = next; fills = marks_of (last_mark r) next } in
+    let taken = fold (with_one r.format r.ahead.stamp) (so_far r) next in
     let start : with_ahead r ≡ stopped taken TooManyRequests = ap (λ b. if b then stopped taken TooManyRequests else taken) (ap (λ m. nat_lt m r.ahead.count) same ∙ past) in
     ap (λ s. s.refused) (ap (λ s. read_on r.format (room_left r) s bytes) start ∙ read_on-stopped r.format (room_left r) taken TooManyRequests bytes)
 
@@ -299,19 +317,19 @@ goes_nowhere r given fills (Some bytes) empty unmarked =
     }
 
 -- requests before a request and others are requests before the others
-pub after-onto : (given : List Object) (fills : List Bool) (x : Object) (mark : Option Bool) (s : Reading) → after given fills (onto x mark s) ≡ after (given ++ x ∷ []) (fills ++ marks_of mark (x ∷ [])) s
+pub after-onto : (given : List Object) (fills : List Bool) (x : Object) (mark : Option Bool) (s : Reading) → after given fills (onto x mark s) ≡ after (given ++ x ∷ []) (fills ++ with_mark [] mark) s
 after-onto given fills x mark s =
-    ap (λ requests. record s { requests = requests; fills = fills ++ (marks_of mark (x ∷ []) ++ s.fills) }) (sym (append_assoc given (x ∷ []) s.requests))
-    ∙ ap (λ marks. record s { requests = (given ++ x ∷ []) ++ s.requests; fills = marks }) (sym (append_assoc fills (marks_of mark (x ∷ [])) s.fills))
+    ap (λ requests. record s { requests = requests; fills = fills ++ (with_mark [] mark ++ s.fills) }) (sym (append_assoc given (x ∷ []) s.requests))
+    ∙ ap (λ marks. record s { requests = (given ++ x ∷ []) ++ s.requests; fills = marks }) (sym (append_assoc fills (with_mark [] mark) s.fills))
 
 -- the mark of one request more
-pub with_mark-marks_of : (fills : List Bool) (x : Object) (mark : Option Bool) → fills ++ marks_of mark (x ∷ []) ≡ with_mark fills mark
-with_mark-marks_of fills x None = append-nil fills
-with_mark-marks_of fills x (Some only_fills) = refl
+pub with_mark-one : (fills : List Bool) (mark : Option Bool) → fills ++ with_mark [] mark ≡ with_mark fills mark
+with_mark-one fills None = append-nil fills
+with_mark-one fills (Some only_fills) = refl
 
 -- one request more after some
 pub loads_one : (first second third : Reader) (given : List Object) (fills : List Bool) (x : Object) (mark : Option Bool) (before between later : Option (List ℕ)) → IfSome before (λ bytes. GoesOn (after given fills) first second bytes between)
-    → IfSome between (λ bytes. GoesOn (onto x mark) second third bytes later) → IfSome before (λ bytes. GoesOn (after (given ++ x ∷ []) (fills ++ marks_of mark (x ∷ []))) first third bytes later)
+    → IfSome between (λ bytes. GoesOn (onto x mark) second third bytes later) → IfSome before (λ bytes. GoesOn (after (given ++ x ∷ []) (fills ++ with_mark [] mark)) first third bytes later)
 loads_one first second third given fills x mark None between later one other = tt
 loads_one first second third given fills x mark (Some bytes) between later one other =
     let next = rw (one.rest) at other in
@@ -320,14 +338,14 @@ loads_one first second third given fills x mark (Some bytes) between later one o
     record {
       further = omega (arith, one.further, next.further);
       rest = next.rest ∙ ap (λ rest. Some rest) same;
-      coming = one.coming ∙ (ap (after given fills) next.coming ∙ (after-onto given fills x mark coming ∙ ap (λ rest. after (given ++ x ∷ []) (fills ++ marks_of mark (x ∷ [])) (to_come third rest)) same));
+      coming = one.coming ∙ (ap (after given fills) next.coming ∙ (after-onto given fills x mark coming ∙ ap (λ rest. after (given ++ x ∷ []) (fills ++ with_mark [] mark) (to_come third rest)) same));
     }
 
 -- one request more after those of a trace
 pub loads_more : (first second third : Reader) (given : Requests) (x : Object) (mark : Option Bool) (before between later : Option (List ℕ)) → IfSome before (λ bytes. GoesOn (after_all given) first second bytes between)
     → IfSome between (λ bytes. GoesOn (onto x mark) second third bytes later) → IfSome before (λ bytes. GoesOn (after_all (with_request given x mark)) first third bytes later)
 loads_more first second third given x mark before between later one other =
-    subst (λ fills. IfSome before (λ bytes. GoesOn (after (given.objects ++ x ∷ []) fills) first third bytes later)) (with_mark-marks_of given.fills x mark) (loads_one first second third given.objects given.fills x mark before between later one other)
+    subst (λ fills. IfSome before (λ bytes. GoesOn (after (given.objects ++ x ∷ []) fills) first third bytes later)) (with_mark-one given.fills mark) (loads_one first second third given.objects given.fills x mark before between later one other)
 
 -- no request more after some
 pub loads_all : (first second third : Reader) (given : List Object) (fills : List Bool) (before between later : Option (List ℕ)) → IfSome before (λ bytes. GoesOn (after given fills) first second bytes between)

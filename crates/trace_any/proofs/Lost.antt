@@ -1,5 +1,5 @@
 -- What a source has lost of a trace that is refused.
-use Rattle.std.proofs.Common.{◌≡◌, ℕ, ◌+◌, ◌-◌, ◌≤◌, ◌<◌, ◌∙◌, sym, refl, ap, subst, List, [], ◌++◌, length, length-append, length-drop, drop, inl, inr, ◌⊎◌, arith, Option, Some, None, Result, Ok, Err, IfSome}
+use Rattle.std.proofs.Common.{◌≡◌, ℕ, ◌-◌, ◌≤◌, ◌<◌, ◌∙◌, sym, refl, ap, subst, List, [], ◌++◌, length, length-append, length-drop, drop, inl, inr, ◌⊎◌, arith, Option, Some, None, Result, Ok, Err, IfSome}
 use Rattle.std.specs.Option.{is_some, unwrap_or}
 use Rattle.std.specs.Result.{IfErr}
 use Rattle.std.proofs.lemmas.Bool.{cases_lt, false≢true}

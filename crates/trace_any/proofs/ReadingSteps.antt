@@ -1,9 +1,10 @@
 -- One line more, and one request more, of a reading.
-use Rattle.std.proofs.Common.{◌≡◌, append_assoc, ℕ, suc, ◌+◌, ◌-◌, ◌≤◌, ◌<◌, ◌∙◌, sym, refl, ap, Bool, true, false, cond, nat_lt, List, [], ◌∷◌, ◌++◌, length, min, fold, arith, inl, inr, ◌⊎◌, Option, Some, None, Result, Ok, Err}
+use Rattle.std.proofs.Common.{◌≡◌, append_assoc, append-nil, ℕ, suc, ◌+◌, ◌-◌, ◌≤◌, ◌<◌, ◌∙◌, sym, refl, ap, Bool, true, false, cond, nat_lt, List, [], ◌∷◌, ◌++◌, length, min, fold, arith, inl, inr, ◌⊎◌, Option, Some, None, Result, Ok, Err}
 use Rattle.std.proofs.lemmas.Bool.{cases_lt, lt-ltb, le-ltb}
 use Rattle.std.specs.Option.{is_some}
 use Rattle.cache_model.specs.declared.objects.Object.{Object}
-use Rattle.cache_rules.specs.Stored.{mark_if}
+use Rattle.cache_rules.specs.Stored.{with_mark}
+use Rattle.freshness.specs.Seen.{Seen, with_seen}
 use Rattle.trace_lines.specs.declared.line.Span.{Span}
 use Rattle.trace_lines.specs.declared.line.Span.TheVariants.{Nothing, One, Blocks}
 use Rattle.trace_lines.specs.declared.line.LineKind.{LineKind}
@@ -12,7 +13,7 @@ use Rattle.trace_any.specs.declared.fault.TraceFault.{TraceFault}
 use Rattle.trace_any.specs.declared.fault.TraceFault.TheVariants.{BadLine, InputTooLong, TooManyRequests}
 use Rattle.trace_any.specs.declared.format.Format.{Format}
 use Rattle.trace_any.specs.declared.format.Limits.{Limits}
-use Rattle.trace_any.specs.Readings.{is_marked, Reading, marks_of, stopped, blocks, requested, LineContents, spanned, with_named, number_of, text_content, with_line, read_line, has_records, pieces_of, read_on}
+use Rattle.trace_any.specs.Readings.{Reading, Stamp, mark_of, stopped, blocks, requested, with_one, LineContents, spanned, with_named, number_of, text_content, with_line, read_line, has_records, pieces_of, read_on}
 use Rattle.trace_any.specs.Volumes.{Volume}
 use Rattle.trace_any.specs.NextPieces.{after_next, next_size, next_text}
 use Rattle.trace_any.specs.Readers.{onto}
@@ -53,35 +54,39 @@ lt-next m n = by (cases_lt m n)
     by (inl less) = lt-ltb (m + 1) (n + 1) (omega (arith, less)) ∙ sym (lt-ltb m n less)
     by (inr more) = le-ltb (m + 1) (n + 1) (omega (arith, more)) ∙ sym (le-ltb m n more)
 
--- no request has no mark
-marks_of-none : (mark : Option Bool) → marks_of mark [] ≡ []
-marks_of-none None = refl
-marks_of-none (Some fills) = refl
+-- a mark more after others is one more after some in front of them
+with_mark-after : (before fills : List Bool) (mark : Option Bool) → with_mark (before ++ fills) mark ≡ before ++ with_mark fills mark
+with_mark-after before fills None = refl
+with_mark-after before fills (Some mark) = append_assoc before fills (mark ∷ [])
 
--- the mark of the first of some requests
-marks_of-more : (mark : Option Bool) (x : Object) (requests : List Object) → marks_of mark (x ∷ requests) ≡ marks_of mark (x ∷ []) ++ marks_of mark requests
-marks_of-more None x requests = refl
-marks_of-more (Some fills) x requests = refl
+-- requests more after one in prefix
+ones-onto : (format : Format) (stamp : Stamp) (x : Object) (own : Option Bool) (r : Reading) (next : List Object) → fold (with_one format stamp) (onto x own r) next ≡ onto x own (fold (with_one format stamp) r next)
+ones-onto format stamp x own r [] = refl
+ones-onto format stamp x own r (y ∷ next) =
+    ap (λ fills. fold (with_one format stamp) (record (onto x own (with_one format stamp r y)) { fills = fills }) next) (with_mark-after (with_mark [] own) r.fills (mark_of format r.seen stamp y))
+    ∙ ones-onto format stamp x own (with_one format stamp r y) next
 
 -- a request more in prefix takes one place of the room
-requested-onto : (most : ℕ) (x : Object) (own : Option Bool) (r : Reading) (volume : ℕ) (mark : Option Bool) (first count size : ℕ) → requested (most + 1) (onto x own r) volume mark first count size ≡ onto x own (requested most r volume mark first count size)
-requested-onto most x own r volume mark first count size =
+requested-onto : (most : ℕ) (format : Format) (x : Object) (own : Option Bool) (r : Reading) (volume : ℕ) (stamp : Stamp) (first count size : ℕ)
+    → requested (most + 1) format (onto x own r) volume stamp first count size ≡ onto x own (requested most format r volume stamp first count size)
+requested-onto most format x own r volume stamp first count size =
     let places = most - length r.requests in
     let next = blocks volume first (min count places) size in
-    let taken : Reading = record r { requests = r.requests ++ next; fills = r.fills ++ marks_of mark next } in
+    let taken = fold (with_one format stamp) r next in
     let same : most + 1 - length (x ∷ r.requests) ≡ places = omega arith in
     let together : Reading → Reading = λ s. cond (nat_lt places count) (stopped s TooManyRequests) s in
-    rw same (ap (λ fills. together (record (onto x own r) { requests = x ∷ r.requests ++ next; fills = fills })) (append_assoc (marks_of own (x ∷ [])) r.fills (marks_of mark next)) ∙ onto_either (nat_lt places count) x own (stopped taken TooManyRequests) taken)
+    rw same (ap together (ones-onto format stamp x own r next) ∙ onto_either (nat_lt places count) x own (stopped taken TooManyRequests) taken)
 
-spanned-onto : (most : ℕ) (x : Object) (own : Option Bool) (r : Reading) (volume : Option Volume) (mark : Option Bool) (span : Span) → spanned (most + 1) (onto x own r) volume mark span ≡ onto x own (spanned most r volume mark span)
-spanned-onto most x own r volume mark Nothing = refl
-spanned-onto most x own r volume mark (One id size) = requested-onto most x own (record r { volumes = with_named r.volumes volume }) (number_of r.volumes volume) mark id 1 size
-spanned-onto most x own r volume mark (Blocks first count size) = requested-onto most x own (record r { volumes = with_named r.volumes volume }) (number_of r.volumes volume) mark first count size
+spanned-onto : (most : ℕ) (format : Format) (x : Object) (own : Option Bool) (r : Reading) (volume : Option Volume) (stamp : Stamp) (span : Span)
+    → spanned (most + 1) format (onto x own r) volume stamp span ≡ onto x own (spanned most format r volume stamp span)
+spanned-onto most format x own r volume stamp Nothing = refl
+spanned-onto most format x own r volume stamp (One id size) = requested-onto most format x own (record r { volumes = with_named r.volumes volume }) (number_of r.volumes volume) stamp id 1 size
+spanned-onto most format x own r volume stamp (Blocks first count size) = requested-onto most format x own (record r { volumes = with_named r.volumes volume }) (number_of r.volumes volume) stamp first count size
 
-with_line-onto : (most : ℕ) (marks : Bool) (x : Object) (own : Option Bool) (r : Reading) (said : Result (Option LineContents) LineKind) → with_line (most + 1) marks (onto x own r) said ≡ onto x own (with_line most marks r said)
-with_line-onto most marks x own r (Ok None) = refl
-with_line-onto most marks x own r (Ok (Some what)) = spanned-onto most x own r what.volume (mark_if marks what.fills) what.span
-with_line-onto most marks x own r (Err kind) = refl
+with_line-onto : (most : ℕ) (format : Format) (x : Object) (own : Option Bool) (r : Reading) (said : Result (Option LineContents) LineKind) → with_line (most + 1) format (onto x own r) said ≡ onto x own (with_line most format r said)
+with_line-onto most format x own r (Ok None) = refl
+with_line-onto most format x own r (Ok (Some what)) = spanned-onto most format x own r what.volume what.stamp what.span
+with_line-onto most format x own r (Err kind) = refl
 
 read_line-onto : (format : Format) (most bytes : ℕ) (x : Object) (own : Option Bool) (r : Reading) (line : List ℕ × ℕ) → read_line format (room (most + 1) bytes) (onto x own r) line ≡ onto x own (read_line format (room most bytes) r line)
 read_line-onto format most bytes x own r (text, size) =
@@ -89,10 +94,10 @@ read_line-onto format most bytes x own r (text, size) =
     let long = nat_lt 65535 (length text) in
     let past = nat_lt bytes now.bytes in
     let said = text_content format text in
-    let up = with_line most (is_marked format) now said in
+    let up = with_line most format now said in
     let within = cond past (stopped now InputTooLong) up in
     let short = cond long (stopped now (BadLine now.lines TooLong)) within in
-    rw (with_line-onto most (is_marked format) x own now said)
+    rw (with_line-onto most format x own now said)
     (ap (λ t. cond (is_some r.refused) (onto x own r) (cond long (onto x own (stopped now (BadLine now.lines TooLong))) t)) (onto_either past x own (stopped now InputTooLong) up)
     ∙ (ap (λ t. cond (is_some r.refused) (onto x own r) t) (onto_either long x own (stopped now (BadLine now.lines TooLong)) within)
     ∙ onto_either (is_some r.refused) x own r short))
@@ -108,31 +113,38 @@ pub read_on-onto : (format : Format) (most bytes : ℕ) (x : Object) (own : Opti
 read_on-onto format most bytes x own r rest = fold-onto format most bytes x own r (pieces_of format rest)
 
 -- a reading without requests, which has not stopped
-abbrev pub plain : List Volume → ℕ → ℕ → ℕ → Reading
-plain volumes dropped lines bytes = record { requests = []; fills = []; volumes = volumes; dropped = dropped; lines = lines; bytes = bytes; refused = None }
+abbrev pub plain : List Volume → Seen → ℕ → ℕ → ℕ → Reading
+plain volumes seen dropped lines bytes = record { requests = []; fills = []; seen = seen; volumes = volumes; dropped = dropped; lines = lines; bytes = bytes; refused = None }
 
 -- the first of some blocks, if there is room for it
-pub requested-next : (volumes : List Volume) (most dropped lines bytes volume : ℕ) (mark : Option Bool) (first count size : ℕ)
-    → requested (most + 1) (plain volumes dropped lines bytes) volume mark first (count + 1) size ≡ onto (record { volume = volume; id = first; size = size }) mark (requested most (plain volumes dropped lines bytes) volume mark (first + 1) count size)
-requested-next volumes most dropped lines bytes volume mark first count size =
+pub requested-next : (volumes : List Volume) (seen : Seen) (most dropped lines bytes : ℕ) (format : Format) (volume : ℕ) (stamp : Stamp) (first count size : ℕ)
+    → let x : Object = record { volume = volume; id = first; size = size } in
+    requested (most + 1) format (plain volumes seen dropped lines bytes) volume stamp first (count + 1) size
+    ≡ onto x (mark_of format seen stamp x) (requested most format (plain volumes (with_seen format.fresh seen x stamp.time) dropped lines bytes) volume stamp (first + 1) count size)
+requested-next volumes seen most dropped lines bytes format volume stamp first count size =
     let x : Object = record { volume = volume; id = first; size = size } in
-    let r = plain volumes dropped lines bytes in
+    let mark = mark_of format seen stamp x in
+    let r = plain volumes (with_seen format.fresh seen x stamp.time) dropped lines bytes in
     let next = blocks volume (first + 1) (min count most) size in
-    let taken : Reading = record r { requests = next; fills = marks_of mark next } in
+    let taken = fold (with_one format stamp) r next in
     let places : most + 1 - 0 ≡ most + 1 = omega arith in
     let before : most - 0 ≡ most = omega arith in
     let some : min (count + 1) (most + 1) ≡ suc (min count most) = omega arith in
     let together : Reading → Reading = λ s. cond (nat_lt most count) (stopped s TooManyRequests) s in
-    rw (places, before, some, lt-next most count) (ap (λ fills. together (record r { requests = x ∷ next; fills = fills })) (marks_of-more mark x next) ∙ onto_either (nat_lt most count) x mark (stopped taken TooManyRequests) taken)
+    rw (places, before, some, lt-next most count)
+    (ap (λ fills. together (fold (with_one format stamp) (record (onto x mark r) { fills = fills }) next)) (sym (append-nil (with_mark [] mark)))
+    ∙ (ap together (ones-onto format stamp x mark r next) ∙ onto_either (nat_lt most count) x mark (stopped taken TooManyRequests) taken))
 
 -- no block is left
-pub requested-none : (volumes : List Volume) (most dropped lines bytes volume : ℕ) (mark : Option Bool) (first size : ℕ) → requested most (plain volumes dropped lines bytes) volume mark first 0 size ≡ plain volumes dropped lines bytes
-requested-none volumes most dropped lines bytes volume mark first size =
+pub requested-none : (volumes : List Volume) (seen : Seen) (most dropped lines bytes : ℕ) (format : Format) (volume : ℕ) (stamp : Stamp) (first size : ℕ)
+    → requested most format (plain volumes seen dropped lines bytes) volume stamp first 0 size ≡ plain volumes seen dropped lines bytes
+requested-none volumes seen most dropped lines bytes format volume stamp first size =
     let none : min 0 (most - 0) ≡ 0 = omega arith in
-    rw (none, le-ltb (most - 0) 0 (omega arith)) (ap (λ fills. record (plain volumes dropped lines bytes) { fills = fills }) (marks_of-none mark))
+    rw (none, le-ltb (most - 0) 0 (omega arith)) refl
 
 -- there is no room for one
-pub requested-full : (volumes : List Volume) (dropped lines bytes volume : ℕ) (mark : Option Bool) (first count size : ℕ) → 0 < count → requested 0 (plain volumes dropped lines bytes) volume mark first count size ≡ stopped (plain volumes dropped lines bytes) TooManyRequests
-requested-full volumes dropped lines bytes volume mark first count size some =
+pub requested-full : (volumes : List Volume) (seen : Seen) (dropped lines bytes : ℕ) (format : Format) (volume : ℕ) (stamp : Stamp) (first count size : ℕ) → 0 < count
+    → requested 0 format (plain volumes seen dropped lines bytes) volume stamp first count size ≡ stopped (plain volumes seen dropped lines bytes) TooManyRequests
+requested-full volumes seen dropped lines bytes format volume stamp first count size some =
     let none : min count (0 - 0) ≡ 0 = omega arith in
-    rw (none, lt-ltb 0 count some) (ap (λ fills. stopped (record (plain volumes dropped lines bytes) { fills = fills }) TooManyRequests) (marks_of-none mark))
+    rw (none, lt-ltb 0 count some) refl

@@ -1,5 +1,5 @@
 -- Where a reader stands that gives no request for a fault.
-use Rattle.std.proofs.Common.{◌≡◌, Bool, true, false, ℕ, ◌+◌, ◌-◌, ◌≤◌, ◌<◌, ◌∙◌, sym, refl, inl, inr, ◌⊎◌, ap, subst, List, [], ◌∷◌, ◌++◌, length, drop, take, min, nat_lt, if◌then◌else◌, arith, Option, Some, None, Result, Ok, Err, IfSome}
+use Rattle.std.proofs.Common.{◌≡◌, Bool, true, false, ℕ, ◌+◌, ◌-◌, ◌≤◌, ◌<◌, ◌∙◌, sym, refl, inl, inr, ◌⊎◌, ap, subst, List, [], ◌∷◌, ◌++◌, length, drop, take, min, nat_lt, if◌then◌else◌, fold, arith, Option, Some, None, Result, Ok, Err, IfSome}
 use Rattle.std.proofs.lemmas.Bool.{cases_lt}
 use Rattle.std.proofs.lemmas.List.Sums.{sum_by-append}
 use Rattle.std.proofs.KnownBytes.{Keeps-refl}
@@ -9,18 +9,19 @@ use Rattle.bound_io.specs.Positions.{Position}
 use Rattle.bound_io.specs.declared.line_reader.LineFault.{LineFault}
 use Rattle.bound_io.specs.declared.line_reader.LineFault.TheVariants as line
 use Rattle.cache_model.specs.declared.objects.Object.{Object}
-use Rattle.cache_rules.specs.Stored.{Requests, mark_if, with_request}
+use Rattle.cache_rules.specs.Stored.{Requests, with_request}
 use Rattle.trace_lines.specs.declared.line.Span.{Span}
 use Rattle.trace_lines.specs.declared.line.Span.TheVariants.{Nothing, One, Blocks}
 use Rattle.trace_lines.specs.declared.line.LineKind.{LineKind}
 use Rattle.trace_any.specs.declared.fault.TraceFault.{TraceFault}
-use Rattle.trace_any.specs.declared.fault.TraceFault.TheVariants.{TooManyRequests}
+use Rattle.trace_any.specs.declared.format.Format.{Format}
+use Rattle.trace_any.specs.declared.fault.TraceFault.TheVariants.{BadLine, ReadFault, InputTooLong, TooManyRequests, NoMemory}
 use Rattle.trace_any.specs.Volumes.{Volume}
-use Rattle.trace_any.specs.Readings.{LineContents, Reading, blocks, fault_of, has_records, is_marked, marks_of, number_of, requested, spanned, stopped, with_line, with_named}
-use Rattle.trace_any.specs.Readers.{GoesOn, Reader, bytes_after, known, onto, so_far, with_ahead}
+use Rattle.trace_any.specs.Readings.{LineContents, Reading, Stamp, blocks, fault_of, has_records, number_of, requested, spanned, stopped, with_line, with_named, with_one}
+use Rattle.trace_any.specs.Readers.{GoesOn, IsUngiven, Reader, bytes_after, known, onto, so_far, with_ahead}
 use Rattle.trace_any.specs.FirstLines.{GoesNoFurther, GoesThrough, HasGiven, IsNotPast, StandsAfter, bytes_of, coming_in, first_lines, lines_between}
 use Rattle.trace_any.specs.NextPieces.{IsNextRefused, next_size, next_text}
-use Rattle.trace_any.proofs.Coming.{TakesUp, after_all, loads_more, past_both, with_lines, with_mark-marks_of}
+use Rattle.trace_any.proofs.Coming.{TakesUp, after_all, loads_more, past_both, with_lines, with_mark-one}
 use Rattle.trace_any.proofs.NextPieces.{cut-first, refused_too_long}
 use Rattle.trace_any.proofs.Through.{ReadsLine, ahead_none, coming_first, given_next, given_none, split}
 use Rattle.trace_any.proofs.Unrefused.{unrefused}
@@ -30,25 +31,29 @@ pub of_fault : {A : Type 0} (result : Result A TraceFault) (fault : TraceFault) 
 of_fault (Ok x) fault P is holds = tt
 of_fault (Err e) fault P is holds = subst P (sym is) holds
 
--- a range of blocks drops no line
-requested-dropped : (most : ℕ) (r : Reading) (volume : ℕ) (mark : Option Bool) (first count size : ℕ) → (requested most r volume mark first count size).dropped ≡ r.dropped
-requested-dropped most r volume mark first count size =
+-- requests drop no line
+ones-dropped : (format : Format) (stamp : Stamp) (r : Reading) (next : List Object) → (fold (with_one format stamp) r next).dropped ≡ r.dropped
+ones-dropped format stamp r [] = refl
+ones-dropped format stamp r (x ∷ next) = ones-dropped format stamp (with_one format stamp r x) next
+
+requested-dropped : (most : ℕ) (format : Format) (r : Reading) (volume : ℕ) (stamp : Stamp) (first count size : ℕ) → (requested most format r volume stamp first count size).dropped ≡ r.dropped
+requested-dropped most format r volume stamp first count size =
     let room = most - length r.requests in
     let next = blocks volume first (min count room) size in
-    by (record r { requests = r.requests ++ next; fills = r.fills ++ marks_of mark next }) (nat_lt room count)
+    by (fold (with_one format stamp) r next) (nat_lt room count) ∙ ones-dropped format stamp r next
   where
     by : (taken : Reading) (past : Bool) → (if past then stopped taken TooManyRequests else taken).dropped ≡ taken.dropped
     by taken true = refl
     by taken false = refl
 
 -- nor does a line that asks for something
-spanned-dropped : (most : ℕ) (r : Reading) (volume : Option Volume) (mark : Option Bool) (span : Span) → (span ≡ Nothing → ⊥) → (spanned most r volume mark span).dropped ≡ r.dropped
-spanned-dropped most r volume mark Nothing some = absurd (some refl)
-spanned-dropped most r volume mark (One id size) some = requested-dropped most (record r { volumes = with_named r.volumes volume }) (number_of r.volumes volume) mark id 1 size
-spanned-dropped most r volume mark (Blocks first count size) some = requested-dropped most (record r { volumes = with_named r.volumes volume }) (number_of r.volumes volume) mark first count size
+spanned-dropped : (most : ℕ) (format : Format) (r : Reading) (volume : Option Volume) (stamp : Stamp) (span : Span) → (span ≡ Nothing → ⊥) → (spanned most format r volume stamp span).dropped ≡ r.dropped
+spanned-dropped most format r volume stamp Nothing some = absurd (some refl)
+spanned-dropped most format r volume stamp (One id size) some = requested-dropped most format (record r { volumes = with_named r.volumes volume }) (number_of r.volumes volume) stamp id 1 size
+spanned-dropped most format r volume stamp (Blocks first count size) some = requested-dropped most format (record r { volumes = with_named r.volumes volume }) (number_of r.volumes volume) stamp first count size
 
 dropped_ahead : (r : Reader) → (with_ahead r).dropped ≡ r.dropped
-dropped_ahead r = requested-dropped _ (so_far r) _ _ _ _ _
+dropped_ahead r = requested-dropped (r.limits.requests - r.given) r.format (so_far r) r.ahead.volume r.ahead.stamp r.ahead.first r.ahead.count r.ahead.size
 
 -- no line was given
 pub stands_still : (r new : Reader) (before between : Option (List ℕ)) → new.lines.line ≡ r.lines.line → new.lines.consumed ≡ r.lines.consumed → new.dropped ≡ r.dropped → Keeps before between → IfSome before (λ bytes. StandsAfter r new bytes between)
@@ -74,7 +79,7 @@ stands_as r new left same dropped =
 
 -- one line was given
 stands_after_line : (r new : Reader) (l : Position) (said : Result (Option LineContents) LineKind) (before between : Option (List ℕ)) → r.ahead.count ≡ 0 → new.lines ≡ l
-    → (with_line (r.limits.requests - r.given) (is_marked r.format) (so_far (with_lines r l)) said).dropped ≡ new.dropped
+    → (with_line (r.limits.requests - r.given) r.format (so_far (with_lines r l)) said).dropped ≡ new.dropped
     → IfSome before (ReadsLine r l said) → IfSome before (λ bytes. TakesUp r (with_lines r l) said bytes between) → IfSome before (λ bytes. StandsAfter r new bytes between)
 stands_after_line r new l said None between nothing same dropped reads takes = tt
 stands_after_line r new l said (Some bytes) between nothing same dropped reads takes =
@@ -98,7 +103,7 @@ stands_after_line r new l said (Some bytes) between nothing same dropped reads t
 pub stands_after_refused : (r : Reader) (l : Position) (kind : LineKind) (said : Result (Option LineContents) LineKind) (before between : Option (List ℕ)) → said ≡ Err kind → r.ahead.count ≡ 0
     → IfSome before (ReadsLine r l said) → IfSome before (λ bytes. TakesUp r (with_lines r l) said bytes between) → IfSome before (λ bytes. StandsAfter r (with_lines r l) bytes between)
 stands_after_refused r l kind said before between refused nothing reads takes =
-    stands_after_line r (with_lines r l) l said before between nothing refl (ap (λ s. (with_line (r.limits.requests - r.given) (is_marked r.format) (so_far (with_lines r l)) s).dropped) refused) reads takes
+    stands_after_line r (with_lines r l) l said before between nothing refl (ap (λ s. (with_line (r.limits.requests - r.given) r.format (so_far (with_lines r l)) s).dropped) refused) reads takes
 
 -- a line whose volume found no memory
 pub stands_after_unnamed : (r new : Reader) (l : Position) (what : LineContents) (said : Result (Option LineContents) LineKind) (before between : Option (List ℕ)) → said ≡ Ok (Some what) → (what.span ≡ Nothing → ⊥) → r.ahead.count ≡ 0
@@ -106,8 +111,8 @@ pub stands_after_unnamed : (r new : Reader) (l : Position) (what : LineContents)
 stands_after_unnamed r new l what said before between asks some nothing same dropped reads takes =
     let most = r.limits.requests - r.given in
     stands_after_line r new l said before between nothing same
-    (ap (λ s. (with_line most (is_marked r.format) (so_far (with_lines r l)) s).dropped) asks
-    ∙ (spanned-dropped most (so_far (with_lines r l)) what.volume (mark_if (is_marked r.format) what.fills) what.span some ∙ sym dropped))
+    (ap (λ s. (with_line most r.format (so_far (with_lines r l)) s).dropped) asks
+    ∙ (spanned-dropped most r.format (so_far (with_lines r l)) what.volume what.stamp what.span some ∙ sym dropped))
     reads takes
 
 -- some lines, and then those up to a fault
@@ -156,6 +161,14 @@ not_past_next r new before faults_before faults_after line.ReadFault same refuse
 not_past_next r new before faults_before faults_after (line.LineTooLong n) same refused = omega (arith, same, (refused_too_long (has_records r.format) r.lines before faults_before faults_after n refused).0)
 not_past_next r new before faults_before faults_after line.InputTooLong same refused = tt
 
+-- a request that is not given for want of room or of memory is of no line that is refused
+pub not_past_ungiven : (old new : Reader) (fault : TraceFault) → IsUngiven old new fault → IsNotPast new fault
+not_past_ungiven old new (BadLine line kind) full = subst (IsNotPast new) (sym full.0) tt
+not_past_ungiven old new ReadFault full = tt
+not_past_ungiven old new InputTooLong full = tt
+not_past_ungiven old new TooManyRequests full = tt
+not_past_ungiven old new NoMemory none = tt
+
 -- one request more after those of a trace
 pub given_more : (first second third : Reader) (given : Requests) (x : Object) (mark : Option Bool) (before between : Option (List ℕ)) → IfSome before (λ bytes. between ≡ Some (bytes_after first second bytes))
     → IfSome before (HasGiven given.objects given.fills first second) → IfSome between (GoesNoFurther (onto x mark) second third)
@@ -163,7 +176,7 @@ pub given_more : (first second third : Reader) (given : Requests) (x : Object) (
 given_more first second third given x mark None between rest has next = tt
 given_more first second third given x mark (Some bytes) between rest has next =
     let one : GoesNoFurther (onto x mark) second third (bytes_after first second bytes) = rw rest at next in
-    subst (λ fills. HasGiven (given.objects ++ x ∷ []) fills first third bytes) (with_mark-marks_of given.fills x mark) (given_next first second third given.objects given.fills x mark bytes has one)
+    subst (λ fills. HasGiven (given.objects ++ x ∷ []) fills first third bytes) (with_mark-one given.fills mark) (given_next first second third given.objects given.fills x mark bytes has one)
 
 -- no request was given yet
 pub nothing_given : (r : Reader) (given : Requests) (before : Option (List ℕ)) → given ≡ record { objects = []; fills = [] } → IfSome before (HasGiven given.objects given.fills r r)

@@ -7,15 +7,15 @@ use Rattle.std.proofs.lemmas.List.Sums.{sum_by-append}
 use Rattle.std.proofs.lemmas.Bool.{cases_lt, le-ltb}
 use Rattle.bound_io.specs.Positions.{Position}
 use Rattle.cache_model.specs.declared.objects.Object.{Object}
-use Rattle.cache_rules.specs.Stored.{mark_if}
+use Rattle.cache_rules.specs.Stored.{with_mark}
 use Rattle.trace_lines.specs.declared.line.Span.{Span}
 use Rattle.trace_lines.specs.declared.line.Span.TheVariants.{Nothing, One, Blocks}
 use Rattle.trace_lines.specs.declared.line.LineKind.{LineKind}
 use Rattle.trace_any.specs.Volumes.{Volume}
 use Rattle.trace_any.specs.declared.format.Format.{Format}
 use Rattle.trace_any.specs.declared.format.Limits.{Limits}
-use Rattle.trace_any.specs.Readings.{is_marked, LineContents, Reading, has_records, marks_of, pieces_of, nothing_read, reading, requested, read_line, spanned, text_content, with_line}
-use Rattle.trace_any.specs.Readers.{GoesOn, Reader, after, bytes_after, fresh, last_mark, onto, room_left, so_far, with_ahead}
+use Rattle.trace_any.specs.Readings.{LineContents, Reading, Stamp, has_records, pieces_of, nothing_read, reading, requested, read_line, spanned, text_content, with_line}
+use Rattle.trace_any.specs.Readers.{GoesOn, Reader, after, bytes_after, fresh, onto, room_left, so_far, with_ahead}
 use Rattle.trace_any.specs.FirstLines.{GoesNoFurther, GoesThrough, HasGiven, HasLostFor, bytes_of, coming_in, first_lines, lines_between, reading_of_first}
 use Rattle.trace_any.specs.NextPieces.{GivesNext, after_next, next_size, next_text}
 use Rattle.trace_any.proofs.Coming.{after-onto, past_both, with_asked, with_lines}
@@ -25,15 +25,15 @@ use Rattle.trace_any.proofs.ReadingSteps.{plain, requested-none}
 -- no block is left of the last line
 pub ahead_none : (r : Reader) → r.ahead.count ≡ 0 → with_ahead r ≡ so_far r
 ahead_none r none =
-    ap (λ n. requested (r.limits.requests - r.given) (so_far r) r.ahead.volume (last_mark r) r.ahead.first n r.ahead.size) none
-    ∙ requested-none r.volumes (r.limits.requests - r.given) r.dropped r.lines.line r.lines.consumed r.ahead.volume (last_mark r) r.ahead.first r.ahead.size
+    ap (λ n. requested (r.limits.requests - r.given) r.format (so_far r) r.ahead.volume r.ahead.stamp r.ahead.first n r.ahead.size) none
+    ∙ requested-none r.volumes r.seen (r.limits.requests - r.given) r.dropped r.lines.line r.lines.consumed r.format r.ahead.volume r.ahead.stamp r.ahead.first r.ahead.size
 
 -- the first line is read, and what it asks for is this
 pub record ReadsLine (r : Reader) (l : Position) (said : Result (Option LineContents) LineKind) (bytes : List ℕ) : Type 0 where
   pub some : 0 < length bytes
   pub line : l.line ≡ r.lines.line + 1
   pub consumed : l.consumed ≡ r.lines.consumed + next_size (has_records r.format) bytes
-  pub step : read_line r.format (room_left r) (with_ahead r) (next_text (has_records r.format) bytes, next_size (has_records r.format) bytes) ≡ with_line (r.limits.requests - r.given) (is_marked r.format) (so_far (with_lines r l)) said
+  pub step : read_line r.format (room_left r) (with_ahead r) (next_text (has_records r.format) bytes, next_size (has_records r.format) bytes) ≡ with_line (r.limits.requests - r.given) r.format (so_far (with_lines r l)) said
 
 pub reads_line : (r : Reader) (l : Position) (before after : Option (List ℕ)) (text : List ℕ) → r.ahead.count ≡ 0 → r.lines.limit ≡ r.limits.bytes → GivesNext (has_records r.format) r.lines l before after
     → IfSome before (λ bytes. (text ≡ next_text (has_records r.format) bytes) × (0 < length bytes)) → length text ≤ 65535 → IfSome before (ReadsLine r l (text_content r.format text))
@@ -45,7 +45,7 @@ reads_line r l (Some bytes) after text none limit gives_next texts short =
     let first = next_text records bytes in
     let size = next_size records bytes in
     let line : List ℕ × ℕ = (first, size) in
-    let taken : read_line r.format (room_left r) (so_far r) line ≡ with_line (r.limits.requests - r.given) (is_marked r.format) (plain r.volumes r.dropped (r.lines.line + 1) (r.lines.consumed + size)) (text_content r.format first) =
+    let taken : read_line r.format (room_left r) (so_far r) line ≡ with_line (r.limits.requests - r.given) r.format (plain r.volumes r.seen r.dropped (r.lines.line + 1) (r.lines.consumed + size)) (text_content r.format first) =
     rw (le-ltb 65535 (length first) (omega (arith, ap length (texts.0), short)), le-ltb r.limits.bytes (r.lines.consumed + size) (omega (arith, within, gives.consumed))) refl in
     record {
       some = texts.1;
@@ -53,9 +53,9 @@ reads_line r l (Some bytes) after text none limit gives_next texts short =
       consumed = gives.consumed;
       step = ap (λ s. read_line r.format (room_left r) s line) (ahead_none r none)
           ∙ (taken
-          ∙ (ap (λ n. with_line (r.limits.requests - r.given) (is_marked r.format) (plain r.volumes r.dropped n (r.lines.consumed + size)) (text_content r.format first)) (sym gives.line)
-          ∙ (ap (λ n. with_line (r.limits.requests - r.given) (is_marked r.format) (plain r.volumes r.dropped l.line n) (text_content r.format first)) (sym gives.consumed)
-          ∙ ap (λ t. with_line (r.limits.requests - r.given) (is_marked r.format) (plain r.volumes r.dropped l.line l.consumed) (text_content r.format t)) (sym (texts.0)))));
+          ∙ (ap (λ n. with_line (r.limits.requests - r.given) r.format (plain r.volumes r.seen r.dropped n (r.lines.consumed + size)) (text_content r.format first)) (sym gives.line)
+          ∙ (ap (λ n. with_line (r.limits.requests - r.given) r.format (plain r.volumes r.seen r.dropped l.line n) (text_content r.format first)) (sym gives.consumed)
+          ∙ ap (λ t. with_line (r.limits.requests - r.given) r.format (plain r.volumes r.seen r.dropped l.line l.consumed) (text_content r.format t)) (sym (texts.0)))));
     }
 
 -- the lines and the room are the same for both
@@ -65,7 +65,7 @@ pub record IsNextAt (r new : Reader) (l : Position) : Type 0 where
   pub lines : new.lines ≡ l
 
 one_more : (r new : Reader) (l : Position) (said : Result (Option LineContents) LineKind) (bytes : List ℕ) → r.ahead.count ≡ 0 → IsNextAt r new l → ReadsLine r l said bytes
-    → with_line (r.limits.requests - r.given) (is_marked r.format) (so_far (with_lines r l)) said ≡ with_ahead new → GoesNoFurther (λ s. s) r new bytes
+    → with_line (r.limits.requests - r.given) r.format (so_far (with_lines r l)) said ≡ with_ahead new → GoesNoFurther (λ s. s) r new bytes
 one_more r new l said bytes none next reads asks =
     let records = has_records r.format in
     let line : List ℕ × ℕ = (next_text records bytes, next_size records bytes) in
@@ -99,25 +99,25 @@ pub through_blank : (r : Reader) (l : Position) (before : Option (List ℕ)) (sa
 through_blank r l None said blank none reads = tt
 through_blank r l (Some bytes) said blank none reads =
     one_more r (with_lines r l) l said bytes none (record { format = refl; room = refl; lines = refl }) reads
-    (ap (with_line (r.limits.requests - r.given) (is_marked r.format) (so_far (with_lines r l))) blank ∙ sym (ahead_none (with_lines r l) none))
+    (ap (with_line (r.limits.requests - r.given) r.format (so_far (with_lines r l))) blank ∙ sym (ahead_none (with_lines r l) none))
 
-next_asked : (r : Reader) (l : Position) (volume : Option Volume) (fills : Bool) (span : Span) → IsNextAt r (with_asked (with_lines r l) volume fills span) l
-next_asked r l volume fills Nothing = record { format = refl; room = refl; lines = refl }
-next_asked r l volume fills (One id size) = record { format = refl; room = refl; lines = refl }
-next_asked r l volume fills (Blocks first count size) = record { format = refl; room = refl; lines = refl }
+next_asked : (r : Reader) (l : Position) (volume : Option Volume) (stamp : Stamp) (span : Span) → IsNextAt r (with_asked (with_lines r l) volume stamp span) l
+next_asked r l volume stamp Nothing = record { format = refl; room = refl; lines = refl }
+next_asked r l volume stamp (One id size) = record { format = refl; room = refl; lines = refl }
+next_asked r l volume stamp (Blocks first count size) = record { format = refl; room = refl; lines = refl }
 
-ahead_asked : (r : Reader) (volume : Option Volume) (fills : Bool) (span : Span) → r.ahead.count ≡ 0 → spanned (r.limits.requests - r.given) (so_far r) volume (mark_if (is_marked r.format) fills) span ≡ with_ahead (with_asked r volume fills span)
-ahead_asked r volume fills Nothing none = sym (ahead_none (with_asked r volume fills Nothing) none)
-ahead_asked r volume fills (One id size) none = refl
-ahead_asked r volume fills (Blocks first count size) none = refl
+ahead_asked : (r : Reader) (volume : Option Volume) (stamp : Stamp) (span : Span) → r.ahead.count ≡ 0 → spanned (r.limits.requests - r.given) r.format (so_far r) volume stamp span ≡ with_ahead (with_asked r volume stamp span)
+ahead_asked r volume stamp Nothing none = sym (ahead_none (with_asked r volume stamp Nothing) none)
+ahead_asked r volume stamp (One id size) none = refl
+ahead_asked r volume stamp (Blocks first count size) none = refl
 
 -- a line that asks for this
 pub through_asked : (r : Reader) (l : Position) (what : LineContents) (before : Option (List ℕ)) (said : Result (Option LineContents) LineKind) → said ≡ Ok (Some what) → r.ahead.count ≡ 0
-    → IfSome before (ReadsLine r l said) → IfSome before (GoesNoFurther (λ s. s) r (with_asked (with_lines r l) what.volume what.fills what.span))
+    → IfSome before (ReadsLine r l said) → IfSome before (GoesNoFurther (λ s. s) r (with_asked (with_lines r l) what.volume what.stamp what.span))
 through_asked r l what None said asks none reads = tt
 through_asked r l what (Some bytes) said asks none reads =
-    one_more r (with_asked (with_lines r l) what.volume what.fills what.span) l said bytes none (next_asked r l what.volume what.fills what.span) reads
-    (ap (with_line (r.limits.requests - r.given) (is_marked r.format) (so_far (with_lines r l))) asks ∙ ahead_asked (with_lines r l) what.volume what.fills what.span none)
+    one_more r (with_asked (with_lines r l) what.volume what.stamp what.span) l said bytes none (next_asked r l what.volume what.stamp what.span) reads
+    (ap (with_line (r.limits.requests - r.given) r.format (so_far (with_lines r l))) asks ∙ ahead_asked (with_lines r l) what.volume what.stamp what.span none)
 
 -- some lines, and then some more
 module _ (one other both : Reading → Reading) (same : (s : Reading) → one (other s) ≡ both s) (first second third : Reader) (bytes : List ℕ) (goes : GoesThrough one first second bytes) where
@@ -228,13 +228,13 @@ no_further_yet r (Some bytes) =
 
 -- one request more after some
 pub given_next : (first second third : Reader) (given : List Object) (fills : List Bool) (x : Object) (mark : Option Bool) (bytes : List ℕ) → HasGiven given fills first second bytes → GoesNoFurther (onto x mark) second third (bytes_after first second bytes)
-    → HasGiven (given ++ x ∷ []) (fills ++ marks_of mark (x ∷ [])) first third bytes
+    → HasGiven (given ++ x ∷ []) (fills ++ with_mark [] mark) first third bytes
 given_next first second third given fills x mark bytes has next = record {
-  through = through_both (after given fills) (onto x mark) (after (given ++ x ∷ []) (fills ++ marks_of mark (x ∷ []))) same first second third bytes has.through next.through;
+  through = through_both (after given fills) (onto x mark) (after (given ++ x ∷ []) (fills ++ with_mark [] mark)) same first second third bytes has.through next.through;
   least = λ lines some. by lines some (cases_lt lines (lines_between first third));
 }
   where
-    same : (s : Reading) → after given fills (onto x mark s) ≡ after (given ++ x ∷ []) (fills ++ marks_of mark (x ∷ [])) s
+    same : (s : Reading) → after given fills (onto x mark s) ≡ after (given ++ x ∷ []) (fills ++ with_mark [] mark) s
     same s = after-onto given fills x mark s
 
     by : (lines : ℕ) → length (given ++ x ∷ []) ≤ length (coming_in first (first_lines first.format lines bytes)).requests → lines < lines_between first third ⊎ lines_between first third ≤ lines → lines_between first third ≤ lines
@@ -246,7 +246,7 @@ given_next first second third given fills x mark bytes has next = record {
         let at : lines ≡ lines_between first second + n = omega (arith, before) in
         let none : (coming_in second (first_lines second.format n (bytes_after first second bytes))).requests ≡ [] = next.none_before n (omega (arith, fewer, before, has.through.further, next.through.further)) in
         let count : (coming_in first (first_lines first.format lines bytes)).requests ≡ given = ap (λ j. (coming_in first (first_lines first.format j bytes)).requests) at
-        ∙ (ap (λ (s : Reading). s.requests) (coming_first (after given fills) (onto x mark) (after (given ++ x ∷ []) (fills ++ marks_of mark (x ∷ []))) same first second third bytes has.through n) ∙ (ap (λ rs. given ++ rs) none ∙ append-nil given)) in
+        ∙ (ap (λ (s : Reading). s.requests) (coming_first (after given fills) (onto x mark) (after (given ++ x ∷ []) (fills ++ with_mark [] mark)) same first second third bytes has.through n) ∙ (ap (λ rs. given ++ rs) none ∙ append-nil given)) in
         absurd (omega (arith, some, long, ap length count))
 
 -- no request was given yet

@@ -14,7 +14,7 @@ volume_of (Some (host, disk)) = Some (record { host = host.now; disk = disk })
 
 -- what is wanted
 abbrev pub content_by : LineContent → LineContents
-content_by content = record { span = content.span; volume = volume_of content.volume; fills = content.fills }
+content_by content = record { span = content.span; volume = volume_of content.volume; stamp = record { time = content.time; fills = content.fills } }
 
 -- what is wanted, or why it is refused
 abbrev pub named_of : Result LineContent LineKind → Result LineContents LineKind

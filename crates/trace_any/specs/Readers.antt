@@ -1,5 +1,5 @@
 -- What a reader of requests has still to give.
-use Rattle.std.specs.Prelude.{◌≡◌, ℕ, ◌+◌, ◌-◌, ◌<◌, ◌≤◌, ◌⊎◌, drop, List, [], ◌∷◌, ◌++◌, Bool, true, false, Result, Ok, Err, None, Some, IfSome}
+use Rattle.std.specs.Prelude.{◌≡◌, ℕ, ◌+◌, ◌-◌, ◌<◌, ◌≤◌, ◌⊎◌, drop, List, [], ◌∷◌, ◌++◌, Bool, true, false, ◌||◌, Result, Ok, Err, None, Some, IfSome}
 use Rattle.trace_lines.specs.declared.line.Span.{Span}
 use Rattle.trace_lines.specs.declared.line.Span.TheVariants.{Nothing, One, Blocks}
 use Rattle.std.specs.declared.option.Option.{Option}
@@ -8,32 +8,34 @@ use Rattle.bound_io.specs.Devices.{Device, IsUntouched}
 use Rattle.bound_io.specs.Positions.{Position}
 use Rattle.bound_io.specs.Lines.{stands_in}
 use Rattle.cache_model.specs.declared.objects.Object.{Object}
-use Rattle.cache_rules.specs.Stored.{Requests, mark_if}
+use Rattle.cache_rules.specs.Stored.{Requests, mark_if, with_mark}
+use Rattle.freshness.specs.Stale.{can_end}
+use Rattle.freshness.specs.Seen.{Seen, nothing_seen, with_seen}
 use Rattle.trace_any.specs.declared.fault.TraceFault.{TraceFault}
 use Rattle.trace_any.specs.declared.fault.TraceFault.TheVariants.{BadLine, ReadFault, InputTooLong, TooManyRequests, NoMemory}
 use Rattle.trace_any.specs.declared.format.Format.{Format}
 use Rattle.trace_any.specs.declared.format.Limits.{Limits}
 use Rattle.trace_any.specs.declared.progress.Range.{Range}
 use Rattle.trace_any.specs.Volumes.{Volume}
-use Rattle.trace_any.specs.Readings.{is_marked, Reading, requested, read_on, with_named, number_of, marks_of}
+use Rattle.trace_any.specs.Readings.{is_marked, Reading, Stamp, requested, read_on, untimed, with_named, number_of}
 
--- what is left of the blocks that the last line asked for, and whether its requests only fill the cache
+-- what is left of the blocks that the last line asked for, with its time and its mark
 pub record Ahead : Type 0 where
   pub volume : ℕ
-  pub fills : Bool
+  pub stamp : Stamp
   pub first : ℕ
   pub count : ℕ
   pub size : ℕ
 
 -- no block is left
 abbrev pub nothing_ahead : Ahead
-nothing_ahead = record { volume = 0; fills = false; first = 0; count = 0; size = 0 }
+nothing_ahead = record { volume = 0; stamp = untimed false; first = 0; count = 0; size = 0 }
 
 -- the blocks that the code keeps as a range
 abbrev pub ahead_of : Range → Ahead
-ahead_of r = record { volume = r.volume; fills = r.fills; first = r.first; count = r.count; size = r.size }
+ahead_of r = record { volume = r.volume; stamp = record { time = r.time; fills = r.fills }; first = r.first; count = r.count; size = r.size }
 
--- where a reader of requests stands: its form, its limits, its lines, the number of requests given and of lines dropped, the volumes named, the blocks of the last line, and the fault that was answered
+-- where a reader of requests stands: its form, its limits, its lines, the number of requests given and of lines dropped, the volumes named, what is known of the objects, the blocks of the last line, whether the last request was stale, and the fault that was answered
 pub record Reader : Type 0 where
   pub format : Format
   pub limits : Limits
@@ -41,7 +43,9 @@ pub record Reader : Type 0 where
   pub given : ℕ
   pub dropped : ℕ
   pub volumes : List Volume
+  pub seen : Seen
   pub ahead : Ahead
+  pub stale : Bool
   pub fault : Option TraceFault
 
 -- a reader that has read nothing
@@ -53,7 +57,9 @@ fresh format limits = record {
   given = 0;
   dropped = 0;
   volumes = [];
+  seen = nothing_seen;
   ahead = nothing_ahead;
+  stale = false;
   fault = None;
 }
 
@@ -72,15 +78,19 @@ room_left r = record { requests = r.limits.requests - r.given; bytes = r.limits.
 
 -- a reading that has come as far as a reader, whose requests so far are left out
 abbrev pub so_far : Reader → Reading
-so_far r = record { requests = []; fills = []; volumes = r.volumes; dropped = r.dropped; lines = r.lines.line; bytes = r.lines.consumed; refused = None }
+so_far r = record { requests = []; fills = []; seen = r.seen; volumes = r.volumes; dropped = r.dropped; lines = r.lines.line; bytes = r.lines.consumed; refused = None }
 
--- the mark of the requests of the last line that asked for one, if its form has marks
+-- whether the request that was given last only fills the cache: by its own mark, or since it is stale
+abbrev pub last_fills : Reader → Bool
+last_fills r = r.ahead.stamp.fills || r.stale
+
+-- the mark of the request that was given last, if its form has marks
 abbrev pub last_mark : Reader → Option Bool
-last_mark r = mark_if (is_marked r.format) r.ahead.fills
+last_mark r = mark_if (is_marked r.format) (last_fills r)
 
 -- the blocks of the last line, as far as there is room
 abbrev pub with_ahead : Reader → Reading
-with_ahead r = requested (r.limits.requests - r.given) (so_far r) r.ahead.volume (last_mark r) r.ahead.first r.ahead.count r.ahead.size
+with_ahead r = requested (r.limits.requests - r.given) r.format (so_far r) r.ahead.volume r.ahead.stamp r.ahead.first r.ahead.count r.ahead.size
 
 -- the reading of what is still to come, if the reader stands in these bytes: the requests after those given with their marks, the dropped lines in all, and why it stops
 abbrev pub to_come : Reader → List ℕ → Reading
@@ -88,7 +98,7 @@ to_come r bytes = read_on r.format (room_left r) (with_ahead r) bytes
 
 -- a request, with its mark if there is one, before the others of a reading
 abbrev pub onto : Object → Option Bool → Reading → Reading
-onto x mark r = record r { requests = x ∷ r.requests; fills = marks_of mark (x ∷ []) ++ r.fills }
+onto x mark r = record r { requests = x ∷ r.requests; fills = with_mark [] mark ++ r.fills }
 
 -- requests and their marks before the others of a reading
 abbrev pub after : List Object → List Bool → Reading → Reading
@@ -126,9 +136,18 @@ ReadsNothing old new = (new.format ≡ old.format) × (new.limits ≡ old.limits
 abbrev pub GivesFirst : Reader → Reader → Object → Type 0
 GivesFirst old new x = (new.given ≡ old.given + 1) × ((bytes : List ℕ) → to_come old bytes ≡ onto x (last_mark new) (to_come new bytes))
 
+-- what is known of the objects, once this request is given at the time of its line
+abbrev pub seen_with : Reader → Object → Seen
+seen_with r x = with_seen r.format.fresh r.seen x r.ahead.stamp.time
+
 -- there is room for no request, and whatever the bytes, that is what stops the reading
 abbrev pub IsFull : Reader → Reader → TraceFault → Type 0
 IsFull old new fault = (fault ≡ TooManyRequests) × ((bytes : List ℕ) → IsOver (to_come old bytes) new.dropped (Some fault))
+
+-- why the first of the blocks to come is not given: there is room for no request, or no memory for what is known of its object
+abbrev pub IsUngiven : Reader → Reader → TraceFault → Type 0
+IsUngiven old new NoMemory = can_end old.format.fresh ≡ true
+IsUngiven old new fault = IsFull old new fault
 
 -- the bytes after those that a reader has given the lines of
 abbrev pub bytes_after : Reader → Reader → List ℕ → List ℕ
@@ -140,9 +159,10 @@ pub record GoesOn (with_given : Reading → Reading) (old new : Reader) (bytes :
   pub rest : after ≡ Some (bytes_after old new bytes)
   pub coming : to_come old bytes ≡ with_given (to_come new (bytes_after old new bytes))
 
--- no request is left: none of these bytes was to come, nothing of them is left, and none comes from then on
+-- no request is left: none of these bytes was to come, nothing of them is left, none comes from then on, and what is known of the objects is what the reader has
 abbrev pub GivesNone : Reader → Reader → List ℕ → Option (List ℕ) → Type 0
-GivesNone old new bytes after = IsOver (to_come old bytes) new.dropped None × (after ≡ Some []) × IsOver (to_come new []) new.dropped None
+GivesNone old new bytes after =
+    IsOver (to_come old bytes) new.dropped None × (after ≡ Some []) × IsOver (to_come new []) new.dropped None × ((to_come old bytes).seen ≡ new.seen)
 
 -- how the next request is given: it is the first of those to come, and the last mark is its own; at the end none is left
 abbrev pub NextRequest : Reader → Reader → Option (List ℕ) → Option (List ℕ) → ℕ → ℕ → Result (Option Object) TraceFault → Type 0
@@ -164,11 +184,11 @@ LineTaken old new before after faults_before faults_after (Err fault) = IsStoppe
 abbrev pub TakesLine : Reader → Reader → Device → Result Bool TraceFault → Type 0
 TakesLine old new source result = LineTaken old new (known old source.before) (known new source.after) source.faults_before source.faults_after result
 
--- the blocks that a line with this span asks for of the volume with this number, if any, and whether they only fill the cache
-abbrev pub ahead_by : ℕ → Bool → Span → Option Ahead
-ahead_by volume fills Nothing = None
-ahead_by volume fills (One id size) = Some (record { volume = volume; fills = fills; first = id; count = 1; size = size })
-ahead_by volume fills (Blocks first count size) = Some (record { volume = volume; fills = fills; first = first; count = count; size = size })
+-- the blocks that a line with this span asks for of the volume with this number, if any, with its time and its mark
+abbrev pub ahead_by : ℕ → Stamp → Span → Option Ahead
+ahead_by volume stamp Nothing = None
+ahead_by volume stamp (One id size) = Some (record { volume = volume; stamp = stamp; first = id; count = 1; size = size })
+ahead_by volume stamp (Blocks first count size) = Some (record { volume = volume; stamp = stamp; first = first; count = count; size = size })
 
 -- a reader whose last line asked for these blocks, or for nothing
 abbrev pub with_ahead_by : Reader → Option Ahead → Reader
@@ -197,6 +217,10 @@ pub record IsWhole (r : Reading) (trace : Requests) (dropped : ℕ) : Type 0 whe
 -- the requests that are still to come are all in the trace, and the dropped lines are this many in all
 abbrev pub LoadsAll : Reader → Option (List ℕ) → Requests → ℕ → Type 0
 LoadsAll reader left trace dropped = IfSome (known reader left) (λ bytes. IsWhole (to_come reader bytes) trace dropped)
+
+-- what is known of the objects at the end of the reading is what the reader has
+abbrev pub HasSeenAll : Reader → Option (List ℕ) → Reader → Type 0
+HasSeenAll old left new = IfSome (known old left) (λ bytes. (to_come old bytes).seen ≡ new.seen)
 
 -- no byte is left that the reader stands in
 abbrev pub LeavesNone : Reader → Reader → Device → Type 0

@@ -1,59 +1,63 @@
 //! What a line or a record asks for, by the form of the trace.
-ghost use Rattle.std.specs.Prelude.{◌≡◌, ◌≢◌, ◌+◌, ◌≤◌, ◌^◌, true, false, None, Some, length, IfOk, IfSome, IsSome, OnOk, OnErr};
+ghost use Rattle.std.specs.Prelude.{◌≡◌, ◌≢◌, ◌+◌, ◌≤◌, ◌^◌, true, false, None, Some, length, IfOk, IfSome, IsSome, OnOk, OnErr, ◌&&◌};
 ghost use Rattle.trace_any.specs.Readers.{with_named_by, number_by};
-ghost use Rattle.trace_any.specs.Readings.{IsFormat, NamesVolumes, content_named, has_records, text_content, whole_record};
+ghost use Rattle.trace_any.specs.Readings.{HasVolumes, IsFormat, IsLayout, NamesVolumes, at_time, content_named, has_records, is_of_records, text_content, time_of, untimed, untimed_content, whole_record};
 ghost use Rattle.trace_lines.specs.Lines.{IsSpan};
 ghost use Rattle.trace_any.specs.LineContent.{answer_of, named_of, volume_of};
 
-use crate::format::Format;
+use crate::format::{Format, Layout};
 use crate::volumes::Volumes;
-use bound_base::NoMemory;
+use bound_base::{NoMemory, NumFault};
 use std::alloc::Global;
 use trace_lines::{LineKind, Span, is_blank, trim_cr};
 use trace_msr::MsrLine;
 use trace_webcache::MarkedSpan;
 
-/// What a line asks for, the host and the disk of its volume, if its form names volumes, and whether its requests only
-/// fill the cache.
+/// What a line asks for, the host and the disk of its volume, if its form names volumes, its time, if times are asked for,
+/// and whether its own mark says that its requests only fill the cache.
 #[derive(Clone, Copy)]
 pub(crate) struct LineContent<'a> {
     pub span: Span,
     pub volume: Option<(&'a [u8], u64)>,
+    pub time: u64,
     pub fills: bool,
 }
 
 // What a line without a volume and a mark asks for.
 fn of_no_volume(span: Span) -> LineContent<'static>
-    ensures { result ≡ record { span = span; volume = None; fills = false } }
+    ensures { result ≡ record { span = span; volume = None; time = 0; fills = false } }
 {
     LineContent {
         span,
         volume: None,
+        time: 0,
         fills: false,
     }
 }
 
 // What a line with a mark and without a volume asks for.
 fn of_marked(line: MarkedSpan) -> LineContent<'static>
-    ensures { result ≡ record { span = line.span; volume = None; fills = line.fills } }
+    ensures { result ≡ record { span = line.span; volume = None; time = 0; fills = line.fills } }
 {
     LineContent {
         span: line.span,
         volume: None,
+        time: 0,
         fills: line.fills,
     }
 }
 
-// What a line of a form with volumes asks for.
-fn of_volume(line: MsrLine<'_>) -> LineContent<'_>
+// What a line of a form with volumes asks for, with its mark, if marks are looked at.
+fn of_volume(line: MsrLine<'_>, marks: bool) -> LineContent<'_>
     ensures span { result.span ≡ line.entry.span }
     ensures volume { volume_of result.volume ≡ Some (record { host = line.entry.host.now; disk = line.entry.disk }) }
-    ensures fills { result.fills ≡ line.entry.fills }
+    ensures stamp { (result.time ≡ 0) × (result.fills ≡ (marks && line.entry.fills)) }
 {
     LineContent {
         span: line.span,
         volume: Some((line.host, line.disk)),
-        fills: line.fills,
+        time: 0,
+        fills: marks && line.fills,
     }
 }
 
@@ -71,7 +75,67 @@ fn whole_record(bytes: &[u8]) -> Result<Span, LineKind>
     }
 }
 
-// What a line with a word or a record asks for.
+// The time of a record; a part of one has none.
+fn record_time(bytes: &[u8]) -> u64
+    ensures { time_of Layout.Oracle bytes.now ≡ Ok result }
+{
+    match <&[u8; 24]>::try_from(bytes) {
+        Ok(record) => trace_oracle::time(record),
+        Err(_) => 0,
+    }
+}
+
+// The time of a line with a word or of a record.
+fn time_of(layout: Layout, text: &[u8]) -> Result<u64, NumFault>
+    ensures { result ≡ time_of layout text.now }
+{
+    match layout {
+        Layout::Webcache | Layout::MarkedWebcache => trace_webcache::time(text),
+        Layout::Arc => Ok(0),
+        Layout::Msr { .. } | Layout::MsrReads { .. } => trace_msr::time(text),
+        Layout::Oracle => Ok(record_time(text)),
+    }
+}
+
+// What a line with a word or a record asks for, whatever its time.
+#[inline(always)]
+fn untimed_content(layout: Layout, text: &[u8]) -> Result<LineContent<'_>, LineKind>
+    requires layout { IsLayout layout }
+    requires records { is_of_records layout ≡ true → length text.now ≤ 24 }
+    ensures content { named_of result ≡ untimed_content layout text.now }
+    ensures range { IfOk result (λ content. IsSpan content.span) }
+    ensures volume { IfOk result (λ content. IfSome content.volume (λ _. HasVolumes layout)) }
+{
+    match layout {
+        Layout::Webcache => Ok(of_no_volume(trace_webcache::parse(text)?)),
+        Layout::MarkedWebcache => Ok(of_marked(trace_webcache::parse_marked(text)?)),
+        Layout::Arc => Ok(of_no_volume(trace_arc::parse(text)?)),
+        Layout::Msr { block } => Ok(of_volume(trace_msr::parse(text, block)?, false)),
+        Layout::MsrReads { block } => Ok(of_volume(trace_msr::parse(text, block)?, true)),
+        Layout::Oracle => Ok(of_no_volume(whole_record(text)?)),
+    }
+}
+
+// What a line asks for at this time. Too few words and a quote are refused before the time, and all else after it.
+fn at_time(
+    time: Result<u64, NumFault>,
+    said: Result<LineContent<'_>, LineKind>,
+) -> Result<LineContent<'_>, LineKind>
+    requires range { IfOk said (λ content. IsSpan content.span) }
+    ensures content { named_of result ≡ at_time time (named_of said.entry) }
+    ensures range { IfOk result (λ content. IsSpan content.span) }
+    ensures volume { IfOk result (λ content. IfOk said.entry (λ before. content.volume ≡ before.volume)) }
+{
+    match (time, said) {
+        (_, Err(LineKind::TooFewWords)) => Err(LineKind::TooFewWords),
+        (_, Err(LineKind::QuoteByte)) => Err(LineKind::QuoteByte),
+        (Err(_), _) => Err(LineKind::BadNumber { word: 1 }),
+        (Ok(_), Err(kind)) => Err(kind),
+        (Ok(time), Ok(content)) => Ok(LineContent { time, ..content }),
+    }
+}
+
+// What a line with a word or a record asks for. Its time is looked at only if objects expire.
 #[inline(always)]
 fn content_named(format: Format, text: &[u8]) -> Result<LineContent<'_>, LineKind>
     requires format { IsFormat format }
@@ -80,15 +144,11 @@ fn content_named(format: Format, text: &[u8]) -> Result<LineContent<'_>, LineKin
     ensures range { IfOk result (λ content. IsSpan content.span) }
     ensures volume { IfOk result (λ content. IfSome content.volume (λ _. NamesVolumes format)) }
 {
-    match format {
-        Format::Webcache => Ok(of_no_volume(trace_webcache::parse(text)?)),
-        Format::MarkedWebcache => Ok(of_marked(trace_webcache::parse_marked(text)?)),
-        Format::Arc => Ok(of_no_volume(trace_arc::parse(text)?)),
-        Format::Msr { block } | Format::MsrReads { block } => Ok(of_volume(trace_msr::parse(
-            text, block,
-        )?)),
-        Format::Oracle => Ok(of_no_volume(whole_record(text)?)),
+    let said = untimed_content(format.layout, text);
+    if format.fresh.idle.is_none() {
+        return said;
     }
+    at_time(time_of(format.layout, text), said)
 }
 
 /// What a record asks for, or the text of a line, if it has a word.

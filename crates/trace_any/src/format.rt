@@ -1,10 +1,12 @@
 //! The forms of a trace, and how much of one is read.
 ghost use Rattle.std.specs.Prelude.{◌≡◌};
-ghost use Rattle.trace_any.specs.Readings.{full_limits, has_records, is_marked};
+ghost use Rattle.trace_any.specs.Readings.{full_limits, has_records, is_marked, lasting};
 
-/// The form of a trace.
+use freshness::Freshness;
+
+/// How the lines or the records of a trace say what is asked for.
 #[derive(Clone, Copy, Debug, PartialEq, Eq)]
-pub enum Format {
+pub enum Layout {
     /// A line is a time, an id, a size in bytes, and any further words.
     Webcache,
     /// A line as of `Webcache` whose fourth word is its mark: `r` if its request counts, and `w` if it only fills the cache.
@@ -21,19 +23,40 @@ pub enum Format {
     Oracle,
 }
 
+/// The form of a trace: its layout, and how long its objects stay fresh. A request that is stale only fills the cache,
+/// whatever its own mark is.
+#[derive(Clone, Copy, Debug, PartialEq, Eq)]
+pub struct Format {
+    pub layout: Layout,
+    pub fresh: Freshness,
+}
+
 impl Format {
+    /// The form of this layout whose objects stay fresh forever.
+    pub const fn lasting(layout: Layout) -> Format
+        ensures { result ≡ lasting layout }
+    {
+        Format {
+            layout,
+            fresh: Freshness::forever(),
+        }
+    }
+
     /// Whether the form is one of records of 24 bytes, and not of lines.
     pub(crate) fn has_records(self) -> bool
         ensures { result ≡ has_records self }
     {
-        matches!(self, Format::Oracle)
+        matches!(self.layout, Layout::Oracle)
     }
 
-    /// Whether a line of the form says if its requests only fill the cache.
+    /// Whether some requests may only fill the cache: a line of the form says if its own do, or a request can be stale.
     pub fn is_marked(self) -> bool
         ensures { result ≡ is_marked self }
     {
-        matches!(self, Format::MarkedWebcache | Format::MsrReads { .. })
+        matches!(
+            self.layout,
+            Layout::MarkedWebcache | Layout::MsrReads { .. }
+        ) || self.fresh.can_end()
     }
 }
 

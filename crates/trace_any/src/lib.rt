@@ -1,6 +1,6 @@
 //! The requests of a source: its lines or its records in the form of a trace, whatever the pieces in which they come.
 //!
-//! The rules are "A line of a trace", "A record of an oracleGeneral trace", "The reading of a trace", "Volume" and "What is to come" in docs/DEFINITIONS.md.
+//! The rules are "A line of a trace", "A record of an oracleGeneral trace", "The reading of a trace", "Stale request", "Volume" and "What is to come" in docs/DEFINITIONS.md.
 #![tactic(auto)]
 
 mod content;
@@ -13,6 +13,7 @@ mod requests;
 mod volumes;
 
 pub use fault::TraceFault;
-pub use format::{Format, Limits};
+pub use format::{Format, Layout, Limits};
+pub use freshness::Freshness;
 pub use loading::{builder_for, load, push_given};
 pub use requests::RequestReader;

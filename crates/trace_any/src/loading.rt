@@ -5,7 +5,7 @@ ghost use Rattle.bound_io.specs.Reading.{LosesPrefix};
 ghost use Rattle.cache_rules.specs.Stored.{with_request};
 ghost use Rattle.trace_any.specs.FirstLines.{HasLostThrough, StopsNoFurther};
 ghost use Rattle.trace_any.specs.Readings.{is_marked};
-ghost use Rattle.trace_any.specs.Readers.{KeepsFault, LeavesNone, LoadsAll, LoadsNoMore, RefusesTrace, fresh, last_mark};
+ghost use Rattle.trace_any.specs.Readers.{HasSeenAll, KeepsFault, LeavesNone, LoadsAll, LoadsNoMore, RefusesTrace, fresh, last_mark};
 
 use crate::fault::TraceFault;
 use crate::requests::RequestReader;
@@ -56,6 +56,7 @@ pub fn load<S: Source>(
 ) -> Result<(Trace, u64), TraceFault>
     ensures whole { reader.old.fault ≡ None → IfOk result (λ loaded. LoadsAll reader.old (S.left source.old) loaded.0 loaded.1) }
     ensures end { reader.old.fault ≡ None → IfOk result (λ _. LeavesNone reader.old reader.new (seen S.left S.faults source.old source.new)) }
+    ensures seen_all { reader.old.fault ≡ None → IfOk result (λ _. HasSeenAll reader.old (S.left source.old) reader.new) }
     ensures refused { reader.old.fault ≡ None → IfErr result (RefusesTrace reader.old (seen S.left S.faults source.old source.new)) }
     ensures none_kept { OnOk result (reader.new.fault ≡ None) }
     ensures kept { reader.old.fault ≡ None → IfErr result (KeepsFault reader.old reader.new (seen S.left S.faults source.old source.new)) }

@@ -4,7 +4,7 @@ ghost use Rattle.bound_io.specs.Devices.{IsUntouched, seen};
 ghost use Rattle.bound_io.specs.Reading.{LosesPrefix};
 ghost use Rattle.std.specs.Option.{option_map};
 ghost use Rattle.trace_lines.specs.Lines.{IsSpan};
-ghost use Rattle.trace_any.specs.Readings.{IsFormat, NamesVolumes, is_marked};
+ghost use Rattle.trace_any.specs.Readings.{IsFormat, NamesVolumes, TakesMemory, is_marked};
 ghost use Rattle.trace_any.specs.Readers.{ahead_by, ahead_of};
 
 use crate::content::{content_of, number_of};
@@ -15,6 +15,7 @@ use crate::volumes::Volumes;
 use bound_base::NoMemory;
 use bound_io::{LineReader, Source};
 use cache_rules::Object;
+use freshness::SeenObjects;
 use std::alloc::Global;
 use std::marker::Model;
 use trace_lines::Span;
@@ -23,6 +24,7 @@ use trace_lines::Span;
 #[derive(Clone, Copy)]
 struct Range {
     volume: u32,
+    time: u64,
     fills: bool,
     first: u64,
     count: u64,
@@ -38,7 +40,10 @@ pub(crate) struct Progress {
     given: u32,
     dropped: u64,
     volumes: Volumes,
+    seen: SeenObjects,
     ahead: Range,
+    // Whether the last request was stale.
+    stale: bool,
 }
 
 impl Model for Progress {
@@ -55,7 +60,9 @@ impl Model for Progress {
       given = r.given;
       dropped = r.dropped;
       volumes = r.volumes;
+      seen = r.seen;
       ahead = ahead_of r.ahead;
+      stale = r.stale;
       fault = None;
     } };
 
@@ -63,14 +70,14 @@ impl Model for Progress {
         IsFormat r.format × (r.limits.requests ≤ 2 ^ 25) × (r.limits.bytes ≤ 2 ^ 36) × (r.lines.limit ≡ r.limits.bytes)
         × (r.lines.consumed ≤ r.limits.bytes) × (r.lines.line ≤ r.lines.consumed) × (length r.lines.held ≤ 65536)
         × (r.given ≤ r.limits.requests) × (r.dropped ≤ r.lines.line) × (length r.volumes ≤ r.given + 1)
-        × (r.ahead.count ≡ 0 → length r.volumes ≤ r.given)
+        × (r.ahead.count ≡ 0 → length r.volumes ≤ r.given) × (r.seen.late ≤ r.given) × (r.seen.stale ≤ r.given)
         × (1 ≤ r.ahead.count → (1 ≤ r.ahead.size) × (r.ahead.size ≤ 2 ^ 48) × (r.ahead.first + r.ahead.count ≤ 2 ^ 64)) };
 }
 
 // The blocks that a line asks for, if any.
-fn range_of(volume: u32, fills: bool, span: Span) -> Option<Range>
+fn range_of(volume: u32, time: u64, fills: bool, span: Span) -> Option<Range>
     requires { IsSpan span }
-    ensures ahead { option_map ahead_of result ≡ ahead_by volume fills span }
+    ensures ahead { option_map ahead_of result ≡ ahead_by volume (record { time = time; fills = fills }) span }
     ensures range { IfSome result (λ r. (1 ≤ r.count) × (1 ≤ r.size) × (r.size ≤ 2 ^ 48) × (r.first + r.count ≤ 2 ^ 64)) }
 {
     let (first, count, size) = match span {
@@ -80,6 +87,7 @@ fn range_of(volume: u32, fills: bool, span: Span) -> Option<Range>
     };
     Some(Range {
         volume,
+        time,
         fills,
         first,
         count,
@@ -89,7 +97,7 @@ fn range_of(volume: u32, fills: bool, span: Span) -> Option<Range>
 
 impl Progress {
     ghost use Rattle.trace_any.specs.FirstLines.{GivesFirstIn, GoesNoFurtherFrom, GoesToRequest, StopsNoFurther};
-    ghost use Rattle.trace_any.specs.Readers.{GivesFirst, GivesRequest, IsFull, ReadsNothing, TakesLine, fresh};
+    ghost use Rattle.trace_any.specs.Readers.{GivesFirst, GivesRequest, IsUngiven, ReadsNothing, TakesLine, fresh, last_fills};
 
     /// Nothing is read yet. The buffer is taken here.
     pub fn new(alloc: Global, format: Format, limits: Limits) -> Result<Self, NoMemory>
@@ -105,13 +113,16 @@ impl Progress {
             given: 0,
             dropped: 0,
             volumes: Volumes::new(alloc),
+            seen: SeenObjects::new(alloc),
             ahead: Range {
                 volume: 0,
+                time: 0,
                 fills: false,
                 first: 0,
                 count: 0,
                 size: 0,
             },
+            stale: false,
         })
     }
 
@@ -122,6 +133,13 @@ impl Progress {
         self.dropped
     }
 
+    /// What is known of the objects.
+    pub fn seen(&self) -> &SeenObjects
+        ensures { result.now ≡ self.now.seen }
+    {
+        &self.seen
+    }
+
     /// Whether the form of the trace has marks.
     pub fn is_marked(&self) -> bool
         ensures { result ≡ is_marked self.now.format }
@@ -129,11 +147,11 @@ impl Progress {
         self.format.is_marked()
     }
 
-    /// Whether the requests of the last line that asked for one only fill the cache, if the form has marks.
+    /// Whether the last request only fills the cache, by its own mark or since it is stale, if the form has marks.
     pub fn last_fills(&self) -> bool
-        ensures { result ≡ (is_marked self.now.format && self.now.ahead.fills) }
+        ensures { result ≡ (is_marked self.now.format && last_fills self.now) }
     {
-        self.format.is_marked() && self.ahead.fills
+        self.format.is_marked() && (self.ahead.fills || self.stale)
     }
 
     /// Whether the blocks that are left of the last line are more than there is room for.
@@ -177,7 +195,7 @@ impl Progress {
         if let Some(content) = content {
             let span = content.span;
             let volume = number_of(&mut self.volumes, alloc, &content)?;
-            match range_of(volume, content.fills, span) {
+            match range_of(volume, content.time, content.fills, span) {
                 Some(range) => self.ahead = range,
                 None => self.dropped += 1,
             }
@@ -185,7 +203,7 @@ impl Progress {
         Ok(true)
     }
 
-    // Gives the first of the blocks that are left.
+    // Gives the first of the blocks that are left, once it is noted what is known of it.
     fn give(&mut self) -> Result<Object, TraceFault>
         requires some { 0 < self.old.ahead.count }
         ensures still { ReadsNothing self.old self.new }
@@ -193,7 +211,7 @@ impl Progress {
         ensures size { IfOk result (λ x. (1 ≤ x.size) × (x.size ≤ 2 ^ 48)) }
         ensures given { IfOk result (GivesFirst self.old self.new) }
         ensures given_in { IfOk result (GivesFirstIn self.old self.new) }
-        ensures full { IfErr result (IsFull self.old self.new) }
+        ensures ungiven { IfErr result (IsUngiven self.old self.new) }
     {
         if self.given == self.limits.requests {
             return Err(TraceFault::TooManyRequests);
@@ -203,6 +221,7 @@ impl Progress {
             id: self.ahead.first,
             size: self.ahead.size,
         };
+        self.stale = self.seen.note(self.format.fresh, object, self.ahead.time)?;
         self.given += 1;
         self.ahead.first = self.ahead.first.saturating_add(1);
         self.ahead.count -= 1;
@@ -230,7 +249,7 @@ impl Progress {
         ensures else_none_failed { IfErr result (λ fault. (fault ≡ TraceFault.ReadFault) ⊎ (S.faults source.new ≡ S.faults source.old)) }
         ensures no_further { IfErr result (StopsNoFurther self.old self.new (seen S.left S.faults source.old source.new)) }
         ensures untouched { 0 < self.old.ahead.count → IsUntouched (seen S.left S.faults source.old source.new) }
-        ensures memory { IfErr result (λ fault. fault ≡ TraceFault.NoMemory → NamesVolumes self.old.format) }
+        ensures memory { IfErr result (λ fault. fault ≡ TraceFault.NoMemory → TakesMemory self.old.format) }
     {
         while self.ahead.count == 0 {
             if !self.take_line(alloc, source)? {

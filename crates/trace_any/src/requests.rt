@@ -2,7 +2,7 @@
 ghost use Rattle.std.specs.Prelude.{◌≡◌, ◌-◌, ◌≤◌, ◌<◌, ◌^◌, ◌&&◌, ◌⊎◌, None, Some, Err, IfOk, IfErr, IfSome, OnOk, length, nat_lt};
 ghost use Rattle.bound_io.specs.Devices.{IsUntouched, seen};
 ghost use Rattle.bound_io.specs.Reading.{LosesPrefix};
-ghost use Rattle.trace_any.specs.Readings.{IsFormat, NamesVolumes, is_marked};
+ghost use Rattle.trace_any.specs.Readings.{IsFormat, TakesMemory, is_marked};
 
 use crate::fault::TraceFault;
 use crate::format::{Format, Limits};
@@ -39,10 +39,10 @@ impl Model for RequestReader {
 
 impl RequestReader {
     ghost use Rattle.trace_any.specs.FirstLines.{GoesToRequest, StopsNoFurther};
-    ghost use Rattle.trace_any.specs.Readers.{AnswersAgain, GivesRequest, err_of, fresh, with_fault};
+    ghost use Rattle.trace_any.specs.Readers.{AnswersAgain, GivesRequest, err_of, fresh, last_fills, with_fault};
 
-    /// A reader of a trace of this form, within these limits. It takes its buffer here, and later memory for each volume
-    /// alone.
+    /// A reader of a trace of this form, within these limits. It takes its buffer here, and later memory for each volume, and
+    /// for each object and id if a request can be stale.
     pub fn new(alloc: Global, format: Format, limits: Limits) -> Result<Self, NoMemory>
         requires format { IsFormat format }
         requires requests { limits.requests ≤ 2 ^ 25 }
@@ -62,16 +62,31 @@ impl RequestReader {
         self.progress.dropped()
     }
 
-    /// Whether the form of the trace has marks, so that some requests may only fill the cache.
+    /// How many requests had a time below the clock before them, if objects expire.
+    pub fn late(&self) -> u64
+        ensures { result ≡ self.now.seen.late }
+    {
+        self.progress.seen().late()
+    }
+
+    /// How many requests were stale.
+    pub fn stale(&self) -> u64
+        ensures { result ≡ self.now.seen.stale }
+    {
+        self.progress.seen().stale()
+    }
+
+    /// Whether some requests may only fill the cache: the form of the trace has marks, or a request can be stale.
     pub fn is_marked(&self) -> bool
         ensures { result ≡ is_marked self.now.format }
     {
         self.progress.is_marked()
     }
 
-    /// Whether the request that `next` has just given only fills the cache. In a form without marks none does.
+    /// Whether the request that `next` has just given only fills the cache, by its own mark or since it is stale. In a form
+    /// without marks whose objects stay fresh none does.
     pub fn last_fills(&self) -> bool
-        ensures { result ≡ (is_marked self.now.format && self.now.ahead.fills) }
+        ensures { result ≡ (is_marked self.now.format && last_fills self.now) }
     {
         self.progress.last_fills()
     }
@@ -97,7 +112,7 @@ impl RequestReader {
         ensures else_none_failed { IfErr result (λ fault. (fault ≡ TraceFault.ReadFault) ⊎ (S.faults source.new ≡ S.faults source.old)) }
         ensures no_further { self.old.fault ≡ None → IfErr result (StopsNoFurther self.old self.new (seen S.left S.faults source.old source.new)) }
         ensures untouched { self.old.fault ≡ None → 0 < self.old.ahead.count → IsUntouched (seen S.left S.faults source.old source.new) }
-        ensures memory { self.old.fault ≡ None → IfErr result (λ fault. fault ≡ TraceFault.NoMemory → NamesVolumes self.old.format) }
+        ensures memory { self.old.fault ≡ None → IfErr result (λ fault. fault ≡ TraceFault.NoMemory → TakesMemory self.old.format) }
     {
         if let Some(fault) = self.fault {
             return Err(fault);

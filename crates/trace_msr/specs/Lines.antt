@@ -47,7 +47,7 @@ parts_of host (Ok disk) (Err kind) asked = Err kind
 parts_of host (Ok disk) (Ok fills) (Err kind) = Err kind
 parts_of host (Ok disk) (Ok fills) (Ok span) = Ok (record { host = host; disk = disk; span = span; fills = fills })
 
--- the parts of a line, which has no quote: its second field is the host, its third the disk, its fourth the type, its fifth the offset and its sixth the size in bytes, and the first and any further fields are not looked at
+-- the parts of a line, which has no quote: its second field is the host, its third the disk, its fourth the type, its fifth the offset and its sixth the size in bytes, and the first, a time, and any further fields say nothing of it
 abbrev pub line_parts : ℕ → List ℕ → Result Parts LineKind
 line_parts block line =
     let cells = fields line in
@@ -55,3 +55,7 @@ line_parts block line =
     else (if nat_lt (length cells) 6 then Err TooFewWords
     else parts_of (slice_index_or cells 1 []) (number_of (2 ^ 64) (slice_index_or cells 2 [])) (mark_of (slice_index_or cells 3 []))
     (span_of block (number_of (2 ^ 64) (slice_index_or cells 4 [])) (number_of (2 ^ 64) (slice_index_or cells 5 []))))
+
+-- the time of a line: its first field, if that is a number below 2^64
+abbrev pub line_time : List ℕ → Result ℕ NumFault
+line_time line = number_of (2 ^ 64) (slice_index_or (fields line) 0 [])

@@ -4,7 +4,9 @@
 #![tactic(auto)]
 
 mod blocks;
+mod clock;
 mod line;
 mod used;
 
+pub use clock::time;
 pub use line::{MsrLine, parse};

@@ -12,9 +12,13 @@ little_endian (byte ∷ more) = byte + 256 * little_endian more
 abbrev pub number_after : ℕ → ℕ → List ℕ → ℕ
 number_after place count bytes = little_endian (take count (drop place bytes))
 
--- what a record asks for: after 4 bytes of a time stand 8 of the id and 4 of the size; the last 8, the next access, are not looked at, nor is the time
+-- what a record asks for: after 4 bytes of a time stand 8 of the id and 4 of the size; the last 8, the next access, are not looked at, and the time says nothing of it
 abbrev pub record_span : List ℕ → Span
 record_span bytes =
     let id = number_after 4 8 bytes in
     let size = number_after 12 4 bytes in
     if size == 0 then Nothing else One id size
+
+-- the time of a record, its first 4 bytes
+abbrev pub record_time : List ℕ → ℕ
+record_time bytes = number_after 0 4 bytes

@@ -5,4 +5,4 @@
 
 mod record;
 
-pub use record::parse;
+pub use record::{parse, time};

@@ -1,7 +1,7 @@
 //! What a record asks for.
 ghost use Rattle.std.specs.Prelude.{◌≡◌};
 ghost use Rattle.trace_lines.specs.Lines.{IsSpan};
-ghost use Rattle.trace_oracle.specs.Records.{record_span};
+ghost use Rattle.trace_oracle.specs.Records.{record_span, record_time};
 
 use trace_lines::Span;
 
@@ -24,4 +24,11 @@ pub fn parse(bytes: &[u8; 24]) -> Span
             size: u64::from(size),
         }
     }
+}
+
+/// The time of the record, in whatever unit the trace has.
+pub fn time(bytes: &[u8; 24]) -> u64
+    ensures { result ≡ record_time bytes.now }
+{
+    u64::from(u32::from_le_bytes([bytes[0], bytes[1], bytes[2], bytes[3]]))
 }

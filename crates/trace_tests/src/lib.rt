@@ -28,6 +28,8 @@ mod trace_any_marks;
 #[cfg(test)]
 mod trace_any_requests;
 #[cfg(test)]
+mod trace_any_stale;
+#[cfg(test)]
 mod trace_arc_lines;
 #[cfg(test)]
 mod trace_lines_words;

@@ -7,7 +7,7 @@ use cache_rules::Object;
 use compared::{holds, same};
 use std::alloc::Global;
 use std::process::Abort;
-use trace_any::{Format, Limits, RequestReader, TraceFault, load};
+use trace_any::{Format, Layout, Limits, RequestReader, TraceFault, load};
 use trace_lines::LineKind;
 
 // What a load gives: how many requests and objects there are, and how many lines were dropped.
@@ -34,7 +34,7 @@ struct Part<'a> {
 fn check_part(rt: &impl Abort, alloc: Global, part: &Part<'_>) {
     holds(part.step, part.step >= 1).expect(rt, "a row");
     let mut source = source_of(rt, alloc, part.trace, part.failing, part.step);
-    let reader = RequestReader::new(alloc, Format::Webcache, Limits::full());
+    let reader = RequestReader::new(alloc, Format::lasting(Layout::Webcache), Limits::full());
     let mut reader = reader.expect(rt, "memory");
     for want in part.first {
         let given = gives(alloc, &mut reader, &mut source, *want);
@@ -117,7 +117,11 @@ const FEW: TraceFault = TraceFault::BadLine {
 #[test]
 fn a_calm_source_gives_no_fault(rt: HostRuntime) {
     let mut source = CalmSource::new(b"x".to_vec(rt.alloc()).expect(&rt, "memory"));
-    let reader = RequestReader::new(rt.alloc(), Format::Webcache, Limits::full());
+    let reader = RequestReader::new(
+        rt.alloc(),
+        Format::lasting(Layout::Webcache),
+        Limits::full(),
+    );
     let mut reader = reader.expect(&rt, "memory");
     let answer = next_calmly(rt.alloc(), &mut reader, &mut source);
     drop(reader);

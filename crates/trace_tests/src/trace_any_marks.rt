@@ -5,10 +5,10 @@ use cache_rules::{Object, Trace};
 use compared::{holds, same};
 use std::alloc::Global;
 use std::process::Abort;
-use trace_any::{Format, Limits, RequestReader, load};
+use trace_any::{Format, Layout, Limits, RequestReader, load};
 
-// A form, a trace of it, and of each request the volume, id and size, and whether it only fills.
-type Row = (Format, &'static [u8], &'static [(u32, u64, u64, bool)]);
+// A layout, a trace of it, and of each request the volume, id and size, and whether it only fills.
+type Row = (Layout, &'static [u8], &'static [(u32, u64, u64, bool)]);
 
 const LINES: &[u8] = b"1 7 4 r\n2 8 5 w and more\n3 7 4\tw\r\n\n4 8 5 r\n5 9 0 w\n6 7 4 r\n7 7 4 w";
 
@@ -18,7 +18,7 @@ const FIELDS: &[u8] =
 
 const ROWS: [Row; 4] = [
     (
-        Format::MarkedWebcache,
+        Layout::MarkedWebcache,
         LINES,
         &[
             (0, 7, 4, false),
@@ -30,7 +30,7 @@ const ROWS: [Row; 4] = [
         ],
     ),
     (
-        Format::Webcache,
+        Layout::Webcache,
         LINES,
         &[
             (0, 7, 4, false),
@@ -42,7 +42,7 @@ const ROWS: [Row; 4] = [
         ],
     ),
     (
-        Format::MsrReads { block: 4096 },
+        Layout::MsrReads { block: 4096 },
         FIELDS,
         &[
             (1, 0, 4096, false),
@@ -54,7 +54,7 @@ const ROWS: [Row; 4] = [
         ],
     ),
     (
-        Format::Msr { block: 4096 },
+        Layout::Msr { block: 4096 },
         FIELDS,
         &[
             (1, 0, 4096, false),
@@ -86,7 +86,7 @@ fn object_of(wanted: (u32, u64, u64, bool)) -> Object {
 // Each request of the row by a reader, and its mark after it.
 fn check_reader(rt: &impl Abort, alloc: Global, row: &Row) {
     let mut source = source_of(rt, alloc, row.1);
-    let mut reader = reader_of(rt, alloc, row.0);
+    let mut reader = reader_of(rt, alloc, Format::lasting(row.0));
     for (place, wanted) in row.2.iter().enumerate() {
         let found = reader.next(alloc, &mut source);
         holds(place, found == Ok(Some(object_of(*wanted)))).expect(rt, "a request");
@@ -108,7 +108,7 @@ fn a_reader_has_the_mark_of_each_request(rt: HostRuntime) {
 // What is loaded of the row.
 fn loaded(rt: &impl Abort, alloc: Global, row: &Row) -> Trace {
     let mut source = source_of(rt, alloc, row.1);
-    let mut reader = reader_of(rt, alloc, row.0);
+    let mut reader = reader_of(rt, alloc, Format::lasting(row.0));
     let (trace, dropped) = load(alloc, &mut reader, &mut source).expect(rt, "memory");
     drop(reader);
     drop(source);

@@ -1,13 +1,13 @@
 //! `trace_any`: requests over sources in memory. The expected requests and refusals were made by hand.
 ghost use Rattle.std.specs.Prelude.{◌≡◌, ◌≤◌, ◌^◌, true};
-ghost use Rattle.trace_any.specs.Readings.{IsFormat};
+ghost use Rattle.trace_any.specs.Readings.{IsFormat, IsLayout};
 
 use bound_io::MemSource;
 use cache_rules::Object;
 use compared::{holds, same};
 use std::alloc::Global;
 use std::process::Abort;
-use trace_any::{Format, Limits, RequestReader, TraceFault};
+use trace_any::{Format, Layout, Limits, RequestReader, TraceFault};
 use trace_lines::LineKind;
 
 const STEPS: [usize; 6] = [1, 2, 7, 65535, 65536, 65537];
@@ -15,7 +15,7 @@ const STEPS: [usize; 6] = [1, 2, 7, 65535, 65536, 65537];
 // A form and a trace of it, the limits of its reading, the volumes, ids and sizes of the requests, and how it ends.
 #[derive(Clone, Copy)]
 pub struct Row<'a> {
-    pub format: Format,
+    pub layout: Layout,
     pub trace: &'a [u8],
     pub requests: u32,
     pub bytes: u64,
@@ -25,7 +25,7 @@ pub struct Row<'a> {
 }
 
 const PAIR: Row<'static> = Row {
-    format: Format::Webcache,
+    layout: Layout::Webcache,
     trace: b"1 7 4\n2 7 4\n",
     requests: 1000,
     bytes: 1000000,
@@ -113,7 +113,7 @@ const REFUSED_ROWS: [Row<'static>; 8] = [
 ];
 
 const ARC: Row<'static> = Row {
-    format: Format::Arc,
+    layout: Layout::Arc,
     trace: b"10 3 0 1\n11 2 0 2\n",
     given: &[
         [0, 10, 512],
@@ -165,7 +165,7 @@ const ARC_ROWS: [Row<'static>; 5] = [
 ];
 
 const MSR: Row<'static> = Row {
-    format: Format::Msr { block: 4096 },
+    layout: Layout::Msr { block: 4096 },
     trace: b"1,h,0,read,0,4096,9\n2,h,1,WRITE,0,4096\n3,h,0,Read,0,0,9\n",
     given: &[[1, 0, 4096], [2, 0, 4096]],
     dropped: 1,
@@ -229,7 +229,7 @@ const MSR_ROWS: [Row<'static>; 7] = [
         ..MSR
     },
     Row {
-        format: Format::Msr { block: 1 },
+        layout: Layout::Msr { block: 1 },
         trace: b"1,h,0,Read,18446744073709551614,2\n1,h,0,Read,18446744073709551615,2",
         given: &[[1, 18446744073709551614, 1], [1, 18446744073709551615, 1]],
         dropped: 0,
@@ -243,7 +243,7 @@ const MSR_ROWS: [Row<'static>; 7] = [
 
 // Marked lines, of which the last is refused.
 const MARKED: Row<'static> = Row {
-    format: Format::MarkedWebcache,
+    layout: Layout::MarkedWebcache,
     trace: b"1 7 4 r\n2 7 4 w\n3 7 0 w\n4 7 4\n",
     dropped: 1,
     end: Err(TraceFault::BadLine {
@@ -270,8 +270,8 @@ const MARKED_ROWS: [Row<'static>; 2] = [
 pub fn is_format(format: Format) -> bool
     ensures { result ≡ true → IsFormat format }
 {
-    let block = match format {
-        Format::Msr { block } | Format::MsrReads { block } => block,
+    let block = match format.layout {
+        Layout::Msr { block } | Layout::MsrReads { block } => block,
         _ => 1,
     };
     block >= 1 && block <= 1 << 48
@@ -279,9 +279,9 @@ pub fn is_format(format: Format) -> bool
 
 // Whether the form and the limits are such that a reader takes.
 fn is_readable(row: &Row<'_>) -> bool
-    ensures { result ≡ true → IsFormat row.now.format × (row.now.requests ≤ 2 ^ 25) × (row.now.bytes ≤ 2 ^ 36) }
+    ensures { result ≡ true → IsLayout row.now.layout × (row.now.requests ≤ 2 ^ 25) × (row.now.bytes ≤ 2 ^ 36) }
 {
-    is_format(row.format) && row.requests <= 1 << 25 && row.bytes <= 1 << 36
+    is_format(Format::lasting(row.layout)) && row.requests <= 1 << 25 && row.bytes <= 1 << 36
 }
 
 /// Whether this is the next answer.
@@ -341,7 +341,9 @@ pub fn check_at(rt: &impl Abort, alloc: Global, row: &Row<'_>, step: usize)
         bytes: row.bytes,
     };
     let mut source = source_of(rt, alloc, row.trace, 0, step);
-    let mut reader = RequestReader::new(alloc, row.format, limits).expect(rt, "memory");
+    let mut reader = RequestReader::new(alloc, Format::lasting(row.layout), limits).expect(
+        rt, "memory",
+    );
     check_answers(rt, alloc, &mut reader, &mut source, row, step);
     drop(reader);
     drop(source);

@@ -7,11 +7,11 @@ use bound_io::MemSource;
 use compared::same;
 use std::alloc::Global;
 use std::process::Abort;
-use trace_any::{Format, Limits, RequestReader, TraceFault, load};
+use trace_any::{Format, Layout, Limits, RequestReader, TraceFault, load};
 use trace_lines::{LineKind, Span};
 
 const PAIR: Row<'static> = Row {
-    format: Format::Oracle,
+    layout: Layout::Oracle,
     trace: b"\x01\0\0\0\x07\0\0\0\0\0\0\0\x04\0\0\0\x01\0\0\0\0\0\0\0\
 \x02\0\0\0\x07\0\0\0\0\0\0\0\x04\0\0\0\xff\xff\xff\xff\xff\xff\xff\xff",
     requests: 1000,
@@ -119,7 +119,7 @@ fn loaded_at(
 {
     let bytes = trace.to_vec(alloc).expect(rt, "memory");
     let mut source = MemSource::new(bytes, Vec::new(alloc), step);
-    let reader = RequestReader::new(alloc, Format::Oracle, Limits::full());
+    let reader = RequestReader::new(alloc, Format::lasting(Layout::Oracle), Limits::full());
     let mut reader = reader.expect(rt, "memory");
     let loaded = load(alloc, &mut reader, &mut source);
     drop(reader);

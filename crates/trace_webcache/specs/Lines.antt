@@ -20,7 +20,7 @@ span_of (Err fault) size = Err (BadNumber 2)
 span_of (Ok id) (Err fault) = Err (BadNumber 3)
 span_of (Ok id) (Ok size) = if nat_lt (2 ^ 48) size then Err SizeTooLarge else (if size == 0 then Ok Nothing else Ok (One id size))
 
--- what a line asks for: its second word is the id and its third the size, each below 2^64, and the first, a time, and any further words are not looked at
+-- what a line asks for: its second word is the id and its third the size, each below 2^64, and the first, a time, and any further words say nothing of it
 abbrev pub line_span : List ℕ → Result Span LineKind
 line_span line =
     let parts = words line in
@@ -42,3 +42,7 @@ abbrev pub marked_span : List ℕ → Result MarkedSpan LineKind
 marked_span line =
     let parts = words line in
     if nat_lt (length parts) 4 then Err TooFewWords else with_mark (line_span line) (mark_of (slice_index_or parts 3 []))
+
+-- the time of a line: its first word, if that is a number below 2^64
+abbrev pub line_time : List ℕ → Result ℕ NumFault
+line_time line = number_of (2 ^ 64) (slice_index_or (words line) 0 [])

@@ -3,7 +3,9 @@
 //! The rule is "A line of a webcache trace" in docs/DEFINITIONS.md.
 #![tactic(auto)]
 
+mod clock;
 mod line;
 mod number;
 
+pub use clock::time;
 pub use line::{MarkedSpan, parse, parse_marked};

@@ -3,13 +3,13 @@ use bound_run::Plan;
 use bound_terms::{Mode, Window};
 use cache_rules::Objective;
 use relaxation::DenominatorChoice;
-use trace_any::Format;
+use trace_any::{Format, Layout};
 
 // Words that ask for bounds, and what they ask for.
 #[derive(Clone, Copy)]
 pub(super) struct Bounds<'a> {
     pub(super) text: &'a str,
-    pub(super) format: Format,
+    pub(super) layout: Layout,
     pub(super) capacity: u64,
     pub(super) objective: Objective,
     pub(super) mode: Mode,
@@ -19,7 +19,7 @@ pub(super) struct Bounds<'a> {
 impl Bounds<'_> {
     pub(super) fn plan(&self) -> Plan<'static> {
         Plan::Bounds {
-            format: self.format,
+            format: Format::lasting(self.layout),
             capacity: self.capacity,
             objective: self.objective,
             mode: self.mode,
@@ -33,7 +33,7 @@ impl Bounds<'_> {
 
 pub(super) const INFINITE: Bounds<'static> = Bounds {
     text: "bounds t c format=webcache capacity=1 mode=infinite",
-    format: Format::Webcache,
+    layout: Layout::Webcache,
     capacity: 1,
     objective: Objective::Object,
     mode: Mode::Infinite,
@@ -42,7 +42,7 @@ pub(super) const INFINITE: Bounds<'static> = Bounds {
 
 pub(super) const FLOW: Bounds<'static> = Bounds {
     text: "bounds t c format=arc capacity=1",
-    format: Format::Arc,
+    layout: Layout::Arc,
     mode: Mode::Flow {
         window: Window::All,
     },
@@ -117,59 +117,59 @@ pub(super) const TAKEN: [Bounds<'static>; 38] = [
     },
     Bounds {
         text: "bounds t c format=arc capacity=1 mode=infinite",
-        format: Format::Arc,
+        layout: Layout::Arc,
         ..INFINITE
     },
     Bounds {
         text: "bounds t c mode=infinite capacity=1 format=arc",
-        format: Format::Arc,
+        layout: Layout::Arc,
         ..INFINITE
     },
     Bounds {
         text: "bounds t c format=msr capacity=1 mode=infinite",
-        format: Format::Msr { block: 4096 },
+        layout: Layout::Msr { block: 4096 },
         ..INFINITE
     },
     Bounds {
         text: "bounds t c mode=infinite capacity=1 format=msr",
-        format: Format::Msr { block: 4096 },
+        layout: Layout::Msr { block: 4096 },
         ..INFINITE
     },
     Bounds {
         text: "bounds t c format=msr block=8192 capacity=1 mode=infinite",
-        format: Format::Msr { block: 8192 },
+        layout: Layout::Msr { block: 8192 },
         ..INFINITE
     },
     Bounds {
         text: "bounds t c block=8192 format=msr capacity=1 mode=infinite",
-        format: Format::Msr { block: 8192 },
+        layout: Layout::Msr { block: 8192 },
         ..INFINITE
     },
     Bounds {
         text: "bounds t c block=8192 capacity=1 mode=infinite format=msr",
-        format: Format::Msr { block: 8192 },
+        layout: Layout::Msr { block: 8192 },
         ..INFINITE
     },
     Bounds {
         text: "bounds t c format=msr capacity=1 mode=infinite block=0512",
-        format: Format::Msr { block: 512 },
+        layout: Layout::Msr { block: 512 },
         ..INFINITE
     },
     Bounds {
         text: "bounds t c format=msr block=1 capacity=1 mode=infinite",
-        format: Format::Msr { block: 1 },
+        layout: Layout::Msr { block: 1 },
         ..INFINITE
     },
     Bounds {
         text: "bounds t c format=msr block=281474976710655 capacity=1 mode=infinite",
-        format: Format::Msr {
+        layout: Layout::Msr {
             block: (1 << 48) - 1,
         },
         ..INFINITE
     },
     Bounds {
         text: "bounds t c format=msr block=281474976710656 capacity=1 mode=infinite",
-        format: Format::Msr { block: 1 << 48 },
+        layout: Layout::Msr { block: 1 << 48 },
         ..INFINITE
     },
     Bounds {

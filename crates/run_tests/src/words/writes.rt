@@ -6,7 +6,7 @@ use bound_run::Plan;
 use bound_terms::{Mode, WordKind};
 use cache_rules::Objective;
 use relaxation::DenominatorChoice;
-use trace_any::Format;
+use trace_any::{Format, Layout};
 
 // Words of bounds, and whether they ask for written bytes.
 const BOUNDS: [(&str, bool); 3] = [
@@ -28,7 +28,7 @@ const BOUNDS: [(&str, bool); 3] = [
 fn bounds_may_ask_for_written_bytes(rt: HostRuntime) {
     for (text, writes) in &BOUNDS {
         let plan = Plan::Bounds {
-            format: Format::Webcache,
+            format: Format::lasting(Layout::Webcache),
             capacity: 10,
             objective: Objective::Object,
             mode: Mode::Infinite,
@@ -69,7 +69,7 @@ const REPLAYS: [(&str, bool, bool); 4] = [
 fn replays_may_ask_for_written_bytes_or_flags(rt: HostRuntime) {
     for (text, writes, flags) in &REPLAYS {
         let plan = Plan::Replay {
-            format: Format::Arc,
+            format: Format::lasting(Layout::Arc),
             capacity: 2,
             policy: PolicyName::Fifo,
             warmup: 3,
@@ -90,7 +90,7 @@ const JUDGEMENTS: [(&str, bool); 2] = [
 fn judgements_may_ask_for_written_bytes(rt: HostRuntime) {
     for (text, writes) in &JUDGEMENTS {
         let plan = Plan::Judge {
-            format: Format::Arc,
+            format: Format::lasting(Layout::Arc),
             capacity: 7,
             warmup: 0,
             writes: *writes,

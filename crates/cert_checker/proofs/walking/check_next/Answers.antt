@@ -7,7 +7,7 @@ use Rattle.cert_checker.specs.declared.invalid.InvalidKind.TheVariants.{RequestC
 use Rattle.cert_checker.specs.declared.walking.CheckFault.TheVariants.{Invalid}
 use Rattle.cert_checker.specs.Checks.{Inputs, seen_inputs, IsFailing, StandsForAll, fault_at}
 use Rattle.cache_rules.specs.Stored.{with_request}
-use Rattle.trace_any.specs.Readers.{last_mark}
+use Rattle.trace_any.specs.Readers.{last_fills, last_mark}
 use Rattle.trace_any.specs.Readings.{is_marked}
 use Rattle.cert_format.proofs.Taken.{same_taken}
 use Rattle.cert_checker.proofs.Losses.{keeps}
@@ -110,7 +110,7 @@ returns-clause-in_step g c =
         some = (
           with_request s.some.0 x (last_mark c.next.new.self),
           s.some.1 ++ r ∷ [],
-          AreMarked-next (is_marked c.next.new.self.format) c.next.new.self.ahead.fills s.some.0 x (marked_now s.some.0 s.some.2 c.in_ok-object.ensures.format),
+          AreMarked-next (is_marked c.next.new.self.format) (last_fills c.next.new.self) s.some.0 x (marked_now s.some.0 s.some.2 c.in_ok-object.ensures.format),
           subst (λ k. StandsForAll k (with_request s.some.0 x (last_mark c.next.new.self)) (s.some.1 ++ r ∷ []) c.step.new.checker) (sym more.header) more,
         );
       },

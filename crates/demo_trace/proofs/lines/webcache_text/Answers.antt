@@ -1,8 +1,7 @@
 use Rattle.std.proofs.Common.{◌≡◌, ◌+◌, ◌∙◌, ◌++◌, Some, ap, arith, sym}
 use Rattle.cache_model.specs.Claim.{request_at}
 use Rattle.cache_model.specs.Texts.{line}
-use Rattle.trace_any.specs.declared.format.Format.TheVariants.{Webcache}
-use Rattle.trace_any.specs.Readings.{full_limits, reading}
+use Rattle.trace_any.specs.Readings.{full_limits, reading, webcache_form}
 use Rattle.demo_trace.specs.Lines.{webcache_line, webcache_text}
 use Rattle.demo_trace.proofs.Growing.{all_written, next_line}
 use Rattle.demo_trace.proofs.ReadBack.{written_read}
@@ -22,4 +21,4 @@ pub returns-clause-read : goal.returns-clause-read
 returns-clause-read c = λ each.
     let trace = c.args.trace.now.objects in
     let whole = all_written c.loop-t.text.items (webcache_text trace) trace c.loop-t.t (omega (arith, c.loop-t-test.false, c.len-t-end.ensures.requests)) c.loop-t.invariant in
-    ap (reading Webcache full_limits) whole ∙ written_read trace (omega (arith, c.len-t-end.ensures)) each
+    ap (reading webcache_form full_limits) whole ∙ written_read trace (omega (arith, c.len-t-end.ensures)) each

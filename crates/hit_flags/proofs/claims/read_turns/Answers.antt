@@ -1,4 +1,4 @@
-use Rattle.std.proofs.Common.{◌≡◌, ◌+◌, ◌∙◌, refl, length, IfSome, ap, subst, arith, length-append, Some, None, [], ◌∷◌, ◌++◌}
+use Rattle.std.proofs.Common.{◌≡◌, ◌+◌, ◌∙◌, ℕ, List, Option, refl, sym, length, IfSome, ap, subst, arith, length-append, Some, None, [], ◌∷◌, ◌++◌}
 use Rattle.std.proofs.lemmas.Result.{err_from_is_err_and}
 use Rattle.bit_list.specs.Bits.{bits_of}
 use Rattle.bound_io.specs.Devices.{seen}
@@ -9,12 +9,12 @@ use Rattle.cache_rules.specs.Stored.{with_request}
 use Rattle.trace_any.specs.FirstLines.{HasLostFor}
 use Rattle.trace_any.specs.Readings.{full_limits}
 use Rattle.hit_flags.specs.Lines.{nothing_read}
-use Rattle.trace_any.proofs.Stopping.{given_more, rests_after, stands_then, through_given}
-use Rattle.trace_any.proofs.Coming.{after_all, loads_all, loads_more, loads_to_end}
+use Rattle.trace_any.proofs.Stopping.{given_more, nothing_given, rests_after, stands_then, through_given}
+use Rattle.trace_any.proofs.Coming.{after_all, goes_nowhere, loses_nothing, loads_all, loads_more, loads_to_end}
 use Rattle.trace_any.proofs.Loads.{from_start, nothing_left}
 use Rattle.trace_any.proofs.Lost.{lost_through}
-use Rattle.hit_flags.proofs.Ends.{all_flags, flag_unread, more_flags, more_unread, none_follows, one_follows, over_at_end, trace_unread}
-use Rattle.hit_flags.proofs.Near.{lost_all, lost_flags, lost_given, lost_lines, near_turn, past_then}
+use Rattle.hit_flags.proofs.Ends.{HasFlags, all_flags, flag_unread, more_flags, more_unread, no_flags, none_follows, one_follows, over_at_end, stands_in-nothing, trace_unread}
+use Rattle.hit_flags.proofs.Near.{lost_all, lost_flags, lost_given, lost_lines, near_turn, past_nothing, past_then}
 use Rattle.hit_flags.proofs.claims.read_turns.Goals as goal
 
 pub returns-in_err-object-clause-unread : goal.returns-in_err-object-clause-unread
@@ -57,6 +57,34 @@ returns-in_err-push_given-clause-trace_source g c = loses_then _ _ _ (c.next.ens
 
 pub returns-in_err-push_given-clause-hits_source : goal.returns-in_err-push_given-clause-hits_source
 returns-in_err-push_given-clause-hits_source g c = loses_then _ _ _ (c.flag_for.ensures.source.0) (c.loop-flags.invariant.hits_source) (c.flag_for.ensures.source.1)
+
+pub loop-flags-init : goal.loop-flags-init
+loop-flags-init g c =
+    let reader = c.args.reader.now in
+    let lines = c.args.lines.now in
+    let left = g.H.Source.left c.args.hits.now in
+    let empty : c.in_ok-requests.requests.requests ≡ record { objects = []; fills = [] } = ap (λ b. b.requests) c.in_ok-requests.ensures in
+    record {
+      format = refl;
+      kept = ap (λ b. b.marks) c.in_ok-requests.ensures;
+      limits = ap (λ r. r.limits) c.requires.reader;
+      fault = ap (λ r. r.fault) c.requires.reader;
+      given = rw empty (ap (λ r. r.given) c.requires.reader);
+      few = rw empty (omega arith);
+      goes_on = goes_nowhere reader c.in_ok-requests.requests.requests.objects c.in_ok-requests.requests.requests.fills _ (ap (λ r. r.objects) empty) (ap (λ r. r.fills) empty);
+      given_all = nothing_given reader c.in_ok-requests.requests.requests _ empty;
+      flags_past = past_nothing lines left c.requires.lines;
+      flags_held = omega (arith, ap (λ l. length l.held) c.requires.lines);
+      going = (ap (λ l. l.limit) c.requires.lines, ap (λ l. l.fault) c.requires.lines);
+      line = rw empty (ap (λ l. l.line) c.requires.lines);
+      as_many = rw (c.new-flags.ensures, empty) refl;
+      flagged = rw c.new-flags.ensures
+          (subst (λ (o : Option (List ℕ)). IfSome left (λ text. HasFlags [] lines text o)) (sym (stands_in-nothing left) ∙ ap (λ l. stands_in l.held left) (sym c.requires.lines)) (no_flags lines left (ap (λ l. l.consumed) c.requires.lines)));
+      trace_source = loses_nothing (g.T.Source.left c.args.trace.now);
+      hits_source = loses_nothing left;
+      trace_faults = refl;
+      hits_faults = refl;
+    }
 
 pub loop-flags-preserved : goal.loop-flags-preserved
 loop-flags-preserved g c =

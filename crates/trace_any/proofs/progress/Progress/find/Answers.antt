@@ -1,11 +1,10 @@
 use Rattle.std.proofs.Common.{◌∙◌, refl, [], arith, ap}
 use Rattle.bound_io.proofs.KnownLemmas.{loses_then}
 use Rattle.bound_io.specs.Devices.{seen}
-use Rattle.trace_any.specs.declared.fault.TraceFault.TheVariants.{TooManyRequests}
 use Rattle.trace_any.specs.FirstLines.{StopsNoFurther}
 use Rattle.trace_any.specs.Readers.{last_mark}
 use Rattle.trace_any.proofs.Coming.{goes_nowhere, goes_then, loses_nothing}
-use Rattle.trace_any.proofs.Stopping.{of_fault, stands_as, stands_then, through_of}
+use Rattle.trace_any.proofs.Stopping.{not_past_ungiven, of_fault, stands_as, stands_then, through_of}
 use Rattle.trace_any.proofs.Through.{no_further_given, no_further_then, no_further_yet, rests_on}
 use Rattle.trace_any.proofs.progress.Progress.find.Goals as goal
 
@@ -73,5 +72,6 @@ returns-in_err-give-clause-no_further g c =
     let second = c.loop-self.self in
     let third = c.give.new.self in
     let still = c.give.ensures.still in
-    of_fault c.from_residual-in_err-give.result TooManyRequests (StopsNoFurther first third (seen g.S.Source.left g.S.Source.faults c.args.source.now c.loop-self.source)) (rw (c.in_err-give.ensures.full.0) at c.from_residual-in_err-give.ensures.1)
-    (tt, stands_then (λ s. s) first second third _ _ _ (λ s. (refl, refl, refl)) (rests_on first second _ _ i.goes_on) (through_of _ _ _ _ i.lines) (stands_as second third _ still.2 still.3))
+    let fault = c.in_err-give.field-0.0 in
+    of_fault c.from_residual-in_err-give.result fault (StopsNoFurther first third (seen g.S.Source.left g.S.Source.faults c.args.source.now c.loop-self.source)) c.from_residual-in_err-give.ensures.1
+    (not_past_ungiven second third fault c.in_err-give.ensures.ungiven, stands_then (λ s. s) first second third _ _ _ (λ s. (refl, refl, refl)) (rests_on first second _ _ i.goes_on) (through_of _ _ _ _ i.lines) (stands_as second third _ still.2 still.3))

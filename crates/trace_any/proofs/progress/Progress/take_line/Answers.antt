@@ -17,7 +17,7 @@ use Rattle.trace_any.proofs.progress.Progress.take_line.Goals as goal
 
 -- the blocks of the code, as those of the reader
 abbrev range_ahead : Range → Ahead
-range_ahead r = record { volume = r.volume; fills = r.fills; first = r.first; count = r.count; size = r.size }
+range_ahead r = record { volume = r.volume; stamp = record { time = r.time; fills = r.fills }; first = r.first; count = r.count; size = r.size }
 
 pub returns-in_err-text-clause-taken : goal.returns-in_err-text-clause-taken
 returns-in_err-text-clause-taken g c =
@@ -57,7 +57,7 @@ returns-in-Some-range_of-clause-taken g c =
     let said = sym (c.content_of.ensures.content_named) ∙ (ap answer_of c.in-Ok.is ∙ ap (λ w. answer_of (Ok w)) c.in-Some-content.is) in
     let goes = goes_asked s l (content_by content) _ _ _ said none takes in
     let moved = with_lines s l in
-    let new = is_asked moved (volume_of content.volume) content.fills content.span _ _ _ (c.in_ok-volume.ensures.number) (c.in_ok-volume.ensures.volumes) (sym (c.range_of.ensures.ahead) ∙ ap (option_map range_ahead) c.in-Some-range_of.is) in
+    let new = is_asked moved (volume_of content.volume) (record { time = content.time; fills = content.fills }) content.span _ _ _ (c.in_ok-volume.ensures.number) (c.in_ok-volume.ensures.volumes) (sym (c.range_of.ensures.ahead) ∙ ap (option_map range_ahead) c.in-Some-range_of.is) in
     subst (λ r. (r.lines.consumed < l.consumed) × IfSome (known r (g.S.Source.left c.args.source.now)) (λ bytes. GoesOn (λ x. x) r (with_ahead_by (record moved { volumes = c.number_of.new.volumes }) (Some (range_ahead c.in-Some-range_of.range))) bytes (known moved (g.S.Source.left c.next_piece.new.source)))) is
     ((is_given _ _ _ _ _ gives).some, subst (λ n. IfSome (known s (g.S.Source.left c.args.source.now)) (λ bytes. GoesOn (λ x. x) s n bytes (known moved (g.S.Source.left c.next_piece.new.source)))) new goes)
 
@@ -74,7 +74,7 @@ returns-in-None-clause-taken g c =
     let said = sym (c.content_of.ensures.content_named) ∙ (ap answer_of c.in-Ok.is ∙ ap (λ w. answer_of (Ok w)) c.in-Some-content.is) in
     let goes = goes_asked s l (content_by content) _ _ _ said none takes in
     let moved = with_lines s l in
-    let new = is_asked moved (volume_of content.volume) content.fills content.span _ _ _ (c.in_ok-volume.ensures.number) (c.in_ok-volume.ensures.volumes) (sym (c.range_of.ensures.ahead) ∙ ap (option_map range_ahead) c.in-None.is) in
+    let new = is_asked moved (volume_of content.volume) (record { time = content.time; fills = content.fills }) content.span _ _ _ (c.in_ok-volume.ensures.number) (c.in_ok-volume.ensures.volumes) (sym (c.range_of.ensures.ahead) ∙ ap (option_map range_ahead) c.in-None.is) in
     subst (λ r. (r.lines.consumed < l.consumed) × IfSome (known r (g.S.Source.left c.args.source.now)) (λ bytes. GoesOn (λ x. x) r (with_ahead_by (record moved { volumes = c.number_of.new.volumes }) None) bytes (known moved (g.S.Source.left c.next_piece.new.source)))) is
     ((is_given _ _ _ _ _ gives).some, subst (λ n. IfSome (known s (g.S.Source.left c.args.source.now)) (λ bytes. GoesOn (λ x. x) s n bytes (known moved (g.S.Source.left c.next_piece.new.source)))) new goes)
 
@@ -106,7 +106,7 @@ returns-in-Some-range_of-clause-lines g c =
     let said = sym (c.content_of.ensures.content_named) ∙ (ap answer_of c.in-Ok.is ∙ ap (λ w. answer_of (Ok w)) c.in-Some-content.is) in
     let goes = through_asked s l (content_by content) _ _ said none reads in
     let moved = with_lines s l in
-    let new = is_asked moved (volume_of content.volume) content.fills content.span _ _ _ (c.in_ok-volume.ensures.number) (c.in_ok-volume.ensures.volumes) (sym (c.range_of.ensures.ahead) ∙ ap (option_map range_ahead) c.in-Some-range_of.is) in
+    let new = is_asked moved (volume_of content.volume) (record { time = content.time; fills = content.fills }) content.span _ _ _ (c.in_ok-volume.ensures.number) (c.in_ok-volume.ensures.volumes) (sym (c.range_of.ensures.ahead) ∙ ap (option_map range_ahead) c.in-Some-range_of.is) in
     λ _. subst (λ r. IfSome (known r (g.S.Source.left c.args.source.now)) (GoesNoFurther (λ x. x) r (with_ahead_by (record moved { volumes = c.number_of.new.volumes }) (Some (range_ahead c.in-Some-range_of.range))))) is
     (subst (λ n. IfSome (known s (g.S.Source.left c.args.source.now)) (GoesNoFurther (λ x. x) s n)) new goes)
 
@@ -123,7 +123,7 @@ returns-in-None-clause-lines g c =
     let said = sym (c.content_of.ensures.content_named) ∙ (ap answer_of c.in-Ok.is ∙ ap (λ w. answer_of (Ok w)) c.in-Some-content.is) in
     let goes = through_asked s l (content_by content) _ _ said none reads in
     let moved = with_lines s l in
-    let new = is_asked moved (volume_of content.volume) content.fills content.span _ _ _ (c.in_ok-volume.ensures.number) (c.in_ok-volume.ensures.volumes) (sym (c.range_of.ensures.ahead) ∙ ap (option_map range_ahead) c.in-None.is) in
+    let new = is_asked moved (volume_of content.volume) (record { time = content.time; fills = content.fills }) content.span _ _ _ (c.in_ok-volume.ensures.number) (c.in_ok-volume.ensures.volumes) (sym (c.range_of.ensures.ahead) ∙ ap (option_map range_ahead) c.in-None.is) in
     λ _. subst (λ r. IfSome (known r (g.S.Source.left c.args.source.now)) (GoesNoFurther (λ x. x) r (with_ahead_by (record moved { volumes = c.number_of.new.volumes }) None))) is
     (subst (λ n. IfSome (known s (g.S.Source.left c.args.source.now)) (GoesNoFurther (λ x. x) s n)) new goes)
 
@@ -145,35 +145,35 @@ invariant_of-self g c =
     let i = c.self.invariant in
     let next = c.next_piece.follows.holds-at-none in
     let lines = goes_onward _ _ _ c.self.inside.lines c.next_piece.follows.lender-at-none _ _ c.next_piece.result i.3 i.4 i.5 i.8 next.0 in
-    (i.0, i.1, i.2, lines.limit, lines.within, lines.counted, next.1, i.7, lines.some_dropped, i.9, i.10, i.11)
+    (i.0, i.1, i.2, lines.limit, lines.within, lines.counted, next.1, i.7, lines.some_dropped, i.9, i.10, i.11, i.12, i.13)
 
 pub invariant_of-self-in_default : goal.invariant_of-self-in_default
 invariant_of-self-in_default g c =
     let i = c.self.invariant in
     let next = c.next_piece.follows.holds-at-none in
     let lines = goes_onward _ _ _ c.self.inside.lines c.next_piece.follows.lender-at-none _ _ c.next_piece.result i.3 i.4 i.5 i.8 next.0 in
-    (i.0, i.1, i.2, lines.limit, lines.within, lines.counted, next.1, i.7, lines.some_dropped, i.9, i.10, i.11)
+    (i.0, i.1, i.2, lines.limit, lines.within, lines.counted, next.1, i.7, lines.some_dropped, i.9, i.10, i.11, i.12, i.13)
 
 pub invariant_of-self-in-Err : goal.invariant_of-self-in-Err
 invariant_of-self-in-Err g c =
     let i = c.self.invariant in
     let next = c.next_piece.follows.holds-at-none in
     let lines = goes_onward _ _ _ c.self.inside.lines c.next_piece.follows.lender-at-none _ _ c.next_piece.result i.3 i.4 i.5 i.8 next.0 in
-    (i.0, i.1, i.2, lines.limit, lines.within, lines.counted, next.1, i.7, lines.some_dropped, i.9, i.10, i.11)
+    (i.0, i.1, i.2, lines.limit, lines.within, lines.counted, next.1, i.7, lines.some_dropped, i.9, i.10, i.11, i.12, i.13)
 
 pub invariant_of-self-in_default-content : goal.invariant_of-self-in_default-content
 invariant_of-self-in_default-content g c =
     let i = c.self.invariant in
     let next = c.next_piece.follows.holds-at-none in
     let lines = goes_onward _ _ _ c.self.inside.lines c.next_piece.follows.lender-at-none _ _ c.next_piece.result i.3 i.4 i.5 i.8 next.0 in
-    (i.0, i.1, i.2, lines.limit, lines.within, lines.counted, next.1, i.7, lines.some_dropped, i.9, i.10, i.11)
+    (i.0, i.1, i.2, lines.limit, lines.within, lines.counted, next.1, i.7, lines.some_dropped, i.9, i.10, i.11, i.12, i.13)
 
 pub invariant_of-self-in_err-volume : goal.invariant_of-self-in_err-volume
 invariant_of-self-in_err-volume g c =
     let i = c.self.invariant in
     let next = c.next_piece.follows.holds-at-none in
     let lines = goes_onward _ _ _ c.self.inside.lines c.next_piece.follows.lender-at-none _ _ c.next_piece.result i.3 i.4 i.5 i.8 next.0 in
-    rw (c.in_err-volume.ensures.err) (i.0, i.1, i.2, lines.limit, lines.within, lines.counted, next.1, i.7, lines.some_dropped, i.9, i.10, i.11)
+    rw (c.in_err-volume.ensures.err) (i.0, i.1, i.2, lines.limit, lines.within, lines.counted, next.1, i.7, lines.some_dropped, i.9, i.10, i.11, i.12, i.13)
 
 pub invariant_of-self-in-Some-range_of : goal.invariant_of-self-in-Some-range_of
 invariant_of-self-in-Some-range_of g c =
@@ -193,6 +193,8 @@ invariant_of-self-in-Some-range_of g c =
       lines.some_dropped,
       omega (arith, i.10 none, c.number_of.ensures.most),
       λ no. absurd (omega (arith, no, range.0)),
+      i.11,
+      i.12,
       λ some. (range.1, range.2, range.3),
     )
 

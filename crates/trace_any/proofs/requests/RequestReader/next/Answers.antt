@@ -1,10 +1,10 @@
 use Rattle.std.proofs.Common.{◌≡◌, Some, None, subst, rules}
-use Rattle.trace_any.specs.Readings.{NamesVolumes}
+use Rattle.trace_any.specs.Readings.{TakesMemory}
 use Rattle.trace_any.specs.Readers.{Reader}
 use Rattle.trace_any.proofs.requests.RequestReader.next.Goals as goal
 
 pub returns-in-Err-clause-memory : goal.returns-in-Err-clause-memory
-returns-in-Err-clause-memory g c none no_memory = subst (λ (r : Reader). NamesVolumes r.format) c.self.view_is (c.in-Err.ensures.memory no_memory)
+returns-in-Err-clause-memory g c none no_memory = subst (λ (r : Reader). TakesMemory r.format) c.self.view_is (c.in-Err.ensures.memory no_memory)
 
 pub invariant_of-self : goal.invariant_of-self
 invariant_of-self g c = (λ none. absurd (some none), c.in-Err.ensures.few.0, c.in-Err.ensures.few.1, c.in-Err.ensures.ahead)

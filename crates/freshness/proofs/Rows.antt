@@ -2,7 +2,8 @@
 use Rattle.std.proofs.Common.{◌≡◌, ℕ, true, false, Bool, List, [], ◌∷◌, map, refl, None, Some}
 use Rattle.cache_model.specs.declared.objects.Object.{Object}
 use Rattle.cache_model.specs.Objects.{numbers_of}
-use Rattle.freshness.specs.Stale.{Freshness, clock, stale_marks}
+use Rattle.freshness.specs.declared.fresh.Freshness.{Freshness}
+use Rattle.freshness.specs.Stale.{clock, stale_marks}
 
 -- objects expire after this time, and are not replaced
 abbrev after : ℕ → Freshness
