@@ -1,1 +1,3 @@
 mod Laxer
+mod LastOnes
+mod SeenStale

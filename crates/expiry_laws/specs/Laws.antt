@@ -1,14 +1,16 @@
 -- What is proved of freshness; each law is the contract of a function.
-use Rattle.std.specs.Prelude.{ℕ, ◌*◌, ◌≤◌, Bool, IsTrue, List, None, Some}
+use Rattle.std.specs.Prelude.{◌≡◌, ℕ, zero, suc, ◌*◌, ◌<◌, ◌≤◌, length, slice_index, Bool, IsTrue, List, None, Some}
 use Rattle.std.specs.declared.option.Option.{Option}
 use Rattle.cache_model.specs.declared.objects.Object.{Object}
 use Rattle.cache_model.specs.declared.objects.Objective.{Objective}
 use Rattle.cache_model.specs.declared.certificates.Header.{Header}
 use Rattle.cache_model.specs.declared.certificates.Record.{Record}
 use Rattle.cache_model.specs.Certificates.{IsValid}
-use Rattle.cache_model.specs.Claim.{IsAllowed, score, terms_from}
+use Rattle.cache_model.specs.Claim.{IsAllowed, request_at, score, terms_from}
 use Rattle.freshness.specs.declared.fresh.Freshness.{Freshness}
-use Rattle.freshness.specs.Stale.{stale_marks}
+use Rattle.freshness.specs.Stale.{is_stale, stale_marks}
+use Rattle.freshness.specs.Seen.{Seen, nothing_seen, with_seen}
+use Rattle.freshness.specs.Seen as seen
 
 -- what is fresh for one time is fresh for a longer one, and if nothing expires
 abbrev pub IsLonger : Option ℕ → Option ℕ → Type 0
@@ -37,3 +39,18 @@ LaxerBounds =
     → IsValid trace (stale_marks lax trace times fills) h records
     → IsAllowed h.capacity trace contents
     → h.denominator * score (terms_from h.objective h.capacity h.warmup (stale_marks strict trace times fills)) trace contents ≤ h.upper
+
+-- the time of request t
+abbrev pub time_at : List ℕ → ℕ → ℕ
+time_at times t = slice_index times t
+
+-- what is known of the requests before request t
+abbrev pub seen_before : Freshness → List Object → List ℕ → ℕ → Seen
+seen_before fresh trace times zero = nothing_seen
+seen_before fresh trace times (suc t) = with_seen fresh (seen_before fresh trace times t) (request_at trace t) (time_at times t)
+
+-- a request is stale by what is known of those before it if and only if it is stale in the trace
+abbrev pub SeenTellsStale : Type 0
+SeenTellsStale =
+    (fresh : Freshness) (trace : List Object) (times : List ℕ) (t : ℕ) → length times ≡ length trace → t < length trace
+    → seen.is_stale fresh (seen_before fresh trace times t) (request_at trace t) (time_at times t) ≡ is_stale fresh trace times t
