@@ -9,8 +9,8 @@ use Rattle.policy_model.specs.States.{Member, member, members_size, has_member}
 use Rattle.policy_model.proofs.Comparisons.{eqb-sym}
 use Rattle.cache_model.proofs.Eligible.{or_false}
 use Rattle.replay_queues.specs.declared.nodes.Node.{Node}
-use Rattle.replay_queues.specs.GhostQueues.{GhostQueue}
-use Rattle.replay_queues.specs.Rings.{node_at, is_among, Distinct, Links, Joins, Notes, walk, ring_of, members_at, ghosts_of, IsRing}
+use Rattle.replay_queues.specs.Lines.{Lined}
+use Rattle.replay_queues.specs.Rings.{node_at, is_among, Distinct, Links, Joins, Notes, walk, ring_of, members_at, ring_members, IsRing}
 use Rattle.replay_queues.proofs.RingLemmas.{after, before, without, without-none, without-head, Links-same, last-beside, before-among, after-among, takes_last, goes_on, taken_out, walked, length-walk}
 
 abbrev pub size_at : List Node → ℕ → ℕ
@@ -151,7 +151,7 @@ module _ (nodes : List Node) (none count bytes : ℕ) (ring : IsRing nodes none 
       at true is = absurd (let low : none < none = ring.below none is in omega arith)
       at false is = refl
 
-  pub ghost-among : (k : ℕ) → has_member (ghosts_of nodes none count) k ≡ is_among numbers k
+  pub ghost-among : (k : ℕ) → has_member (ring_members nodes none count) k ≡ is_among numbers k
   ghost-among k = members-among nodes numbers k
 
   beside : (k : ℕ) → is_among (none ∷ numbers) k ≡ true → k < none + 1
@@ -214,7 +214,7 @@ module _ (old noted mid new : List Node) (none count bytes k size : ℕ) (ring :
       (distinct-push all k ring.apart absent) push-below
       (let counted : bytes ≡ members_size (members_at old all) = ring.bytes_are in omega (arith, ap members_size push-members, sum_by_push (λ (m : Member). m.size) (members_at old all) (member k size)))
 
-  pub push-ghosts : ghosts_of new none (count + 1) ≡ ghosts_of old none count ++ member k size ∷ []
+  pub push-ghosts : ring_members new none (count + 1) ≡ ring_members old none count ++ member k size ∷ []
   push-ghosts = ap (members_at new) (ring-is new none (count + 1) (bytes + size) (all ++ k ∷ []) push-links push-counted) ∙ push-members
 
 -- ---- one is taken out
@@ -246,27 +246,27 @@ module _ (old : List Node) (none count bytes k : ℕ) (ring : IsRing old none co
         (λ q h. ring.below q (more-among k q all_of h))
         (omega (arith, less-bytes, ap members_size (members-same old new joins.sizes_stay (without k all_of))))
 
-    pub less-ghosts : ghosts_of new none (count - 1) ≡ filter (λ m. not (eqb m.object k)) (ghosts_of old none count)
+    pub less-ghosts : ring_members new none (count - 1) ≡ filter (λ m. not (eqb m.object k)) (ring_members old none count)
     less-ghosts = ap (members_at new) (ring-is new none (count - 1) (bytes - size_at old k) (without k all_of) less-links less-counted) ∙ less-members
 
 -- the first of them
 module _ (nodes : List Node) (none bytes : ℕ) where
-  pub first-among : (count : ℕ) → 0 < length (ghosts_of nodes none count) → is_among (ring_of nodes none count) (after nodes none) ≡ true
+  pub first-among : (count : ℕ) → 0 < length (ring_members nodes none count) → is_among (ring_of nodes none count) (after nodes none) ≡ true
   first-among zero some = absurd (omega arith)
   first-among (suc count) some = or_left (eqb (after nodes none) (after nodes none)) (is_among (walk nodes count (after nodes (after nodes none))) (after nodes none)) (eq-eqb (after nodes none) (after nodes none) refl)
 
-  pub first-object : (count : ℕ) → 0 < length (ghosts_of nodes none count) → (get_or (ghosts_of nodes none count) 0 (member 0 0)).object ≡ after nodes none
+  pub first-object : (count : ℕ) → 0 < length (ring_members nodes none count) → (get_or (ring_members nodes none count) 0 (member 0 0)).object ≡ after nodes none
   first-object zero some = absurd (omega arith)
   first-object (suc count) some = refl
 
-  pub first-rest : (count : ℕ) → IsRing nodes none count bytes → 0 < length (ghosts_of nodes none count) → filter (λ m. not (eqb m.object (after nodes none))) (ghosts_of nodes none count) ≡ drop 1 (ghosts_of nodes none count)
+  pub first-rest : (count : ℕ) → IsRing nodes none count bytes → 0 < length (ring_members nodes none count) → filter (λ m. not (eqb m.object (after nodes none))) (ring_members nodes none count) ≡ drop 1 (ring_members nodes none count)
   first-rest zero ring some = absurd (omega arith)
   first-rest (suc count) ring some =
       let first : ℕ = after nodes none in
       let rest : List ℕ = walk nodes count (after nodes first) in
       members-without nodes first (first ∷ rest) ∙ ap (members_at nodes) (without-head first first rest (eq-eqb first first refl) ring.apart.0)
 
-  pub first-gone : (count : ℕ) → IsRing nodes none count bytes → 0 < length (ghosts_of nodes none count) → has_member (drop 1 (ghosts_of nodes none count)) (after nodes none) ≡ false
+  pub first-gone : (count : ℕ) → IsRing nodes none count bytes → 0 < length (ring_members nodes none count) → has_member (drop 1 (ring_members nodes none count)) (after nodes none) ≡ false
   first-gone zero ring some = absurd (omega arith)
   first-gone (suc count) ring some = members-among nodes (walk nodes count (after nodes (after nodes none))) (after nodes none) ∙ ring.apart.0
 
@@ -274,9 +274,16 @@ module _ (nodes : List Node) (none bytes : ℕ) where
 pub node_read : (nodes : List Node) (k : ℕ) (n : Node) → k < length nodes → n ≡ get_or nodes k n → n ≡ node_at nodes k
 node_read nodes k n within read = get_or_read nodes k n within read (record { before = 0; after = 0; size = 0 })
 
-module _ (nodes : List Node) (none count bytes : ℕ) (old : GhostQueue) (ring : IsRing nodes none count bytes) (view : record { objects = none; members = ghosts_of nodes none count } ≡ old) (k : ℕ) where
+module _ (nodes : List Node) (none count bytes : ℕ) (old : Lined) (ring : IsRing nodes none count bytes) (view : record { objects = none; members = ring_members nodes none count } ≡ old) (k : ℕ) where
   pub view-below : k < old.objects → k < none
-  view-below low = subst (λ (g : GhostQueue). k < g.objects) (sym view) low
+  view-below low = subst (λ (g : Lined). k < g.objects) (sym view) low
 
   pub view-among : (t : Bool) → has_member old.members k ≡ t → is_among (ring_of nodes none count) k ≡ t
-  view-among t is = sym (ghost-among nodes none count bytes ring k) ∙ ap (λ (g : GhostQueue). has_member g.members k) view ∙ is
+  view-among t is = sym (ghost-among nodes none count bytes ring k) ∙ ap (λ (g : Lined). has_member g.members k) view ∙ is
+
+-- one of them has a node
+pub node_within : (nodes : List Node) (none count bytes k : ℕ) → IsRing nodes none count bytes → is_among (ring_of nodes none count) k ≡ true → k < length nodes
+node_within nodes none count bytes k ring there =
+    let low : k < none = ring.below k there in
+    let each : length nodes ≡ none + 1 = ring.each_node in
+    omega arith

@@ -1,8 +1,10 @@
 pub mod ItemLemmas
 pub mod SieveLemmas
+pub mod HandLemmas
 pub mod SieveAnswers
 pub mod RingLemmas
 pub mod GhostAnswers
+pub mod LineLemmas
 pub mod QueueLemmas
 pub mod QueueAnswers
 pub mod S3FifoAnswers

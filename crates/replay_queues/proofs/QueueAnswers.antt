@@ -7,7 +7,7 @@ use Rattle.policy_model.specs.Steps.{until_fits}
 use Rattle.policy_model.proofs.Parts.{until-turn}
 use Rattle.policy_model.proofs.S3FifoSound.{turns_left, shrink-ends}
 use Rattle.replay_queues.specs.declared.three_queues.ThreeQueues.{ThreeQueues}
-use Rattle.replay_queues.specs.GhostQueues.{GhostQueue}
+use Rattle.replay_queues.specs.Lines.{Lined}
 use Rattle.replay_queues.specs.SmallAndMain.{counted_entry, queues_by, queues_at, AreQueued, IsFading, IsQueued}
 use Rattle.replay_queues.proofs.ItemLemmas.{item_bytes}
 use Rattle.replay_queues.proofs.QueueLemmas.{counted, counted-bytes, faded-small, faded-main, faded-queued, fade-more, dropped-turn, backed-turn, backed-turns}
@@ -98,13 +98,13 @@ module _ (t after : ThreeQueues) (table : after.table ≡ t.table) (small : afte
   pub same_queues : queues_at after ≡ queues_at t
   same_queues =
       ap (λ cells. queues_by cells after.small.items after.main.items after.ghosts.members) table ∙ ap (λ items. queues_by t.table items after.main.items after.ghosts.members) small
-      ∙ ap (λ items. queues_by t.table t.small.items items after.ghosts.members) main ∙ ap (λ (g : GhostQueue). queues_by t.table t.small.items t.main.items g.members) ghosts
+      ∙ ap (λ items. queues_by t.table t.small.items items after.ghosts.members) main ∙ ap (λ (g : Lined). queues_by t.table t.small.items t.main.items g.members) ghosts
 
   pub same_queued : after.small_used ≡ t.small_used → IsQueued t → IsQueued after
   same_queued small_used queued = record {
     fading = is_fading after
-        (queued-as t.table after.table t.small.items t.main.items after.small.items after.main.items t.ghosts.members after.ghosts.members table small main (ap (λ (g : GhostQueue). g.members) ghosts) queued.fading.are)
+        (queued-as t.table after.table t.small.items t.main.items after.small.items after.main.items t.ghosts.members after.ghosts.members table small main (ap (λ (g : Lined). g.members) ghosts) queued.fading.are)
         (small_used ∙ small-bytes t queued.fading ∙ ap item_bytes (sym small))
-        (ap length table ∙ queued.fading.each_object ∙ ap (λ (g : GhostQueue). g.objects) (sym ghosts));
-    few = subst (λ (g : GhostQueue). members_size g.members ≤ 2 ^ 56) (sym ghosts) queued.few;
+        (ap length table ∙ queued.fading.each_object ∙ ap (λ (g : Lined). g.objects) (sym ghosts));
+    few = subst (λ (g : Lined). members_size g.members ≤ 2 ^ 56) (sym ghosts) queued.few;
   }

@@ -9,6 +9,7 @@ use Rattle.policy_model.specs.declared.names.PolicyName.TheVariants.{Sieve}
 use Rattle.policy_model.specs.States.{Entry, Stock, State, nothing_beside, has_entry, has_member, members_of, Apart, IsFit}
 use Rattle.policy_model.specs.Steps.{until_fits, touched, touch, served}
 use Rattle.policy_model.specs.Sieve.{Cut, look, cut_used, cut_of, come_in, stock_of_cut}
+use Rattle.policy_model.specs.Leaving.{cut_without}
 use Rattle.policy_model.proofs.SieveSound.{cut_entries, cut-used, look-part}
 use Rattle.policy_model.proofs.Parts.{part-apart, part-none, part-change, until-part}
 use Rattle.policy_model.proofs.RulesSound.{served-hit, served-large, served-small}
@@ -16,10 +17,10 @@ use Rattle.policy_model.proofs.Replays.{has_entry-members}
 use Rattle.replay_core.specs.declared.policy.Outcome.TheVariants.{Hit, Miss}
 use Rattle.replay_core.specs.declared.policy.Outcome.{Outcome}
 use Rattle.replay_core.specs.Outcomes.{is_hit}
-use Rattle.replay_core.specs.Keeping.{Kept, state_of, Answers, GivesUp}
-use Rattle.replay_core.proofs.Kept.{answered, gives_up}
+use Rattle.replay_core.specs.Keeping.{Kept, state_of, Answers, kept_without}
+use Rattle.replay_core.proofs.Kept.{answered}
 use Rattle.replay_queues.specs.Items.{has_item}
-use Rattle.replay_queues.specs.SieveQueues.{is_held, marked_entry, cut_by, cut_at, AreHeld, with_room, cut_kept, IsSieve}
+use Rattle.replay_queues.specs.SieveQueues.{is_held, marked_entry, cut_by, behind_items, ahead_items, cut_at, AreHeld, IsHand, with_room, cut_kept, IsSieve}
 use Rattle.replay_queues.specs.declared.hand.Hand.{Hand}
 use Rattle.replay_queues.proofs.ItemLemmas.{here, other, has_entry-append, changed}
 use Rattle.replay_queues.proofs.SieveLemmas.{marked, marked-items, cut-bytes}
@@ -51,7 +52,7 @@ module _ (objects capacity requests : ℕ) (cut : Cut) (k size : ℕ) where
   abbrev of : List Entry → List Entry → Cut
   of behind ahead = record { behind = behind; ahead = ahead }
 
-  cut-back : cut_of state ≡ cut
+  pub cut-back : cut_of state ≡ cut
   cut-back = ap (λ es. of es (drop (length cut.behind) (cut_entries cut))) (take-append_seam cut.behind cut.ahead) ∙ ap (of cut.behind) (drop-append_seam cut.behind cut.ahead)
 
   -- what the rule makes of a hit and of a miss
@@ -89,7 +90,7 @@ module _ (objects capacity requests : ℕ) (cut : Cut) (k size : ℕ) where
 pub sieve-fit : (objects capacity in_use : ℕ) (h : Hand) → IsSieve objects capacity in_use h → IsFit capacity (cut_entries (cut_at h))
 sieve-fit objects capacity in_use h is = record {
   room = (let fits : in_use ≤ capacity = is.fits in let counted : in_use ≡ cut_used (cut_at h) = is.in_use_is in omega (arith, cut-used (cut_at h)));
-  apart = is.held.apart;
+  apart = is.held.are.apart;
 }
 
 module _ (objects capacity requests in_use : ℕ) (h : Hand) (is : IsSieve objects capacity in_use h) (k : ℕ) (within : k < length h.table) (there : is_held (get_or h.table k 0) ≡ true) where
@@ -97,17 +98,17 @@ module _ (objects capacity requests in_use : ℕ) (h : Hand) (is : IsSieve objec
   marked_hand = record h { table = set h.table k 2 }
 
   pub marked-behind : (cut_at marked_hand).behind ≡ touch Sieve requests None k (cut_at h).behind
-  marked-behind = marking h.table k requests within h.behind.items
+  marked-behind = marking h.table k requests within (behind_items h)
 
   pub marked-ahead : (cut_at marked_hand).ahead ≡ touch Sieve requests None k (cut_at h).ahead
-  marked-ahead = marking h.table k requests within h.ahead.items
+  marked-ahead = marking h.table k requests within (ahead_items h)
 
   marked-apart : Apart (cut_entries (cut_at marked_hand))
   marked-apart =
       let by : Entry → Entry = λ f. cond (eqb f.object k) (record f { mark = true }) f in
       subst Apart
       (map-append by (cut_at h).behind (cut_at h).ahead ∙ ap (λ es. es ++ touch Sieve requests None k (cut_at h).ahead) (sym marked-behind) ∙ ap (λ es. (cut_at marked_hand).behind ++ es) (sym marked-ahead))
-      (part-apart (touch Sieve requests None k (cut_entries (cut_at h))) (cut_entries (cut_at h)) (part-change (λ e. record e { mark = true }) (λ e. refl) (λ e. refl) k (cut_entries (cut_at h))) is.held.apart)
+      (part-apart (touch Sieve requests None k (cut_entries (cut_at h))) (cut_entries (cut_at h)) (part-change (λ e. record e { mark = true }) (λ e. refl) (λ e. refl) k (cut_entries (cut_at h))) is.held.are.apart)
 
   marked-known : (q : ℕ) (b : Bool) → eqb q k ≡ b → is_held (get_or (set h.table k 2) q 0) ≡ is_held (get_or h.table q 0)
   marked-known q true e =
@@ -119,23 +120,22 @@ module _ (objects capacity requests in_use : ℕ) (h : Hand) (is : IsSieve objec
   marked-sieve = record {
     range = is.range;
     each_object = length-set h.table k 2 ∙ is.each_object;
-    in_use_is = is.in_use_is ∙ cut-bytes h.table h.behind.items h.ahead.items ∙ sym (cut-bytes (set h.table k 2) h.behind.items h.ahead.items);
+    in_use_is = is.in_use_is ∙ cut-bytes h.table (behind_items h) (ahead_items h) ∙ sym (cut-bytes (set h.table k 2) (behind_items h) (ahead_items h));
     fits = is.fits;
-    held = record { apart = marked-apart; known = λ q. marked-known q (eqb q k) refl ∙ is.held.known q };
+    held = record {
+      are = record { apart = marked-apart; known = λ q. marked-known q (eqb q k) refl ∙ is.held.are.known q };
+      next_is = is.held.next_is;
+      each_object = length-set h.table k 2 ∙ is.held.each_object;
+    };
   }
 
--- the same entries as before
-pub same_cut : (h after : Hand) → after.table ≡ h.table → after.behind.items ≡ h.behind.items → after.ahead.items ≡ h.ahead.items → cut_at after ≡ cut_at h
-same_cut h after table behind ahead =
-    ap (λ cells. cut_by cells after.behind.items after.ahead.items) table ∙ ap (λ items. cut_by h.table items after.ahead.items) behind ∙ ap (cut_by h.table h.behind.items) ahead
-
 -- an object that is not held isn't after room was made
-pub still_absent : (h left : Hand) (capacity size : ℕ) → AreHeld h.table h.behind.items h.ahead.items → AreHeld left.table left.behind.items left.ahead.items → cut_at left ≡ with_room capacity size (cut_at h)
+pub still_absent : (h left : Hand) (capacity size : ℕ) → AreHeld h.table (behind_items h) (ahead_items h) → AreHeld left.table (behind_items left) (ahead_items left) → cut_at left ≡ with_room capacity size (cut_at h)
     → (k : ℕ) → is_held (get_or h.table k 0) ≡ false → is_held (get_or left.table k 0) ≡ false
 still_absent h left capacity size held after freed k absent =
-    held-entry left.table left.behind.items left.ahead.items after k ∙ ap (λ c. has_entry (cut_entries c) k) freed
+    held-entry left.table (behind_items left) (ahead_items left) after k ∙ ap (λ c. has_entry (cut_entries c) k) freed
     ∙ part-none k (cut_entries (with_room capacity size (cut_at h))) (cut_entries (cut_at h)) (until-part look cut_used capacity size cut_entries look-part (2 * length (cut_entries (cut_at h)) + 1) (cut_at h))
-    (sym (held-entry h.table h.behind.items h.ahead.items held k) ∙ absent)
+    (sym (held-entry h.table (behind_items h) (ahead_items h) held k) ∙ absent)
 
 -- the answer, from the value that is seen of the fields
 pub from_view : (old : Kept) (objects capacity requests n : ℕ) (cut after : Cut) (k size : ℕ) (outcome : Outcome) → cut_kept objects capacity requests cut ≡ old → n ≡ min (requests + 1) (2 ^ 64 - 1)
@@ -145,14 +145,8 @@ from_view old objects capacity requests n cut after k size outcome view now answ
     subst (λ (p : Kept). Answers Sieve p (cut_kept objects capacity n after) k size next outcome) view
     (subst (λ (m : ℕ). Answers Sieve (cut_kept objects capacity requests cut) (cut_kept objects capacity m after) k size next outcome) (sym now) (answers next))
 
--- nothing changed
-pub gives_same : (objects capacity requests : ℕ) (cut after : Cut) → after ≡ cut → IsFit capacity (cut_entries cut) → GivesUp (cut_kept objects capacity requests cut) (cut_kept objects capacity requests after)
-gives_same objects capacity requests cut after same fit =
-    subst (λ (c : Cut). GivesUp (cut_kept objects capacity requests cut) (cut_kept objects capacity requests c)) (sym same)
-    (gives_up (cut_kept objects capacity requests cut) (cut_kept objects capacity requests cut) fit (λ m h. h) refl refl)
-
 -- an object that came in after room was made
-pub came-sieve : (objects capacity in_use more size : ℕ) (h left after : Hand) → IsSieve objects capacity in_use h → length after.table ≡ length h.table → AreHeld after.table after.behind.items after.ahead.items
+pub came-sieve : (objects capacity in_use more size : ℕ) (h left after : Hand) → IsSieve objects capacity in_use h → length after.table ≡ length h.table → IsHand after
     → (k : ℕ) → cut_at after ≡ come_in (marked_entry 1 (k, size)) (cut_at left) → more ≡ cut_used (cut_at left) → more + size ≤ capacity → IsSieve objects capacity (more + size) after
 came-sieve objects capacity in_use more size h left after is table held k put counted fits = record {
   range = is.range;
@@ -161,3 +155,16 @@ came-sieve objects capacity in_use more size h left after is table held k put co
   fits = fits;
   held = held;
 }
+
+-- ---- an object that is let go of
+pub left-sieve : (objects capacity in_use left : ℕ) (h after : Hand) → IsSieve objects capacity in_use h → length after.table ≡ length h.table → IsHand after → cut_used (cut_at after) + left ≡ cut_used (cut_at h)
+    → IsSieve objects capacity (in_use - left) after
+left-sieve objects capacity in_use left h after is table held freed =
+    let counted : in_use ≡ cut_used (cut_at h) = is.in_use_is in
+    let fits : in_use ≤ capacity = is.fits in
+    record { range = is.range; each_object = table ∙ is.each_object; in_use_is = omega arith; fits = omega arith; held = held }
+
+pub kept-left : (k : ℕ) (old : Kept) (objects capacity requests : ℕ) (cut after : Cut) → cut_kept objects capacity requests cut ≡ old → after ≡ cut_without k cut → cut_kept objects capacity requests after ≡ kept_without Sieve old k
+kept-left k old objects capacity requests cut after view is =
+    ap (cut_kept objects capacity requests) (is ∙ ap (cut_without k) (sym (cut-back objects capacity requests cut k 0)))
+    ∙ ap (λ p. kept_without Sieve p k) view

@@ -41,8 +41,8 @@ module _ (cells : List ℕ) (behind : List (ℕ × ℕ)) (p : ℕ × ℕ) (rest 
   pub next-within : p.0 < length cells
   next-within = within_cells cells p.0 (ltb-true 0 (get_or cells p.0 0) is_there)
 
-  none : (has_item behind p.0 ≡ false) × (has_item rest p.0 ≡ false)
-  none =
+  pub next-alone : (has_item behind p.0 ≡ false) × (has_item rest p.0 ≡ false)
+  next-alone =
       let both : (has_entry (marked cells behind) p.0 ≡ false) × (has_entry (marked cells rest) p.0 ≡ false) =
       apart-middle (marked cells behind) (marked_entry (get_or cells p.0 0) p) (marked cells rest) held.apart in
       (sym (marked-items cells behind p.0) ∙ both.0, sym (marked-items cells rest p.0) ∙ both.1)
@@ -56,8 +56,8 @@ module _ (cells : List ℕ) (behind : List (ℕ × ℕ)) (p : ℕ × ℕ) (rest 
     passed-cut =
         let e : Entry = marked_entry (get_or cells p.0 0) p in
         ap (λ es. begin_again es (marked (set cells p.0 1) rest)) (entries-push marked_entry (λ c q. refl) (set cells p.0 1) behind p)
-        ∙ ap (λ es. begin_again (es ++ marked_entry (get_or (set cells p.0 1) p.0 0) p ∷ []) (marked (set cells p.0 1) rest)) (agrees 1 behind none.0)
-        ∙ ap (λ es. begin_again (marked cells behind ++ marked_entry (get_or (set cells p.0 1) p.0 0) p ∷ []) es) (agrees 1 rest none.1)
+        ∙ ap (λ es. begin_again (es ++ marked_entry (get_or (set cells p.0 1) p.0 0) p ∷ []) (marked (set cells p.0 1) rest)) (agrees 1 behind next-alone.0)
+        ∙ ap (λ es. begin_again (marked cells behind ++ marked_entry (get_or (set cells p.0 1) p.0 0) p ∷ []) es) (agrees 1 rest next-alone.1)
         ∙ ap (λ c. begin_again (marked cells behind ++ marked_entry c p ∷ []) (marked cells rest)) (here cells p.0 1 next-within)
         ∙ ap (λ b. begin_again (cond b (marked cells behind ++ unmarked e ∷ []) (marked cells behind)) (marked cells rest)) (sym is)
 
@@ -72,29 +72,6 @@ module _ (cells : List ℕ) (behind : List (ℕ × ℕ)) (p : ℕ × ℕ) (rest 
             let same : q ≡ p.0 = eqb-true q p.0 e in
             ap (λ j. is_held (get_or (set cells p.0 1) j 0)) same ∙ ap is_held (here cells p.0 1 next-within) ∙ sym is_there ∙ ap (λ j. is_held (get_or cells j 0)) (sym same)
         at q false e = ap is_held (other cells p.0 1 q e)
-
-  -- another is given up
-  module _ (is : leb 2 (get_or cells p.0 0) ≡ false) where
-    pub dropped-cut : begin_again (marked (set cells p.0 0) behind) (marked (set cells p.0 0) rest) ≡ look (cut_by cells behind (p ∷ rest))
-    dropped-cut =
-        let e : Entry = marked_entry (get_or cells p.0 0) p in
-        ap (λ es. begin_again es (marked (set cells p.0 0) rest)) (agrees 0 behind none.0)
-        ∙ ap (λ es. begin_again (marked cells behind) es) (agrees 0 rest none.1)
-        ∙ ap (λ b. begin_again (cond b (marked cells behind ++ unmarked e ∷ []) (marked cells behind)) (marked cells rest)) (sym is)
-
-    pub dropped-held : AreHeld (set cells p.0 0) behind rest
-    dropped-held = record {
-      apart = look-apart (cut_by cells behind (p ∷ rest)) (marked (set cells p.0 0) behind) (marked (set cells p.0 0) rest) dropped-cut held.apart;
-      known = λ q. at q (eqb q p.0) refl;
-    }
-      where
-        at : (q : ℕ) (b : Bool) → eqb q p.0 ≡ b → is_held (get_or (set cells p.0 0) q 0) ≡ (has_item behind q || has_item rest q)
-        at q true e =
-            let same : q ≡ p.0 = eqb-true q p.0 e in
-            ap (λ j. is_held (get_or (set cells p.0 0) j 0)) same ∙ ap is_held (here cells p.0 0 next-within) ∙ sym (or_from (has_item behind p.0) (has_item rest p.0) none.0 none.1)
-            ∙ ap (λ j. has_item behind j || has_item rest j) (sym same)
-        at q false e =
-            ap is_held (other cells p.0 0 q e) ∙ held.known q ∙ ap (λ b. has_item behind q || (b || has_item rest q)) (ne_eqb p.0 q (λ same. eqb-false q p.0 e (sym same)))
 
 -- ---- an object that comes in
 module _ (cells : List ℕ) (behind ahead : List (ℕ × ℕ)) (held : AreHeld cells behind ahead) (k size : ℕ) (within : k < length cells) (absent : is_held (get_or cells k 0) ≡ false) where

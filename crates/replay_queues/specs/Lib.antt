@@ -1,5 +1,5 @@
 pub mod Items
 pub mod SieveQueues
-pub mod GhostQueues
+pub mod Lines
 pub mod SmallAndMain
 pub mod Rings

@@ -48,8 +48,8 @@ ring_of nodes none count = walk nodes count (node_at nodes none).after
 abbrev pub members_at : List Node → List ℕ → List Member
 members_at nodes numbers = map (λ k. member k (node_at nodes k).size) numbers
 
-abbrev pub ghosts_of : List Node → ℕ → ℕ → List Member
-ghosts_of nodes none count = members_at nodes (ring_of nodes none count)
+abbrev pub ring_members : List Node → ℕ → ℕ → List Member
+ring_members nodes none count = members_at nodes (ring_of nodes none count)
 
 -- the numbers make a ring, are apart and below that of its node of none, and their bytes are counted
 pub record IsRing (nodes : List Node) (none count bytes : ℕ) : Type 0 where
@@ -57,4 +57,4 @@ pub record IsRing (nodes : List Node) (none count bytes : ℕ) : Type 0 where
   pub linked : Links nodes none (ring_of nodes none count) none
   pub apart : Distinct (ring_of nodes none count)
   pub below : (k : ℕ) → is_among (ring_of nodes none count) k ≡ true → k < none
-  pub bytes_are : bytes ≡ members_size (ghosts_of nodes none count)
+  pub bytes_are : bytes ≡ members_size (ring_members nodes none count)

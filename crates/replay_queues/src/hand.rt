@@ -1,14 +1,15 @@
-//! The queues of SIEVE and its hand, which goes from older objects to newer ones.
-ghost use Rattle.std.specs.Prelude.{◌≡◌, ◌≤◌, ◌<◌, ◌^◌, ◌+◌, [], length, replicate, false, IfOk, OnOk, slice_index, slice_set};
+//! The line of SIEVE and its hand, which goes from older objects to newer ones.
+ghost use Rattle.std.specs.Prelude.{◌≡◌, ◌≤◌, ◌<◌, ◌^◌, ◌+◌, [], length, replicate, true, false, IfOk, slice_index, slice_set};
+ghost use Rattle.policy_model.specs.Leaving.{cut_without, without_member};
 ghost use Rattle.policy_model.specs.Sieve.{look, cut_used, begin_again, come_in};
-ghost use Rattle.replay_queues.specs.SieveQueues.{is_held, marked_entry, cut_at, with_room, IsHand, HasRoom};
+ghost use Rattle.policy_model.specs.Steps.{without_entry};
+ghost use Rattle.replay_queues.specs.Lines.{first_of, from_object};
+ghost use Rattle.replay_queues.specs.SieveQueues.{is_held, marked_entry, cut_at, with_room, IsHand};
 
-use crate::room::reserve_beside;
+use crate::line::Line;
 use crate::table::Table;
 use bound_base::NoMemory;
 use std::alloc::Global;
-use std::collections::VecDeque;
-use std::mem::swap;
 
 // The byte of an object that is not held, of one that is, and of one that is marked too.
 const GONE: u8 = 0;
@@ -17,27 +18,26 @@ const HELD: u8 = 1;
 
 const MARKED: u8 = 2;
 
-/// Objects with their sizes in the order in which they came in, cut in two by the hand.
-///
-/// The queues change places if the hand begins again, so that no object is moved.
+/// Objects with their sizes in the order in which they came in, and the one that the hand looks at next, or the number for
+/// none. So an object leaves in constant time on either side of the hand, and none is moved if the hand begins again.
 #[derive(Drop)]
 pub(crate) struct Hand {
-    pub(crate) behind: VecDeque<(u32, u64)>,
-    pub(crate) ahead: VecDeque<(u32, u64)>,
+    pub(crate) line: Line,
+    pub(crate) next: u32,
     pub(crate) table: Table,
 }
 
 impl Hand {
-    /// Empty, for objects numbered below this.
+    /// Empty, for objects numbered below this. It takes 17 bytes for each.
     pub(crate) fn new(alloc: Global, objects: u32) -> Result<Self, NoMemory>
-        ensures behind { IfOk result (λ hand. hand.behind.items ≡ []) }
-        ensures ahead { IfOk result (λ hand. hand.ahead.items ≡ []) }
+        ensures line { IfOk result (λ hand. hand.line ≡ record { objects = objects; members = [] }) }
+        ensures next { IfOk result (λ hand. hand.next ≡ objects) }
         ensures table { IfOk result (λ hand. hand.table ≡ replicate objects 0) }
     {
         let table = Table::new(alloc, objects)?;
         Ok(Hand {
-            behind: VecDeque::new(alloc),
-            ahead: VecDeque::new(alloc),
+            line: Line::new(alloc, objects)?,
+            next: objects,
             table,
         })
     }
@@ -60,56 +60,93 @@ impl Hand {
         self.table.set(object, MARKED);
     }
 
-    /// Takes memory for one more entry, whichever queues the entries will be in.
-    pub(crate) fn reserve(&mut self) -> Result<(), NoMemory>
-        ensures room { OnOk result (HasRoom self.new) }
-        ensures behind { self.new.behind.items ≡ self.old.behind.items }
-        ensures ahead { self.new.ahead.items ≡ self.old.ahead.items }
+    // Where the hand is once an object has left.
+    #[inline(always)]
+    fn next_without(&self, object: u32) -> u32
+        requires there { is_held (slice_index self.now.table object) ≡ true }
+        requires held { IsHand self.now }
+        ensures { result ≡ first_of self.now.line.objects (without_member object (from_object self.now.next self.now.line.members)) }
+    {
+        if self.next == object {
+            self.line.after(object)
+        } else {
+            self.next
+        }
+    }
+
+    // Where the hand is once an object has come in, which is at that object if nothing was ahead.
+    #[inline(always)]
+    fn next_with(&self, object: u32) -> u32
+        requires held { IsHand self.now }
+        ensures { result ≡ first_of object (from_object self.now.next self.now.line.members) }
+    {
+        if self.next == self.line.none() {
+            object
+        } else {
+            self.next
+        }
+    }
+
+    // Takes an object out, on whichever side of the hand it is, and says its size.
+    fn take_out(&mut self, object: u32) -> u64
+        requires there { is_held (slice_index self.old.table object) ≡ true }
+        requires held { IsHand self.old }
+        ensures behind { (cut_at self.new).behind ≡ without_entry object (cut_at self.old).behind }
+        ensures ahead { (cut_at self.new).ahead ≡ without_entry object (cut_at self.old).ahead }
+        ensures freed { cut_used (cut_at self.new) + result ≡ cut_used (cut_at self.old) }
+        ensures held { IsHand self.new }
+        ensures table { length self.new.table ≡ length self.old.table }
+    {
+        self.next = self.next_without(object);
+        self.table.set(object, GONE);
+        self.line.remove(object)
+    }
+
+    // If nothing is ahead of the hand, it begins again at the oldest.
+    #[inline(always)]
+    fn begin_again(&mut self)
+        requires held { IsHand self.old }
+        ensures cut { cut_at self.new ≡ begin_again (cut_at self.old).behind (cut_at self.old).ahead }
+        ensures in_use { cut_used (cut_at self.new) ≡ cut_used (cut_at self.old) }
+        ensures held { IsHand self.new }
         ensures table { self.new.table ≡ self.old.table }
     {
-        let behind = self.behind.len();
-        let ahead = self.ahead.len();
-        reserve_beside(&mut self.behind, ahead)?;
-        reserve_beside(&mut self.ahead, behind)
+        if self.next == self.line.none() {
+            self.next = self.line.first();
+        }
     }
 
     // Passes the next entry and clears its mark, or gives it up if it has none. It says how many bytes were given up.
     #[inline(always)]
     fn pass(&mut self) -> u64
         requires held { IsHand self.old }
-        requires room { HasRoom self.old }
         ensures cut { begin_again (cut_at self.new).behind (cut_at self.new).ahead ≡ look (cut_at self.old) }
         ensures freed { cut_used (cut_at self.new) + result ≡ cut_used (cut_at self.old) }
         ensures held { IsHand self.new }
-        ensures room { HasRoom self.new }
         ensures table { length self.new.table ≡ length self.old.table }
     {
-        let Some((object, size)) = self.ahead.pop_front() else {
-            return 0;
-        };
-        if self.table.get(object) >= MARKED {
-            self.table.set(object, HELD);
-            self.behind.push_back_reserved((object, size));
+        let object = self.next;
+        if object == self.line.none() {
             return 0;
         }
-        self.table.set(object, GONE);
-        size
+        if self.table.get(object) < MARKED {
+            return self.take_out(object);
+        }
+        self.table.set(object, HELD);
+        self.next = self.line.after(object);
+        0
     }
 
     // Passes the next entry, and begins again at the oldest if it was the newest.
     fn look(&mut self) -> u64
         requires held { IsHand self.old }
-        requires room { HasRoom self.old }
         ensures cut { cut_at self.new ≡ look (cut_at self.old) }
         ensures freed { cut_used (cut_at self.new) + result ≡ cut_used (cut_at self.old) }
         ensures held { IsHand self.new }
-        ensures room { HasRoom self.new }
         ensures table { length self.new.table ≡ length self.old.table }
     {
         let freed = self.pass();
-        if self.ahead.is_empty() {
-            swap(&mut self.behind, &mut self.ahead);
-        }
+        self.begin_again();
         freed
     }
 
@@ -120,12 +157,10 @@ impl Hand {
         requires small { size ≤ capacity }
         requires range { capacity ≤ 2 ^ 56 }
         requires held { IsHand self.old }
-        requires room { HasRoom self.old }
         ensures cut { cut_at self.new ≡ with_room capacity size (cut_at self.old) }
         ensures in_use { result ≡ cut_used (cut_at self.new) }
         ensures fits { result + size ≤ capacity }
         ensures held { IsHand self.new }
-        ensures room { HasRoom self.new }
         ensures table { length self.new.table ≡ length self.old.table }
     {
         let mut left = in_use;
@@ -139,13 +174,33 @@ impl Hand {
     pub(crate) fn come_in(&mut self, object: u32, size: u64)
         requires known { object < length self.old.table }
         requires absent { is_held (slice_index self.old.table object) ≡ false }
+        requires range { cut_used (cut_at self.old) + size ≤ 2 ^ 56 }
         requires held { IsHand self.old }
-        requires room { HasRoom self.old }
         ensures cut { cut_at self.new ≡ come_in (marked_entry HELD (object, size)) (cut_at self.old) }
         ensures held { IsHand self.new }
         ensures table { length self.new.table ≡ length self.old.table }
     {
+        self.next = self.next_with(object);
         self.table.set(object, HELD);
-        self.ahead.push_back_reserved((object, size));
+        self.line.push(object, size);
+    }
+
+    /// Lets go of an object, if it is held, and says how many bytes it had. If nothing is then ahead of the hand, it begins
+    /// again at the oldest.
+    pub(crate) fn leave(&mut self, object: u32) -> u64
+        requires known { object < length self.old.table }
+        requires held { IsHand self.old }
+        ensures cut { cut_at self.new ≡ cut_without object (cut_at self.old) }
+        ensures freed { cut_used (cut_at self.new) + result ≡ cut_used (cut_at self.old) }
+        ensures held { IsHand self.new }
+        ensures table { length self.new.table ≡ length self.old.table }
+    {
+        let freed = if self.holds(object) {
+            self.take_out(object)
+        } else {
+            0
+        };
+        self.begin_again();
+        freed
     }
 }

@@ -4,8 +4,8 @@
 //! hit touches no queue.
 #![tactic(auto)]
 
-mod ghosts;
 mod hand;
+mod line;
 mod nodes;
 mod room;
 mod s3fifo;

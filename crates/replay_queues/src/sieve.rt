@@ -2,14 +2,14 @@
 ghost use Rattle.std.specs.Prelude.{◌≡◌, ◌≤◌, ◌<◌, ◌^◌, ◌⊎◌, ℕ, All, Contains, Some, None, IfOk, OnOk, OnErr, refl};
 ghost use Rattle.std.specs.declared.option.Option.{Option};
 ghost use Rattle.policy_model.specs.declared.names.PolicyName.TheVariants.{Sieve as ByHand};
-ghost use Rattle.replay_core.specs.Keeping.{Answers, GivesUp, nothing_kept, state_of, contents_of};
+ghost use Rattle.replay_core.specs.Keeping.{Answers, nothing_kept, state_of, contents_of};
 ghost use Rattle.policy_model.specs.States.{Member, has_member, member};
 ghost use Rattle.replay_core.specs.Laws.{CountsAnswer, IsSound, StepsBy};
 ghost use Rattle.replay_core.specs.Outcomes.{is_hit};
 
 use crate::hand::Hand;
 use bound_base::NoMemory;
-use replay_core::{Outcome, Policy};
+use replay_core::{LetGo, Outcome, Policy};
 use std::alloc::Global;
 use std::marker::Model;
 
@@ -19,8 +19,7 @@ use std::marker::Model;
 /// the oldest.
 ///
 /// A request takes constant time on average, for itself and for each look of the hand. A look gives up an object or
-/// clears the mark of a hit. It takes a byte for each object from the start, and 32 to 64 bytes for each of the most
-/// objects that it held.
+/// clears the mark of a hit. It takes 17 bytes for each object from the start.
 #[derive(Drop)]
 pub struct Sieve {
     capacity: u64,
@@ -43,7 +42,7 @@ impl Model for Sieve {
 }
 
 impl Sieve {
-    /// A policy that holds nothing, with its capacity in bytes. It takes a byte for each object.
+    /// A policy that holds nothing, with its capacity in bytes. It takes 17 bytes for each object.
     pub fn new(alloc: Global, capacity: u64, objects: u32) -> Result<Self, NoMemory>
         requires range { (1 ≤ capacity) × (capacity ≤ 2 ^ 56) }
         ensures nothing { IfOk result (λ policy. policy ≡ nothing_kept objects capacity) }
@@ -58,30 +57,27 @@ impl Sieve {
     }
 
     // One request, as the rule says, whatever the next request is.
-    fn ask(&mut self, object: u32, size: u64) -> Result<Outcome, NoMemory>
+    fn ask(&mut self, object: u32, size: u64) -> Outcome
         requires known { object < self.old.objects }
         requires kept_size { All (λ m. m.object ≡ object → m.size ≡ size) (contents_of self.old) }
-        ensures answers { IfOk result (λ outcome. (next : Option ℕ) → Answers ByHand self.old self.new object size next outcome) }
-        ensures fits { OnOk result (IsSound self.new.capacity (contents_of self.new)) }
-        ensures gives_up { OnErr result (GivesUp self.old self.new) }
-        ensures kept { OnErr result (self.new ≡ self.old) }
+        ensures answers { (next : Option ℕ) → Answers ByHand self.old self.new object size next result }
+        ensures fits { IsSound self.new.capacity (contents_of self.new) }
     {
         let requests = self.requests.saturating_add(1);
         if self.hand.holds(object) {
             self.hand.mark(object);
             self.requests = requests;
-            return Ok(Outcome::Hit);
+            return Outcome::Hit;
         }
         if size > self.capacity {
             self.requests = requests;
-            return Ok(Outcome::Miss);
+            return Outcome::Miss;
         }
-        self.hand.reserve()?;
         self.used = self.hand.make_room(self.used, self.capacity, size);
         self.hand.come_in(object, size);
         self.used += size;
         self.requests = requests;
-        Ok(Outcome::Miss)
+        Outcome::Miss
     }
 }
 
@@ -124,8 +120,15 @@ impl Policy for Sieve {
         ensures step { OnOk result (StepsBy (Some (state_of ByHand self.old)) (Some (state_of ByHand self.new)) object size _next) }
         ensures kept { OnErr result (self.new ≡ self.old) }
     {
-        self.ask(object, size)
+        Ok(self.ask(object, size))
     }
 
     ghost state_fits = { λ p. (refl, refl) };
+}
+
+impl LetGo for Sieve {
+    /// It takes constant time.
+    fn let_go(&mut self, object: u32) {
+        self.used -= self.hand.leave(object);
+    }
 }

@@ -3,7 +3,7 @@ ghost use Rattle.std.specs.Prelude.{◌≡◌, ◌≤◌, ◌<◌, ◌^◌, ◌+
 ghost use Rattle.policy_model.specs.S3Fifo.{fade, shrink_small, shrink, queues_used, enter};
 ghost use Rattle.replay_queues.specs.SmallAndMain.{is_kept, counted_entry, queues_at, main_shrunk, with_space, IsFading, IsQueued, HasRoomFor};
 
-use crate::ghosts::Ghosts;
+use crate::line::Line;
 use crate::room::reserve_beside;
 use crate::table::Table;
 use bound_base::NoMemory;
@@ -25,7 +25,7 @@ const HIT_TWICE: u8 = 4;
 pub(crate) struct ThreeQueues {
     pub(crate) small: VecDeque<(u32, u64)>,
     pub(crate) main: VecDeque<(u32, u64)>,
-    pub(crate) ghosts: Ghosts,
+    pub(crate) ghosts: Line,
     pub(crate) table: Table,
     pub(crate) small_used: u64,
 }
@@ -43,7 +43,7 @@ impl ThreeQueues {
         Ok(ThreeQueues {
             small: VecDeque::new(alloc),
             main: VecDeque::new(alloc),
-            ghosts: Ghosts::new(alloc, objects)?,
+            ghosts: Line::new(alloc, objects)?,
             table,
             small_used: 0,
         })
@@ -82,7 +82,7 @@ impl ThreeQueues {
         reserve_beside(&mut self.main, small)
     }
 
-    // Ghosts leave from the front until they have at most this many bytes.
+    // Line leave from the front until they have at most this many bytes.
     fn fade(&mut self, most: u64)
         requires queued { IsFading self.old }
         requires range { most ≤ 2 ^ 56 }

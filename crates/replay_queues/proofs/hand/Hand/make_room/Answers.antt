@@ -14,7 +14,6 @@ loop-left-init c =
       left = c.requires.in_use;
       within = c.requires.within;
       held = c.requires.held;
-      room = c.requires.room;
       table = refl;
       looks = (2 * length ((cut_at h).behind ++ (cut_at h).ahead) + 1, enough_looks (cut_at h), refl);
     }
@@ -34,7 +33,6 @@ loop-left-preserved c =
       left = omega arith;
       within = omega arith;
       held = c.look-left.ensures.held;
-      room = c.look-left.ensures.room;
       table = c.look-left.ensures.table ∙ c.loop-left.invariant.table;
       looks = look_step c.args.capacity c.args.size c.loop-left.invariant.looks.0 cut after
           (with_room c.args.capacity c.args.size (cut_at h))

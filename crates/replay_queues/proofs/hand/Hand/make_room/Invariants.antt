@@ -2,7 +2,7 @@ use Rattle.std.proofs.Common.{◌≡◌, ◌≤◌, ℕ, length}
 use Rattle.policy_model.specs.Sieve.{look, cut_used}
 use Rattle.policy_model.specs.Steps.{until_fits}
 use Rattle.policy_model.proofs.SieveSound.{looks_left}
-use Rattle.replay_queues.specs.SieveQueues.{cut_at, with_room, IsHand, HasRoom}
+use Rattle.replay_queues.specs.SieveQueues.{cut_at, with_room, IsHand}
 use Rattle.replay_queues.proofs.hand.Hand.make_room.Given as goal
 
 abbrev pub invariant-loop-left : goal.invariant-loop-left
@@ -10,7 +10,6 @@ invariant-loop-left l = record {
   left : l.left ≡ cut_used (cut_at l.self);
   within : l.left ≤ l.capacity;
   held : IsHand l.self;
-  room : HasRoom l.self;
   table : length l.self.table ≡ length l.initial.self.table;
   looks : (n : ℕ) × (looks_left (cut_at l.self) ≤ n) × (until_fits look cut_used l.capacity l.size n (cut_at l.self)
       ≡ with_room l.capacity l.size (cut_at l.initial.self));

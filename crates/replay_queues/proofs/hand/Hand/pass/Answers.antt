@@ -1,81 +1,52 @@
-use Rattle.std.proofs.Common.{ℕ, ◌∙◌, sym, ap, subst, leb, List, ◌∷◌, slice_set, sum_by, arith}
-use Rattle.std.proofs.lemmas.Bool.{le-leb, lt-leb}
-use Rattle.std.proofs.lemmas.List.Sums.{sum_by-cons, sum_by_push}
-use Rattle.policy_model.specs.Sieve.{begin_again, look}
-use Rattle.replay_queues.specs.SieveQueues.{cut_by, AreHeld}
-use Rattle.replay_queues.proofs.SieveLemmas.{marked, passed-cut, passed-held, dropped-cut, dropped-held, next-within, cut-bytes}
+use Rattle.std.proofs.Common.{◌≡◌, ℕ, ◌∙◌, sym, refl, ap, ◌∷◌, drop, leb, arith}
+use Rattle.std.proofs.lemmas.Bool.{ne_eqb, le-leb, lt-leb}
+use Rattle.policy_model.specs.States.{member}
+use Rattle.replay_queues.specs.Lines.{from_object}
+use Rattle.replay_queues.specs.SieveQueues.{cut_at, IsHand}
+use Rattle.replay_queues.specs.declared.hand.Hand.{Hand}
+use Rattle.replay_queues.proofs.HandLemmas.{held-line, cut-size, none-look, some-ahead, there, pass-cut, pass-hand, dropped-cut}
 use Rattle.replay_queues.proofs.hand.Hand.pass.Goals as goal
 
-pub get-requires : goal.get-requires
-get-requires c =
-    let h = c.args.self.now in
-    let next : ℕ × ℕ = (c.in-Some.object, c.in-Some.size) in
-    next-within h.table h.behind.items next c.pop_front.new.self.items (subst (AreHeld h.table h.behind.items) c.in-Some.ensures.items c.requires.held)
+-- what is ahead begins with the next
+some : (h : Hand) (held : IsHand h) (none : ℕ) → none ≡ h.line.objects → (h.next ≡ none → ⊥) → (size : ℕ) × (from_object h.next h.line.members ≡ member h.next size ∷ drop 1 (from_object h.next h.line.members))
+some h held none is other = some-ahead h held (ne_eqb h.next h.line.objects (λ same. other (same ∙ sym is)))
 
-pub returns-then-get-ge-MARKED-clause-cut : goal.returns-then-get-ge-MARKED-clause-cut
-returns-then-get-ge-MARKED-clause-cut c =
-    let h = c.args.self.now in
-    let next : ℕ × ℕ = (c.in-Some.object, c.in-Some.size) in
-    let rest : List (ℕ × ℕ) = c.pop_front.new.self.items in
-    let held : AreHeld h.table h.behind.items (next ∷ rest) = subst (AreHeld h.table h.behind.items) c.in-Some.ensures.items c.requires.held in
-    ap (λ cells. begin_again (marked cells c.push_back_reserved.new.self.items) (marked cells rest)) c.set.ensures
-    ∙ ap (λ items. begin_again (marked (slice_set h.table next.0 1) items) (marked (slice_set h.table next.0 1) rest)) c.push_back_reserved.ensures.items
-    ∙ passed-cut h.table h.behind.items next rest held (ap (leb 2) (sym c.get.ensures) ∙ le-leb 2 c.get.result c.if-get-ge-MARKED.true)
-    ∙ ap (λ items. look (cut_by h.table h.behind.items items)) (sym c.in-Some.ensures.items)
+pub returns-then-object-none-clause-cut : goal.returns-then-object-none-clause-cut
+returns-then-object-none-clause-cut c = none-look c.args.self.now c.requires.held (c.if-object-none.true ∙ c.none.ensures)
 
-pub returns-then-get-ge-MARKED-clause-held : goal.returns-then-get-ge-MARKED-clause-held
-returns-then-get-ge-MARKED-clause-held c =
+pub take_out-requires-clause-there : goal.take_out-requires-clause-there
+take_out-requires-clause-there c =
     let h = c.args.self.now in
-    let next : ℕ × ℕ = (c.in-Some.object, c.in-Some.size) in
-    let rest : List (ℕ × ℕ) = c.pop_front.new.self.items in
-    let held : AreHeld h.table h.behind.items (next ∷ rest) = subst (AreHeld h.table h.behind.items) c.in-Some.ensures.items c.requires.held in
-    subst (λ cells. AreHeld cells c.push_back_reserved.new.self.items rest) (sym c.set.ensures)
-    (subst (λ items. AreHeld (slice_set h.table next.0 1) items rest) (sym c.push_back_reserved.ensures.items)
-    (passed-held h.table h.behind.items next rest held (ap (leb 2) (sym c.get.ensures) ∙ le-leb 2 c.get.result c.if-get-ge-MARKED.true)))
+    let first = some h c.requires.held c.none.result c.none.ensures c.if-object-none.false in
+    there h c.requires.held first.0 first.1
 
-pub returns-then-get-ge-MARKED-clause-freed : goal.returns-then-get-ge-MARKED-clause-freed
-returns-then-get-ge-MARKED-clause-freed c =
+pub returns-then-get-lt-MARKED-clause-cut : goal.returns-then-get-lt-MARKED-clause-cut
+returns-then-get-lt-MARKED-clause-cut c =
     let h = c.args.self.now in
-    let next : ℕ × ℕ = (c.in-Some.object, c.in-Some.size) in
-    let rest : List (ℕ × ℕ) = c.pop_front.new.self.items in
-    omega (
-      arith,
-      cut-bytes c.set.new.self c.push_back_reserved.new.self.items rest,
-      cut-bytes h.table h.behind.items h.ahead.items,
-      ap (sum_by (λ (q : ℕ × ℕ). q.1)) c.push_back_reserved.ensures.items,
-      ap (sum_by (λ (q : ℕ × ℕ). q.1)) c.in-Some.ensures.items,
-      sum_by_push (λ (q : ℕ × ℕ). q.1) h.behind.items next,
-      sum_by-cons (λ (q : ℕ × ℕ). q.1) next rest,
-    )
+    let first = some h c.requires.held c.none.result c.none.ensures c.if-object-none.false in
+    dropped-cut h c.requires.held first.0 first.1 (ap (leb 2) (sym c.get.ensures) ∙ lt-leb 2 c.get.result c.if-get-lt-MARKED.true) (cut_at c.take_out.new.self) c.take_out.ensures.behind c.take_out.ensures.ahead
+
+pub after-self-requires : goal.after-self-requires
+after-self-requires c =
+    let h = c.args.self.now in
+    let first = some h c.requires.held c.none.result c.none.ensures c.if-object-none.false in
+    record { there = sym (held-line h c.requires.held h.next) ∙ there h c.requires.held first.0 first.1 }
+
+-- the hand past the next
+abbrev passed : goal.After-self-1 → Hand
+passed c = record { line = c.args.self.now.line; next = c.after-self.result; table = c.set.new.self }
 
 pub returns-clause-cut : goal.returns-clause-cut
 returns-clause-cut c =
     let h = c.args.self.now in
-    let next : ℕ × ℕ = (c.in-Some.object, c.in-Some.size) in
-    let rest : List (ℕ × ℕ) = c.pop_front.new.self.items in
-    let held : AreHeld h.table h.behind.items (next ∷ rest) = subst (AreHeld h.table h.behind.items) c.in-Some.ensures.items c.requires.held in
-    ap (λ cells. begin_again (marked cells h.behind.items) (marked cells rest)) c.set-2.ensures
-    ∙ dropped-cut h.table h.behind.items next rest held (ap (leb 2) (sym c.get.ensures) ∙ lt-leb 2 c.get.result c.if-get-ge-MARKED.false)
-    ∙ ap (λ items. look (cut_by h.table h.behind.items items)) (sym c.in-Some.ensures.items)
+    let first = some h c.requires.held c.none.result c.none.ensures c.if-object-none.false in
+    pass-cut h c.requires.held first.0 first.1 (ap (leb 2) (sym c.get.ensures) ∙ le-leb 2 c.get.result c.if-get-lt-MARKED.false) (passed c) c.set.ensures refl c.after-self.ensures
+
+pub returns-clause-freed : goal.returns-clause-freed
+returns-clause-freed c = omega (arith, cut-size c.args.self.now, cut-size (passed c))
 
 pub returns-clause-held : goal.returns-clause-held
 returns-clause-held c =
     let h = c.args.self.now in
-    let next : ℕ × ℕ = (c.in-Some.object, c.in-Some.size) in
-    let rest : List (ℕ × ℕ) = c.pop_front.new.self.items in
-    let held : AreHeld h.table h.behind.items (next ∷ rest) = subst (AreHeld h.table h.behind.items) c.in-Some.ensures.items c.requires.held in
-    subst (λ cells. AreHeld cells h.behind.items rest) (sym c.set-2.ensures)
-    (dropped-held h.table h.behind.items next rest held (ap (leb 2) (sym c.get.ensures) ∙ lt-leb 2 c.get.result c.if-get-ge-MARKED.false))
-
-pub returns-clause-freed : goal.returns-clause-freed
-returns-clause-freed c =
-    let h = c.args.self.now in
-    let next : ℕ × ℕ = (c.in-Some.object, c.in-Some.size) in
-    let rest : List (ℕ × ℕ) = c.pop_front.new.self.items in
-    omega (
-      arith,
-      cut-bytes c.set-2.new.self h.behind.items rest,
-      cut-bytes h.table h.behind.items h.ahead.items,
-      ap (sum_by (λ (q : ℕ × ℕ). q.1)) c.in-Some.ensures.items,
-      sum_by-cons (λ (q : ℕ × ℕ). q.1) next rest,
-    )
+    let first = some h c.requires.held c.none.result c.none.ensures c.if-object-none.false in
+    pass-hand h c.requires.held first.0 first.1 (ap (leb 2) (sym c.get.ensures) ∙ le-leb 2 c.get.result c.if-get-lt-MARKED.false) (passed c) c.set.ensures refl c.after-self.ensures

@@ -1,14 +1,12 @@
 use Rattle.std.proofs.Common.{◌≡◌, ℕ, ◌+◌, ◌<◌, ◌∙◌, sym, ap, subst, Bool, true, false, length, get_or, arith}
-use Rattle.std.specs.Bool.{⊤}
-use Rattle.std.proofs.lemmas.Result.{MatchResult-from_err}
 use Rattle.policy_model.specs.States.{has_entry}
 use Rattle.policy_model.proofs.SieveSound.{cut_entries}
 use Rattle.replay_core.specs.declared.policy.Outcome.TheVariants.{Hit, Miss}
-use Rattle.replay_core.specs.Keeping.{Kept, GivesUp}
+use Rattle.replay_core.specs.Keeping.{Kept}
 use Rattle.replay_core.proofs.Kept.{fit-sound}
-use Rattle.replay_queues.specs.SieveQueues.{is_held, cut_at, with_room, cut_kept, IsSieve}
+use Rattle.replay_queues.specs.SieveQueues.{is_held, behind_items, ahead_items, cut_at, cut_kept, IsSieve}
 use Rattle.replay_queues.specs.declared.hand.Hand.{Hand}
-use Rattle.replay_queues.proofs.SieveAnswers.{held-entry, hit-answers, large-answers, miss-answers, sieve-fit, marked-behind, marked-ahead, marked-sieve, same_cut, still_absent, from_view, gives_same, came-sieve}
+use Rattle.replay_queues.proofs.SieveAnswers.{held-entry, hit-answers, large-answers, miss-answers, sieve-fit, marked-behind, marked-ahead, marked-sieve, still_absent, from_view, came-sieve}
 use Rattle.replay_queues.proofs.sieve.Sieve.ask.Goals as goal
 
 -- the object has a byte
@@ -20,7 +18,7 @@ has_byte objects capacity requests in_use h old k is view known =
 
 -- whether it has an entry
 answer_is : (objects capacity in_use : ℕ) (h : Hand) → IsSieve objects capacity in_use h → (k : ℕ) (b : Bool) → is_held (get_or h.table k 0) ≡ b → has_entry (cut_entries (cut_at h)) k ≡ b
-answer_is objects capacity in_use h is k b held = sym (held-entry h.table h.behind.items h.ahead.items is.held k) ∙ held
+answer_is objects capacity in_use h is k b held = sym (held-entry h.table (behind_items h) (ahead_items h) is.held.are k) ∙ held
 
 pub invariant_of-self : goal.invariant_of-self
 invariant_of-self c =
@@ -56,47 +54,29 @@ returns-then-size-self-clause-fits c =
     let p = c.self.inside in
     fit-sound p.capacity (cut_entries (cut_at p.hand)) (sieve-fit p.objects p.capacity p.used p.hand c.self.invariant)
 
-pub returns-in_err-reserve-clause-gives_up : goal.returns-in_err-reserve-clause-gives_up
-returns-in_err-reserve-clause-gives_up c =
-    let p = c.self.inside in
-    let after : Kept = cut_kept p.objects p.capacity p.requests (cut_at c.reserve.new.self) in
-    let same : cut_at c.reserve.new.self ≡ cut_at p.hand = same_cut p.hand c.reserve.new.self c.reserve.ensures.table c.reserve.ensures.behind c.reserve.ensures.ahead in
-    MatchResult-from_err c.from_residual.result (λ _. ⊤) (λ _. GivesUp c.args.self.now after) c.from_residual.ensures.0
-    (λ _. subst (λ (old : Kept). GivesUp old after) c.self.view_is (gives_same p.objects p.capacity p.requests (cut_at p.hand) (cut_at c.reserve.new.self) same (sieve-fit p.objects p.capacity p.used p.hand c.self.invariant)))
-
 pub come_in-requires-clause-absent : goal.come_in-requires-clause-absent
 come_in-requires-clause-absent c =
     let p = c.self.inside in
-    let same : cut_at c.reserve.new.self ≡ cut_at p.hand = same_cut p.hand c.reserve.new.self c.reserve.ensures.table c.reserve.ensures.behind c.reserve.ensures.ahead in
-    still_absent p.hand c.make_room-self-inside.new.self p.capacity c.args.size c.self.invariant.held c.make_room-self-inside.ensures.held
-    (c.make_room-self-inside.ensures.cut ∙ ap (with_room p.capacity c.args.size) same)
+    still_absent p.hand c.make_room-self-inside.new.self p.capacity c.args.size c.self.invariant.held.are c.make_room-self-inside.ensures.held.are
+    (c.make_room-self-inside.ensures.cut)
     c.args.object (sym c.holds.ensures ∙ c.if-holds.false)
 
 pub invariant_of-self-2 : goal.invariant_of-self-2
 invariant_of-self-2 c =
     let p = c.self.inside in
     came-sieve p.objects p.capacity p.used c.make_room-self-inside.result c.args.size p.hand c.make_room-self-inside.new.self c.come_in.new.self c.self.invariant
-    (c.come_in.ensures.table ∙ c.make_room-self-inside.ensures.table ∙ ap length c.reserve.ensures.table) c.come_in.ensures.held c.args.object c.come_in.ensures.cut c.make_room-self-inside.ensures.in_use c.make_room-self-inside.ensures.fits
+    (c.come_in.ensures.table ∙ c.make_room-self-inside.ensures.table) c.come_in.ensures.held c.args.object c.come_in.ensures.cut c.make_room-self-inside.ensures.in_use c.make_room-self-inside.ensures.fits
 
 pub returns-clause-answers : goal.returns-clause-answers
 returns-clause-answers c =
     let p = c.self.inside in
     let none : is_held (get_or p.hand.table c.args.object 0) ≡ false = sym c.holds.ensures ∙ c.if-holds.false in
-    let same : cut_at c.reserve.new.self ≡ cut_at p.hand = same_cut p.hand c.reserve.new.self c.reserve.ensures.table c.reserve.ensures.behind c.reserve.ensures.ahead in
     from_view c.args.self.now p.objects p.capacity p.requests c.saturating_add-requests.result (cut_at p.hand) (cut_at c.come_in.new.self) c.args.object c.args.size Miss c.self.view_is c.saturating_add-requests.ensures
     (miss-answers p.objects p.capacity p.requests (cut_at p.hand) c.args.object c.args.size (answer_is p.objects p.capacity p.used p.hand c.self.invariant c.args.object false none) c.if-size-self.false
     (cut_at c.come_in.new.self) (cut_at c.make_room-self-inside.new.self)
-    (c.make_room-self-inside.ensures.cut ∙ ap (with_room p.capacity c.args.size) same) c.come_in.ensures.cut)
+    (c.make_room-self-inside.ensures.cut) c.come_in.ensures.cut)
 
 pub returns-clause-fits : goal.returns-clause-fits
 returns-clause-fits c =
     let p = c.self.inside in
     fit-sound p.capacity (cut_entries (cut_at c.come_in.new.self)) (sieve-fit p.objects p.capacity (c.make_room-self-inside.result + c.args.size) c.come_in.new.self (invariant_of-self-2 c))
-
-pub returns-in_err-reserve-clause-kept : goal.returns-in_err-reserve-clause-kept
-returns-in_err-reserve-clause-kept c =
-    let p = c.self.inside in
-    let after : Kept = cut_kept p.objects p.capacity p.requests (cut_at c.reserve.new.self) in
-    let same : cut_at c.reserve.new.self ≡ cut_at p.hand = same_cut p.hand c.reserve.new.self c.reserve.ensures.table c.reserve.ensures.behind c.reserve.ensures.ahead in
-    MatchResult-from_err c.from_residual.result (λ _. ⊤) (λ _. after ≡ c.args.self.now) c.from_residual.ensures.0
-    (λ _. ap (cut_kept p.objects p.capacity p.requests) same ∙ c.self.view_is)

@@ -2,7 +2,7 @@ use Rattle.std.proofs.Common.{◌≡◌, ℕ, ◌<◌, ◌≤◌, ◌∙◌, sym
 use Rattle.std.proofs.lemmas.List.{length-set}
 use Rattle.policy_model.specs.States.{Member, Entry, members_size, has_member}
 use Rattle.policy_model.specs.S3Fifo.{Queues, fade}
-use Rattle.replay_queues.specs.GhostQueues.{GhostQueue}
+use Rattle.replay_queues.specs.Lines.{Lined}
 use Rattle.replay_queues.specs.SmallAndMain.{queues_at}
 use Rattle.replay_queues.proofs.QueueLemmas.{counted, fade-done}
 use Rattle.replay_queues.proofs.QueueAnswers.{is_fading, small-bytes, queued-as, fade-queued, fade-small, fade-main, fade-turn, some-ghost}
@@ -15,7 +15,7 @@ loop-self-preserved c =
     let old : List Member = t.ghosts.members in
     let many : c.args.most < members_size old = omega (arith, c.bytes.ensures, c.loop-self-test.true) in
     let some : 0 < length old = some-ghost c.args.most old many in
-    let rest : c.pop-object.new.self.members ≡ drop 1 old = ap (λ (g : GhostQueue). g.members) c.pop-object.ensures.rest in
+    let rest : c.pop-object.new.self.members ≡ drop 1 old = ap (λ (g : Lined). g.members) c.pop-object.ensures.rest in
     record {
       small = c.loop-self.invariant.small;
       main = c.loop-self.invariant.main;
@@ -23,9 +23,9 @@ loop-self-preserved c =
       entries_main = ap (λ cells. counted cells t.main.items) c.set.ensures ∙ fade-main t.table t.small.items t.main.items old k c.loop-self.invariant.fading.are some c.pop-object.ensures.first ∙ c.loop-self.invariant.entries_main;
       fading = is_fading (record { small = t.small; main = t.main; ghosts = c.pop-object.new.self; table = c.set.new.self; small_used = t.small_used })
           (queued-as (slice_set t.table k 0) c.set.new.self t.small.items t.main.items t.small.items t.main.items (drop 1 old) c.pop-object.new.self.members c.set.ensures refl refl rest
-          (fade-queued t.table t.small.items t.main.items old k c.loop-self.invariant.fading.are some c.pop-object.ensures.first (ap (λ (g : GhostQueue). has_member g.members k) (sym c.pop-object.ensures.rest) ∙ c.pop-object.ensures.absent)))
+          (fade-queued t.table t.small.items t.main.items old k c.loop-self.invariant.fading.are some c.pop-object.ensures.first (ap (λ (g : Lined). has_member g.members k) (sym c.pop-object.ensures.rest) ∙ c.pop-object.ensures.absent)))
           (small-bytes t c.loop-self.invariant.fading)
-          (ap length c.set.ensures ∙ length-set t.table k 0 ∙ c.loop-self.invariant.fading.each_object ∙ sym (ap (λ (g : GhostQueue). g.objects) c.pop-object.ensures.rest));
+          (ap length c.set.ensures ∙ length-set t.table k 0 ∙ c.loop-self.invariant.fading.each_object ∙ sym (ap (λ (g : Lined). g.objects) c.pop-object.ensures.rest));
       fades = ap (fade c.args.most) rest ∙ fade-turn c.args.most old many ∙ c.loop-self.invariant.fades;
       table = ap length c.set.ensures ∙ length-set t.table k 0 ∙ c.loop-self.invariant.table;
     }

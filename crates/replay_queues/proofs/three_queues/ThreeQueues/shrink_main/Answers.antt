@@ -4,7 +4,7 @@ use Rattle.std.proofs.lemmas.List.Sums.{sum_by-cons, sum_by_push}
 use Rattle.policy_model.specs.States.{Member, Entry}
 use Rattle.policy_model.specs.S3Fifo.{Queues, shrink_main, turns_of}
 use Rattle.replay_queues.specs.declared.three_queues.ThreeQueues.{ThreeQueues}
-use Rattle.replay_queues.specs.GhostQueues.{GhostQueue}
+use Rattle.replay_queues.specs.Lines.{Lined}
 use Rattle.replay_queues.specs.SmallAndMain.{queues_by, queues_at, AreQueued}
 use Rattle.replay_queues.proofs.ItemLemmas.{item_bytes}
 use Rattle.replay_queues.proofs.QueueLemmas.{counted, queue-bytes, main-small, backed-queued, dropped-queued}
@@ -27,7 +27,7 @@ returns-then-cell-le-HELD-clause-queues c =
     (ap (counted t.table) c.in-Some.ensures.items) low c.loop-object.invariant.turns.1 c.loop-object.invariant.turns.2 in
     ap (λ cells. of (counted cells t.small.items) (counted cells rest) ghosts) c.set.ensures
     ∙ ap (λ s. of s (counted (slice_set t.table p.0 0) rest) ghosts) (main-small t.table t.small.items p rest ghosts queued 0 ∙ c.loop-object.invariant.small)
-    ∙ ap (λ m. of (queues_at start).small m ghosts) last ∙ ap (λ g. of (queues_at start).small (shrink_main (turns_of (queues_at start).main) (queues_at start).main) g) (ap (λ (g : GhostQueue). g.members) c.loop-object.invariant.ghosts)
+    ∙ ap (λ m. of (queues_at start).small m ghosts) last ∙ ap (λ g. of (queues_at start).small (shrink_main (turns_of (queues_at start).main) (queues_at start).main) g) (ap (λ (g : Lined). g.members) c.loop-object.invariant.ghosts)
 
 pub returns-then-cell-le-HELD-clause-freed : goal.returns-then-cell-le-HELD-clause-freed
 returns-then-cell-le-HELD-clause-freed c =
@@ -132,4 +132,4 @@ returns-clause-queues c =
     ∙ ap (λ s. of s [] t.ghosts.members) c.loop-object.invariant.small
     ∙ ap (λ m. of (queues_at start).small m t.ghosts.members)
     (main-end c.loop-object.invariant.turns.0 (queues_at t).main (shrink_main (turns_of (queues_at start).main) (queues_at start).main) (ap (counted t.table) old) c.loop-object.invariant.turns.2)
-    ∙ ap (λ g. of (queues_at start).small (shrink_main (turns_of (queues_at start).main) (queues_at start).main) g) (ap (λ (g : GhostQueue). g.members) c.loop-object.invariant.ghosts)
+    ∙ ap (λ g. of (queues_at start).small (shrink_main (turns_of (queues_at start).main) (queues_at start).main) g) (ap (λ (g : Lined). g.members) c.loop-object.invariant.ghosts)

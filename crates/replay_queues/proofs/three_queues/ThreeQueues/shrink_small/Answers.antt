@@ -5,7 +5,7 @@ use Rattle.std.proofs.lemmas.List.Sums.{sum_by-cons, sum_by_push}
 use Rattle.policy_model.specs.States.{Member, member}
 use Rattle.policy_model.specs.S3Fifo.{Queues, fade, shrink_small, queues_used}
 use Rattle.replay_queues.specs.declared.three_queues.ThreeQueues.{ThreeQueues}
-use Rattle.replay_queues.specs.GhostQueues.{GhostQueue}
+use Rattle.replay_queues.specs.Lines.{Lined}
 use Rattle.replay_queues.specs.SmallAndMain.{queues_by, AreQueued}
 use Rattle.replay_queues.proofs.ItemLemmas.{item_bytes}
 use Rattle.replay_queues.proofs.QueueLemmas.{counted, queue-bytes, left-queued, left-shrunk, promoted-queued, promoted-small}
@@ -21,9 +21,9 @@ fade-requires-clause-queued c =
     let queued : AreQueued t.table (p ∷ rest) t.main.items ghosts = subst (λ items. AreQueued t.table items t.main.items ghosts) c.in-Some.ensures.items c.loop-object.invariant.queued.fading.are in
     is_fading (record { small = c.pop_front.new.self; main = t.main; ghosts = c.push.new.self; table = c.set.new.self; small_used = t.small_used - c.in-Some.size })
     (queued-as (slice_set t.table p.0 1) c.set.new.self rest t.main.items rest t.main.items (ghosts ++ member p.0 p.1 ∷ []) c.push.new.self.members c.set.ensures refl refl
-    (ap (λ (g : GhostQueue). g.members) c.push.ensures) (left-queued t.table p rest t.main.items ghosts queued))
+    (ap (λ (g : Lined). g.members) c.push.ensures) (left-queued t.table p rest t.main.items ghosts queued))
     (omega (arith, small-bytes t c.loop-object.invariant.queued.fading, ap item_bytes c.in-Some.ensures.items, sum_by-cons (λ (q : ℕ × ℕ). q.1) p rest))
-    (ap length c.set.ensures ∙ length-set t.table p.0 1 ∙ c.loop-object.invariant.queued.fading.each_object ∙ sym (ap (λ (g : GhostQueue). g.objects) c.push.ensures))
+    (ap length c.set.ensures ∙ length-set t.table p.0 1 ∙ c.loop-object.invariant.queued.fading.each_object ∙ sym (ap (λ (g : Lined). g.objects) c.push.ensures))
 
 pub returns-then-get-lt-HIT_TWICE-clause-queues : goal.returns-then-get-lt-HIT_TWICE-clause-queues
 returns-then-get-lt-HIT_TWICE-clause-queues c =
@@ -35,7 +35,7 @@ returns-then-get-lt-HIT_TWICE-clause-queues c =
     let of : List ℕ → List Member → Queues = λ cells g. queues_by cells rest t.main.items (fade c.args.most g) in
     let low : get_or t.table p.0 0 < 4 = omega (arith, c.get.ensures, c.if-get-lt-HIT_TWICE.true) in
     c.fade.ensures.queues
-    ∙ ap (λ cells. of cells c.push.new.self.members) c.set.ensures ∙ ap (of (slice_set t.table p.0 1)) (ap (λ (g : GhostQueue). g.members) c.push.ensures)
+    ∙ ap (λ cells. of cells c.push.new.self.members) c.set.ensures ∙ ap (of (slice_set t.table p.0 1)) (ap (λ (g : Lined). g.members) c.push.ensures)
     ∙ left-shrunk t.table p rest t.main.items ghosts queued c.args.most (lt-leb 2 (get_or t.table p.0 0 - 2) (omega arith))
     ∙ ap (λ items. shrink_small c.args.most (counted t.table items) (counted t.table t.main.items) ghosts) (sym c.in-Some.ensures.items)
     ∙ c.loop-object.invariant.shrinks

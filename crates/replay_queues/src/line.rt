@@ -1,17 +1,19 @@
-//! The queue of ghosts, which any object can leave.
-ghost use Rattle.std.specs.Prelude.{◌≡◌, ◌<◌, ◌+◌, ◌^◌, ◌==◌, ◌++◌, ◌∷◌, [], not, true, false, filter, length, drop, slice_index_or, IfOk};
+//! Objects in a line, which any of them can leave.
+ghost use Rattle.std.specs.Prelude.{◌≡◌, ◌<◌, ◌+◌, ◌^◌, ◌++◌, ◌∷◌, [], true, false, length, drop, slice_index_or, IfOk};
+ghost use Rattle.policy_model.specs.Leaving.{without_member};
 ghost use Rattle.policy_model.specs.States.{member, members_size, has_member};
+ghost use Rattle.replay_queues.specs.Lines.{first_of, from_object};
 
 use crate::nodes::{Node, join, note_size};
 use bound_base::NoMemory;
 use std::alloc::Global;
 use std::marker::Model;
 
-/// Objects with their sizes, in the order in which they became ghosts.
+/// Objects with their sizes, in the order in which they came.
 ///
 /// It is a doubly linked list with a node for each object and a sentinel.
 #[derive(Drop)]
-pub(crate) struct Ghosts {
+pub(crate) struct Line {
     nodes: Vec<Node>,
     objects: u32,
     // For the proof alone.
@@ -19,29 +21,29 @@ pub(crate) struct Ghosts {
     bytes: u64,
 }
 
-impl Model for Ghosts {
-    ghost use Rattle.replay_queues.specs.GhostQueues.{GhostQueue};
+impl Model for Line {
+    ghost use Rattle.replay_queues.specs.Lines.{Lined};
 
-    ghost Value = { GhostQueue };
+    ghost Value = { Lined };
 
-    ghost use Rattle.replay_queues.specs.Rings.{ghosts_of, IsRing};
+    ghost use Rattle.replay_queues.specs.Rings.{ring_members, IsRing};
 
-    ghost view = { λ g. record { objects = g.objects; members = ghosts_of g.nodes.items g.objects g.count } };
+    ghost view = { λ l. record { objects = l.objects; members = ring_members l.nodes.items l.objects l.count } };
 
-    ghost invariant = { λ g. IsRing g.nodes.items g.objects g.count g.bytes };
+    ghost invariant = { λ l. IsRing l.nodes.items l.objects l.count l.bytes };
 }
 
-impl Ghosts {
+impl Line {
     /// Empty, for objects numbered below this. It takes 16 bytes for each.
     pub(crate) fn new(alloc: Global, objects: u32) -> Result<Self, NoMemory>
-        ensures { IfOk result (λ ghosts. ghosts ≡ record { objects = objects; members = [] }) }
+        ensures { IfOk result (λ line. line ≡ record { objects = objects; members = [] }) }
     {
         let node = Node {
             before: objects,
             after: objects,
             size: 0,
         };
-        Ok(Ghosts {
+        Ok(Line {
             nodes: vec![in alloc; node; objects as usize + 1]?,
             objects,
             count: 0,
@@ -49,7 +51,32 @@ impl Ghosts {
         })
     }
 
-    /// The bytes of the ghosts.
+    /// The number for none, which is above that of each object.
+    #[inline(always)]
+    pub(crate) fn none(&self) -> u32
+        ensures { result ≡ self.now.objects }
+    {
+        self.objects
+    }
+
+    /// The first object, or the number for none.
+    #[inline(always)]
+    pub(crate) fn first(&self) -> u32
+        ensures { result ≡ first_of self.now.objects self.now.members }
+    {
+        self.nodes[self.objects as usize].after
+    }
+
+    /// The object after this one, or the number for none.
+    #[inline(always)]
+    pub(crate) fn after(&self, object: u32) -> u32
+        requires there { has_member self.now.members object ≡ true }
+        ensures { result ≡ first_of self.now.objects (drop 1 (from_object object self.now.members)) }
+    {
+        self.nodes[object as usize].after
+    }
+
+    /// The bytes of the objects.
     pub(crate) fn bytes(&self) -> u64
         ensures { result ≡ members_size self.now.members }
     {
@@ -71,10 +98,11 @@ impl Ghosts {
         self.bytes += size;
     }
 
-    /// Takes an object out, wherever it stands.
-    pub(crate) fn remove(&mut self, object: u32)
+    /// Takes an object out, wherever it stands, and says its size.
+    pub(crate) fn remove(&mut self, object: u32) -> u64
         requires there { has_member self.old.members object ≡ true }
-        ensures { self.new ≡ record self.old { members = filter (λ m. not (m.object == object)) self.old.members } }
+        ensures rest { self.new ≡ record self.old { members = without_member object self.old.members } }
+        ensures size { members_size self.new.members + result ≡ members_size self.old.members }
     {
         let Node {
             before,
@@ -84,6 +112,7 @@ impl Ghosts {
         join(&mut self.nodes, before, after);
         self.count -= 1;
         self.bytes -= size;
+        size
     }
 
     /// Takes the first one out.

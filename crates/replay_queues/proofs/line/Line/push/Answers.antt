@@ -1,11 +1,11 @@
 use Rattle.std.proofs.Common.{◌≡◌, ℕ, ◌+◌, ◌<◌, ◌∙◌, ap, subst, false, List, [], ◌∷◌, ◌++◌, length, get_or, arith}
 use Rattle.policy_model.specs.States.{Member, member}
 use Rattle.replay_queues.specs.declared.nodes.Node.{Node}
-use Rattle.replay_queues.specs.GhostQueues.{GhostQueue}
+use Rattle.replay_queues.specs.Lines.{Lined}
 use Rattle.replay_queues.specs.Rings.{node_at, Joins}
 use Rattle.replay_queues.proofs.RingLemmas.{before}
 use Rattle.replay_queues.proofs.GhostAnswers.{node_read, view-below, view-among, last-within, push-ring, push-ghosts, count-few}
-use Rattle.replay_queues.proofs.ghosts.Ghosts.push.Goals as goal
+use Rattle.replay_queues.proofs.line.Line.push.Goals as goal
 
 -- the last ghost, as its node says
 last_is : (noted : List Node) (none each : ℕ) (n : Node) → length noted ≡ each → each ≡ none + 1 → n ≡ get_or noted none n → n ≡ node_at noted none
@@ -41,10 +41,10 @@ returns c =
     let p = c.self.inside in
     let n : Node = c.index.result.now in
     let is : n ≡ node_at c.note_size.new.nodes.items p.objects = last_is c.note_size.new.nodes.items p.objects (length p.nodes.items) n c.note_size.ensures.nodes_stay c.self.invariant.each_node c.index.ensures in
-    let queue : ℕ → List Member → GhostQueue = λ o ms. record { objects = o; members = ms } in
+    let queue : ℕ → List Member → Lined = λ o ms. record { objects = o; members = ms } in
     ap (queue p.objects)
     (push-ghosts p.nodes.items c.note_size.new.nodes.items c.join.new.nodes.items c.join-2.new.nodes.items p.objects p.count p.bytes c.args.object c.args.size c.self.invariant
     (view-below p.nodes.items p.objects p.count p.bytes c.args.self.now c.self.invariant c.self.view_is c.args.object c.requires.within)
     (view-among p.nodes.items p.objects p.count p.bytes c.args.self.now c.self.invariant c.self.view_is c.args.object false c.requires.absent)
     c.note_size.ensures (subst (λ (m : Node). Joins c.note_size.new.nodes.items c.join.new.nodes.items m.before c.args.object) is c.join.ensures.joined) c.join-2.ensures.joined)
-    ∙ ap (λ (g : GhostQueue). queue g.objects (g.members ++ member c.args.object c.args.size ∷ [])) c.self.view_is
+    ∙ ap (λ (g : Lined). queue g.objects (g.members ++ member c.args.object c.args.size ∷ [])) c.self.view_is

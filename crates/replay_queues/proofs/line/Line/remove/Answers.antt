@@ -1,18 +1,11 @@
 use Rattle.std.proofs.Common.{◌≡◌, ℕ, ◌+◌, ◌-◌, ◌<◌, ◌∙◌, sym, ap, subst, true, not, eqb, List, filter, length, arith}
-use Rattle.policy_model.specs.States.{Member}
+use Rattle.policy_model.specs.States.{Member, members_size}
 use Rattle.replay_queues.specs.declared.nodes.Node.{Node}
-use Rattle.replay_queues.specs.GhostQueues.{GhostQueue}
-use Rattle.replay_queues.specs.Rings.{node_at, is_among, Joins, ring_of, IsRing}
+use Rattle.replay_queues.specs.Lines.{Lined}
+use Rattle.replay_queues.specs.Rings.{node_at, is_among, Joins, ring_of, ring_members, IsRing}
 use Rattle.replay_queues.proofs.RingLemmas.{after, before}
-use Rattle.replay_queues.proofs.GhostAnswers.{node_read, view-among, before-within, after-within, less-count, less-bytes, less-ring, less-ghosts}
-use Rattle.replay_queues.proofs.ghosts.Ghosts.remove.Goals as goal
-
--- a ghost has a node
-node_within : (nodes : List Node) (none count bytes k : ℕ) → IsRing nodes none count bytes → is_among (ring_of nodes none count) k ≡ true → k < length nodes
-node_within nodes none count bytes k ring there =
-    let low : k < none = ring.below k there in
-    let each : length nodes ≡ none + 1 = ring.each_node in
-    omega arith
+use Rattle.replay_queues.proofs.GhostAnswers.{node_read, node_within, view-among, before-within, after-within, less-count, less-bytes, less-ring, less-ghosts}
+use Rattle.replay_queues.proofs.line.Line.remove.Goals as goal
 
 pub index-requires : goal.index-requires
 index-requires c =
@@ -63,13 +56,23 @@ invariant_of-self c =
     subst (λ (s : ℕ). IsRing c.join.new.nodes.items p.objects (p.count - 1) (p.bytes - s)) (sym (ap (λ (m : Node). m.size) is))
     (less-ring p.nodes.items p.objects p.count p.bytes c.args.object c.self.invariant there c.join.new.nodes.items (subst (λ (m : Node). Joins p.nodes.items c.join.new.nodes.items m.before m.after) is c.join.ensures.joined))
 
-pub returns : goal.returns
-returns c =
+pub returns-clause-rest : goal.returns-clause-rest
+returns-clause-rest c =
     let p = c.self.inside in
     let there : is_among (ring_of p.nodes.items p.objects p.count) c.args.object ≡ true = view-among p.nodes.items p.objects p.count p.bytes c.args.self.now c.self.invariant c.self.view_is c.args.object true c.requires.there in
     let is : c.index.result.now ≡ node_at p.nodes.items c.args.object =
     node_read p.nodes.items c.args.object c.index.result.now (node_within p.nodes.items p.objects p.count p.bytes c.args.object c.self.invariant there) c.index.ensures in
-    let queue : ℕ → List Member → GhostQueue = λ o ms. record { objects = o; members = ms } in
+    let queue : ℕ → List Member → Lined = λ o ms. record { objects = o; members = ms } in
     ap (queue p.objects)
     (less-ghosts p.nodes.items p.objects p.count p.bytes c.args.object c.self.invariant there c.join.new.nodes.items (subst (λ (m : Node). Joins p.nodes.items c.join.new.nodes.items m.before m.after) is c.join.ensures.joined))
-    ∙ ap (λ (g : GhostQueue). queue g.objects (filter (λ m. not (eqb m.object c.args.object)) g.members)) c.self.view_is
+    ∙ ap (λ (g : Lined). queue g.objects (filter (λ m. not (eqb m.object c.args.object)) g.members)) c.self.view_is
+
+pub returns-clause-size : goal.returns-clause-size
+returns-clause-size c =
+    let p = c.self.inside in
+    let there : is_among (ring_of p.nodes.items p.objects p.count) c.args.object ≡ true = view-among p.nodes.items p.objects p.count p.bytes c.args.self.now c.self.invariant c.self.view_is c.args.object true c.requires.there in
+    let is : c.index.result.now ≡ node_at p.nodes.items c.args.object =
+    node_read p.nodes.items c.args.object c.index.result.now (node_within p.nodes.items p.objects p.count p.bytes c.args.object c.self.invariant there) c.index.ensures in
+    let counted : p.bytes ≡ members_size (ring_members p.nodes.items p.objects p.count) = c.self.invariant.bytes_are in
+    let left : p.bytes - c.index.result.now.size ≡ members_size (ring_members c.join.new.nodes.items p.objects (p.count - 1)) = (invariant_of-self c).bytes_are in
+    omega (arith, ap (λ (m : Node). m.size) is, less-bytes p.nodes.items p.objects p.count p.bytes c.args.object c.self.invariant there, ap (λ (g : Lined). members_size g.members) c.self.view_is)
