@@ -1,17 +1,17 @@
 -- The ghosts, as one is put in or taken out.
-use Rattle.std.proofs.Common.{◌≡◌, ℕ, zero, suc, ◌+◌, ◌-◌, ◌<◌, ◌≤◌, ◌∙◌, sym, refl, ap, subst, Bool, true, false, not, ◌||◌, cond, eqb, List, [], ◌∷◌, ◌++◌, length, filter, get_or, drop, arith, sum_by}
+use Rattle.std.proofs.Common.{◌≡◌, ℕ, ◌+◌, ◌-◌, ◌<◌, ◌≤◌, ◌∙◌, sym, refl, ap, subst, Bool, true, false, not, ◌||◌, cond, eqb, List, [], ◌∷◌, ◌++◌, length, filter, get_or, arith, sum_by}
 use Rattle.std.specs.List.{AllByRecursion, IsDistinct, list_any}
-use Rattle.std.proofs.lemmas.Bool.{eqb-true, eq-eqb, ne_eqb, or_parts, or_from, or_left, cond_both}
+use Rattle.std.proofs.lemmas.Bool.{eqb-true, or_parts, or_from, cond_both}
 use Rattle.std.proofs.lemmas.Map.Steps.{length-le_from_distinct_below}
-use Rattle.std.proofs.lemmas.List.{length-append, map-append, get_or_read}
-use Rattle.std.proofs.lemmas.List.Sums.{sum_by-cons, sum_by_push}
+use Rattle.std.proofs.lemmas.List.{get_or_read}
+use Rattle.std.proofs.lemmas.List.Sums.{sum_by-cons}
 use Rattle.policy_model.specs.States.{Member, member, members_size, has_member}
 use Rattle.policy_model.proofs.Comparisons.{eqb-sym}
 use Rattle.cache_model.proofs.Eligible.{or_false}
 use Rattle.replay_queues.specs.declared.nodes.Node.{Node}
 use Rattle.replay_queues.specs.Lines.{Lined}
-use Rattle.replay_queues.specs.Rings.{node_at, is_among, Distinct, Links, Joins, Notes, walk, ring_of, members_at, ring_members, IsRing}
-use Rattle.replay_queues.proofs.RingLemmas.{after, before, without, without-none, without-head, Links-same, last-beside, before-among, after-among, takes_last, goes_on, taken_out, walked, length-walk}
+use Rattle.replay_queues.specs.Rings.{node_at, is_among, Distinct, Links, Joins, walk, ring_of, members_at, ring_members, IsRing}
+use Rattle.replay_queues.proofs.RingLemmas.{after, before, without, without-none, last-beside, before-among, after-among, taken_out, walked, length-walk}
 
 abbrev pub size_at : List Node → ℕ → ℕ
 size_at nodes k = (node_at nodes k).size
@@ -31,7 +31,7 @@ members-same : (old new : List Node) → ((j : ℕ) → size_at new j ≡ size_a
 members-same old new same [] = refl
 members-same old new same (j ∷ rest) = ap (λ s. member j s ∷ members_at new rest) (same j) ∙ ap (λ ms. member j (size_at old j) ∷ ms) (members-same old new same rest)
 
-members-without : (nodes : List Node) (k : ℕ) (numbers : List ℕ) → filter (λ m. not (eqb m.object k)) (members_at nodes numbers) ≡ members_at nodes (without k numbers)
+pub members-without : (nodes : List Node) (k : ℕ) (numbers : List ℕ) → filter (λ m. not (eqb m.object k)) (members_at nodes numbers) ≡ members_at nodes (without k numbers)
 members-without nodes k [] = refl
 members-without nodes k (j ∷ rest) = at (eqb j k) (members-without nodes k rest)
   where
@@ -126,21 +126,20 @@ pub few : (numbers : List ℕ) (none : ℕ) → Distinct numbers → ((k : ℕ) 
 few numbers none apart below = length-le_from_distinct_below numbers none (is_distinct numbers apart) (λ q there. below q (sym (any-among numbers q) ∙ there))
 
 -- ---- a ring of these numbers
-module _ (nodes : List Node) (none count bytes : ℕ) (numbers : List ℕ) (linked : Links nodes none numbers none) (counted : length numbers ≡ count) where
+module _ (nodes : List Node) (none count : ℕ) (numbers : List ℕ) (linked : Links nodes none numbers none) (counted : length numbers ≡ count) where
   pub ring-is : ring_of nodes none count ≡ numbers
   ring-is = ap (λ n. walk nodes n (after nodes none)) (sym counted) ∙ walked nodes none numbers none linked
 
-  pub ring-made : length nodes ≡ none + 1 → Distinct numbers → ((k : ℕ) → is_among numbers k ≡ true → k < none) → bytes ≡ members_size (members_at nodes numbers) → IsRing nodes none count bytes
-  ring-made each apart below bytes_are = record {
+  pub ring-made : length nodes ≡ none + 1 → Distinct numbers → ((k : ℕ) → is_among numbers k ≡ true → k < none) → IsRing nodes none count
+  ring-made each apart below = record {
     each_node = each;
     linked = subst (λ js. Links nodes none js none) (sym ring-is) linked;
     apart = subst Distinct (sym ring-is) apart;
     below = λ k there. below k (ap (λ js. is_among js k) (sym ring-is) ∙ there);
-    bytes_are = bytes_are ∙ ap (λ js. members_size (members_at nodes js)) (sym ring-is);
   }
 
 -- ---- what holds of a ring
-module _ (nodes : List Node) (none count bytes : ℕ) (ring : IsRing nodes none count bytes) where
+module _ (nodes : List Node) (none count : ℕ) (ring : IsRing nodes none count) where
   abbrev numbers : List ℕ
   numbers = ring_of nodes none count
 
@@ -154,7 +153,7 @@ module _ (nodes : List Node) (none count bytes : ℕ) (ring : IsRing nodes none 
   pub ghost-among : (k : ℕ) → has_member (ring_members nodes none count) k ≡ is_among numbers k
   ghost-among k = members-among nodes numbers k
 
-  beside : (k : ℕ) → is_among (none ∷ numbers) k ≡ true → k < none + 1
+  pub beside : (k : ℕ) → is_among (none ∷ numbers) k ≡ true → k < none + 1
   beside k there = at (eqb none k) refl
     where
       at : (t : Bool) → eqb none k ≡ t → k < none + 1
@@ -173,66 +172,20 @@ module _ (nodes : List Node) (none count bytes : ℕ) (ring : IsRing nodes none 
   pub count-few : count ≤ none
   count-few = omega (arith, few numbers none ring.apart ring.below, length-walk nodes count (after nodes none))
 
--- ---- one is put in
-module _ (old noted mid new : List Node) (none count bytes k size : ℕ) (ring : IsRing old none count bytes) (within : k < none) (absent : is_among (ring_of old none count) k ≡ false)
-    (notes : Notes old noted k size) (first_join : Joins noted mid (before noted none) k) (second_join : Joins mid new k none) where
-  abbrev all : List ℕ
-  all = ring_of old none count
-
-  not_none : eqb none k ≡ false
-  not_none = ne_eqb none k (λ (same : none ≡ k). absurd (omega arith))
-
-  push-links : Links new none (all ++ k ∷ []) none
-  push-links =
-      goes_on mid new k none none all second_join not_none not_none absent (none_apart old none count bytes ring)
-      (takes_last noted mid k none none all first_join ring.apart (none_apart old none count bytes ring) absent
-      (Links-same old noted notes.follow_stay notes.before_stay none all none ring.linked))
-
-  push-size : (j : ℕ) → size_at new j ≡ cond (eqb j k) size (size_at old j)
-  push-size j = second_join.sizes_stay j ∙ first_join.sizes_stay j ∙ notes.size_is j
-
-  push-members : members_at new (all ++ k ∷ []) ≡ members_at old all ++ member k size ∷ []
-  push-members =
-      map-append (λ (j : ℕ). member j (size_at new j)) all (k ∷ [])
-      ∙ ap (λ ms. ms ++ member k (size_at new k) ∷ []) (members-but old new k (λ j other. push-size j ∙ ap (λ t. cond t size (size_at old j)) other) all absent)
-      ∙ ap (λ s. members_at old all ++ member k s ∷ []) (push-size k ∙ ap (λ t. cond t size (size_at old k)) (eq-eqb k k refl))
-
-  push-counted : length (all ++ k ∷ []) ≡ count + 1
-  push-counted = omega (arith, length-append all (k ∷ []), length-walk old count (after old none))
-
-  push-below : (q : ℕ) → is_among (all ++ k ∷ []) q ≡ true → q < none
-  push-below q there = at (eqb k q) refl
-    where
-      at : (t : Bool) → eqb k q ≡ t → q < none
-      at true is = let same : k ≡ q = eqb-true k q is in omega arith
-      at false is = ring.below q (sym (or_false (is_among all q)) ∙ ap (λ t. is_among all q || t) (sym is) ∙ sym (among-push all k q) ∙ there)
-
-  pub push-ring : IsRing new none (count + 1) (bytes + size)
-  push-ring =
-      ring-made new none (count + 1) (bytes + size) (all ++ k ∷ []) push-links push-counted
-      (second_join.nodes_stay ∙ first_join.nodes_stay ∙ notes.nodes_stay ∙ ring.each_node)
-      (distinct-push all k ring.apart absent) push-below
-      (let counted : bytes ≡ members_size (members_at old all) = ring.bytes_are in omega (arith, ap members_size push-members, sum_by_push (λ (m : Member). m.size) (members_at old all) (member k size)))
-
-  pub push-ghosts : ring_members new none (count + 1) ≡ ring_members old none count ++ member k size ∷ []
-  push-ghosts = ap (members_at new) (ring-is new none (count + 1) (bytes + size) (all ++ k ∷ []) push-links push-counted) ∙ push-members
-
 -- ---- one is taken out
-module _ (old : List Node) (none count bytes k : ℕ) (ring : IsRing old none count bytes) (there : is_among (ring_of old none count) k ≡ true) where
+module _ (old : List Node) (none count k : ℕ) (ring : IsRing old none count) (there : is_among (ring_of old none count) k ≡ true) where
   abbrev all_of : List ℕ
   all_of = ring_of old none count
 
-  pub less-bytes : members_size (members_at old (without k all_of)) + size_at old k ≡ bytes
-  less-bytes =
-      let counted : bytes ≡ members_size (members_at old all_of) = ring.bytes_are in
-      omega (arith, sum-without (size_at old) k all_of ring.apart there, sizes old all_of, sizes old (without k all_of))
+  pub less-bytes : members_size (members_at old (without k all_of)) + size_at old k ≡ members_size (members_at old all_of)
+  less-bytes = omega (arith, sum-without (size_at old) k all_of ring.apart there, sizes old all_of, sizes old (without k all_of))
 
   pub less-count : length (without k all_of) + 1 ≡ count
   less-count = omega (arith, sum-without (λ (j : ℕ). 1) k all_of ring.apart there, ones all_of, ones (without k all_of), length-walk old count (after old none))
 
   module _ (new : List Node) (joins : Joins old new (before old k) (after old k)) where
     less-links : Links new none (without k all_of) none
-    less-links = taken_out old new k none all_of none joins ring.apart there (none_apart old none count bytes ring) (none_apart old none count bytes ring) ring.linked
+    less-links = taken_out old new k none all_of none joins ring.apart there (none_apart old none count ring) (none_apart old none count ring) ring.linked
 
     less-members : members_at new (without k all_of) ≡ filter (λ m. not (eqb m.object k)) (members_at old all_of)
     less-members = members-same old new joins.sizes_stay (without k all_of) ∙ sym (members-without old k all_of)
@@ -240,50 +193,31 @@ module _ (old : List Node) (none count bytes k : ℕ) (ring : IsRing old none co
     less-counted : length (without k all_of) ≡ count - 1
     less-counted = omega (arith, less-count)
 
-    pub less-ring : IsRing new none (count - 1) (bytes - size_at old k)
+    pub less-ring : IsRing new none (count - 1)
     less-ring =
-        ring-made new none (count - 1) (bytes - size_at old k) (without k all_of) less-links less-counted (joins.nodes_stay ∙ ring.each_node) (distinct-without k all_of ring.apart)
+        ring-made new none (count - 1) (without k all_of) less-links less-counted (joins.nodes_stay ∙ ring.each_node) (distinct-without k all_of ring.apart)
         (λ q h. ring.below q (more-among k q all_of h))
-        (omega (arith, less-bytes, ap members_size (members-same old new joins.sizes_stay (without k all_of))))
 
-    pub less-ghosts : ring_members new none (count - 1) ≡ filter (λ m. not (eqb m.object k)) (ring_members old none count)
-    less-ghosts = ap (members_at new) (ring-is new none (count - 1) (bytes - size_at old k) (without k all_of) less-links less-counted) ∙ less-members
-
--- the first of them
-module _ (nodes : List Node) (none bytes : ℕ) where
-  pub first-among : (count : ℕ) → 0 < length (ring_members nodes none count) → is_among (ring_of nodes none count) (after nodes none) ≡ true
-  first-among zero some = absurd (omega arith)
-  first-among (suc count) some = or_left (eqb (after nodes none) (after nodes none)) (is_among (walk nodes count (after nodes (after nodes none))) (after nodes none)) (eq-eqb (after nodes none) (after nodes none) refl)
-
-  pub first-object : (count : ℕ) → 0 < length (ring_members nodes none count) → (get_or (ring_members nodes none count) 0 (member 0 0)).object ≡ after nodes none
-  first-object zero some = absurd (omega arith)
-  first-object (suc count) some = refl
-
-  pub first-rest : (count : ℕ) → IsRing nodes none count bytes → 0 < length (ring_members nodes none count) → filter (λ m. not (eqb m.object (after nodes none))) (ring_members nodes none count) ≡ drop 1 (ring_members nodes none count)
-  first-rest zero ring some = absurd (omega arith)
-  first-rest (suc count) ring some =
-      let first : ℕ = after nodes none in
-      let rest : List ℕ = walk nodes count (after nodes first) in
-      members-without nodes first (first ∷ rest) ∙ ap (members_at nodes) (without-head first first rest (eq-eqb first first refl) ring.apart.0)
-
-  pub first-gone : (count : ℕ) → IsRing nodes none count bytes → 0 < length (ring_members nodes none count) → has_member (drop 1 (ring_members nodes none count)) (after nodes none) ≡ false
-  first-gone zero ring some = absurd (omega arith)
-  first-gone (suc count) ring some = members-among nodes (walk nodes count (after nodes (after nodes none))) (after nodes none) ∙ ring.apart.0
+    pub less-members-are : ring_members new none (count - 1) ≡ filter (λ m. not (eqb m.object k)) (ring_members old none count)
+    less-members-are = ap (members_at new) (ring-is new none (count - 1) (without k all_of) less-links less-counted) ∙ less-members
 
 -- ---- what is known of a ghost queue by its value
 pub node_read : (nodes : List Node) (k : ℕ) (n : Node) → k < length nodes → n ≡ get_or nodes k n → n ≡ node_at nodes k
 node_read nodes k n within read = get_or_read nodes k n within read (record { before = 0; after = 0; size = 0 })
 
-module _ (nodes : List Node) (none count bytes : ℕ) (old : Lined) (ring : IsRing nodes none count bytes) (view : record { objects = none; members = ring_members nodes none count } ≡ old) (k : ℕ) where
+module _ (nodes : List Node) (none count : ℕ) (old : Lined) (ring : IsRing nodes none count) (view : record { objects = none; members = ring_members nodes none count } ≡ old) (k : ℕ) where
   pub view-below : k < old.objects → k < none
   view-below low = subst (λ (g : Lined). k < g.objects) (sym view) low
 
   pub view-among : (t : Bool) → has_member old.members k ≡ t → is_among (ring_of nodes none count) k ≡ t
-  view-among t is = sym (ghost-among nodes none count bytes ring k) ∙ ap (λ (g : Lined). has_member g.members k) view ∙ is
+  view-among t is = sym (ghost-among nodes none count ring k) ∙ ap (λ (g : Lined). has_member g.members k) view ∙ is
 
 -- one of them has a node
-pub node_within : (nodes : List Node) (none count bytes k : ℕ) → IsRing nodes none count bytes → is_among (ring_of nodes none count) k ≡ true → k < length nodes
-node_within nodes none count bytes k ring there =
+pub node_within : (nodes : List Node) (none count k : ℕ) → IsRing nodes none count → is_among (ring_of nodes none count) k ≡ true → k < length nodes
+node_within nodes none count k ring there =
     let low : k < none = ring.below k there in
     let each : length nodes ≡ none + 1 = ring.each_node in
     omega arith
+
+pub view-none : (nodes : List Node) (none count : ℕ) (old : Lined) → IsRing nodes none count → record { objects = none; members = ring_members nodes none count } ≡ old → has_member old.members old.objects ≡ false
+view-none nodes none count old ring view = ap (λ (g : Lined). has_member g.members g.objects) (sym view) ∙ ghost-among nodes none count ring none ∙ none_apart nodes none count ring

@@ -76,6 +76,10 @@ module _ (h : Hand) (is : IsHand h) where
   pub held-within : (k : ℕ) → is_held (get_or h.table k 0) ≡ true → k < length h.table
   held-within k there = within_cells h.table k (ltb-true 0 (get_or h.table k 0) there)
 
+  -- the number for none is not in it
+  pub none-held : has_member h.line.members h.line.objects ≡ false
+  none-held = let each : length h.table ≡ h.line.objects = is.each_object in sym (held-line h.line.objects) ∙ ap is_held (get_or_past h.table h.line.objects 0 (omega arith))
+
   -- at the number for none, nothing is ahead
   pub none-ahead : h.next ≡ h.line.objects → a ≡ []
   none-ahead none = at a refl

@@ -5,6 +5,8 @@ pub mod SieveAnswers
 pub mod RingLemmas
 pub mod GhostAnswers
 pub mod LineLemmas
+pub mod PutLemmas
+pub mod PartLemmas
 pub mod QueueLemmas
 pub mod QueueAnswers
 pub mod S3FifoAnswers

@@ -9,6 +9,7 @@ use Rattle.policy_model.specs.declared.names.PolicyName.TheVariants.{S3Fifo}
 use Rattle.policy_model.specs.States.{Member, Entry, Stock, State, nothing_beside, has_entry, has_member, members_of, IsFit}
 use Rattle.policy_model.specs.Steps.{until_fits, touched, touch, served}
 use Rattle.policy_model.specs.S3Fifo.{Queues, shrink, queues_used, enter, queues_of, stock_of_queues}
+use Rattle.policy_model.specs.Leaving.{queues_without}
 use Rattle.policy_model.proofs.S3FifoSound.{queue_entries, queue-used, shrink-part}
 use Rattle.policy_model.proofs.Parts.{part-none, until-part}
 use Rattle.policy_model.proofs.RulesSound.{served-hit, served-large, served-small}
@@ -16,10 +17,10 @@ use Rattle.policy_model.proofs.Replays.{has_entry-members}
 use Rattle.replay_core.specs.declared.policy.Outcome.{Outcome}
 use Rattle.replay_core.specs.declared.policy.Outcome.TheVariants.{Hit, Miss}
 use Rattle.replay_core.specs.Outcomes.{is_hit}
-use Rattle.replay_core.specs.Keeping.{Kept, state_of, Answers, GivesUp}
-use Rattle.replay_core.proofs.Kept.{answered, gives_up}
+use Rattle.replay_core.specs.Keeping.{Kept, state_of, Answers, kept_without}
+use Rattle.replay_core.proofs.Kept.{answered}
 use Rattle.replay_queues.specs.declared.three_queues.ThreeQueues.{ThreeQueues}
-use Rattle.replay_queues.specs.Items.{has_item}
+use Rattle.replay_queues.specs.Items.{has_item, items_of}
 use Rattle.replay_queues.specs.SmallAndMain.{is_kept, counted_entry, queues_by, queues_at, AreQueued, IsQueued, with_space, queues_kept, IsS3Fifo}
 use Rattle.replay_queues.proofs.ItemLemmas.{has_entry-append, changed}
 use Rattle.replay_queues.proofs.QueueLemmas.{counted, counted-items, queue-bytes, hit_within, hit_kept, hit-queued}
@@ -48,7 +49,7 @@ module _ (objects capacity requests : ℕ) (q : Queues) (k size : ℕ) where
   abbrev of : List Entry → List Entry → Queues
   of small main = record { small = small; main = main; ghosts = q.ghosts }
 
-  queues-back : queues_of state ≡ q
+  pub queues-back : queues_of state ≡ q
   queues-back = ap (λ es. of es (drop (length q.small) (queue_entries q))) (take-append_seam q.small q.main) ∙ ap (of q.small) (drop-append_seam q.small q.main)
 
   -- what the rule makes of a hit and of a miss
@@ -105,45 +106,35 @@ module _ (objects capacity requests in_use : ℕ) (t : ThreeQueues) (is : IsS3Fi
   hit-touched : (items : List (ℕ × ℕ)) → counted (set t.table k hit_cell) items ≡ touch S3Fifo requests None k (counted t.table items)
   hit-touched items =
       let entry : ℕ × ℕ → ℕ → Entry = λ p n. record { object = p.0; size = p.1; mark = false; count = n; last = 0; next = None; rank = 0 } in
-      let kept : 2 ≤ get_or t.table k 0 = hit_kept t.table t.small.items t.main.items t.ghosts.members is.queued.fading.are k there in
+      let kept : 2 ≤ get_or t.table k 0 = hit_kept t.table (items_of t.parts.small) (items_of t.parts.main) t.parts.ghosts is.queued.fading.are k there in
       let count_is : hit_cell - 2 ≡ min (get_or t.table k 0 - 2 + 1) 3 = omega arith in
-      changed counted_entry (λ c p. refl) t.table k hit_cell (touched S3Fifo requests None) (hit_within t.table t.small.items t.main.items t.ghosts.members is.queued.fading.are k there) (λ p. ap (entry p) count_is) items
+      changed counted_entry (λ c p. refl) t.table k hit_cell (touched S3Fifo requests None) (hit_within t.table (items_of t.parts.small) (items_of t.parts.main) t.parts.ghosts is.queued.fading.are k there) (λ p. ap (entry p) count_is) items
 
   pub hit-small : (queues_at hit_queues).small ≡ touch S3Fifo requests None k (queues_at t).small
-  hit-small = hit-touched t.small.items
+  hit-small = hit-touched (items_of t.parts.small)
 
   pub hit-main : (queues_at hit_queues).main ≡ touch S3Fifo requests None k (queues_at t).main
-  hit-main = hit-touched t.main.items
+  hit-main = hit-touched (items_of t.parts.main)
 
   pub hit-s3fifo : IsS3Fifo objects capacity in_use hit_queues
   hit-s3fifo = record {
     range = is.range;
     each_object = length-set t.table k hit_cell ∙ is.each_object;
-    in_use_is = is.in_use_is ∙ queue-bytes t.table t.small.items t.main.items t.ghosts.members ∙ sym (queue-bytes (set t.table k hit_cell) t.small.items t.main.items t.ghosts.members);
+    in_use_is = is.in_use_is ∙ queue-bytes t.table (items_of t.parts.small) (items_of t.parts.main) t.parts.ghosts ∙ sym (queue-bytes (set t.table k hit_cell) (items_of t.parts.small) (items_of t.parts.main) t.parts.ghosts);
     fits = is.fits;
     queued = record {
-      fading = is_fading hit_queues (hit-queued t.table t.small.items t.main.items t.ghosts.members is.queued.fading.are k there) (small-bytes t is.queued.fading) (length-set t.table k hit_cell ∙ is.queued.fading.each_object);
+      fading = is_fading hit_queues (hit-queued t.table (items_of t.parts.small) (items_of t.parts.main) t.parts.ghosts is.queued.fading.are k there) (small-bytes t is.queued.fading) is.queued.fading.ghosts_are (length-set t.table k hit_cell ∙ is.queued.fading.each_object);
       few = is.queued.few;
     };
   }
 
--- memory was taken
-pub reserved-s3fifo : (objects capacity in_use : ℕ) (t after : ThreeQueues) → queues_at after ≡ queues_at t → after.table ≡ t.table → IsQueued after → IsS3Fifo objects capacity in_use t → IsS3Fifo objects capacity in_use after
-reserved-s3fifo objects capacity in_use t after same table queued is = record {
-  range = is.range;
-  each_object = ap length table ∙ is.each_object;
-  in_use_is = is.in_use_is ∙ ap queues_used (sym same);
-  fits = is.fits;
-  queued = queued;
-}
-
 -- an object that is not held isn't after room was made
 pub still_absent : (t left : ThreeQueues) (capacity size : ℕ) → IsQueued t → IsQueued left → queues_at left ≡ with_space capacity size (queues_at t) → (k : ℕ) → is_kept (get_or t.table k 0) ≡ false → is_kept (get_or left.table k 0) ≡ false
 still_absent t left capacity size queued after freed k absent =
-    kept-entry left.table left.small.items left.main.items left.ghosts.members after.fading.are k ∙ ap (λ q. has_entry (queue_entries q) k) freed
+    kept-entry left.table (items_of left.parts.small) (items_of left.parts.main) left.parts.ghosts after.fading.are k ∙ ap (λ q. has_entry (queue_entries q) k) freed
     ∙ part-none k (queue_entries (with_space capacity size (queues_at t))) (queue_entries (queues_at t))
     (until-part (shrink capacity) queues_used capacity size queue_entries (shrink-part capacity) (2 * length (queue_entries (queues_at t))) (queues_at t))
-    (sym (kept-entry t.table t.small.items t.main.items t.ghosts.members queued.fading.are k) ∙ absent)
+    (sym (kept-entry t.table (items_of t.parts.small) (items_of t.parts.main) t.parts.ghosts queued.fading.are k) ∙ absent)
 
 -- the answer, from the value that is seen of the fields
 pub from_view : (old : Kept) (objects capacity requests n : ℕ) (q after : Queues) (k size : ℕ) (outcome : Outcome) → queues_kept objects capacity requests q ≡ old → n ≡ min (requests + 1) (2 ^ 64 - 1)
@@ -152,12 +143,6 @@ pub from_view : (old : Kept) (objects capacity requests n : ℕ) (q after : Queu
 from_view old objects capacity requests n q after k size outcome view now answers next =
     subst (λ (p : Kept). Answers S3Fifo p (queues_kept objects capacity n after) k size next outcome) view
     (subst (λ (m : ℕ). Answers S3Fifo (queues_kept objects capacity requests q) (queues_kept objects capacity m after) k size next outcome) (sym now) (answers next))
-
--- nothing changed
-pub gives_same : (objects capacity requests : ℕ) (q after : Queues) → after ≡ q → IsFit capacity (queue_entries q) → GivesUp (queues_kept objects capacity requests q) (queues_kept objects capacity requests after)
-gives_same objects capacity requests q after same fit =
-    subst (λ (r : Queues). GivesUp (queues_kept objects capacity requests q) (queues_kept objects capacity requests r)) (sym same)
-    (gives_up (queues_kept objects capacity requests q) (queues_kept objects capacity requests q) fit (λ m h. h) refl refl)
 
 -- an object that came in after room was made
 pub entered-s3fifo : (objects capacity in_use more size : ℕ) (t left after : ThreeQueues) → IsS3Fifo objects capacity in_use t → length after.table ≡ length t.table → IsQueued after
@@ -176,3 +161,16 @@ entered-s3fifo objects capacity in_use more size t left after is table queued k 
   fits = fits;
   queued = queued;
 }
+
+-- ---- an object that is let go of
+pub left-s3fifo : (objects capacity in_use left : ℕ) (t after : ThreeQueues) → IsS3Fifo objects capacity in_use t → length after.table ≡ length t.table → IsQueued after → queues_used (queues_at after) + left ≡ queues_used (queues_at t)
+    → IsS3Fifo objects capacity (in_use - left) after
+left-s3fifo objects capacity in_use left t after is table queued freed =
+    let counted_is : in_use ≡ queues_used (queues_at t) = is.in_use_is in
+    let fits : in_use ≤ capacity = is.fits in
+    record { range = is.range; each_object = table ∙ is.each_object; in_use_is = omega arith; fits = omega arith; queued = queued }
+
+pub kept-left : (k : ℕ) (old : Kept) (objects capacity requests : ℕ) (q after : Queues) → queues_kept objects capacity requests q ≡ old → after ≡ queues_without k q → queues_kept objects capacity requests after ≡ kept_without S3Fifo old k
+kept-left k old objects capacity requests q after view is =
+    ap (queues_kept objects capacity requests) (is ∙ ap (queues_without k) (sym (queues-back objects capacity requests q k 0)))
+    ∙ ap (λ p. kept_without S3Fifo p k) view

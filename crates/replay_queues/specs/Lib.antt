@@ -1,5 +1,6 @@
 pub mod Items
 pub mod SieveQueues
 pub mod Lines
+pub mod ThreeParts
 pub mod SmallAndMain
 pub mod Rings

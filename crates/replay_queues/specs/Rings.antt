@@ -1,7 +1,7 @@
 -- A ring of numbers that are linked both ways, through a node that is none of them.
 use Rattle.std.specs.Prelude.{◌≡◌, ℕ, zero, suc, ◌+◌, ◌<◌, ◌==◌, Bool, true, false, if◌then◌else◌, List, [], ◌∷◌, map, length, slice_index_or}
 use Rattle.std.specs.List.{list_any}
-use Rattle.policy_model.specs.States.{Member, member, members_size}
+use Rattle.policy_model.specs.States.{Member, member}
 use Rattle.replay_queues.specs.declared.nodes.Node.{Node}
 
 -- the node of this number
@@ -51,10 +51,9 @@ members_at nodes numbers = map (λ k. member k (node_at nodes k).size) numbers
 abbrev pub ring_members : List Node → ℕ → ℕ → List Member
 ring_members nodes none count = members_at nodes (ring_of nodes none count)
 
--- the numbers make a ring, are apart and below that of its node of none, and their bytes are counted
-pub record IsRing (nodes : List Node) (none count bytes : ℕ) : Type 0 where
+-- the numbers make a ring, are apart and below that of its node of none
+pub record IsRing (nodes : List Node) (none count : ℕ) : Type 0 where
   pub each_node : length nodes ≡ none + 1
   pub linked : Links nodes none (ring_of nodes none count) none
   pub apart : Distinct (ring_of nodes none count)
   pub below : (k : ℕ) → is_among (ring_of nodes none count) k ≡ true → k < none
-  pub bytes_are : bytes ≡ members_size (ring_members nodes none count)

@@ -1,11 +1,10 @@
 -- The queues of S3-FIFO, and the hits of their objects.
-use Rattle.std.specs.Prelude.{◌≡◌, ℕ, ◌+◌, ◌-◌, ◌*◌, ◌++◌, ◌<◌, ◌≤◌, ◌^◌, ◌==◌, Bool, ◌||◌, false, nat_le, List, length, slice_index, None}
-use Rattle.std.specs.VecDeque.{deque_capacity}
+use Rattle.std.specs.Prelude.{◌≡◌, ℕ, ◌-◌, ◌*◌, ◌++◌, ◌≤◌, ◌^◌, ◌==◌, Bool, ◌||◌, false, nat_le, List, length, slice_index, None}
 use Rattle.policy_model.specs.States.{Member, Entry, Apart, used, has_member, members_size}
 use Rattle.policy_model.specs.S3Fifo.{Queues, shrink_main, turns_of, shrink, queues_used, stock_of_queues}
 use Rattle.policy_model.specs.Steps.{until_fits}
 use Rattle.replay_core.specs.Keeping.{Kept}
-use Rattle.replay_queues.specs.Items.{has_item, entries_by}
+use Rattle.replay_queues.specs.Items.{has_item, items_of, entries_by}
 use Rattle.replay_queues.specs.declared.three_queues.ThreeQueues.{ThreeQueues}
 
 -- the byte is 0 of an object that is not known, 1 of a ghost, and of one that is held 2 more than its hits
@@ -25,7 +24,7 @@ queues_by cells small main ghosts =
     record { small = entries_by counted_entry cells small; main = entries_by counted_entry cells main; ghosts = ghosts }
 
 abbrev pub queues_at : ThreeQueues → Queues
-queues_at t = queues_by t.table t.small.items t.main.items t.ghosts.members
+queues_at t = queues_by t.table (items_of t.parts.small) (items_of t.parts.main) t.parts.ghosts
 
 -- no object is held twice, and the bytes tell which ones are held and which ones are ghosts
 pub record AreQueued (cells : List ℕ) (small main : List (ℕ × ℕ)) (ghosts : List Member) : Type 0 where
@@ -33,21 +32,17 @@ pub record AreQueued (cells : List ℕ) (small main : List (ℕ × ℕ)) (ghosts
   pub known : (k : ℕ) → is_kept (slice_index cells k) ≡ (has_item small k || has_item main k)
   pub gone : (k : ℕ) → is_ghost (slice_index cells k) ≡ has_member ghosts k
 
--- the same of the fields, with the bytes of the small queue
+-- the same of the fields, with the bytes of the small queue and of the ghosts
 pub record IsFading (t : ThreeQueues) : Type 0 where
-  pub are : AreQueued t.table t.small.items t.main.items t.ghosts.members
+  pub are : AreQueued t.table (items_of t.parts.small) (items_of t.parts.main) t.parts.ghosts
   pub small_is : t.small_used ≡ used (queues_at t).small
-  pub each_object : length t.table ≡ t.ghosts.objects
+  pub ghosts_are : t.ghosts_used ≡ members_size t.parts.ghosts
+  pub each_object : length t.table ≡ t.parts.objects
 
 -- and the ghosts have faded
 pub record IsQueued (t : ThreeQueues) : Type 0 where
   pub fading : IsFading t
-  pub few : members_size t.ghosts.members ≤ 2 ^ 56
-
--- the small queue has memory for one more entry, and the main queue for all and one more
-pub record HasRoomFor (t : ThreeQueues) : Type 0 where
-  pub small : length t.small.items < deque_capacity t.small
-  pub main : length t.small.items + length t.main.items < deque_capacity t.main
+  pub few : members_size t.parts.ghosts ≤ 2 ^ 56
 
 -- queues whose main one gave up an entry
 abbrev pub main_shrunk : Queues → Queues

@@ -174,7 +174,6 @@ impl Hand {
     pub(crate) fn come_in(&mut self, object: u32, size: u64)
         requires known { object < length self.old.table }
         requires absent { is_held (slice_index self.old.table object) ≡ false }
-        requires range { cut_used (cut_at self.old) + size ≤ 2 ^ 56 }
         requires held { IsHand self.old }
         ensures cut { cut_at self.new ≡ come_in (marked_entry HELD (object, size)) (cut_at self.old) }
         ensures held { IsHand self.new }
@@ -182,7 +181,8 @@ impl Hand {
     {
         self.next = self.next_with(object);
         self.table.set(object, HELD);
-        self.line.push(object, size);
+        let none = self.line.none();
+        self.line.put(object, size, none);
     }
 
     /// Lets go of an object, if it is held, and says how many bytes it had. If nothing is then ahead of the hand, it begins

@@ -7,7 +7,7 @@
 mod hand;
 mod line;
 mod nodes;
-mod room;
+mod parts;
 mod s3fifo;
 mod sieve;
 mod table;

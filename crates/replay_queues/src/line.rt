@@ -2,7 +2,7 @@
 ghost use Rattle.std.specs.Prelude.{◌≡◌, ◌<◌, ◌+◌, ◌^◌, ◌++◌, ◌∷◌, [], true, false, length, drop, slice_index_or, IfOk};
 ghost use Rattle.policy_model.specs.Leaving.{without_member};
 ghost use Rattle.policy_model.specs.States.{member, members_size, has_member};
-ghost use Rattle.replay_queues.specs.Lines.{first_of, from_object};
+ghost use Rattle.replay_queues.specs.Lines.{before_object, first_of, from_object};
 
 use crate::nodes::{Node, join, note_size};
 use bound_base::NoMemory;
@@ -18,7 +18,6 @@ pub(crate) struct Line {
     objects: u32,
     // For the proof alone.
     count: u64,
-    bytes: u64,
 }
 
 impl Model for Line {
@@ -30,7 +29,7 @@ impl Model for Line {
 
     ghost view = { λ l. record { objects = l.objects; members = ring_members l.nodes.items l.objects l.count } };
 
-    ghost invariant = { λ l. IsRing l.nodes.items l.objects l.count l.bytes };
+    ghost invariant = { λ l. IsRing l.nodes.items l.objects l.count };
 }
 
 impl Line {
@@ -47,7 +46,6 @@ impl Line {
             nodes: vec![in alloc; node; objects as usize + 1]?,
             objects,
             count: 0,
-            bytes: 0,
         })
     }
 
@@ -76,26 +74,18 @@ impl Line {
         self.nodes[object as usize].after
     }
 
-    /// The bytes of the objects.
-    pub(crate) fn bytes(&self) -> u64
-        ensures { result ≡ members_size self.now.members }
-    {
-        self.bytes
-    }
-
-    /// Puts an object at the back.
-    pub(crate) fn push(&mut self, object: u32, size: u64)
+    /// Puts an object before another, or at the back if the other is the number for none.
+    pub(crate) fn put(&mut self, object: u32, size: u64, next: u32)
         requires within { object < self.old.objects }
         requires absent { has_member self.old.members object ≡ false }
-        requires fits { members_size self.old.members + size < 2 ^ 64 }
-        ensures { self.new ≡ record self.old { members = self.old.members ++ member object size ∷ [] } }
+        requires next { next ≡ first_of self.old.objects (from_object next self.old.members) }
+        ensures { self.new ≡ record self.old { members = before_object next self.old.members ++ member object size ∷ from_object next self.old.members } }
     {
         note_size(&mut self.nodes, object, size);
-        let last = self.nodes[self.objects as usize].before;
+        let last = self.nodes[next as usize].before;
         join(&mut self.nodes, last, object);
-        join(&mut self.nodes, object, self.objects);
+        join(&mut self.nodes, object, next);
         self.count += 1;
-        self.bytes += size;
     }
 
     /// Takes an object out, wherever it stands, and says its size.
@@ -103,6 +93,7 @@ impl Line {
         requires there { has_member self.old.members object ≡ true }
         ensures rest { self.new ≡ record self.old { members = without_member object self.old.members } }
         ensures size { members_size self.new.members + result ≡ members_size self.old.members }
+        ensures known { object < self.old.objects }
     {
         let Node {
             before,
@@ -111,20 +102,6 @@ impl Line {
         } = self.nodes[object as usize];
         join(&mut self.nodes, before, after);
         self.count -= 1;
-        self.bytes -= size;
         size
-    }
-
-    /// Takes the first one out.
-    pub(crate) fn pop(&mut self) -> u32
-        requires some { 0 < length self.old.members }
-        ensures first { result ≡ (slice_index_or self.old.members 0 (member 0 0)).object }
-        ensures rest { self.new ≡ record self.old { members = drop 1 self.old.members } }
-        ensures absent { has_member self.new.members result ≡ false }
-        ensures within { result < self.old.objects }
-    {
-        let object = self.nodes[self.objects as usize].after;
-        self.remove(object);
-        object
     }
 }

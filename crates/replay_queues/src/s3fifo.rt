@@ -2,14 +2,14 @@
 ghost use Rattle.std.specs.Prelude.{◌≡◌, ◌≤◌, ◌<◌, ◌^◌, ◌⊎◌, ℕ, All, Contains, Some, None, IfOk, OnOk, OnErr, refl};
 ghost use Rattle.std.specs.declared.option.Option.{Option};
 ghost use Rattle.policy_model.specs.declared.names.PolicyName.TheVariants.{S3Fifo as ByTrial};
-ghost use Rattle.replay_core.specs.Keeping.{Answers, GivesUp, nothing_kept, state_of, contents_of};
+ghost use Rattle.replay_core.specs.Keeping.{Answers, nothing_kept, state_of, contents_of};
 ghost use Rattle.policy_model.specs.States.{Member, has_member, member};
 ghost use Rattle.replay_core.specs.Laws.{CountsAnswer, IsSound, StepsBy};
 ghost use Rattle.replay_core.specs.Outcomes.{is_hit};
 
 use crate::three_queues::ThreeQueues;
 use bound_base::NoMemory;
-use replay_core::{Outcome, Policy};
+use replay_core::{LetGo, Outcome, Policy};
 use std::alloc::Global;
 use std::marker::Model;
 
@@ -21,8 +21,8 @@ use std::marker::Model;
 /// asked for comes into the main queue. The oldest ghosts are forgotten if they have more bytes than the main queue is
 /// meant to have.
 ///
-/// A request takes constant time on average: each move of an object uses up a hit, or is the one of a miss. It takes 17
-/// bytes for each object from the start, and at most 64 for each of the most objects that it held.
+/// A request takes constant time on average: each move of an object uses up a hit, or is the one of a miss. It takes 18
+/// bytes for each object from the start.
 #[derive(Drop)]
 pub struct S3Fifo {
     capacity: u64,
@@ -45,7 +45,7 @@ impl Model for S3Fifo {
 }
 
 impl S3Fifo {
-    /// A policy that holds nothing, with its capacity in bytes. It takes 17 bytes for each object.
+    /// A policy that holds nothing, with its capacity in bytes. It takes 18 bytes for each object.
     pub fn new(alloc: Global, capacity: u64, objects: u32) -> Result<Self, NoMemory>
         requires range { (1 ≤ capacity) × (capacity ≤ 2 ^ 56) }
         ensures nothing { IfOk result (λ policy. policy ≡ nothing_kept objects capacity) }
@@ -60,30 +60,27 @@ impl S3Fifo {
     }
 
     // One request, as the rule says, whatever the next request is.
-    fn ask(&mut self, object: u32, size: u64) -> Result<Outcome, NoMemory>
+    fn ask(&mut self, object: u32, size: u64) -> Outcome
         requires known { object < self.old.objects }
         requires kept_size { All (λ m. m.object ≡ object → m.size ≡ size) (contents_of self.old) }
-        ensures answers { IfOk result (λ outcome. (next : Option ℕ) → Answers ByTrial self.old self.new object size next outcome) }
-        ensures fits { OnOk result (IsSound self.new.capacity (contents_of self.new)) }
-        ensures gives_up { OnErr result (GivesUp self.old self.new) }
-        ensures kept { OnErr result (self.new ≡ self.old) }
+        ensures answers { (next : Option ℕ) → Answers ByTrial self.old self.new object size next result }
+        ensures fits { IsSound self.new.capacity (contents_of self.new) }
     {
         let requests = self.requests.saturating_add(1);
         if self.queues.holds(object) {
             self.queues.count_hit(object);
             self.requests = requests;
-            return Ok(Outcome::Hit);
+            return Outcome::Hit;
         }
         if size > self.capacity {
             self.requests = requests;
-            return Ok(Outcome::Miss);
+            return Outcome::Miss;
         }
-        self.queues.reserve()?;
         self.used = self.queues.make_room(self.used, self.capacity, size);
         self.queues.enter(object, size);
         self.used += size;
         self.requests = requests;
-        Ok(Outcome::Miss)
+        Outcome::Miss
     }
 }
 
@@ -126,8 +123,15 @@ impl Policy for S3Fifo {
         ensures step { OnOk result (StepsBy (Some (state_of ByTrial self.old)) (Some (state_of ByTrial self.new)) object size _next) }
         ensures kept { OnErr result (self.new ≡ self.old) }
     {
-        self.ask(object, size)
+        Ok(self.ask(object, size))
     }
 
     ghost state_fits = { λ p. (refl, refl) };
+}
+
+impl LetGo for S3Fifo {
+    /// It takes constant time. The object becomes no ghost.
+    fn let_go(&mut self, object: u32) {
+        self.used -= self.queues.leave(object);
+    }
 }

@@ -1,14 +1,13 @@
 //! The queues of S3-FIFO.
-ghost use Rattle.std.specs.Prelude.{◌≡◌, ◌≤◌, ◌<◌, ◌^◌, ◌+◌, [], length, min, replicate, false, IfOk, OnOk, slice_index, slice_set};
+ghost use Rattle.std.specs.Prelude.{◌≡◌, ◌≤◌, ◌<◌, ◌^◌, ◌+◌, [], length, min, replicate, false, IfOk, slice_index, slice_set};
+ghost use Rattle.policy_model.specs.Leaving.{queues_without};
 ghost use Rattle.policy_model.specs.S3Fifo.{fade, shrink_small, shrink, queues_used, enter};
-ghost use Rattle.replay_queues.specs.SmallAndMain.{is_kept, counted_entry, queues_at, main_shrunk, with_space, IsFading, IsQueued, HasRoomFor};
+ghost use Rattle.replay_queues.specs.SmallAndMain.{is_kept, counted_entry, queues_at, main_shrunk, with_space, IsFading, IsQueued};
 
-use crate::line::Line;
-use crate::room::reserve_beside;
+use crate::parts::Parts;
 use crate::table::Table;
 use bound_base::NoMemory;
 use std::alloc::Global;
-use std::collections::VecDeque;
 
 // The byte of an object that is neither held nor a ghost, of a ghost, of one that is held without a hit, and of one with
 // two hits.
@@ -20,32 +19,29 @@ const HELD: u8 = 2;
 
 const HIT_TWICE: u8 = 4;
 
-/// The small queue, the main queue and the ghosts, each from its front.
+/// The small queue, the main queue and the ghosts, with the hits of the objects and the bytes of two of the three.
 #[derive(Drop)]
 pub(crate) struct ThreeQueues {
-    pub(crate) small: VecDeque<(u32, u64)>,
-    pub(crate) main: VecDeque<(u32, u64)>,
-    pub(crate) ghosts: Line,
+    pub(crate) parts: Parts,
     pub(crate) table: Table,
     pub(crate) small_used: u64,
+    pub(crate) ghosts_used: u64,
 }
 
 impl ThreeQueues {
-    /// Empty, for objects numbered below this.
+    /// Empty, for objects numbered below this. It takes 18 bytes for each.
     pub(crate) fn new(alloc: Global, objects: u32) -> Result<Self, NoMemory>
-        ensures small { IfOk result (λ queues. queues.small.items ≡ []) }
-        ensures main { IfOk result (λ queues. queues.main.items ≡ []) }
-        ensures ghosts { IfOk result (λ queues. queues.ghosts ≡ record { objects = objects; members = [] }) }
+        ensures parts { IfOk result (λ queues. queues.parts ≡ record { objects = objects; small = []; main = []; ghosts = [] }) }
         ensures table { IfOk result (λ queues. queues.table ≡ replicate objects 0) }
         ensures small_used { IfOk result (λ queues. queues.small_used ≡ 0) }
+        ensures ghosts_used { IfOk result (λ queues. queues.ghosts_used ≡ 0) }
     {
         let table = Table::new(alloc, objects)?;
         Ok(ThreeQueues {
-            small: VecDeque::new(alloc),
-            main: VecDeque::new(alloc),
-            ghosts: Line::new(alloc, objects)?,
+            parts: Parts::new(alloc, objects)?,
             table,
             small_used: 0,
+            ghosts_used: 0,
         })
     }
 
@@ -68,32 +64,18 @@ impl ThreeQueues {
         self.table.set(object, hits.min(HIT_TWICE) + 1);
     }
 
-    /// Takes memory for one more entry, whichever of the two queues the entries will be in.
-    pub(crate) fn reserve(&mut self) -> Result<(), NoMemory>
-        ensures room { OnOk result (HasRoomFor self.new) }
-        ensures small { self.new.small.items ≡ self.old.small.items }
-        ensures main { self.new.main.items ≡ self.old.main.items }
-        ensures ghosts { self.new.ghosts ≡ self.old.ghosts }
-        ensures table { self.new.table ≡ self.old.table }
-        ensures small_used { self.new.small_used ≡ self.old.small_used }
-    {
-        let small = self.small.len();
-        reserve_beside(&mut self.small, 0)?;
-        reserve_beside(&mut self.main, small)
-    }
-
-    // Line leave from the front until they have at most this many bytes.
+    // Ghosts leave from the front until they have at most this many bytes.
     fn fade(&mut self, most: u64)
         requires queued { IsFading self.old }
         requires range { most ≤ 2 ^ 56 }
-        ensures queues { queues_at self.new ≡ record (queues_at self.old) { ghosts = fade most self.old.ghosts.members } }
+        ensures queues { queues_at self.new ≡ record (queues_at self.old) { ghosts = fade most self.old.parts.ghosts } }
         ensures queued { IsQueued self.new }
-        ensures room { HasRoomFor self.old → HasRoomFor self.new }
         ensures table { length self.new.table ≡ length self.old.table }
     {
-        while self.ghosts.bytes() > most {
-            let object = self.ghosts.pop();
+        while self.ghosts_used > most {
+            let (object, size) = self.parts.pop_ghost();
             self.table.set(object, UNKNOWN);
+            self.ghosts_used -= size;
         }
     }
 
@@ -101,24 +83,23 @@ impl ThreeQueues {
     // given up and becomes a ghost. It says how many bytes were given up.
     fn shrink_small(&mut self, most: u64) -> u64
         requires queued { IsQueued self.old }
-        requires room { HasRoomFor self.old }
         requires range { (most ≤ 2 ^ 56) × (queues_used (queues_at self.old) ≤ 2 ^ 56) }
-        ensures queues { queues_at self.new ≡ shrink_small most (queues_at self.old).small (queues_at self.old).main self.old.ghosts.members }
+        ensures queues { queues_at self.new ≡ shrink_small most (queues_at self.old).small (queues_at self.old).main self.old.parts.ghosts }
         ensures freed { queues_used (queues_at self.new) + result ≡ queues_used (queues_at self.old) }
         ensures queued { IsQueued self.new }
-        ensures room { HasRoomFor self.new }
         ensures table { length self.new.table ≡ length self.old.table }
     {
-        while let Some((object, size)) = self.small.pop_front() {
+        while let Some((object, size)) = self.parts.pop_small() {
             self.small_used -= size;
             if self.table.get(object) < HIT_TWICE {
                 self.table.set(object, GHOST);
-                self.ghosts.push(object, size);
+                self.parts.push_ghost(object, size);
+                self.ghosts_used += size;
                 self.fade(most);
                 return size;
             }
             self.table.set(object, HELD);
-            self.main.push_back_reserved((object, size));
+            self.parts.push_main(object, size);
         }
         0
     }
@@ -127,21 +108,19 @@ impl ThreeQueues {
     // up. It says how many bytes were given up.
     fn shrink_main(&mut self) -> u64
         requires queued { IsQueued self.old }
-        requires room { HasRoomFor self.old }
         ensures queues { queues_at self.new ≡ main_shrunk (queues_at self.old) }
         ensures freed { queues_used (queues_at self.new) + result ≡ queues_used (queues_at self.old) }
         ensures queued { IsQueued self.new }
-        ensures room { HasRoomFor self.new }
         ensures table { length self.new.table ≡ length self.old.table }
     {
-        while let Some((object, size)) = self.main.pop_front() {
+        while let Some((object, size)) = self.parts.pop_main() {
             let cell = self.table.get(object);
             if cell <= HELD {
                 self.table.set(object, UNKNOWN);
                 return size;
             }
             self.table.set(object, cell - 1);
-            self.main.push_back_reserved((object, size));
+            self.parts.push_main(object, size);
         }
         0
     }
@@ -149,16 +128,14 @@ impl ThreeQueues {
     // Gives up an object of the queue that the rule names, and says how many bytes it had.
     fn shrink(&mut self, capacity: u64) -> u64
         requires queued { IsQueued self.old }
-        requires room { HasRoomFor self.old }
         requires range { (capacity ≤ 2 ^ 56) × (queues_used (queues_at self.old) ≤ 2 ^ 56) }
         ensures queues { queues_at self.new ≡ shrink capacity (queues_at self.old) }
         ensures freed { queues_used (queues_at self.new) + result ≡ queues_used (queues_at self.old) }
         ensures queued { IsQueued self.new }
-        ensures room { HasRoomFor self.new }
         ensures table { length self.new.table ≡ length self.old.table }
     {
         let part = capacity / 10;
-        if !self.small.is_empty() && (part <= self.small_used || self.main.is_empty()) {
+        if !self.parts.no_small() && (part <= self.small_used || self.parts.no_main()) {
             return self.shrink_small(capacity - part);
         }
         self.shrink_main()
@@ -171,12 +148,10 @@ impl ThreeQueues {
         requires small { size ≤ capacity }
         requires range { capacity ≤ 2 ^ 56 }
         requires queued { IsQueued self.old }
-        requires room { HasRoomFor self.old }
         ensures queues { queues_at self.new ≡ with_space capacity size (queues_at self.old) }
         ensures in_use { result ≡ queues_used (queues_at self.new) }
         ensures fits { result + size ≤ capacity }
         ensures queued { IsQueued self.new }
-        ensures room { HasRoomFor self.new }
         ensures table { length self.new.table ≡ length self.old.table }
     {
         let mut left = in_use;
@@ -192,7 +167,6 @@ impl ThreeQueues {
         requires absent { is_kept (slice_index self.old.table object) ≡ false }
         requires range { queues_used (queues_at self.old) + size ≤ 2 ^ 56 }
         requires queued { IsQueued self.old }
-        requires room { HasRoomFor self.old }
         ensures queues { queues_at self.new ≡ enter (counted_entry HELD (object, size)) (queues_at self.old) }
         ensures queued { IsQueued self.new }
         ensures table { length self.new.table ≡ length self.old.table }
@@ -200,11 +174,33 @@ impl ThreeQueues {
         let is_ghost = self.table.get(object) == GHOST;
         self.table.set(object, HELD);
         if is_ghost {
-            self.ghosts.remove(object);
-            self.main.push_back_reserved((object, size));
+            self.ghosts_used -= self.parts.remove(object);
+            self.parts.push_main(object, size);
             return;
         }
-        self.small.push_back_reserved((object, size));
+        self.parts.push_small(object, size);
         self.small_used += size;
+    }
+
+    /// Lets go of an object, if it is held, and says how many bytes it had.
+    pub(crate) fn leave(&mut self, object: u32) -> u64
+        requires known { object < length self.old.table }
+        requires queued { IsQueued self.old }
+        ensures queues { queues_at self.new ≡ queues_without object (queues_at self.old) }
+        ensures freed { queues_used (queues_at self.new) + result ≡ queues_used (queues_at self.old) }
+        ensures queued { IsQueued self.new }
+        ensures table { length self.new.table ≡ length self.old.table }
+    {
+        if !self.holds(object) {
+            return 0;
+        }
+        let is_small = self.parts.is_small(object);
+        self.table.set(object, UNKNOWN);
+        let size = self.parts.remove(object);
+        if !is_small {
+            return size;
+        }
+        self.small_used -= size;
+        size
     }
 }

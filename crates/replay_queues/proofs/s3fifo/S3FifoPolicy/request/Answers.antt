@@ -1,28 +1,18 @@
-use Rattle.std.proofs.Common.{ℕ, IfOk}
-use Rattle.std.specs.declared.option.Option.{Option}
-use Rattle.std.proofs.lemmas.Result.{IfOk-weaker}
-use Rattle.replay_core.specs.Keeping.{Answers}
 use Rattle.policy_model.specs.declared.names.PolicyName.TheVariants.{S3Fifo as ByTrial}
-use Rattle.replay_core.proofs.Kept.{result-outcome, result-enters, result-step, result-capacity, result-objects}
+use Rattle.replay_core.proofs.Kept.{answers-outcome, answers-enters, answers-step, answers-capacity}
 use Rattle.replay_queues.proofs.s3fifo.S3FifoPolicy.request.Goals as goal
 
--- the answer at the next request that is known
-at_next : (c : goal.After-ask) → IfOk c.ask.result (λ outcome. Answers ByTrial c.args.self.now c.ask.new.self c.args.object c.args.size c.args._next outcome)
-at_next c =
-    IfOk-weaker c.ask.result (λ outcome. (next : Option ℕ) → Answers ByTrial c.args.self.now c.ask.new.self c.args.object c.args.size next outcome)
-    (λ outcome. Answers ByTrial c.args.self.now c.ask.new.self c.args.object c.args.size c.args._next outcome) (λ outcome a. a c.args._next) c.ask.ensures.answers
-
 pub returns-clause-outcome : goal.returns-clause-outcome
-returns-clause-outcome c = result-outcome ByTrial c.args.self.now c.ask.new.self c.args.object c.args.size c.args._next c.ask.result (at_next c)
+returns-clause-outcome c = answers-outcome ByTrial c.args.self.now c.ask.new.self c.args.object c.args.size c.args._next c.ask.result (c.ask.ensures.answers c.args._next)
 
 pub returns-clause-only_the_request_enters : goal.returns-clause-only_the_request_enters
-returns-clause-only_the_request_enters c = result-enters ByTrial c.args.self.now c.ask.new.self c.args.object c.args.size c.args._next c.ask.result (at_next c)
+returns-clause-only_the_request_enters c = answers-enters ByTrial c.args.self.now c.ask.new.self c.args.object c.args.size c.args._next c.ask.result (c.ask.ensures.answers c.args._next)
 
 pub returns-clause-same_capacity : goal.returns-clause-same_capacity
-returns-clause-same_capacity c = result-capacity ByTrial c.args.self.now c.ask.new.self c.args.object c.args.size c.args._next c.ask.result (at_next c) c.ask.ensures.gives_up
+returns-clause-same_capacity c = answers-capacity ByTrial c.args.self.now c.ask.new.self c.args.object c.args.size c.args._next c.ask.result (c.ask.ensures.answers c.args._next)
 
 pub returns-clause-same_objects : goal.returns-clause-same_objects
-returns-clause-same_objects c = result-objects ByTrial c.args.self.now c.ask.new.self c.args.object c.args.size c.args._next c.ask.result (at_next c) c.ask.ensures.gives_up
+returns-clause-same_objects c = (c.ask.ensures.answers c.args._next).objects_stay
 
 pub returns-clause-step : goal.returns-clause-step
-returns-clause-step c = result-step ByTrial c.args.self.now c.ask.new.self c.args.object c.args.size c.args._next c.ask.result (at_next c)
+returns-clause-step c = answers-step ByTrial c.args.self.now c.ask.new.self c.args.object c.args.size c.args._next c.ask.result (c.ask.ensures.answers c.args._next)

@@ -5,14 +5,12 @@ use Rattle.replay_queues.proofs.three_queues.ThreeQueues.fade.Given as goal
 
 abbrev pub invariant-loop-self : goal.invariant-loop-self
 invariant-loop-self l = record {
-  small : l.self.small ≡ l.initial.self.small;
-  main : l.self.main ≡ l.initial.self.main;
   entries_small : (queues_at l.self).small ≡ (queues_at l.initial.self).small;
   entries_main : (queues_at l.self).main ≡ (queues_at l.initial.self).main;
   fading : IsFading l.self;
-  fades : fade l.most l.self.ghosts.members ≡ fade l.most l.initial.self.ghosts.members;
+  fades : fade l.most l.self.parts.ghosts ≡ fade l.most l.initial.self.parts.ghosts;
   table : length l.self.table ≡ length l.initial.self.table;
 }
 
 abbrev pub decreases-loop-self : goal.decreases-loop-self
-decreases-loop-self l = length l.self.ghosts.members
+decreases-loop-self l = length l.self.parts.ghosts

@@ -15,7 +15,6 @@ loop-left-init c =
       left = c.requires.in_use;
       within = c.requires.within;
       queued = c.requires.queued;
-      room = c.requires.room;
       table = refl;
       turns = (2 * length (q.small ++ q.main), omega (arith, length-append q.small q.main), refl);
     }
@@ -34,7 +33,6 @@ loop-left-preserved c =
       left = omega arith;
       within = omega arith;
       queued = c.shrink-left.ensures.queued;
-      room = c.shrink-left.ensures.room;
       table = c.shrink-left.ensures.table ∙ c.loop-left.invariant.table;
       turns = shrink_step c.args.capacity c.args.size c.loop-left.invariant.turns.0 q after (with_space c.args.capacity c.args.size (queues_at c.args.self.now)) c.shrink-left.ensures.queues (omega arith) (omega arith)
           c.loop-left.invariant.turns.1 c.loop-left.invariant.turns.2;

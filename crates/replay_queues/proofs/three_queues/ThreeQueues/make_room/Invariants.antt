@@ -2,7 +2,7 @@ use Rattle.std.proofs.Common.{◌≡◌, ◌≤◌, ℕ, length}
 use Rattle.policy_model.specs.S3Fifo.{shrink, queues_used}
 use Rattle.policy_model.specs.Steps.{until_fits}
 use Rattle.policy_model.proofs.S3FifoSound.{turns_left}
-use Rattle.replay_queues.specs.SmallAndMain.{queues_at, with_space, IsQueued, HasRoomFor}
+use Rattle.replay_queues.specs.SmallAndMain.{queues_at, with_space, IsQueued}
 use Rattle.replay_queues.proofs.three_queues.ThreeQueues.make_room.Given as goal
 
 abbrev pub invariant-loop-left : goal.invariant-loop-left
@@ -10,7 +10,6 @@ invariant-loop-left l = record {
   left : l.left ≡ queues_used (queues_at l.self);
   within : l.left ≤ l.capacity;
   queued : IsQueued l.self;
-  room : HasRoomFor l.self;
   table : length l.self.table ≡ length l.initial.self.table;
   turns : (n : ℕ) × (turns_left l.capacity (queues_at l.self) ≤ n) × (until_fits (shrink l.capacity) queues_used l.capacity l.size n (queues_at l.self) ≡ with_space l.capacity l.size (queues_at l.initial.self));
 }

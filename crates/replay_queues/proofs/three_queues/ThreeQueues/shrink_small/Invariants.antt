@@ -1,17 +1,16 @@
 use Rattle.std.proofs.Common.{◌≡◌, length}
 use Rattle.policy_model.specs.S3Fifo.{shrink_small, queues_used}
-use Rattle.replay_queues.specs.SmallAndMain.{queues_at, IsQueued, HasRoomFor}
+use Rattle.replay_queues.specs.SmallAndMain.{queues_at, IsQueued}
 use Rattle.replay_queues.proofs.three_queues.ThreeQueues.shrink_small.Given as goal
 
 abbrev pub invariant-loop-object : goal.invariant-loop-object
 invariant-loop-object l = record {
   queued : IsQueued l.self;
-  room : HasRoomFor l.self;
-  shrinks : shrink_small l.most (queues_at l.self).small (queues_at l.self).main l.self.ghosts.members
-      ≡ shrink_small l.most (queues_at l.initial.self).small (queues_at l.initial.self).main l.initial.self.ghosts.members;
+  shrinks : shrink_small l.most (queues_at l.self).small (queues_at l.self).main l.self.parts.ghosts
+      ≡ shrink_small l.most (queues_at l.initial.self).small (queues_at l.initial.self).main l.initial.self.parts.ghosts;
   used : queues_used (queues_at l.self) ≡ queues_used (queues_at l.initial.self);
   table : length l.self.table ≡ length l.initial.self.table;
 }
 
 abbrev pub decreases-loop-object : goal.decreases-loop-object
-decreases-loop-object l = length l.self.small.items
+decreases-loop-object l = length l.self.parts.small
