@@ -1,4 +1,4 @@
--- The ghosts, as one is put in or taken out.
+-- A ring of linked nodes, as one is taken out, and what is known of it by the value of its line.
 use Rattle.std.proofs.Common.{◌≡◌, ℕ, ◌+◌, ◌-◌, ◌<◌, ◌≤◌, ◌∙◌, sym, refl, ap, subst, Bool, true, false, not, ◌||◌, cond, eqb, List, [], ◌∷◌, ◌++◌, length, filter, get_or, arith, sum_by}
 use Rattle.std.specs.List.{AllByRecursion, IsDistinct, list_any}
 use Rattle.std.proofs.lemmas.Bool.{eqb-true, or_parts, or_from, cond_both}
@@ -150,8 +150,8 @@ module _ (nodes : List Node) (none count : ℕ) (ring : IsRing nodes none count)
       at true is = absurd (let low : none < none = ring.below none is in omega arith)
       at false is = refl
 
-  pub ghost-among : (k : ℕ) → has_member (ring_members nodes none count) k ≡ is_among numbers k
-  ghost-among k = members-among nodes numbers k
+  pub member-among : (k : ℕ) → has_member (ring_members nodes none count) k ≡ is_among numbers k
+  member-among k = members-among nodes numbers k
 
   pub beside : (k : ℕ) → is_among (none ∷ numbers) k ≡ true → k < none + 1
   beside k there = at (eqb none k) refl
@@ -201,7 +201,7 @@ module _ (old : List Node) (none count k : ℕ) (ring : IsRing old none count) (
     pub less-members-are : ring_members new none (count - 1) ≡ filter (λ m. not (eqb m.object k)) (ring_members old none count)
     less-members-are = ap (members_at new) (ring-is new none (count - 1) (without k all_of) less-links less-counted) ∙ less-members
 
--- ---- what is known of a ghost queue by its value
+-- ---- what is known of a line by its value
 pub node_read : (nodes : List Node) (k : ℕ) (n : Node) → k < length nodes → n ≡ get_or nodes k n → n ≡ node_at nodes k
 node_read nodes k n within read = get_or_read nodes k n within read (record { before = 0; after = 0; size = 0 })
 
@@ -210,7 +210,7 @@ module _ (nodes : List Node) (none count : ℕ) (old : Lined) (ring : IsRing nod
   view-below low = subst (λ (g : Lined). k < g.objects) (sym view) low
 
   pub view-among : (t : Bool) → has_member old.members k ≡ t → is_among (ring_of nodes none count) k ≡ t
-  view-among t is = sym (ghost-among nodes none count ring k) ∙ ap (λ (g : Lined). has_member g.members k) view ∙ is
+  view-among t is = sym (member-among nodes none count ring k) ∙ ap (λ (g : Lined). has_member g.members k) view ∙ is
 
 -- one of them has a node
 pub node_within : (nodes : List Node) (none count k : ℕ) → IsRing nodes none count → is_among (ring_of nodes none count) k ≡ true → k < length nodes
@@ -218,6 +218,3 @@ node_within nodes none count k ring there =
     let low : k < none = ring.below k there in
     let each : length nodes ≡ none + 1 = ring.each_node in
     omega arith
-
-pub view-none : (nodes : List Node) (none count : ℕ) (old : Lined) → IsRing nodes none count → record { objects = none; members = ring_members nodes none count } ≡ old → has_member old.members old.objects ≡ false
-view-none nodes none count old ring view = ap (λ (g : Lined). has_member g.members g.objects) (sym view) ∙ ghost-among nodes none count ring none ∙ none_apart nodes none count ring

@@ -197,11 +197,6 @@ module _ (h : Hand) (is : IsHand h) where
           hand-cut new h.table [] b table again-line again-each (again-held (none-ahead none)) again-next
           ∙ ap (λ ms. begin_again (cut_at h).behind (marked h.table (items_of ms))) (sym (none-ahead none))
 
-  pub stays-cut : eqb h.next h.line.objects ≡ false → cut_at h ≡ begin_again (cut_at h).behind (cut_at h).ahead
-  stays-cut other =
-      let some : (size : ℕ) × (a ≡ member h.next size ∷ drop 1 a) = some-ahead other in
-      ap (λ ms. cut_by h.table (items_of b) (items_of ms)) some.1 ∙ ap (λ ms. begin_again (cut_at h).behind (marked h.table (items_of ms))) (sym some.1)
-
   -- ---- a look
   pub none-look : h.next ≡ h.line.objects → begin_again (cut_at h).behind (cut_at h).ahead ≡ look (cut_at h)
   none-look none =
@@ -265,12 +260,6 @@ module _ (h : Hand) (is : IsHand h) where
   first-with : (none k size : ℕ) (ms : List Member) → first_of k ms ≡ first_of none (ms ++ member k size ∷ [])
   first-with none k size [] = refl
   first-with none k size (m ∷ more) = refl
-
-  pub with-here : (k : ℕ) → h.next ≡ h.line.objects → k ≡ first_of k a
-  with-here k none = ap (first_of k) (sym (none-ahead none))
-
-  pub with-there : (k : ℕ) → eqb h.next h.line.objects ≡ false → h.next ≡ first_of k a
-  with-there k other = let some : (size : ℕ) × (a ≡ member h.next size ∷ drop 1 a) = some-ahead other in ap (first_of k) (sym some.1)
 
   module _ (k size : ℕ) (within : k < length h.table) (absent : is_held (get_or h.table k 0) ≡ false) (new : Hand) (table : new.table ≡ set h.table k 1) (members : new.line.members ≡ h.line.members ++ member k size ∷ [])
       (objects : new.line.objects ≡ h.line.objects) (next : new.next ≡ first_of k a) where

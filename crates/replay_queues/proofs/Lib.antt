@@ -7,6 +7,8 @@ pub mod GhostAnswers
 pub mod LineLemmas
 pub mod PutLemmas
 pub mod PartLemmas
+pub mod PartAnswers
 pub mod QueueLemmas
+pub mod QueueLeavings
 pub mod QueueAnswers
 pub mod S3FifoAnswers

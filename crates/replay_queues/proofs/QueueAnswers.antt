@@ -15,7 +15,8 @@ use Rattle.replay_queues.specs.ThreeParts.{Parted, parts_without, parts_size}
 use Rattle.replay_queues.specs.SmallAndMain.{is_kept, counted_entry, queues_by, queues_at, AreQueued, IsFading, IsQueued}
 use Rattle.replay_queues.proofs.ItemLemmas.{item_bytes, has_entry-append}
 use Rattle.replay_queues.proofs.LineLemmas.{has_item-of, members-but-none, item_bytes-of}
-use Rattle.replay_queues.proofs.QueueLemmas.{counted, counted-bytes, counted-items, queue-bytes, gone-queued, gone-queues, not_ghost, faded-small, faded-main, faded-queued, fade-more, dropped-turn, backed-turn, backed-turns}
+use Rattle.replay_queues.proofs.QueueLemmas.{counted, counted-bytes, counted-items, queue-bytes, not_ghost, faded-small, faded-main, faded-queued, fade-more, dropped-turn, backed-turn, backed-turns}
+use Rattle.replay_queues.proofs.QueueLeavings.{gone-queued, gone-queues}
 
 -- the facts, from those of the parts
 pub is_fading : (t : ThreeQueues) → AreQueued t.table (items_of t.parts.small) (items_of t.parts.main) t.parts.ghosts → t.small_used ≡ item_bytes (items_of t.parts.small) → t.ghosts_used ≡ members_size t.parts.ghosts → length t.table ≡ t.parts.objects
@@ -51,14 +52,6 @@ fade-turn most (g ∷ rest) many = sym (fade-more most g rest many)
 pub some-ghost : (most : ℕ) (ghosts : List Member) → most < members_size ghosts → 0 < length ghosts
 some-ghost most [] many = absurd (omega arith)
 some-ghost most (g ∷ rest) many = omega arith
-
-pub fewer-ghosts : (ghosts : List Member) → 0 < length ghosts → length (drop 1 ghosts) < length ghosts
-fewer-ghosts [] some = absurd (omega arith)
-fewer-ghosts (g ∷ rest) some = omega arith
-
-pub no-items : (items : List (ℕ × ℕ)) → length items ≡ 0 → items ≡ []
-no-items [] none = refl
-no-items (p ∷ rest) none = absurd (omega arith)
 
 -- ---- a turn of the main queue
 some-turns : (p : ℕ × ℕ) (rest : List (ℕ × ℕ)) (cells : List ℕ) (n : ℕ) → turns_of (counted cells (p ∷ rest)) ≤ n → (m : ℕ) × (n ≡ suc m)

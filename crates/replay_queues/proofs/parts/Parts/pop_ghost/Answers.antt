@@ -3,7 +3,7 @@ use Rattle.std.proofs.lemmas.List.{append-nil}
 use Rattle.policy_model.specs.States.{Member}
 use Rattle.replay_queues.specs.Lines.{first_of}
 use Rattle.replay_queues.specs.ThreeParts.{no_members}
-use Rattle.replay_queues.proofs.PartLemmas.{view-once, view-ghosts, popped-absent, popped-ghost}
+use Rattle.replay_queues.proofs.PartAnswers.{view-once, view-ghosts, popped-absent, popped-ghost}
 use Rattle.replay_queues.proofs.parts.Parts.pop_ghost.Goals as goal
 
 -- there is one

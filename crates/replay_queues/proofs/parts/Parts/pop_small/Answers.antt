@@ -2,7 +2,7 @@ use Rattle.std.proofs.Common.{◌≡◌, ℕ, ◌∙◌, sym, refl, false, List,
 use Rattle.policy_model.specs.States.{Member}
 use Rattle.replay_queues.specs.Lines.{first_of}
 use Rattle.replay_queues.specs.ThreeParts.{no_members}
-use Rattle.replay_queues.proofs.PartLemmas.{view-once, view-small, popped-absent, popped-small}
+use Rattle.replay_queues.proofs.PartAnswers.{view-once, view-small, popped-absent, popped-small}
 use Rattle.replay_queues.proofs.parts.Parts.pop_small.Goals as goal
 
 -- the first of them

@@ -3,7 +3,8 @@ use Rattle.policy_model.specs.States.{member}
 use Rattle.replay_queues.specs.Lines.{Lined}
 use Rattle.replay_queues.specs.ThreeParts.{Parted}
 use Rattle.replay_queues.proofs.PutLemmas.{none-begins, put-last}
-use Rattle.replay_queues.proofs.PartLemmas.{pushed-ghost, pushed-ghost-are, view-has, view-within}
+use Rattle.replay_queues.proofs.PartLemmas.{pushed-ghost, pushed-ghost-are}
+use Rattle.replay_queues.proofs.PartAnswers.{view-has, view-within}
 use Rattle.replay_queues.proofs.parts.Parts.push_ghost.Goals as goal
 
 pub put-requires-clause-absent : goal.put-requires-clause-absent

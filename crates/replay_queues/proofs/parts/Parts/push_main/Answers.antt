@@ -2,7 +2,8 @@ use Rattle.std.proofs.Common.{◌∙◌, ap, false, [], ◌∷◌, ◌++◌}
 use Rattle.policy_model.specs.States.{member}
 use Rattle.replay_queues.specs.Lines.{Lined}
 use Rattle.replay_queues.specs.ThreeParts.{Parted}
-use Rattle.replay_queues.proofs.PartLemmas.{ghosts-begin, pushed-main, pushed-main-are, view-has, view-within}
+use Rattle.replay_queues.proofs.PartLemmas.{ghosts-begin, pushed-main, pushed-main-are}
+use Rattle.replay_queues.proofs.PartAnswers.{view-has, view-within}
 use Rattle.replay_queues.proofs.parts.Parts.push_main.Goals as goal
 
 pub put-requires-clause-absent : goal.put-requires-clause-absent

@@ -2,7 +2,8 @@ use Rattle.std.proofs.Common.{◌∙◌, sym, ap, subst, false, [], ◌∷◌, �
 use Rattle.policy_model.specs.States.{member}
 use Rattle.replay_queues.specs.Lines.{Lined}
 use Rattle.replay_queues.specs.ThreeParts.{Parted, IsParts}
-use Rattle.replay_queues.proofs.PartLemmas.{pushed-small, pushed-small-are, view-has, view-within}
+use Rattle.replay_queues.proofs.PartLemmas.{pushed-small, pushed-small-are}
+use Rattle.replay_queues.proofs.PartAnswers.{view-has, view-within}
 use Rattle.replay_queues.proofs.parts.Parts.push_small.Goals as goal
 
 pub put-requires-clause-absent : goal.put-requires-clause-absent

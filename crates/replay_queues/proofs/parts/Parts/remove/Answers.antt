@@ -1,7 +1,8 @@
 use Rattle.std.proofs.Common.{◌≡◌, ◌<◌, ◌∙◌, sym, ap, subst, true, length, arith}
 use Rattle.replay_queues.specs.Lines.{Lined}
 use Rattle.replay_queues.specs.ThreeParts.{parts_without, parts_size, IsParts}
-use Rattle.replay_queues.proofs.PartLemmas.{size-parts, left-parts, left-are, view-has}
+use Rattle.replay_queues.proofs.PartLemmas.{size-parts, left-parts, left-are}
+use Rattle.replay_queues.proofs.PartAnswers.{view-has}
 use Rattle.replay_queues.proofs.parts.Parts.remove.Goals as goal
 
 pub begin_without-self-inside-requires : goal.begin_without-self-inside-requires

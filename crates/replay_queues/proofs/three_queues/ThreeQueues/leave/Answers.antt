@@ -1,6 +1,6 @@
 use Rattle.std.proofs.Common.{◌≡◌, ℕ, ◌-◌, ◌∙◌, sym, refl, Bool, true, false, ◌||◌, arith}
 use Rattle.policy_model.specs.States.{has_member}
-use Rattle.replay_queues.proofs.QueueLemmas.{none-gone}
+use Rattle.replay_queues.proofs.QueueLeavings.{none-gone}
 use Rattle.replay_queues.proofs.QueueAnswers.{kept-in, gone-are, gone-is, gone-freed, small-stays, small-less}
 use Rattle.replay_queues.proofs.three_queues.ThreeQueues.leave.Goals as goal
 
