@@ -1,7 +1,7 @@
 //! The policies that keep their objects in two queues: SIEVE and S3-FIFO.
 //!
-//! Their rules are those of docs/DEFINITIONS.md. Each keeps a byte for every object that it may be asked for, so that a
-//! hit touches no queue.
+//! Their rules are those of docs/DEFINITIONS.md. Each keeps its objects in one line of linked nodes, which any object can
+//! leave in constant time, and a byte for every object that it may be asked for, so that a hit touches no queue.
 #![tactic(auto)]
 
 mod hand;

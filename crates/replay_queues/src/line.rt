@@ -1,5 +1,5 @@
 //! Objects in a line, which any of them can leave.
-ghost use Rattle.std.specs.Prelude.{◌≡◌, ◌<◌, ◌+◌, ◌^◌, ◌++◌, ◌∷◌, [], true, false, length, drop, slice_index_or, IfOk};
+ghost use Rattle.std.specs.Prelude.{◌≡◌, ◌<◌, ◌+◌, ◌++◌, ◌∷◌, [], true, false, drop, IfOk};
 ghost use Rattle.policy_model.specs.Leaving.{without_member};
 ghost use Rattle.policy_model.specs.States.{member, members_size, has_member};
 ghost use Rattle.replay_queues.specs.Lines.{before_object, first_of, from_object};
@@ -9,7 +9,7 @@ use bound_base::NoMemory;
 use std::alloc::Global;
 use std::marker::Model;
 
-/// Objects with their sizes, in the order in which they came.
+/// Objects with their sizes, first to last.
 ///
 /// It is a doubly linked list with a node for each object and a sentinel.
 #[derive(Drop)]

@@ -19,7 +19,8 @@ const HELD: u8 = 2;
 
 const HIT_TWICE: u8 = 4;
 
-/// The small queue, the main queue and the ghosts, with the hits of the objects and the bytes of two of the three.
+/// The small queue, the main queue and the ghosts, with the hits of the objects, and the bytes of the small queue and of
+/// the ghosts.
 #[derive(Drop)]
 pub(crate) struct ThreeQueues {
     pub(crate) parts: Parts,
