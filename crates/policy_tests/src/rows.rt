@@ -5,8 +5,9 @@ use belady_laws::{BestFault, Replay, SizeClash, best_replay};
 use cache_rules::{Builder, Object, Trace};
 use compared::same;
 use replay_core::replay;
+use replay_queues::Clock;
 use replay_rank::{Belady, Lfu};
-use replay_recency::{Clock, Fifo, Lru};
+use replay_recency::{Fifo, Lru};
 use std::alloc::Global;
 use std::process::Abort;
 

@@ -1,4 +1,4 @@
--- The hand of SIEVE over its line.
+-- The hand of SIEVE or of CLOCK over its line.
 use Rattle.std.proofs.Common.{◌≡◌, ℕ, ◌<◌, ◌∙◌, sym, refl, ap, subst, Bool, true, false, not, ◌||◌, cond, eqb, leb, List, [], ◌∷◌, ◌++◌, length, drop, get_or, set, append_assoc, arith}
 use Rattle.std.proofs.lemmas.Bool.{eqb-true, eq-eqb, or_parts, or_from, ltb-true}
 use Rattle.std.proofs.lemmas.List.{append-nil, get_or_past, length-set}

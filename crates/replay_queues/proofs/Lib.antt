@@ -2,6 +2,8 @@ pub mod ItemLemmas
 pub mod SieveLemmas
 pub mod HandLemmas
 pub mod SieveAnswers
+pub mod ClockLemmas
+pub mod ClockAnswers
 pub mod RingLemmas
 pub mod GhostAnswers
 pub mod LineLemmas

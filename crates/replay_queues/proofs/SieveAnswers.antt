@@ -20,7 +20,7 @@ use Rattle.replay_core.specs.Outcomes.{is_hit}
 use Rattle.replay_core.specs.Keeping.{Kept, state_of, Answers, kept_without}
 use Rattle.replay_core.proofs.Kept.{answered}
 use Rattle.replay_queues.specs.Items.{has_item}
-use Rattle.replay_queues.specs.SieveQueues.{is_held, marked_entry, cut_by, behind_items, ahead_items, cut_at, AreHeld, IsHand, with_room, cut_kept, IsSieve}
+use Rattle.replay_queues.specs.SieveQueues.{is_held, marked_entry, cut_by, behind_items, ahead_items, cut_at, AreHeld, IsHand, with_room, cut_kept, IsCounted}
 use Rattle.replay_queues.specs.declared.hand.Hand.{Hand}
 use Rattle.replay_queues.proofs.ItemLemmas.{here, other, has_entry-append, changed}
 use Rattle.replay_queues.proofs.SieveLemmas.{marked, marked-items, cut-bytes}
@@ -87,13 +87,13 @@ module _ (objects capacity requests : ℕ) (cut : Cut) (k size : ℕ) where
         (ap stock_of_cut (put ∙ ap (come_in (marked_entry 1 (k, size))) (freed ∙ ap (until_fits look cut_used capacity size (2 * length (cut_entries cut) + 1)) (sym cut-back))) ∙ sym (served-small state k size hit miss (marked_entry 1 (k, size)) none small))
 
 -- ---- what holds of the fields
-pub sieve-fit : (objects capacity in_use : ℕ) (h : Hand) → IsSieve objects capacity in_use h → IsFit capacity (cut_entries (cut_at h))
-sieve-fit objects capacity in_use h is = record {
+pub cut-fit : (objects capacity in_use : ℕ) (h : Hand) → IsCounted objects capacity in_use h → IsFit capacity (cut_entries (cut_at h))
+cut-fit objects capacity in_use h is = record {
   room = (let fits : in_use ≤ capacity = is.fits in let counted : in_use ≡ cut_used (cut_at h) = is.in_use_is in omega (arith, cut-used (cut_at h)));
   apart = is.held.are.apart;
 }
 
-module _ (objects capacity requests in_use : ℕ) (h : Hand) (is : IsSieve objects capacity in_use h) (k : ℕ) (within : k < length h.table) (there : is_held (get_or h.table k 0) ≡ true) where
+module _ (objects capacity requests in_use : ℕ) (h : Hand) (is : IsCounted objects capacity in_use h) (k : ℕ) (within : k < length h.table) (there : is_held (get_or h.table k 0) ≡ true) where
   abbrev pub marked_hand : Hand
   marked_hand = record h { table = set h.table k 2 }
 
@@ -116,8 +116,8 @@ module _ (objects capacity requests in_use : ℕ) (h : Hand) (is : IsSieve objec
       ap (λ j. is_held (get_or (set h.table k 2) j 0)) same ∙ ap is_held (here h.table k 2 within) ∙ sym there ∙ ap (λ j. is_held (get_or h.table j 0)) (sym same)
   marked-known q false e = ap is_held (other h.table k 2 q e)
 
-  pub marked-sieve : IsSieve objects capacity in_use marked_hand
-  marked-sieve = record {
+  pub marked-counted : IsCounted objects capacity in_use marked_hand
+  marked-counted = record {
     range = is.range;
     each_object = length-set h.table k 2 ∙ is.each_object;
     in_use_is = is.in_use_is ∙ cut-bytes h.table (behind_items h) (ahead_items h) ∙ sym (cut-bytes (set h.table k 2) (behind_items h) (ahead_items h));
@@ -146,9 +146,9 @@ from_view old objects capacity requests n cut after k size outcome view now answ
     (subst (λ (m : ℕ). Answers Sieve (cut_kept objects capacity requests cut) (cut_kept objects capacity m after) k size next outcome) (sym now) (answers next))
 
 -- an object that came in after room was made
-pub came-sieve : (objects capacity in_use more size : ℕ) (h left after : Hand) → IsSieve objects capacity in_use h → length after.table ≡ length h.table → IsHand after
-    → (k : ℕ) → cut_at after ≡ come_in (marked_entry 1 (k, size)) (cut_at left) → more ≡ cut_used (cut_at left) → more + size ≤ capacity → IsSieve objects capacity (more + size) after
-came-sieve objects capacity in_use more size h left after is table held k put counted fits = record {
+pub came-ahead : (objects capacity in_use more size : ℕ) (h left after : Hand) → IsCounted objects capacity in_use h → length after.table ≡ length h.table → IsHand after
+    → (k : ℕ) → cut_at after ≡ come_in (marked_entry 1 (k, size)) (cut_at left) → more ≡ cut_used (cut_at left) → more + size ≤ capacity → IsCounted objects capacity (more + size) after
+came-ahead objects capacity in_use more size h left after is table held k put counted fits = record {
   range = is.range;
   each_object = table ∙ is.each_object;
   in_use_is = omega (arith, ap cut_used put, sum_by_push (λ (e : Entry). e.size) (cut_at left).ahead (marked_entry 1 (k, size)));
@@ -157,9 +157,9 @@ came-sieve objects capacity in_use more size h left after is table held k put co
 }
 
 -- ---- an object that is let go of
-pub left-sieve : (objects capacity in_use left : ℕ) (h after : Hand) → IsSieve objects capacity in_use h → length after.table ≡ length h.table → IsHand after → cut_used (cut_at after) + left ≡ cut_used (cut_at h)
-    → IsSieve objects capacity (in_use - left) after
-left-sieve objects capacity in_use left h after is table held freed =
+pub left-counted : (objects capacity in_use left : ℕ) (h after : Hand) → IsCounted objects capacity in_use h → length after.table ≡ length h.table → IsHand after → cut_used (cut_at after) + left ≡ cut_used (cut_at h)
+    → IsCounted objects capacity (in_use - left) after
+left-counted objects capacity in_use left h after is table held freed =
     let counted : in_use ≡ cut_used (cut_at h) = is.in_use_is in
     let fits : in_use ≤ capacity = is.fits in
     record { range = is.range; each_object = table ∙ is.each_object; in_use_is = omega arith; fits = omega arith; held = held }

@@ -4,3 +4,4 @@ pub mod Lines
 pub mod ThreeParts
 pub mod SmallAndMain
 pub mod Rings
+pub mod Circles

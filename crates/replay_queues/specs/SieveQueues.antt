@@ -1,4 +1,4 @@
--- The two queues of SIEVE, and which objects are marked.
+-- The two queues that the hand of SIEVE or of CLOCK makes of its line, and which objects are marked.
 use Rattle.std.specs.Prelude.{◌≡◌, ℕ, ◌+◌, ◌*◌, ◌++◌, ◌≤◌, ◌^◌, Bool, ◌||◌, nat_lt, nat_le, List, length, slice_index, None}
 use Rattle.policy_model.specs.States.{Entry, Apart}
 use Rattle.policy_model.specs.Sieve.{Cut, look, cut_used, stock_of_cut}
@@ -51,7 +51,7 @@ cut_kept objects capacity requests cut =
     record { objects = objects; capacity = capacity; now = requests; entries = (stock_of_cut cut).entries; beside = (stock_of_cut cut).beside }
 
 -- the bytes used are counted and fit
-pub record IsSieve (objects capacity in_use : ℕ) (h : Hand) : Type 0 where
+pub record IsCounted (objects capacity in_use : ℕ) (h : Hand) : Type 0 where
   pub range : capacity ≤ 2 ^ 56
   pub each_object : length h.table ≡ objects
   pub in_use_is : in_use ≡ cut_used (cut_at h)

@@ -1,5 +1,5 @@
-//! The line of SIEVE and its hand, which goes from older objects to newer ones.
-ghost use Rattle.std.specs.Prelude.{◌≡◌, ◌≤◌, ◌<◌, ◌^◌, ◌+◌, [], length, replicate, true, false, IfOk, slice_index, slice_set};
+//! The line of SIEVE or of CLOCK and its hand, which goes from the front to the back.
+ghost use Rattle.std.specs.Prelude.{◌≡◌, ◌≤◌, ◌<◌, ◌^◌, ◌+◌, ◌++◌, ◌∷◌, [], length, replicate, true, false, IfOk, slice_index, slice_set};
 ghost use Rattle.policy_model.specs.Leaving.{cut_without, without_member};
 ghost use Rattle.policy_model.specs.Sieve.{look, cut_used, begin_again, come_in};
 ghost use Rattle.policy_model.specs.Steps.{without_entry};
@@ -18,8 +18,8 @@ const HELD: u8 = 1;
 
 const MARKED: u8 = 2;
 
-/// Objects with their sizes in the order in which they came in, and the one that the hand looks at next, or the number for
-/// none. So an object leaves in constant time on either side of the hand, and none is moved if the hand begins again.
+/// Objects with their sizes in a line, and the one that the hand looks at next, or the number for none. After the last it
+/// begins again at the first. So an object leaves in constant time on either side of the hand, and none is moved by it.
 #[derive(Drop)]
 pub(crate) struct Hand {
     pub(crate) line: Line,
@@ -102,7 +102,7 @@ impl Hand {
         self.line.remove(object)
     }
 
-    // If nothing is ahead of the hand, it begins again at the oldest.
+    // If nothing is ahead of the hand, it begins again at the first.
     #[inline(always)]
     fn begin_again(&mut self)
         requires held { IsHand self.old }
@@ -125,19 +125,19 @@ impl Hand {
         ensures held { IsHand self.new }
         ensures table { length self.new.table ≡ length self.old.table }
     {
-        let object = self.next;
-        if object == self.line.none() {
+        let next = self.next;
+        if next == self.line.none() {
             return 0;
         }
-        if self.table.get(object) < MARKED {
-            return self.take_out(object);
+        if self.table.get(next) < MARKED {
+            return self.take_out(next);
         }
-        self.table.set(object, HELD);
-        self.next = self.line.after(object);
+        self.table.set(next, HELD);
+        self.next = self.line.after(next);
         0
     }
 
-    // Passes the next entry, and begins again at the oldest if it was the newest.
+    // Passes the next entry, and begins again at the first if it was the last.
     fn look(&mut self) -> u64
         requires held { IsHand self.old }
         ensures cut { cut_at self.new ≡ look (cut_at self.old) }
@@ -185,8 +185,22 @@ impl Hand {
         self.line.put(object, size, none);
     }
 
+    /// Puts an object that is not held just behind the hand, without a mark.
+    pub(crate) fn come_in_behind(&mut self, object: u32, size: u64)
+        requires known { object < length self.old.table }
+        requires absent { is_held (slice_index self.old.table object) ≡ false }
+        requires held { IsHand self.old }
+        ensures behind { (cut_at self.new).behind ≡ (cut_at self.old).behind ++ marked_entry HELD (object, size) ∷ [] }
+        ensures ahead { (cut_at self.new).ahead ≡ (cut_at self.old).ahead }
+        ensures held { IsHand self.new }
+        ensures table { length self.new.table ≡ length self.old.table }
+    {
+        self.table.set(object, HELD);
+        self.line.put(object, size, self.next);
+    }
+
     /// Lets go of an object, if it is held, and says how many bytes it had. If nothing is then ahead of the hand, it begins
-    /// again at the oldest.
+    /// again at the first.
     pub(crate) fn leave(&mut self, object: u32) -> u64
         requires known { object < length self.old.table }
         requires held { IsHand self.old }

@@ -1,9 +1,10 @@
-//! The policies that keep their objects in two queues: SIEVE and S3-FIFO.
+//! The policies that keep their objects in a line: CLOCK, SIEVE and S3-FIFO.
 //!
 //! Their rules are those of docs/DEFINITIONS.md. Each keeps its objects in one line of linked nodes, which any object can
 //! leave in constant time, and a byte for every object that it may be asked for, so that a hit touches no queue.
 #![tactic(auto)]
 
+mod clock;
 mod hand;
 mod line;
 mod nodes;
@@ -13,6 +14,7 @@ mod sieve;
 mod table;
 mod three_queues;
 
+pub use clock::Clock;
 pub use nodes::{Node, join, note_size};
 pub use s3fifo::S3Fifo;
 pub use sieve::Sieve;

@@ -34,11 +34,11 @@ impl Model for Sieve {
 
     ghost Value = { Kept };
 
-    ghost use Rattle.replay_queues.specs.SieveQueues.{cut_at, cut_kept, IsSieve};
+    ghost use Rattle.replay_queues.specs.SieveQueues.{cut_at, cut_kept, IsCounted};
 
     ghost view = { λ p. cut_kept p.objects p.capacity p.requests (cut_at p.hand) };
 
-    ghost invariant = { λ p. IsSieve p.objects p.capacity p.used p.hand };
+    ghost invariant = { λ p. IsCounted p.objects p.capacity p.used p.hand };
 }
 
 impl Sieve {

@@ -4,27 +4,27 @@ use Rattle.policy_model.proofs.SieveSound.{cut_entries}
 use Rattle.replay_core.specs.declared.policy.Outcome.TheVariants.{Hit, Miss}
 use Rattle.replay_core.specs.Keeping.{Kept}
 use Rattle.replay_core.proofs.Kept.{fit-sound}
-use Rattle.replay_queues.specs.SieveQueues.{is_held, behind_items, ahead_items, cut_at, cut_kept, IsSieve}
+use Rattle.replay_queues.specs.SieveQueues.{is_held, behind_items, ahead_items, cut_at, cut_kept, IsCounted}
 use Rattle.replay_queues.specs.declared.hand.Hand.{Hand}
-use Rattle.replay_queues.proofs.SieveAnswers.{held-entry, hit-answers, large-answers, miss-answers, sieve-fit, marked-behind, marked-ahead, marked-sieve, still_absent, from_view, came-sieve}
+use Rattle.replay_queues.proofs.SieveAnswers.{held-entry, hit-answers, large-answers, miss-answers, cut-fit, marked-behind, marked-ahead, marked-counted, still_absent, from_view, came-ahead}
 use Rattle.replay_queues.proofs.sieve.Sieve.ask.Goals as goal
 
 -- the object has a byte
-has_byte : (objects capacity requests in_use : ℕ) (h : Hand) (old : Kept) (k : ℕ) → IsSieve objects capacity in_use h → cut_kept objects capacity requests (cut_at h) ≡ old → k < old.objects → k < length h.table
+has_byte : (objects capacity requests in_use : ℕ) (h : Hand) (old : Kept) (k : ℕ) → IsCounted objects capacity in_use h → cut_kept objects capacity requests (cut_at h) ≡ old → k < old.objects → k < length h.table
 has_byte objects capacity requests in_use h old k is view known =
     let below : k < objects = subst (λ (p : Kept). k < p.objects) (sym view) known in
     let each : length h.table ≡ objects = is.each_object in
     omega arith
 
 -- whether it has an entry
-answer_is : (objects capacity in_use : ℕ) (h : Hand) → IsSieve objects capacity in_use h → (k : ℕ) (b : Bool) → is_held (get_or h.table k 0) ≡ b → has_entry (cut_entries (cut_at h)) k ≡ b
+answer_is : (objects capacity in_use : ℕ) (h : Hand) → IsCounted objects capacity in_use h → (k : ℕ) (b : Bool) → is_held (get_or h.table k 0) ≡ b → has_entry (cut_entries (cut_at h)) k ≡ b
 answer_is objects capacity in_use h is k b held = sym (held-entry h.table (behind_items h) (ahead_items h) is.held.are k) ∙ held
 
 pub invariant_of-self : goal.invariant_of-self
 invariant_of-self c =
     let p = c.self.inside in
-    subst (IsSieve p.objects p.capacity p.used) (sym c.mark.ensures)
-    (marked-sieve p.objects p.capacity p.requests p.used p.hand c.self.invariant c.args.object
+    subst (IsCounted p.objects p.capacity p.used) (sym c.mark.ensures)
+    (marked-counted p.objects p.capacity p.requests p.used p.hand c.self.invariant c.args.object
     (has_byte p.objects p.capacity p.requests p.used p.hand c.args.self.now c.args.object c.self.invariant c.self.view_is c.requires.known) (sym c.holds.ensures ∙ c.if-holds.true))
 
 pub returns-then-holds-clause-answers : goal.returns-then-holds-clause-answers
@@ -40,7 +40,7 @@ returns-then-holds-clause-answers c =
 pub returns-then-holds-clause-fits : goal.returns-then-holds-clause-fits
 returns-then-holds-clause-fits c =
     let p = c.self.inside in
-    fit-sound p.capacity (cut_entries (cut_at c.mark.new.self)) (sieve-fit p.objects p.capacity p.used c.mark.new.self (invariant_of-self c))
+    fit-sound p.capacity (cut_entries (cut_at c.mark.new.self)) (cut-fit p.objects p.capacity p.used c.mark.new.self (invariant_of-self c))
 
 pub returns-then-size-self-clause-answers : goal.returns-then-size-self-clause-answers
 returns-then-size-self-clause-answers c =
@@ -52,7 +52,7 @@ returns-then-size-self-clause-answers c =
 pub returns-then-size-self-clause-fits : goal.returns-then-size-self-clause-fits
 returns-then-size-self-clause-fits c =
     let p = c.self.inside in
-    fit-sound p.capacity (cut_entries (cut_at p.hand)) (sieve-fit p.objects p.capacity p.used p.hand c.self.invariant)
+    fit-sound p.capacity (cut_entries (cut_at p.hand)) (cut-fit p.objects p.capacity p.used p.hand c.self.invariant)
 
 pub come_in-requires-clause-absent : goal.come_in-requires-clause-absent
 come_in-requires-clause-absent c =
@@ -64,7 +64,7 @@ come_in-requires-clause-absent c =
 pub invariant_of-self-2 : goal.invariant_of-self-2
 invariant_of-self-2 c =
     let p = c.self.inside in
-    came-sieve p.objects p.capacity p.used c.make_room-self-inside.result c.args.size p.hand c.make_room-self-inside.new.self c.come_in.new.self c.self.invariant
+    came-ahead p.objects p.capacity p.used c.make_room-self-inside.result c.args.size p.hand c.make_room-self-inside.new.self c.come_in.new.self c.self.invariant
     (c.come_in.ensures.table ∙ c.make_room-self-inside.ensures.table) c.come_in.ensures.held c.args.object c.come_in.ensures.cut c.make_room-self-inside.ensures.in_use c.make_room-self-inside.ensures.fits
 
 pub returns-clause-answers : goal.returns-clause-answers
@@ -79,4 +79,4 @@ returns-clause-answers c =
 pub returns-clause-fits : goal.returns-clause-fits
 returns-clause-fits c =
     let p = c.self.inside in
-    fit-sound p.capacity (cut_entries (cut_at c.come_in.new.self)) (sieve-fit p.objects p.capacity (c.make_room-self-inside.result + c.args.size) c.come_in.new.self (invariant_of-self-2 c))
+    fit-sound p.capacity (cut_entries (cut_at c.come_in.new.self)) (cut-fit p.objects p.capacity (c.make_room-self-inside.result + c.args.size) c.come_in.new.self (invariant_of-self-2 c))

@@ -1,0 +1,133 @@
+//! The rule of the clock: an object that was asked for since the hand last passed it is passed over once.
+ghost use Rattle.std.specs.Prelude.{◌≡◌, ◌≤◌, ◌<◌, ◌^◌, ◌⊎◌, ℕ, All, Contains, Some, None, IfOk, OnOk, OnErr, refl};
+ghost use Rattle.std.specs.declared.option.Option.{Option};
+ghost use Rattle.policy_model.specs.declared.names.PolicyName.TheVariants.{Clock as ByClock};
+ghost use Rattle.replay_core.specs.Keeping.{Answers, nothing_kept, state_of, contents_of};
+ghost use Rattle.policy_model.specs.States.{Member, has_member, member};
+ghost use Rattle.replay_core.specs.Laws.{CountsAnswer, IsSound, StepsBy};
+ghost use Rattle.replay_core.specs.Outcomes.{is_hit};
+
+use crate::hand::Hand;
+use bound_base::NoMemory;
+use replay_core::{LetGo, Outcome, Policy};
+use std::alloc::Global;
+use std::marker::Model;
+
+/// The objects stand in a circle, and the hand gives up the first that was not asked for since it last passed. An object
+/// that comes in is the last that it comes to.
+///
+/// A request takes constant time on average, for itself and for each look of the hand. A look gives up an object or
+/// clears the mark of a hit. It takes 17 bytes for each object from the start.
+#[derive(Drop)]
+pub struct Clock {
+    capacity: u64,
+    objects: u32,
+    requests: u64,
+    used: u64,
+    hand: Hand,
+}
+
+impl Model for Clock {
+    ghost use Rattle.replay_core.specs.Keeping.{Kept};
+
+    ghost Value = { Kept };
+
+    ghost use Rattle.replay_queues.specs.Circles.{circle_kept};
+    ghost use Rattle.replay_queues.specs.SieveQueues.{cut_at, IsCounted};
+
+    ghost view = { λ p. circle_kept p.objects p.capacity p.requests (cut_at p.hand) };
+
+    ghost invariant = { λ p. IsCounted p.objects p.capacity p.used p.hand };
+}
+
+impl Clock {
+    /// A policy that holds nothing, with its capacity in bytes. It takes 17 bytes for each object.
+    pub fn new(alloc: Global, capacity: u64, objects: u32) -> Result<Self, NoMemory>
+        requires range { (1 ≤ capacity) × (capacity ≤ 2 ^ 56) }
+        ensures nothing { IfOk result (λ policy. policy ≡ nothing_kept objects capacity) }
+    {
+        Ok(Clock {
+            capacity,
+            objects,
+            requests: 0,
+            used: 0,
+            hand: Hand::new(alloc, objects)?,
+        })
+    }
+
+    // One request, as the rule says, whatever the next request is.
+    fn ask(&mut self, object: u32, size: u64) -> Outcome
+        requires known { object < self.old.objects }
+        requires kept_size { All (λ m. m.object ≡ object → m.size ≡ size) (contents_of self.old) }
+        ensures answers { (next : Option ℕ) → Answers ByClock self.old self.new object size next result }
+        ensures fits { IsSound self.new.capacity (contents_of self.new) }
+    {
+        let requests = self.requests.saturating_add(1);
+        if self.hand.holds(object) {
+            self.hand.mark(object);
+            self.requests = requests;
+            return Outcome::Hit;
+        }
+        if size > self.capacity {
+            self.requests = requests;
+            return Outcome::Miss;
+        }
+        self.used = self.hand.make_room(self.used, self.capacity, size);
+        self.hand.come_in_behind(object, size);
+        self.used += size;
+        self.requests = requests;
+        Outcome::Miss
+    }
+}
+
+impl Policy for Clock {
+    ghost contents = { λ p. contents_of p };
+
+    ghost objects = { λ p. p.objects };
+
+    ghost room = { λ p. p.capacity };
+
+    ghost known_state = { λ p. Some (state_of ByClock p) };
+
+    ghost tally = { λ _. None };
+
+    fn capacity(&self) -> u64 {
+        self.capacity
+    }
+
+    fn holds(&self, object: u32) -> bool {
+        object < self.objects && self.hand.holds(object)
+    }
+
+    fn request(
+        &mut self,
+        _alloc: Global,
+        object: u32,
+        size: u64,
+        _next: Option<u32>,
+    ) -> Result<Outcome, NoMemory>
+        requires known { object < self.old.objects }
+        requires size { 1 ≤ size }
+        requires kept_size { All (λ m. m.object ≡ object → m.size ≡ size) (contents_of self.old) }
+        ensures outcome { IfOk result (λ o. is_hit o ≡ has_member (contents_of self.old) object) }
+        ensures only_the_request_enters { OnOk result ((m : Member) → Contains (contents_of self.new) m → Contains (contents_of self.old) m ⊎ (m ≡ member object size)) }
+        ensures none_enters { OnErr result ((m : Member) → Contains (contents_of self.new) m → Contains (contents_of self.old) m) }
+        ensures sound { IsSound self.new.capacity (contents_of self.new) }
+        ensures same_capacity { self.new.capacity ≡ self.old.capacity }
+        ensures same_objects { self.new.objects ≡ self.old.objects }
+        ensures counted { IfOk result (λ o. CountsAnswer None None (is_hit o)) }
+        ensures step { OnOk result (StepsBy (Some (state_of ByClock self.old)) (Some (state_of ByClock self.new)) object size _next) }
+        ensures kept { OnErr result (self.new ≡ self.old) }
+    {
+        Ok(self.ask(object, size))
+    }
+
+    ghost state_fits = { λ p. (refl, refl) };
+}
+
+impl LetGo for Clock {
+    /// It takes constant time.
+    fn let_go(&mut self, object: u32) {
+        self.used -= self.hand.leave(object);
+    }
+}
