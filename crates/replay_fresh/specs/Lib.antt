@@ -1,0 +1,3 @@
+pub mod Fresh
+pub mod FreshRuns
+pub mod Laws
