@@ -1,2 +1,3 @@
 mod Rows
 mod Nothing
+pub mod Versions

@@ -1,3 +1,4 @@
 pub mod Fresh
 pub mod FreshRuns
+pub mod Latest
 pub mod Laws

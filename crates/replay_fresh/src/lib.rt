@@ -5,5 +5,6 @@
 #![tactic(auto)]
 
 mod laws;
+mod replacing;
 
 pub use laws::nothing_leaves;

@@ -1,0 +1,52 @@
+//! Which object a request replaces: the last of its volume and id, if that has another size.
+ghost use Rattle.std.specs.Prelude.{◌≡◌, ◌≢◌, ◌<◌, ◌+◌, [], length, IsTrue, IfOk, IfSome, OnOk, take, option_to_list, if◌then◌else◌};
+ghost use Rattle.cache_model.specs.Claim.{request_at};
+ghost use Rattle.cache_model.specs.Objects.{objects_of};
+ghost use Rattle.policy_model.specs.Asks.{number_of};
+ghost use Rattle.replay_fresh.specs.Fresh.{last_of_id, of_other_size};
+ghost use Rattle.replay_fresh.specs.Latest.{AreLatest, other_than};
+
+use bound_base::NoMemory;
+use cache_rules::Trace;
+use indexmap::IndexMap;
+use std::alloc::Global;
+
+/// What versions of an object share.
+#[derive(Clone, Copy, Debug, PartialEq, Eq, Hash)]
+pub(crate) struct Id {
+    pub volume: u32,
+    pub id: u64,
+}
+
+// The number that is given, unless it is this one.
+fn other_than(number: u32, given: Option<u32>) -> Option<u32>
+    ensures { result ≡ other_than number given }
+{
+    match given {
+        Some(other) if other != number => Some(other),
+        _ => None,
+    }
+}
+
+/// The number of the object that request `t` replaces. From here on that of the request is the last of its volume and id.
+pub(crate) fn replaced(
+    latest: &mut IndexMap<Id, u32>,
+    trace: &Trace,
+    t: u32,
+) -> Result<Option<u32>, NoMemory>
+    requires within { t < length trace.now.objects }
+    requires latest { AreLatest latest.old.entries trace.now.objects t }
+    ensures latest { OnOk result (AreLatest latest.new.entries trace.now.objects (t + 1)) }
+    ensures of_other_size { IfOk result (λ r. option_to_list r ≡ of_other_size trace.now.objects (request_at trace.now.objects t) (last_of_id (request_at trace.now.objects t) (take t trace.now.objects))) }
+    ensures known { IfOk result (λ r. IfSome r (λ k. k < length (objects_of trace.now.objects))) }
+    ensures other { IfOk result (λ r. IfSome r (λ k. k ≢ number_of trace.now.objects (request_at trace.now.objects t))) }
+{
+    let object = trace.request(t);
+    let asked = trace.object(object);
+    let id = Id {
+        volume: asked.volume,
+        id: asked.id,
+    };
+    let before = latest.insert(id, object)?;
+    Ok(other_than(object, before))
+}
