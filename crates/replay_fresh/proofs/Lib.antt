@@ -1,3 +1,4 @@
 mod Rows
 mod Nothing
 pub mod Versions
+pub mod Left

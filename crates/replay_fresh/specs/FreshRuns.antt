@@ -1,16 +1,16 @@
 -- The run of a rule from which objects leave before requests.
-use Rattle.std.specs.Prelude.{◌≡◌, ℕ, ◌+◌, Bool, List, IfSome, fold, length, map, take}
+use Rattle.std.specs.Prelude.{◌≡◌, ℕ, ◌+◌, Bool, IsTrue, List, Some, IfSome, fold, length, map, take}
 use Rattle.std.specs.declared.option.Option.{Option}
 use Rattle.std.specs.List.{range_with_len}
 use Rattle.cache_model.specs.declared.objects.Object.{Object}
-use Rattle.cache_model.specs.Claim.{counts_past}
+use Rattle.cache_model.specs.Claim.{counts_past, only_fills}
 use Rattle.cache_model.specs.Written.{written_bytes}
 use Rattle.policy_model.specs.declared.names.PolicyName.{PolicyName}
-use Rattle.policy_model.specs.States.{State, members_of, start_of}
-use Rattle.policy_model.specs.Leaving.{let_go}
+use Rattle.policy_model.specs.States.{Member, State, members_of, start_of}
+use Rattle.policy_model.specs.Leaving.{let_go, without_member}
 use Rattle.policy_model.specs.Asks.{Ask}
 use Rattle.policy_model.specs.Runs.{AreScores, Run, objects_held, rule_step, run_from, run_step}
-use Rattle.replay_fresh.specs.Fresh.{fresh_asks, leaving}
+use Rattle.replay_fresh.specs.Fresh.{fresh_asks, is_stale, leaving}
 
 -- a state that has let go of the objects of these numbers, one after the other
 abbrev pub let_go_all : State → List ℕ → State
@@ -38,3 +38,30 @@ fresh_held_after first trace stale replace t =
 abbrev pub fresh_contents : PolicyName → List Object → ℕ → List Bool → Bool → List (List Object)
 fresh_contents name trace capacity stale replace = map (fresh_held_after (start_of name capacity) trace stale replace) (range_with_len 0 (length trace + 1))
 
+-- ---- a policy from which objects leave
+-- each stale request only fills
+abbrev pub OnlyFill : List Bool → List Bool → Type 0
+OnlyFill stale fills = (t : ℕ) → IsTrue (is_stale stale t) → IsTrue (only_fills fills t)
+
+-- the members without those of the objects of these numbers
+abbrev pub members_without : List Member → List ℕ → List Member
+members_without members objects = fold (λ ms object. without_member object ms) members objects
+
+-- a state that was known before is known after, without the objects of these numbers
+abbrev pub LetsGoAll : Option State → Option State → List ℕ → Type 0
+LetsGoAll before after objects = IfSome before (λ s. after ≡ Some (let_go_all s objects))
+
+-- if a state is known, the hits and bytes are those of its rule's run
+abbrev pub IsFreshRunOf : Option State → List Object → ℕ → List Bool → List Bool → Bool → ℕ → ℕ → Type 0
+IsFreshRunOf known_state trace warmup fills stale replace hits bytes =
+    IfSome known_state (λ s. let run = fresh_run s.name trace s.capacity warmup fills stale replace in (hits ≡ run.hits) × (bytes ≡ run.bytes))
+
+-- a state that is known is then that of its rule's run
+abbrev pub IsFreshStateAfter : Option State → Option State → List Object → ℕ → List Bool → List Bool → Bool → Type 0
+IsFreshStateAfter before after trace warmup fills stale replace = IfSome before (λ s. after ≡ Some (fresh_run s.name trace s.capacity warmup fills stale replace).state)
+
+-- some allowed contents of the trace have these hits and bytes, and write these bytes; they are those of the rule, if one is known
+pub record IsFreshlyPlayed (known_state : Option State) (capacity warmup : ℕ) (fills stale : List Bool) (replace : Bool) (trace : List Object) (hits bytes written : ℕ) : Type 0 where
+  pub scores : AreScores capacity warmup fills trace hits bytes
+  pub written_are : written ≡ written_bytes warmup fills trace scores.contents
+  pub of_rule : IfSome known_state (λ s. scores.contents ≡ fresh_contents s.name trace s.capacity stale replace)

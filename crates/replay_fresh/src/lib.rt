@@ -5,6 +5,9 @@
 #![tactic(auto)]
 
 mod laws;
+mod leaving;
 mod replacing;
+mod replaying;
 
 pub use laws::nothing_leaves;
+pub use replaying::replay_fresh;

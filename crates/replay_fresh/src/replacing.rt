@@ -28,8 +28,8 @@ fn other_than(number: u32, given: Option<u32>) -> Option<u32>
     }
 }
 
-/// The number of the object that request `t` replaces. From here on that of the request is the last of its volume and id.
-pub(crate) fn replaced(
+// The number of the object that request `t` replaces. From here on that of the request is the last of its volume and id.
+fn replaced(
     latest: &mut IndexMap<Id, u32>,
     trace: &Trace,
     t: u32,
@@ -49,4 +49,25 @@ pub(crate) fn replaced(
     };
     let before = latest.insert(id, object)?;
     Ok(other_than(object, before))
+}
+
+/// The same if objects are replaced. If not, nothing is kept of the requests.
+pub(crate) fn replaced_if(
+    replace: bool,
+    latest: &mut IndexMap<Id, u32>,
+    trace: &Trace,
+    t: u32,
+) -> Result<Option<u32>, NoMemory>
+    requires within { t < length trace.now.objects }
+    requires latest { IsTrue replace → AreLatest latest.old.entries trace.now.objects t }
+    ensures latest { OnOk result (IsTrue replace → AreLatest latest.new.entries trace.now.objects (t + 1)) }
+    ensures of_other_size { IfOk result (λ r. option_to_list r ≡ (if replace then of_other_size trace.now.objects (request_at trace.now.objects t) (last_of_id (request_at trace.now.objects t) (take t trace.now.objects)) else [])) }
+    ensures known { IfOk result (λ r. IfSome r (λ k. k < length (objects_of trace.now.objects))) }
+    ensures other { IfOk result (λ r. IfSome r (λ k. k ≢ number_of trace.now.objects (request_at trace.now.objects t))) }
+{
+    if replace {
+        replaced(latest, trace, t)
+    } else {
+        Ok(None)
+    }
 }

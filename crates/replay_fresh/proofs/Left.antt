@@ -1,0 +1,44 @@
+-- What is held once objects have left: nothing that was not, and each other object.
+use Rattle.std.proofs.Common.{◌≡◌, ◌≢◌, ℕ, ◌∙◌, ap, refl, Bool, true, false, not, ◌&&◌, ◌||◌, cond, eqb, nat_le, List, [], ◌∷◌, None, Some, IfSome, All, Contains, option_to_list}
+use Rattle.std.specs.Bool.{then_some}
+use Rattle.std.specs.declared.option.Option.{Option}
+use Rattle.std.proofs.lemmas.Bool.{both_ways, ne_eqb}
+use Rattle.std.proofs.lemmas.List.Elements.{All-contains, All-contains_itself, All-filter}
+use Rattle.policy_model.specs.States.{Member, has_member}
+use Rattle.policy_model.specs.Leaving.{without_member}
+use Rattle.policy_model.proofs.Leavings.{without_member-others}
+use Rattle.replay_fresh.specs.FreshRuns.{members_without}
+
+-- what holds of all members holds of those that stay
+pub All-members_without : (P : Member → Type 0) (members : List Member) (objects : List ℕ) → All P members → All P (members_without members objects)
+All-members_without P members [] each = each
+All-members_without P members (k ∷ objects) each = All-members_without P (without_member k members) objects (All-filter (λ m. not (eqb m.object k)) P members each)
+
+-- and so they were members
+pub members_without-former : (members : List Member) (objects : List ℕ) (m : Member) → Contains (members_without members objects) m → Contains members m
+members_without-former members objects m c = All-contains (Contains members) (members_without members objects) m (All-members_without (Contains members) members objects (All-contains_itself members)) c
+
+-- an object stays if it is neither of those that leave
+pub has_member-left : (members : List Member) (own : ℕ) (stale : Bool) (k : ℕ) (other : Option ℕ) → stale ≡ false → IfSome other (λ n. n ≢ own)
+    → has_member (members_without (members_without members (option_to_list (then_some stale k))) (option_to_list other)) own ≡ has_member members own
+has_member-left members own stale k other fresh apart = ap (λ b. has_member (members_without (members_without members (option_to_list (then_some b k))) (option_to_list other)) own) fresh ∙ at other apart
+  where
+    at : (o : Option ℕ) → IfSome o (λ n. n ≢ own) → has_member (members_without members (option_to_list o)) own ≡ has_member members own
+    at None apart = refl
+    at (Some n) apart = without_member-others n own members (ne_eqb n own apart)
+
+-- ---- a request that is not stale
+-- what holds if it is fresh holds if it doesn't only fill
+pub if_counts : (stale only hit held : Bool) → (stale ≡ true → only ≡ true) → (stale ≡ false → hit ≡ held) → only ≡ false → hit ≡ held
+if_counts true only hit held fill same counts = absurd (both_ways only (fill refl) counts)
+if_counts false only hit held fill same counts = same refl
+
+-- so it is the same, whether what is held before anything leaves counts as a hit
+pub counted-left : (past only hit held : Bool) → (only ≡ false → hit ≡ held) → ((past && not only) && hit) ≡ ((past && not only) && held)
+counted-left false only hit held same = refl
+counted-left true true hit held same = refl
+counted-left true false hit held same = same refl
+
+pub written-left : (past only hit held after : Bool) → (only ≡ false → hit ≡ held) → (past && ((only || not hit) && after)) ≡ (past && ((only || not held) && after))
+written-left past true hit held after same = refl
+written-left past false hit held after same = ap (λ b. past && (not b && after)) (same refl)

@@ -1,0 +1,58 @@
+//! What leaves a policy before a request.
+ghost use Rattle.std.specs.Prelude.{◌≡◌, ◌<◌, ◌≤◌, ◌+◌, false, length, IsTrue, IfSome, OnOk, option_to_list};
+ghost use Rattle.bit_list.specs.Bits.{bits_of};
+ghost use Rattle.cache_model.specs.Claim.{request_at};
+ghost use Rattle.cache_model.specs.Objects.{objects_of};
+ghost use Rattle.policy_model.specs.Asks.{number_of};
+ghost use Rattle.policy_model.specs.States.{has_member};
+ghost use Rattle.replay_fresh.specs.Fresh.{is_stale, leaving};
+ghost use Rattle.replay_fresh.specs.FreshRuns.{LetsGoAll, members_without};
+ghost use Rattle.replay_fresh.specs.Latest.{AreLatest};
+
+use crate::replacing::{Id, replaced_if};
+use bit_list::BitList;
+use bound_base::NoMemory;
+use cache_rules::Trace;
+use indexmap::IndexMap;
+use replay_core::{LetGo, Policy};
+
+// Lets go of the object of this number, if there is one.
+fn let_go_of<P: LetGo>(policy: &mut P, object: Option<u32>)
+    requires known { IfSome object (λ k. k < P.objects policy.old) }
+    ensures contents { P.contents policy.new ≡ members_without (P.contents policy.old) (option_to_list object) }
+    ensures same_capacity { P.room policy.new ≡ P.room policy.old }
+    ensures same_objects { P.objects policy.new ≡ P.objects policy.old }
+    ensures same_tally { P.tally policy.new ≡ P.tally policy.old }
+    ensures state { LetsGoAll (P.known_state policy.old) (P.known_state policy.new) (option_to_list object) }
+{
+    if let Some(object) = object {
+        policy.let_go(object);
+    }
+}
+
+/// Lets go of what leaves before request `t`: its own object if it is stale, and then the one that it replaces.
+pub(crate) fn let_leave<P: LetGo>(
+    trace: &Trace,
+    stale: &BitList,
+    replace: bool,
+    t: u32,
+    latest: &mut IndexMap<Id, u32>,
+    policy: &mut P,
+) -> Result<(), NoMemory>
+    requires within { t < length trace.now.objects }
+    requires objects { length (objects_of trace.now.objects) ≤ P.objects policy.old }
+    requires latest { IsTrue replace → AreLatest latest.old.entries trace.now.objects t }
+    ensures latest { OnOk result (IsTrue replace → AreLatest latest.new.entries trace.now.objects (t + 1)) }
+    ensures contents { OnOk result (P.contents policy.new ≡ members_without (P.contents policy.old) (leaving (bits_of stale.now) replace trace.now.objects t)) }
+    ensures own_stays { OnOk result (is_stale (bits_of stale.now) t ≡ false → has_member (P.contents policy.new) (number_of trace.now.objects (request_at trace.now.objects t)) ≡ has_member (P.contents policy.old) (number_of trace.now.objects (request_at trace.now.objects t))) }
+    ensures same_capacity { P.room policy.new ≡ P.room policy.old }
+    ensures same_objects { P.objects policy.new ≡ P.objects policy.old }
+    ensures same_tally { P.tally policy.new ≡ P.tally policy.old }
+    ensures state { OnOk result (LetsGoAll (P.known_state policy.old) (P.known_state policy.new) (leaving (bits_of stale.now) replace trace.now.objects t)) }
+{
+    let object = trace.request(t);
+    let replaced = replaced_if(replace, latest, trace, t)?;
+    let_go_of(policy, stale.get(t as usize).then_some(object));
+    let_go_of(policy, replaced);
+    Ok(())
+}
