@@ -30,7 +30,7 @@ has_member-left members own stale k other fresh apart = ap (λ b. has_member (me
 -- ---- a request that is not stale
 -- what holds if it is fresh holds if it doesn't only fill
 pub if_counts : (stale only hit held : Bool) → (stale ≡ true → only ≡ true) → (stale ≡ false → hit ≡ held) → only ≡ false → hit ≡ held
-if_counts true only hit held fill same counts = absurd (both_ways only (fill refl) counts)
+if_counts true only hit held fill same counts = absurd (both_ways only counts (fill refl))
 if_counts false only hit held fill same counts = same refl
 
 -- so it is the same, whether what is held before anything leaves counts as a hit

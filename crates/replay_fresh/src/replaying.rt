@@ -3,7 +3,6 @@ ghost use Rattle.std.specs.Prelude.{◌≡◌, ◌≤◌, ◌&&◌, ◌||◌, na
 ghost use Rattle.bit_list.specs.Bits.{bits_of};
 ghost use Rattle.cache_model.specs.Claim.{counts_past, only_fills};
 ghost use Rattle.cache_model.specs.Objects.{objects_of};
-ghost use Rattle.policy_model.specs.Asks.{next_request};
 ghost use Rattle.policy_model.specs.Runs.{AreScores};
 ghost use Rattle.policy_model.specs.States.{has_member};
 ghost use Rattle.replay_core.specs.Laws.{IsFresh, IsTallied};
@@ -19,12 +18,14 @@ use indexmap::IndexMap;
 use replay_core::{LetGo, Outcome, Policy, Replay};
 use std::alloc::Global;
 
-// The next request of the object of request `t`, unless it is stale.
-fn next_fresh(trace: &Trace, stale: &BitList, t: u32) -> Option<u32>
-    requires within { t < length trace.now.objects }
-    ensures { result ≡ unless_stale (bits_of stale.now) (next_request trace.now.objects t) }
+// The request of this number, if there is one and it is not stale.
+fn unless_stale(stale: &BitList, request: Option<u32>) -> Option<u32>
+    ensures { result ≡ unless_stale (bits_of stale.now) request }
 {
-    trace.next(t).filter(|next| !stale.get(*next as usize))
+    match request {
+        Some(t) if !stale.get(t as usize) => Some(t),
+        _ => None,
+    }
 }
 
 // Whether the answer to request `t` counts.
@@ -81,7 +82,8 @@ pub fn replay_fresh<P: LetGo>(
         let object = trace.request(t);
         let size = trace.size_of(object);
         let_leave(trace, stale, replace, t, &mut latest, policy)?;
-        let outcome = policy.request(alloc, object, size, next_fresh(trace, stale, t))?;
+        let next = unless_stale(stale, trace.next(t));
+        let outcome = policy.request(alloc, object, size, next)?;
         if counts(trace, t, warmup, outcome) {
             hits += 1;
             bytes += size as u128;
