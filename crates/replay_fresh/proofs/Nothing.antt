@@ -1,12 +1,12 @@
 -- A run without stale requests, in which objects are not replaced.
-use Rattle.std.proofs.Common.{◌≡◌, ℕ, refl, ap, Bool, List, []}
+use Rattle.std.proofs.Common.{◌≡◌, ℕ, refl, ap, List, []}
 use Rattle.std.proofs.Common.{None, Some, map, fold}
 use Rattle.std.specs.declared.option.Option.{Option}
 use Rattle.cache_model.specs.declared.objects.Object.{Object}
 use Rattle.cache_model.specs.Claim.{counts_past}
 use Rattle.cache_model.specs.Objects.{numbers_of}
 use Rattle.policy_model.specs.States.{start_of}
-use Rattle.policy_model.specs.Asks.{Ask, ask_at, asks_of, next_request}
+use Rattle.policy_model.specs.Asks.{ask_at, asks_of, next_request}
 use Rattle.policy_model.specs.Runs.{run_from, run_step}
 use Rattle.replay_fresh.specs.Fresh.{fresh_ask, fresh_asks, unless_stale}
 use Rattle.replay_fresh.specs.Laws.{NothingLeaves}

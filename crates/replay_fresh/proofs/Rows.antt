@@ -1,6 +1,5 @@
 -- Small traces with stale requests, computed.
 use Rattle.std.proofs.Common.{◌≡◌, ℕ, Bool, true, false, List, [], ◌∷◌, map, refl, None, Some}
-use Rattle.std.specs.declared.option.Option.{Option}
 use Rattle.cache_model.specs.declared.objects.Object.{Object}
 use Rattle.cache_model.specs.Objects.{numbers_of}
 use Rattle.policy_model.specs.declared.names.PolicyName.TheVariants.{Lru, Fifo, Belady}

@@ -29,11 +29,7 @@ fn other_than(number: u32, given: Option<u32>) -> Option<u32>
 }
 
 // The number of the object that request `t` replaces. From here on that of the request is the last of its volume and id.
-fn replaced(
-    latest: &mut IndexMap<Id, u32>,
-    trace: &Trace,
-    t: u32,
-) -> Result<Option<u32>, NoMemory>
+fn replaced(latest: &mut IndexMap<Id, u32>, trace: &Trace, t: u32) -> Result<Option<u32>, NoMemory>
     requires within { t < length trace.now.objects }
     requires latest { AreLatest latest.old.entries trace.now.objects t }
     ensures latest { OnOk result (AreLatest latest.new.entries trace.now.objects (t + 1)) }

@@ -1,10 +1,8 @@
-use Rattle.std.proofs.Common.{◌∙◌, ap, sym, option_to_list}
+use Rattle.std.proofs.Common.{◌∙◌, ap, option_to_list}
 use Rattle.cache_model.specs.Claim.{request_at}
 use Rattle.policy_model.specs.Asks.{number_of}
 use Rattle.policy_model.specs.States.{has_member}
 use Rattle.replay_fresh.specs.FreshRuns.{members_without}
-use Rattle.bit_list.specs.Bits.{bits_of}
-use Rattle.replay_fresh.specs.Fresh.{is_stale}
 use Rattle.replay_fresh.proofs.Left.{has_member-left}
 use Rattle.replay_fresh.proofs.leaving.let_leave.Goals as goal
 

@@ -1,5 +1,4 @@
-use Rattle.std.proofs.Common.{◌≡◌, ◌≢◌, ◌<◌, ℕ, ◌∙◌, sym, ap, subst, cond, Some, IfSome, List, length, take, unwrap_or, option_to_list}
-use Rattle.std.specs.declared.option.Option.{Option}
+use Rattle.std.proofs.Common.{◌≡◌, ◌≢◌, ◌<◌, ◌∙◌, sym, ap, subst, cond, Some, IfSome, List, length, take, unwrap_or, option_to_list}
 use Rattle.std.specs.Map.{lookup}
 use Rattle.std.proofs.lemmas.Option.{get_or_from_slice_get}
 use Rattle.cache_model.specs.declared.objects.Object.{Object}
@@ -7,7 +6,7 @@ use Rattle.cache_model.specs.Claim.{no_object, request_at}
 use Rattle.cache_model.specs.Objects.{objects_of}
 use Rattle.policy_model.specs.Asks.{number_of}
 use Rattle.replay_fresh.specs.declared.replacing.Id.{Id}
-use Rattle.replay_fresh.specs.Fresh.{last_of_id, of_other_size}
+use Rattle.replay_fresh.specs.Fresh.{last_of_id}
 use Rattle.replay_fresh.specs.Latest.{IsVersion, Keeps, id_of, same_key}
 use Rattle.replay_fresh.proofs.Versions.{same_key-derived, own_version, latest-more, other_than-size, other_than-known, other_than-other}
 use Rattle.replay_fresh.proofs.replacing.replaced.Goals as goal

@@ -1,5 +1,4 @@
-use Rattle.std.proofs.Common.{nat_le, not, ◌||◌, ◌≡◌, ◌≤◌, ◌<◌, ◌+◌, ◌*◌, ◌^◌, ◌∙◌, ℕ, Bool, IfSome, subst, ◌&&◌, cond, true, false, add-zero, List, [], sym, ap, refl, arith, length, All, Contains}
-use Rattle.std.specs.declared.option.Option.{Option}
+use Rattle.std.proofs.Common.{nat_le, not, ◌||◌, ◌≡◌, ◌≤◌, ◌<◌, ◌+◌, ◌*◌, ◌^◌, ◌∙◌, ℕ, Bool, IfSome, subst, ◌&&◌, cond, true, false, add-zero, List, sym, ap, refl, arith, length, All, Contains}
 use Rattle.std.proofs.lemmas.Option.{get_or_from_slice_get}
 use Rattle.cache_model.specs.declared.objects.Object.{Object}
 use Rattle.cache_model.specs.Objects.{objects_of}
@@ -14,7 +13,6 @@ use Rattle.replay_core.specs.Outcomes.{is_hit}
 use Rattle.replay_core.specs.Laws.{IsSound, IsTallied}
 use Rattle.replay_core.proofs.Tallies.{tally-none, tally-more}
 use Rattle.replay_fresh.specs.Fresh.{is_stale, leaving, unless_stale}
-use Rattle.replay_fresh.specs.FreshRuns.{members_without}
 use Rattle.replay_fresh.specs.Latest.{AreLatest}
 use Rattle.replay_fresh.proofs.KnownRuns.{IsRunTo, run-none, run-more, run-all, state-all}
 use Rattle.replay_fresh.proofs.Left.{All-members_without, if_counts, members_without-former}
