@@ -24,11 +24,13 @@ abbrev pub of_other_size : List Object → Object → Option Object → List ℕ
 of_other_size trace x None = []
 of_other_size trace x (Some y) = if y.size == x.size then [] else number_of trace y ∷ []
 
--- the numbers of the objects that leave before request t: its own, if it is stale, and then, if objects are replaced, the last of its volume and id before it, if that has another size
+-- the number of what request t replaces: the last object of its volume and id before it, if that has another size
+abbrev pub replaced : List Object → ℕ → List ℕ
+replaced trace t = let x = request_at trace t in of_other_size trace x (last_of_id x (take t trace))
+
+-- the numbers of the objects that leave before request t: its own, if it is stale, and then, if objects are replaced, what it replaces
 abbrev pub leaving : List Bool → Bool → List Object → ℕ → List ℕ
-leaving stale replace trace t =
-    let x = request_at trace t in
-    (if is_stale stale t then number_of trace x ∷ [] else []) ++ (if replace then of_other_size trace x (last_of_id x (take t trace)) else [])
+leaving stale replace trace t = (if is_stale stale t then (ask_at trace t).object ∷ [] else []) ++ (if replace then replaced trace t else [])
 
 -- the request of this number, if there is one and it is not stale
 abbrev pub unless_stale : List Bool → Option ℕ → Option ℕ

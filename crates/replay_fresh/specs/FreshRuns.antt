@@ -6,7 +6,7 @@ use Rattle.cache_model.specs.declared.objects.Object.{Object}
 use Rattle.cache_model.specs.Claim.{counts_past, only_fills}
 use Rattle.cache_model.specs.Written.{written_bytes}
 use Rattle.policy_model.specs.declared.names.PolicyName.{PolicyName}
-use Rattle.policy_model.specs.States.{Member, State, members_of, start_of}
+use Rattle.policy_model.specs.States.{Member, State, has_member, members_of, start_of}
 use Rattle.policy_model.specs.Leaving.{let_go, without_member}
 use Rattle.policy_model.specs.Asks.{Ask}
 use Rattle.policy_model.specs.Runs.{AreScores, Run, objects_held, rule_step, run_from, run_step}
@@ -46,6 +46,10 @@ OnlyFill stale fills = (t : ℕ) → IsTrue (is_stale stale t) → IsTrue (only_
 -- the members without those of the objects of these numbers
 abbrev pub members_without : List Member → List ℕ → List Member
 members_without members objects = fold (λ ms object. without_member object ms) members objects
+
+-- the object of this number is held after exactly if it was before
+abbrev pub SameHeld : ℕ → List Member → List Member → Type 0
+SameHeld object before after = has_member after object ≡ has_member before object
 
 -- a state that was known before is known after, without the objects of these numbers
 abbrev pub LetsGoAll : Option State → Option State → List ℕ → Type 0

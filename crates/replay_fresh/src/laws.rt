@@ -1,7 +1,8 @@
 //! What is proved of these replays: each law is the contract of a function that does nothing.
-ghost use Rattle.replay_fresh.specs.Laws.{NothingLeaves};
+ghost use Rattle.replay_fresh.specs.Laws.{AreContentsOfRule, IsRunOfRule};
 
-/// Without stale requests, and if objects are not replaced, the run is that of the rule alone.
+/// If no request is stale and objects are not replaced, nothing leaves, and a rule is replayed as ever.
 pub fn nothing_leaves()
-    ensures { NothingLeaves }
+    ensures run { IsRunOfRule }
+    ensures contents { AreContentsOfRule }
 {}

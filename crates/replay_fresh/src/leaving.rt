@@ -1,12 +1,10 @@
 //! What leaves a policy before a request.
 ghost use Rattle.std.specs.Prelude.{◌≡◌, ◌<◌, ◌≤◌, ◌+◌, false, length, IsTrue, IfSome, OnOk, option_to_list};
 ghost use Rattle.bit_list.specs.Bits.{bits_of};
-ghost use Rattle.cache_model.specs.Claim.{request_at};
 ghost use Rattle.cache_model.specs.Objects.{objects_of};
-ghost use Rattle.policy_model.specs.Asks.{number_of};
-ghost use Rattle.policy_model.specs.States.{has_member};
+ghost use Rattle.policy_model.specs.Asks.{ask_at};
 ghost use Rattle.replay_fresh.specs.Fresh.{is_stale, leaving};
-ghost use Rattle.replay_fresh.specs.FreshRuns.{LetsGoAll, members_without};
+ghost use Rattle.replay_fresh.specs.FreshRuns.{LetsGoAll, SameHeld, members_without};
 ghost use Rattle.replay_fresh.specs.Latest.{AreLatest};
 
 use crate::replacing::{Id, replaced_if};
@@ -44,7 +42,7 @@ pub(crate) fn let_leave<P: LetGo>(
     requires latest { IsTrue replace → AreLatest latest.old.entries trace.now.objects t }
     ensures latest { OnOk result (IsTrue replace → AreLatest latest.new.entries trace.now.objects (t + 1)) }
     ensures contents { OnOk result (P.contents policy.new ≡ members_without (P.contents policy.old) (leaving (bits_of stale.now) replace trace.now.objects t)) }
-    ensures own_stays { OnOk result (is_stale (bits_of stale.now) t ≡ false → has_member (P.contents policy.new) (number_of trace.now.objects (request_at trace.now.objects t)) ≡ has_member (P.contents policy.old) (number_of trace.now.objects (request_at trace.now.objects t))) }
+    ensures own_stays { OnOk result (is_stale (bits_of stale.now) t ≡ false → SameHeld (ask_at trace.now.objects t).object (P.contents policy.old) (P.contents policy.new)) }
     ensures same_capacity { P.room policy.new ≡ P.room policy.old }
     ensures same_objects { P.objects policy.new ≡ P.objects policy.old }
     ensures same_tally { P.tally policy.new ≡ P.tally policy.old }

@@ -1,9 +1,8 @@
 //! Which object a request replaces: the last of its volume and id, if that has another size.
-ghost use Rattle.std.specs.Prelude.{◌≡◌, ◌≢◌, ◌<◌, ◌+◌, [], length, IsTrue, IfOk, IfSome, OnOk, take, option_to_list, if◌then◌else◌};
-ghost use Rattle.cache_model.specs.Claim.{request_at};
+ghost use Rattle.std.specs.Prelude.{◌≡◌, ◌≢◌, ◌<◌, ◌+◌, [], length, IsTrue, IfOk, IfSome, OnOk, option_to_list, if◌then◌else◌};
 ghost use Rattle.cache_model.specs.Objects.{objects_of};
-ghost use Rattle.policy_model.specs.Asks.{number_of};
-ghost use Rattle.replay_fresh.specs.Fresh.{last_of_id, of_other_size};
+ghost use Rattle.policy_model.specs.Asks.{ask_at};
+ghost use Rattle.replay_fresh.specs.Fresh.{replaced};
 ghost use Rattle.replay_fresh.specs.Latest.{AreLatest, other_than};
 
 use bound_base::NoMemory;
@@ -33,9 +32,9 @@ fn replaced(latest: &mut IndexMap<Id, u32>, trace: &Trace, t: u32) -> Result<Opt
     requires within { t < length trace.now.objects }
     requires latest { AreLatest latest.old.entries trace.now.objects t }
     ensures latest { OnOk result (AreLatest latest.new.entries trace.now.objects (t + 1)) }
-    ensures of_other_size { IfOk result (λ r. option_to_list r ≡ of_other_size trace.now.objects (request_at trace.now.objects t) (last_of_id (request_at trace.now.objects t) (take t trace.now.objects))) }
+    ensures replaced { IfOk result (λ r. option_to_list r ≡ replaced trace.now.objects t) }
     ensures known { IfOk result (λ r. IfSome r (λ k. k < length (objects_of trace.now.objects))) }
-    ensures other { IfOk result (λ r. IfSome r (λ k. k ≢ number_of trace.now.objects (request_at trace.now.objects t))) }
+    ensures other { IfOk result (λ r. IfSome r (λ k. k ≢ (ask_at trace.now.objects t).object)) }
 {
     let object = trace.request(t);
     let asked = trace.object(object);
@@ -57,9 +56,9 @@ pub(crate) fn replaced_if(
     requires within { t < length trace.now.objects }
     requires latest { IsTrue replace → AreLatest latest.old.entries trace.now.objects t }
     ensures latest { OnOk result (IsTrue replace → AreLatest latest.new.entries trace.now.objects (t + 1)) }
-    ensures of_other_size { IfOk result (λ r. option_to_list r ≡ (if replace then of_other_size trace.now.objects (request_at trace.now.objects t) (last_of_id (request_at trace.now.objects t) (take t trace.now.objects)) else [])) }
+    ensures replaced { IfOk result (λ r. option_to_list r ≡ (if replace then replaced trace.now.objects t else [])) }
     ensures known { IfOk result (λ r. IfSome r (λ k. k < length (objects_of trace.now.objects))) }
-    ensures other { IfOk result (λ r. IfSome r (λ k. k ≢ number_of trace.now.objects (request_at trace.now.objects t))) }
+    ensures other { IfOk result (λ r. IfSome r (λ k. k ≢ (ask_at trace.now.objects t).object)) }
 {
     if replace {
         replaced(latest, trace, t)

@@ -1,5 +1,5 @@
-use Rattle.replay_fresh.proofs.Nothing.{nothing_leaves as proof}
+use Rattle.replay_fresh.proofs.Nothing.{run-none, contents-none}
 use Rattle.replay_fresh.proofs.laws.nothing_leaves.Goals as goal
 
 pub returns : goal.returns
-returns c = proof
+returns c = record { run = run-none; contents = contents-none }

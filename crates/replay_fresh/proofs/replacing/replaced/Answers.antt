@@ -41,8 +41,8 @@ returns-clause-latest c =
     (subst (λ same. (q : Id) → lookup (same q) c.insert.new.self.entries ≡ cond (same (id_of c.object-asked.result) q) (Some c.request-object.result) (lookup (same q) c.args.latest.now.entries)) same_key-derived
     c.in_ok-before.ensures.updates.0))
 
-pub returns-clause-of_other_size : goal.returns-clause-of_other_size
-returns-clause-of_other_size c =
+pub returns-clause-replaced : goal.returns-clause-replaced
+returns-clause-replaced c =
     let trace : List Object = c.args.trace.now.objects in
     let z : Object = request_at trace c.args.t in
     ap option_to_list c.other_than.ensures ∙ other_than-size trace z c.request-object.result (version c) (last_of_id z (take c.args.t trace)) c.in_ok-before.before (keeps c)
