@@ -1,6 +1,5 @@
 -- What is held once objects have left: nothing that was not, and each other object.
 use Rattle.std.proofs.Common.{◌≡◌, ◌≢◌, ℕ, ◌∙◌, ap, refl, Bool, true, false, not, ◌&&◌, ◌||◌, eqb, List, [], ◌∷◌, None, Some, IfSome, All, Contains, option_to_list}
-use Rattle.std.specs.Bool.{then_some}
 use Rattle.std.specs.declared.option.Option.{Option}
 use Rattle.std.proofs.lemmas.Bool.{both_ways, ne_eqb}
 use Rattle.std.proofs.lemmas.List.Elements.{All-contains, All-contains_itself, All-filter}
@@ -18,14 +17,14 @@ All-members_without P members (k ∷ objects) each = All-members_without P (with
 pub members_without-former : (members : List Member) (objects : List ℕ) (m : Member) → Contains (members_without members objects) m → Contains members m
 members_without-former members objects m c = All-contains (Contains members) (members_without members objects) m (All-members_without (Contains members) members objects (All-contains_itself members)) c
 
--- an object stays if it is neither of those that leave
-pub has_member-left : (members : List Member) (own : ℕ) (stale : Bool) (k : ℕ) (other : Option ℕ) → stale ≡ false → IfSome other (λ n. n ≢ own)
-    → has_member (members_without (members_without members (option_to_list (then_some stale k))) (option_to_list other)) own ≡ has_member members own
-has_member-left members own stale k other fresh apart = ap (λ b. has_member (members_without (members_without members (option_to_list (then_some b k))) (option_to_list other)) own) fresh ∙ at other apart
+-- an object stays if it is none of those that leave
+pub has_member-left : (members : List Member) (own : ℕ) (first : List ℕ) (second : Option ℕ) → first ≡ [] → IfSome second (λ k. k ≢ own)
+    → has_member (members_without (members_without members first) (option_to_list second)) own ≡ has_member members own
+has_member-left members own first second none apart = ap (λ ks. has_member (members_without (members_without members ks) (option_to_list second)) own) none ∙ at second apart
   where
-    at : (o : Option ℕ) → IfSome o (λ n. n ≢ own) → has_member (members_without members (option_to_list o)) own ≡ has_member members own
+    at : (o : Option ℕ) → IfSome o (λ k. k ≢ own) → has_member (members_without members (option_to_list o)) own ≡ has_member members own
     at None apart = refl
-    at (Some n) apart = without_member-others n own members (ne_eqb n own apart)
+    at (Some k) apart = without_member-others k own members (ne_eqb k own apart)
 
 -- ---- a request that is not stale
 -- what holds if it is fresh holds if it doesn't only fill

@@ -28,9 +28,13 @@ of_other_size trace x (Some y) = if y.size == x.size then [] else number_of trac
 abbrev pub replaced : List Object → ℕ → List ℕ
 replaced trace t = let x = request_at trace t in of_other_size trace x (last_of_id x (take t trace))
 
+-- the number of the object of request t, if that is stale
+abbrev pub own_if_stale : List Bool → List Object → ℕ → List ℕ
+own_if_stale stale trace t = if is_stale stale t then (ask_at trace t).object ∷ [] else []
+
 -- the numbers of the objects that leave before request t: its own, if it is stale, and then, if objects are replaced, what it replaces
 abbrev pub leaving : List Bool → Bool → List Object → ℕ → List ℕ
-leaving stale replace trace t = (if is_stale stale t then (ask_at trace t).object ∷ [] else []) ++ (if replace then replaced trace t else [])
+leaving stale replace trace t = own_if_stale stale trace t ++ (if replace then replaced trace t else [])
 
 -- the request of this number, if there is one and it is not stale
 abbrev pub unless_stale : List Bool → Option ℕ → Option ℕ

@@ -3,7 +3,7 @@ ghost use Rattle.std.specs.Prelude.{◌≡◌, ◌<◌, ◌≤◌, ◌+◌, fals
 ghost use Rattle.bit_list.specs.Bits.{bits_of};
 ghost use Rattle.cache_model.specs.Objects.{objects_of};
 ghost use Rattle.policy_model.specs.Asks.{ask_at};
-ghost use Rattle.replay_fresh.specs.Fresh.{is_stale, leaving};
+ghost use Rattle.replay_fresh.specs.Fresh.{is_stale, leaving, own_if_stale};
 ghost use Rattle.replay_fresh.specs.FreshRuns.{LetsGoAll, SameHeld, members_without};
 ghost use Rattle.replay_fresh.specs.Latest.{AreLatest};
 
@@ -28,6 +28,19 @@ fn let_go_of<P: LetGo>(policy: &mut P, object: Option<u32>)
     }
 }
 
+// The number of the object of request `t`, if that is stale.
+fn own_if_stale(trace: &Trace, stale: &BitList, t: u32) -> Option<u32>
+    requires within { t < length trace.now.objects }
+    ensures own { option_to_list result ≡ own_if_stale (bits_of stale.now) trace.now.objects t }
+    ensures known { IfSome result (λ k. k < length (objects_of trace.now.objects)) }
+{
+    if stale.get(t as usize) {
+        Some(trace.request(t))
+    } else {
+        None
+    }
+}
+
 /// Lets go of what leaves before request `t`: its own object if it is stale, and then the one that it replaces.
 pub(crate) fn let_leave<P: LetGo>(
     trace: &Trace,
@@ -48,9 +61,9 @@ pub(crate) fn let_leave<P: LetGo>(
     ensures same_tally { P.tally policy.new ≡ P.tally policy.old }
     ensures state { OnOk result (LetsGoAll (P.known_state policy.old) (P.known_state policy.new) (leaving (bits_of stale.now) replace trace.now.objects t)) }
 {
-    let object = trace.request(t);
+    let own = own_if_stale(trace, stale, t);
     let replaced = replaced_if(replace, latest, trace, t)?;
-    let_go_of(policy, stale.get(t as usize).then_some(object));
+    let_go_of(policy, own);
     let_go_of(policy, replaced);
     Ok(())
 }
