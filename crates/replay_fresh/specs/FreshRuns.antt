@@ -1,5 +1,5 @@
 -- The run of a rule from which objects leave before requests.
-use Rattle.std.specs.Prelude.{◌≡◌, ℕ, ◌+◌, Bool, IsTrue, List, Some, IfSome, fold, length, map, take}
+use Rattle.std.specs.Prelude.{◌≡◌, ℕ, ◌+◌, ◌<◌, Bool, IsTrue, List, Some, IfSome, fold, length, map, take}
 use Rattle.std.specs.declared.option.Option.{Option}
 use Rattle.std.specs.List.{range_with_len}
 use Rattle.cache_model.specs.declared.objects.Object.{Object}
@@ -39,9 +39,9 @@ abbrev pub fresh_contents : PolicyName → List Object → ℕ → List Bool →
 fresh_contents name trace capacity stale replace = map (fresh_held_after (start_of name capacity) trace stale replace) (range_with_len 0 (length trace + 1))
 
 -- ---- a policy from which objects leave
--- each stale request only fills
-abbrev pub OnlyFill : List Bool → List Bool → Type 0
-OnlyFill stale fills = (t : ℕ) → IsTrue (is_stale stale t) → IsTrue (only_fills fills t)
+-- each request of the trace that is stale only fills
+abbrev pub OnlyFill : List Bool → List Bool → List Object → Type 0
+OnlyFill stale fills trace = (t : ℕ) → t < length trace → IsTrue (is_stale stale t) → IsTrue (only_fills fills t)
 
 -- the members without those of the objects of these numbers
 abbrev pub members_without : List Member → List ℕ → List Member

@@ -67,7 +67,7 @@ pub fn replay_fresh<P: LetGo>(
     requires objects { length (objects_of trace.now.objects) ≤ P.objects policy.old }
     requires empty { P.contents policy.old ≡ [] }
     requires fresh { IsFresh (P.known_state policy.old) }
-    requires only_fill { OnlyFill (bits_of stale.now) trace.now.fills }
+    requires only_fill { OnlyFill (bits_of stale.now) trace.now.fills trace.now.objects }
     ensures played { IfOk result (λ r. AreScores (P.room policy.old) warmup trace.now.fills trace.now.objects r.hits r.bytes) }
     ensures written { IfOk result (λ r. IsFreshlyPlayed (P.known_state policy.old) (P.room policy.old) warmup trace.now.fills (bits_of stale.now) replace trace.now.objects r.hits r.bytes r.written) }
     ensures run { IfOk result (λ r. IsFreshRunOf (P.known_state policy.old) trace.now.objects warmup trace.now.fills (bits_of stale.now) replace r.hits r.bytes) }

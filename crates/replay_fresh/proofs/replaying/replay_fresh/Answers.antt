@@ -72,7 +72,7 @@ loop-t-preserved g c =
     let number_is : number_of trace (request_at trace t) ≡ k = number_of-found trace (request_at trace t) k c.request-object.ensures.number in
     let hit_is : hit ≡ has_member left k = c.in_ok-outcome.ensures.outcome in
     let stays : is_stale stale t ≡ false → hit ≡ has_member old k = λ fresh. hit_is ∙ subst (λ n. has_member left n ≡ has_member old n) number_is (c.in_ok-let_leave.ensures.own_stays fresh) in
-    let held : only_fills fills t ≡ false → hit ≡ has_member old k = if_counts (is_stale stale t) (only_fills fills t) hit (has_member old k) (c.requires.only_fill t) stays in
+    let held : only_fills fills t ≡ false → hit ≡ has_member old k = if_counts (is_stale stale t) (only_fills fills t) hit (has_member old k) (c.requires.only_fill t within) stays in
     let hits_more : c.if-counts.hits ≡ c.loop-t.hits + cond counts 1 0 =
     elim c.if-counts.branch [
       | then-counts w ↦ w.hits-is ∙ ap (λ b. c.loop-t.hits + cond b 1 0) (sym w.if-counts.true ∙ c.counts.ensures)
