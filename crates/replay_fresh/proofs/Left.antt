@@ -1,9 +1,16 @@
 -- What is held once objects have left: nothing that was not, and each other object.
-use Rattle.std.proofs.Common.{◌≡◌, ◌≢◌, ℕ, ◌∙◌, ap, refl, Bool, true, false, not, ◌&&◌, ◌||◌, eqb, List, [], ◌∷◌, None, Some, IfSome, All, Contains, option_to_list}
+use Rattle.std.proofs.Common.{◌≡◌, ◌≢◌, ℕ, ◌<◌, ◌∙◌, ap, sym, subst, length, position, slice_get, refl, Bool, true, false, not, ◌&&◌, ◌||◌, eqb, List, [], ◌∷◌, None, Some, IfSome, All, Contains, option_to_list}
 use Rattle.std.specs.declared.option.Option.{Option}
 use Rattle.std.proofs.lemmas.Bool.{both_ways, ne_eqb}
 use Rattle.std.proofs.lemmas.List.Elements.{All-contains, All-contains_itself, All-filter}
+use Rattle.std.proofs.lemmas.Option.{get_or_from_slice_get}
+use Rattle.cache_model.specs.declared.objects.Object.{Object}
+use Rattle.cache_model.specs.Claim.{no_object, request_at, same_object}
+use Rattle.cache_model.specs.Objects.{objects_of}
+use Rattle.policy_model.specs.Asks.{object_numbered}
 use Rattle.policy_model.specs.States.{Member, has_member}
+use Rattle.policy_model.proofs.Holdings.{IsNumbered, size-held}
+use Rattle.policy_model.proofs.Replays.{IsAsked}
 use Rattle.policy_model.specs.Leaving.{without_member}
 use Rattle.policy_model.proofs.Leavings.{without_member-others}
 use Rattle.replay_fresh.specs.FreshRuns.{members_without}
@@ -16,6 +23,21 @@ All-members_without P members (k ∷ objects) each = All-members_without P (with
 -- and so they were members
 pub members_without-former : (members : List Member) (objects : List ℕ) (m : Member) → Contains (members_without members objects) m → Contains members m
 members_without-former members objects m c = All-contains (Contains members) (members_without members objects) m (All-members_without (Contains members) members objects (All-contains_itself members)) c
+
+-- the request t asks for the object of the number that a look-up finds
+pub is_asked : (trace : List Object) (t k size : ℕ) → t < length trace → position (same_object (request_at trace t)) (objects_of trace) ≡ Some k → slice_get (objects_of trace) k ≡ Some (request_at trace t)
+    → size ≡ (object_numbered trace k).size → IsAsked trace t k size
+is_asked trace t k size within found there size_is =
+    let object : object_numbered trace k ≡ request_at trace t = get_or_from_slice_get (objects_of trace) k (request_at trace t) no_object there in
+    record { within = within; found = found; object = object; size_is = size_is ∙ ap (λ (x : Object). x.size) object }
+
+-- the members of that object have its size
+pub size-left : (trace : List Object) (t k size : ℕ) (old left : List Member) (objects : List ℕ) → IsAsked trace t k size → All (IsNumbered trace) old → left ≡ members_without old objects
+    → All (λ m. m.object ≡ k → m.size ≡ size) left
+size-left trace t k size old left objects asked numbered left_is =
+    let sizes : All (λ m. m.object ≡ k → m.size ≡ size) old =
+    subst (λ n. All (λ m. m.object ≡ k → m.size ≡ n) old) (sym asked.size_is) (size-held trace (request_at trace t) k asked.found asked.object old numbered) in
+    subst (All (λ m. m.object ≡ k → m.size ≡ size)) (sym left_is) (All-members_without (λ m. m.object ≡ k → m.size ≡ size) old objects sizes)
 
 -- an object stays if it is none of those that leave
 pub has_member-left : (members : List Member) (own : ℕ) (first : List ℕ) (second : Option ℕ) → first ≡ [] → IfSome second (λ k. k ≢ own)

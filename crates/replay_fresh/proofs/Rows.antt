@@ -47,6 +47,10 @@ large_contents = refl
 same_size_leaving : leavings [] true (object 1 3 ∷ object 1 2 ∷ object 1 2 ∷ []) ≡ [] ∷ (0 ∷ []) ∷ [] ∷ []
 same_size_leaving = refl
 
+-- an object that is stale and was the last of its id leaves as the one, and not as the other
+stale_again_leaving : leavings third true (object 1 2 ∷ object 1 2 ∷ object 1 2 ∷ []) ≡ [] ∷ [] ∷ (0 ∷ []) ∷ []
+stale_again_leaving = refl
+
 -- another id, or the same in another volume, replaces nothing
 other_ids_leaving : leavings [] true (object 1 2 ∷ object 2 3 ∷ record { volume = 1; id = 1; size = 4 } ∷ object 1 5 ∷ []) ≡ [] ∷ [] ∷ [] ∷ (0 ∷ []) ∷ []
 other_ids_leaving = refl

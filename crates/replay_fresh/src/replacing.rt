@@ -8,7 +8,6 @@ ghost use Rattle.replay_fresh.specs.Latest.{AreLatest, other_than};
 use bound_base::NoMemory;
 use cache_rules::Trace;
 use indexmap::IndexMap;
-use std::alloc::Global;
 
 /// What versions of an object share.
 #[derive(Clone, Copy, Debug, PartialEq, Eq, Hash)]

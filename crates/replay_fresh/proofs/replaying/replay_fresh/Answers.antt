@@ -1,12 +1,9 @@
-use Rattle.std.proofs.Common.{nat_le, not, ◌||◌, ◌≡◌, ◌≤◌, ◌<◌, ◌+◌, ◌*◌, ◌^◌, ◌∙◌, ℕ, Bool, IfSome, subst, ◌&&◌, cond, true, false, add-zero, List, sym, ap, refl, arith, length, All, Contains}
-use Rattle.std.proofs.lemmas.Option.{get_or_from_slice_get}
+use Rattle.std.proofs.Common.{nat_le, not, ◌||◌, ◌≡◌, ◌≤◌, ◌<◌, ◌+◌, ◌*◌, ◌^◌, ◌∙◌, ℕ, Bool, IfSome, subst, ◌&&◌, cond, true, false, add-zero, List, sym, ap, refl, arith, length, Contains}
 use Rattle.cache_model.specs.declared.objects.Object.{Object}
-use Rattle.cache_model.specs.Objects.{objects_of}
-use Rattle.cache_model.specs.Claim.{counts_past, no_object, only_fills, request_at}
+use Rattle.cache_model.specs.Claim.{counts_past, only_fills, request_at}
 use Rattle.bit_list.specs.Bits.{bits_of}
-use Rattle.policy_model.specs.Asks.{next_request, number_of, object_numbered}
+use Rattle.policy_model.specs.Asks.{next_request, number_of}
 use Rattle.policy_model.specs.States.{Member, has_member, members_size}
-use Rattle.policy_model.proofs.Holdings.{size-held}
 use Rattle.policy_model.proofs.Numbers.{number_of-found, next_request-found}
 use Rattle.policy_model.proofs.Replays.{IsAsked, played-all}
 use Rattle.replay_core.specs.Outcomes.{is_hit}
@@ -15,7 +12,7 @@ use Rattle.replay_core.proofs.Tallies.{tally-none, tally-more}
 use Rattle.replay_fresh.specs.Fresh.{is_stale, leaving, unless_stale}
 use Rattle.replay_fresh.specs.Latest.{AreLatest}
 use Rattle.replay_fresh.proofs.KnownRuns.{IsRunTo, run-none, run-more, run-all, state-all}
-use Rattle.replay_fresh.proofs.Left.{All-members_without, if_counts, members_without-former}
+use Rattle.replay_fresh.proofs.Left.{if_counts, is_asked, members_without-former, size-left}
 use Rattle.replay_fresh.proofs.Versions.{latest-none}
 use Rattle.replay_fresh.proofs.Writes.{written-none, written-more, written-all}
 use Rattle.replay_fresh.proofs.replaying.replay_fresh.Goals as goal
@@ -43,15 +40,10 @@ loop-t-init g c = record {
 pub request-requires-clause-kept_size : goal.request-requires-clause-kept_size
 request-requires-clause-kept_size g c =
     let trace : List Object = c.args.trace.now.objects in
-    let t : ℕ = c.loop-t.t in
-    let k : ℕ = c.request-object.result in
-    let size : ℕ = c.size_of-size.result in
-    let object : object_numbered trace k ≡ request_at trace t = get_or_from_slice_get (objects_of trace) k (request_at trace t) no_object c.request-object.ensures.object in
-    let size_is : (request_at trace t).size ≡ size = sym (c.size_of-size.ensures.size ∙ ap (λ (x : Object). x.size) object) in
-    subst (λ ms. All (λ m. m.object ≡ k → m.size ≡ size) ms) (sym c.in_ok-let_leave.ensures.contents)
-    (All-members_without (λ m. m.object ≡ k → m.size ≡ size) (g.P.Policy.contents c.loop-t.policy) (leaving (bits_of c.args.stale.now) c.args.replace trace t)
-    (subst (λ n. All (λ m. m.object ≡ k → m.size ≡ n) (g.P.Policy.contents c.loop-t.policy)) size_is
-    (size-held trace (request_at trace t) k c.request-object.ensures.number object (g.P.Policy.contents c.loop-t.policy) c.loop-t.invariant.played.scores.numbered)))
+    let asked : IsAsked trace c.loop-t.t c.request-object.result c.size_of-size.result =
+    is_asked trace c.loop-t.t c.request-object.result c.size_of-size.result (omega arith) c.request-object.ensures.number c.request-object.ensures.object c.size_of-size.ensures.size in
+    size-left trace c.loop-t.t c.request-object.result c.size_of-size.result (g.P.Policy.contents c.loop-t.policy) (g.P.Policy.contents c.let_leave.new.policy)
+    (leaving (bits_of c.args.stale.now) c.args.replace trace c.loop-t.t) asked c.loop-t.invariant.played.scores.numbered c.in_ok-let_leave.ensures.contents
 
 pub loop-t-preserved : goal.loop-t-preserved
 loop-t-preserved g c =
@@ -66,9 +58,7 @@ loop-t-preserved g c =
     let hit : Bool = is_hit c.in_ok-outcome.outcome in
     let counts : Bool = counts_past c.args.warmup fills t && hit in
     let within : t < length trace = omega arith in
-    let object : object_numbered trace k ≡ request_at trace t = get_or_from_slice_get (objects_of trace) k (request_at trace t) no_object c.request-object.ensures.object in
-    let size_is : size ≡ (request_at trace t).size = c.size_of-size.ensures.size ∙ ap (λ (x : Object). x.size) object in
-    let asked : IsAsked trace t k size = record { within = within; found = c.request-object.ensures.number; object = object; size_is = size_is } in
+    let asked : IsAsked trace t k size = is_asked trace t k size within c.request-object.ensures.number c.request-object.ensures.object c.size_of-size.ensures.size in
     let number_is : number_of trace (request_at trace t) ≡ k = number_of-found trace (request_at trace t) k c.request-object.ensures.number in
     let hit_is : hit ≡ has_member left k = c.in_ok-outcome.ensures.outcome in
     let stays : is_stale stale t ≡ false → hit ≡ has_member old k = λ fresh. hit_is ∙ subst (λ n. has_member left n ≡ has_member old n) number_is (c.in_ok-let_leave.ensures.own_stays fresh) in
@@ -94,7 +84,7 @@ loop-t-preserved g c =
     let run : IsRunTo (counts_past c.args.warmup fills) stale c.args.replace trace (g.P.Policy.known_state c.args.policy.now) (g.P.Policy.known_state c.request.new.self) (t + 1) c.if-counts.hits c.if-counts.bytes =
     run-more (counts_past c.args.warmup fills) stale c.args.replace trace (g.P.Policy.known_state c.args.policy.now) (g.P.Policy.known_state c.loop-t.policy) (g.P.Policy.known_state c.let_leave.new.policy)
     (g.P.Policy.known_state c.request.new.self) t k size c.unless_stale-next.result left (g.P.Policy.room c.let_leave.new.policy) c.loop-t.hits c.loop-t.bytes c.if-counts.hits c.if-counts.bytes hit within
-    number_is (sym size_is) next_is c.loop-t.invariant.run c.in_ok-let_leave.ensures.state (g.met.P.Policy.state_fits c.let_leave.new.policy) c.in_ok-outcome.ensures.step hit_is hits_more bytes_more in
+    number_is (sym asked.size_is) next_is c.loop-t.invariant.run c.in_ok-let_leave.ensures.state (g.met.P.Policy.state_fits c.let_leave.new.policy) c.in_ok-outcome.ensures.step hit_is hits_more bytes_more in
     let sound : IsSound (g.P.Policy.room c.request.new.self) (g.P.Policy.contents c.request.new.self) = c.request.ensures.sound in
     let same_capacity : g.P.Policy.room c.request.new.self ≡ g.P.Policy.room c.args.policy.now = c.request.ensures.same_capacity ∙ c.let_leave.ensures.same_capacity ∙ c.loop-t.invariant.capacity in
     record {
