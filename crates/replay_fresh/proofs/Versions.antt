@@ -15,7 +15,8 @@ use Rattle.policy_model.proofs.Comparisons.{eqb-sym}
 use Rattle.policy_model.proofs.Numbers.{number_of-found}
 use Rattle.replay_fresh.specs.contracts.replacing.IdPartialEq.TheImpl.{eq-value}
 use Rattle.replay_fresh.specs.declared.replacing.Id.{Id}
-use Rattle.replay_fresh.specs.Fresh.{last_of_id, of_other_size, same_id}
+use Rattle.freshness.specs.Stale.{same_id}
+use Rattle.replay_fresh.specs.Fresh.{last_of_id, of_other_size}
 use Rattle.replay_fresh.specs.Latest.{AreLatest, IsVersion, Keeps, id_of, other_than, same_key}
 
 -- `==` on ids tells them apart as the rules do

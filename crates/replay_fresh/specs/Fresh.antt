@@ -1,19 +1,16 @@
 -- What is stale, what leaves before a request, and what the requests then ask.
-use Rattle.std.specs.Prelude.{ℕ, Bool, false, ◌==◌, ◌&&◌, if◌then◌else◌, List, [], ◌∷◌, ◌++◌, map, filter, take, slice_index_or, None, Some}
+use Rattle.std.specs.Prelude.{ℕ, Bool, false, ◌==◌, if◌then◌else◌, List, [], ◌∷◌, ◌++◌, map, filter, take, slice_index_or, None, Some}
 use Rattle.std.specs.declared.option.Option.{Option}
 use Rattle.std.specs.List.{last_or}
 use Rattle.cache_model.specs.declared.objects.Object.{Object}
 use Rattle.cache_model.specs.Claim.{request_at}
 use Rattle.cache_model.specs.Objects.{numbers_of}
+use Rattle.freshness.specs.Stale.{same_id}
 use Rattle.policy_model.specs.Asks.{Ask, ask_at, next_request, number_of}
 
 -- whether request t is stale; past the end of the list none is
 abbrev pub is_stale : List Bool → ℕ → Bool
 is_stale stale t = slice_index_or stale t false
-
--- two objects are of one volume and id, whatever their sizes
-abbrev pub same_id : Object → Object → Bool
-same_id x y = (x.volume == y.volume) && (x.id == y.id)
 
 -- the last of these requests that is of the volume and id of x, if there is one
 abbrev pub last_of_id : Object → List Object → Option Object

@@ -7,7 +7,8 @@ use Rattle.cache_model.specs.Claim.{same_object}
 use Rattle.cache_model.specs.Objects.{objects_of}
 use Rattle.policy_model.specs.Asks.{object_numbered}
 use Rattle.replay_fresh.specs.declared.replacing.Id.{Id}
-use Rattle.replay_fresh.specs.Fresh.{last_of_id, same_id}
+use Rattle.freshness.specs.Stale.{same_id}
+use Rattle.replay_fresh.specs.Fresh.{last_of_id}
 
 -- the volume and id of an object
 abbrev pub id_of : Object → Id
