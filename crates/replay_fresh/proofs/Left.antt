@@ -1,18 +1,20 @@
 -- What is held once objects have left: nothing that was not, and each other object.
-use Rattle.std.proofs.Common.{◌≡◌, ◌≢◌, ℕ, ◌<◌, ◌∙◌, ap, sym, subst, length, position, slice_get, refl, Bool, true, false, not, ◌&&◌, ◌||◌, eqb, List, [], ◌∷◌, None, Some, IfSome, All, Contains, option_to_list}
+use Rattle.std.proofs.Common.{◌≡◌, ◌≢◌, ℕ, ◌<◌, ◌∙◌, ap, sym, subst, length, position, slice_get, refl, Bool, true, false, not, ◌&&◌, ◌||◌, eqb, List, [], ◌∷◌, ◌⊎◌, ⊎_elim, arith, None, Some, IfSome, All, Contains, option_to_list}
 use Rattle.std.specs.declared.option.Option.{Option}
 use Rattle.std.proofs.lemmas.Bool.{both_ways, ne_eqb}
-use Rattle.std.proofs.lemmas.List.Elements.{All-contains, All-contains_itself, All-filter}
+use Rattle.std.proofs.lemmas.List.Elements.{All-contains, All-contains_itself, All-filter, Contains-append_cases, Contains-push_cases}
 use Rattle.std.proofs.lemmas.Option.{get_or_from_slice_get}
 use Rattle.cache_model.specs.declared.objects.Object.{Object}
 use Rattle.cache_model.specs.Claim.{no_object, request_at, same_object}
 use Rattle.cache_model.specs.Objects.{objects_of}
-use Rattle.policy_model.specs.Asks.{object_numbered}
-use Rattle.policy_model.specs.States.{Member, has_member}
-use Rattle.policy_model.proofs.Holdings.{IsNumbered, size-held}
+use Rattle.policy_model.specs.Asks.{number_of, object_numbered}
+use Rattle.policy_model.specs.States.{Member, has_member, member}
+use Rattle.policy_model.proofs.Holdings.{Contains-unmap, IsNumbered, size-held}
+use Rattle.policy_model.proofs.Numbers.{number_of-found}
 use Rattle.policy_model.proofs.Replays.{IsAsked}
+use Rattle.policy_model.specs.Runs.{objects_held}
 use Rattle.policy_model.specs.Leaving.{without_member}
-use Rattle.policy_model.proofs.Leavings.{without_member-others}
+use Rattle.policy_model.proofs.Leavings.{without_member-apart, without_member-others}
 use Rattle.replay_fresh.specs.FreshRuns.{members_without}
 
 -- what holds of all members holds of those that stay
@@ -23,6 +25,36 @@ All-members_without P members (k ∷ objects) each = All-members_without P (with
 -- and so they were members
 pub members_without-former : (members : List Member) (objects : List ℕ) (m : Member) → Contains (members_without members objects) m → Contains members m
 members_without-former members objects m c = All-contains (Contains members) (members_without members objects) m (All-members_without (Contains members) members objects (All-contains_itself members)) c
+
+none_there : (k : ℕ) → Contains [] k → ⊥
+none_there k (i, within, e) = absurd (omega arith)
+
+-- an object that leaves is no member
+pub members_without-apart : (members : List Member) (objects : List ℕ) (m : Member) → Contains (members_without members objects) m → Contains objects m.object → ⊥
+members_without-apart members [] m stays leaves = none_there m.object leaves
+members_without-apart members (k ∷ objects) m stays leaves =
+    ⊎_elim
+    (λ (first : Contains (k ∷ []) m.object).
+    ⊎_elim (λ (none : Contains [] m.object). none_there m.object none)
+    (λ (same : k ≡ m.object).
+    All-contains (λ n. n.object ≢ k) (without_member k members) m (without_member-apart k members) (members_without-former (without_member k members) objects m stays) (sym same))
+    (Contains-push_cases [] k m.object first))
+    (λ (later : Contains objects m.object). members_without-apart (without_member k members) objects m stays later)
+    (Contains-append_cases (k ∷ []) objects m.object leaves)
+
+-- an object that stays, or is asked for, leaves only if it is asked for
+pub asked_or_left : (trace : List Object) (t k size : ℕ) (old left new : List Member) (objects : List ℕ) → IsAsked trace t k size → All (IsNumbered trace) new → left ≡ members_without old objects
+    → ((m : Member) → Contains new m → Contains left m ⊎ (m ≡ member k size)) → (x : Object) → Contains (objects_held trace new) x → Contains objects (number_of trace x) → x ≡ request_at trace t
+asked_or_left trace t k size old left new objects asked numbered left_is enters x held leaves =
+    let f : Member → Object = λ m. object_numbered trace m.object in
+    let from = Contains-unmap f new x held in
+    let m : Member = from.0 in
+    let of_m : IsNumbered trace m = All-contains (IsNumbered trace) new m numbered from.1 in
+    let number : number_of trace x ≡ m.object = ap (number_of trace) (sym from.2) ∙ number_of-found trace (f m) m.object of_m.found in
+    ⊎_elim
+    (λ (stays : Contains left m). absurd (members_without-apart old objects m (subst (λ ms. Contains ms m) left_is stays) (subst (Contains objects) number leaves)))
+    (λ (own : m ≡ member k size). sym from.2 ∙ ap f own ∙ asked.object)
+    (enters m from.1)
 
 -- the request t asks for the object of the number that a look-up finds
 pub is_asked : (trace : List Object) (t k size : ℕ) → t < length trace → position (same_object (request_at trace t)) (objects_of trace) ≡ Some k → slice_get (objects_of trace) k ≡ Some (request_at trace t)

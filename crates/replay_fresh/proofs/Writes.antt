@@ -1,18 +1,22 @@
 -- A replay with what it holds and writes, request by request, where objects leave before requests.
-use Rattle.std.proofs.Common.{◌≡◌, ◌≢◌, ℕ, ◌+◌, ◌<◌, ◌≤◌, ◌⊎◌, ◌∙◌, sym, refl, ap, Bool, true, false, not, ◌&&◌, ◌||◌, cond, nat_le, List, [], ◌∷◌, ◌++◌, length, take, arith, All, Contains, AllPairs, inl, inr, ⊎_elim}
+use Rattle.std.proofs.Common.{◌≡◌, ◌≢◌, ℕ, ◌+◌, ◌<◌, ◌≤◌, ◌⊎◌, ◌∙◌, sym, refl, ap, subst, Bool, true, false, not, ◌&&◌, ◌||◌, cond, nat_le, List, [], ◌∷◌, ◌++◌, length, take, arith, All, Contains, AllPairs, inl, inr, ⊎_elim}
 use Rattle.std.specs.declared.option.Option.{Option}
-use Rattle.std.proofs.lemmas.List.{length-take-le, take_all, take_more}
+use Rattle.std.proofs.Math.Seq.{get_or-append_seam}
+use Rattle.std.proofs.lemmas.Bool.{cases_lt}
+use Rattle.std.proofs.lemmas.List.{get_or_append_left, length-take-le, take_all, take_more}
 use Rattle.cache_model.specs.declared.objects.Object.{Object}
 use Rattle.cache_model.specs.Claim.{before_request, counts_past, holds, no_object, only_fills, request_at}
 use Rattle.cache_model.specs.Written.{written_bytes}
 use Rattle.policy_model.specs.States.{Member, State, has_member, member, members_size}
+use Rattle.policy_model.specs.Asks.{number_of}
 use Rattle.policy_model.specs.Runs.{objects_held}
 use Rattle.policy_model.proofs.Holdings.{IsNumbered, has_member-held}
 use Rattle.policy_model.proofs.Replays.{AreScoresTo, IsAsked, played-begin, played-on, played-through}
 use Rattle.policy_model.proofs.Writing.{own_written, written_bytes-more}
 use Rattle.replay_core.specs.Laws.{IsFresh, StateFits}
-use Rattle.replay_fresh.specs.FreshRuns.{IsFreshlyPlayed}
-use Rattle.replay_fresh.proofs.Left.{counted-left, written-left}
+use Rattle.replay_fresh.specs.Fresh.{leaving}
+use Rattle.replay_fresh.specs.FreshRuns.{IsFreshlyPlayed, NoneStays, members_without}
+use Rattle.replay_fresh.proofs.Left.{asked_or_left, counted-left, members_without-former, written-left}
 use Rattle.replay_fresh.proofs.KnownRuns.{HeldTo, IsRunTo, held-none, held-more, held-all}
 
 -- of three conditions the second and the third may be exchanged
@@ -27,6 +31,7 @@ module _ (capacity warmup : ℕ) (fills stale : List Bool) (replace : Bool) (tra
   pub record IsPlayedTo (first : Option State) (t : ℕ) (members : List Member) (hits bytes written : ℕ) : Type 0 where
     pub scores : AreScoresTo capacity (counts_past warmup fills) trace t members hits bytes
     pub written_are : written ≡ written_bytes warmup fills (take t trace) scores.contents
+    pub none_stays : NoneStays stale replace trace t scores.contents
     pub of_rule : HeldTo (counts_past warmup fills) stale replace trace first t scores.contents
 
   -- before the first request
@@ -36,6 +41,7 @@ module _ (capacity warmup : ℕ) (fills stale : List Bool) (replace : Bool) (tra
       record {
         scores = begin.0;
         written_are = ap (written_bytes warmup fills (take 0 trace)) (sym begin.1);
+        none_stays = λ u low. absurd (omega arith);
         of_rule = held-none (counts_past warmup fills) stale replace trace first capacity members empty fits begin.0.contents begin.1;
       }
 
@@ -61,11 +67,23 @@ module _ (capacity warmup : ℕ) (fills stale : List Bool) (replace : Bool) (tra
       ∙ written_bytes-more warmup fills (take t trace) x ks (objects_held trace new) long
       ∙ ap (λ n. written_bytes warmup fills (take t trace) ks + n) own
 
+  -- what leaves before it is not there after it
+  none_stays-more : (t : ℕ) (ks : List (List Object)) (next : List Object) → length ks ≡ t + 1 → NoneStays stale replace trace t ks
+      → ((x : Object) → Contains next x → Contains (leaving stale replace trace t) (number_of trace x) → x ≡ request_at trace t) → NoneStays stale replace trace (t + 1) (ks ++ next ∷ [])
+  none_stays-more t ks next long so_far last u low x held leaves =
+      ⊎_elim
+      (λ (before : u < t). so_far u before x (subst (λ h. Contains h x) (get_or_append_left ks (next ∷ []) [] (u + 1) (omega (arith, long, before))) held) leaves)
+      (λ (here : t ≤ u).
+      let same : u ≡ t = omega (arith, low, here) in
+      let now : before_request (ks ++ next ∷ []) (u + 1) ≡ next = ap (before_request (ks ++ next ∷ [])) (omega (arith, long, same)) ∙ get_or-append_seam ks next [] [] in
+      last x (subst (λ h. Contains h x) now held) (subst (λ n. Contains (leaving stale replace trace n) (number_of trace x)) same leaves) ∙ ap (request_at trace) (sym same))
+      (cases_lt u t)
+
   -- one more request, before which the former members may leave, and its own only if it doesn't count
   pub written-more : (first after : Option State) (t k size room : ℕ) (old left new : List Member) (hits bytes written more_hits more_bytes more_written : ℕ) (hit : Bool)
       → IsAsked trace t k size
       → IsPlayedTo first t old hits bytes written
-      → ((m : Member) → Contains left m → Contains old m)
+      → left ≡ members_without old (leaving stale replace trace t)
       → (only_fills fills t ≡ false → hit ≡ has_member old k)
       → ((m : Member) → Contains new m → Contains left m ⊎ (m ≡ member k size))
       → members_size new ≤ capacity
@@ -76,8 +94,9 @@ module _ (capacity warmup : ℕ) (fills stale : List Bool) (replace : Bool) (tra
       → IsRunTo (counts_past warmup fills) stale replace trace first after (t + 1) more_hits more_bytes
       → StateFits after new room
       → IsPlayedTo first (t + 1) new more_hits more_bytes more_written
-  written-more first after t k size room old left new hits bytes written more_hits more_bytes more_written hit asked played former held enters fits apart hits_more bytes_more written_more run tells =
+  written-more first after t k size room old left new hits bytes written more_hits more_bytes more_written hit asked played left_is held enters fits apart hits_more bytes_more written_more run tells =
       let counted : (counts_past warmup fills t && hit) ≡ (counts_past warmup fills t && has_member old k) = counted-left (nat_le warmup t) (only_fills fills t) hit (has_member old k) held in
+      let former : (m : Member) → Contains left m → Contains old m = subst (λ ms. (m : Member) → Contains ms m → Contains old m) (sym left_is) (members_without-former old (leaving stale replace trace t)) in
       let on = played-on capacity (counts_past warmup fills) trace t k size old new hits bytes more_hits more_bytes (has_member old k) asked played.scores
       (λ m c. ⊎_elim (λ (was : Contains left m). inl (former m was)) (λ (own : m ≡ member k size). inr own) (enters m c)) fits apart refl
       (hits_more ∙ ap (λ b. hits + cond b 1 0) counted) (bytes_more ∙ ap (λ b. bytes + cond b size 0) counted) in
@@ -88,6 +107,11 @@ module _ (capacity warmup : ℕ) (fills stale : List Bool) (replace : Bool) (tra
             ∙ ap (λ n. n + cond (nat_le warmup t && ((only_fills fills t || not (has_member old k)) && has_member new k)) size 0) played.written_are
             ∙ sym (own_bytes t k size old new hits bytes asked played.scores on.0.numbered)
             ∙ ap (written_bytes warmup fills (take (t + 1) trace)) (sym on.1);
+        none_stays = subst (NoneStays stale replace trace (t + 1)) (sym on.1)
+            (none_stays-more t played.scores.contents (objects_held trace new)
+            (let long : length played.scores.contents ≡ length (take t trace) + 1 = played.scores.allowed.one_more_than_requests in
+            let within : t < length trace = asked.within in omega (arith, length-take-le t trace))
+            played.none_stays (asked_or_left trace t k size old left new (leaving stale replace trace t) asked on.0.numbered left_is enters));
         of_rule = held-more (counts_past warmup fills) stale replace trace first after t room more_hits more_bytes new played.scores.contents on.0.contents played.of_rule run tells on.1;
       }
 
@@ -100,5 +124,6 @@ module _ (capacity warmup : ℕ) (fills stale : List Bool) (replace : Bool) (tra
       record {
         scores = through.0;
         written_are = played.written_are ∙ ap (λ xs. written_bytes warmup fills xs played.scores.contents) all ∙ ap (written_bytes warmup fills trace) (sym through.1);
+        none_stays = subst (NoneStays stale replace trace (length trace)) (sym through.1) (subst (λ n. NoneStays stale replace trace n played.scores.contents) end played.none_stays);
         of_rule = held-all (counts_past warmup fills) stale replace trace first t played.scores.contents through.0.contents end fresh played.of_rule through.1;
       }

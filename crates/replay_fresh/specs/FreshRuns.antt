@@ -1,14 +1,14 @@
 -- The run of a rule from which objects leave before requests.
-use Rattle.std.specs.Prelude.{◌≡◌, ℕ, ◌+◌, ◌<◌, Bool, IsTrue, List, Some, IfSome, fold, length, map, take}
+use Rattle.std.specs.Prelude.{◌≡◌, ℕ, ◌+◌, ◌<◌, Bool, IsTrue, List, Some, IfSome, Contains, fold, length, map, take}
 use Rattle.std.specs.declared.option.Option.{Option}
 use Rattle.std.specs.List.{range_with_len}
 use Rattle.cache_model.specs.declared.objects.Object.{Object}
-use Rattle.cache_model.specs.Claim.{counts_past, only_fills}
+use Rattle.cache_model.specs.Claim.{before_request, counts_past, only_fills, request_at}
 use Rattle.cache_model.specs.Written.{written_bytes}
 use Rattle.policy_model.specs.declared.names.PolicyName.{PolicyName}
 use Rattle.policy_model.specs.States.{Member, State, has_member, members_of, start_of}
 use Rattle.policy_model.specs.Leaving.{let_go, without_member}
-use Rattle.policy_model.specs.Asks.{Ask}
+use Rattle.policy_model.specs.Asks.{Ask, number_of}
 use Rattle.policy_model.specs.Runs.{AreScores, Run, objects_held, rule_step, run_from, run_step}
 use Rattle.replay_fresh.specs.Fresh.{fresh_asks, is_stale, leaving}
 
@@ -64,8 +64,14 @@ IsFreshRunOf known_state trace warmup fills stale replace hits bytes =
 abbrev pub IsFreshStateAfter : Option State → Option State → List Object → ℕ → List Bool → List Bool → Bool → Type 0
 IsFreshStateAfter before after trace warmup fills stale replace = IfSome before (λ s. after ≡ Some (fresh_run s.name trace s.capacity warmup fills stale replace).state)
 
--- some allowed contents of the trace have these hits and bytes, and write these bytes; they are those of the rule, if one is known
+-- what leaves before one of the first t requests is not there after it, unless it is what is asked for
+abbrev pub NoneStays : List Bool → Bool → List Object → ℕ → List (List Object) → Type 0
+NoneStays stale replace trace t contents =
+    (u : ℕ) → u < t → (x : Object) → Contains (before_request contents (u + 1)) x → Contains (leaving stale replace trace u) (number_of trace x) → x ≡ request_at trace u
+
+-- some allowed contents of the trace have these hits and bytes, write these bytes and keep nothing that leaves; they are those of the rule, if one is known
 pub record IsFreshlyPlayed (known_state : Option State) (capacity warmup : ℕ) (fills stale : List Bool) (replace : Bool) (trace : List Object) (hits bytes written : ℕ) : Type 0 where
   pub scores : AreScores capacity warmup fills trace hits bytes
   pub written_are : written ≡ written_bytes warmup fills trace scores.contents
+  pub none_stays : NoneStays stale replace trace (length trace) scores.contents
   pub of_rule : IfSome known_state (λ s. scores.contents ≡ fresh_contents s.name trace s.capacity stale replace)

@@ -14,7 +14,7 @@ use Rattle.replay_fresh.specs.Fresh.{last_of_id}
 abbrev pub id_of : Object → Id
 id_of x = record { volume = x.volume; id = x.id }
 
--- two of them are equal
+-- whether two of them are equal
 abbrev pub same_key : Id → Id → Bool
 same_key p q = (p.volume == q.volume) && (p.id == q.id)
 

@@ -1,4 +1,4 @@
-use Rattle.std.proofs.Common.{nat_le, not, ◌||◌, ◌≡◌, ◌≤◌, ◌<◌, ◌+◌, ◌*◌, ◌^◌, ◌∙◌, ℕ, Bool, IfSome, subst, ◌&&◌, cond, true, false, add-zero, List, sym, ap, refl, arith, length, Contains}
+use Rattle.std.proofs.Common.{nat_le, not, ◌||◌, ◌≡◌, ◌≤◌, ◌<◌, ◌+◌, ◌*◌, ◌^◌, ◌∙◌, ℕ, Bool, IfSome, subst, ◌&&◌, cond, true, false, add-zero, List, sym, ap, refl, arith, length}
 use Rattle.cache_model.specs.declared.objects.Object.{Object}
 use Rattle.cache_model.specs.Claim.{counts_past, only_fills, request_at}
 use Rattle.bit_list.specs.Bits.{bits_of}
@@ -12,7 +12,7 @@ use Rattle.replay_core.proofs.Tallies.{tally-none, tally-more}
 use Rattle.replay_fresh.specs.Fresh.{is_stale, leaving, unless_stale}
 use Rattle.replay_fresh.specs.Latest.{AreLatest}
 use Rattle.replay_fresh.proofs.KnownRuns.{IsRunTo, run-none, run-more, run-all, state-all}
-use Rattle.replay_fresh.proofs.Left.{if_counts, is_asked, members_without-former, size-left}
+use Rattle.replay_fresh.proofs.Left.{if_counts, is_asked, size-left}
 use Rattle.replay_fresh.proofs.Versions.{latest-none}
 use Rattle.replay_fresh.proofs.Writes.{written-none, written-more, written-all}
 use Rattle.replay_fresh.proofs.replaying.replay_fresh.Goals as goal
@@ -93,7 +93,7 @@ loop-t-preserved g c =
       latest = c.in_ok-let_leave.ensures.latest;
       played = written-more (g.P.Policy.room c.args.policy.now) c.args.warmup fills stale c.args.replace trace (g.P.Policy.known_state c.args.policy.now) (g.P.Policy.known_state c.request.new.self) t k size
           (g.P.Policy.room c.request.new.self) old left (g.P.Policy.contents c.request.new.self) c.loop-t.hits c.loop-t.bytes c.loop-t.written c.if-counts.hits c.if-counts.bytes c.if-writes.written hit asked
-          c.loop-t.invariant.played (subst (λ ms. (m : Member) → Contains ms m → Contains old m) (sym c.in_ok-let_leave.ensures.contents) (members_without-former old (leaving stale c.args.replace trace t)))
+          c.loop-t.invariant.played c.in_ok-let_leave.ensures.contents
           held c.in_ok-outcome.ensures.only_the_request_enters
           (let fits : members_size (g.P.Policy.contents c.request.new.self) ≤ g.P.Policy.room c.request.new.self = sound.within_capacity in omega (arith, same_capacity))
           sound.without_repeats hits_more bytes_more written_more run (g.met.P.Policy.state_fits c.request.new.self);
