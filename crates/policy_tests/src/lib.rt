@@ -1,4 +1,4 @@
-//! Tests of replays over small traces: of policy_model, replay_core, replay_recency, replay_rank, replay_queues,
+//! Tests of replays over small traces: of policy_model, replay_core, replay_fresh, replay_recency, replay_rank, replay_queues,
 //! replay_tinylfu, belady_laws, stack_curve, byte_curve and hit_judge. They stand apart, since a crate with tests is proved twice.
 #![tactic(auto)]
 
@@ -14,6 +14,8 @@ mod hit_judge_policies;
 mod replay_core_counting;
 #[cfg(test)]
 mod replay_core_idle;
+#[cfg(test)]
+mod replay_fresh_rows;
 #[cfg(test)]
 mod replay_rank_gdsf98;
 #[cfg(test)]
