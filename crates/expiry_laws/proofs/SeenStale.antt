@@ -15,6 +15,7 @@ use Rattle.cache_model.proofs.Pairs.{same_object-sym}
 use Rattle.freshness.specs.declared.fresh.Freshness.{Freshness}
 use Rattle.freshness.specs.Stale.{can_end, clock, is_older, has_expired, is_replaced, is_latest_of_id}
 use Rattle.freshness.specs.Stale as trace_wide
+use Rattle.freshness.proofs.Ids.{pair-same, pair-sym, same_id-sym}
 use Rattle.freshness.specs.Seen.{Seen, id_of, is_old, is_other, is_stale, is_stale_since, same_id, with_size}
 use Rattle.expiry_laws.specs.Laws.{SeenTellsStale, seen_before, time_at}
 use Rattle.expiry_laws.proofs.LastOnes.{IsOfEquals, any_first, any_last, last}
@@ -35,36 +36,15 @@ module _ {K V : Type 0} (eq : K → K → Bool) (symmetric : (x y : K) → eq x 
 same_object-equals : IsOfEquals same_object
 same_object-equals = record { symmetric = same_object-sym; same = λ x y z is. ap (λ w. same_object w z) (same_object-true x y is) }
 
--- two pairs of numbers are equal
-abbrev pair_eq : ℕ → ℕ → ℕ → ℕ → Bool
-pair_eq v i w j = (v == w) && (i == j)
-
-eqb-sym : (a b : ℕ) → (a == b) ≡ (b == a)
-eqb-sym a b = at (a == b) (b == a) refl refl
-  where
-    at : (s t : Bool) → (a == b) ≡ s → (b == a) ≡ t → s ≡ t
-    at true true e f = refl
-    at false false e f = refl
-    at true false e f = sym (eq-eqb b a (sym (eqb-true a b e))) ∙ f
-    at false true e f = sym e ∙ eq-eqb a b (sym (eqb-true b a f))
-
-pair-sym : (v i w j : ℕ) → pair_eq v i w j ≡ pair_eq w j v i
-pair-sym v i w j = ap (λ b. b && (i == j)) (eqb-sym v w) ∙ ap (λ b. (w == v) && b) (eqb-sym i j)
-
-pair-same : (v i w j u k : ℕ) → pair_eq v i w j ≡ true → pair_eq v i u k ≡ pair_eq w j u k
-pair-same v i w j u k is =
-    let parts = and_parts (v == w) (i == j) is in
-    ap (λ n. (n == u) && (i == k)) (eqb-true v w parts.0) ∙ ap (λ n. (w == u) && (n == k)) (eqb-true i j parts.1)
-
 same_id-equals : IsOfEquals trace_wide.same_id
 same_id-equals = record {
-  symmetric = λ x y. pair-sym x.volume x.id y.volume y.id;
+  symmetric = same_id-sym;
   same = λ x y z. pair-same x.volume x.id y.volume y.id z.volume z.id;
 }
 
-module _ (fresh : Freshness) (trace : List Object) (times : List ℕ) (lengths : length times ≡ length trace) (can : can_end fresh ≡ true) where
+module _ (fresh : Freshness) (trace : List Object) (times : List ℕ) (own : List Bool) (lengths : length times ≡ length trace) (can : can_end fresh ≡ true) where
   abbrev known : ℕ → Seen
-  known t = seen_before fresh trace times t
+  known t = seen_before fresh trace times own t
 
   -- the greatest time so far, with that of request t
   clock-more : (t : ℕ) → t < length times → max (fold max 0 (take t times)) (time_at times t) ≡ clock times t
@@ -139,22 +119,22 @@ not_not true = refl
 not_not false = refl
 
 -- if requests can be stale
-tells : (fresh : Freshness) (trace : List Object) (times : List ℕ) (t : ℕ) → length times ≡ length trace → t < length trace → can_end fresh ≡ true
-    → is_stale fresh (seen_before fresh trace times t) (request_at trace t) (time_at times t) ≡ trace_wide.is_stale fresh trace times t
-tells fresh trace times t lengths within can =
+tells : (fresh : Freshness) (trace : List Object) (times : List ℕ) (own : List Bool) (t : ℕ) → length times ≡ length trace → t < length trace → can_end fresh ≡ true
+    → is_stale fresh (seen_before fresh trace times own t) (request_at trace t) (time_at times t) ≡ trace_wide.is_stale fresh trace times t
+tells fresh trace times own t lengths within can =
     let x = request_at trace t in
-    let known = seen_before fresh trace times t in
+    let known = seen_before fresh trace times own t in
     let found = last (λ a. same_object (request_at trace a) x) t in
     let like = last (λ a. trace_wide.same_id (request_at trace a) x) t in
     let P = λ (a : ℕ). is_older fresh.idle times a t in
     let Q = λ (a : ℕ). not ((request_at trace a).size == x.size) in
-    let now = now_is fresh trace times lengths can t (omega (arith, within, lengths)) in
-    let clocks = clocks_are fresh trace times lengths can x t (omega (arith, within)) in
+    let now = now_is fresh trace times own lengths can t (omega (arith, within, lengths)) in
+    let clocks = clocks_are fresh trace times own lengths can x t (omega (arith, within)) in
     let expired : has_expired fresh.idle trace times t ≡ option_map_or P found false = any_last same_object same_object-equals trace x P t (omega (arith, within)) in
     let replaced : is_replaced trace t ≡ option_map_or Q like false = any_last trace_wide.same_id same_id-equals trace x Q t (omega (arith, within)) in
     let first : not (is_first trace t) ≡ is_some found = not_not (list_any (same_object x) (take t trace)) ∙ any_first same_object same_object-equals trace x t (omega (arith, within)) in
     let other : (fresh.replace && is_other x.size (lookup (same_id (id_of x)) known.sizes)) ≡ (fresh.replace && is_replaced trace t)
-    = by fresh.replace (λ is. ap (is_other x.size) (sizes_are fresh trace times lengths can x t is) ∙ (last_other (λ a. (request_at trace a).size) like x.size ∙ sym replaced)) refl in
+    = by fresh.replace (λ is. ap (is_other x.size) (sizes_are fresh trace times own lengths can x t is) ∙ (last_other (λ a. (request_at trace a).size) like x.size ∙ sym replaced)) refl in
     ap (λ b. b && is_stale_since fresh.idle (max known.clock (time_at times t)) (lookup (same_object x) known.clocks) (fresh.replace && is_other x.size (lookup (same_id (id_of x)) known.sizes))) can
     ∙ (ap (λ c. is_stale_since fresh.idle c (lookup (same_object x) known.clocks) (fresh.replace && is_other x.size (lookup (same_id (id_of x)) known.sizes))) now
     ∙ (ap (λ l. is_stale_since fresh.idle (clock times t) l (fresh.replace && is_other x.size (lookup (same_id (id_of x)) known.sizes))) clocks
@@ -184,10 +164,10 @@ never trace times t within =
     and_false false = refl
 
 pub seen_tells_stale : SeenTellsStale
-seen_tells_stale fresh trace times t lengths within = by fresh.idle fresh.replace
+seen_tells_stale fresh trace times own t lengths within = by fresh.idle fresh.replace
   where
-    by : (idle : Option ℕ) (replace : Bool) → is_stale (record { idle = idle; replace = replace }) (seen_before (record { idle = idle; replace = replace }) trace times t) (request_at trace t) (time_at times t)
+    by : (idle : Option ℕ) (replace : Bool) → is_stale (record { idle = idle; replace = replace }) (seen_before (record { idle = idle; replace = replace }) trace times own t) (request_at trace t) (time_at times t)
         ≡ trace_wide.is_stale (record { idle = idle; replace = replace }) trace times t
     by None false = sym (never trace times t within)
-    by (Some idle) replace = tells (record { idle = Some idle; replace = replace }) trace times t lengths within refl
-    by None true = tells (record { idle = None; replace = true }) trace times t lengths within refl
+    by (Some idle) replace = tells (record { idle = Some idle; replace = replace }) trace times own t lengths within refl
+    by None true = tells (record { idle = None; replace = true }) trace times own t lengths within refl

@@ -6,7 +6,7 @@ use Rattle.cache_model.specs.declared.objects.Objective.{Objective}
 use Rattle.cache_model.specs.declared.certificates.Header.{Header}
 use Rattle.cache_model.specs.declared.certificates.Record.{Record}
 use Rattle.cache_model.specs.Certificates.{IsValid}
-use Rattle.cache_model.specs.Claim.{IsAllowed, request_at, score, terms_from}
+use Rattle.cache_model.specs.Claim.{IsAllowed, only_fills, request_at, score, terms_from}
 use Rattle.freshness.specs.declared.fresh.Freshness.{Freshness}
 use Rattle.freshness.specs.Stale.{is_stale, stale_marks}
 use Rattle.freshness.specs.Seen.{Seen, nothing_seen, with_seen}
@@ -44,13 +44,13 @@ LaxerBounds =
 abbrev pub time_at : List ℕ → ℕ → ℕ
 time_at times t = slice_index times t
 
--- what is known of the requests before request t
-abbrev pub seen_before : Freshness → List Object → List ℕ → ℕ → Seen
-seen_before fresh trace times zero = nothing_seen
-seen_before fresh trace times (suc t) = with_seen fresh (seen_before fresh trace times t) (request_at trace t) (time_at times t)
+-- what is known of the requests before request t, of which `own` says whether each only fills by its own mark
+abbrev pub seen_before : Freshness → List Object → List ℕ → List Bool → ℕ → Seen
+seen_before fresh trace times own zero = nothing_seen
+seen_before fresh trace times own (suc t) = with_seen fresh (seen_before fresh trace times own t) (request_at trace t) (time_at times t) (only_fills own t)
 
 -- a request is stale by what is known of those before it if and only if it is stale in the trace
 abbrev pub SeenTellsStale : Type 0
 SeenTellsStale =
-    (fresh : Freshness) (trace : List Object) (times : List ℕ) (t : ℕ) → length times ≡ length trace → t < length trace
-    → seen.is_stale fresh (seen_before fresh trace times t) (request_at trace t) (time_at times t) ≡ is_stale fresh trace times t
+    (fresh : Freshness) (trace : List Object) (times : List ℕ) (own : List Bool) (t : ℕ) → length times ≡ length trace → t < length trace
+    → seen.is_stale fresh (seen_before fresh trace times own t) (request_at trace t) (time_at times t) ≡ is_stale fresh trace times t

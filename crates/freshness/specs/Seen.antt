@@ -1,25 +1,44 @@
 -- What is known of the requests so far, and whether the next is stale by it.
-use Rattle.std.specs.Prelude.{ℕ, ◌+◌, ◌==◌, max, nat_lt, Bool, false, not, ◌&&◌, ◌||◌, if◌then◌else◌, List, [], None, Some}
+use Rattle.std.specs.Prelude.{◌≡◌, ◌⊎◌, ℕ, ◌+◌, ◌==◌, max, nat_lt, Bool, false, not, ◌&&◌, ◌||◌, if◌then◌else◌, List, [], ◌∷◌, ◌++◌, None, Some}
 use Rattle.std.specs.declared.option.Option.{Option}
 use Rattle.std.specs.Map.{lookup}
 use Rattle.indexmap.specs.IndexMap.{insert_entry}
+use Rattle.bit_list.specs.Bits.{bits_of}
 use Rattle.cache_model.specs.declared.objects.Object.{Object}
 use Rattle.cache_model.specs.Claim.{same_object}
 use Rattle.freshness.specs.declared.fresh.Freshness.{Freshness}
-use Rattle.freshness.specs.declared.seen.Id.{Id}
+use Rattle.freshness.specs.declared.id.Id.{Id}
+use Rattle.freshness.specs.declared.stale.StaleRequests.{StaleRequests}
 use Rattle.freshness.specs.Stale.{can_end}
 
--- the clock, which is the greatest time so far; of each object the clock at its last request; of each id the size of its last; how many requests had a time below the clock before them, and how many were stale
+-- what is noted of requests of which some can be stale: how many had a time below the clock before them, and of each whether it is stale and whether it only fills the cache by its own mark
+pub record Staleness : Type 0 where
+  pub late : ℕ
+  pub stale : List Bool
+  pub own : List Bool
+
+-- what the code notes
+abbrev pub noted_of : StaleRequests → Staleness
+noted_of r = record { late = r.late; stale = bits_of r.stale; own = bits_of r.own }
+
+-- of no request
+abbrev pub nothing_noted : Staleness
+nothing_noted = record { late = 0; stale = []; own = [] }
+
+-- of one request more
+abbrev pub with_noted : Staleness → Bool → Bool → Bool → Staleness
+with_noted n late stale own = record { late = n.late + (if late then 1 else 0); stale = n.stale ++ stale ∷ []; own = n.own ++ own ∷ [] }
+
+-- the clock, which is the greatest time so far; of each object the clock at its last request; of each id the size of its last; and what is noted of the requests
 pub record Seen : Type 0 where
   pub clock : ℕ
   pub clocks : List (Object × ℕ)
   pub sizes : List (Id × ℕ)
-  pub late : ℕ
-  pub stale : ℕ
+  pub noted : Staleness
 
 -- before the first request
 abbrev pub nothing_seen : Seen
-nothing_seen = record { clock = 0; clocks = []; sizes = []; late = 0; stale = 0 }
+nothing_seen = record { clock = 0; clocks = []; sizes = []; noted = nothing_noted }
 
 -- the id of an object, whatever its size
 abbrev pub id_of : Object → Id
@@ -53,15 +72,18 @@ is_stale fresh seen x time =
 abbrev pub with_size : Bool → List (Id × ℕ) → Object → List (Id × ℕ)
 with_size kept sizes x = if kept then insert_entry same_id sizes (id_of x) x.size else sizes
 
--- what is known after one more request; nothing is noted if none can be stale
-abbrev pub with_seen : Freshness → Seen → Object → ℕ → Seen
-with_seen fresh seen x time =
+-- what is known after one more request, which only fills by its own mark or doesn't; nothing is noted if none can be stale
+abbrev pub with_seen : Freshness → Seen → Object → ℕ → Bool → Seen
+with_seen fresh seen x time own =
     if can_end fresh
     then record {
       clock = max seen.clock time;
       clocks = insert_entry same_object seen.clocks x (max seen.clock time);
       sizes = with_size fresh.replace seen.sizes x;
-      late = seen.late + (if nat_lt time seen.clock then 1 else 0);
-      stale = seen.stale + (if is_stale fresh seen x time then 1 else 0);
+      noted = with_noted seen.noted (nat_lt time seen.clock) (is_stale fresh seen x time) own;
     }
     else seen
+
+-- without memory no more was noted of a request for the object than the size of its id
+abbrev pub IsNotedInPart : Freshness → Seen → Seen → Object → Type 0
+IsNotedInPart fresh old new x = (new ≡ old) ⊎ (new ≡ record old { sizes = with_size fresh.replace old.sizes x })

@@ -4,7 +4,11 @@
 #![tactic(auto)]
 
 mod fresh;
+mod id;
 mod seen;
+mod stale;
 
 pub use fresh::Freshness;
+pub use id::Id;
 pub use seen::SeenObjects;
+pub use stale::StaleRequests;

@@ -13,4 +13,4 @@ mod replaying;
 pub use counts::Replay;
 pub use letting_go::LetGo;
 pub use policy::{Outcome, Policy};
-pub use replaying::replay;
+pub use replaying::{has_written, hit_counts, replay};

@@ -13,16 +13,16 @@ use bound_base::NoMemory;
 use cache_rules::Trace;
 use std::alloc::Global;
 
-// Whether the answer to request `t` counts.
-fn counts(trace: &Trace, t: u32, warmup: u32, outcome: Outcome) -> bool
+/// Whether the answer to request `t` is a hit that counts.
+pub fn hit_counts(trace: &Trace, t: u32, warmup: u32, outcome: Outcome) -> bool
     ensures { result ≡ (counts_past warmup trace.now.fills t && is_hit outcome) }
 {
     trace.counts(t, warmup) && outcome == Outcome::Hit
 }
 
-// Whether request `t`, which was answered so, wrote its object: it is past the warm-up, and the policy took the object in or
-// wrote it anew.
-fn writes<P: Policy>(
+/// Whether request `t`, which was answered so, wrote its object: it is past the warm-up, and the policy took the object in or
+/// wrote it anew.
+pub fn has_written<P: Policy>(
     trace: &Trace,
     t: u32,
     warmup: u32,
@@ -61,11 +61,11 @@ pub fn replay<P: Policy>(
         let object = trace.request(t);
         let size = trace.size_of(object);
         let outcome = policy.request(alloc, object, size, trace.next(t))?;
-        if counts(trace, t, warmup, outcome) {
+        if hit_counts(trace, t, warmup, outcome) {
             hits += 1;
             bytes += size as u128;
         }
-        if writes(trace, t, warmup, outcome, policy, object) {
+        if has_written(trace, t, warmup, outcome, policy, object) {
             written += size as u128;
         }
     }

@@ -13,21 +13,13 @@ use Rattle.cache_model.proofs.Duality.{same_object-true}
 use Rattle.policy_model.specs.Asks.{number_of, object_numbered}
 use Rattle.policy_model.proofs.Comparisons.{eqb-sym}
 use Rattle.policy_model.proofs.Numbers.{number_of-found}
-use Rattle.replay_fresh.specs.contracts.replacing.IdPartialEq.TheImpl.{eq-value}
-use Rattle.replay_fresh.specs.declared.replacing.Id.{Id}
+use Rattle.freshness.specs.declared.id.Id.{Id}
+use Rattle.freshness.specs.Seen.{id_of}
+use Rattle.freshness.specs.Seen as seen
 use Rattle.freshness.specs.Stale.{same_id}
+use Rattle.freshness.proofs.Ids.{same_id-refl, same_id-sym}
 use Rattle.replay_fresh.specs.Fresh.{last_of_id, of_other_size}
-use Rattle.replay_fresh.specs.Latest.{AreLatest, IsVersion, Keeps, id_of, other_than, same_key}
-
--- `==` on ids tells them apart as the rules do
-pub same_key-derived : eq-value.it ≡ same_key
-same_key-derived = λ i p q. (p.volume == q.volume) && (p.id == q.id)
-
-same_id-sym : (x y : Object) → same_id x y ≡ same_id y x
-same_id-sym x y = ap (λ b. b && eqb x.id y.id) (eqb-sym x.volume y.volume) ∙ ap (λ b. eqb y.volume x.volume && b) (eqb-sym x.id y.id)
-
-same_id-refl : (x : Object) → same_id x x ≡ true
-same_id-refl x = and_from _ _ (eq-eqb x.volume x.volume refl) (eq-eqb x.id x.id refl)
+use Rattle.replay_fresh.specs.Latest.{AreLatest, IsVersion, Keeps, other_than}
 
 last_or-more : {A : Type 0} (o : Option A) (xs : List A) (x : A) → last_or o (xs ++ x ∷ []) ≡ Some x
 last_or-more o [] x = refl
@@ -49,19 +41,19 @@ latest-none trace x = tt
 pub latest-more : (entries more : List (Id × ℕ)) (trace : List Object) (t number : ℕ) → t < length trace
     → IsVersion trace (request_at trace t) (request_at trace t) number
     → AreLatest entries trace t
-    → ((q : Id) → lookup (same_key q) more ≡ cond (same_key (id_of (request_at trace t)) q) (Some number) (lookup (same_key q) entries))
+    → ((q : Id) → lookup (seen.same_id q) more ≡ cond (seen.same_id (id_of (request_at trace t)) q) (Some number) (lookup (seen.same_id q) entries))
     → AreLatest more trace (t + 1)
 latest-more entries more trace t number within version latest updated x =
     let z : Object = request_at trace t in
     let last : last_of_id x (take (t + 1) trace) ≡ cond (same_id x z) (Some z) (last_of_id x (take t trace)) =
     ap (last_of_id x) (take_more trace t no_object within) ∙ last_of_id-more x z (take t trace) in
-    let kept : lookup (same_key (id_of x)) more ≡ cond (same_id x z) (Some number) (lookup (same_key (id_of x)) entries) =
-    updated (id_of x) ∙ ap (λ b. cond b (Some number) (lookup (same_key (id_of x)) entries)) (same_id-sym z x) in
-    subst (λ o. Keeps trace x o (lookup (same_key (id_of x)) more)) (sym last)
+    let kept : lookup (seen.same_id (id_of x)) more ≡ cond (same_id x z) (Some number) (lookup (seen.same_id (id_of x)) entries) =
+    updated (id_of x) ∙ ap (λ b. cond b (Some number) (lookup (seen.same_id (id_of x)) entries)) (same_id-sym z x) in
+    subst (λ o. Keeps trace x o (lookup (seen.same_id (id_of x)) more)) (sym last)
     (subst (Keeps trace x (cond (same_id x z) (Some z) (last_of_id x (take t trace)))) (sym kept) (at (same_id x z) refl))
   where
     at : (b : Bool) → same_id x (request_at trace t) ≡ b
-        → Keeps trace x (cond b (Some (request_at trace t)) (last_of_id x (take t trace))) (cond b (Some number) (lookup (same_key (id_of x)) entries))
+        → Keeps trace x (cond b (Some (request_at trace t)) (last_of_id x (take t trace))) (cond b (Some number) (lookup (seen.same_id (id_of x)) entries))
     at true same = record { same = same; found = version.found; object = version.object; known = version.known }
     at false same = latest x
 

@@ -6,17 +6,11 @@ use Rattle.cache_model.specs.declared.objects.Object.{Object}
 use Rattle.cache_model.specs.Claim.{same_object}
 use Rattle.cache_model.specs.Objects.{objects_of}
 use Rattle.policy_model.specs.Asks.{object_numbered}
-use Rattle.replay_fresh.specs.declared.replacing.Id.{Id}
+use Rattle.freshness.specs.declared.id.Id.{Id}
 use Rattle.freshness.specs.Stale.{same_id}
+use Rattle.freshness.specs.Seen.{id_of}
+use Rattle.freshness.specs.Seen as seen
 use Rattle.replay_fresh.specs.Fresh.{last_of_id}
-
--- the volume and id of an object
-abbrev pub id_of : Object → Id
-id_of x = record { volume = x.volume; id = x.id }
-
--- whether two of them are equal
-abbrev pub same_key : Id → Id → Bool
-same_key p q = (p.volume == q.volume) && (p.id == q.id)
 
 -- this is the number of the object y of the trace, which is of the volume and id of x
 pub record IsVersion (trace : List Object) (x y : Object) (number : ℕ) : Type 0 where
@@ -34,7 +28,7 @@ Keeps trace x (Some y) (Some number) = IsVersion trace x y number
 
 -- the entries have the number of the last object of each volume and id among the first t requests
 abbrev pub AreLatest : List (Id × ℕ) → List Object → ℕ → Type 0
-AreLatest entries trace t = (x : Object) → Keeps trace x (last_of_id x (take t trace)) (lookup (same_key (id_of x)) entries)
+AreLatest entries trace t = (x : Object) → Keeps trace x (last_of_id x (take t trace)) (lookup (seen.same_id (id_of x)) entries)
 
 -- the number that is given, unless it is this one
 abbrev pub other_than : ℕ → Option ℕ → Option ℕ

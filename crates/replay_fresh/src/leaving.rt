@@ -7,10 +7,11 @@ ghost use Rattle.replay_fresh.specs.Fresh.{is_stale, leaving, own_if_stale};
 ghost use Rattle.replay_fresh.specs.FreshRuns.{LetsGoAll, SameHeld, members_without};
 ghost use Rattle.replay_fresh.specs.Latest.{AreLatest};
 
-use crate::replacing::{Id, replaced_if};
+use crate::replacing::replaced_if;
 use bit_list::BitList;
 use bound_base::NoMemory;
 use cache_rules::Trace;
+use freshness::Id;
 use indexmap::IndexMap;
 use replay_core::{LetGo, Policy};
 

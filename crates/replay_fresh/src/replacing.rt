@@ -7,14 +7,8 @@ ghost use Rattle.replay_fresh.specs.Latest.{AreLatest, other_than};
 
 use bound_base::NoMemory;
 use cache_rules::Trace;
+use freshness::Id;
 use indexmap::IndexMap;
-
-/// What versions of an object share.
-#[derive(Clone, Copy, Debug, PartialEq, Eq, Hash)]
-pub(crate) struct Id {
-    pub volume: u32,
-    pub id: u64,
-}
 
 // The number that is given, unless it is this one.
 fn other_than(number: u32, given: Option<u32>) -> Option<u32>
@@ -37,11 +31,7 @@ fn replaced(latest: &mut IndexMap<Id, u32>, trace: &Trace, t: u32) -> Result<Opt
 {
     let object = trace.request(t);
     let asked = trace.object(object);
-    let id = Id {
-        volume: asked.volume,
-        id: asked.id,
-    };
-    let before = latest.insert(id, object)?;
+    let before = latest.insert(Id::of(asked), object)?;
     Ok(other_than(object, before))
 }
 

@@ -1,12 +1,9 @@
 //! The replay of a trace through a policy from which objects leave.
-ghost use Rattle.std.specs.Prelude.{◌≡◌, ◌≤◌, ◌&&◌, ◌||◌, nat_le, not, [], length, IfOk, IfSome, OnOk};
+ghost use Rattle.std.specs.Prelude.{◌≡◌, ◌≤◌, [], length, IfOk, IfSome, OnOk};
 ghost use Rattle.bit_list.specs.Bits.{bits_of};
-ghost use Rattle.cache_model.specs.Claim.{counts_past, only_fills};
 ghost use Rattle.cache_model.specs.Objects.{objects_of};
 ghost use Rattle.policy_model.specs.Runs.{AreScores};
-ghost use Rattle.policy_model.specs.States.{has_member};
 ghost use Rattle.replay_core.specs.Laws.{IsFresh, IsTallied};
-ghost use Rattle.replay_core.specs.Outcomes.{is_hit};
 ghost use Rattle.replay_fresh.specs.Fresh.{unless_stale};
 ghost use Rattle.replay_fresh.specs.FreshRuns.{IsFreshRunOf, IsFreshStateAfter, IsFreshlyPlayed, OnlyFill};
 
@@ -15,7 +12,7 @@ use bit_list::BitList;
 use bound_base::NoMemory;
 use cache_rules::Trace;
 use indexmap::IndexMap;
-use replay_core::{LetGo, Outcome, Policy, Replay};
+use replay_core::{LetGo, Replay, has_written, hit_counts};
 use std::alloc::Global;
 
 // The request of this number, if there is one and it is not stale.
@@ -26,28 +23,6 @@ fn unless_stale(stale: &BitList, request: Option<u32>) -> Option<u32>
         Some(t) if !stale.get(t as usize) => Some(t),
         _ => None,
     }
-}
-
-// Whether the answer to request `t` counts.
-fn counts(trace: &Trace, t: u32, warmup: u32, outcome: Outcome) -> bool
-    ensures { result ≡ (counts_past warmup trace.now.fills t && is_hit outcome) }
-{
-    trace.counts(t, warmup) && outcome == Outcome::Hit
-}
-
-// Whether request `t`, which was answered so, wrote its object: it is past the warm-up, and the policy took the object in or
-// wrote it anew.
-fn writes<P: Policy>(
-    trace: &Trace,
-    t: u32,
-    warmup: u32,
-    outcome: Outcome,
-    policy: &P,
-    object: u32,
-) -> bool
-    ensures { result ≡ (nat_le warmup t && ((only_fills trace.now.fills t || not (is_hit outcome)) && has_member (P.contents policy.now) object)) }
-{
-    t >= warmup && (trace.only_fills(t) || outcome == Outcome::Miss) && policy.holds(object)
 }
 
 /// Asks the policy for each request of the trace, as `replay` does, but before each lets go of its object, if the request is
@@ -84,11 +59,11 @@ pub fn replay_fresh<P: LetGo>(
         let_leave(trace, stale, replace, t, &mut latest, policy)?;
         let next = unless_stale(stale, trace.next(t));
         let outcome = policy.request(alloc, object, size, next)?;
-        if counts(trace, t, warmup, outcome) {
+        if hit_counts(trace, t, warmup, outcome) {
             hits += 1;
             bytes += size as u128;
         }
-        if writes(trace, t, warmup, outcome, policy, object) {
+        if has_written(trace, t, warmup, outcome, policy, object) {
             written += size as u128;
         }
     }

@@ -35,7 +35,7 @@ more : (format : Format) (stamp : Stamp) (r : Reading) (next : List Object) → 
 more format stamp r [] has = has
 more format stamp r (x ∷ next) has =
     more format stamp (with_one format stamp r x) next
-    (one_more (is_marked format) (only_fills_at format.fresh r.seen stamp x) r x (with_seen format.fresh r.seen x stamp.time) has)
+    (one_more (is_marked format) (only_fills_at format.fresh r.seen stamp x) r x (with_seen format.fresh r.seen x stamp.time stamp.fills) has)
 
 -- a reading that stops
 stops : (marks : Bool) (r : Reading) (fault : TraceFault) → HasMarks marks r → HasMarks marks (stopped r fault)

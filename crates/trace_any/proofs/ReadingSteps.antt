@@ -120,11 +120,11 @@ plain volumes seen dropped lines bytes = record { requests = []; fills = []; see
 pub requested-next : (volumes : List Volume) (seen : Seen) (most dropped lines bytes : ℕ) (format : Format) (volume : ℕ) (stamp : Stamp) (first count size : ℕ)
     → let x : Object = record { volume = volume; id = first; size = size } in
     requested (most + 1) format (plain volumes seen dropped lines bytes) volume stamp first (count + 1) size
-    ≡ onto x (mark_of format seen stamp x) (requested most format (plain volumes (with_seen format.fresh seen x stamp.time) dropped lines bytes) volume stamp (first + 1) count size)
+    ≡ onto x (mark_of format seen stamp x) (requested most format (plain volumes (with_seen format.fresh seen x stamp.time stamp.fills) dropped lines bytes) volume stamp (first + 1) count size)
 requested-next volumes seen most dropped lines bytes format volume stamp first count size =
     let x : Object = record { volume = volume; id = first; size = size } in
     let mark = mark_of format seen stamp x in
-    let r = plain volumes (with_seen format.fresh seen x stamp.time) dropped lines bytes in
+    let r = plain volumes (with_seen format.fresh seen x stamp.time stamp.fills) dropped lines bytes in
     let next = blocks volume (first + 1) (min count most) size in
     let taken = fold (with_one format stamp) r next in
     let places : most + 1 - 0 ≡ most + 1 = omega arith in

@@ -138,7 +138,7 @@ GivesFirst old new x = (new.given ≡ old.given + 1) × ((bytes : List ℕ) → 
 
 -- what is known of the objects, once this request is given at the time of its line
 abbrev pub seen_with : Reader → Object → Seen
-seen_with r x = with_seen r.format.fresh r.seen x r.ahead.stamp.time
+seen_with r x = with_seen r.format.fresh r.seen x r.ahead.stamp.time r.ahead.stamp.fills
 
 -- there is room for no request, and whatever the bytes, that is what stops the reading
 abbrev pub IsFull : Reader → Reader → TraceFault → Type 0

@@ -99,7 +99,7 @@ abbrev pub with_one : Format → Stamp → Reading → Object → Reading
 with_one format stamp r x = record r {
   requests = r.requests ++ x ∷ [];
   fills = with_mark r.fills (mark_of format r.seen stamp x);
-  seen = with_seen format.fresh r.seen x stamp.time;
+  seen = with_seen format.fresh r.seen x stamp.time stamp.fills;
 }
 
 -- a range of blocks is requested; no more are taken than there is room for

@@ -135,6 +135,17 @@ fn at_time(
     }
 }
 
+// What a line with a word or a record asks for, with its time.
+fn timed_content(layout: Layout, text: &[u8]) -> Result<LineContent<'_>, LineKind>
+    requires layout { IsLayout layout }
+    requires records { is_of_records layout ≡ true → length text.now ≤ 24 }
+    ensures content { named_of result ≡ at_time (time_of layout text.now) (untimed_content layout text.now) }
+    ensures range { IfOk result (λ content. IsSpan content.span) }
+    ensures volume { IfOk result (λ content. IfSome content.volume (λ _. HasVolumes layout)) }
+{
+    at_time(time_of(layout, text), untimed_content(layout, text))
+}
+
 // What a line with a word or a record asks for. Its time is looked at only if objects expire.
 #[inline(always)]
 fn content_named(format: Format, text: &[u8]) -> Result<LineContent<'_>, LineKind>
@@ -144,11 +155,11 @@ fn content_named(format: Format, text: &[u8]) -> Result<LineContent<'_>, LineKin
     ensures range { IfOk result (λ content. IsSpan content.span) }
     ensures volume { IfOk result (λ content. IfSome content.volume (λ _. NamesVolumes format)) }
 {
-    let said = untimed_content(format.layout, text);
     if format.fresh.idle.is_none() {
-        return said;
+        untimed_content(format.layout, text)
+    } else {
+        timed_content(format.layout, text)
     }
-    at_time(time_of(format.layout, text), said)
 }
 
 /// What a record asks for, or the text of a line, if it has a word.

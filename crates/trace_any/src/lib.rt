@@ -14,6 +14,6 @@ mod volumes;
 
 pub use fault::TraceFault;
 pub use format::{Format, Layout, Limits};
-pub use freshness::Freshness;
+pub use freshness::{Freshness, StaleRequests};
 pub use loading::{builder_for, load, push_given};
 pub use requests::RequestReader;

@@ -3,6 +3,7 @@ ghost use Rattle.std.specs.Prelude.{◌≡◌, ◌+◌, ◌-◌, ◌≤◌, ◌<
 ghost use Rattle.bound_io.specs.Devices.{IsUntouched, seen};
 ghost use Rattle.bound_io.specs.Reading.{LosesPrefix};
 ghost use Rattle.std.specs.Option.{option_map};
+ghost use Rattle.freshness.specs.Seen.{noted_of};
 ghost use Rattle.trace_lines.specs.Lines.{IsSpan};
 ghost use Rattle.trace_any.specs.Readings.{IsFormat, NamesVolumes, TakesMemory, is_marked};
 ghost use Rattle.trace_any.specs.Readers.{ahead_by, ahead_of};
@@ -15,7 +16,7 @@ use crate::volumes::Volumes;
 use bound_base::NoMemory;
 use bound_io::{LineReader, Source};
 use cache_rules::Object;
-use freshness::SeenObjects;
+use freshness::{SeenObjects, StaleRequests};
 use std::alloc::Global;
 use std::marker::Model;
 use trace_lines::Span;
@@ -70,7 +71,7 @@ impl Model for Progress {
         IsFormat r.format × (r.limits.requests ≤ 2 ^ 25) × (r.limits.bytes ≤ 2 ^ 36) × (r.lines.limit ≡ r.limits.bytes)
         × (r.lines.consumed ≤ r.limits.bytes) × (r.lines.line ≤ r.lines.consumed) × (length r.lines.held ≤ 65536)
         × (r.given ≤ r.limits.requests) × (r.dropped ≤ r.lines.line) × (length r.volumes ≤ r.given + 1)
-        × (r.ahead.count ≡ 0 → length r.volumes ≤ r.given) × (r.seen.late ≤ r.given) × (r.seen.stale ≤ r.given)
+        × (r.ahead.count ≡ 0 → length r.volumes ≤ r.given) × (r.seen.noted.late ≤ r.given)
         × (1 ≤ r.ahead.count → (1 ≤ r.ahead.size) × (r.ahead.size ≤ 2 ^ 48) × (r.ahead.first + r.ahead.count ≤ 2 ^ 64)) };
 }
 
@@ -133,11 +134,18 @@ impl Progress {
         self.dropped
     }
 
-    /// What is known of the objects.
-    pub fn seen(&self) -> &SeenObjects
-        ensures { result.now ≡ self.now.seen }
+    /// What is noted of the requests, if some can be stale.
+    pub fn noted(&self) -> &StaleRequests
+        ensures { noted_of result.now ≡ self.now.seen.noted }
     {
-        &self.seen
+        self.seen.noted()
+    }
+
+    /// The same, once no more requests come.
+    pub fn into_noted(self) -> StaleRequests
+        ensures { noted_of result ≡ self.seen.noted }
+    {
+        self.seen.into_noted()
     }
 
     /// Whether the form of the trace has marks.
@@ -221,7 +229,7 @@ impl Progress {
             id: self.ahead.first,
             size: self.ahead.size,
         };
-        self.stale = self.seen.note(self.format.fresh, object, self.ahead.time)?;
+        self.stale = self.seen.note(self.format.fresh, object, self.ahead.time, self.ahead.fills)?;
         self.given += 1;
         self.ahead.first = self.ahead.first.saturating_add(1);
         self.ahead.count -= 1;

@@ -2,6 +2,7 @@
 ghost use Rattle.std.specs.Prelude.{◌≡◌, ◌-◌, ◌≤◌, ◌<◌, ◌^◌, ◌&&◌, ◌⊎◌, None, Some, Err, IfOk, IfErr, IfSome, OnOk, length, nat_lt};
 ghost use Rattle.bound_io.specs.Devices.{IsUntouched, seen};
 ghost use Rattle.bound_io.specs.Reading.{LosesPrefix};
+ghost use Rattle.freshness.specs.Seen.{noted_of};
 ghost use Rattle.trace_any.specs.Readings.{IsFormat, TakesMemory, is_marked};
 
 use crate::fault::TraceFault;
@@ -10,6 +11,7 @@ use crate::progress::Progress;
 use bound_base::NoMemory;
 use bound_io::Source;
 use cache_rules::Object;
+use freshness::StaleRequests;
 use std::alloc::Global;
 use std::marker::Model;
 
@@ -42,7 +44,7 @@ impl RequestReader {
     ghost use Rattle.trace_any.specs.Readers.{AnswersAgain, GivesRequest, err_of, fresh, last_fills, with_fault};
 
     /// A reader of a trace of this form, within these limits. It takes its buffer here, and later memory for each volume, and
-    /// for each object and id if a request can be stale.
+    /// for each request, object and id if a request can be stale.
     pub fn new(alloc: Global, format: Format, limits: Limits) -> Result<Self, NoMemory>
         requires format { IsFormat format }
         requires requests { limits.requests ≤ 2 ^ 25 }
@@ -62,18 +64,18 @@ impl RequestReader {
         self.progress.dropped()
     }
 
-    /// How many requests had a time below the clock before them, if objects expire.
-    pub fn late(&self) -> u64
-        ensures { result ≡ self.now.seen.late }
+    /// What is noted of the requests, if some can be stale.
+    pub fn noted(&self) -> &StaleRequests
+        ensures { noted_of result.now ≡ self.now.seen.noted }
     {
-        self.progress.seen().late()
+        self.progress.noted()
     }
 
-    /// How many requests were stale.
-    pub fn stale(&self) -> u64
-        ensures { result ≡ self.now.seen.stale }
+    /// The same, once no more requests are asked for.
+    pub fn into_noted(self) -> StaleRequests
+        ensures { noted_of result ≡ self.seen.noted }
     {
-        self.progress.seen().stale()
+        self.progress.into_noted()
     }
 
     /// Whether some requests may only fill the cache: the form of the trace has marks, or a request can be stale.

@@ -5,10 +5,12 @@ use Rattle.cache_model.specs.declared.objects.Object.{Object}
 use Rattle.cache_model.specs.Claim.{no_object, request_at}
 use Rattle.cache_model.specs.Objects.{objects_of}
 use Rattle.policy_model.specs.Asks.{number_of}
-use Rattle.replay_fresh.specs.declared.replacing.Id.{Id}
+use Rattle.freshness.specs.declared.id.Id.{Id}
+use Rattle.freshness.specs.Seen.{id_of, same_id}
 use Rattle.replay_fresh.specs.Fresh.{last_of_id}
-use Rattle.replay_fresh.specs.Latest.{IsVersion, Keeps, id_of, same_key}
-use Rattle.replay_fresh.proofs.Versions.{same_key-derived, own_version, latest-more, other_than-size, other_than-known, other_than-other}
+use Rattle.replay_fresh.specs.Latest.{IsVersion, Keeps}
+use Rattle.freshness.proofs.Ids.{same_id-derived}
+use Rattle.replay_fresh.proofs.Versions.{own_version, latest-more, other_than-size, other_than-known, other_than-other}
 use Rattle.replay_fresh.proofs.replacing.replaced.Goals as goal
 
 -- the object of the request
@@ -28,17 +30,17 @@ keeps : (c : goal.After-other_than)
 keeps c =
     let trace : List Object = c.args.trace.now.objects in
     let z : Object = request_at trace c.args.t in
-    let had : c.in_ok-before.before ≡ lookup (same_key (id_of z)) c.args.latest.now.entries =
-    c.in_ok-before.ensures.old ∙ ap (λ same. lookup (same (id_of c.object-asked.result)) c.args.latest.now.entries) same_key-derived
-    ∙ ap (λ (x : Object). lookup (same_key (id_of x)) c.args.latest.now.entries) (asked_is c) in
+    let had : c.in_ok-before.before ≡ lookup (same_id (id_of z)) c.args.latest.now.entries =
+    c.in_ok-before.ensures.old ∙ ap (λ same. lookup (same (id_of c.object-asked.result)) c.args.latest.now.entries) same_id-derived
+    ∙ ap (λ (x : Object). lookup (same_id (id_of x)) c.args.latest.now.entries) (asked_is c) in
     subst (Keeps trace z (last_of_id z (take c.args.t trace))) (sym had) (c.requires.latest z)
 
 pub returns-clause-latest : goal.returns-clause-latest
 returns-clause-latest c =
     let trace : List Object = c.args.trace.now.objects in
     latest-more c.args.latest.now.entries c.insert.new.self.entries trace c.args.t c.request-object.result c.requires.within (version c) c.requires.latest
-    (subst (λ (x : Object). (q : Id) → lookup (same_key q) c.insert.new.self.entries ≡ cond (same_key (id_of x) q) (Some c.request-object.result) (lookup (same_key q) c.args.latest.now.entries)) (asked_is c)
-    (subst (λ same. (q : Id) → lookup (same q) c.insert.new.self.entries ≡ cond (same (id_of c.object-asked.result) q) (Some c.request-object.result) (lookup (same q) c.args.latest.now.entries)) same_key-derived
+    (subst (λ (x : Object). (q : Id) → lookup (same_id q) c.insert.new.self.entries ≡ cond (same_id (id_of x) q) (Some c.request-object.result) (lookup (same_id q) c.args.latest.now.entries)) (asked_is c)
+    (subst (λ same. (q : Id) → lookup (same q) c.insert.new.self.entries ≡ cond (same (id_of c.object-asked.result) q) (Some c.request-object.result) (lookup (same q) c.args.latest.now.entries)) same_id-derived
     c.in_ok-before.ensures.updates.0))
 
 pub returns-clause-replaced : goal.returns-clause-replaced

@@ -16,7 +16,7 @@ use Rattle.replay_fresh.proofs.Left.{if_counts, is_asked, size-left}
 use Rattle.replay_fresh.proofs.Versions.{latest-none}
 use Rattle.replay_fresh.proofs.Writes.{written-none, written-more, written-all}
 use Rattle.replay_fresh.proofs.replaying.replay_fresh.Goals as goal
-use Rattle.replay_fresh.proofs.replaying.replay_fresh.Goals.{then-counts, else-counts, then-writes, else-writes}
+use Rattle.replay_fresh.proofs.replaying.replay_fresh.Goals.{then-hit_counts, else-hit_counts, then-has_written, else-has_written}
 
 -- what counts or not is at most what counts
 cond_le : (b : Bool) (n : ℕ) → cond b n 0 ≤ n
@@ -63,27 +63,27 @@ loop-t-preserved g c =
     let hit_is : hit ≡ has_member left k = c.in_ok-outcome.ensures.outcome in
     let stays : is_stale stale t ≡ false → hit ≡ has_member old k = λ fresh. hit_is ∙ subst (λ n. has_member left n ≡ has_member old n) number_is (c.in_ok-let_leave.ensures.own_stays fresh) in
     let held : only_fills fills t ≡ false → hit ≡ has_member old k = if_counts (is_stale stale t) (only_fills fills t) hit (has_member old k) (c.requires.only_fill t within) stays in
-    let hits_more : c.if-counts.hits ≡ c.loop-t.hits + cond counts 1 0 =
-    elim c.if-counts.branch [
-      | then-counts w ↦ w.hits-is ∙ ap (λ b. c.loop-t.hits + cond b 1 0) (sym w.if-counts.true ∙ c.counts.ensures)
-      | else-counts w ↦ w.hits-is ∙ sym (add-zero c.loop-t.hits) ∙ ap (λ b. c.loop-t.hits + cond b 1 0) (sym w.if-counts.false ∙ c.counts.ensures)
+    let hits_more : c.if-hit_counts.hits ≡ c.loop-t.hits + cond counts 1 0 =
+    elim c.if-hit_counts.branch [
+      | then-hit_counts w ↦ w.hits-is ∙ ap (λ b. c.loop-t.hits + cond b 1 0) (sym w.if-hit_counts.true ∙ c.hit_counts.ensures)
+      | else-hit_counts w ↦ w.hits-is ∙ sym (add-zero c.loop-t.hits) ∙ ap (λ b. c.loop-t.hits + cond b 1 0) (sym w.if-hit_counts.false ∙ c.hit_counts.ensures)
     ] in
-    let bytes_more : c.if-counts.bytes ≡ c.loop-t.bytes + cond counts size 0 =
-    elim c.if-counts.branch [
-      | then-counts w ↦ w.bytes-is ∙ ap (λ b. c.loop-t.bytes + cond b size 0) (sym w.if-counts.true ∙ c.counts.ensures)
-      | else-counts w ↦ w.bytes-is ∙ sym (add-zero c.loop-t.bytes) ∙ ap (λ b. c.loop-t.bytes + cond b size 0) (sym w.if-counts.false ∙ c.counts.ensures)
+    let bytes_more : c.if-hit_counts.bytes ≡ c.loop-t.bytes + cond counts size 0 =
+    elim c.if-hit_counts.branch [
+      | then-hit_counts w ↦ w.bytes-is ∙ ap (λ b. c.loop-t.bytes + cond b size 0) (sym w.if-hit_counts.true ∙ c.hit_counts.ensures)
+      | else-hit_counts w ↦ w.bytes-is ∙ sym (add-zero c.loop-t.bytes) ∙ ap (λ b. c.loop-t.bytes + cond b size 0) (sym w.if-hit_counts.false ∙ c.hit_counts.ensures)
     ] in
     let writes : Bool = nat_le c.args.warmup t && ((only_fills fills t || not hit) && has_member (g.P.Policy.contents c.request.new.self) k) in
-    let written_more : c.if-writes.written ≡ c.loop-t.written + cond writes size 0 =
-    elim c.if-writes.branch [
-      | then-writes w ↦ w.written-is ∙ ap (λ b. c.loop-t.written + cond b size 0) (sym w.if-writes.true ∙ c.writes.ensures)
-      | else-writes w ↦ w.written-is ∙ sym (add-zero c.loop-t.written) ∙ ap (λ b. c.loop-t.written + cond b size 0) (sym w.if-writes.false ∙ c.writes.ensures)
+    let written_more : c.if-has_written.written ≡ c.loop-t.written + cond writes size 0 =
+    elim c.if-has_written.branch [
+      | then-has_written w ↦ w.written-is ∙ ap (λ b. c.loop-t.written + cond b size 0) (sym w.if-has_written.true ∙ c.has_written.ensures)
+      | else-has_written w ↦ w.written-is ∙ sym (add-zero c.loop-t.written) ∙ ap (λ b. c.loop-t.written + cond b size 0) (sym w.if-has_written.false ∙ c.has_written.ensures)
     ] in
     let next_is : c.unless_stale-next.result ≡ unless_stale stale (next_request trace t) =
     c.unless_stale-next.ensures ∙ ap (unless_stale stale) (sym (next_request-found trace t c.next.result within c.next.ensures.nearest)) in
-    let run : IsRunTo (counts_past c.args.warmup fills) stale c.args.replace trace (g.P.Policy.known_state c.args.policy.now) (g.P.Policy.known_state c.request.new.self) (t + 1) c.if-counts.hits c.if-counts.bytes =
+    let run : IsRunTo (counts_past c.args.warmup fills) stale c.args.replace trace (g.P.Policy.known_state c.args.policy.now) (g.P.Policy.known_state c.request.new.self) (t + 1) c.if-hit_counts.hits c.if-hit_counts.bytes =
     run-more (counts_past c.args.warmup fills) stale c.args.replace trace (g.P.Policy.known_state c.args.policy.now) (g.P.Policy.known_state c.loop-t.policy) (g.P.Policy.known_state c.let_leave.new.policy)
-    (g.P.Policy.known_state c.request.new.self) t k size c.unless_stale-next.result left (g.P.Policy.room c.let_leave.new.policy) c.loop-t.hits c.loop-t.bytes c.if-counts.hits c.if-counts.bytes hit within
+    (g.P.Policy.known_state c.request.new.self) t k size c.unless_stale-next.result left (g.P.Policy.room c.let_leave.new.policy) c.loop-t.hits c.loop-t.bytes c.if-hit_counts.hits c.if-hit_counts.bytes hit within
     number_is (sym asked.size_is) next_is c.loop-t.invariant.run c.in_ok-let_leave.ensures.state (g.met.P.Policy.state_fits c.let_leave.new.policy) c.in_ok-outcome.ensures.step hit_is hits_more bytes_more in
     let sound : IsSound (g.P.Policy.room c.request.new.self) (g.P.Policy.contents c.request.new.self) = c.request.ensures.sound in
     let same_capacity : g.P.Policy.room c.request.new.self ≡ g.P.Policy.room c.args.policy.now = c.request.ensures.same_capacity ∙ c.let_leave.ensures.same_capacity ∙ c.loop-t.invariant.capacity in
@@ -92,13 +92,13 @@ loop-t-preserved g c =
       objects = c.request.ensures.same_objects ∙ c.let_leave.ensures.same_objects ∙ c.loop-t.invariant.objects;
       latest = c.in_ok-let_leave.ensures.latest;
       played = written-more (g.P.Policy.room c.args.policy.now) c.args.warmup fills stale c.args.replace trace (g.P.Policy.known_state c.args.policy.now) (g.P.Policy.known_state c.request.new.self) t k size
-          (g.P.Policy.room c.request.new.self) old left (g.P.Policy.contents c.request.new.self) c.loop-t.hits c.loop-t.bytes c.loop-t.written c.if-counts.hits c.if-counts.bytes c.if-writes.written hit asked
+          (g.P.Policy.room c.request.new.self) old left (g.P.Policy.contents c.request.new.self) c.loop-t.hits c.loop-t.bytes c.loop-t.written c.if-hit_counts.hits c.if-hit_counts.bytes c.if-has_written.written hit asked
           c.loop-t.invariant.played c.in_ok-let_leave.ensures.contents
           held c.in_ok-outcome.ensures.only_the_request_enters
           (let fits : members_size (g.P.Policy.contents c.request.new.self) ≤ g.P.Policy.room c.request.new.self = sound.within_capacity in omega (arith, same_capacity))
           sound.without_repeats hits_more bytes_more written_more run (g.met.P.Policy.state_fits c.request.new.self);
       run = run;
-      tallied = tally-more (g.P.Policy.tally c.args.policy.now) (g.P.Policy.tally c.let_leave.new.policy) (g.P.Policy.tally c.request.new.self) t c.args.warmup fills c.loop-t.hits c.if-counts.hits hit
+      tallied = tally-more (g.P.Policy.tally c.args.policy.now) (g.P.Policy.tally c.let_leave.new.policy) (g.P.Policy.tally c.request.new.self) t c.args.warmup fills c.loop-t.hits c.if-hit_counts.hits hit
           (subst (λ n. IfSome (g.P.Policy.tally c.args.policy.now) (λ before. IsTallied before n t c.args.warmup fills c.loop-t.hits)) (sym c.let_leave.ensures.same_tally) c.loop-t.invariant.tallied)
           c.in_ok-outcome.ensures.counted hits_more;
       few_hits = (let most : cond counts 1 0 ≤ 1 = cond_le counts 1 in let few : c.loop-t.hits ≤ t = c.loop-t.invariant.few_hits in omega arith);

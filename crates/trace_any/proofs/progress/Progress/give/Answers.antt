@@ -18,7 +18,7 @@ returns-clause-given_in c =
     let next = c.saturating_add-self-inside.result in
     let room : self.given < self.limits.requests = omega (arith, c.if-self.false, c.self.invariant) in
     let some : 0 < self.ahead.count = omega (arith, c.requires.some, ap (λ r. r.ahead.count) is) in
-    let range = c.self.invariant.13 some in
+    let range = c.self.invariant.12 some in
     let follows : 1 < self.ahead.count → next ≡ self.ahead.first + 1 = λ more. omega (arith, more, c.saturating_add-self-inside.ensures, range.2) in
     let noted = c.in_ok-self-inside.ensures in
     λ lines. ap (λ r. coming_in r lines) (sym is) ∙ gives_block self next c.note.new.self c.in_ok-self-inside.field-0 lines room some follows noted.stale noted.seen
