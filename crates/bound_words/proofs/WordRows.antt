@@ -1,5 +1,5 @@
 -- The words of the command line, at small rows, computed.
-use Rattle.std.proofs.Common.{◌≡◌, ℕ, true, false, List, [], ◌∷◌, codes, Ok, Err, refl}
+use Rattle.std.proofs.Common.{◌≡◌, ℕ, true, false, List, [], ◌∷◌, codes, None, Some, Ok, Err, refl}
 use Rattle.cache_model.specs.declared.objects.Objective.TheVariants.{Object as Hits, Bytes}
 use Rattle.bound_terms.specs.declared.modes.Mode.TheVariants.{Constant, Flow, Infinite}
 use Rattle.bound_terms.specs.declared.modes.Window.TheVariants.{All as Whole}
@@ -317,3 +317,41 @@ block_beside_all = refl
 reads_alone : plan (codes "curve" ∷ codes "t" ∷ codes "count=reads" ∷ []) ≡ Err (fault 4 Missing)
 unfolding plan
 reads_alone = refl
+
+-- objects expire and are replaced
+lives : plan (codes "check" ∷ codes "t" ∷ codes "c" ∷ codes "idle=600" ∷ codes "format=webcache" ∷ codes "replace=yes" ∷ []) ≡ Ok (Check (record { layout = Webcache; fresh = record { idle = Some 600; replace = true } }))
+unfolding plan
+lives = refl
+
+no_time : plan (codes "check" ∷ codes "t" ∷ codes "c" ∷ codes "idle=0" ∷ codes "format=oracle" ∷ codes "replace=no" ∷ []) ≡ Ok (Check (record { layout = Oracle; fresh = record { idle = Some 0; replace = false } }))
+unfolding plan
+no_time = refl
+
+-- they are unknown beside forms that don't have them, whatever their values
+idle_of_blocks : plan (codes "check" ∷ codes "t" ∷ codes "c" ∷ codes "replace=no" ∷ codes "idle=1" ∷ codes "format=arc" ∷ []) ≡ Err (fault 4 Unknown)
+unfolding plan
+idle_of_blocks = refl
+
+idle_first : plan (codes "check" ∷ codes "t" ∷ codes "c" ∷ codes "idle=1" ∷ codes "replace=no" ∷ codes "format=arc" ∷ []) ≡ Err (fault 4 Unknown)
+unfolding plan
+idle_first = refl
+
+replaced_blocks : plan (codes "check" ∷ codes "t" ∷ codes "c" ∷ codes "idle=1" ∷ codes "replace=no" ∷ codes "format=msr" ∷ []) ≡ Err (fault 5 Unknown)
+unfolding plan
+replaced_blocks = refl
+
+block_before_replaced : plan (codes "check" ∷ codes "t" ∷ codes "c" ∷ codes "block=512" ∷ codes "idle=1" ∷ codes "format=arc" ∷ []) ≡ Err (fault 4 Unknown)
+unfolding plan
+block_before_replaced = refl
+
+large_time : plan (codes "check" ∷ codes "t" ∷ codes "c" ∷ codes "idle=18446744073709551616" ∷ []) ≡ Err (fault 4 BadValue)
+unfolding plan
+large_time = refl
+
+replaced_in_a_curve : plan (codes "curve" ∷ codes "t" ∷ codes "idle=5" ∷ codes "replace=no" ∷ []) ≡ Err (fault 4 Unknown)
+unfolding plan
+replaced_in_a_curve = refl
+
+curve_of_fresh : plan (codes "curve" ∷ codes "t" ∷ codes "idle=5" ∷ codes "format=msr" ∷ []) ≡ Ok (Curve (record { layout = Msr 4096; fresh = record { idle = Some 5; replace = false } }))
+unfolding plan
+curve_of_fresh = refl

@@ -87,17 +87,17 @@ needed_names command.Refine = codes "format" ∷ codes "window" ∷ []
 -- the operands that the command has beside them
 abbrev pub other_names : Command → List (List ℕ)
 other_names command.Bounds =
-    codes "block" ∷ codes "count" ∷ codes "objective" ∷ codes "mode" ∷ codes "window" ∷ codes "denominator" ∷ codes "warmup" ∷ codes "version" ∷ codes "writes" ∷ []
-other_names command.Check = codes "block" ∷ codes "count" ∷ []
-other_names command.Replay = codes "block" ∷ codes "count" ∷ codes "warmup" ∷ codes "writes" ∷ codes "print" ∷ []
-other_names command.Curve = codes "block" ∷ codes "count" ∷ []
-other_names command.CapacityCurve = codes "block" ∷ codes "count" ∷ codes "objective" ∷ codes "denominator" ∷ codes "warmup" ∷ []
-other_names command.Judge = codes "block" ∷ codes "count" ∷ codes "warmup" ∷ codes "writes" ∷ []
+    codes "block" ∷ codes "count" ∷ codes "idle" ∷ codes "replace" ∷ codes "objective" ∷ codes "mode" ∷ codes "window" ∷ codes "denominator" ∷ codes "warmup" ∷ codes "version" ∷ codes "writes" ∷ []
+other_names command.Check = codes "block" ∷ codes "count" ∷ codes "idle" ∷ codes "replace" ∷ []
+other_names command.Replay = codes "block" ∷ codes "count" ∷ codes "idle" ∷ codes "replace" ∷ codes "warmup" ∷ codes "writes" ∷ codes "print" ∷ []
+other_names command.Curve = codes "block" ∷ codes "count" ∷ codes "idle" ∷ []
+other_names command.CapacityCurve = codes "block" ∷ codes "count" ∷ codes "idle" ∷ codes "objective" ∷ codes "denominator" ∷ codes "warmup" ∷ []
+other_names command.Judge = codes "block" ∷ codes "count" ∷ codes "idle" ∷ codes "replace" ∷ codes "warmup" ∷ codes "writes" ∷ []
 other_names command.Demo =
     codes "seed" ∷ codes "requests" ∷ codes "objects" ∷ codes "capacity"
     ∷ codes "objective" ∷ codes "mode" ∷ codes "window" ∷ codes "denominator" ∷ []
 other_names command.Upgrade = []
-other_names command.Refine = codes "block" ∷ codes "count" ∷ []
+other_names command.Refine = codes "block" ∷ codes "count" ∷ codes "idle" ∷ codes "replace" ∷ []
 
 -- the operands of the command by their names, those that it needs first
 abbrev pub operand_names : Command → List (List ℕ)

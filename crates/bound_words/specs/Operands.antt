@@ -2,7 +2,7 @@
 use Rattle.std.specs.Prelude.{ℕ, ◌^◌, nat_le, List, Bool, false, ◌&&◌, ◌||◌, if◌then◌else◌, codes, unwrap_or, option_and_then, None, Some}
 use Rattle.std.specs.declared.option.Option.{Option}
 use Rattle.std.specs.List.{list_any}
-use Rattle.std.specs.Option.{is_some, option_map_or}
+use Rattle.std.specs.Option.{is_some, option_map, option_map_or}
 use Rattle.bound_base.specs.Digits.{number_of}
 use Rattle.std.specs.Str.{bytes_eq}
 use Rattle.cache_model.specs.declared.objects.Objective.{Objective}
@@ -12,7 +12,9 @@ use Rattle.bound_terms.specs.declared.modes.Mode.TheVariants.{Flow}
 use Rattle.bound_terms.specs.declared.modes.Window.{Window}
 use Rattle.bound_terms.specs.declared.modes.Window.TheVariants.{All as Whole}
 use Rattle.relaxation.specs.declared.denominators.DenominatorChoice.{DenominatorChoice}
+use Rattle.freshness.specs.declared.fresh.Freshness.{Freshness}
 use Rattle.trace_any.specs.declared.format.Format.{Format}
+use Rattle.trace_any.specs.declared.format.Layout.{Layout}
 use Rattle.policy_model.specs.declared.names.PolicyName.{PolicyName}
 use Rattle.policy_model.specs.Names.{policy_named}
 use Rattle.cache_model.specs.declared.version.TheConstants.{CERT_VERSION}
@@ -24,13 +26,15 @@ use Rattle.bound_words.specs.declared.operands.Values.{Values}
 use Rattle.bound_words.specs.declared.operands.Values.TheVariants as values
 use Rattle.bound_words.specs.Capacities.{capacities_of, capacity_list}
 use Rattle.bound_words.specs.Named.{value_given}
-use Rattle.bound_words.specs.Values.{block_of, format_of, capacity_of, count_of, objective_of, width_of, window_of, mode_of, denominator_of, number_to, reads_of, writes_of, flags_of, version_of, seed_of, drawn_of, usual_denominator, named}
+use Rattle.bound_words.specs.Values.{block_of, layout_of, capacity_of, count_of, objective_of, width_of, window_of, mode_of, denominator_of, number_to, reads_of, replaced_of, writes_of, flags_of, version_of, whole_of, drawn_of, usual_denominator, named}
 
 -- whether a value is of this kind
 abbrev pub takes : Kind → List ℕ → Bool
-takes kind.Form value = is_some (format_of value 4096 false)
+takes kind.Form value = is_some (layout_of value 4096 false)
 takes kind.Block value = is_some (block_of value)
 takes kind.Counted value = is_some (reads_of value)
+takes kind.Idle value = is_some (whole_of value)
+takes kind.Replaced value = is_some (replaced_of value)
 takes kind.Capacity value = is_some (capacity_of value)
 takes kind.Capacities value = is_some (capacities_of value)
 takes kind.Objective value = is_some (objective_of value)
@@ -44,7 +48,7 @@ takes kind.Warmup value = is_some (count_of value)
 takes kind.Version value = is_some (version_of value)
 takes kind.Writes value = is_some (writes_of value)
 takes kind.Print value = is_some (flags_of value)
-takes kind.Seed value = is_some (seed_of value)
+takes kind.Seed value = is_some (whole_of value)
 takes kind.Drawn value = is_some (drawn_of value)
 
 -- whether a value is a number in this range
@@ -65,6 +69,8 @@ usual_kind name =
     if bytes_eq name (codes "format") then Some kind.Form
     else (if bytes_eq name (codes "block") then Some kind.Block
     else (if bytes_eq name (codes "count") then Some kind.Counted
+    else (if bytes_eq name (codes "idle") then Some kind.Idle
+    else (if bytes_eq name (codes "replace") then Some kind.Replaced
     else (if bytes_eq name (codes "capacity") then Some kind.Capacity
     else (if bytes_eq name (codes "objective") then Some kind.Objective
     else (if bytes_eq name (codes "mode") then Some kind.Mode
@@ -77,7 +83,7 @@ usual_kind name =
     else (if bytes_eq name (codes "print") then Some kind.Print
     else (if bytes_eq name (codes "seed") then Some kind.Seed
     else (if bytes_eq name (codes "requests") || bytes_eq name (codes "objects") then Some kind.Drawn
-    else None))))))))))))))
+    else None))))))))))))))))
 
 -- what it has in a command: the window of a refinement is a number of steps, and over capacities the denominator is a number
 abbrev pub kind_of : Command → List ℕ → Option Kind
@@ -104,9 +110,25 @@ block_given operands = unwrap_or (option_and_then block_of (value_given (codes "
 abbrev pub reads_given : List (List ℕ) → Bool
 reads_given operands = unwrap_or (option_and_then reads_of (value_given (codes "count") operands)) false
 
+-- the time after which objects expire that the operands give, if they do
+abbrev pub idle_given : List (List ℕ) → Option ℕ
+idle_given operands = option_and_then whole_of (value_given (codes "idle") operands)
+
+-- whether objects are replaced, and not where the operands don't say it
+abbrev pub replaced_given : List (List ℕ) → Bool
+replaced_given operands = unwrap_or (option_and_then replaced_of (value_given (codes "replace") operands)) false
+
+-- how long objects stay fresh by the operands
+abbrev pub fresh_given : List (List ℕ) → Freshness
+fresh_given operands = record { idle = idle_given operands; replace = replaced_given operands }
+
+-- the layout of the trace that the operands give
+abbrev pub layout_given : List (List ℕ) → Option Layout
+layout_given operands = option_and_then (λ value. layout_of value (block_given operands) (reads_given operands)) (value_given (codes "format") operands)
+
 -- the form of the trace that the operands give
 abbrev pub format_given : List (List ℕ) → Option Format
-format_given operands = option_and_then (λ value. format_of value (block_given operands) (reads_given operands)) (value_given (codes "format") operands)
+format_given operands = option_map (λ layout. record { layout = layout; fresh = fresh_given operands }) (layout_given operands)
 
 -- the capacity that the operands give
 abbrev pub capacity_given : List (List ℕ) → Option ℕ
@@ -163,7 +185,7 @@ flags_given operands = unwrap_or (option_and_then flags_of (value_given (codes "
 
 -- the seed of a demo that the operands give, and 1 where they give none
 abbrev pub seed_given : List (List ℕ) → ℕ
-seed_given operands = unwrap_or (option_and_then seed_of (value_given (codes "seed") operands)) 1
+seed_given operands = unwrap_or (option_and_then whole_of (value_given (codes "seed") operands)) 1
 
 -- the number of this name that the operands give, and the usual one if they give none
 abbrev pub drawn_given : List ℕ → ℕ → List (List ℕ) → ℕ

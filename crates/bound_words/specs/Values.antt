@@ -13,8 +13,6 @@ use Rattle.bound_terms.specs.declared.modes.Window.{Window}
 use Rattle.bound_terms.specs.declared.modes.Window.TheVariants.{Steps, All as Whole}
 use Rattle.relaxation.specs.declared.denominators.DenominatorChoice.{DenominatorChoice}
 use Rattle.relaxation.specs.declared.denominators.DenominatorChoice.TheVariants.{Auto, Exact, Given}
-use Rattle.trace_any.specs.declared.format.Format.{Format}
-use Rattle.trace_any.specs.Readings.{lasting}
 use Rattle.trace_any.specs.declared.format.Layout.{Layout}
 use Rattle.trace_any.specs.declared.format.Layout.TheVariants.{Webcache, Arc, Msr, Oracle, MarkedWebcache, MsrReads}
 use Rattle.cache_model.specs.declared.version.TheConstants.{SHORT_VERSION}
@@ -53,6 +51,13 @@ flags_of value =
     else (if bytes_eq value (codes "flags") then Some true
     else None)
 
+-- whether objects are replaced by others of their id, by a value
+abbrev pub replaced_of : List ℕ → Option Bool
+replaced_of value =
+    if bytes_eq value (codes "no") then Some false
+    else (if bytes_eq value (codes "yes") then Some true
+    else None)
+
 -- the layout of a trace that a value names, if a block has this many bytes, and if only reads count or all requests
 abbrev pub layout_of : List ℕ → ℕ → Bool → Option Layout
 layout_of value block reads =
@@ -61,10 +66,6 @@ layout_of value block reads =
     else (if bytes_eq value (codes "msr") then Some (if reads then MsrReads block else Msr block)
     else (if bytes_eq value (codes "oracle") then Some Oracle
     else None)))
-
--- the form of a trace that a value names, likewise
-abbrev pub format_of : List ℕ → ℕ → Bool → Option Format
-format_of value block reads = option_map lasting (layout_of value block reads)
 
 -- a capacity has 1 to 2^56 bytes
 abbrev pub capacity_of : List ℕ → Option ℕ
@@ -118,9 +119,9 @@ abbrev pub named : Result ℕ NumFault → Option ℕ
 named (Err e) = None
 named (Ok n) = Some n
 
--- a seed is below 2^64
-abbrev pub seed_of : List ℕ → Option ℕ
-seed_of value = named (number_of (2 ^ 64) value)
+-- a seed and a time are below 2^64
+abbrev pub whole_of : List ℕ → Option ℕ
+whole_of value = named (number_of (2 ^ 64) value)
 
 -- a demo has 1 to 2^25 requests, and as many objects
 abbrev pub drawn_of : List ℕ → Option ℕ

@@ -1,5 +1,5 @@
 -- The words of the command line.
-use Rattle.std.specs.Prelude.{ℕ, zero, suc, ◌+◌, List, [], ◌∷◌, ◌++◌, length, ◌==◌, nat_lt, Bool, true, false, not, ◌&&◌, if◌then◌else◌, codes, slice_get, option_and_then, IsTrue, IfSome, Result, Ok, Err, None, Some}
+use Rattle.std.specs.Prelude.{ℕ, zero, suc, ◌+◌, List, [], ◌∷◌, ◌++◌, length, ◌==◌, nat_lt, Bool, true, false, not, ◌&&◌, ◌||◌, if◌then◌else◌, codes, slice_get, option_and_then, IsTrue, IfSome, Result, Ok, Err, None, Some}
 use Rattle.std.specs.declared.option.Option.{Option}
 use Rattle.std.specs.Option.{is_some, option_map, option_map_or, option_or}
 use Rattle.std.specs.List.{list_all}
@@ -16,8 +16,8 @@ use Rattle.bound_words.specs.Faults.{◌>>=◌, fault, passed}
 use Rattle.bound_words.specs.Named.{has_equals, name_of, value_of, value_given, place_given}
 use Rattle.bound_words.specs.Operands.{flags_given, takes_value, reads_given, writes_given}
 use Rattle.bound_words.specs.Plans.{plan_of_command}
-use Rattle.bound_words.specs.Values.{format_of}
-use Rattle.trace_any.specs.Readings.{is_marked}
+use Rattle.bound_words.specs.Values.{layout_of}
+use Rattle.trace_any.specs.Readings.{has_marks}
 
 -- a command that is none is unknown
 abbrev pub known_command : Option Command → Result Command WordFault
@@ -75,10 +75,28 @@ takes_no_block (Some format) = not (bytes_eq format (codes "msr"))
 abbrev pub block_fault : ℕ → List (List ℕ) → Option WordFault
 block_fault first operands = if takes_no_block (value_given (codes "format") operands) then unknown_operand first (codes "block") operands else None
 
+-- whether a form of the trace is given whose lines have no time
+abbrev pub has_no_times : Option (List ℕ) → Bool
+has_no_times None = false
+has_no_times (Some format) = bytes_eq format (codes "arc")
+
+-- a time after which objects expire is unknown beside a form of the trace without times
+abbrev pub idle_fault : ℕ → List (List ℕ) → Option WordFault
+idle_fault first operands = if has_no_times (value_given (codes "format") operands) then unknown_operand first (codes "idle") operands else None
+
+-- whether a form of the trace is given whose ids have no size of their own: it is of blocks
+abbrev pub has_no_sizes : Option (List ℕ) → Bool
+has_no_sizes None = false
+has_no_sizes (Some format) = bytes_eq format (codes "arc") || bytes_eq format (codes "msr")
+
+-- that objects are replaced is unknown beside a form of the trace of blocks
+abbrev pub replace_fault : ℕ → List (List ℕ) → Option WordFault
+replace_fault first operands = if has_no_sizes (value_given (codes "format") operands) then unknown_operand first (codes "replace") operands else None
+
 -- whether a form of the trace is given that has no marks if only reads count
 abbrev pub has_no_writes : Option (List ℕ) → Bool
 has_no_writes None = false
-has_no_writes (Some format) = option_map_or (λ form. not (is_marked form)) (format_of format 4096 true) true
+has_no_writes (Some format) = option_map_or (λ layout. not (has_marks layout)) (layout_of format 4096 true) true
 
 -- that only reads count is unknown beside a form of the trace that has no writes
 abbrev pub count_fault : ℕ → List (List ℕ) → Option WordFault
@@ -104,10 +122,14 @@ earlier None second = second
 earlier (Some first) None = Some first
 earlier (Some first) (Some second) = if nat_lt second.place first.place then Some second else Some first
 
+-- the first operand that the form of the trace doesn't have
+abbrev pub form_fault : ℕ → List (List ℕ) → Option WordFault
+form_fault first operands = earlier (earlier (block_fault first operands) (idle_fault first operands)) (replace_fault first operands)
+
 -- the first operand that may not stand beside another
 abbrev pub beside_fault : ℕ → List (List ℕ) → Option WordFault
 beside_fault first operands =
-    earlier (earlier (earlier (block_fault first operands) (count_fault first operands)) (window_fault first operands)) (writes_fault first operands)
+    earlier (earlier (earlier (form_fault first operands) (count_fault first operands)) (window_fault first operands)) (writes_fault first operands)
 
 -- what operands ask for that are the words of a command from this place on, or the first fault in them
 abbrev pub plan_of_operands : Command → ℕ → List (List ℕ) → List (List ℕ) → Result Plan WordFault

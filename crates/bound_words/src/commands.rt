@@ -95,6 +95,8 @@ impl Command {
                 "capacity",
                 "block",
                 "count",
+                "idle",
+                "replace",
                 "objective",
                 "mode",
                 "window",
@@ -103,20 +105,25 @@ impl Command {
                 "version",
                 "writes",
             ],
-            Command::Check | Command::Curve => &["format", "block", "count"],
+            Command::Check => &["format", "block", "count", "idle", "replace"],
+            Command::Curve => &["format", "block", "count", "idle"],
             Command::Replay => &[
-                "format", "capacity", "policy", "block", "count", "warmup", "writes", "print",
+                "format", "capacity", "policy", "block", "count", "idle", "replace", "warmup",
+                "writes", "print",
             ],
             Command::CapacityCurve => &[
                 "format",
                 "capacities",
                 "block",
                 "count",
+                "idle",
                 "objective",
                 "denominator",
                 "warmup",
             ],
-            Command::Judge => &["format", "capacity", "block", "count", "warmup", "writes"],
+            Command::Judge => &[
+                "format", "capacity", "block", "count", "idle", "replace", "warmup", "writes",
+            ],
             Command::Demo => &[
                 "seed",
                 "requests",
@@ -128,7 +135,7 @@ impl Command {
                 "denominator",
             ],
             Command::Upgrade => &[],
-            Command::Refine => &["format", "window", "block", "count"],
+            Command::Refine => &["format", "window", "block", "count", "idle", "replace"],
         }
     }
 
@@ -151,23 +158,25 @@ impl Command {
         match self {
             Command::Bounds => &[
                 "bound_cli bounds TRACE CERT format=FORM capacity=BYTES [block=BYTES] [count=COUNTED]",
-                "    [objective=OBJECTIVE] [mode=MODE] [window=STEPS] [denominator=NUMBER]",
-                "    [warmup=REQUESTS] [version=VERSION] [writes=WRITTEN]",
+                "    [idle=TIME] [replace=REPLACED] [objective=OBJECTIVE] [mode=MODE] [window=STEPS]",
+                "    [denominator=NUMBER] [warmup=REQUESTS] [version=VERSION] [writes=WRITTEN]",
             ],
             Command::Check => &[
-                "bound_cli check TRACE CERT format=FORM [block=BYTES] [count=COUNTED]",
+                "bound_cli check TRACE CERT format=FORM [block=BYTES] [count=COUNTED] [idle=TIME]",
+                "    [replace=REPLACED]",
             ],
             Command::Replay => &[
                 "bound_cli replay TRACE format=FORM capacity=BYTES policy=POLICY [block=BYTES]",
-                "    [count=COUNTED] [warmup=REQUESTS] [writes=WRITTEN] [print=PRINTED]",
+                "    [count=COUNTED] [idle=TIME] [replace=REPLACED] [warmup=REQUESTS] [writes=WRITTEN]",
+                "    [print=PRINTED]",
             ],
             Command::Curve | Command::CapacityCurve => &[
                 "bound_cli curve TRACE format=FORM [capacities=LIST] [block=BYTES] [count=COUNTED]",
-                "    [objective=OBJECTIVE] [denominator=NUMBER] [warmup=REQUESTS]",
+                "    [idle=TIME] [objective=OBJECTIVE] [denominator=NUMBER] [warmup=REQUESTS]",
             ],
             Command::Judge => &[
                 "bound_cli judge TRACE HITS format=FORM capacity=BYTES [block=BYTES] [count=COUNTED]",
-                "    [warmup=REQUESTS] [writes=WRITTEN]",
+                "    [idle=TIME] [replace=REPLACED] [warmup=REQUESTS] [writes=WRITTEN]",
             ],
             Command::Demo => &[
                 "bound_cli demo [seed=NUMBER] [requests=NUMBER] [objects=NUMBER] [capacity=BYTES]",
@@ -176,7 +185,7 @@ impl Command {
             Command::Upgrade => &["bound_cli upgrade CERT MADE"],
             Command::Refine => &[
                 "bound_cli refine TRACE CERT MADE format=FORM window=STEPS [block=BYTES]",
-                "    [count=COUNTED]",
+                "    [count=COUNTED] [idle=TIME] [replace=REPLACED]",
             ],
         }
     }

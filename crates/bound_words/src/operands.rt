@@ -2,11 +2,11 @@
 ghost use Rattle.std.specs.Prelude.{◌≡◌, ◌≤◌, ◌^◌, List, ℕ, map, string_bytes, IfSome};
 ghost use Rattle.bound_terms.specs.declared.modes.Mode.TheVariants.{Flow};
 ghost use Rattle.relaxation.specs.Denominators.{IsChoice};
-ghost use Rattle.trace_any.specs.Readings.{IsFormat};
+ghost use Rattle.trace_any.specs.Readings.{IsFormat, IsLayout};
 ghost use Rattle.bound_words.specs.declared.commands.Command.{Command};
 ghost use Rattle.bound_words.specs.Ranges.{IsModeInRange};
 ghost use Rattle.bound_words.specs.Operands.{block_given, capacities_given, capacity_given, capacity_or_usual, denominator_given};
-ghost use Rattle.bound_words.specs.Operands.{accepts, drawn_given, flags_given, format_given, is_operand, kind_of, mode_given, number_given, objective_given, takes, usual_kind};
+ghost use Rattle.bound_words.specs.Operands.{accepts, drawn_given, flags_given, format_given, fresh_given, idle_given, is_operand, kind_of, layout_given, mode_given, number_given, objective_given, replaced_given, takes, usual_kind};
 ghost use Rattle.bound_words.specs.Operands.{objects_given, policy_given, reads_given, requests_given, seed_given};
 ghost use Rattle.bound_words.specs.Operands.{takes_value, version_given, warmup_given, width_given, window_given, writes_given};
 ghost use Rattle.cache_model.specs.declared.version.TheConstants.{CERT_VERSION, SHORT_VERSION};
@@ -16,16 +16,16 @@ use crate::commands::Command;
 use crate::named::value_given;
 use crate::values::{
     MOST_BLOCK, MOST_CAPACITY, MOST_DENOMINATOR, MOST_DRAWN, MOST_REQUESTS, MOST_WINDOW,
-    USUAL_BLOCK, block_of, capacity_of, count_of, denominator_of, drawn_of, flags_of, format_of,
-    is, mode_of, number_of, objective_of, reads_of, seed_of, usual_denominator, version_of,
-    width_of, window_of, writes_of,
+    USUAL_BLOCK, block_of, capacity_of, count_of, denominator_of, drawn_of, flags_of, is,
+    layout_of, mode_of, number_of, objective_of, reads_of, replaced_of, usual_denominator,
+    version_of, whole_of, width_of, window_of, writes_of,
 };
 use bound_terms::{Mode, Window};
 use cache_model::{CERT_VERSION, SHORT_VERSION};
 use cache_rules::Objective;
 use policy_model::PolicyName;
 use relaxation::DenominatorChoice;
-use trace_any::Format;
+use trace_any::{Format, Freshness, Layout};
 
 // What a demo is made of if no operand says it.
 const USUAL_SEED: u64 = 1;
@@ -45,6 +45,10 @@ pub enum Kind {
     Block,
     /// Whether all requests count, or reads alone.
     Counted,
+    /// A time, in the unit of the trace.
+    Idle,
+    /// Whether objects are replaced by others of their id.
+    Replaced,
     /// A capacity, in bytes.
     Capacity,
     /// A list of capacities.
@@ -104,9 +108,11 @@ impl Kind {
         ensures { result ≡ takes self value.now }
     {
         match self {
-            Kind::Form => format_of(value, USUAL_BLOCK, false).is_some(),
+            Kind::Form => layout_of(value, USUAL_BLOCK, false).is_some(),
             Kind::Block => block_of(value).is_some(),
             Kind::Counted => reads_of(value).is_some(),
+            Kind::Idle => whole_of(value).is_some(),
+            Kind::Replaced => replaced_of(value).is_some(),
             Kind::Capacity => capacity_of(value).is_some(),
             Kind::Capacities => CapacityList::of(value).is_some(),
             Kind::Objective => objective_of(value).is_some(),
@@ -120,7 +126,7 @@ impl Kind {
             Kind::Version => version_of(value).is_some(),
             Kind::Writes => writes_of(value).is_some(),
             Kind::Print => flags_of(value).is_some(),
-            Kind::Seed => seed_of(value).is_some(),
+            Kind::Seed => whole_of(value).is_some(),
             Kind::Drawn => drawn_of(value).is_some(),
         }
     }
@@ -133,6 +139,8 @@ impl Kind {
             Kind::Form => Values::Words(&["webcache", "arc", "msr", "oracle"]),
             Kind::Block => up_to(MOST_BLOCK),
             Kind::Counted => Values::Words(&["all", "reads"]),
+            Kind::Idle => from_0(u64::MAX),
+            Kind::Replaced => Values::Words(&["no", "yes"]),
             Kind::Capacity => up_to(MOST_CAPACITY),
             Kind::Capacities => Values::Capacities,
             Kind::Objective => Values::Words(&["object", "bytes"]),
@@ -182,6 +190,10 @@ fn usual_kind(name: &str) -> Option<Kind>
         Some(Kind::Block)
     } else if is(name, "count") {
         Some(Kind::Counted)
+    } else if is(name, "idle") {
+        Some(Kind::Idle)
+    } else if is(name, "replace") {
+        Some(Kind::Replaced)
     } else if is(name, "capacity") {
         Some(Kind::Capacity)
     } else if is(name, "objective") {
@@ -273,13 +285,52 @@ pub(crate) fn reads_given(operands: &[String]) -> bool
     }
 }
 
-/// The form of the trace, with the block and the requests that count.
+// The time after which objects expire, if they do.
+fn idle_given(operands: &[String]) -> Option<u64>
+    ensures { result ≡ idle_given (map string_bytes operands.now) }
+{
+    whole_of(value_given("idle", operands)?)
+}
+
+// Whether objects are replaced by others of their id.
+fn replaced_given(operands: &[String]) -> bool
+    ensures { result ≡ replaced_given (map string_bytes operands.now) }
+{
+    match value_given("replace", operands) {
+        Some(value) => replaced_of(value).unwrap_or(false),
+        None => false,
+    }
+}
+
+// How long objects stay fresh.
+fn fresh_given(operands: &[String]) -> Freshness
+    ensures { result ≡ fresh_given (map string_bytes operands.now) }
+{
+    Freshness {
+        idle: idle_given(operands),
+        replace: replaced_given(operands),
+    }
+}
+
+// The layout of the trace, with the block and the requests that count.
+fn layout_given(operands: &[String]) -> Option<Layout>
+    ensures value { result ≡ layout_given (map string_bytes operands.now) }
+    ensures range { IfSome result IsLayout }
+{
+    let value = value_given("format", operands)?;
+    layout_of(value, block_given(operands), reads_given(operands))
+}
+
+/// The form of the trace: its layout, and how long its objects stay fresh.
 pub fn format_given(operands: &[String]) -> Option<Format>
     ensures value { result ≡ format_given (map string_bytes operands.now) }
     ensures range { IfSome result IsFormat }
 {
-    let value = value_given("format", operands)?;
-    format_of(value, block_given(operands), reads_given(operands))
+    let layout = layout_given(operands)?;
+    Some(Format {
+        layout,
+        fresh: fresh_given(operands),
+    })
 }
 
 pub(crate) fn capacity_given(operands: &[String]) -> Option<u64>
@@ -405,7 +456,7 @@ pub(crate) fn seed_given(operands: &[String]) -> u64
     ensures { result ≡ seed_given (map string_bytes operands.now) }
 {
     match value_given("seed", operands) {
-        Some(value) => seed_of(value).unwrap_or(USUAL_SEED),
+        Some(value) => whole_of(value).unwrap_or(USUAL_SEED),
         None => USUAL_SEED,
     }
 }

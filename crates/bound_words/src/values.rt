@@ -3,12 +3,12 @@ ghost use Rattle.std.specs.Prelude.{◌≡◌, ◌≤◌, ◌^◌, if◌then◌e
 ghost use Rattle.std.specs.Str.{bytes_eq};
 ghost use Rattle.bound_terms.specs.declared.modes.Mode.TheVariants.{Flow};
 ghost use Rattle.relaxation.specs.Denominators.{IsChoice};
-ghost use Rattle.trace_any.specs.Readings.{IsFormat, IsLayout};
+ghost use Rattle.trace_any.specs.Readings.{IsLayout};
 ghost use Rattle.trace_any.specs.declared.format.Layout.TheVariants.{Webcache, Msr, MarkedWebcache, MsrReads};
 ghost use Rattle.bound_words.specs.Ranges.{IsModeInRange};
 ghost use Rattle.bound_words.specs.Values.{block_of, capacity_of, count_of, denominator_of, drawn_of};
-ghost use Rattle.bound_words.specs.Values.{flags_of, format_of, layout_of, mode_of, number_to, objective_of, reads_of};
-ghost use Rattle.bound_words.specs.Values.{seed_of, usual_denominator, version_of, width_of, window_of, writes_of};
+ghost use Rattle.bound_words.specs.Values.{flags_of, layout_of, mode_of, number_to, objective_of, reads_of, replaced_of};
+ghost use Rattle.bound_words.specs.Values.{usual_denominator, version_of, whole_of, width_of, window_of, writes_of};
 ghost use Rattle.cache_model.specs.declared.version.TheConstants.{CERT_VERSION, SHORT_VERSION};
 
 use bound_base::read_u64;
@@ -16,7 +16,7 @@ use bound_terms::{Mode, Window};
 use cache_model::SHORT_VERSION;
 use cache_rules::Objective;
 use relaxation::DenominatorChoice;
-use trace_any::{Format, Layout};
+use trace_any::Layout;
 
 /// The largest capacity, in bytes.
 pub const MOST_CAPACITY: u64 = 1 << 56;
@@ -110,6 +110,19 @@ pub(crate) fn flags_of(value: &str) -> Option<bool>
     }
 }
 
+/// Whether objects are replaced by others of their id, by a value.
+pub(crate) fn replaced_of(value: &str) -> Option<bool>
+    ensures { result ≡ replaced_of value.now }
+{
+    if is(value, "no") {
+        Some(false)
+    } else if is(value, "yes") {
+        Some(true)
+    } else {
+        None
+    }
+}
+
 // The layout webcache, with marks if only reads count.
 fn webcache(reads: bool) -> Layout
     ensures { result ≡ if reads then MarkedWebcache else Webcache }
@@ -132,8 +145,8 @@ fn msr(block: u64, reads: bool) -> Layout
     }
 }
 
-// The layout that a value names, if a block has this many bytes, and if only reads count or all requests.
-fn layout_of(value: &str, block: u64, reads: bool) -> Option<Layout>
+/// The layout that a value names, if a block has this many bytes, and if only reads count or all requests.
+pub(crate) fn layout_of(value: &str, block: u64, reads: bool) -> Option<Layout>
     requires block { (1 ≤ block) × (block ≤ 2 ^ 48) }
     ensures value { result ≡ layout_of value.now block reads }
     ensures range { IfSome result IsLayout }
@@ -149,15 +162,6 @@ fn layout_of(value: &str, block: u64, reads: bool) -> Option<Layout>
     } else {
         None
     }
-}
-
-/// The form that a value names, if a block has this many bytes, and if only reads count or all requests.
-pub(crate) fn format_of(value: &str, block: u64, reads: bool) -> Option<Format>
-    requires block { (1 ≤ block) × (block ≤ 2 ^ 48) }
-    ensures value { result ≡ format_of value.now block reads }
-    ensures range { IfSome result IsFormat }
-{
-    Some(Format::lasting(layout_of(value, block, reads)?))
 }
 
 pub(crate) fn objective_of(value: &str) -> Option<Objective>
@@ -259,11 +263,12 @@ pub(crate) fn version_of(value: &str) -> Option<u8>
     }
 }
 
-pub(crate) fn seed_of(value: &str) -> Option<u64>
-    ensures { result ≡ seed_of value.now }
+/// A seed, or a time.
+pub(crate) fn whole_of(value: &str) -> Option<u64>
+    ensures { result ≡ whole_of value.now }
 {
     match read_u64(value.as_bytes()) {
-        Ok(seed) => Some(seed),
+        Ok(number) => Some(number),
         Err(_) => None,
     }
 }

@@ -5,15 +5,15 @@ ghost use Rattle.bound_words.specs.Faults.{passed};
 ghost use Rattle.bound_words.specs.Plans.{IsPlanInRange};
 ghost use Rattle.bound_words.specs.Commands.{operands_of, places_of};
 ghost use Rattle.bound_words.specs.Words.{HasNeeded, beside_fault, block_fault, command_asked, command_of, command_with};
-ghost use Rattle.bound_words.specs.Words.{count_fault, earlier, has_no_writes, operand_fault, operands_fault};
-ghost use Rattle.bound_words.specs.Words.{path, paths, plan, plan_of_operands, unknown_operand, window_fault, writes_fault};
+ghost use Rattle.bound_words.specs.Words.{count_fault, earlier, form_fault, has_no_writes, idle_fault, operand_fault, operands_fault};
+ghost use Rattle.bound_words.specs.Words.{path, paths, plan, plan_of_operands, replace_fault, unknown_operand, window_fault, writes_fault};
 
 use crate::commands::{Command, command_named, has_operand};
 use crate::making::plan_of_command;
 use crate::named::{has_equals, name_of, place_given, value_given, value_of};
 use crate::operands::{flags_given, reads_given, takes_value, writes_given};
 use crate::plans::Plan;
-use crate::values::{USUAL_BLOCK, format_of, is};
+use crate::values::{USUAL_BLOCK, is, layout_of};
 use bound_terms::WordKind;
 
 /// The first word that is refused. Places count from 1, the command being at place 1.
@@ -147,13 +147,37 @@ fn block_fault(first: u64, operands: &[String]) -> Option<WordFault>
     }
 }
 
+// A time after which objects expire may stand only if the lines of the trace have times.
+fn idle_fault(first: u64, operands: &[String]) -> Option<WordFault>
+    requires { first ≤ 10 }
+    ensures { result ≡ idle_fault first (map string_bytes operands.now) }
+{
+    match value_given("format", operands) {
+        Some(format) if is(format, "arc") => unknown_operand(first, "idle", operands),
+        _ => None,
+    }
+}
+
+// That objects are replaced may stand only if the trace isn't of blocks.
+fn replace_fault(first: u64, operands: &[String]) -> Option<WordFault>
+    requires { first ≤ 10 }
+    ensures { result ≡ replace_fault first (map string_bytes operands.now) }
+{
+    match value_given("format", operands) {
+        Some(format) if is(format, "arc") || is(format, "msr") => {
+            unknown_operand(first, "replace", operands)
+        }
+        _ => None,
+    }
+}
+
 // Whether a form of the trace is given that has no marks if only reads count.
 fn has_no_writes(format: Option<&str>) -> bool
     ensures { result ≡ has_no_writes (option_copied format.entry) }
 {
     match format {
-        Some(format) => match format_of(format, USUAL_BLOCK, true) {
-            Some(form) => !form.is_marked(),
+        Some(format) => match layout_of(format, USUAL_BLOCK, true) {
+            Some(layout) => !layout.has_marks(),
             None => true,
         },
         None => false,
@@ -204,12 +228,21 @@ fn earlier(first: Option<WordFault>, second: Option<WordFault>) -> Option<WordFa
     }
 }
 
+// The first operand that the form of the trace doesn't have.
+fn form_fault(first: u64, operands: &[String]) -> Option<WordFault>
+    requires { first ≤ 10 }
+    ensures { result ≡ form_fault first (map string_bytes operands.now) }
+{
+    let of_times = earlier(block_fault(first, operands), idle_fault(first, operands));
+    earlier(of_times, replace_fault(first, operands))
+}
+
 // The first operand that may not stand beside another.
 fn beside_fault(first: u64, operands: &[String]) -> Option<WordFault>
     requires { first ≤ 10 }
     ensures { result ≡ beside_fault first (map string_bytes operands.now) }
 {
-    let of_trace = earlier(block_fault(first, operands), count_fault(first, operands));
+    let of_trace = earlier(form_fault(first, operands), count_fault(first, operands));
     let of_mode = earlier(of_trace, window_fault(first, operands));
     earlier(of_mode, writes_fault(first, operands))
 }

@@ -132,6 +132,7 @@ module _ (start : Inputs) (h : Header) (given : Requests) (records : List Record
           records = records;
           yes = subst (λ k. IsYes k given.fills given.objects records verdict) (sym said.header) said;
           trace = if_one start.trace _ _ ended.trace_read (λ b p. subst (λ (r : requests.Reader). IsWhole (traces.reading start.reader.format start.reader.limits b) given r.dropped) (sym same_reader) p);
+          noted = if_one start.trace _ _ ended.noted (λ b p. subst (λ (r : requests.Reader). (traces.reading start.reader.format start.reader.limits b).seen.noted ≡ r.seen.noted) (sym same_reader) p);
           certificate = if_one start.certificate _ _ ended.records_read (λ t q.
               let is = at_some (known now.cert.lines now.certificate) _ _ q.stands_in read in
               q.reading ∙ (ap (after_records h records) is.0 ∙ (ap (λ rs. certificates.whole h rs) (append-nil records) ∙ ap (λ k. certificates.whole k records) (sym said.header))));

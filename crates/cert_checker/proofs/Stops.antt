@@ -216,6 +216,8 @@ module _ (start : Inputs) (h : Header) (given : Requests) (records : List Record
           dropped_lines = ap (λ r. r.dropped) p.reading ∙ is.0.dropped_lines;
           stop = ap (λ r. r.refused) p.reading ∙ is.0.stop;
         });
+    noted = if_one start.trace _ _ checked.trace_read (λ b p.
+        let is = at_some (requests.known now.reader now.trace) _ _ p.stands_in over in ap (λ r. r.seen.noted) p.reading ∙ ap (λ s. s.noted) is.3);
     trace_end = if_one start.trace _ _ checked.trace_read (λ b p.
         let is = at_some (requests.known now.reader now.trace) _ _ p.stands_in over in nothing_left end.reader.lines.held end.trace is.1);
     records_read = if_one start.certificate _ _ checked.records_read (λ t q. same_records h records now end t q same_cert same_left);

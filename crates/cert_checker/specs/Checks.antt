@@ -195,12 +195,13 @@ abbrev pub IsCalmBut : Inputs → Inputs → CheckFault → Type 0
 IsCalmBut start now why =
     ((why ≡ fault.Trace refusal.ReadFault) ⊎ (now.trace_faults ≡ start.trace_faults)) × ((why ≡ fault.CertReadFault) ⊎ (now.certificate_faults ≡ start.certificate_faults))
 
--- a yes: of some requests with their marks and some records, which are all that the two sources have, if their bytes are known
+-- a yes: of some requests with their marks and some records, which are all that the two sources have, if their bytes are known, and what is noted of the requests is that of the reader
 pub record IsPassed (start end : Inputs) (verdict : Verdict) : Type 0 where
   pub requests : Requests
   pub records : List Record
   pub yes : IsYes verdict.header requests.fills requests.objects records verdict
   pub trace : IfSome start.trace (λ bytes. IsWhole (traces.reading start.reader.format start.reader.limits bytes) requests end.reader.dropped)
+  pub noted : IfSome start.trace (λ bytes. (traces.reading start.reader.format start.reader.limits bytes).seen.noted ≡ end.reader.seen.noted)
   pub certificate : IfSome start.certificate (λ text. certificates.reading text ≡ whole verdict.header records)
   pub walked : IsWalked start None
   pub trace_end : IfSome start.trace (λ _. end.trace ≡ Some [])
@@ -254,6 +255,7 @@ pub record HasChecked (start : Inputs) (h : Header) (given : Requests) (records 
 pub record HasCheckedAll (start : Inputs) (h : Header) (given : Requests) (records : List Record) (now : Inputs) (checker : Summary) : Type 0 where
   pub stands : StandsForAll h given records checker
   pub trace_read : IfSome start.trace (λ bytes. IsWhole (traces.reading start.reader.format start.reader.limits bytes) given now.reader.dropped)
+  pub noted : IfSome start.trace (λ bytes. (traces.reading start.reader.format start.reader.limits bytes).seen.noted ≡ now.reader.seen.noted)
   pub trace_end : IfSome start.trace (λ _. now.trace ≡ Some [])
   pub records_read : IfSome start.certificate (HasRecords h records now)
   pub calm : IsCalm start now

@@ -1,24 +1,37 @@
 -- How many requests of a trace count.
-use Rattle.std.specs.Prelude.{◌≡◌, ℕ, if◌then◌else◌, count_by, None, Some}
+use Rattle.std.specs.Prelude.{◌≡◌, ℕ, Bool, false, List, slice_index_or, if◌then◌else◌, count_by, None, Some}
 use Rattle.std.specs.declared.option.Option.{Option}
 use Rattle.bound_io.specs.Devices.{Device}
 use Rattle.cache_model.specs.Claim.{counts_past}
 use Rattle.cache_model.specs.Objects.{numbers_of}
 use Rattle.cache_rules.specs.Stored.{Requests}
 use Rattle.trace_any.specs.declared.format.Format.{Format}
-use Rattle.trace_any.specs.Readings.{is_marked}
+use Rattle.freshness.specs.Seen.{Staleness}
+use Rattle.freshness.specs.Stale.{can_end}
+use Rattle.trace_any.specs.Readings.{has_marks}
 use Rattle.cert_checker.specs.declared.counting.Passed.{Passed}
 use Rattle.cert_checker.specs.Whole.{Passes}
 
--- how many requests from the warm-up on don't only fill the cache
-abbrev pub count_from : ℕ → Requests → ℕ
-count_from warmup trace = count_by (counts_past warmup trace.fills) (numbers_of trace.objects)
+-- whether each request only fills the cache by its own mark: if requests can be stale, this is noted of each
+abbrev pub own_marks : Format → Requests → Staleness → List Bool
+own_marks format trace noted = if can_end format.fresh then noted.own else trace.fills
 
--- the same, if the form of the trace has marks
-abbrev pub counted_in : Format → ℕ → Requests → Option ℕ
-counted_in format warmup trace = if is_marked format then Some (count_from warmup trace) else None
+-- how many requests from the warm-up on count by their own marks, if the form of the trace has marks
+abbrev pub counted_in : Format → ℕ → Requests → Staleness → Option ℕ
+counted_in format warmup trace noted =
+    if has_marks format.layout then Some (count_by (counts_past warmup (own_marks format trace noted)) (numbers_of trace.objects)) else None
 
--- a yes of all that the sources had left, with how many of the requests count from the warm-up of the certificate on
+-- whether request t is stale
+abbrev pub is_stale : Staleness → ℕ → Bool
+is_stale noted t = slice_index_or noted.stale t false
+
+-- how many requests are stale, if any can be
+abbrev pub stale_in : Format → Requests → Staleness → Option ℕ
+stale_in format trace noted = if can_end format.fresh then Some (count_by (is_stale noted) (numbers_of trace.objects)) else None
+
+-- a yes of all that the sources had left, with how many of the requests count from the warm-up of the certificate on, how many had a time below the clock before them, and how many were stale
 pub record PassesCounted (format : Format) (trace cert : Device) (p : Passed) : Type 0 where
   pub passes : Passes format trace cert p.verdict p.dropped
-  pub counted : p.counted ≡ counted_in format p.verdict.header.warmup passes.passed.requests
+  pub counted : p.counted ≡ counted_in format p.verdict.header.warmup passes.passed.requests passes.reader.seen.noted
+  pub late : p.late ≡ passes.reader.seen.noted.late
+  pub stale : p.stale ≡ stale_in format passes.passed.requests passes.reader.seen.noted

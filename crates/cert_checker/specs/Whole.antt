@@ -2,6 +2,7 @@
 use Rattle.std.specs.Prelude.{◌≡◌, ℕ, List, Ok}
 use Rattle.bound_io.specs.Devices.{Device}
 use Rattle.cache_rules.specs.Stored.{Making}
+use Rattle.freshness.specs.Seen.{Staleness}
 use Rattle.cache_model.specs.declared.certificates.Record.{Record}
 use Rattle.trace_any.specs.declared.format.Format.{Format}
 use Rattle.trace_any.specs.Readings.{full_limits}
@@ -27,11 +28,12 @@ pub record Passes (format : Format) (trace cert : Device) (verdict : Verdict) (d
   pub dropped_lines : reader.dropped ≡ dropped
   pub passed : IsPassed (first_inputs format trace cert) (last_inputs reader records trace cert) verdict
 
--- the same, of the requests and the records that are kept
-pub record Keeps (format : Format) (trace cert : Device) (kept : Checked) (dropped : ℕ) : Type 0 where
+-- the same, of the requests and the records that are kept, and what is noted of the requests
+pub record Keeps (format : Format) (trace cert : Device) (kept : Checked) (dropped : ℕ) (noted : Staleness) : Type 0 where
   pub reader : requests.Reader
   pub records : lines.Reader
   pub dropped_lines : reader.dropped ≡ dropped
+  pub noted_are : reader.seen.noted ≡ noted
   pub kept_all : HasKept (first_inputs format trace cert) (last_inputs reader records trace cert) kept
 
 -- why there is no yes, and how little was read then
@@ -42,9 +44,10 @@ pub record Fails (format : Format) (trace cert : Device) (why : CheckFault) : Ty
   pub near : IsNear (first_inputs format trace cert) (last_inputs reader records trace cert) why
   pub calm : IsCalmBut (first_inputs format trace cert) (last_inputs reader records trace cert) why
 
--- a yes of the requests and the records that a keeper has, and how many lines of the trace were dropped
-pub record Ends (has : Making → List Record → Type 0) (format : Format) (trace cert : Device) (verdict : Verdict) (dropped : ℕ) : Type 0 where
+-- a yes of the requests and the records that a keeper has, how many lines of the trace were dropped, and what is noted of its requests
+pub record Ends (has : Making → List Record → Type 0) (format : Format) (trace cert : Device) (verdict : Verdict) (dropped : ℕ) (noted : Staleness) : Type 0 where
   pub reader : requests.Reader
   pub records : lines.Reader
   pub dropped_lines : reader.dropped ≡ dropped
+  pub noted_are : reader.seen.noted ≡ noted
   pub ended : IsCheckEnd has (first_inputs format trace cert) (last_inputs reader records trace cert) (Ok verdict)

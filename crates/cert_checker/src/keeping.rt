@@ -7,6 +7,7 @@ ghost use Rattle.cache_rules.specs.Stored.{made_more};
 ghost use Rattle.cert_checker.specs.Checks.{IsCalmBut, IsEvent, IsFresh, IsNear, KeepsAnswer, seen_inputs};
 ghost use Rattle.cert_checker.specs.Keeping.{HasKept};
 ghost use Rattle.cert_checker.specs.Whole.{Fails, Keeps};
+ghost use Rattle.freshness.specs.Seen.{noted_of};
 ghost use Rattle.trace_any.specs.Readings.{IsFormat};
 
 use crate::keeper::Keeper;
@@ -20,7 +21,7 @@ use cache_rules::{Builder, Trace};
 use cert_format::{CertReader, Record};
 use std::alloc::Global;
 use std::marker::Model;
-use trace_any::{Format, RequestReader};
+use trace_any::{Format, RequestReader, StaleRequests};
 
 /// A yes, with the requests of the trace and the records of the certificate.
 #[derive(Debug, Drop)]
@@ -149,16 +150,16 @@ pub fn check_and_keep<T: Source, Q: Source>(
     })
 }
 
-/// The check of `check_all` that keeps the trace and the records, as `check_and_keep` does.
+/// The check of `check_all` that keeps the trace and the records, as `check_and_keep` does, and what is noted of the requests.
 pub fn keep_all<T: Source, Q: Source>(
     alloc: Global,
     format: Format,
     trace: &mut T,
     certificate: &mut Q,
-) -> Result<(Kept, u64), CheckFault>
+) -> Result<(Kept, u64, StaleRequests), CheckFault>
     requires { IsFormat format }
     ensures yes { IfOk result (λ p. Keeps format
-        (seen T.left T.faults trace.old trace.new) (seen Q.left Q.faults certificate.old certificate.new) p.0 p.1) }
+        (seen T.left T.faults trace.old trace.new) (seen Q.left Q.faults certificate.old certificate.new) p.0 p.1 (noted_of p.2)) }
     ensures no { IfErr result (Fails format
         (seen T.left T.faults trace.old trace.new) (seen Q.left Q.faults certificate.old certificate.new)) }
     ensures trace_source { LosesPrefix (T.left trace.old) (T.left trace.new) }
@@ -168,11 +169,11 @@ pub fn keep_all<T: Source, Q: Source>(
         requests: builder_of(alloc, format.is_marked())?,
         records: Vec::new(alloc),
     };
-    let (verdict, dropped) = check_new(alloc, format, trace, certificate, &mut lists)?;
+    let (verdict, dropped, noted) = check_new(alloc, format, trace, certificate, &mut lists)?;
     let kept = Kept {
         verdict,
         trace: lists.requests.finish(),
         records: lists.records,
     };
-    Ok((kept, dropped))
+    Ok((kept, dropped, noted))
 }

@@ -1,5 +1,5 @@
 -- The last object of each volume and id, request by request.
-use Rattle.std.proofs.Common.{◌≡◌, ◌≢◌, ℕ, ◌+◌, ◌<◌, ◌∙◌, sym, refl, ap, subst, Bool, true, false, ◌&&◌, eqb, ◌==◌, cond, List, [], ◌∷◌, ◌++◌, length, take, filter, position, None, Some, IfSome, unwrap_or, option_to_list}
+use Rattle.std.proofs.Common.{◌≡◌, ◌≢◌, ℕ, ◌+◌, ◌<◌, ◌∙◌, sym, refl, ap, subst, Bool, true, false, eqb, cond, List, [], ◌∷◌, ◌++◌, length, take, filter, position, None, Some, IfSome, unwrap_or, option_to_list}
 use Rattle.std.proofs.lemmas.Bool.{and_from, eqb-true, eqb-false, eq-eqb, false_from_ne_true}
 use Rattle.std.proofs.lemmas.List.{append-nil, take_more}
 use Rattle.std.proofs.lemmas.List.Elements.{filter-append}

@@ -6,6 +6,7 @@ use Rattle.std.proofs.lemmas.List.{nil_from_length}
 use Rattle.bound_io.specs.Lines.{stands_in}
 use Rattle.bound_io.specs.Devices.{device}
 use Rattle.cache_rules.specs.Stored.{Requests}
+use Rattle.freshness.specs.Seen.{Seen}
 use Rattle.trace_any.specs.declared.format.Format.{Format}
 use Rattle.trace_any.specs.Readings.{Reading, full_limits, reading}
 use Rattle.trace_any.specs.Readers.{Reader, IsWhole, fresh, to_come, known}
@@ -36,8 +37,10 @@ pub known-start : (format : Format) (r : Reader) (left : Option (List ℕ)) (P :
 known-start format r left P new holds = from_start format r left (λ _. P) new holds
 
 -- what a reader that has read nothing loads is the trace of all that the source had left
-pub loaded_all : (format : Format) (before after : Option (List ℕ)) (faults_before faults_after : ℕ) (requests : Requests) (dropped : ℕ)
+pub loaded_all : (format : Format) (before after : Option (List ℕ)) (faults_before faults_after : ℕ) (requests : Requests) (dropped : ℕ) (seen : Seen)
     → IfSome (known (fresh format full_limits) before) (λ bytes. IsWhole (to_come (fresh format full_limits) bytes) requests dropped)
-    → IfSome (known (fresh format full_limits) before) (λ bytes. after ≡ Some []) → IsLoaded format (device before after faults_before faults_after) requests dropped
-loaded_all format None after faults_before faults_after requests dropped whole end = record { read = tt; nothing_left = tt }
-loaded_all format (Some bytes) after faults_before faults_after requests dropped whole end = record { read = rw (fresh_to_come) at whole; nothing_left = end }
+    → IfSome (known (fresh format full_limits) before) (λ bytes. (to_come (fresh format full_limits) bytes).seen ≡ seen)
+    → IfSome (known (fresh format full_limits) before) (λ bytes. after ≡ Some []) → IsLoaded format (device before after faults_before faults_after) requests (record { dropped = dropped; noted = seen.noted })
+loaded_all format None after faults_before faults_after requests dropped seen whole noted end = record { read = tt; noted = tt; nothing_left = tt }
+loaded_all format (Some bytes) after faults_before faults_after requests dropped seen whole noted end =
+    record { read = rw (fresh_to_come) at whole; noted = ap (λ s. s.noted) (rw (fresh_to_come) at noted); nothing_left = end }

@@ -10,7 +10,7 @@ use Rattle.bound_io.specs.Lines.{stands_in}
 use Rattle.cache_model.specs.declared.objects.Object.{Object}
 use Rattle.cache_rules.specs.Stored.{Requests, mark_if, with_mark}
 use Rattle.freshness.specs.Stale.{can_end}
-use Rattle.freshness.specs.Seen.{Seen, nothing_seen, with_seen}
+use Rattle.freshness.specs.Seen.{Seen, Staleness, nothing_seen, with_seen}
 use Rattle.trace_any.specs.declared.fault.TraceFault.{TraceFault}
 use Rattle.trace_any.specs.declared.fault.TraceFault.TheVariants.{BadLine, ReadFault, InputTooLong, TooManyRequests, NoMemory}
 use Rattle.trace_any.specs.declared.format.Format.{Format}
@@ -47,6 +47,15 @@ pub record Reader : Type 0 where
   pub ahead : Ahead
   pub stale : Bool
   pub fault : Option TraceFault
+
+-- what a reading tells beside the requests: how many lines were dropped, and what is noted of the requests
+pub record Notes : Type 0 where
+  pub dropped : ℕ
+  pub noted : Staleness
+
+-- what a reader has to tell
+abbrev pub notes_of : Reader → Notes
+notes_of r = record { dropped = r.dropped; noted = r.seen.noted }
 
 -- a reader that has read nothing
 abbrev pub fresh : Format → Limits → Reader

@@ -1,6 +1,6 @@
 //! The forms of a trace, and how much of one is read.
 ghost use Rattle.std.specs.Prelude.{◌≡◌};
-ghost use Rattle.trace_any.specs.Readings.{full_limits, has_records, is_marked, lasting};
+ghost use Rattle.trace_any.specs.Readings.{full_limits, has_marks, has_records, is_marked, lasting};
 
 use freshness::Freshness;
 
@@ -21,6 +21,15 @@ pub enum Layout {
     /// A record is of 24 bytes, packed and little endian: a time of 4, an id of 8, a size in bytes of 4, and the time of
     /// the next access, of 8. There are no lines.
     Oracle,
+}
+
+impl Layout {
+    /// Whether a line says if its requests only fill the cache.
+    pub fn has_marks(self) -> bool
+        ensures { result ≡ has_marks self }
+    {
+        matches!(self, Layout::MarkedWebcache | Layout::MsrReads { .. })
+    }
 }
 
 /// The form of a trace: its layout, and how long its objects stay fresh. A request that is stale only fills the cache,
@@ -53,10 +62,7 @@ impl Format {
     pub fn is_marked(self) -> bool
         ensures { result ≡ is_marked self }
     {
-        matches!(
-            self.layout,
-            Layout::MarkedWebcache | Layout::MsrReads { .. }
-        ) || self.fresh.can_end()
+        self.layout.has_marks() || self.fresh.can_end()
     }
 }
 

@@ -7,6 +7,7 @@ ghost use Rattle.trace_any.specs.Readings.{IsFormat, TakesMemory, is_marked};
 
 use crate::fault::TraceFault;
 use crate::format::{Format, Limits};
+use crate::notes::TraceNotes;
 use crate::progress::Progress;
 use bound_base::NoMemory;
 use bound_io::Source;
@@ -41,7 +42,7 @@ impl Model for RequestReader {
 
 impl RequestReader {
     ghost use Rattle.trace_any.specs.FirstLines.{GoesToRequest, StopsNoFurther};
-    ghost use Rattle.trace_any.specs.Readers.{AnswersAgain, GivesRequest, err_of, fresh, last_fills, with_fault};
+    ghost use Rattle.trace_any.specs.Readers.{AnswersAgain, GivesRequest, err_of, fresh, last_fills, notes_of, with_fault};
 
     /// A reader of a trace of this form, within these limits. It takes its buffer here, and later memory for each volume, and
     /// for each request, object and id if a request can be stale.
@@ -76,6 +77,16 @@ impl RequestReader {
         ensures { noted_of result ≡ self.seen.noted }
     {
         self.progress.into_noted()
+    }
+
+    /// What it tells beside the requests, once no more are asked for.
+    pub fn into_notes(self) -> TraceNotes
+        ensures { result ≡ notes_of self }
+    {
+        TraceNotes {
+            dropped: self.progress.dropped(),
+            noted: self.progress.into_noted(),
+        }
     }
 
     /// Whether some requests may only fill the cache: the form of the trace has marks, or a request can be stale.

@@ -22,20 +22,3 @@ check_read-requires-clause-fresh_reader g c =
 pub check_read-requires-clause-fresh_cert : goal.check_read-requires-clause-fresh_cert
 check_read-requires-clause-fresh_cert g c = c.requires.fresh_cert
 
-pub returns-clause-yes : goal.returns-clause-yes
-returns-clause-yes g c =
-    let reader = c.in_ok-reader.reader in
-    let new : reader ≡ fresh c.args.format full_limits = c.in_ok-reader.ensures ∙ ap (fresh c.args.format) c.full.ensures in
-    rw (ap (λ r. r.format) new) at c.check_read.ensures.yes
-
-pub returns-clause-no : goal.returns-clause-no
-returns-clause-no g c =
-    let reader = c.in_ok-reader.reader in
-    let new : reader ≡ fresh c.args.format full_limits = c.in_ok-reader.ensures ∙ ap (fresh c.args.format) c.full.ensures in
-    rw (ap (λ r. r.format) new) at c.check_read.ensures.no
-
-pub returns-clause-trace_source : goal.returns-clause-trace_source
-returns-clause-trace_source g c = c.check_read.ensures.trace_source
-
-pub returns-clause-cert_source : goal.returns-clause-cert_source
-returns-clause-cert_source g c = c.check_read.ensures.cert_source

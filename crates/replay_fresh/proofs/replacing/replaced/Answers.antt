@@ -17,6 +17,10 @@ use Rattle.replay_fresh.proofs.replacing.replaced.Goals as goal
 asked_is : (c : goal.After-other_than) → c.object-asked.result ≡ request_at c.args.trace.now.objects c.args.t
 asked_is c = ap (λ o. unwrap_or o no_object) (sym c.object-asked.ensures.object ∙ c.request-object.ensures.object)
 
+-- its id
+key_is : (c : goal.After-other_than) → c.of.result ≡ id_of (request_at c.args.trace.now.objects c.args.t)
+key_is c = c.of.ensures ∙ ap id_of (asked_is c)
+
 -- under its number
 version : (c : goal.After-other_than) → IsVersion c.args.trace.now.objects (request_at c.args.trace.now.objects c.args.t) (request_at c.args.trace.now.objects c.args.t) c.request-object.result
 version c =
@@ -31,16 +35,16 @@ keeps c =
     let trace : List Object = c.args.trace.now.objects in
     let z : Object = request_at trace c.args.t in
     let had : c.in_ok-before.before ≡ lookup (same_id (id_of z)) c.args.latest.now.entries =
-    c.in_ok-before.ensures.old ∙ ap (λ same. lookup (same (id_of c.object-asked.result)) c.args.latest.now.entries) same_id-derived
-    ∙ ap (λ (x : Object). lookup (same_id (id_of x)) c.args.latest.now.entries) (asked_is c) in
+    c.in_ok-before.ensures.old ∙ ap (λ same. lookup (same c.of.result) c.args.latest.now.entries) same_id-derived
+    ∙ ap (λ key. lookup (same_id key) c.args.latest.now.entries) (key_is c) in
     subst (Keeps trace z (last_of_id z (take c.args.t trace))) (sym had) (c.requires.latest z)
 
 pub returns-clause-latest : goal.returns-clause-latest
 returns-clause-latest c =
     let trace : List Object = c.args.trace.now.objects in
     latest-more c.args.latest.now.entries c.insert.new.self.entries trace c.args.t c.request-object.result c.requires.within (version c) c.requires.latest
-    (subst (λ (x : Object). (q : Id) → lookup (same_id q) c.insert.new.self.entries ≡ cond (same_id (id_of x) q) (Some c.request-object.result) (lookup (same_id q) c.args.latest.now.entries)) (asked_is c)
-    (subst (λ same. (q : Id) → lookup (same q) c.insert.new.self.entries ≡ cond (same (id_of c.object-asked.result) q) (Some c.request-object.result) (lookup (same q) c.args.latest.now.entries)) same_id-derived
+    (subst (λ key. (q : Id) → lookup (same_id q) c.insert.new.self.entries ≡ cond (same_id key q) (Some c.request-object.result) (lookup (same_id q) c.args.latest.now.entries)) (key_is c)
+    (subst (λ same. (q : Id) → lookup (same q) c.insert.new.self.entries ≡ cond (same c.of.result q) (Some c.request-object.result) (lookup (same q) c.args.latest.now.entries)) same_id-derived
     c.in_ok-before.ensures.updates.0))
 
 pub returns-clause-replaced : goal.returns-clause-replaced
