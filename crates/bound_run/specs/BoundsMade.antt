@@ -26,6 +26,7 @@ use Rattle.schedule_round.specs.Laws.{IsBestSchedule, full_flags}
 use Rattle.window_bounds.specs.Solutions.{AreSolutions, prices_in, value_of_windows, window_count}
 use Rattle.bound_words.specs.declared.plans.BoundSettings.{BoundSettings}
 use Rattle.trace_any.specs.declared.format.Format.{Format}
+use Rattle.trace_any.specs.Readers.{Notes}
 use Rattle.bound_run.specs.Countings.{counting_of}
 use Rattle.bound_run.specs.Reports.{bounds_report}
 
@@ -94,13 +95,13 @@ pub record IsMade (asked : BoundSettings) (trace : Requests) (price : ℕ) (h : 
       → IsBestSchedule (terms_of h trace.fills) trace.objects h.denominator h.upper (keeps_of records)
 
 -- the certificate and the report are the texts of what is made of the trace
-pub record AreTexts (format : Format) (asked : BoundSettings) (trace : Requests) (dropped : ℕ) (cert report : List ℕ) : Type 0 where
+pub record AreTexts (format : Format) (asked : BoundSettings) (trace : Requests) (notes : Notes) (cert report : List ℕ) : Type 0 where
   pub price : ℕ
   pub header : Header
   pub records : List Record
   pub made : IsMade asked trace price header records
   pub cert_is : cert ≡ cert_text header records
-  pub report_is : report ≡ bounds_report (counting_of format header trace) asked trace dropped price header records
+  pub report_is : report ≡ bounds_report (counting_of format header trace notes.noted) asked trace notes.dropped price header records
 
 -- a denominator that rounds no cost is asked for, and the least one passes 2^48
 pub record RefusesDenominator (asked : BoundSettings) (trace : Requests) : Type 0 where

@@ -11,6 +11,7 @@ use Rattle.bound_report.specs.declared.curves.CurveFacts.{CurveFacts}
 use Rattle.bound_report.specs.Curves.{curve_lines}
 use Rattle.bound_report.specs.Rendering.{rendered}
 use Rattle.trace_any.specs.declared.format.Format.{Format}
+use Rattle.trace_any.specs.Readers.{Notes}
 use Rattle.bound_run.specs.Countings.{counting_from}
 
 -- the counts of the trace that a curve is of
@@ -22,7 +23,7 @@ abbrev pub hits_at : Requests → ℕ → ℕ
 hits_at trace capacity = if first_size trace.objects == 0 then 0 else curve_hits trace.objects trace.fills (capacity / first_size trace.objects)
 
 -- the text is the curve of the trace, whose objects have one size, and its hits are LRU's at every capacity
-pub record IsCurveText (format : Format) (trace : Requests) (dropped : ℕ) (text : List ℕ) : Type 0 where
+pub record IsCurveText (format : Format) (trace : Requests) (notes : Notes) (text : List ℕ) : Type 0 where
   pub one_size : HaveSize (first_size trace.objects) trace.objects
-  pub text_is : text ≡ rendered (counting_from format 0 trace) (curve_lines (curve_facts trace dropped) (first_size trace.objects) (curve_hits trace.objects trace.fills))
+  pub text_is : text ≡ rendered (counting_from format 0 trace notes.noted) (curve_lines (curve_facts trace notes.dropped) (first_size trace.objects) (curve_hits trace.objects trace.fills))
   pub of_lru : (capacity : ℕ) → 1 ≤ capacity → hits_at trace capacity ≡ (policy_run Lru trace.objects capacity 0 trace.fills).hits

@@ -10,6 +10,7 @@ use Rattle.bound_report.specs.declared.demo.PolicyReplays.{PolicyReplays}
 use Rattle.bound_report.specs.Demos.{demo_text}
 use Rattle.bound_words.specs.declared.plans.BoundSettings.{BoundSettings}
 use Rattle.bound_words.specs.declared.plans.DrawSettings.{DrawSettings}
+use Rattle.freshness.specs.Seen.{nothing_noted}
 use Rattle.trace_any.specs.Readings.{webcache_form}
 use Rattle.bound_run.specs.BoundsMade.{IsMade}
 use Rattle.bound_run.specs.Countings.{counting_of}
@@ -40,4 +41,4 @@ pub record IsDemoText (drawing : DrawSettings) (asked : BoundSettings) (text : L
   pub made : IsMade asked (trace_drawn drawing) price header records
   pub replays : PolicyReplays
   pub replayed : AreReplays asked.terms.capacity (trace_drawn drawing) replays
-  pub text_is : text ≡ demo_text (demo_facts drawing asked) (bounds_report (counting_of webcache_form header (trace_drawn drawing)) asked (trace_drawn drawing) 0 price header records) replays
+  pub text_is : text ≡ demo_text (demo_facts drawing asked) (bounds_report (counting_of webcache_form header (trace_drawn drawing) nothing_noted) asked (trace_drawn drawing) 0 price header records) replays

@@ -16,6 +16,8 @@ use Rattle.cache_model.specs.Units.{HasWholeCosts}
 use Rattle.cache_model.specs.Intervals.{bound_of}
 use Rattle.cert_checker.specs.declared.verdict.Verdict.{Verdict}
 use Rattle.trace_any.specs.declared.format.Format.{Format}
+use Rattle.freshness.specs.Seen.{nothing_noted}
+use Rattle.trace_any.specs.Readers.{Notes}
 use Rattle.trace_any.specs.Readings.{webcache_form}
 use Rattle.bound_run.specs.Countings.{counting_of}
 use Rattle.bound_words.specs.declared.plans.BoundSettings.{BoundSettings}
@@ -75,11 +77,11 @@ IsPriceOf Constant price steps records = prices_of records ≡ constant_prices p
 IsPriceOf mode price steps records = Unit {0}
 
 -- bounds printed and certified true bounds at the capacity, of the requests that count from the warm-up on, for the objective that was asked for
-pub record ShowsBounds (format : Format) (asked : BoundSettings) (trace : Requests) (dropped : ℕ) (report made : Device) : Type 0 where
+pub record ShowsBounds (format : Format) (asked : BoundSettings) (trace : Requests) (notes : Notes) (report made : Device) : Type 0 where
   pub header : Header
   pub records : List Record
   pub price : ℕ
-  pub printed : Appends report.before report.after (bounds_report (counting_of format header trace) asked trace dropped price header records)
+  pub printed : Appends report.before report.after (bounds_report (counting_of format header trace notes.noted) asked trace notes.dropped price header records)
   pub certified : Appends made.before made.after (cert_text header records)
   pub terms : terms_of header trace.fills ≡ marked asked.terms trace.fills
   pub version : header.version ≡ asked.version
@@ -88,31 +90,31 @@ pub record ShowsBounds (format : Format) (asked : BoundSettings) (trace : Reques
   pub form : HasForm asked trace header
 
 -- a check printed what the certificate states, which is the text of true bounds, whatever bytes it was given
-pub record ShowsCheck (format : Format) (trace : Requests) (dropped : ℕ) (cert report : Device) : Type 0 where
+pub record ShowsCheck (format : Format) (trace : Requests) (notes : Notes) (cert report : Device) : Type 0 where
   pub verdict : Verdict
   pub records : List Record
-  pub printed : Appends report.before report.after (verdict_report (counting_of format verdict.header trace) verdict dropped)
+  pub printed : Appends report.before report.after (verdict_report (counting_of format verdict.header trace notes.noted) verdict notes.dropped)
   pub certified : IfSome cert.before (λ text. text ≡ cert_text verdict.header records)
   pub objects : verdict.objects ≡ length (objects_of trace.objects)
   pub bounds : AreTrueBounds trace verdict.header records
 
 -- a replay printed the hits of its rule's run, which no valid certificate of its capacity and no longer warm-up is below, or which requests hit
-pub record ShowsReplay (format : Format) (r : ReplaySettings) (trace : Requests) (dropped : ℕ) (report : Device) : Type 0 where
+pub record ShowsReplay (format : Format) (r : ReplaySettings) (trace : Requests) (notes : Notes) (report : Device) : Type 0 where
   pub text : List ℕ
   pub printed : Appends report.before report.after text
-  pub replay : IsReplayText format r trace dropped text
+  pub replay : IsReplayText format r trace notes text
 
 -- a curve printed LRU's hits at every number of slots
-pub record ShowsCurve (format : Format) (trace : Requests) (dropped : ℕ) (report : Device) : Type 0 where
+pub record ShowsCurve (format : Format) (trace : Requests) (notes : Notes) (report : Device) : Type 0 where
   pub text : List ℕ
   pub printed : Appends report.before report.after text
-  pub curve : IsCurveText format trace dropped text
+  pub curve : IsCurveText format trace notes text
 
 -- a curve over capacities printed at each LRU's hits, and a bound that no policy passes
-pub record ShowsCapacityCurve (format : Format) (asked : CurveTerms) (capacities : List ℕ) (trace : Requests) (dropped : ℕ) (report : Device) : Type 0 where
+pub record ShowsCapacityCurve (format : Format) (asked : CurveTerms) (capacities : List ℕ) (trace : Requests) (notes : Notes) (report : Device) : Type 0 where
   pub text : List ℕ
   pub printed : Appends report.before report.after text
-  pub curve : IsCapacityCurveText format asked capacities trace dropped text
+  pub curve : IsCapacityCurveText format asked capacities trace notes text
 
 -- no allowed contents that hit at the flags, and at no other request that counts, write fewer bytes than is said of them; and some that hit exactly there write just these
 pub record HasLeastWrites (asked : JudgeSettings) (trace : Requests) (flags : List Bool) : Type 0 where
@@ -122,11 +124,11 @@ pub record HasLeastWrites (asked : JudgeSettings) (trace : Requests) (flags : Li
       × (written_bytes asked.warmup trace.fills trace.objects contents ≡ written_for asked trace flags)
 
 -- a judgement printed the hits that the flags claim: some allowed contents hit at each flagged request, and no valid certificate of the capacity and no longer warm-up is below the claim; if it printed written bytes, they are the least
-pub record ShowsJudgement (format : Format) (asked : JudgeSettings) (trace : Requests) (dropped : ℕ) (hits report : Device) : Type 0 where
+pub record ShowsJudgement (format : Format) (asked : JudgeSettings) (trace : Requests) (notes : Notes) (hits report : Device) : Type 0 where
   pub flags : List Bool
   pub flags_are : AreFlags hits flags
   pub as_many : length flags ≡ length trace.objects
-  pub printed : Appends report.before report.after (judged_report format asked trace dropped flags)
+  pub printed : Appends report.before report.after (judged_report format asked trace notes flags)
   pub possible : (contents : List (List Object)) × IsAllowed asked.capacity trace.objects contents × HitsFlagged trace.objects contents flags
   pub bounded : IsWithinBounds asked.capacity asked.warmup trace (claimed_by Hits asked trace flags) (claimed_by Bytes asked trace flags)
   pub written : HasLeastWrites asked trace flags
@@ -137,7 +139,7 @@ pub record ShowsDemo (drawing : DrawSettings) (asked : BoundSettings) (report : 
   pub records : List Record
   pub price : ℕ
   pub replays : PolicyReplays
-  pub printed : Appends report.before report.after (demo_text (demo_facts drawing asked) (bounds_report (counting_of webcache_form header (trace_drawn drawing)) asked (trace_drawn drawing) 0 price header records) replays)
+  pub printed : Appends report.before report.after (demo_text (demo_facts drawing asked) (bounds_report (counting_of webcache_form header (trace_drawn drawing) nothing_noted) asked (trace_drawn drawing) 0 price header records) replays)
   pub terms : terms_of header [] ≡ marked asked.terms []
   pub priced : IsPriceOf asked.mode price (length (trace_drawn drawing).objects) records
   pub bounds : AreTrueBounds (trace_drawn drawing) header records
@@ -153,7 +155,7 @@ pub record ShowsUpgrade (source report made : Device) : Type 0 where
   pub upgraded : IsUpgraded source cert text
 
 -- a refinement printed true bounds, whose upper one is no greater than that of the certificate that was read, and certified them
-pub record ShowsRefinement (format : Format) (width : ℕ) (trace : Requests) (dropped : ℕ) (cert report made : Device) : Type 0 where
+pub record ShowsRefinement (format : Format) (width : ℕ) (trace : Requests) (notes : Notes) (cert report made : Device) : Type 0 where
   pub header : Header
   pub records : List Record
   pub refined : Header
@@ -161,26 +163,26 @@ pub record ShowsRefinement (format : Format) (width : ℕ) (trace : Requests) (d
   pub read : IfSome cert.before (λ text. text ≡ cert_text header records)
   pub valid : IsValid trace.objects trace.fills header records
   pub certified : Appends made.before made.after (cert_text refined refined_records)
-  pub printed : Appends report.before report.after (refined_report (counting_of format header trace) header.upper (verdict_on trace refined) dropped)
+  pub printed : Appends report.before report.after (refined_report (counting_of format header trace notes.noted) header.upper (verdict_on trace refined) notes.dropped)
   pub refinement : IsRefinement width trace header records refined refined_records
   pub bounds : AreTrueBounds trace refined refined_records
 
 -- what the other commands show
 abbrev pub ShowsElse : Settings → Devices → Type 0
-ShowsElse (Replay format r) d = (trace : Requests) × (dropped : ℕ) × IsLoaded format d.trace trace dropped × ShowsReplay format r trace dropped d.report
-ShowsElse (Curve format) d = (trace : Requests) × (dropped : ℕ) × IsLoaded format d.trace trace dropped × ShowsCurve format trace dropped d.report
+ShowsElse (Replay format r) d = (trace : Requests) × (notes : Notes) × IsLoaded format d.trace trace notes × ShowsReplay format r trace notes d.report
+ShowsElse (Curve format) d = (trace : Requests) × (notes : Notes) × IsLoaded format d.trace trace notes × ShowsCurve format trace notes d.report
 ShowsElse (CapacityCurve format capacities asked) d =
-    (trace : Requests) × (dropped : ℕ) × IsLoaded format d.trace trace dropped × ShowsCapacityCurve format asked (capacities_in capacities) trace dropped d.report
-ShowsElse (Judge format asked) d = (trace : Requests) × (dropped : ℕ) × IsLoaded format d.trace trace dropped × ShowsJudgement format asked trace dropped d.beside d.report
+    (trace : Requests) × (notes : Notes) × IsLoaded format d.trace trace notes × ShowsCapacityCurve format asked (capacities_in capacities) trace notes d.report
+ShowsElse (Judge format asked) d = (trace : Requests) × (notes : Notes) × IsLoaded format d.trace trace notes × ShowsJudgement format asked trace notes d.beside d.report
 ShowsElse (Demo drawing asked) d = ShowsDemo drawing asked d.report
 ShowsElse Upgrade d = ShowsUpgrade d.beside d.report d.made
-ShowsElse (Refine format width) d = (trace : Requests) × (dropped : ℕ) × IsLoaded format d.trace trace dropped × ShowsRefinement format width trace dropped d.beside d.report d.made
+ShowsElse (Refine format width) d = (trace : Requests) × (notes : Notes) × IsLoaded format d.trace trace notes × ShowsRefinement format width trace notes d.beside d.report d.made
 ShowsElse settings d = ⊥
 
 -- what a command shows; of bounds and a check, that all that the trace source had left was read, and the numbers that were printed are true of it
 abbrev pub Shows : Settings → Devices → Type 0
-Shows (Bounds format asked) d = (trace : Requests) × (dropped : ℕ) × IsLoaded format d.trace trace dropped × ShowsBounds format asked trace dropped d.report d.made
-Shows (Check format) d = (trace : Requests) × (dropped : ℕ) × IsLoaded format d.trace trace dropped × ShowsCheck format trace dropped d.beside d.report
+Shows (Bounds format asked) d = (trace : Requests) × (notes : Notes) × IsLoaded format d.trace trace notes × ShowsBounds format asked trace notes d.report d.made
+Shows (Check format) d = (trace : Requests) × (notes : Notes) × IsLoaded format d.trace trace notes × ShowsCheck format trace notes d.beside d.report
 Shows settings d = ShowsElse settings d
 
 -- Whatever trace is read and whatever the capacity, no allowed sequence of cache contents scores more than the printed

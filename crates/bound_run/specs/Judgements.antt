@@ -6,13 +6,15 @@ use Rattle.cache_model.specs.declared.objects.Objective.{Objective}
 use Rattle.cache_model.specs.declared.objects.Objective.TheVariants.{Object as Hits, Bytes}
 use Rattle.cache_model.specs.Claim.{terms_from}
 use Rattle.cache_model.specs.Objects.{objects_of}
-use Rattle.judge_laws.specs.Flags.{IsPossible, claimed}
+use Rattle.judge_laws.specs.Flags.{claimed}
+use Rattle.hit_judge.specs.Possible.{IsPossibleFresh}
 use Rattle.write_laws.specs.Claims.{least_written}
 use Rattle.hit_judge.specs.declared.causes.Impossible.{Impossible}
 use Rattle.hit_judge.specs.Causes.{first_cause}
 use Rattle.hit_flags.specs.Claims.{AreRead}
 use Rattle.hit_flags.specs.Flags.{flags_in}
 use Rattle.trace_any.specs.declared.format.Format.{Format}
+use Rattle.trace_any.specs.Readers.{Notes}
 use Rattle.trace_any.specs.Readings.{full_limits, reading}
 use Rattle.bound_report.specs.declared.judged.JudgedFacts.{JudgedFacts}
 use Rattle.bound_report.specs.Judged.{judged_lines}
@@ -40,26 +42,26 @@ judged_facts asked trace dropped flags = record {
 }
 
 -- the report of possible hits
-abbrev pub judged_report : Format → JudgeSettings → Requests → ℕ → List Bool → List ℕ
-judged_report format asked trace dropped flags = rendered (counting_from format asked.warmup trace) (judged_lines (judged_facts asked trace dropped flags))
+abbrev pub judged_report : Format → JudgeSettings → Requests → Notes → List Bool → List ℕ
+judged_report format asked trace notes flags = rendered (counting_from format asked.warmup trace notes.noted) (judged_lines (judged_facts asked trace notes.dropped flags))
 
 -- all that the two sources had left is a trace and flags of its requests, which are possible, and this is their report
 pub record IsJudged (format : Format) (asked : JudgeSettings) (trace hits : Device) (text : List ℕ) : Type 0 where
   pub requests : Requests
-  pub dropped : ℕ
+  pub notes : Notes
   pub flags : List Bool
-  pub read : AreRead format trace hits requests dropped flags
-  pub possible : IsPossible asked.capacity requests.objects flags
-  pub text_is : text ≡ judged_report format asked requests dropped flags
+  pub read : AreRead format trace hits requests notes flags
+  pub possible : IsPossibleFresh asked.capacity requests.objects notes.noted.stale flags
+  pub text_is : text ≡ judged_report format asked requests notes flags
 
 -- all that the two sources had left is a trace and flags of its requests, which are not possible for this first cause
 pub record IsImpossible (format : Format) (asked : JudgeSettings) (trace hits : Device) (cause : Impossible) (capacity : ℕ) : Type 0 where
   pub requests : Requests
-  pub dropped : ℕ
+  pub notes : Notes
   pub flags : List Bool
-  pub read : AreRead format trace hits requests dropped flags
-  pub impossible : ¬ (IsPossible asked.capacity requests.objects flags)
-  pub cause_is : first_cause asked.capacity requests.objects flags ≡ Some cause
+  pub read : AreRead format trace hits requests notes flags
+  pub impossible : ¬ (IsPossibleFresh asked.capacity requests.objects notes.noted.stale flags)
+  pub cause_is : first_cause asked.capacity requests.objects notes.noted.stale flags ≡ Some cause
   pub capacity_is : capacity ≡ asked.capacity
 
 -- the bytes are a trace and the text a flag for each of its requests, and the flagged ones are possible hits
@@ -68,4 +70,4 @@ pub record ArePossible (format : Format) (asked : JudgeSettings) (bytes text : L
   pub whole : (reading format full_limits bytes).refused ≡ None
   pub lines : flags_in text ≡ map (λ flag. Some flag) flags
   pub as_many : length flags ≡ length (reading format full_limits bytes).requests
-  pub possible : IsPossible asked.capacity (reading format full_limits bytes).requests flags
+  pub possible : IsPossibleFresh asked.capacity (reading format full_limits bytes).requests (reading format full_limits bytes).seen.noted.stale flags

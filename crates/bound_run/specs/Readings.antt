@@ -10,6 +10,7 @@ use Rattle.cache_model.specs.Certificates.{IsLeastOverAll, IsValid}
 use Rattle.cache_model.specs.Objects.{objects_of}
 use Rattle.cache_model.specs.Texts.{cert_text}
 use Rattle.trace_any.specs.declared.format.Format.{Format}
+use Rattle.trace_any.specs.Readers.{Notes}
 use Rattle.trace_any.specs.Readings.{Reading, reading, full_limits}
 use Rattle.trace_any.specs.Loads.{IsLoaded}
 use Rattle.cert_checker.specs.declared.verdict.Verdict.{Verdict}
@@ -32,43 +33,43 @@ trace_in r = record { objects = r.requests; fills = r.fills }
 -- the certificate and the report of all that the source had left
 pub record IsReady (format : Format) (asked : BoundSettings) (source : Device) (cert report : List ℕ) : Type 0 where
   pub requests : Requests
-  pub dropped : ℕ
-  pub loaded : IsLoaded format source requests dropped
-  pub texts : AreTexts format asked requests dropped cert report
+  pub notes : Notes
+  pub loaded : IsLoaded format source requests notes
+  pub texts : AreTexts format asked requests notes cert report
 
 -- the report of the replay of all that the source had left
 pub record IsReplayed (format : Format) (r : ReplaySettings) (source : Device) (text : List ℕ) : Type 0 where
   pub requests : Requests
-  pub dropped : ℕ
-  pub loaded : IsLoaded format source requests dropped
-  pub report : IsReplayText format r requests dropped text
+  pub notes : Notes
+  pub loaded : IsLoaded format source requests notes
+  pub report : IsReplayText format r requests notes text
 
 -- the report of the curve of all that the source had left
 pub record IsCurved (format : Format) (source : Device) (text : List ℕ) : Type 0 where
   pub requests : Requests
-  pub dropped : ℕ
-  pub loaded : IsLoaded format source requests dropped
-  pub report : IsCurveText format requests dropped text
+  pub notes : Notes
+  pub loaded : IsLoaded format source requests notes
+  pub report : IsCurveText format requests notes text
 
 -- the report of the curve over these capacities of all that the source had left
 pub record IsCapacityCurved (format : Format) (asked : CurveTerms) (capacities : List ℕ) (source : Device) (text : List ℕ) : Type 0 where
   pub requests : Requests
-  pub dropped : ℕ
-  pub loaded : IsLoaded format source requests dropped
-  pub report : IsCapacityCurveText format asked capacities requests dropped text
+  pub notes : Notes
+  pub loaded : IsLoaded format source requests notes
+  pub report : IsCapacityCurveText format asked capacities requests notes text
 
 -- all that the source had left was read, and two objects of it differ in size
 pub record IsUnequal (format : Format) (source : Device) (first other : ℕ) : Type 0 where
   pub requests : Requests
-  pub dropped : ℕ
-  pub loaded : IsLoaded format source requests dropped
+  pub notes : Notes
+  pub loaded : IsLoaded format source requests notes
   pub clash : IsClash requests.objects first other
 
 -- all that the source had left was read, and the denominator that is asked for passes its limit
 pub record IsPastDenominator (format : Format) (asked : BoundSettings) (source : Device) : Type 0 where
   pub requests : Requests
-  pub dropped : ℕ
-  pub loaded : IsLoaded format source requests dropped
+  pub notes : Notes
+  pub loaded : IsLoaded format source requests notes
   pub refused : RefusesDenominator asked requests
 
 -- this is the first event of the walk over all that the two sources had left, if the bytes of both are known
@@ -77,10 +78,10 @@ IsFirstEvent format trace cert event =
     IfSome trace.before (λ bytes. IfSome cert.before (λ text. walk (reading format full_limits bytes) text ≡ Some event))
 
 -- a yes: all that the sources had left is a trace and the text of a valid certificate of it, so no policy scores more than its upper bound, and in the form exact no prices over its unit have a smaller one
-pub record IsAccepted (format : Format) (trace cert : Device) (verdict : Verdict) (dropped : ℕ) : Type 0 where
+pub record IsAccepted (format : Format) (trace cert : Device) (verdict : Verdict) (notes : Notes) : Type 0 where
   pub requests : Requests
   pub records : List Record
-  pub loaded : IsLoaded format trace requests dropped
+  pub loaded : IsLoaded format trace requests notes
   pub objects : verdict.objects ≡ length (objects_of requests.objects)
   pub valid : IsValid requests.objects requests.fills verdict.header records
   pub bounds : BoundsEveryPolicy requests.objects requests.fills verdict.header
@@ -91,9 +92,9 @@ pub record IsAccepted (format : Format) (trace cert : Device) (verdict : Verdict
 -- the text of a yes
 pub record IsVerdictText (format : Format) (source cert : Device) (text : List ℕ) : Type 0 where
   pub verdict : Verdict
-  pub dropped : ℕ
-  pub accepted : IsAccepted format source cert verdict dropped
-  pub text_is : text ≡ verdict_report (counting_of format verdict.header accepted.requests) verdict dropped
+  pub notes : Notes
+  pub accepted : IsAccepted format source cert verdict notes
+  pub text_is : text ≡ verdict_report (counting_of format verdict.header accepted.requests notes.noted) verdict notes.dropped
 
 -- the bytes are the text of a certificate that is valid for the trace
 pub record IsCertified (format : Format) (bytes text : List ℕ) : Type 0 where

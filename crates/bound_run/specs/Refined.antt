@@ -14,6 +14,7 @@ use Rattle.cert_checker.specs.Keeping.{Checked}
 use Rattle.price_refine.specs.Blocks.{AreSettled}
 use Rattle.price_refine.specs.Refinements.{Refinement}
 use Rattle.trace_any.specs.declared.format.Format.{Format}
+use Rattle.trace_any.specs.Readers.{Notes}
 use Rattle.trace_any.specs.Loads.{IsLoaded}
 use Rattle.bound_run.specs.Countings.{counting_of}
 use Rattle.bound_run.specs.Reports.{refined_report}
@@ -55,17 +56,17 @@ abbrev pub verdict_on : Requests → Header → Verdict
 verdict_on trace h = record { header = h; objects = length (objects_of trace.objects) }
 
 -- the certificate and the report are the texts of a refinement of the certificate that was read
-pub record AreRefinedTexts (format : Format) (width : ℕ) (trace : Requests) (dropped : ℕ) (h : Header) (records : List Record) (cert report : List ℕ) : Type 0 where
+pub record AreRefinedTexts (format : Format) (width : ℕ) (trace : Requests) (notes : Notes) (h : Header) (records : List Record) (cert report : List ℕ) : Type 0 where
   pub made : Header
   pub refined : List Record
   pub refinement : IsRefinement width trace h records made refined
   pub cert_is : cert ≡ cert_text made refined
-  pub report_is : report ≡ refined_report (counting_of format h trace) h.upper (verdict_on trace made) dropped
+  pub report_is : report ≡ refined_report (counting_of format h trace notes.noted) h.upper (verdict_on trace made) notes.dropped
 
 -- all that the two sources had left was read, a trace and the text of a valid certificate of it, if their bytes are known
-pub record IsRefinable (format : Format) (source cert : Device) (trace : Requests) (dropped : ℕ)
+pub record IsRefinable (format : Format) (source cert : Device) (trace : Requests) (notes : Notes)
     (h : Header) (records : List Record) : Type 0 where
-  pub loaded : IsLoaded format source trace dropped
+  pub loaded : IsLoaded format source trace notes
   pub valid : IsValid trace.objects trace.fills h records
   pub text : IfSome cert.before (λ text. text ≡ cert_text h records)
   pub nothing_left : IfSome cert.before (λ text. cert.after ≡ Some [])
@@ -73,13 +74,13 @@ pub record IsRefinable (format : Format) (source cert : Device) (trace : Request
 -- the certificate and the report of a refinement of all that the sources had left
 pub record IsRefined (format : Format) (width : ℕ) (source cert : Device) (made report : List ℕ) : Type 0 where
   pub requests : Requests
-  pub dropped : ℕ
+  pub notes : Notes
   pub header : Header
   pub records : List Record
-  pub read : IsRefinable format source cert requests dropped header records
-  pub texts : AreRefinedTexts format width requests dropped header records made report
+  pub read : IsRefinable format source cert requests notes header records
+  pub texts : AreRefinedTexts format width requests notes header records made report
 
--- a check has kept a certificate that can be refined, and the lines of the trace that were dropped
-abbrev pub IsKept : Format → Device → Device → Checked → ℕ → Type 0
-IsKept format source cert kept dropped =
-    IsRefinable format source cert kept.trace dropped kept.verdict.header kept.records × (kept.verdict ≡ verdict_on kept.trace kept.verdict.header)
+-- a check has kept a certificate that can be refined, and what is told beside the trace
+abbrev pub IsKept : Format → Device → Device → Checked → Notes → Type 0
+IsKept format source cert kept notes =
+    IsRefinable format source cert kept.trace notes kept.verdict.header kept.records × (kept.verdict ≡ verdict_on kept.trace kept.verdict.header)

@@ -26,7 +26,7 @@ use interval_maker::Intervals;
 use relaxation::{Denominator, Scale, denominator_for, unit_of};
 use schedule_round::Keeps;
 use std::alloc::Global;
-use trace_any::Format;
+use trace_any::{Format, TraceNotes};
 
 /// Why there are no bounds.
 #[derive(Clone, Copy)]
@@ -243,43 +243,43 @@ fn texts_with(
     format: Format,
     asked: &BoundSettings,
     trace: &Trace,
-    dropped: u64,
+    notes: &TraceNotes,
     bounds: &Bounds,
 ) -> Result<Texts, NoMemory>
     requires made { IsMade asked.now trace.now bounds.now.relaxed.price bounds.now.header (records_in bounds.now) }
     requires intervals { bounds.now.intervals.items ≡ eligible_of trace.now.objects trace.now.fills bounds.now.header }
     requires each { HasEach bounds.now }
-    ensures { IfOk result (λ texts. AreTexts format asked.now trace.now dropped texts.cert.items texts.report.items) }
+    ensures { IfOk result (λ texts. AreTexts format asked.now trace.now notes.now texts.cert.items texts.report.items) }
 {
     let facts = BoundFacts {
         header: bounds.header,
         objects: trace.objects(),
-        dropped,
+        dropped: notes.dropped,
         mode: asked.mode,
         price: bounds.relaxed.price,
         intervals: bounds.intervals.as_slice().len() as u32,
         written: written_by(asked, trace, bounds.keeps.as_slice()),
     };
     let cert = cert_of(alloc, &bounds.header, bounds)?;
-    let report = render(alloc, &facts, counting_of(format, &bounds.header, trace))?;
+    let report = render(alloc, &facts, counting_of(format, &bounds.header, trace, &notes.noted))?;
     Ok(Texts { cert, report })
 }
 
-/// The certificate and the report of a trace of this form as asked for, with the number of its lines that were dropped.
+/// The certificate and the report of a trace of this form as asked for, with what is told beside it.
 pub(crate) fn texts_of(
     alloc: Global,
     format: Format,
     asked: &BoundSettings,
     trace: &Trace,
-    dropped: u64,
+    notes: &TraceNotes,
 ) -> Result<Texts, BoundsFault>
-    ensures texts { IfOk result (λ texts. AreTexts format asked.now trace.now dropped texts.cert.items texts.report.items) }
+    ensures texts { IfOk result (λ texts. AreTexts format asked.now trace.now notes.now texts.cert.items texts.report.items) }
     ensures refused { IfErr result (FailsBounds asked.now trace.now) }
 {
     // Dropped here, for the proof.
     let texts = {
         let bounds = bounds_of(alloc, asked, trace)?;
-        texts_with(alloc, format, asked, trace, dropped, &bounds)
+        texts_with(alloc, format, asked, trace, notes, &bounds)
     };
     Ok(texts?)
 }

@@ -18,16 +18,16 @@ use std::alloc::Global;
 use trace_any::Format;
 
 // The report of a yes.
-fn verdict_report(alloc: Global, passed: &Passed) -> Result<Vec<u8>, NoMemory>
+fn verdict_report(alloc: Global, format: Format, passed: &Passed) -> Result<Vec<u8>, NoMemory>
     requires unit { 0 < passed.now.verdict.header.unit }
     requires denominator { 0 < passed.now.verdict.header.denominator }
-    ensures { IfOk result (λ text. text.items ≡ verdict_report (counting_found passed.now) passed.now.verdict passed.now.dropped) }
+    ensures { IfOk result (λ text. text.items ≡ verdict_report (counting_found format passed.now) passed.now.verdict passed.now.dropped) }
 {
     let facts = CheckFacts {
         verdict: passed.verdict,
         dropped: passed.dropped,
     };
-    render(alloc, &facts, counting_found(passed))
+    render(alloc, &facts, counting_found(format, passed))
 }
 
 /// What is said of a certificate that is valid for the trace, as both are read to their ends.
@@ -47,7 +47,7 @@ pub(crate) fn verdict_of<T: Source, Q: Source>(
     ensures none_failed { OnOk result ((T.faults trace.new ≡ T.faults trace.old) × (Q.faults cert.new ≡ Q.faults cert.old)) }
 {
     match check_counted(alloc, format, trace, cert) {
-        Ok(passed) => Ok(verdict_report(alloc, &passed)?),
+        Ok(passed) => Ok(verdict_report(alloc, format, &passed)?),
         Err(fault) => Err(refusal_of_check(fault)),
     }
 }

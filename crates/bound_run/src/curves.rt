@@ -13,56 +13,56 @@ use cache_rules::Trace;
 use capacity_curve::{CurveTerms, points_at};
 use stack_curve::{CurveFault, curve};
 use std::alloc::Global;
-use trace_any::Format;
+use trace_any::{Format, TraceNotes};
 
-/// The report of the curve of a trace of this form, with the number of its lines that were dropped. It takes 8 bytes
+/// The report of the curve of a trace of this form, with what is told beside it. It takes 8 bytes
 /// for each request while it counts, and a line for each number of slots that adds hits.
 pub(crate) fn curve_report(
     alloc: Global,
     format: Format,
     trace: &Trace,
-    dropped: u64,
+    notes: &TraceNotes,
 ) -> Result<Vec<u8>, CurveFault>
-    ensures report { IfOk result (λ text. IsCurveText format trace.now dropped text.items) }
+    ensures report { IfOk result (λ text. IsCurveText format trace.now notes.now text.items) }
     ensures cause { IfErr result (IsCause trace.now.objects) }
 {
     let curve = curve(alloc, trace)?;
     let facts = CurveFacts {
         requests: trace.len(),
         objects: trace.objects(),
-        dropped,
+        dropped: notes.dropped,
     };
     let report = CurveReport {
         facts,
         curve: &curve,
     };
-    Ok(render(alloc, &report, counting_from(format, 0, trace))?)
+    Ok(render(alloc, &report, counting_from(format, 0, trace, &notes.noted))?)
 }
 
-/// The report of the curve over capacities of a trace of this form, with the number of its lines that were dropped.
+/// The report of the curve over capacities of a trace of this form, with what is told beside it.
 pub(crate) fn capacity_curve_report(
     alloc: Global,
     format: Format,
     asked: &CurveTerms,
     capacities: &[u64],
     trace: &Trace,
-    dropped: u64,
+    notes: &TraceNotes,
 ) -> Result<Vec<u8>, NoMemory>
     requires ascending { IsNonDecreasing capacities.now }
     requires range { All IsInRange capacities.now }
     requires denominator { (1 ≤ asked.now.denominator) × (asked.now.denominator ≤ 2 ^ 48) }
-    ensures { IfOk result (λ text. IsCapacityCurveText format asked.now capacities.now trace.now dropped text.items) }
+    ensures { IfOk result (λ text. IsCapacityCurveText format asked.now capacities.now trace.now notes.now text.items) }
 {
     let points = points_at(alloc, trace, capacities, asked)?;
     let facts = CapacityCurveFacts {
         requests: trace.len(),
         objects: trace.objects(),
-        dropped,
+        dropped: notes.dropped,
         asked: *asked,
     };
     let report = CapacityCurveReport {
         facts,
         points: &points,
     };
-    render(alloc, &report, counting_from(format, asked.warmup, trace))
+    render(alloc, &report, counting_from(format, asked.warmup, trace, &notes.noted))
 }

@@ -1,5 +1,6 @@
 //! A demo: bounds of a trace that is drawn, their check, and the replay of each policy.
 ghost use Rattle.std.specs.Prelude.{◌≡◌, None, IfOk, IfErr};
+ghost use Rattle.freshness.specs.Seen.{nothing_noted};
 ghost use Rattle.trace_any.specs.Readings.{full_limits, reading, webcache_form};
 ghost use Rattle.bound_run.specs.Demos.{AreReplays, IsDemoText};
 ghost use Rattle.bound_run.specs.Refusals.{RefusesDemo};
@@ -18,7 +19,7 @@ use demo_trace::{demo_trace, webcache_text};
 use policy_model::PolicyName;
 use replay_core::Replay;
 use std::alloc::Global;
-use trace_any::{Format, Layout};
+use trace_any::{Format, Layout, StaleRequests, TraceNotes};
 
 // Checks a certificate against the lines of a trace, both in memory. No read fails and the certificate is valid, so
 // there is a refusal only if memory runs out.
@@ -40,6 +41,16 @@ fn check_made(alloc: Global, lines: Vec<u8>, cert: Vec<u8>) -> Result<(), Refusa
     }
 }
 
+// No line is dropped, and no request can be stale.
+fn no_notes(alloc: Global) -> TraceNotes
+    ensures { result ≡ record { dropped = 0; noted = nothing_noted } }
+{
+    TraceNotes {
+        dropped: 0,
+        noted: StaleRequests::new(alloc),
+    }
+}
+
 // The replay of a policy at the capacity of the bounds. Every request counts.
 fn replay_whole(
     alloc: Global,
@@ -50,7 +61,7 @@ fn replay_whole(
     ensures { IfOk result (IsReplay policy asked.now.terms.capacity 0 trace.now) }
 {
     let settings = ReplaySettings::new(policy, asked.terms.capacity, 0, false, false);
-    match replay_by(alloc, trace, settings)? {
+    match replay_by(alloc, trace, settings, None)? {
         Answered::Counts(replay) => Ok(replay),
         Answered::Flags(_) => unreachable!(),
     }
@@ -84,7 +95,13 @@ pub(crate) fn demo_report(
     ensures refused { IfErr result (RefusesDemo drawing asked.now) }
 {
     let trace = demo_trace(alloc, drawing.seed, drawing.requests, drawing.objects)?;
-    let texts = texts_of(alloc, Format::lasting(Layout::Webcache), asked, &trace, 0)?;
+    let texts = texts_of(
+        alloc,
+        Format::lasting(Layout::Webcache),
+        asked,
+        &trace,
+        &no_notes(alloc),
+    )?;
     let lines = webcache_text(alloc, &trace)?;
     check_made(alloc, lines, texts.cert)?;
     let replays = replays_of(alloc, &trace, asked)?;

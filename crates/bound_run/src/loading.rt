@@ -19,27 +19,23 @@ use bound_words::{BoundSettings, CapacityList, ReplaySettings};
 use cache_rules::Trace;
 use capacity_curve::CurveTerms;
 use std::alloc::Global;
-use trace_any::{Format, Limits, RequestReader, load};
+use trace_any::{Format, Limits, RequestReader, TraceNotes, load};
 
-// The requests of all that the source has left, and how many lines of it were dropped.
+// The requests of all that the source has left, and what is told beside them.
 fn load_all<T: Source>(
     alloc: Global,
     format: Format,
     trace: &mut T,
-) -> Result<(Trace, u64), Refusal>
+) -> Result<(Trace, TraceNotes), Refusal>
     requires { IsFormat format }
     ensures loaded { IfOk result (λ read. IsLoaded format (seen T.left T.faults trace.old trace.new) read.0 read.1) }
     ensures refused { IfErr result (RefusesLoading format (seen T.left T.faults trace.old trace.new)) }
     ensures source { LosesPrefix (T.left trace.old) (T.left trace.new) }
     ensures none_failed { OnOk result (T.faults trace.new ≡ T.faults trace.old) }
 {
-    // Dropped here, for the proof.
-    let read = {
-        let mut reader = RequestReader::new(alloc, format, Limits::full())?;
-        load(alloc, &mut reader, trace)
-    };
-    match read {
-        Ok(read) => Ok(read),
+    let mut reader = RequestReader::new(alloc, format, Limits::full())?;
+    match load(alloc, &mut reader, trace) {
+        Ok((requests, _)) => Ok((requests, reader.into_notes())),
         Err(fault) => Err(refusal_of(fault)),
     }
 }
@@ -59,8 +55,8 @@ pub(crate) fn prepare<T: Source>(
 {
     // Dropped here, for the proof.
     let texts = {
-        let (requests, dropped) = load_all(alloc, format, trace)?;
-        texts_of(alloc, format, asked, &requests, dropped)
+        let (requests, notes) = load_all(alloc, format, trace)?;
+        texts_of(alloc, format, asked, &requests, &notes)
     };
     Ok(texts?)
 }
@@ -80,8 +76,8 @@ pub(crate) fn replay_all<T: Source>(
 {
     // Dropped here, for the proof.
     let text = {
-        let (requests, dropped) = load_all(alloc, format, trace)?;
-        replay_text(alloc, format, r, &requests, dropped)
+        let (requests, notes) = load_all(alloc, format, trace)?;
+        replay_text(alloc, format, r, &requests, &notes)
     };
     Ok(text?)
 }
@@ -100,8 +96,8 @@ pub(crate) fn curve_all<T: Source>(
 {
     // Dropped here, for the proof.
     let text = {
-        let (requests, dropped) = load_all(alloc, format, trace)?;
-        curve_report(alloc, format, &requests, dropped)
+        let (requests, notes) = load_all(alloc, format, trace)?;
+        curve_report(alloc, format, &requests, &notes)
     };
     match text {
         Ok(text) => Ok(text),
@@ -128,8 +124,8 @@ pub(crate) fn capacity_curve_all<T: Source>(
     let capacities = capacities.capacities(alloc)?;
     // Dropped here, for the proof.
     let text = {
-        let (requests, dropped) = load_all(alloc, format, trace)?;
-        capacity_curve_report(alloc, format, asked, &capacities, &requests, dropped)
+        let (requests, notes) = load_all(alloc, format, trace)?;
+        capacity_curve_report(alloc, format, asked, &capacities, &requests, &notes)
     };
     Ok(text?)
 }

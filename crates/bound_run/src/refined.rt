@@ -19,7 +19,7 @@ use cert_checker::{Kept, Verdict, keep_all};
 use cert_format::{Records, cert_of};
 use price_refine::{Refined, refine};
 use std::alloc::Global;
-use trace_any::Format;
+use trace_any::{Format, TraceNotes};
 
 // The terms of a certificate.
 fn terms_of(header: &Header) -> Terms
@@ -104,7 +104,7 @@ fn texts_of_kept(
     alloc: Global,
     format: Format,
     kept: &Kept,
-    dropped: u64,
+    notes: &TraceNotes,
     width: u32,
 ) -> Result<Texts, NoMemory>
     requires valid { IsValid kept.now.trace.objects kept.now.trace.fills kept.now.verdict.header kept.now.records }
@@ -125,10 +125,10 @@ fn texts_of_kept(
         read_upper: read.upper,
         check: CheckFacts {
             verdict: made,
-            dropped,
+            dropped: notes.dropped,
         },
     };
-    let report = render(alloc, &facts, counting_of(format, &read, kept.trace()))?;
+    let report = render(alloc, &facts, counting_of(format, &read, kept.trace(), &notes.noted))?;
     Ok(Texts { cert, report })
 }
 
@@ -138,7 +138,7 @@ fn keep_read<T: Source, Q: Source>(
     format: Format,
     trace: &mut T,
     cert: &mut Q,
-) -> Result<(Kept, u64), Refusal>
+) -> Result<(Kept, TraceNotes), Refusal>
     requires { IsFormat format }
     ensures kept { IfOk result (λ k. IsKept format
         (seen T.left T.faults trace.old trace.new) (seen Q.left Q.faults cert.old cert.new) k.0 k.1) }
@@ -149,7 +149,7 @@ fn keep_read<T: Source, Q: Source>(
     ensures none_failed { OnOk result ((T.faults trace.new ≡ T.faults trace.old) × (Q.faults cert.new ≡ Q.faults cert.old)) }
 {
     match keep_all(alloc, format, trace, cert) {
-        Ok(found) => Ok(found),
+        Ok((kept, dropped, noted)) => Ok((kept, TraceNotes { dropped, noted })),
         Err(fault) => Err(refusal_of_check(fault)),
     }
 }
@@ -175,8 +175,8 @@ pub(crate) fn refine_all<T: Source, Q: Source>(
 {
     // Dropped here, for the proof.
     let texts = {
-        let (kept, dropped) = keep_read(alloc, format, trace, cert)?;
-        texts_of_kept(alloc, format, &kept, dropped, width)
+        let (kept, notes) = keep_read(alloc, format, trace, cert)?;
+        texts_of_kept(alloc, format, &kept, &notes, width)
     };
     Ok(texts?)
 }

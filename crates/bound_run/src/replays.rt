@@ -21,7 +21,7 @@ use replay_rank::{Belady, Gdsf, Gdsf98, Lfu, Lfuda};
 use replay_recency::{Fifo, Lru};
 use replay_tinylfu::WTinyLfu;
 use std::alloc::Global;
-use trace_any::Format;
+use trace_any::{Format, TraceNotes};
 
 /// What a replay answers: its counts, or a flag for each request, whether it is a hit.
 #[derive(Drop)]
@@ -132,16 +132,16 @@ fn counts_text(
     format: Format,
     r: ReplaySettings,
     trace: &Trace,
-    dropped: u64,
+    notes: &TraceNotes,
     replay: Replay,
 ) -> Result<Vec<u8>, NoMemory>
     requires { IsReplay r.policy r.capacity r.warmup trace.now replay }
-    ensures { IfOk result (λ text. IsCountsText format r trace.now dropped text.items) }
+    ensures { IfOk result (λ text. IsCountsText format r trace.now notes.now text.items) }
 {
     let facts = ReplayFacts {
         requests: trace.len(),
         objects: trace.objects(),
-        dropped,
+        dropped: notes.dropped,
         policy: r.policy,
         capacity: r.capacity,
         replay,
@@ -150,18 +150,18 @@ fn counts_text(
     render(alloc, &facts, counting_from(format, r.warmup, trace))
 }
 
-/// What the replay of a trace of this form prints, with the number of its lines that were dropped.
+/// What the replay of a trace of this form prints, with what is told beside it.
 pub(crate) fn replay_text(
     alloc: Global,
     format: Format,
     r: ReplaySettings,
     trace: &Trace,
-    dropped: u64,
+    notes: &TraceNotes,
 ) -> Result<Vec<u8>, NoMemory>
-    ensures { IfOk result (λ text. IsReplayText format r trace.now dropped text.items) }
+    ensures { IfOk result (λ text. IsReplayText format r trace.now notes.now text.items) }
 {
     match replay_by(alloc, trace, r)? {
-        Answered::Counts(replay) => counts_text(alloc, format, r, trace, dropped, replay),
+        Answered::Counts(replay) => counts_text(alloc, format, r, trace, notes, replay),
         Answered::Flags(flags) => flags_text(alloc, &flags, trace.len()),
     }
 }
