@@ -6,6 +6,7 @@ use Rattle.bound_io.specs.Lines.{stands_in}
 use Rattle.bound_io.specs.Positions.{Position}
 use Rattle.cache_model.specs.declared.objects.Object.{Object}
 use Rattle.cache_rules.specs.Stored.{Requests}
+use Rattle.freshness.specs.Seen.{Staleness}
 use Rattle.trace_any.specs.declared.fault.TraceFault.{TraceFault}
 use Rattle.trace_any.specs.declared.fault.TraceFault.TheVariants as of_trace
 use Rattle.trace_any.specs.declared.format.Format.{Format}
@@ -291,3 +292,10 @@ more_unread format trace hits given flags at between faults_between fault remain
 pub over_at_end : (now later : Reader) (between after : Option (List ℕ)) → IfSome between (λ bytes. GivesNone now later bytes after) → IfSome between (λ bytes. IsOver (to_come now bytes) later.dropped None)
 over_at_end now later None after none = tt
 over_at_end now later (Some bytes) after none = none.0
+
+-- once no request is left, what the reader has noted is what the reading notes
+pub noted_at_end : (first second third : Reader) (given : Requests) (noted : Staleness) (before between later : Option (List ℕ)) → IfSome before (λ bytes. GoesOn (after_all given) first second bytes between)
+    → IfSome between (λ bytes. GivesNone second third bytes later) → noted ≡ third.seen.noted → IfSome before (λ bytes. (to_come first bytes).seen.noted ≡ noted)
+noted_at_end first second third given noted None between later goes_on none has = tt
+noted_at_end first second third given noted (Some bytes) between later goes_on none has =
+    let over = rw (goes_on.rest) at none in ap (λ r. r.seen.noted) goes_on.coming ∙ (ap (λ s. s.noted) over.3 ∙ sym has)

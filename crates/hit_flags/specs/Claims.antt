@@ -3,10 +3,11 @@ use Rattle.std.specs.Prelude.{◌≡◌, ◌⊎◌, ℕ, ◌+◌, min, Bool, Lis
 use Rattle.bit_list.specs.Bits.{bits_of}
 use Rattle.bound_io.specs.Devices.{Device, HasFailed}
 use Rattle.cache_rules.specs.Stored.{Requests}
+use Rattle.freshness.specs.Seen.{noted_of}
 use Rattle.trace_any.specs.declared.fault.TraceFault.TheVariants as of_trace
 use Rattle.trace_any.specs.declared.format.Format.{Format}
 use Rattle.trace_any.specs.Readings.{reading, full_limits}
-use Rattle.trace_any.specs.Loads.{IsLoaded, IsRefused}
+use Rattle.trace_any.specs.Loads.{IsLoaded, IsNoted, IsRefused}
 use Rattle.hit_flags.specs.declared.claims.Claims.{Claims}
 use Rattle.hit_flags.specs.declared.fault.FlagFault.{FlagFault}
 use Rattle.hit_flags.specs.declared.fault.FlagFault.TheVariants.{Trace, NotFlag, Count, ReadFault, NoMemory}
@@ -23,9 +24,10 @@ pub record AreRead (format : Format) (trace hits : Device) (requests : Requests)
   pub flags_are : AreFlags hits flags
   pub as_many : length flags ≡ length requests.objects
 
--- the same of claims, which have them all
-abbrev pub ReadsClaims : Format → Device → Device → Claims → Type 0
-ReadsClaims format trace hits c = AreRead format trace hits c.trace c.dropped (bits_of c.flags)
+-- the same of claims, which have them all, and what is noted of the requests of all that was read
+pub record ReadsClaims (format : Format) (trace hits : Device) (c : Claims) : Type 0 where
+  pub read : AreRead format trace hits c.trace c.dropped (bits_of c.flags)
+  pub noted : IsNoted format trace (noted_of c.noted)
 
 -- it stops the reading by turns of all that the two sources had left, if the bytes of both are known
 abbrev pub StopsBoth : Format → Device → Device → FlagFault → Type 0

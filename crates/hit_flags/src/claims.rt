@@ -14,43 +14,45 @@ use bit_list::BitList;
 use bound_io::{LineReader, Source};
 use cache_rules::Trace;
 use std::alloc::Global;
-use trace_any::{Format, Limits, RequestReader, builder_for, push_given};
+use trace_any::{Format, Limits, RequestReader, StaleRequests, builder_for, push_given};
 
 // The most bytes of flags that a reader of lines takes. The lines of all flags have less.
 const MOST_BYTES: u64 = 1 << 36;
 
-/// A trace, how many lines of it were dropped, and a flag for each request: whether a simulator counted a hit.
+/// A trace, how many lines of it were dropped, a flag for each request, which says whether a simulator counted a hit, and
+/// what is noted of the requests, if some can be stale.
 #[derive(Debug, Drop)]
 pub struct Claims {
     pub trace: Trace,
     pub dropped: u64,
     pub flags: BitList,
+    pub noted: StaleRequests,
 }
 
 // The claims of two readers that have read nothing, by turns: a request, and then its flag.
 fn read_turns<T: Source, H: Source>(
     alloc: Global,
-    reader: &mut RequestReader,
+    mut reader: RequestReader,
     trace: &mut T,
     lines: &mut LineReader,
     hits: &mut H,
 ) -> Result<Claims, FlagFault>
-    requires reader { reader.old ≡ fresh reader.old.format full_limits }
+    requires reader { reader ≡ fresh reader.format full_limits }
     requires lines { lines.old ≡ nothing_read }
-    ensures read { IfOk result (ReadsClaims reader.old.format (seen T.left T.faults trace.old trace.new) (seen H.left H.faults hits.old hits.new)) }
-    ensures unread { IfErr result (AreUnread reader.old.format (seen T.left T.faults trace.old trace.new) (seen H.left H.faults hits.old hits.new)) }
+    ensures read { IfOk result (ReadsClaims reader.format (seen T.left T.faults trace.old trace.new) (seen H.left H.faults hits.old hits.new)) }
+    ensures unread { IfErr result (AreUnread reader.format (seen T.left T.faults trace.old trace.new) (seen H.left H.faults hits.old hits.new)) }
     ensures trace_source { LosesPrefix (T.left trace.old) (T.left trace.new) }
     ensures hits_source { LosesPrefix (H.left hits.old) (H.left hits.new) }
     ensures none_failed { OnOk result ((T.faults trace.new ≡ T.faults trace.old) × (H.faults hits.new ≡ H.faults hits.old)) }
     ensures else_none_failed { IfErr result (AreCalmBut (seen T.left T.faults trace.old trace.new) (seen H.left H.faults hits.old hits.new)) }
-    ensures near { IfErr result (AreNear reader.old.format (seen T.left T.faults trace.old trace.new) (seen H.left H.faults hits.old hits.new)) }
+    ensures near { IfErr result (AreNear reader.format (seen T.left T.faults trace.old trace.new) (seen H.left H.faults hits.old hits.new)) }
 {
-    let mut requests = builder_for(alloc, reader)?;
+    let mut requests = builder_for(alloc, &reader)?;
     let mut flags = BitList::new(alloc);
     while let Some(object) = reader.next(alloc, trace)? {
         let flag = flag_for(lines, hits)?;
         flags.make_room()?;
-        push_given(&mut requests, reader, object)?;
+        push_given(&mut requests, &reader, object)?;
         flags.push_reserved(flag);
     }
     no_more(lines, hits)?;
@@ -58,6 +60,7 @@ fn read_turns<T: Source, H: Source>(
         trace: requests.finish(),
         dropped: reader.dropped(),
         flags,
+        noted: reader.into_noted(),
     })
 }
 
@@ -81,6 +84,6 @@ pub fn read_claims<T: Source, H: Source>(
     ensures near { IfErr result (AreNear format (seen T.left T.faults trace.old trace.new) (seen H.left H.faults hits.old hits.new)) }
 {
     let mut lines = LineReader::new(alloc, MOST_BYTES)?;
-    let mut reader = RequestReader::new(alloc, format, Limits::full())?;
-    read_turns(alloc, &mut reader, trace, &mut lines, hits)
+    let reader = RequestReader::new(alloc, format, Limits::full())?;
+    read_turns(alloc, reader, trace, &mut lines, hits)
 }

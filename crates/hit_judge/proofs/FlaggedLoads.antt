@@ -1,7 +1,7 @@
 -- Loads of flagged intervals, from step to step.
-use Rattle.std.proofs.Common.{◌≡◌, ℕ, ◌+◌, ◌<◌, ◌≤◌, ◌∙◌, sym, refl, ap, Bool, true, false, ◌&&◌, ◌==◌, cond, List, [], ◌∷◌, length, arith, ⊎_elim, All, sum_by, get_or, nat_lt}
+use Rattle.std.proofs.Common.{◌≡◌, ℕ, ◌+◌, ◌<◌, ◌≤◌, ◌∙◌, sym, refl, ap, Bool, true, false, ◌&&◌, ◌==◌, cond, List, [], ◌∷◌, length, arith, ⊎_elim, All, sum_by, get_or}
 use Rattle.std.specs.List.{list_any}
-use Rattle.std.proofs.lemmas.Bool.{cases_lt, both_ways, and_from, and_cases, or_left, or_right, eq-eqb, le-leb, lt-ltb}
+use Rattle.std.proofs.lemmas.Bool.{cases_Bool, cases_lt, both_ways, and_from, eq-eqb, le-leb}
 use Rattle.std.proofs.lemmas.List.Elements.{All-head, All-tail, All-weaker}
 use Rattle.std.proofs.lemmas.List.Folds.{list_any_at}
 use Rattle.std.proofs.lemmas.List.Sums.{sum_by-cons}
@@ -22,7 +22,7 @@ use Rattle.cache_model.proofs.Members.{All-eligible_from, All-eligible_intervals
 use Rattle.cache_model.proofs.Rounding.{sum_by-none}
 use Rattle.cache_model.proofs.Scores.{first_or_next, latest_sum-first, latest_sum-next}
 use Rattle.judge_laws.specs.Flags.{is_flagged, intervals_within, flagged_load}
-use Rattle.hit_judge.specs.Causes.{never_hits, IsNextFlagged}
+use Rattle.hit_judge.specs.Causes.{CanHitFlagged, IsNextFlagged}
 
 -- two sums whose terms agree at each element
 sum_by-agree_all : {X : Type 0} (f g : X → ℕ) (xs : List X) → All (λ x. f x ≡ g x) xs → sum_by f xs ≡ sum_by g xs
@@ -81,14 +81,14 @@ module _ (c : ℕ) (trace : List Object) (flags : List Bool) where
       at true flagged size amount e = sym e
       at false flagged size amount e = refl
 
-  module _ (clear : (k : ℕ) → k < length trace → (is_flagged flags k && never_hits c trace k) ≡ false) where
+  module _ (can_hit : CanHitFlagged c trace flags) where
     -- where no contents can hit there is no flag
-    no_flag : (k : ℕ) → k < length trace → never_hits c trace k ≡ true → is_flagged flags k ≡ false
+    no_flag : (k : ℕ) → k < length trace → ((is_first trace k ≡ false) × ((request_at trace k).size ≤ c) → ⊥) → is_flagged flags k ≡ false
     no_flag k within never =
         ⊎_elim
+        (λ (yes : is_flagged flags k ≡ true). absurd (never (can_hit k within yes)))
         (λ (no : is_flagged flags k ≡ false). no)
-        (λ (hits : never_hits c trace k ≡ false). absurd (both_ways (never_hits c trace k) hits never))
-        (and_cases (is_flagged flags k) (never_hits c trace k) (clear k within))
+        (cases_Bool (is_flagged flags k))
 
     -- what starts at request a is the size of its object if the next request of it is flagged, whether it fits or not
     flagged_from-next : (a b : ℕ) → IsNext trace a b → flagged_from a ≡ cond (is_flagged flags b) (request_at trace b).size 0
@@ -98,7 +98,7 @@ module _ (c : ℕ) (trace : List Object) (flags : List Bool) where
         ⊎_elim
         (λ (large : c < (request_at trace a).size).
         let no : is_flagged flags b ≡ false =
-        no_flag b next.within (or_right (is_first trace b) (nat_lt c (request_at trace b).size) (lt-ltb c (request_at trace b).size (omega arith))) in
+        no_flag b next.within (λ hit. omega (arith, hit.1)) in
         ap (sum_by (λ (i : Interval). cond (is_flagged flags i.end) i.size 0)) (eligible_from_too_large (terms_from Hits c 0 []) trace a large)
         ∙ sym (ap (λ f. cond f (request_at trace b).size 0) no))
         (λ (fits : (request_at trace a).size ≤ c). flagged_from-fits a b next fits ∙ ap (λ n. cond (is_flagged flags b) n 0) size)
@@ -129,7 +129,7 @@ module _ (c : ℕ) (trace : List Object) (flags : List Bool) where
     load-request t within starts next_or_last =
         ⊎_elim
         (λ (first : IsFirst trace t).
-        let no : is_flagged flags t ≡ false = no_flag t within (or_left (is_first trace t) (nat_lt c (request_at trace t).size) (is_first-yes trace t (omega arith) first)) in
+        let no : is_flagged flags t ≡ false = no_flag t within (λ hit. both_ways (is_first trace t) hit.0 (is_first-yes trace t (omega arith) first)) in
         omega (
           arith,
           latest_sum-first trace t within flagged_from first,

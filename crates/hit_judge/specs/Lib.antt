@@ -1,2 +1,3 @@
+pub mod Possible
 pub mod Causes
 pub mod Claims

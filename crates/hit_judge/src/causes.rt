@@ -1,8 +1,9 @@
 //! Why claimed hits are not possible.
-ghost use Rattle.std.specs.Prelude.{◌≡◌, ◌≤◌, ◌<◌, ◌+◌, ◌^◌, None, if◌then◌else◌, length};
+ghost use Rattle.std.specs.Prelude.{◌≡◌, ◌≤◌, ◌<◌, ◌+◌, ◌^◌, if◌then◌else◌, length};
 ghost use Rattle.bit_list.specs.Bits.{bits_of};
 ghost use Rattle.cache_model.specs.Claim.{request_at};
-ghost use Rattle.hit_judge.specs.Causes.{never_hits, request_cause, first_at_request, IsNextFlagged, first_at_step};
+ghost use Rattle.cache_model.specs.Objects.{is_first};
+ghost use Rattle.hit_judge.specs.Causes.{CanHitFlagged, never_hits, request_cause, first_at_request, IsNextFlagged, first_at_step};
 
 use bit_list::BitList;
 use cache_rules::Trace;
@@ -14,6 +15,9 @@ pub enum Impossible {
     First { request: u32 },
     /// The object of the flagged request is larger than the capacity: its size, in bytes.
     Size { request: u32, size: u64 },
+    /// The flagged request is stale: its object expired or was replaced since it was last asked for. Its object is no larger
+    /// than the capacity, and was asked for before.
+    Stale { request: u32 },
     /// The sizes of the flagged intervals over the step sum to more than the capacity: that sum, in bytes.
     Load { step: u32, load: u128 },
 }
@@ -27,15 +31,20 @@ pub(crate) fn requested_size(trace: &Trace, t: u32) -> u64
     trace.object(trace.request(t)).size
 }
 
-// Whether no contents can hit at request `t`.
-fn never_hits(trace: &Trace, capacity: u64, t: u32) -> bool
+// Whether request `t` is the first of its object.
+fn is_first(trace: &Trace, t: u32) -> bool
     requires within { t < length trace.now.objects }
-    ensures { result ≡ never_hits capacity trace.now.objects t }
+    ensures { result ≡ is_first trace.now.objects t }
 {
-    match trace.prev(t) {
-        Some(_) => requested_size(trace, t) > capacity,
-        None => true,
-    }
+    trace.prev(t).is_none()
+}
+
+// Whether no contents can hit at request `t`.
+fn never_hits(trace: &Trace, stale: &BitList, capacity: u64, t: u32) -> bool
+    requires within { t < length trace.now.objects }
+    ensures { result ≡ never_hits capacity trace.now.objects (bits_of stale.now) t }
+{
+    is_first(trace, t) || requested_size(trace, t) > capacity || stale.get(t as usize)
 }
 
 // Why no contents can hit at request `t`, if none can.
@@ -46,17 +55,24 @@ fn request_cause(trace: &Trace, capacity: u64, t: u32) -> Impossible
     let size = requested_size(trace, t);
     if size > capacity {
         Impossible::Size { request: t, size }
-    } else {
+    } else if is_first(trace, t) {
         Impossible::First { request: t }
+    } else {
+        Impossible::Stale { request: t }
     }
 }
 
 // The cause at the first flagged request where no contents can hit.
-pub(crate) fn first_at_request(trace: &Trace, flags: &BitList, capacity: u64) -> Option<Impossible>
-    ensures { result ≡ first_at_request capacity trace.now.objects (bits_of flags.now) }
+pub(crate) fn first_at_request(
+    trace: &Trace,
+    stale: &BitList,
+    flags: &BitList,
+    capacity: u64,
+) -> Option<Impossible>
+    ensures { result ≡ first_at_request capacity trace.now.objects (bits_of stale.now) (bits_of flags.now) }
 {
     for t in 0..trace.len() {
-        if flags.get(t as usize) && never_hits(trace, capacity, t) {
+        if flags.get(t as usize) && never_hits(trace, stale, capacity, t) {
             return Some(request_cause(trace, capacity, t));
         }
     }
@@ -92,7 +108,7 @@ fn moved(load: u128, size: u64, starts: bool, ends: bool) -> u128
 
 // The cause at the first step whose flagged load is above the capacity. It sums one running load.
 pub(crate) fn first_at_step(trace: &Trace, flags: &BitList, capacity: u64) -> Option<Impossible>
-    requires hits { first_at_request capacity trace.now.objects (bits_of flags.now) ≡ None }
+    requires hits { CanHitFlagged capacity trace.now.objects (bits_of flags.now) }
     ensures { result ≡ first_at_step capacity trace.now.objects (bits_of flags.now) }
 {
     let mut load = 0;

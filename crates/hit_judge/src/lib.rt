@@ -1,7 +1,7 @@
 //! Whether the hits that a simulator claims are possible, and the least bytes that they must write.
 //!
-//! The rules are "Possible flags", "What flags claim" and "Least written bytes of flags" in docs/DEFINITIONS.md. It goes
-//! over the trace at most four times, and takes no memory.
+//! The rules are "Possible flags", "Stale request", "What flags claim" and "Least written bytes of flags" in
+//! docs/DEFINITIONS.md. It goes over the trace at most four times, and takes no memory.
 #![tactic(auto)]
 
 mod causes;

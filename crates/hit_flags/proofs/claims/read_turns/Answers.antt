@@ -1,4 +1,4 @@
-use Rattle.std.proofs.Common.{◌≡◌, ◌+◌, ◌∙◌, ℕ, List, Option, refl, sym, length, IfSome, ap, subst, arith, length-append, Some, None, [], ◌∷◌, ◌++◌}
+use Rattle.std.proofs.Common.{◌≡◌, ◌+◌, ◌∙◌, ℕ, List, Option, refl, sym, length, IfSome, ap, subst, arith, length-append, Some, None, [], ◌∷◌, ◌++◌, ◌⊎◌, inl, inr}
 use Rattle.std.proofs.lemmas.Result.{err_from_is_err_and}
 use Rattle.bit_list.specs.Bits.{bits_of}
 use Rattle.bound_io.specs.Devices.{seen}
@@ -6,16 +6,31 @@ use Rattle.bound_io.specs.Lines.{stands_in}
 use Rattle.bound_io.proofs.KnownLemmas.{loses_then}
 use Rattle.trace_any.specs.Readers.{IsStopped, IsWhole, last_mark, known as trace_known}
 use Rattle.cache_rules.specs.Stored.{with_request}
+use Rattle.freshness.specs.Seen.{noted_of}
 use Rattle.trace_any.specs.FirstLines.{HasLostFor}
 use Rattle.trace_any.specs.Readings.{full_limits}
+use Rattle.trace_any.specs.declared.fault.TraceFault.{TraceFault}
+use Rattle.trace_any.specs.declared.fault.TraceFault.TheVariants as of_trace
+use Rattle.hit_flags.specs.declared.fault.FlagFault.{FlagFault}
+use Rattle.hit_flags.specs.declared.fault.FlagFault.TheVariants.{Trace, ReadFault}
 use Rattle.hit_flags.specs.Lines.{nothing_read}
 use Rattle.trace_any.proofs.Stopping.{given_more, nothing_given, rests_after, stands_then, through_given}
 use Rattle.trace_any.proofs.Coming.{after_all, goes_nowhere, loses_nothing, loads_all, loads_more, loads_to_end}
 use Rattle.trace_any.proofs.Loads.{from_start, nothing_left}
 use Rattle.trace_any.proofs.Lost.{lost_through}
-use Rattle.hit_flags.proofs.Ends.{HasFlags, all_flags, flag_unread, more_flags, more_unread, no_flags, none_follows, one_follows, over_at_end, stands_in-nothing, trace_unread}
+use Rattle.hit_flags.proofs.Ends.{HasFlags, all_flags, flag_unread, more_flags, more_unread, no_flags, none_follows, noted_at_end, one_follows, over_at_end, stands_in-nothing, trace_unread}
 use Rattle.hit_flags.proofs.Near.{lost_all, lost_flags, lost_given, lost_lines, near_turn, past_nothing, past_then}
 use Rattle.hit_flags.proofs.claims.read_turns.Goals as goal
+
+-- what stops the trace is a failed read of it, or none failed
+calm_trace : (fault : TraceFault) (before between after : ℕ) → (fault ≡ of_trace.ReadFault) ⊎ (after ≡ between) → between ≡ before → (Trace fault ≡ Trace of_trace.ReadFault) ⊎ (after ≡ before)
+calm_trace fault before between after (inl read) same = inl (ap (λ f. Trace f) read)
+calm_trace fault before between after (inr none) same = inr (none ∙ same)
+
+-- what stops the flags is a failed read of them, or none failed
+calm_hits : (fault : FlagFault) (before between after : ℕ) → (fault ≡ ReadFault) ⊎ (after ≡ between) → between ≡ before → (fault ≡ ReadFault) ⊎ (after ≡ before)
+calm_hits fault before between after (inl read) same = inl read
+calm_hits fault before between after (inr none) same = inr (none ∙ same)
 
 pub returns-in_err-object-clause-unread : goal.returns-in_err-object-clause-unread
 returns-in_err-object-clause-unread g c =
@@ -24,7 +39,7 @@ returns-in_err-object-clause-unread g c =
     let trace = seen g.T.Source.left g.T.Source.faults c.args.trace.now c.next.new.source in
     let hits = seen g.H.Source.left g.H.Source.faults c.args.hits.now c.loop-flags.hits in
     let why = subst (λ n. IsStopped c.loop-flags.reader c.next.new.self (trace_known c.loop-flags.reader (g.T.Source.left c.loop-flags.trace)) n (g.T.Source.faults c.next.new.source) c.in_err-object.field-0.0) i.trace_faults (c.in_err-object.ensures.next i.fault) in
-    rw (p.1, p.2) (trace_unread c.args.reader.now.format trace hits c.args.reader.now c.loop-flags.reader c.next.new.self c.loop-flags.requests.requests (bits_of c.loop-flags.flags) c.loop-flags.lines _ _ c.in_err-object.field-0.0 c.requires.reader i.goes_on i.as_many i.flagged why)
+    rw (p.1, p.2) (trace_unread c.args.reader.format trace hits c.args.reader c.loop-flags.reader c.next.new.self c.loop-flags.requests.requests (bits_of c.loop-flags.flags) c.loop-flags.lines _ _ c.in_err-object.field-0.0 c.requires.reader i.goes_on i.as_many i.flagged why)
 
 pub returns-in_err-object-clause-trace_source : goal.returns-in_err-object-clause-trace_source
 returns-in_err-object-clause-trace_source g c = loses_then _ _ _ (c.next.ensures.source.0) (c.loop-flags.invariant.trace_source) (c.next.ensures.source.1)
@@ -37,8 +52,8 @@ returns-in_err-flag-clause-unread g c =
     let hits = seen g.H.Source.left g.H.Source.faults c.args.hits.now c.flag_for.new.hits in
     let object = c.in-Some.object in
     let next = rw (c.in-Some.is) at (c.in_ok-object.ensures.next i.fault) in
-    let remains = one_follows c.args.reader.now.format c.args.reader.now c.loop-flags.reader c.next.new.self c.loop-flags.requests.requests object (last_mark c.next.new.self) _ _ _ c.requires.reader i.goes_on next.1 in
-    rw (p.1, p.2) (flag_unread c.args.reader.now.format trace hits c.loop-flags.requests.requests.objects (bits_of c.loop-flags.flags) c.loop-flags.lines _ object _ c.in_err-flag.field-0.0 remains i.as_many i.flagged i.line i.hits_faults c.in_err-flag.ensures.stopped c.in_err-flag.ensures.count)
+    let remains = one_follows c.args.reader.format c.args.reader c.loop-flags.reader c.next.new.self c.loop-flags.requests.requests object (last_mark c.next.new.self) _ _ _ c.requires.reader i.goes_on next.1 in
+    rw (p.1, p.2) (flag_unread c.args.reader.format trace hits c.loop-flags.requests.requests.objects (bits_of c.loop-flags.flags) c.loop-flags.lines _ object _ c.in_err-flag.field-0.0 remains i.as_many i.flagged i.line i.hits_faults c.in_err-flag.ensures.stopped c.in_err-flag.ensures.count)
 
 pub returns-in_err-flag-clause-trace_source : goal.returns-in_err-flag-clause-trace_source
 returns-in_err-flag-clause-trace_source g c = loses_then _ _ _ (c.next.ensures.source.0) (c.loop-flags.invariant.trace_source) (c.next.ensures.source.1)
@@ -60,7 +75,7 @@ returns-in_err-push_given-clause-hits_source g c = loses_then _ _ _ (c.flag_for.
 
 pub loop-flags-init : goal.loop-flags-init
 loop-flags-init g c =
-    let reader = c.args.reader.now in
+    let reader = c.args.reader in
     let lines = c.args.lines.now in
     let left = g.H.Source.left c.args.hits.now in
     let empty : c.in_ok-requests.requests.requests ≡ record { objects = []; fills = [] } = ap (λ b. b.requests) c.in_ok-requests.ensures in
@@ -103,8 +118,8 @@ loop-flags-preserved g c =
       fault = c.in_ok-object.ensures.fault i.fault;
       given = rw pushed (omega (arith, next.0, i.given, length-append given.objects (object ∷ [])));
       few = rw pushed (omega (arith, next.0, i.given, n.few.1, n.few.2, length-append given.objects (object ∷ [])));
-      goes_on = rw pushed (loads_more c.args.reader.now c.loop-flags.reader c.next.new.self given object (last_mark c.next.new.self) _ _ _ i.goes_on next.1);
-      given_all = rw pushed (given_more c.args.reader.now c.loop-flags.reader c.next.new.self given object (last_mark c.next.new.self) _ _ (rests_after given c.args.reader.now c.loop-flags.reader _ _ i.goes_on) i.given_all (rw (c.in-Some.is) at (c.in_ok-object.ensures.lines i.fault)));
+      goes_on = rw pushed (loads_more c.args.reader c.loop-flags.reader c.next.new.self given object (last_mark c.next.new.self) _ _ _ i.goes_on next.1);
+      given_all = rw pushed (given_more c.args.reader c.loop-flags.reader c.next.new.self given object (last_mark c.next.new.self) _ _ (rests_after given c.args.reader c.loop-flags.reader _ _ i.goes_on) i.given_all (rw (c.in-Some.is) at (c.in_ok-object.ensures.lines i.fault)));
       flags_past = past_then nothing_read c.loop-flags.lines c.flag_for.new.lines _ _ _ i.flags_past c.flag_for.ensures.lines.past;
       flags_held = c.flag_for.ensures.lines.held;
       going = c.in_ok-flag.ensures.line.1;
@@ -127,8 +142,8 @@ returns-in_err-no_more-clause-unread g c =
     let trace = seen g.T.Source.left g.T.Source.faults c.args.trace.now c.next.new.source in
     let hits = seen g.H.Source.left g.H.Source.faults c.args.hits.now c.no_more.new.hits in
     let next = rw (c.in_default.is) at (c.in_ok-object.ensures.next i.fault) in
-    let remains = none_follows c.args.reader.now.format c.args.reader.now c.loop-flags.reader c.loop-flags.requests.requests _ _ c.next.new.self.dropped None c.requires.reader i.goes_on (over_at_end c.loop-flags.reader c.next.new.self _ _ next) in
-    rw (p.1, p.2) (more_unread c.args.reader.now.format trace hits c.loop-flags.requests.requests.objects (bits_of c.loop-flags.flags) c.loop-flags.lines _ _ c.in_err-no_more.field-0.0 remains i.as_many i.flagged i.line i.hits_faults c.in_err-no_more.ensures.stopped c.in_err-no_more.ensures.count)
+    let remains = none_follows c.args.reader.format c.args.reader c.loop-flags.reader c.loop-flags.requests.requests _ _ c.next.new.self.dropped None c.requires.reader i.goes_on (over_at_end c.loop-flags.reader c.next.new.self _ _ next) in
+    rw (p.1, p.2) (more_unread c.args.reader.format trace hits c.loop-flags.requests.requests.objects (bits_of c.loop-flags.flags) c.loop-flags.lines _ _ c.in_err-no_more.field-0.0 remains i.as_many i.flagged i.line i.hits_faults c.in_err-no_more.ensures.stopped c.in_err-no_more.ensures.count)
 
 pub returns-in_err-no_more-clause-trace_source : goal.returns-in_err-no_more-clause-trace_source
 returns-in_err-no_more-clause-trace_source g c = loses_then _ _ _ (c.next.ensures.source.0) (c.loop-flags.invariant.trace_source) (c.next.ensures.source.1)
@@ -139,22 +154,25 @@ returns-in_err-no_more-clause-hits_source g c = loses_then _ _ _ (c.no_more.ensu
 pub returns-clause-read : goal.returns-clause-read
 returns-clause-read g c =
     let i = c.loop-flags.invariant in
-    let format = c.args.reader.now.format in
+    let format = c.args.reader.format in
     let given = c.loop-flags.requests.requests in
     let next = rw (c.in_default.is) at (c.in_ok-object.ensures.next i.fault) in
-    let whole = loads_all c.args.reader.now c.loop-flags.reader c.next.new.self given.objects given.fills _ _ _ i.goes_on next in
-    let end = loads_to_end c.args.reader.now c.loop-flags.reader c.next.new.self given.objects given.fills _ _ _ i.goes_on next in
+    let whole = loads_all c.args.reader c.loop-flags.reader c.next.new.self given.objects given.fills _ _ _ i.goes_on next in
+    let end = loads_to_end c.args.reader c.loop-flags.reader c.next.new.self given.objects given.fills _ _ _ i.goes_on next in
     let flags = all_flags (bits_of c.loop-flags.flags) c.loop-flags.lines _ _ _ i.flagged c.in_ok-no_more.ensures.end in
     rw (c.finish.ensures, c.dropped.ensures) (record {
-      loaded = record {
-        read = from_start format c.args.reader.now (g.T.Source.left c.args.trace.now) (λ r. IsWhole r given c.next.new.self.dropped) c.requires.reader whole;
-        nothing_left = nothing_left (g.T.Source.left c.args.trace.now) (g.T.Source.left c.next.new.source) c.next.new.self.lines.held (from_start format c.args.reader.now (g.T.Source.left c.args.trace.now) (λ _. stands_in c.next.new.self.lines.held (g.T.Source.left c.next.new.source) ≡ Some []) c.requires.reader end);
+      read = record {
+        loaded = record {
+          read = from_start format c.args.reader (g.T.Source.left c.args.trace.now) (λ r. IsWhole r given c.next.new.self.dropped) c.requires.reader whole;
+          nothing_left = nothing_left (g.T.Source.left c.args.trace.now) (g.T.Source.left c.next.new.source) c.next.new.self.lines.held (from_start format c.args.reader (g.T.Source.left c.args.trace.now) (λ _. stands_in c.next.new.self.lines.held (g.T.Source.left c.next.new.source) ≡ Some []) c.requires.reader end);
+        };
+        flags_are = record {
+          lines = flags.0;
+          nothing_left = nothing_left (g.H.Source.left c.args.hits.now) (g.H.Source.left c.no_more.new.hits) c.no_more.new.lines.held flags.1;
+        };
+        as_many = i.as_many;
       };
-      flags_are = record {
-        lines = flags.0;
-        nothing_left = nothing_left (g.H.Source.left c.args.hits.now) (g.H.Source.left c.no_more.new.hits) c.no_more.new.lines.held flags.1;
-      };
-      as_many = i.as_many;
+      noted = from_start format c.args.reader (g.T.Source.left c.args.trace.now) (λ r. r.seen.noted ≡ noted_of c.into_noted.result) c.requires.reader (noted_at_end c.args.reader c.loop-flags.reader c.next.new.self given (noted_of c.into_noted.result) _ _ _ i.goes_on next c.into_noted.ensures);
     })
 
 pub returns-clause-trace_source : goal.returns-clause-trace_source
@@ -174,9 +192,9 @@ returns-in_err-object-clause-near g c =
     let p = err_from_is_err_and c.from_residual-in_err-object.result c.from_residual-in_err-object.ensures.1 in
     let trace = seen g.T.Source.left g.T.Source.faults c.args.trace.now c.next.new.source in
     let hits = seen g.H.Source.left g.H.Source.faults c.args.hits.now c.loop-flags.hits in
-    let format = c.args.reader.now.format in
+    let format = c.args.reader.format in
     let given = c.loop-flags.requests.requests in
-    let first = c.args.reader.now in
+    let first = c.args.reader in
     let second = c.loop-flags.reader in
     let third = c.next.new.self in
     let stops = c.in_err-object.ensures.no_further i.fault in
@@ -192,11 +210,11 @@ returns-in_err-flag-clause-near g c =
     let p = err_from_is_err_and c.from_residual-in_err-flag.result c.from_residual-in_err-flag.ensures.1 in
     let trace = seen g.T.Source.left g.T.Source.faults c.args.trace.now c.next.new.source in
     let hits = seen g.H.Source.left g.H.Source.faults c.args.hits.now c.flag_for.new.hits in
-    let format = c.args.reader.now.format in
+    let format = c.args.reader.format in
     let given = c.loop-flags.requests.requests in
     let object = c.in-Some.object in
     let mark = last_mark c.next.new.self in
-    let first = c.args.reader.now in
+    let first = c.args.reader in
     let second = c.loop-flags.reader in
     let third = c.next.new.self in
     let next = rw (c.in-Some.is) at (c.in_ok-object.ensures.next i.fault) in
@@ -217,9 +235,9 @@ returns-in_err-no_more-clause-near g c =
     let p = err_from_is_err_and c.from_residual-in_err-no_more.result c.from_residual-in_err-no_more.ensures.1 in
     let trace = seen g.T.Source.left g.T.Source.faults c.args.trace.now c.next.new.source in
     let hits = seen g.H.Source.left g.H.Source.faults c.args.hits.now c.no_more.new.hits in
-    let format = c.args.reader.now.format in
+    let format = c.args.reader.format in
     let given = c.loop-flags.requests.requests in
-    let first = c.args.reader.now in
+    let first = c.args.reader in
     let second = c.loop-flags.reader in
     let third = c.next.new.self in
     let next = rw (c.in_default.is) at (c.in_ok-object.ensures.next i.fault) in
@@ -233,3 +251,39 @@ returns-in_err-no_more-clause-near g c =
       requests = subst (λ n. IfSome (g.T.Source.left c.args.trace.now) (λ bytes. IfSome (g.T.Source.left c.next.new.source) (HasLostFor format full_limits n bytes))) count lost;
       flags = lost_lines c.no_more.new.lines turn hits c.no_more.ensures.lines.most c.no_more.ensures.lines.held past;
     }))
+
+pub returns-in_err-object-clause-else_none_failed : goal.returns-in_err-object-clause-else_none_failed
+returns-in_err-object-clause-else_none_failed g c =
+    let i = c.loop-flags.invariant in
+    let p = err_from_is_err_and c.from_residual-in_err-object.result c.from_residual-in_err-object.ensures.1 in
+    rw (p.1, p.2) (calm_trace _ _ _ _ c.in_err-object.ensures.else_none_failed i.trace_faults, inr i.hits_faults)
+
+pub returns-in_err-flag-clause-else_none_failed : goal.returns-in_err-flag-clause-else_none_failed
+returns-in_err-flag-clause-else_none_failed g c =
+    let i = c.loop-flags.invariant in
+    let p = err_from_is_err_and c.from_residual-in_err-flag.result c.from_residual-in_err-flag.ensures.1 in
+    rw (p.1, p.2) (inr (c.in_ok-object.ensures.none_failed ∙ i.trace_faults), calm_hits _ _ _ _ c.in_err-flag.ensures.else_none_failed i.hits_faults)
+
+pub returns-in_err-make_room-clause-unread : goal.returns-in_err-make_room-clause-unread
+returns-in_err-make_room-clause-unread g c = let p = err_from_is_err_and c.from_residual-in_err-make_room.result c.from_residual-in_err-make_room.ensures.1 in rw (p.1, p.2) tt
+
+pub returns-in_err-make_room-clause-near : goal.returns-in_err-make_room-clause-near
+returns-in_err-make_room-clause-near g c = let p = err_from_is_err_and c.from_residual-in_err-make_room.result c.from_residual-in_err-make_room.ensures.1 in rw (p.1, p.2) tt
+
+pub returns-in_err-push_given-clause-unread : goal.returns-in_err-push_given-clause-unread
+returns-in_err-push_given-clause-unread g c = let p = err_from_is_err_and c.from_residual-in_err-push_given.result c.from_residual-in_err-push_given.ensures.1 in rw (p.1, p.2) tt
+
+pub returns-in_err-push_given-clause-near : goal.returns-in_err-push_given-clause-near
+returns-in_err-push_given-clause-near g c = let p = err_from_is_err_and c.from_residual-in_err-push_given.result c.from_residual-in_err-push_given.ensures.1 in rw (p.1, p.2) tt
+
+pub returns-in_err-push_given-clause-else_none_failed : goal.returns-in_err-push_given-clause-else_none_failed
+returns-in_err-push_given-clause-else_none_failed g c =
+    let i = c.loop-flags.invariant in
+    let p = err_from_is_err_and c.from_residual-in_err-push_given.result c.from_residual-in_err-push_given.ensures.1 in
+    rw (p.1, p.2) (inr (c.in_ok-object.ensures.none_failed ∙ i.trace_faults), inr (c.in_ok-flag.ensures.none_failed ∙ i.hits_faults))
+
+pub returns-in_err-no_more-clause-else_none_failed : goal.returns-in_err-no_more-clause-else_none_failed
+returns-in_err-no_more-clause-else_none_failed g c =
+    let i = c.loop-flags.invariant in
+    let p = err_from_is_err_and c.from_residual-in_err-no_more.result c.from_residual-in_err-no_more.ensures.1 in
+    rw (p.1, p.2) (inr (c.in_ok-object.ensures.none_failed ∙ i.trace_faults), calm_hits _ _ _ _ c.in_err-no_more.ensures.else_none_failed i.hits_faults)

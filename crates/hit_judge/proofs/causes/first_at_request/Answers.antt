@@ -9,7 +9,7 @@ use Rattle.hit_judge.proofs.causes.first_at_request.Goals as goal
 
 pub returns-then-never_hits : goal.returns-then-never_hits
 returns-then-never_hits c =
-    let p : ℕ → Bool = λ k. is_flagged (bits_of c.args.flags.now) k && never_hits c.args.capacity c.args.trace.now.objects k in
+    let p : ℕ → Bool = λ k. is_flagged (bits_of c.args.flags.now) k && never_hits c.args.capacity c.args.trace.now.objects (bits_of c.args.stale.now) k in
     ap Some c.request_cause.ensures
     ∙ sym (ap (option_map (request_cause c.args.capacity c.args.trace.now.objects))
     (find-range_first p c.loop-t.t 0 (length c.args.trace.now.objects) (omega arith) (omega arith)
@@ -18,6 +18,6 @@ returns-then-never_hits c =
 
 pub returns : goal.returns
 returns c =
-    let p : ℕ → Bool = λ k. is_flagged (bits_of c.args.flags.now) k && never_hits c.args.capacity c.args.trace.now.objects k in
+    let p : ℕ → Bool = λ k. is_flagged (bits_of c.args.flags.now) k && never_hits c.args.capacity c.args.trace.now.objects (bits_of c.args.stale.now) k in
     sym (ap (option_map (request_cause c.args.capacity c.args.trace.now.objects))
     (find-range_none p 0 (length c.args.trace.now.objects) (λ k low high. c.loop-t.invariant k (omega arith))))
