@@ -1,5 +1,5 @@
 -- What a replay of a trace shows.
-use Rattle.std.specs.Prelude.{◌≡◌, ℕ, ◌*◌, ◌/◌, ◌≤◌, Bool, true, false, ◌&&◌, if◌then◌else◌, List, [], length, map, None, Some}
+use Rattle.std.specs.Prelude.{◌≡◌, ℕ, ◌*◌, ◌/◌, ◌≤◌, Bool, true, false, ◌&&◌, if◌then◌else◌, List, [], length, map, slice_index_or, None, Some}
 use Rattle.std.specs.declared.option.Option.{Option}
 use Rattle.cache_rules.specs.Stored.{Requests}
 use Rattle.cache_model.specs.declared.objects.Objective.{Objective}
@@ -27,7 +27,6 @@ use Rattle.bound_report.specs.Replays.{replay_lines}
 use Rattle.freshness.specs.declared.fresh.Freshness.{Freshness}
 use Rattle.freshness.specs.Stale.{can_end}
 use Rattle.freshness.specs.Seen.{Staleness}
-use Rattle.cert_checker.specs.Counting.{is_stale}
 use Rattle.trace_any.specs.declared.format.Format.{Format}
 use Rattle.trace_any.specs.Readers.{Notes}
 use Rattle.bound_words.specs.declared.plans.ReplaySettings.{ReplaySettings}
@@ -68,8 +67,8 @@ pub record IsReplay (policy : PolicyName) (capacity warmup : ℕ) (trace : Reque
   pub best : policy ≡ Belady → warmup ≡ 0 → trace.fills ≡ [] → HaveOneSize capacity trace.objects → IsBest capacity trace.objects replay.hits replay.bytes
 
 -- the requests of a trace that are noted stale; each of them only fills
-abbrev pub stale_flags : Requests → Staleness → List Bool
-stale_flags trace noted = map (λ t. is_stale noted t && only_fills trace.fills t) (numbers_of trace.objects)
+abbrev pub stale_flags : Requests → List Bool → List Bool
+stale_flags trace stale = map (λ t. slice_index_or stale t false && only_fills trace.fills t) (numbers_of trace.objects)
 
 -- the counts are those of the rule's run from which stale objects leave, and replaced ones if objects are replaced; they are of contents that hold nothing that left; no valid certificate is below them
 pub record IsFreshReplay (policy : PolicyName) (capacity warmup : ℕ) (trace : Requests) (stale : List Bool) (replace : Bool) (replay : Replay) : Type 0 where
@@ -80,7 +79,7 @@ pub record IsFreshReplay (policy : PolicyName) (capacity warmup : ℕ) (trace : 
 
 -- what leaves before requests, if a request can be stale: the flags of those that are, and whether objects are replaced
 abbrev pub leaving_of : Freshness → Requests → Staleness → Option (List Bool × Bool)
-leaving_of fresh trace noted = if can_end fresh then Some (stale_flags trace noted, fresh.replace) else None
+leaving_of fresh trace noted = if can_end fresh then Some (stale_flags trace noted.stale, fresh.replace) else None
 
 -- the same, as a replay is given it
 abbrev pub leaves : Option Leaving → Option (List Bool × Bool)

@@ -30,12 +30,12 @@ fn judged_report(
     requires hits { claimed.hits ≡ claimed_by Hits asked claims.now.trace (bits_of claims.now.flags) }
     requires bytes { claimed.bytes ≡ claimed_by Bytes asked claims.now.trace (bits_of claims.now.flags) }
     requires written { claimed.written ≡ written_for asked claims.now.trace (bits_of claims.now.flags) }
-    ensures { IfOk result (λ text. text.items ≡ judged_report format asked claims.now.trace claims.now.dropped (bits_of claims.now.flags)) }
+    ensures { IfOk result (λ text. text.items ≡ judged_report format asked claims.now.trace claims.now.notes (bits_of claims.now.flags)) }
 {
     let facts = JudgedFacts {
         requests: claims.trace.len(),
         objects: claims.trace.objects(),
-        dropped: claims.dropped,
+        dropped: claims.notes.dropped,
         capacity: asked.capacity,
         claimed,
         written: if_counted(asked.writes, claimed.written),
@@ -43,7 +43,7 @@ fn judged_report(
     render(
         alloc,
         &facts,
-        counting_from(format, asked.warmup, &claims.trace),
+        counting_from(format, asked.warmup, &claims.trace, &claims.notes.noted),
     )
 }
 
@@ -66,7 +66,14 @@ pub(crate) fn judge_all<T: Source, H: Source>(
         Ok(claims) => claims,
         Err(fault) => return Err(refusal_of_flags(fault)),
     };
-    match judge(&claims.trace, &claims.flags, asked.capacity, asked.warmup) {
+    let stale = &claims.notes.noted.stale;
+    match judge(
+        &claims.trace,
+        stale,
+        &claims.flags,
+        asked.capacity,
+        asked.warmup,
+    ) {
         Ok(claimed) => Ok(judged_report(alloc, format, asked, &claims, claimed)?),
         Err(cause) => Err(Refusal::Impossible {
             cause,

@@ -3,11 +3,11 @@ use Rattle.std.specs.Prelude.{◌≡◌, ◌⊎◌, ℕ, ◌+◌, min, Bool, Lis
 use Rattle.bit_list.specs.Bits.{bits_of}
 use Rattle.bound_io.specs.Devices.{Device, HasFailed}
 use Rattle.cache_rules.specs.Stored.{Requests}
-use Rattle.freshness.specs.Seen.{noted_of}
 use Rattle.trace_any.specs.declared.fault.TraceFault.TheVariants as of_trace
 use Rattle.trace_any.specs.declared.format.Format.{Format}
 use Rattle.trace_any.specs.Readings.{reading, full_limits}
-use Rattle.trace_any.specs.Loads.{IsLoaded, IsNoted, IsRefused}
+use Rattle.trace_any.specs.Loads.{IsLoaded, IsRefused}
+use Rattle.trace_any.specs.Readers.{Notes}
 use Rattle.hit_flags.specs.declared.claims.Claims.{Claims}
 use Rattle.hit_flags.specs.declared.fault.FlagFault.{FlagFault}
 use Rattle.hit_flags.specs.declared.fault.FlagFault.TheVariants.{Trace, NotFlag, Count, ReadFault, NoMemory}
@@ -18,16 +18,15 @@ pub record AreFlags (hits : Device) (flags : List Bool) : Type 0 where
   pub lines : IfSome hits.before (λ bytes. flags_in bytes ≡ map (λ flag. Some flag) flags)
   pub nothing_left : IfSome hits.before (λ _. hits.after ≡ Some [])
 
--- all that the two sources had left was read: a trace, and a flag for each of its requests
-pub record AreRead (format : Format) (trace hits : Device) (requests : Requests) (dropped : ℕ) (flags : List Bool) : Type 0 where
-  pub loaded : IsLoaded format trace requests dropped
+-- all that the two sources had left was read: a trace, beside which this is told, and a flag for each of its requests
+pub record AreRead (format : Format) (trace hits : Device) (requests : Requests) (notes : Notes) (flags : List Bool) : Type 0 where
+  pub loaded : IsLoaded format trace requests notes
   pub flags_are : AreFlags hits flags
   pub as_many : length flags ≡ length requests.objects
 
--- the same of claims, which have them all, and what is noted of the requests of all that was read
-pub record ReadsClaims (format : Format) (trace hits : Device) (c : Claims) : Type 0 where
-  pub read : AreRead format trace hits c.trace c.dropped (bits_of c.flags)
-  pub noted : IsNoted format trace (noted_of c.noted)
+-- the same of claims, which have them all
+abbrev pub ReadsClaims : Format → Device → Device → Claims → Type 0
+ReadsClaims format trace hits c = AreRead format trace hits c.trace c.notes (bits_of c.flags)
 
 -- it stops the reading by turns of all that the two sources had left, if the bytes of both are known
 abbrev pub StopsBoth : Format → Device → Device → FlagFault → Type 0

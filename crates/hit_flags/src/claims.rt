@@ -14,19 +14,17 @@ use bit_list::BitList;
 use bound_io::{LineReader, Source};
 use cache_rules::Trace;
 use std::alloc::Global;
-use trace_any::{Format, Limits, RequestReader, StaleRequests, builder_for, push_given};
+use trace_any::{Format, Limits, RequestReader, TraceNotes, builder_for, push_given};
 
 // The most bytes of flags that a reader of lines takes. The lines of all flags have less.
 const MOST_BYTES: u64 = 1 << 36;
 
-/// A trace, how many lines of it were dropped, a flag for each request, which says whether a simulator counted a hit, and
-/// what is noted of the requests, if some can be stale.
+/// A trace, what is told beside it, and a flag for each request: whether a simulator counted a hit.
 #[derive(Debug, Drop)]
 pub struct Claims {
     pub trace: Trace,
-    pub dropped: u64,
+    pub notes: TraceNotes,
     pub flags: BitList,
-    pub noted: StaleRequests,
 }
 
 // The claims of two readers that have read nothing, by turns: a request, and then its flag.
@@ -58,9 +56,8 @@ fn read_turns<T: Source, H: Source>(
     no_more(lines, hits)?;
     Ok(Claims {
         trace: requests.finish(),
-        dropped: reader.dropped(),
+        notes: reader.into_notes(),
         flags,
-        noted: reader.into_noted(),
     })
 }
 

@@ -6,7 +6,6 @@ use Rattle.bound_io.specs.Lines.{stands_in}
 use Rattle.bound_io.proofs.KnownLemmas.{loses_then}
 use Rattle.trace_any.specs.Readers.{IsStopped, IsWhole, last_mark, known as trace_known}
 use Rattle.cache_rules.specs.Stored.{with_request}
-use Rattle.freshness.specs.Seen.{noted_of}
 use Rattle.trace_any.specs.FirstLines.{HasLostFor}
 use Rattle.trace_any.specs.Readings.{full_limits}
 use Rattle.trace_any.specs.declared.fault.TraceFault.{TraceFault}
@@ -160,19 +159,17 @@ returns-clause-read g c =
     let whole = loads_all c.args.reader c.loop-flags.reader c.next.new.self given.objects given.fills _ _ _ i.goes_on next in
     let end = loads_to_end c.args.reader c.loop-flags.reader c.next.new.self given.objects given.fills _ _ _ i.goes_on next in
     let flags = all_flags (bits_of c.loop-flags.flags) c.loop-flags.lines _ _ _ i.flagged c.in_ok-no_more.ensures.end in
-    rw (c.finish.ensures, c.dropped.ensures) (record {
-      read = record {
-        loaded = record {
-          read = from_start format c.args.reader (g.T.Source.left c.args.trace.now) (λ r. IsWhole r given c.next.new.self.dropped) c.requires.reader whole;
-          nothing_left = nothing_left (g.T.Source.left c.args.trace.now) (g.T.Source.left c.next.new.source) c.next.new.self.lines.held (from_start format c.args.reader (g.T.Source.left c.args.trace.now) (λ _. stands_in c.next.new.self.lines.held (g.T.Source.left c.next.new.source) ≡ Some []) c.requires.reader end);
-        };
-        flags_are = record {
-          lines = flags.0;
-          nothing_left = nothing_left (g.H.Source.left c.args.hits.now) (g.H.Source.left c.no_more.new.hits) c.no_more.new.lines.held flags.1;
-        };
-        as_many = i.as_many;
+    rw (c.finish.ensures, c.into_notes.ensures) (record {
+      loaded = record {
+        read = from_start format c.args.reader (g.T.Source.left c.args.trace.now) (λ r. IsWhole r given c.next.new.self.dropped) c.requires.reader whole;
+        noted = from_start format c.args.reader (g.T.Source.left c.args.trace.now) (λ r. r.seen.noted ≡ c.next.new.self.seen.noted) c.requires.reader (noted_at_end c.args.reader c.loop-flags.reader c.next.new.self given c.next.new.self.seen.noted _ _ _ i.goes_on next refl);
+        nothing_left = nothing_left (g.T.Source.left c.args.trace.now) (g.T.Source.left c.next.new.source) c.next.new.self.lines.held (from_start format c.args.reader (g.T.Source.left c.args.trace.now) (λ _. stands_in c.next.new.self.lines.held (g.T.Source.left c.next.new.source) ≡ Some []) c.requires.reader end);
       };
-      noted = from_start format c.args.reader (g.T.Source.left c.args.trace.now) (λ r. r.seen.noted ≡ noted_of c.into_noted.result) c.requires.reader (noted_at_end c.args.reader c.loop-flags.reader c.next.new.self given (noted_of c.into_noted.result) _ _ _ i.goes_on next c.into_noted.ensures);
+      flags_are = record {
+        lines = flags.0;
+        nothing_left = nothing_left (g.H.Source.left c.args.hits.now) (g.H.Source.left c.no_more.new.hits) c.no_more.new.lines.held flags.1;
+      };
+      as_many = i.as_many;
     })
 
 pub returns-clause-trace_source : goal.returns-clause-trace_source
