@@ -43,7 +43,7 @@ fn own_if_stale(trace: &Trace, stale: &BitList, t: u32) -> Option<u32>
 }
 
 /// Lets go of what leaves before request `t`: its own object if it is stale, and then the one that it replaces.
-pub(crate) fn let_leave<P: LetGo>(
+pub fn let_leave<P: LetGo>(
     trace: &Trace,
     stale: &BitList,
     replace: bool,

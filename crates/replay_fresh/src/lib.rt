@@ -10,4 +10,5 @@ mod replacing;
 mod replaying;
 
 pub use laws::nothing_leaves;
-pub use replaying::replay_fresh;
+pub use leaving::let_leave;
+pub use replaying::{replay_fresh, unless_stale};

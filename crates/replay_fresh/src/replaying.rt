@@ -15,8 +15,8 @@ use indexmap::IndexMap;
 use replay_core::{LetGo, Replay, has_written, hit_counts};
 use std::alloc::Global;
 
-// The request of this number, if there is one and it is not stale.
-fn unless_stale(stale: &BitList, request: Option<u32>) -> Option<u32>
+/// The request of this number, if there is one and it is not stale.
+pub fn unless_stale(stale: &BitList, request: Option<u32>) -> Option<u32>
     ensures { result ≡ unless_stale (bits_of stale.now) request }
 {
     match request {

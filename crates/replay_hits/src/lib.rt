@@ -4,6 +4,8 @@
 //! just there.
 #![tactic(auto)]
 
+mod freshly;
 mod recording;
 
+pub use freshly::fresh_hits;
 pub use recording::replay_hits;

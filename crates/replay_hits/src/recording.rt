@@ -13,7 +13,7 @@ use cache_rules::Trace;
 use replay_core::{Outcome, Policy};
 use std::alloc::Global;
 
-fn is_hit(outcome: Outcome) -> bool
+pub(crate) fn is_hit(outcome: Outcome) -> bool
     ensures { result ≡ is_hit outcome }
 {
     outcome == Outcome::Hit
