@@ -21,5 +21,6 @@ point_line denominator point =
 abbrev pub capacity_curve_lines : CapacityCurveFacts → List Point → Lines
 capacity_curve_lines facts points = record {
   front = trace_line facts.requests facts.objects facts.dropped ∷ [];
-  back = asked_line facts.asked ∷ map (point_line facts.asked.denominator) points;
+  head = asked_line facts.asked ∷ [];
+  back = map (point_line facts.asked.denominator) points;
 }

@@ -22,9 +22,10 @@ slots_lines hits most = map (λ slots. slots_line slots (hits slots)) (filter (a
 abbrev pub curve_lines : CurveFacts → ℕ → (ℕ → ℕ) → Lines
 curve_lines facts size hits = record {
   front = trace_line facts.requests facts.objects facts.dropped ∷ [];
-  back = entry (codes "size") size ∷ slots_lines hits facts.objects;
+  head = entry (codes "size") size ∷ [];
+  back = slots_lines hits facts.objects;
 }
 
--- the text of a curve without marks
+-- the text of a curve without marks and stale requests
 abbrev pub curve_text : CurveFacts → ℕ → (ℕ → ℕ) → List ℕ
 curve_text facts size hits = rendered uncounted (curve_lines facts size hits)

@@ -14,5 +14,6 @@ possible_line = codes "possible"
 abbrev pub judged_lines : JudgedFacts → Lines
 judged_lines facts = record {
   front = trace_line facts.requests facts.objects facts.dropped ∷ [];
-  back = entry (codes "judged capacity") facts.capacity ∷ hits_line facts.claimed.hits facts.claimed.bytes ∷ written_lines facts.written ++ possible_line ∷ [];
+  head = entry (codes "judged capacity") facts.capacity ∷ [];
+  back = hits_line facts.claimed.hits facts.claimed.bytes ∷ written_lines facts.written ++ possible_line ∷ [];
 }

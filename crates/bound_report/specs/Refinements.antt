@@ -14,4 +14,4 @@ refined_line read_upper h = ratio (ratio (codes "refined from") read_upper h.den
 abbrev pub refined_lines : ℕ → Verdict → ℕ → Lines
 refined_lines read_upper verdict dropped =
     let yes = verdict_lines verdict dropped in
-    record { front = refined_line read_upper verdict.header ∷ yes.front; back = yes.back }
+    record { front = refined_line read_upper verdict.header ∷ yes.front; head = yes.head; back = yes.back }

@@ -19,9 +19,10 @@ hits_line hits bytes = entry (entry (codes "hits") hits ++ codes " bytes") bytes
 abbrev pub replay_lines : ReplayFacts → Lines
 replay_lines facts = record {
   front = trace_line facts.requests facts.objects facts.dropped ∷ [];
-  back = policy_line facts.policy facts.capacity ∷ hits_line facts.replay.hits facts.replay.bytes ∷ written_lines facts.written;
+  head = policy_line facts.policy facts.capacity ∷ [];
+  back = hits_line facts.replay.hits facts.replay.bytes ∷ written_lines facts.written;
 }
 
--- the text of a replay without warm-up and marks
+-- the text of a replay without warm-up, marks and stale requests
 abbrev pub replay_text : ReplayFacts → List ℕ
 replay_text facts = rendered uncounted (replay_lines facts)

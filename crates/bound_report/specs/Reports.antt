@@ -63,9 +63,10 @@ bound_lines facts =
     let h = facts.header in
     record {
       front = trace_line h.requests facts.objects facts.dropped ∷ [];
-      back = capacity_line h.capacity h.objective ∷ mode_line facts.mode facts.price h.exact ∷ unit_line h ∷ entry (codes "intervals") facts.intervals ∷ value_lines h ++ written_lines facts.written;
+      head = capacity_line h.capacity h.objective ∷ [];
+      back = mode_line facts.mode facts.price h.exact ∷ unit_line h ∷ entry (codes "intervals") facts.intervals ∷ value_lines h ++ written_lines facts.written;
     }
 
--- the text of a report of bounds without warm-up and marks
+-- the text of a report of bounds without warm-up, marks and stale requests
 abbrev pub report_text : BoundFacts → List ℕ
 report_text facts = rendered uncounted (bound_lines facts)

@@ -11,9 +11,10 @@ verdict_lines v dropped =
     let h = v.header in
     record {
       front = trace_line h.requests v.objects dropped ∷ [];
-      back = capacity_line h.capacity h.objective ∷ (codes "form " ++ form_word h.exact) ∷ unit_line h ∷ value_lines h ++ codes "valid" ∷ [];
+      head = capacity_line h.capacity h.objective ∷ [];
+      back = (codes "form " ++ form_word h.exact) ∷ unit_line h ∷ value_lines h ++ codes "valid" ∷ [];
     }
 
--- the text of a yes without warm-up and marks
+-- the text of a yes without warm-up, marks and stale requests
 abbrev pub verdict_text : Verdict → ℕ → List ℕ
 verdict_text v dropped = rendered uncounted (verdict_lines v dropped)

@@ -72,8 +72,11 @@ impl<'a> Report for CapacityCurveReport<'a> {
         append_trace(text, facts.requests, facts.objects, facts.dropped)
     }
 
+    fn append_head(&self, text: &mut Vec<u8>) -> Result<(), NoMemory> {
+        append(text, &asked_line(&self.facts.asked))
+    }
+
     fn append_back(&self, text: &mut Vec<u8>) -> Result<(), NoMemory> {
-        append(text, &asked_line(&self.facts.asked))?;
         append_points(text, self.points, self.facts.asked.denominator)
     }
 }

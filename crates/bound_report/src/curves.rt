@@ -61,13 +61,16 @@ impl<'a> Report for CurveReport<'a> {
         append_trace(text, facts.requests, facts.objects, facts.dropped)
     }
 
+    fn append_head(&self, text: &mut Vec<u8>) -> Result<(), NoMemory> {
+        append(text, &entry_line(b"size", u128::from(self.curve.size())))
+    }
+
     fn append_back(&self, text: &mut Vec<u8>) -> Result<(), NoMemory> {
-        append(text, &entry_line(b"size", u128::from(self.curve.size())))?;
         append_slots(text, self.facts.objects, self.curve)
     }
 }
 
-/// The report of a curve without marks.
+/// The report of a curve without marks and stale requests.
 pub fn curve_text(alloc: Global, facts: &CurveFacts, curve: &Curve) -> Result<Vec<u8>, NoMemory>
     ensures { IfOk result (λ text. text.items ≡ curve_text facts.now curve.now.size (hits_with curve.now)) }
 {

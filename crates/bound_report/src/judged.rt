@@ -41,11 +41,14 @@ impl Report for JudgedFacts {
         append_trace(text, self.requests, self.objects, self.dropped)
     }
 
-    fn append_back(&self, text: &mut Vec<u8>) -> Result<(), NoMemory> {
+    fn append_head(&self, text: &mut Vec<u8>) -> Result<(), NoMemory> {
         append(
             text,
             &entry_line(b"judged capacity", u128::from(self.capacity)),
-        )?;
+        )
+    }
+
+    fn append_back(&self, text: &mut Vec<u8>) -> Result<(), NoMemory> {
         append(text, &hits_line(self.claimed.hits, self.claimed.bytes))?;
         append_written(text, self.written)?;
         append(text, &possible_line())

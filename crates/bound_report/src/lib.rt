@@ -1,5 +1,5 @@
-//! Texts for people: reports, each a value that `render` writes, with how many requests count and the warm-up; the texts
-//! of a demo and of an upgrade; and the line that says why a run stopped.
+//! Texts for people: reports, each a value that `render` writes, with how many requests count, what is said of stale
+//! ones and the warm-up; the texts of a demo and of an upgrade; and the line that says why a run stopped.
 //!
 //! The rules are "Report of bounds", "Verdict" and "Refusal" in docs/DEFINITIONS.md.
 #![tactic(auto)]
@@ -29,7 +29,7 @@ pub use numbers::{Numbers, numbers_in};
 pub use policy_model::PolicyName;
 pub use refinement::RefinementFacts;
 pub use refusal::{LimitName, Refusal, RefusalText, refusal_text};
-pub use rendering::{Counting, Report, render};
+pub use rendering::{Counting, Report, StaleCounts, render};
 pub use replays::{ReplayFacts, replay_text};
 pub use report::report_text;
 pub use upgrade::upgrade_text;

@@ -42,6 +42,10 @@ impl Report for RefinementFacts {
         self.check.append_front(text)
     }
 
+    fn append_head(&self, text: &mut Vec<u8>) -> Result<(), NoMemory> {
+        self.check.append_head(text)
+    }
+
     fn append_back(&self, text: &mut Vec<u8>) -> Result<(), NoMemory> {
         self.check.append_back(text)
     }

@@ -55,14 +55,17 @@ impl Report for ReplayFacts {
         append_trace(text, self.requests, self.objects, self.dropped)
     }
 
+    fn append_head(&self, text: &mut Vec<u8>) -> Result<(), NoMemory> {
+        append(text, &policy_line(self.policy, self.capacity))
+    }
+
     fn append_back(&self, text: &mut Vec<u8>) -> Result<(), NoMemory> {
-        append(text, &policy_line(self.policy, self.capacity))?;
         append(text, &hits_line(self.replay.hits, self.replay.bytes))?;
         append_written(text, self.written)
     }
 }
 
-/// The report of a replay without warm-up and marks.
+/// The report of a replay without warm-up, marks and stale requests.
 pub fn replay_text(alloc: Global, facts: &ReplayFacts) -> Result<Vec<u8>, NoMemory>
     ensures { IfOk result (λ text. text.items ≡ replay_text facts.now) }
 {

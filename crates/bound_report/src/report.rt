@@ -202,9 +202,13 @@ impl Report for BoundFacts {
         append_trace(text, self.header.requests, self.objects, self.dropped)
     }
 
+    fn append_head(&self, text: &mut Vec<u8>) -> Result<(), NoMemory> {
+        let header = &self.header;
+        append(text, &capacity_line(header.capacity, header.objective))
+    }
+
     fn append_back(&self, text: &mut Vec<u8>) -> Result<(), NoMemory> {
         let header = &self.header;
-        append(text, &capacity_line(header.capacity, header.objective))?;
         append(text, &mode_line(self))?;
         append(text, &unit_line(header))?;
         append(text, &entry_line(b"intervals", u128::from(self.intervals)))?;
@@ -214,7 +218,7 @@ impl Report for BoundFacts {
     }
 }
 
-/// The report of bounds without warm-up and marks.
+/// The report of bounds without warm-up, marks and stale requests.
 pub fn report_text(alloc: Global, facts: &BoundFacts) -> Result<Vec<u8>, NoMemory>
     requires unit { 0 < facts.now.header.unit }
     requires denominator { 0 < facts.now.header.denominator }

@@ -41,9 +41,13 @@ impl Report for CheckFacts {
         append_trace(text, verdict.header.requests, verdict.objects, self.dropped)
     }
 
+    fn append_head(&self, text: &mut Vec<u8>) -> Result<(), NoMemory> {
+        let header = &self.verdict.header;
+        append(text, &capacity_line(header.capacity, header.objective))
+    }
+
     fn append_back(&self, text: &mut Vec<u8>) -> Result<(), NoMemory> {
         let header = &self.verdict.header;
-        append(text, &capacity_line(header.capacity, header.objective))?;
         append(text, &form_line(header.exact))?;
         append(text, &unit_line(header))?;
         append_value_lines(text, header)?;
@@ -52,7 +56,7 @@ impl Report for CheckFacts {
     }
 }
 
-/// What a check without warm-up and marks says of a valid certificate, if the trace has this number of dropped lines.
+/// What a check without warm-up, marks and stale requests says of a valid certificate, if the trace has this number of dropped lines.
 pub fn verdict_text(alloc: Global, verdict: &Verdict, dropped: u64) -> Result<Vec<u8>, NoMemory>
     requires unit { 0 < verdict.now.header.unit }
     requires denominator { 0 < verdict.now.header.denominator }
