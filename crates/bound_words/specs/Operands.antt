@@ -122,13 +122,13 @@ replaced_given operands = unwrap_or (option_and_then replaced_of (value_given (c
 abbrev pub fresh_given : List (List ℕ) → Freshness
 fresh_given operands = record { idle = idle_given operands; replace = replaced_given operands }
 
--- the layout of the trace that the operands give
-abbrev pub layout_given : List (List ℕ) → Option Layout
-layout_given operands = option_and_then (λ value. layout_of value (block_given operands) (reads_given operands)) (value_given (codes "format") operands)
+-- the form of a layout whose objects stay fresh so long
+abbrev pub of_layout : Freshness → Layout → Format
+of_layout fresh layout = record { layout = layout; fresh = fresh }
 
 -- the form of the trace that the operands give
 abbrev pub format_given : List (List ℕ) → Option Format
-format_given operands = option_map (λ layout. record { layout = layout; fresh = fresh_given operands }) (layout_given operands)
+format_given operands = option_and_then (λ value. option_map (of_layout (fresh_given operands)) (layout_of value (block_given operands) (reads_given operands))) (value_given (codes "format") operands)
 
 -- the capacity that the operands give
 abbrev pub capacity_given : List (List ℕ) → Option ℕ

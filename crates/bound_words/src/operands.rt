@@ -2,11 +2,11 @@
 ghost use Rattle.std.specs.Prelude.{◌≡◌, ◌≤◌, ◌^◌, List, ℕ, map, string_bytes, IfSome};
 ghost use Rattle.bound_terms.specs.declared.modes.Mode.TheVariants.{Flow};
 ghost use Rattle.relaxation.specs.Denominators.{IsChoice};
-ghost use Rattle.trace_any.specs.Readings.{IsFormat, IsLayout};
+ghost use Rattle.trace_any.specs.Readings.{IsFormat};
 ghost use Rattle.bound_words.specs.declared.commands.Command.{Command};
 ghost use Rattle.bound_words.specs.Ranges.{IsModeInRange};
 ghost use Rattle.bound_words.specs.Operands.{block_given, capacities_given, capacity_given, capacity_or_usual, denominator_given};
-ghost use Rattle.bound_words.specs.Operands.{accepts, drawn_given, flags_given, format_given, fresh_given, idle_given, is_operand, kind_of, layout_given, mode_given, number_given, objective_given, replaced_given, takes, usual_kind};
+ghost use Rattle.bound_words.specs.Operands.{accepts, drawn_given, flags_given, format_given, fresh_given, idle_given, is_operand, kind_of, mode_given, number_given, objective_given, replaced_given, takes, usual_kind};
 ghost use Rattle.bound_words.specs.Operands.{objects_given, policy_given, reads_given, requests_given, seed_given};
 ghost use Rattle.bound_words.specs.Operands.{takes_value, version_given, warmup_given, width_given, window_given, writes_given};
 ghost use Rattle.cache_model.specs.declared.version.TheConstants.{CERT_VERSION, SHORT_VERSION};
@@ -25,7 +25,7 @@ use cache_model::{CERT_VERSION, SHORT_VERSION};
 use cache_rules::Objective;
 use policy_model::PolicyName;
 use relaxation::DenominatorChoice;
-use trace_any::{Format, Freshness, Layout};
+use trace_any::{Format, Freshness};
 
 // What a demo is made of if no operand says it.
 const USUAL_SEED: u64 = 1;
@@ -312,21 +312,13 @@ fn fresh_given(operands: &[String]) -> Freshness
     }
 }
 
-// The layout of the trace, with the block and the requests that count.
-fn layout_given(operands: &[String]) -> Option<Layout>
-    ensures value { result ≡ layout_given (map string_bytes operands.now) }
-    ensures range { IfSome result IsLayout }
-{
-    let value = value_given("format", operands)?;
-    layout_of(value, block_given(operands), reads_given(operands))
-}
-
-/// The form of the trace: its layout, and how long its objects stay fresh.
+/// The form of the trace: its layout, with the block and the requests that count, and how long its objects stay fresh.
 pub fn format_given(operands: &[String]) -> Option<Format>
     ensures value { result ≡ format_given (map string_bytes operands.now) }
     ensures range { IfSome result IsFormat }
 {
-    let layout = layout_given(operands)?;
+    let value = value_given("format", operands)?;
+    let layout = layout_of(value, block_given(operands), reads_given(operands))?;
     Some(Format {
         layout,
         fresh: fresh_given(operands),

@@ -79,10 +79,10 @@ module _ (capacity warmup : ℕ) (fills stale : List Bool) (replace : Bool) (tra
       last x (subst (λ h. Contains h x) now held) (subst (λ n. Contains (leaving stale replace trace n) (number_of trace x)) same leaves) ∙ ap (request_at trace) (sym same))
       (cases_lt u t)
 
-  -- one more request, before which the former members may leave, and its own only if it doesn't count
+  -- one more request, before which the former members may leave, and its own only if it doesn't count; its contents follow those so far
   pub written-more : (first after : Option State) (t k size room : ℕ) (old left new : List Member) (hits bytes written more_hits more_bytes more_written : ℕ) (hit : Bool)
       → IsAsked trace t k size
-      → IsPlayedTo first t old hits bytes written
+      → (played : IsPlayedTo first t old hits bytes written)
       → left ≡ members_without old (leaving stale replace trace t)
       → (only_fills fills t ≡ false → hit ≡ has_member old k)
       → ((m : Member) → Contains new m → Contains left m ⊎ (m ≡ member k size))
@@ -93,14 +93,14 @@ module _ (capacity warmup : ℕ) (fills stale : List Bool) (replace : Bool) (tra
       → more_written ≡ written + cond (nat_le warmup t && ((only_fills fills t || not hit) && has_member new k)) size 0
       → IsRunTo (counts_past warmup fills) stale replace trace first after (t + 1) more_hits more_bytes
       → StateFits after new room
-      → IsPlayedTo first (t + 1) new more_hits more_bytes more_written
+      → (next : IsPlayedTo first (t + 1) new more_hits more_bytes more_written) × (next.scores.contents ≡ played.scores.contents ++ objects_held trace new ∷ [])
   written-more first after t k size room old left new hits bytes written more_hits more_bytes more_written hit asked played left_is held enters fits apart hits_more bytes_more written_more run tells =
       let counted : (counts_past warmup fills t && hit) ≡ (counts_past warmup fills t && has_member old k) = counted-left (nat_le warmup t) (only_fills fills t) hit (has_member old k) held in
       let former : (m : Member) → Contains left m → Contains old m = subst (λ ms. (m : Member) → Contains ms m → Contains old m) (sym left_is) (members_without-former old (leaving stale replace trace t)) in
       let on = played-on capacity (counts_past warmup fills) trace t k size old new hits bytes more_hits more_bytes (has_member old k) asked played.scores
       (λ m c. ⊎_elim (λ (was : Contains left m). inl (former m was)) (λ (own : m ≡ member k size). inr own) (enters m c)) fits apart refl
       (hits_more ∙ ap (λ b. hits + cond b 1 0) counted) (bytes_more ∙ ap (λ b. bytes + cond b size 0) counted) in
-      record {
+      let next : IsPlayedTo first (t + 1) new more_hits more_bytes more_written = record {
         scores = on.0;
         written_are = written_more
             ∙ ap (λ b. written + cond b size 0) (written-left (nat_le warmup t) (only_fills fills t) hit (has_member old k) (has_member new k) held)
@@ -113,7 +113,8 @@ module _ (capacity warmup : ℕ) (fills stale : List Bool) (replace : Bool) (tra
             let within : t < length trace = asked.within in omega (arith, length-take-le t trace))
             played.none_stays (asked_or_left trace t k size old left new (leaving stale replace trace t) asked on.0.numbered left_is enters));
         of_rule = held-more (counts_past warmup fills) stale replace trace first after t room more_hits more_bytes new played.scores.contents on.0.contents played.of_rule run tells on.1;
-      }
+      } in
+      (next, on.1)
 
   -- the whole trace
   pub written-all : (first : Option State) (t : ℕ) (members : List Member) (hits bytes written : ℕ)

@@ -91,12 +91,12 @@ loop-t-preserved g c =
       capacity = same_capacity;
       objects = c.request.ensures.same_objects ∙ c.let_leave.ensures.same_objects ∙ c.loop-t.invariant.objects;
       latest = c.in_ok-let_leave.ensures.latest;
-      played = written-more (g.P.Policy.room c.args.policy.now) c.args.warmup fills stale c.args.replace trace (g.P.Policy.known_state c.args.policy.now) (g.P.Policy.known_state c.request.new.self) t k size
+      played = (written-more (g.P.Policy.room c.args.policy.now) c.args.warmup fills stale c.args.replace trace (g.P.Policy.known_state c.args.policy.now) (g.P.Policy.known_state c.request.new.self) t k size
           (g.P.Policy.room c.request.new.self) old left (g.P.Policy.contents c.request.new.self) c.loop-t.hits c.loop-t.bytes c.loop-t.written c.if-hit_counts.hits c.if-hit_counts.bytes c.if-has_written.written hit asked
           c.loop-t.invariant.played c.in_ok-let_leave.ensures.contents
           held c.in_ok-outcome.ensures.only_the_request_enters
           (let fits : members_size (g.P.Policy.contents c.request.new.self) ≤ g.P.Policy.room c.request.new.self = sound.within_capacity in omega (arith, same_capacity))
-          sound.without_repeats hits_more bytes_more written_more run (g.met.P.Policy.state_fits c.request.new.self);
+          sound.without_repeats hits_more bytes_more written_more run (g.met.P.Policy.state_fits c.request.new.self)).0;
       run = run;
       tallied = tally-more (g.P.Policy.tally c.args.policy.now) (g.P.Policy.tally c.let_leave.new.policy) (g.P.Policy.tally c.request.new.self) t c.args.warmup fills c.loop-t.hits c.if-hit_counts.hits hit
           (subst (λ n. IfSome (g.P.Policy.tally c.args.policy.now) (λ before. IsTallied before n t c.args.warmup fills c.loop-t.hits)) (sym c.let_leave.ensures.same_tally) c.loop-t.invariant.tallied)
