@@ -9,8 +9,9 @@ use Rattle.bound_report.specs.Rendering.{rendered}
 use Rattle.bound_report.specs.Reports.{bound_lines, capacity_line, mode_line, trace_line, unit_line, value_lines}
 use Rattle.report_laws.specs.Laws.{ArePrintable, BoundsHaveOneReading, IsPrintable, SameBounds, bound_numbers, header_numbers, mode_numbers, written_numbers}
 use Rattle.report_laws.proofs.Lines.{Lacks, Small, line_lacks, named, numbers_apart}
-use Rattle.report_laws.proofs.ReportLines.{IsReport, Report, body, lines_of, none_behind, rendered-written, reports_apart}
-use Rattle.report_laws.proofs.SharedLines.{SameMode, header_apart, header_capacity_lacks, mode_apart, mode_lacks, trace_apart, trace_lacks, unit_lacks, values_lack}
+use Rattle.report_laws.proofs.OptionalLines.{NoneOfStale}
+use Rattle.report_laws.proofs.ReportLines.{IsReport, Report, after_body, body, lines_of, none_behind, rendered-written, reports_apart}
+use Rattle.report_laws.proofs.SharedLines.{SameMode, header_apart, header_capacity_lacks, mode_apart, mode_lacks, mode_otherwise, trace_apart, trace_lacks, unit_lacks, values_lack}
 
 -- the numbers of its lines
 pub record SmallBounds (f : BoundFacts) : Type 0 where
@@ -46,7 +47,7 @@ abbrev pub bound_trace : BoundFacts → List ℕ
 bound_trace f = trace_line f.header.requests f.objects f.dropped
 
 -- the lines behind that of the capacity
-abbrev other_lines : BoundFacts → List (List ℕ)
+abbrev pub other_lines : BoundFacts → List (List ℕ)
 other_lines f = mode_line f.mode f.price f.header.exact ∷ unit_line f.header ∷ entry (codes "intervals") f.intervals ∷ value_lines f.header
 
 -- the lines that are always there
@@ -64,6 +65,10 @@ report_of f c before behind = record {
   written = f.written;
   behind = behind;
 }
+
+-- the first of the lines behind that of the capacity is none of stale requests
+pub bounds_otherwise : (f : BoundFacts) (rest : List (List ℕ)) → NoneOfStale (other_lines f ++ rest)
+bounds_otherwise f rest = mode_otherwise f.mode f.price f.header.exact (unit_line f.header ∷ entry (codes "intervals") f.intervals ∷ value_lines f.header ++ rest)
 
 pub bounds_lack : (f : BoundFacts) → SmallBounds f → AllByRecursion (Lacks 10) (bound_body f)
 bounds_lack f small = (
@@ -97,7 +102,7 @@ same_bounds f g small small' e written =
 
 module _ (f : BoundFacts) (c : Counting) (printable : ArePrintable c (bound_numbers f)) where
   small_all : SmallBounds f
-  small_all = small_bounds f (recursion_from_All IsPrintable (bound_numbers f) printable.2)
+  small_all = small_bounds f (recursion_from_All IsPrintable (bound_numbers f) printable.3)
 
   -- the report alone
   abbrev alone : Report
@@ -110,6 +115,8 @@ module _ (f : BoundFacts) (c : Counting) (printable : ArePrintable c (bound_numb
         before = (lack.0, tt);
         counted = printable.0;
         body = lack.1;
+        stale = printable.2;
+        no_stale = bounds_otherwise f (after_body alone);
         written = small_all.written;
         warmup = printable.1;
         behind = tt;
@@ -118,7 +125,7 @@ module _ (f : BoundFacts) (c : Counting) (printable : ArePrintable c (bound_numb
       }
 
   text_alone : rendered c (bound_lines f) ≡ text_of (lines_of alone)
-  text_alone = rendered-written c (bound_trace f ∷ []) (body alone) f.written
+  text_alone = rendered-written c (bound_trace f ∷ []) (capacity_line f.header.capacity f.header.objective ∷ []) (other_lines f) f.written
 
 pub bounds_apart : BoundsHaveOneReading
 bounds_apart f g c d printable printable' e =

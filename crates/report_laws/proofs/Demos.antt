@@ -1,5 +1,5 @@
 -- The text of a demo is read in one way.
-use Rattle.std.proofs.Common.{◌≡◌, ℕ, ◌∙◌, sym, refl, ap, true, List, [], ◌∷◌, ◌++◌, append_assoc, get_or, arith, codes, None, Some, Option}
+use Rattle.std.proofs.Common.{◌≡◌, ℕ, ◌∙◌, sym, refl, ap, true, List, [], ◌∷◌, ◌++◌, append_assoc, get_or, arith, codes, Option}
 use Rattle.std.specs.List.{AllByRecursion, list_all}
 use Rattle.std.proofs.lemmas.List.Concat.{flat_map-append}
 use Rattle.std.proofs.lemmas.List.Elements.{recursion_from_All}
@@ -13,12 +13,13 @@ use Rattle.bound_report.specs.declared.demo.PolicyReplays.{PolicyReplays}
 use Rattle.bound_report.specs.Demos.{demo_line, demo_text, replay_line, replay_lines}
 use Rattle.bound_report.specs.declared.rendering.Counting.{Counting}
 use Rattle.bound_report.specs.Rendering.{rendered}
-use Rattle.bound_report.specs.Reports.{bound_lines, written_lines}
+use Rattle.bound_report.specs.Reports.{bound_lines, capacity_line, written_lines}
 use Rattle.policy_model.specs.Names.{policy_word}
 use Rattle.report_laws.specs.Laws.{ArePrintable, DemosHaveOneReading, IsPrintable, bound_numbers, demo_numbers, replay_numbers}
 use Rattle.report_laws.proofs.Lines.{Lacks, Part, Small, is_part, line_lacks, named, numbers_apart}
-use Rattle.report_laws.proofs.ReportLines.{BeginsOtherwise, IsReport, Report, body, bytes_at, lines_of, optional, rendered-written, reports_apart, warmed, warmup_of}
-use Rattle.report_laws.proofs.Bounds.{SmallBounds, bound_body, bound_trace, bounds_lack, report_of, same_bounds, small_bounds}
+use Rattle.report_laws.proofs.OptionalLines.{BeginsOtherwise, bytes_at, optional, optional-append, staled, staled-append, unless_zero, warmed}
+use Rattle.report_laws.proofs.ReportLines.{IsReport, Report, after_body, body, lines_of, rendered-written, reports_apart}
+use Rattle.report_laws.proofs.Bounds.{SmallBounds, bound_body, bound_trace, bounds_lack, bounds_otherwise, other_lines, report_of, same_bounds, small_bounds}
 
 -- ---- what is asked of a demo
 abbrev demo_parts : List Part
@@ -80,25 +81,26 @@ replays_apart a b r s f g small small' e =
     at : (i : ℕ) → get_or (replay_lines r) i [] ≡ get_or (replay_lines s) i []
     at i = ap (λ ls. get_or ls i []) e
 
--- a report among other lines
-rendered-between : (first : List ℕ) (c : Counting) (trace : List ℕ) (lines : List (List ℕ)) (written : Option ℕ) (behind : List (List ℕ))
-    → line first ++ rendered c (record { front = trace ∷ []; back = lines ++ written_lines written }) ++ text_of behind
-    ≡ text_of (first ∷ trace ∷ optional (codes "counted") c.counted (lines ++ optional (codes "writes") written (warmed c.warmup behind)))
-rendered-between first c trace lines written behind =
-    let warmup = warmed c.warmup [] in
-    let writes = optional (codes "writes") written warmup in
-    let back = optional (codes "counted") c.counted (lines ++ writes) in
-    ap (λ text. line first ++ text ++ text_of behind) (rendered-written c (trace ∷ []) lines written)
-    ∙ sym (flat_map-append line (first ∷ trace ∷ back) behind)
-    ∙ ap (λ ls. text_of (first ∷ trace ∷ ls))
-    (optional-append (codes "counted") c.counted (lines ++ writes) ∙ ap (optional (codes "counted") c.counted) (append_assoc lines writes behind ∙ ap (λ ls. lines ++ ls) writes-append))
-  where
-    optional-append : (word : List ℕ) (number : Option ℕ) (ls : List (List ℕ)) → optional word number ls ++ behind ≡ optional word number (ls ++ behind)
-    optional-append word None ls = refl
-    optional-append word (Some n) ls = refl
+-- the written bytes and the warm-up, and the lines behind them
+abbrev ending : Option ℕ → ℕ → List (List ℕ) → List (List ℕ)
+ending written warmup behind = optional (codes "writes") written (warmed warmup behind)
 
-    writes-append : optional (codes "writes") written (warmed c.warmup []) ++ behind ≡ optional (codes "writes") written (warmed c.warmup behind)
-    writes-append = optional-append (codes "writes") written (warmed c.warmup []) ∙ ap (optional (codes "writes") written) (optional-append (codes "warmup") (warmup_of c.warmup) [])
+ending-append : (written : Option ℕ) (warmup : ℕ) (behind : List (List ℕ)) → ending written warmup [] ++ behind ≡ ending written warmup behind
+ending-append written warmup behind =
+    optional-append (codes "writes") written (warmed warmup []) behind ∙ ap (optional (codes "writes") written) (optional-append (codes "warmup") (unless_zero warmup) [] behind)
+
+-- a report among other lines
+rendered-between : (first : List ℕ) (c : Counting) (trace capacity : List ℕ) (lines : List (List ℕ)) (written : Option ℕ) (behind : List (List ℕ))
+    → line first ++ rendered c (record { front = trace ∷ []; head = capacity ∷ []; back = lines ++ written_lines written }) ++ text_of behind
+    ≡ text_of (first ∷ trace ∷ optional (codes "counted") c.counted (capacity ∷ staled c.stale (lines ++ ending written c.warmup behind)))
+rendered-between first c trace capacity lines written behind =
+    let back = lines ++ ending written c.warmup [] in
+    let head = capacity ∷ staled c.stale back in
+    ap (λ text. line first ++ text ++ text_of behind) (rendered-written c (trace ∷ []) (capacity ∷ []) lines written)
+    ∙ sym (flat_map-append line (first ∷ trace ∷ optional (codes "counted") c.counted head) behind)
+    ∙ ap (λ ls. text_of (first ∷ trace ∷ ls)) (optional-append (codes "counted") c.counted head behind)
+    ∙ ap (λ ls. text_of (first ∷ trace ∷ optional (codes "counted") c.counted (capacity ∷ ls)))
+    (staled-append c.stale back behind ∙ ap (staled c.stale) (append_assoc lines (ending written c.warmup []) behind ∙ ap (λ ls. lines ++ ls) (ending-append written c.warmup behind)))
 
 -- the line behind the bounds is none of a warm-up, and none of written bytes
 no_warmup : BeginsOtherwise (codes "warmup") (codes "check valid" ∷ [])
@@ -109,7 +111,7 @@ no_writes n e = omega (arith, bytes_at 0 _ _ e)
 
 module _ (a : DemoFacts) (f : BoundFacts) (c : Counting) (r : PolicyReplays) (printable : ArePrintable c (demo_numbers a r ++ bound_numbers f)) where
   small_all : SmallDemo a r f
-  small_all = small_demo a r f (recursion_from_All IsPrintable (demo_numbers a r ++ bound_numbers f) printable.2)
+  small_all = small_demo a r f (recursion_from_All IsPrintable (demo_numbers a r ++ bound_numbers f) printable.3)
 
   -- the lines behind those of the bounds
   abbrev behind : List (List ℕ)
@@ -125,6 +127,8 @@ module _ (a : DemoFacts) (f : BoundFacts) (c : Counting) (r : PolicyReplays) (pr
         before = (line_lacks demo_parts (asked_numbers a) refl small_all.asked, (lack.0, tt));
         counted = printable.0;
         body = lack.1;
+        stale = printable.2;
+        no_stale = bounds_otherwise f (after_body whole);
         written = small_all.bounds.written;
         warmup = printable.1;
         behind = (refl, replays_lack a r f small_all);
@@ -133,7 +137,7 @@ module _ (a : DemoFacts) (f : BoundFacts) (c : Counting) (r : PolicyReplays) (pr
       }
 
   text_whole : demo_text a (rendered c (bound_lines f)) r ≡ text_of (lines_of whole)
-  text_whole = rendered-between (demo_line a) c (bound_trace f) (body whole) f.written behind
+  text_whole = rendered-between (demo_line a) c (bound_trace f) (capacity_line f.header.capacity f.header.objective) (other_lines f) f.written behind
 
 pub demos_apart : DemosHaveOneReading
 demos_apart a b f g c d r s printable printable' e =

@@ -1,4 +1,5 @@
 pub mod Lines
+pub mod OptionalLines
 pub mod ReportLines
 pub mod SharedLines
 pub mod Bounds

@@ -7,11 +7,12 @@ use Rattle.cert_checker.specs.declared.verdict.Verdict.{Verdict}
 use Rattle.bound_report.specs.declared.rendering.Counting.{Counting}
 use Rattle.bound_report.specs.Refinements.{refined_line, refined_lines}
 use Rattle.bound_report.specs.Rendering.{rendered}
+use Rattle.bound_report.specs.Reports.{capacity_line}
 use Rattle.report_laws.specs.Laws.{ArePrintable, IsPrintable, RefinementsHaveOneReading, header_numbers, verdict_numbers}
 use Rattle.report_laws.proofs.Lines.{Lacks, Part, Small, line_lacks, numbers_apart}
-use Rattle.report_laws.proofs.ReportLines.{IsReport, Report, body, lines_of, none_behind, rendered-lines, reports_apart}
+use Rattle.report_laws.proofs.ReportLines.{IsReport, Report, after_body, body, lines_of, none_behind, rendered-lines, reports_apart}
 use Rattle.report_laws.proofs.SharedLines.{ratio_parts}
-use Rattle.report_laws.proofs.Verdicts.{SmallVerdict, report_of, same_verdicts, small_verdict, verdict_lacks, verdict_trace}
+use Rattle.report_laws.proofs.Verdicts.{SmallVerdict, other_lines, report_of, same_verdicts, small_verdict, verdict_lacks, verdict_otherwise, verdict_trace}
 
 -- ---- the line of the two bounds
 abbrev refined_parts : List Part
@@ -32,7 +33,7 @@ record SmallRefined (read : ℕ) (x : Verdict) (dropped : ℕ) : Type 0 where
 module _ (read : ℕ) (x : Verdict) (m : ℕ) (c : Counting) (printable : ArePrintable c (read ∷ verdict_numbers x m)) where
   small_all : SmallRefined read x m
   small_all =
-      let all : Small (read ∷ verdict_numbers x m) = recursion_from_All IsPrintable (read ∷ verdict_numbers x m) printable.2 in
+      let all : Small (read ∷ verdict_numbers x m) = recursion_from_All IsPrintable (read ∷ verdict_numbers x m) printable.3 in
       let verdict = small_verdict x m all.1 in
       record { first = refined_small read x.header all.0 verdict.header; verdict = verdict }
 
@@ -46,10 +47,21 @@ module _ (read : ℕ) (x : Verdict) (m : ℕ) (c : Counting) (printable : ArePri
   is_alone : IsReport alone
   is_alone =
       let lack = verdict_lacks x m small_all.verdict in
-      record { before = (first_lacks, (lack.0, tt)); counted = printable.0; body = lack.1; written = tt; warmup = printable.1; behind = tt; no_warmup = none_behind (codes "warmup"); no_writes = none_behind (codes "writes") }
+      record {
+        before = (first_lacks, (lack.0, tt));
+        counted = printable.0;
+        body = lack.1;
+        stale = printable.2;
+        no_stale = verdict_otherwise x (after_body alone);
+        written = tt;
+        warmup = printable.1;
+        behind = tt;
+        no_warmup = none_behind (codes "warmup");
+        no_writes = none_behind (codes "writes");
+      }
 
   text_alone : rendered c (refined_lines read x m) ≡ text_of (lines_of alone)
-  text_alone = rendered-lines c (refined_line read x.header ∷ verdict_trace x m ∷ []) (body alone)
+  text_alone = rendered-lines c (refined_line read x.header ∷ verdict_trace x m ∷ []) (capacity_line x.header.capacity x.header.objective ∷ []) (other_lines x)
 
 pub refinements_apart : RefinementsHaveOneReading
 refinements_apart read other x y m n c d printable printable' e =

@@ -1,105 +1,48 @@
--- The lines of a report, of which three may be there or not: how many requests count, the written bytes, and the warm-up.
-use Rattle.std.proofs.Common.{◌≡◌, ℕ, zero, suc, ◌∙◌, sym, refl, ap, true, List, [], ◌∷◌, ◌++◌, append_assoc, cond, length, get_or, arith, codes, Some, None, Option, IfSome}
-use Rattle.std.specs.List.{AllByRecursion, list_all}
-use Rattle.std.proofs.lemmas.Bool.{ne_eqb}
+-- The lines of a report, of which some may be there or not.
+use Rattle.std.proofs.Common.{◌≡◌, ℕ, ◌∙◌, refl, ap, List, [], ◌∷◌, ◌++◌, append_assoc, length, arith, codes, Option, IfSome}
+use Rattle.std.specs.List.{AllByRecursion}
 use Rattle.cache_model.specs.declared.objects.Objective.{Objective}
 use Rattle.cache_model.specs.Texts.{entry, text_of}
 use Rattle.bound_report.specs.declared.rendering.Counting.{Counting}
-use Rattle.bound_report.specs.Rendering.{Lines, counted_lines, rendered, warmup_lines}
+use Rattle.bound_report.specs.Rendering.{Lines, counted_lines, rendered, stale_count_lines, warmup_lines}
 use Rattle.bound_report.specs.Reports.{capacity_line, written_lines}
-use Rattle.report_laws.specs.Laws.{IsPrintable}
-use Rattle.report_laws.proofs.Lines.{Lacks, is_part, line_lacks, lines_apart, named, numbers_apart}
+use Rattle.report_laws.specs.Laws.{ArePrintableCounts, IsPrintable}
+use Rattle.report_laws.proofs.Lines.{Lacks, lines_apart}
+use Rattle.report_laws.proofs.OptionalLines.{BeginsOtherwise, NoneOfStale, bytes_at, counted_lines-optional, optional, optional_apart, optional_lacks}
+use Rattle.report_laws.proofs.OptionalLines.{stale_count_lines-staled, staled, staled_apart, staled_lacks}
+use Rattle.report_laws.proofs.OptionalLines.{unless_zero, unless_zero_apart, unless_zero_small, warmed, warmed_otherwise, warmup_lines-warmed, written_lines-optional}
 
 -- all lines of a report without those that may be there
 abbrev pub all_of : Lines → List (List ℕ)
-all_of lines = lines.front ++ lines.back
+all_of lines = lines.front ++ lines.head ++ lines.back
 
--- the byte at a place
-pub bytes_at : (i : ℕ) (xs ys : List ℕ) → xs ≡ ys → get_or xs i 0 ≡ get_or ys i 0
-bytes_at i xs ys e = ap (λ text. get_or text i 0) e
-
--- ---- a line that may be there
--- lines, and before them one of a word and a number, if there is a number
-abbrev pub optional : List ℕ → Option ℕ → List (List ℕ) → List (List ℕ)
-optional word None lines = lines
-optional word (Some n) lines = entry word n ∷ lines
-
-optional_lacks : (word : List ℕ) (c : Option ℕ) (lines : List (List ℕ)) → list_all is_part (named word) ≡ true → IfSome c IsPrintable
-    → AllByRecursion (Lacks 10) lines → AllByRecursion (Lacks 10) (optional word c lines)
-optional_lacks word None lines ok small lack = lack
-optional_lacks word (Some n) lines ok small lack = (line_lacks (named word) (n ∷ []) ok (small, tt), lack)
-
--- the next line is none of that word
-abbrev pub BeginsOtherwise : List ℕ → List (List ℕ) → Type 0
-BeginsOtherwise word lines = (n : ℕ) → get_or lines 0 [] ≡ entry word n → ⊥
-
--- whether it is there is read too, if the next line is none of that word
-optional_apart : (word : List ℕ) (c d : Option ℕ) (xs ys : List (List ℕ)) → list_all is_part (named word) ≡ true → IfSome c IsPrintable → IfSome d IsPrintable
-    → BeginsOtherwise word xs → BeginsOtherwise word ys
-    → optional word c xs ≡ optional word d ys → (c ≡ d) × (xs ≡ ys)
-optional_apart word None None xs ys ok pc pd other_x other_y e = (refl, e)
-optional_apart word None (Some d) xs ys ok pc pd other_x other_y e = absurd (other_x d (ap (λ ls. get_or ls 0 []) e))
-optional_apart word (Some c) None xs ys ok pc pd other_x other_y e = absurd (other_y c (ap (λ ls. get_or ls 0 []) (sym e)))
-optional_apart word (Some c) (Some d) xs ys ok pc pd other_x other_y e =
-    let first : entry word c ≡ entry word d = ap (λ ls. get_or ls 0 []) e in
-    let numbers : c ∷ [] ≡ d ∷ [] = numbers_apart (named word) (c ∷ []) (d ∷ []) ok refl refl (pc, tt) (pd, tt) first in
-    (cc, cc)
-
--- ---- the warm-up
--- the number that is printed, which is none if it is 0
-abbrev pub warmup_of : ℕ → Option ℕ
-warmup_of zero = None
-warmup_of (suc n) = Some (suc n)
-
--- lines, and before them that of the warm-up, if there is one
-abbrev pub warmed : ℕ → List (List ℕ) → List (List ℕ)
-warmed v lines = optional (codes "warmup") (warmup_of v) lines
-
-warmup_small : (v : ℕ) → IsPrintable v → IfSome (warmup_of v) IsPrintable
-warmup_small zero small = tt
-warmup_small (suc n) small = small
-
-warmup_apart : (v w : ℕ) → warmup_of v ≡ warmup_of w → v ≡ w
-warmup_apart zero zero e = refl
-warmup_apart zero (suc w) e = absurd cc
-warmup_apart (suc v) zero e = absurd cc
-warmup_apart (suc v) (suc w) e = cc
-
-warmup_lines-warmed : (v : ℕ) → warmup_lines v ≡ warmed v []
-warmup_lines-warmed zero = refl
-warmup_lines-warmed (suc n) = ap (λ none. cond none [] (entry (codes "warmup") (suc n) ∷ [])) (ne_eqb (suc n) 0 (λ e. omega arith))
-
-counted_lines-optional : (c : Option ℕ) (lines : List (List ℕ)) → counted_lines c ++ lines ≡ optional (codes "counted") c lines
-counted_lines-optional None lines = refl
-counted_lines-optional (Some n) lines = refl
-
-written_lines-optional : (w : Option ℕ) (lines : List (List ℕ)) → written_lines w ++ lines ≡ optional (codes "writes") w lines
-written_lines-optional None lines = refl
-written_lines-optional (Some n) lines = refl
-
--- no line of a warm-up is one of written bytes
-warmed_otherwise : (v : ℕ) (lines : List (List ℕ)) → BeginsOtherwise (codes "writes") lines → BeginsOtherwise (codes "writes") (warmed v lines)
-warmed_otherwise zero lines other n e = other n e
-warmed_otherwise (suc v) lines other n e = let first : entry (codes "warmup") (suc v) ≡ entry (codes "writes") n = e in omega (arith, bytes_at 1 _ _ first)
+-- ---- the text of a report
+six_parts : (a b c d e f : List (List ℕ)) → a ++ b ++ c ++ d ++ e ++ f ≡ a ++ (b ++ (c ++ (d ++ (e ++ f))))
+six_parts a b c d e f = simp append_assoc
 
 -- the text of a report, line by line
-pub rendered-lines : (c : Counting) (front back : List (List ℕ)) → rendered c (record { front = front; back = back }) ≡ text_of (front ++ optional (codes "counted") c.counted (back ++ warmed c.warmup []))
-rendered-lines c front back =
-    let counted = counted_lines c.counted in
+pub rendered-lines : (c : Counting) (front head back : List (List ℕ))
+    → rendered c (record { front = front; head = head; back = back }) ≡ text_of (front ++ optional (codes "counted") c.counted (head ++ staled c.stale (back ++ warmed c.warmup [])))
+rendered-lines c front head back =
     let warmup = warmup_lines c.warmup in
-    ap text_of (append_assoc (front ++ counted) back warmup ∙ append_assoc front counted (back ++ warmup))
-    ∙ ap (λ ls. text_of (front ++ ls)) (counted_lines-optional c.counted (back ++ warmup) ∙ ap (λ w. optional (codes "counted") c.counted (back ++ w)) (warmup_lines-warmed c.warmup))
+    let stale = stale_count_lines c.stale in
+    ap text_of (six_parts front (counted_lines c.counted) head stale back warmup)
+    ∙ ap (λ ls. text_of (front ++ ls)) (counted_lines-optional c.counted (head ++ (stale ++ (back ++ warmup))))
+    ∙ ap (λ ls. text_of (front ++ optional (codes "counted") c.counted (head ++ ls)))
+    (stale_count_lines-staled c.stale (back ++ warmup) ∙ ap (λ w. staled c.stale (back ++ w)) (warmup_lines-warmed c.warmup))
 
 -- the same with a line of written bytes
-pub rendered-written : (c : Counting) (front back : List (List ℕ)) (w : Option ℕ)
-    → rendered c (record { front = front; back = back ++ written_lines w }) ≡ text_of (front ++ optional (codes "counted") c.counted (back ++ optional (codes "writes") w (warmed c.warmup [])))
-rendered-written c front back w =
+pub rendered-written : (c : Counting) (front head back : List (List ℕ)) (w : Option ℕ)
+    → rendered c (record { front = front; head = head; back = back ++ written_lines w })
+    ≡ text_of (front ++ optional (codes "counted") c.counted (head ++ staled c.stale (back ++ optional (codes "writes") w (warmed c.warmup []))))
+rendered-written c front head back w =
     let warmup = warmed c.warmup [] in
-    rendered-lines c front (back ++ written_lines w)
-    ∙ ap (λ ls. text_of (front ++ optional (codes "counted") c.counted ls)) (append_assoc back (written_lines w) warmup ∙ ap (λ ls. back ++ ls) (written_lines-optional w warmup))
+    rendered-lines c front head (back ++ written_lines w)
+    ∙ ap (λ ls. text_of (front ++ optional (codes "counted") c.counted (head ++ staled c.stale ls))) (append_assoc back (written_lines w) warmup ∙ ap (λ ls. back ++ ls) (written_lines-optional w warmup))
 
 -- ---- the lines of a report
--- those up to that of the trace, how the requests count, the lines from the capacity on, the written bytes, and the lines behind the warm-up
+-- those up to that of the trace, how the requests count and what is said of stale ones, the line of the capacity, those behind it, the written bytes,
+-- and the lines behind the warm-up
 pub record Report : Type 0 where
   pub before : List (List ℕ)
   pub counting : Counting
@@ -109,7 +52,7 @@ pub record Report : Type 0 where
   pub written : Option ℕ
   pub behind : List (List ℕ)
 
--- the lines from the capacity on
+-- the lines from the capacity on, but for those of stale requests
 abbrev pub body : Report → List (List ℕ)
 body r = capacity_line r.capacity r.objective ∷ r.others
 
@@ -117,19 +60,30 @@ body r = capacity_line r.capacity r.objective ∷ r.others
 abbrev pub after_body : Report → List (List ℕ)
 after_body r = optional (codes "writes") r.written (warmed r.counting.warmup r.behind)
 
+-- all lines behind that of the capacity
+abbrev pub after_capacity : Report → List (List ℕ)
+after_capacity r = staled r.counting.stale (r.others ++ after_body r)
+
+-- all lines from that of the capacity on
+abbrev pub from_capacity : Report → List (List ℕ)
+from_capacity r = capacity_line r.capacity r.objective ∷ after_capacity r
+
 -- all lines behind those up to that of the trace
 abbrev pub after_trace : Report → List (List ℕ)
-after_trace r = optional (codes "counted") r.counting.counted (body r ++ after_body r)
+after_trace r = optional (codes "counted") r.counting.counted (from_capacity r)
 
 -- all its lines
 abbrev pub lines_of : Report → List (List ℕ)
 lines_of r = r.before ++ after_trace r
 
--- each is one line, and the one behind the warm-up looks neither as that of a warm-up nor as that of written bytes
+-- each is one line, the one behind those of stale requests looks like none of them, and the one behind the warm-up looks neither like that of a warm-up
+-- nor like that of written bytes
 pub record IsReport (r : Report) : Type 0 where
   pub before : AllByRecursion (Lacks 10) r.before
   pub counted : IfSome r.counting.counted IsPrintable
   pub body : AllByRecursion (Lacks 10) (body r)
+  pub stale : ArePrintableCounts r.counting.stale
+  pub no_stale : NoneOfStale (r.others ++ after_body r)
   pub written : IfSome r.written IsPrintable
   pub warmup : IsPrintable r.counting.warmup
   pub behind : AllByRecursion (Lacks 10) r.behind
@@ -143,10 +97,10 @@ lacks-both (x ∷ xs) ys a b = (a.0, lacks-both xs ys a.1 b)
 report_lacks : (r : Report) → IsReport r → AllByRecursion (Lacks 10) (lines_of r)
 report_lacks r is =
     let v = r.counting.warmup in
-    let last = optional_lacks (codes "warmup") (warmup_of v) r.behind refl (warmup_small v is.warmup) is.behind in
+    let last = optional_lacks (codes "warmup") (unless_zero v) r.behind refl (unless_zero_small v is.warmup) is.behind in
     let writes = optional_lacks (codes "writes") r.written (warmed v r.behind) refl is.written last in
-    let rest = lacks-both (body r) (after_body r) is.body writes in
-    lacks-both r.before (after_trace r) is.before (optional_lacks (codes "counted") r.counting.counted (body r ++ after_body r) refl is.counted rest)
+    let rest = staled_lacks r.counting.stale (r.others ++ after_body r) is.stale (lacks-both r.others (after_body r) is.body.1 writes) in
+    lacks-both r.before (after_trace r) is.before (optional_lacks (codes "counted") r.counting.counted (from_capacity r) refl is.counted (is.body.0, rest))
 
 -- two lists of which as many elements are cut off
 split_at : (xs ys ps qs : List (List ℕ)) → length xs ≡ length ys → xs ++ ps ≡ ys ++ qs → (xs ≡ ys) × (ps ≡ qs)
@@ -169,8 +123,11 @@ pub record SameReport (r s : Report) : Type 0 where
   pub written : r.written ≡ s.written
   pub behind : r.behind ≡ s.behind
 
-same_counting : (c d : Counting) → c.warmup ≡ d.warmup → c.counted ≡ d.counted → c ≡ d
-same_counting c d warmup counted = ap (λ v. record { warmup = v; counted = c.counted }) warmup ∙ ap (λ n. record { warmup = d.warmup; counted = n }) counted
+same_counting : (c d : Counting) → c.warmup ≡ d.warmup → c.counted ≡ d.counted → c.stale ≡ d.stale → c ≡ d
+same_counting c d warmup counted stale =
+    ap (λ v. record { warmup = v; counted = c.counted; stale = c.stale }) warmup
+    ∙ ap (λ n. record { warmup = d.warmup; counted = n; stale = c.stale }) counted
+    ∙ ap (λ n. record { warmup = d.warmup; counted = d.counted; stale = n }) stale
 
 -- two reports of as many lines are the same if their texts are
 pub reports_apart : (r s : Report) → IsReport r → IsReport s → length r.before ≡ length s.before → length r.others ≡ length s.others
@@ -179,14 +136,24 @@ reports_apart r s is it before others e =
     let first = split_at r.before s.before (after_trace r) (after_trace s) before (lines_apart (lines_of r) (lines_of s) (report_lacks r is) (report_lacks s it) e) in
     let v = r.counting.warmup in
     let w = s.counting.warmup in
-    let second = optional_apart (codes "counted") r.counting.counted s.counting.counted (body r ++ after_body r) (body s ++ after_body s)
+    let second = optional_apart (codes "counted") r.counting.counted s.counting.counted (from_capacity r) (from_capacity s)
     refl is.counted it.counted (is_capacity r.capacity r.objective) (is_capacity s.capacity s.objective) first.1 in
-    let third = split_at (body r) (body s) (after_body r) (after_body s) (ap suc others) second.1 in
+    let capacities = split_at (capacity_line r.capacity r.objective ∷ []) (capacity_line s.capacity s.objective ∷ []) (after_capacity r) (after_capacity s) refl second.1 in
+    let stale = staled_apart r.counting.stale s.counting.stale (r.others ++ after_body r) (s.others ++ after_body s) is.stale it.stale is.no_stale it.no_stale capacities.1 in
+    let third = split_at r.others s.others (after_body r) (after_body s) others stale.1 in
     let fourth = optional_apart (codes "writes") r.written s.written (warmed v r.behind) (warmed w s.behind)
     refl is.written it.written (warmed_otherwise v r.behind is.no_writes) (warmed_otherwise w s.behind it.no_writes) third.1 in
-    let last = optional_apart (codes "warmup") (warmup_of v) (warmup_of w) r.behind s.behind
-    refl (warmup_small v is.warmup) (warmup_small w it.warmup) is.no_warmup it.no_warmup fourth.1 in
-    record { before = first.0; counting = same_counting r.counting s.counting (warmup_apart v w last.0) second.0; body = third.0; written = fourth.0; behind = last.1 }
+    let last = optional_apart (codes "warmup") (unless_zero v) (unless_zero w) r.behind s.behind
+    refl (unless_zero_small v is.warmup) (unless_zero_small w it.warmup) is.no_warmup it.no_warmup fourth.1 in
+    let capacity : capacity_line r.capacity r.objective ∷ [] ≡ capacity_line s.capacity s.objective ∷ [] = capacities.0 in
+    let same_others : r.others ≡ s.others = third.0 in
+    record {
+      before = first.0;
+      counting = same_counting r.counting s.counting (unless_zero_apart v w last.0) second.0 stale.0;
+      body = cc;
+      written = fourth.0;
+      behind = last.1;
+    }
 
 -- nothing behind the warm-up
 pub none_behind : (word : List ℕ) → BeginsOtherwise word []

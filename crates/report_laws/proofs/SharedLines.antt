@@ -15,7 +15,7 @@ use Rattle.bound_terms.specs.declared.modes.Mode.TheVariants.{Flow, Constant, In
 use Rattle.bound_report.specs.Reports.{capacity_line, mode_line, trace_line, unit_line, value_lines}
 use Rattle.report_laws.specs.Laws.{IsPrintable, header_numbers, mode_numbers, says_exact}
 use Rattle.report_laws.proofs.Lines.{After, Lacks, Part, Small, Words, last_words, lacks-decimal, line_lacks, named, numbers_apart}
-use Rattle.report_laws.proofs.ReportLines.{bytes_at}
+use Rattle.report_laws.proofs.OptionalLines.{NoneOfStale, bytes_at, none_of_stale}
 
 -- ---- the line of the trace
 abbrev trace_parts : List Part
@@ -76,6 +76,15 @@ mode_lacks (Flow (Steps w)) price true small = line_lacks (flow_parts true) (w �
 mode_lacks (Flow (Steps w)) price false small = line_lacks (flow_parts false) (w ∷ []) refl small
 mode_lacks Constant price exact small = line_lacks constant_parts (price ∷ []) refl small
 mode_lacks Infinite price exact small = refl
+
+-- the line of the mode is none of stale requests
+pub mode_otherwise : (m : Mode) (price : ℕ) (exact : Bool) (lines : List (List ℕ)) → NoneOfStale (mode_line m price exact ∷ lines)
+mode_otherwise m price exact lines = none_of_stale (mode_line m price exact ∷ lines) 109 (first m) (λ e. omega arith) (λ e. omega arith) (λ e. omega arith)
+  where
+    first : (m : Mode) → get_or (mode_line m price exact) 0 0 ≡ 109
+    first (Flow window) = refl
+    first Constant = refl
+    first Infinite = refl
 
 -- what a line says of the mode
 pub record SameMode (m n : Mode) (p q : ℕ) (x y : Bool) : Type 0 where

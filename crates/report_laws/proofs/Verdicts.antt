@@ -1,5 +1,5 @@
 -- What a check prints is read in one way.
-use Rattle.std.proofs.Common.{◌≡◌, ℕ, ◌∙◌, sym, refl, ap, Bool, true, false, List, [], ◌∷◌, ◌++◌, drop, take, get_or, codes, None}
+use Rattle.std.proofs.Common.{◌≡◌, ℕ, ◌∙◌, sym, refl, ap, Bool, true, false, List, [], ◌∷◌, ◌++◌, drop, take, get_or, arith, codes, None}
 use Rattle.std.specs.List.{AllByRecursion}
 use Rattle.std.proofs.lemmas.List.{append_cancel_left}
 use Rattle.std.proofs.lemmas.List.Elements.{recursion_from_All}
@@ -7,11 +7,12 @@ use Rattle.cache_model.specs.Texts.{form_word, text_of}
 use Rattle.cert_checker.specs.declared.verdict.Verdict.{Verdict}
 use Rattle.bound_report.specs.declared.rendering.Counting.{Counting}
 use Rattle.bound_report.specs.Rendering.{rendered}
-use Rattle.bound_report.specs.Reports.{trace_line, unit_line, value_lines}
+use Rattle.bound_report.specs.Reports.{capacity_line, trace_line, unit_line, value_lines}
 use Rattle.bound_report.specs.Verdicts.{verdict_lines}
 use Rattle.report_laws.specs.Laws.{ArePrintable, IsPrintable, SameVerdicts, VerdictsHaveOneReading, header_numbers, verdict_numbers}
 use Rattle.report_laws.proofs.Lines.{Lacks, Small}
-use Rattle.report_laws.proofs.ReportLines.{IsReport, Report, all_of, body, lines_of, none_behind, rendered-lines, reports_apart}
+use Rattle.report_laws.proofs.OptionalLines.{NoneOfStale, none_of_stale}
+use Rattle.report_laws.proofs.ReportLines.{IsReport, Report, after_body, all_of, body, lines_of, none_behind, rendered-lines, reports_apart}
 use Rattle.report_laws.proofs.SharedLines.{form_apart, header_apart, header_capacity_lacks, trace_apart, trace_lacks, unit_lacks, values_lack}
 
 -- the numbers of its lines
@@ -26,6 +27,10 @@ small_verdict x dropped (objects, (few, header)) = record { trace = (header.0, (
 abbrev pub verdict_trace : Verdict → ℕ → List ℕ
 verdict_trace x dropped = trace_line x.header.requests x.objects dropped
 
+-- the lines behind that of the capacity
+abbrev pub other_lines : Verdict → List (List ℕ)
+other_lines x = (codes "form " ++ form_word x.header.exact) ∷ unit_line x.header ∷ value_lines x.header ++ codes "valid" ∷ []
+
 -- the report, with these lines up to that of the trace
 abbrev pub report_of : Verdict → Counting → List (List ℕ) → Report
 report_of x c before = record {
@@ -33,7 +38,7 @@ report_of x c before = record {
   counting = c;
   capacity = x.header.capacity;
   objective = x.header.objective;
-  others = (codes "form " ++ form_word x.header.exact) ∷ unit_line x.header ∷ value_lines x.header ++ codes "valid" ∷ [];
+  others = other_lines x;
   written = None;
   behind = [];
 }
@@ -41,6 +46,10 @@ report_of x c before = record {
 form_lacks : (exact : Bool) → Lacks 10 (codes "form " ++ form_word exact)
 form_lacks true = refl
 form_lacks false = refl
+
+-- the first of the lines behind that of the capacity is none of stale requests
+pub verdict_otherwise : (x : Verdict) (rest : List (List ℕ)) → NoneOfStale (other_lines x ++ rest)
+verdict_otherwise x rest = none_of_stale (other_lines x ++ rest) 102 refl (λ e. omega arith) (λ e. omega arith) (λ e. omega arith)
 
 pub verdict_lacks : (x : Verdict) (dropped : ℕ) → SmallVerdict x dropped → AllByRecursion (Lacks 10) (all_of (verdict_lines x dropped))
 verdict_lacks x dropped small =
@@ -65,17 +74,30 @@ same_verdicts x y m n small small' e =
 
 module _ (x : Verdict) (m : ℕ) (c : Counting) (printable : ArePrintable c (verdict_numbers x m)) where
   small_all : SmallVerdict x m
-  small_all = small_verdict x m (recursion_from_All IsPrintable (verdict_numbers x m) printable.2)
+  small_all = small_verdict x m (recursion_from_All IsPrintable (verdict_numbers x m) printable.3)
 
   -- the report alone
   abbrev alone : Report
   alone = report_of x c (verdict_trace x m ∷ [])
 
   is_alone : IsReport alone
-  is_alone = let lack = verdict_lacks x m small_all in record { before = (lack.0, tt); counted = printable.0; body = lack.1; written = tt; warmup = printable.1; behind = tt; no_warmup = none_behind (codes "warmup"); no_writes = none_behind (codes "writes") }
+  is_alone =
+      let lack = verdict_lacks x m small_all in
+      record {
+        before = (lack.0, tt);
+        counted = printable.0;
+        body = lack.1;
+        stale = printable.2;
+        no_stale = verdict_otherwise x (after_body alone);
+        written = tt;
+        warmup = printable.1;
+        behind = tt;
+        no_warmup = none_behind (codes "warmup");
+        no_writes = none_behind (codes "writes");
+      }
 
   text_alone : rendered c (verdict_lines x m) ≡ text_of (lines_of alone)
-  text_alone = rendered-lines c (verdict_trace x m ∷ []) (body alone)
+  text_alone = rendered-lines c (verdict_trace x m ∷ []) (capacity_line x.header.capacity x.header.objective ∷ []) (other_lines x)
 
 pub verdicts_apart : VerdictsHaveOneReading
 verdicts_apart x y m n c d printable printable' e =

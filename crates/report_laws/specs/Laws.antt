@@ -10,6 +10,7 @@ use Rattle.bound_report.specs.declared.facts.BoundFacts.{BoundFacts}
 use Rattle.bound_report.specs.declared.demo.DemoFacts.{DemoFacts}
 use Rattle.bound_report.specs.declared.demo.PolicyReplays.{PolicyReplays}
 use Rattle.bound_report.specs.declared.rendering.Counting.{Counting}
+use Rattle.bound_report.specs.declared.rendering.StaleCounts.{StaleCounts}
 use Rattle.bound_report.specs.Demos.{demo_text}
 use Rattle.bound_report.specs.Refinements.{refined_lines}
 use Rattle.bound_report.specs.Rendering.{rendered}
@@ -20,9 +21,13 @@ use Rattle.bound_report.specs.Verdicts.{verdict_lines}
 abbrev pub IsPrintable : ℕ → Type 0
 IsPrintable n = n < 2 ^ 128
 
--- how many requests count, if that is known, the warm-up, and the other numbers of a report
+-- the time after which objects expire, if they do, how many requests were late, and how many were stale, if any can be
+abbrev pub ArePrintableCounts : StaleCounts → Type 0
+ArePrintableCounts counts = IfSome counts.idle IsPrintable × IsPrintable counts.late × IfSome counts.stale IsPrintable
+
+-- how many requests count, if that is known, the warm-up, what is said of stale requests, and the other numbers of a report
 abbrev pub ArePrintable : Counting → List ℕ → Type 0
-ArePrintable counting numbers = IfSome counting.counted IsPrintable × IsPrintable counting.warmup × All IsPrintable numbers
+ArePrintable counting numbers = IfSome counting.counted IsPrintable × IsPrintable counting.warmup × ArePrintableCounts counting.stale × All IsPrintable numbers
 
 -- the numbers of a header that reports print
 abbrev pub header_numbers : Header → List ℕ
