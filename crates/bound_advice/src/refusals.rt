@@ -71,6 +71,9 @@ fn impossible_advice(cause: Impossible) -> &'static str {
         Impossible::Size { .. } => {
             "an object above the capacity can't be held: compare the capacity and the sizes in bytes of the simulator"
         }
+        Impossible::Stale { .. } => {
+            "an object that is stale when it is asked for is no hit: compare the time after which it expires in the simulator, and whether another size of an id replaces it"
+        }
         Impossible::Load { .. } => {
             "what these hits need does not fit in the capacity at this step: look for a size that is left out, an object that entered when it was not asked for, or one that is stored once its fetch completes: give that moment a line with w, and count=reads"
         }

@@ -188,6 +188,10 @@ fn push_impossible(text: &mut RefusalText, cause: Impossible, capacity: u64)
             text.push_entry(b" above", capacity as u128);
             text.push(b"\n");
         }
+        Impossible::Stale { request } => {
+            text.push_entry(b"request", request as u128);
+            text.push(b": stale\n");
+        }
         Impossible::Load { step, load } => {
             text.push_entry(b"step", step as u128);
             text.push_entry(b": load", load);

@@ -30,8 +30,8 @@ impl StaleCounts {
     }
 }
 
-/// How the requests of a trace count: the first `warmup` of them don't, and `counted` of the others do, which is known if
-/// the form of the trace has marks or a request can be stale. `stale` is what is said of stale requests.
+/// How the requests of a trace count: the first `warmup` of them don't, and `counted` of the others do by their own marks,
+/// which is known if the form of the trace has marks. `stale` is what is said of stale requests.
 #[derive(Clone, Copy, Debug, PartialEq, Eq)]
 pub struct Counting {
     pub warmup: u32,

@@ -10,10 +10,13 @@ use Rattle.cache_model.specs.declared.objects.Objective.{Objective}
 use Rattle.cache_model.specs.declared.objects.Objective.TheVariants.{Object as Hits, Bytes}
 use Rattle.cache_model.specs.Claim.{terms_from}
 use Rattle.cache_rules.specs.Stored.{Requests}
+use Rattle.freshness.specs.Seen.{Staleness}
 use Rattle.judge_laws.specs.Flags.{IsPossible, claimed}
+use Rattle.hit_judge.specs.Possible.{IsPossibleFresh}
 use Rattle.judge_laws.proofs.Claimed.{claimed_is_bounded}
 use Rattle.trace_any.specs.declared.fault.TraceFault.TheVariants as of_trace
 use Rattle.trace_any.specs.declared.format.Format.{Format}
+use Rattle.trace_any.specs.Readers.{Notes}
 use Rattle.trace_any.specs.Readings.{full_limits, reading}
 use Rattle.hit_flags.specs.declared.fault.FlagFault.{FlagFault}
 use Rattle.hit_flags.specs.declared.fault.FlagFault.TheVariants as flag
@@ -73,21 +76,27 @@ judged_at format asked source hits text None left is_trace is_hits known known_h
 judged_at format asked source hits text (Some bytes) None is_trace is_hits known known_hits judged = absurd (false≢true known_hits)
 judged_at format asked source hits text (Some bytes) (Some lines) is_trace is_hits known known_hits judged =
     let whole = rw is_trace at judged.read.loaded.read in
+    let noted = rw is_trace at judged.read.loaded.noted in
     let flags = rw is_hits at judged.read.flags_are.lines in
     record {
       flags = judged.flags;
       whole = whole.stop;
       lines = flags;
       as_many = judged.read.as_many ∙ ap length (sym whole.requests);
-      possible = subst (λ xs. IsPossible asked.capacity xs judged.flags) (sym whole.requests) judged.possible;
+      possible = subst (λ xs. IsPossibleFresh asked.capacity xs (reading format full_limits bytes).seen.noted.stale judged.flags) (sym whole.requests)
+          (subst (λ (n : Staleness). IsPossibleFresh asked.capacity judged.requests.objects n.stale judged.flags) (sym noted) judged.possible);
     }
 
-impossible_at : (format : Format) (asked : JudgeSettings) (source hits : Device) (requests : Requests) (dropped : ℕ) (flags : List Bool) (bytes text : List ℕ) → source.before ≡ Some bytes → hits.before ≡ Some text
-    → AreRead format source hits requests dropped flags → ¬ (IsPossible asked.capacity requests.objects flags) → ArePossible format asked bytes text → ⊥
-impossible_at format asked source hits requests dropped flags bytes text is_trace is_hits read impossible are =
+impossible_at : (format : Format) (asked : JudgeSettings) (source hits : Device) (requests : Requests) (notes : Notes) (flags : List Bool) (bytes text : List ℕ) → source.before ≡ Some bytes → hits.before ≡ Some text
+    → AreRead format source hits requests notes flags → ¬ (IsPossibleFresh asked.capacity requests.objects notes.noted.stale flags) → ArePossible format asked bytes text → ⊥
+impossible_at format asked source hits requests notes flags bytes text is_trace is_hits read impossible are =
     let whole = rw is_trace at read.loaded.read in
+    let noted = rw is_trace at read.loaded.noted in
     let lines = rw is_hits at read.flags_are.lines in
-    impossible (subst (λ xs. IsPossible asked.capacity xs flags) whole.requests (subst (λ fs. IsPossible asked.capacity (reading format full_limits bytes).requests fs) (same_flags are.flags flags (sym are.lines ∙ lines)) are.possible))
+    let r = reading format full_limits bytes in
+    impossible (subst (λ xs. IsPossibleFresh asked.capacity xs notes.noted.stale flags) whole.requests
+    (subst (λ (n : Staleness). IsPossibleFresh asked.capacity r.requests n.stale flags) noted
+    (subst (λ fs. IsPossibleFresh asked.capacity r.requests r.seen.noted.stale fs) (same_flags are.flags flags (sym are.lines ∙ lines)) are.possible)))
 
 module _ (format : Format) (asked : JudgeSettings) (source hits report : Device) (known_trace : IsSome source.before) (known_hits : IsSome hits.before)
     (source_works : ¬ (HasFailed source)) (hits_work : ¬ (HasFailed hits)) (report_works : ¬ (HasFailed report)) where
@@ -121,7 +130,7 @@ module _ (format : Format) (asked : JudgeSettings) (source hits report : Device)
   judge_complete (FlagCount flags requests) e = no_answer (FlagCount flags requests) source.before hits.before known_trace known_hits (λ bytes text never. never) (stopped_at (flag.Count flags requests) e.0.0)
   judge_complete (Impossible cause capacity) e =
       no_answer (Impossible cause capacity) source.before hits.before known_trace known_hits (λ bytes text never. never)
-      (λ bytes text is_trace is_hits. impossible_at format asked source hits e.0.requests e.0.dropped e.0.flags bytes text is_trace is_hits e.0.read e.0.impossible)
+      (λ bytes text is_trace is_hits. impossible_at format asked source hits e.0.requests e.0.notes e.0.flags bytes text is_trace is_hits e.0.read e.0.impossible)
   judge_complete NoMemory e = free_at source.before hits.before
   judge_complete TraceFault e = absurd (source_works e.0)
   judge_complete CertFault e = absurd (hits_work e.0)

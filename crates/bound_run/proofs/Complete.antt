@@ -124,7 +124,7 @@ module _ (format : Format) (asked : BoundSettings) (source report made : Device)
   bounds_complete (BadLine line kind) e = absurd (not_refused source.before (trace.BadLine line kind) good e.0.0)
   bounds_complete (Limit Requests) e = absurd (not_refused source.before trace.TooManyRequests good e.0.0)
   bounds_complete (Limit TraceBytes) e = absurd (not_refused source.before trace.InputTooLong good e.0.0)
-  bounds_complete (Limit Denominator) e = absurd (not_past source.before e.0.requests e.0.dropped denominator e.0.loaded.read e.0.refused good)
+  bounds_complete (Limit Denominator) e = absurd (not_past source.before e.0.requests e.0.notes.dropped denominator e.0.loaded.read e.0.refused good)
   bounds_complete TraceFault e = absurd (source_works e.0)
   bounds_complete ReportFault (cert, text, ready, all, failed) = absurd (report_works failed.0)
   bounds_complete MadeFault (cert, text, ready, failed, line) = absurd (made_works failed.0)
@@ -168,7 +168,7 @@ module _ (format : Format) where
   module _ (source cert report : Device) (good : IsGoodTrace format source.before) (known_cert : IsSome cert.before)
       (source_works : ¬ (HasFailed source)) (cert_works : ¬ (HasFailed cert)) (report_works : ¬ (HasFailed report)) where
     check_complete : (status : Status) → CheckEnds format source cert report (ending_of status) → AnswersOf format source.before cert.before status
-    check_complete Done (text, said, all) = yes_at source.before cert.before said.accepted.requests said.dropped said.verdict.header said.accepted.records good known_cert said.accepted.loaded.read said.accepted.text said.accepted.valid
+    check_complete Done (text, said, all) = yes_at source.before cert.before said.accepted.requests said.notes.dropped said.verdict.header said.accepted.records good known_cert said.accepted.loaded.read said.accepted.text said.accepted.valid
     check_complete (Invalid line kind) e = no_at source.before cert.before line kind good known_cert e.0.0
     check_complete (BadLine line kind) e = absurd (not_refused_at source.before cert.before (trace.BadLine line kind) good known_cert e.0.0)
     check_complete (Limit Requests) e = absurd (not_refused_at source.before cert.before trace.TooManyRequests good known_cert e.0.0)
@@ -189,7 +189,7 @@ module _ (format : Format) where
   module _ (width : ℕ) (source cert report made : Device) (good : IsGoodTrace format source.before) (known_cert : IsSome cert.before)
       (source_works : ¬ (HasFailed source)) (cert_works : ¬ (HasFailed cert)) (report_works : ¬ (HasFailed report)) (made_works : ¬ (HasFailed made)) where
     refine_complete : (status : Status) → RefineEnds format width source cert report made (ending_of status) → AnswersOf format source.before cert.before status
-    refine_complete Done (written, text, refined, all, printed) = yes_at source.before cert.before refined.requests refined.dropped refined.header refined.records good known_cert refined.read.loaded.read refined.read.text refined.read.valid
+    refine_complete Done (written, text, refined, all, printed) = yes_at source.before cert.before refined.requests refined.notes.dropped refined.header refined.records good known_cert refined.read.loaded.read refined.read.text refined.read.valid
     refine_complete (Invalid line kind) e = no_at source.before cert.before line kind good known_cert e.0.0
     refine_complete (BadLine line kind) e = absurd (not_refused_at source.before cert.before (trace.BadLine line kind) good known_cert e.0.0)
     refine_complete (Limit Requests) e = absurd (not_refused_at source.before cert.before trace.TooManyRequests good known_cert e.0.0)
@@ -251,8 +251,8 @@ module _ (format : Format) (source report : Device) (good : IsGoodTrace format s
   answered_free (Some bytes) known_trace = tt
 
   curve_complete : (status : Status) → CurveEnds format source report (ending_of status) → AnswersCurveOf format source.before status
-  curve_complete Done (text, curved, all) = answered_of Done source.before curved.requests curved.dropped good curved.loaded.read curved.report.one_size
-  curve_complete (Unequal first other) e = answered_of (Unequal first other) source.before e.0.requests e.0.dropped good e.0.loaded.read e.0.clash
+  curve_complete Done (text, curved, all) = answered_of Done source.before curved.requests curved.notes.dropped good curved.loaded.read curved.report.one_size
+  curve_complete (Unequal first other) e = answered_of (Unequal first other) source.before e.0.requests e.0.notes.dropped good e.0.loaded.read e.0.clash
   curve_complete NoMemory e = answered_free source.before good
   curve_complete (BadLine line kind) e = absurd (curve_not_refused source.before (trace.BadLine line kind) good e.0.0)
   curve_complete (Limit Requests) e = absurd (curve_not_refused source.before trace.TooManyRequests good e.0.0)

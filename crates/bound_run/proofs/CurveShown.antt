@@ -12,6 +12,7 @@ use Rattle.bound_report.specs.declared.curves.CurveFacts.{CurveFacts}
 use Rattle.bound_report.specs.Curves.{adds_hits, curve_lines, slots_line, slots_lines}
 use Rattle.bound_report.specs.Rendering.{rendered}
 use Rattle.trace_any.specs.declared.format.Format.{Format}
+use Rattle.trace_any.specs.Readers.{Notes}
 use Rattle.bound_run.specs.Countings.{counting_from}
 use Rattle.bound_run.specs.Curves.{IsCurveText, curve_facts}
 
@@ -28,13 +29,13 @@ slots_lines-agree f g same most =
     (filter_agree (adds_hits f) (adds_hits g) (λ k. ap (λ n. nat_lt n (f k)) (same (k - 1)) ∙ ap (λ n. nat_lt (g (k - 1)) n) (same k)) (range_with_len 1 most))
 
 -- the report of a curve, from what the curve is
-pub curve_shown : (format : Format) (trace : Requests) (dropped : ℕ) (points : Points) (text : List ℕ) → HaveSize (first_size trace.objects) trace.objects → IsCurve trace.objects trace.fills points → IsOfLru trace.objects trace.fills points
-    → text ≡ rendered (counting_from format 0 trace) (curve_lines (curve_facts trace dropped) points.size (hits_with points)) → IsCurveText format trace dropped text
-curve_shown format trace dropped points text one_size of_trace of_lru is =
-    let facts : CurveFacts = curve_facts trace dropped in
+pub curve_shown : (format : Format) (trace : Requests) (notes : Notes) (points : Points) (text : List ℕ) → HaveSize (first_size trace.objects) trace.objects → IsCurve trace.objects trace.fills points → IsOfLru trace.objects trace.fills points
+    → text ≡ rendered (counting_from format 0 trace notes.noted) (curve_lines (curve_facts trace notes.dropped) points.size (hits_with points)) → IsCurveText format trace notes text
+curve_shown format trace notes points text one_size of_trace of_lru is =
+    let facts : CurveFacts = curve_facts trace notes.dropped in
     record {
       one_size = one_size;
-      text_is = is ∙ ap (rendered (counting_from format 0 trace)) (ap (λ s. curve_lines facts s (hits_with points)) of_trace.size_is
+      text_is = is ∙ ap (rendered (counting_from format 0 trace notes.noted)) (ap (λ s. curve_lines facts s (hits_with points)) of_trace.size_is
           ∙ ap (λ ls. record { front = trace_line facts.requests facts.objects facts.dropped ∷ []; back = entry (codes "size") (first_size trace.objects) ∷ ls }) (slots_lines-agree (hits_with points) (curve_hits trace.objects trace.fills) of_trace.hits_are facts.objects));
       of_lru = λ capacity positive.
           ap (λ n. cond (first_size trace.objects == 0) 0 n) (sym (of_trace.hits_are (capacity / first_size trace.objects)))

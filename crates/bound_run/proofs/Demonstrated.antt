@@ -25,6 +25,7 @@ use Rattle.bound_run.specs.Demos.{AreReplays, IsDemoText, demo_facts, trace_draw
 use Rattle.bound_run.specs.Readings.{IsCertified}
 use Rattle.bound_run.specs.BoundsMade.{AreTexts, IsMade}
 use Rattle.bound_run.specs.Refusals.{RefusesCheck}
+use Rattle.freshness.specs.Seen.{nothing_noted}
 use Rattle.bound_run.specs.Countings.{counting_of}
 use Rattle.bound_run.specs.Reports.{bounds_report}
 
@@ -67,7 +68,7 @@ shown_by drawing asked trace cert report text replays drawn texts replayed is = 
   made = subst (λ xs. IsMade asked xs texts.price texts.header texts.records) drawn texts.made;
   replays = replays;
   replayed = subst (λ xs. AreReplays asked.terms.capacity xs replays) drawn replayed;
-  text_is = is ∙ (ap (λ r. demo_text (demo_facts drawing asked) r replays) texts.report_is ∙ ap (λ xs. demo_text (demo_facts drawing asked) (bounds_report (counting_of webcache_form texts.header xs) asked xs 0 texts.price texts.header texts.records) replays) drawn);
+  text_is = is ∙ (ap (λ r. demo_text (demo_facts drawing asked) r replays) texts.report_is ∙ ap (λ xs. demo_text (demo_facts drawing asked) (bounds_report (counting_of webcache_form texts.header xs nothing_noted) asked xs 0 texts.price texts.header texts.records) replays) drawn);
 }
 
 -- what is made of a trace is certified by its lines

@@ -58,7 +58,7 @@ shown : (settings : Settings) (d : Devices) → CommandEnds settings d done → 
 shown (Bounds format asked) d ((cert, text, ready, certified, printed), source, untouched) =
     let made = ready.texts.made in (
       ready.requests,
-      ready.dropped,
+      ready.notes,
       ready.loaded,
       record {
         header = ready.texts.header;
@@ -81,7 +81,7 @@ shown (Bounds format asked) d ((cert, text, ready, certified, printed), source, 
     )
 shown (Check format) d ((text, said, printed), trace, cert, untouched) = (
   said.accepted.requests,
-  said.dropped,
+  said.notes,
   said.accepted.loaded,
   record {
     verdict = said.verdict;
@@ -94,36 +94,37 @@ shown (Check format) d ((text, said, printed), trace, cert, untouched) = (
 )
 shown (Replay format r) d ((text, replayed, printed), source, cert, made) = (
   replayed.requests,
-  replayed.dropped,
+  replayed.notes,
   replayed.loaded,
   record { text = text; printed = printed; replay = replayed.report },
 )
 shown (Curve format) d ((text, curved, printed), source, cert, made) = (
   curved.requests,
-  curved.dropped,
+  curved.notes,
   curved.loaded,
   record { text = text; printed = printed; curve = curved.report },
 )
 shown (CapacityCurve format capacities asked) d ((text, curved, printed), source, cert, made) = (
   curved.requests,
-  curved.dropped,
+  curved.notes,
   curved.loaded,
   record { text = text; printed = printed; curve = curved.report },
 )
 shown (Judge format asked) d ((text, judged, printed), trace, hits, made) = (
   judged.requests,
-  judged.dropped,
+  judged.notes,
   judged.read.loaded,
   record {
     flags = judged.flags;
     flags_are = judged.read.flags_are;
     as_many = judged.read.as_many;
     printed = subst (λ t. Appends d.report.before d.report.after t) judged.text_is printed;
-    possible = possible_is_allowed asked.capacity judged.requests.objects judged.flags judged.possible;
-    bounded = claims_bounded asked judged.requests judged.flags judged.possible;
+    possible = possible_is_allowed asked.capacity judged.requests.objects judged.flags judged.possible.possible;
+    fresh = judged.possible.fresh;
+    bounded = claims_bounded asked judged.requests judged.flags judged.possible.possible;
     written = record {
       none_fewer = claimed_hits_write_no_fewer asked.capacity asked.warmup judged.requests.fills judged.requests.objects judged.flags;
-      some_just = claimed_hits_write_just asked.capacity asked.warmup judged.requests.fills judged.requests.objects judged.flags judged.possible;
+      some_just = claimed_hits_write_just asked.capacity asked.warmup judged.requests.fills judged.requests.objects judged.flags judged.possible.possible;
     };
   },
 )
@@ -151,7 +152,7 @@ shown Upgrade d ((cert, text, ready, certified, printed), source, untouched) = r
 shown (Refine format width) d ((cert, text, ready, certified, printed), trace, read) =
     let texts = ready.texts in (
       ready.requests,
-      ready.dropped,
+      ready.notes,
       ready.read.loaded,
       record {
         header = ready.header;

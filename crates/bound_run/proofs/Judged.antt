@@ -13,7 +13,7 @@ use Rattle.cache_rules.specs.Stored.{Requests}
 use Rattle.trace_any.specs.declared.fault.TraceFault.TheVariants as trace
 use Rattle.trace_any.specs.declared.format.Format.{Format}
 use Rattle.trace_any.specs.Readings.{full_limits}
-use Rattle.trace_any.specs.Readers.{fresh}
+use Rattle.trace_any.specs.Readers.{fresh, notes_of}
 use Rattle.cert_format.specs.Readings.{reading, whole}
 use Rattle.cert_format.proofs.Wholes.{read_written}
 use Rattle.cert_checker.specs.declared.verdict.Verdict.{Verdict}
@@ -21,7 +21,7 @@ use Rattle.cert_checker.specs.declared.walking.CheckFault.{CheckFault}
 use Rattle.cert_checker.specs.declared.walking.CheckFault.TheVariants as check
 use Rattle.cert_checker.specs.Checks.{Inputs, IsEvent, IsNear, IsPassed}
 use Rattle.cert_checker.specs.Keeping.{Checked, HasKept}
-use Rattle.cert_checker.specs.Counting.{counted_in}
+use Rattle.bound_report.specs.declared.rendering.Counting.{Counting}
 use Rattle.trace_any.specs.Loads.{IsLoaded}
 use Rattle.bound_run.specs.Readings.{IsAccepted, IsVerdictText}
 use Rattle.bound_run.specs.Countings.{counting_of}
@@ -52,12 +52,12 @@ module _ (format : Format) (start end : Inputs) (new : start.reader ≡ fresh fo
 
   -- a yes is one over all that the sources had left
   accepted : (verdict : Verdict) → IsPassed start end verdict
-      → IsAccepted format (device start.trace end.trace start.trace_faults end.trace_faults) (device start.certificate end.certificate start.certificate_faults end.certificate_faults) verdict end.reader.dropped
+      → IsAccepted format (device start.trace end.trace start.trace_faults end.trace_faults) (device start.certificate end.certificate start.certificate_faults end.certificate_faults) verdict (notes_of end.reader)
   accepted verdict passed =
       record {
         requests = passed.requests;
         records = passed.records;
-        loaded = record { read = rw (same_format, same_limits) at passed.trace; nothing_left = passed.trace_end };
+        loaded = record { read = rw (same_format, same_limits) at passed.trace; noted = rw (same_format, same_limits) at passed.noted; nothing_left = passed.trace_end };
         objects = passed.yes.objects;
         valid = passed.yes.valid;
         bounds = passed.yes.bounds_every_policy;
@@ -67,26 +67,26 @@ module _ (format : Format) (start end : Inputs) (new : start.reader ≡ fresh fo
       }
 
   -- and so is the text of it
-  pub said : (verdict : Verdict) (dropped : ℕ) (counted : Option ℕ) (text : List ℕ) (passed : IsPassed start end verdict) → end.reader.dropped ≡ dropped
-      → counted ≡ counted_in format verdict.header.warmup passed.requests → text ≡ verdict_report (record { warmup = verdict.header.warmup; counted = counted }) verdict dropped
+  pub said : (verdict : Verdict) (dropped : ℕ) (counting : Counting) (text : List ℕ) (passed : IsPassed start end verdict) → end.reader.dropped ≡ dropped
+      → counting ≡ counting_of format verdict.header passed.requests end.reader.seen.noted → text ≡ verdict_report counting verdict dropped
       → IsVerdictText format (device start.trace end.trace start.trace_faults end.trace_faults) (device start.certificate end.certificate start.certificate_faults end.certificate_faults) text
   unfolding accepted
-  said verdict dropped counted text passed same number shown = record {
+  said verdict dropped counting text passed same counting_is shown = record {
     verdict = verdict;
-    dropped = end.reader.dropped;
+    notes = notes_of end.reader;
     accepted = accepted verdict passed;
-    text_is = shown ∙ ap (λ n. verdict_report (record { warmup = verdict.header.warmup; counted = n }) verdict dropped) number ∙ ap (verdict_report (counting_of format verdict.header passed.requests) verdict) (sym same);
+    text_is = shown ∙ ap (λ c. verdict_report c verdict dropped) counting_is ∙ ap (verdict_report (counting_of format verdict.header passed.requests end.reader.seen.noted) verdict) (sym same);
   }
 
   -- so is one of what is kept
   pub kept_all : (kept : Checked) → HasKept start end kept
-      → IsKept format (device start.trace end.trace start.trace_faults end.trace_faults) (device start.certificate end.certificate start.certificate_faults end.certificate_faults) kept end.reader.dropped
+      → IsKept format (device start.trace end.trace start.trace_faults end.trace_faults) (device start.certificate end.certificate start.certificate_faults end.certificate_faults) kept (notes_of end.reader)
   kept_all kept has =
       let passed = has.passed in
-      let loaded : IsLoaded format (device start.trace end.trace start.trace_faults end.trace_faults) passed.requests end.reader.dropped
-      = record { read = rw (same_format, same_limits) at passed.trace; nothing_left = passed.trace_end } in (
+      let loaded : IsLoaded format (device start.trace end.trace start.trace_faults end.trace_faults) passed.requests (notes_of end.reader)
+      = record { read = rw (same_format, same_limits) at passed.trace; noted = rw (same_format, same_limits) at passed.noted; nothing_left = passed.trace_end } in (
         record {
-          loaded = subst (λ requests. IsLoaded format (device start.trace end.trace start.trace_faults end.trace_faults) requests end.reader.dropped) (sym has.trace) loaded;
+          loaded = subst (λ requests. IsLoaded format (device start.trace end.trace start.trace_faults end.trace_faults) requests (notes_of end.reader)) (sym has.trace) loaded;
           valid = subst (λ (requests : Requests). IsValid requests.objects requests.fills kept.verdict.header kept.records) (sym has.trace) (subst (λ records. IsValid passed.requests.objects passed.requests.fills kept.verdict.header records) (sym has.records) passed.yes.valid);
           text = subst (λ records. IfSome start.certificate (λ text. text ≡ cert_text kept.verdict.header records)) (sym has.records) (texts_of_whole start.certificate kept.verdict.header passed.records passed.certificate);
           nothing_left = passed.certificate_end;

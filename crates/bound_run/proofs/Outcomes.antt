@@ -48,15 +48,15 @@ not_loaded format before after faults_before faults_after trace.TooManyRequests 
 not_loaded format before after faults_before faults_after trace.NoMemory why lost = tt
 
 -- the bounds of a trace, once it is loaded
-pub ready_of : (format : Format) (asked : BoundSettings) (d : Device) (requests : Trail) (dropped : ℕ) (cert report : List ℕ)
-    → IsLoaded format d requests dropped → AreTexts format asked requests dropped cert report → IsReady format asked d cert report
-ready_of format asked d requests dropped cert report loaded texts = record { requests = requests; dropped = dropped; loaded = loaded; texts = texts }
+pub ready_of : (format : Format) (asked : BoundSettings) (d : Device) (requests : Trail) (notes : Notes) (cert report : List ℕ)
+    → IsLoaded format d requests notes → AreTexts format asked requests notes cert report → IsReady format asked d cert report
+ready_of format asked d requests notes cert report loaded texts = record { requests = requests; notes = notes; loaded = loaded; texts = texts }
 
 -- what refuses the bounds of a trace that is loaded
-pub refused_of : (format : Format) (asked : BoundSettings) (d : Device) (requests : Trail) (dropped : ℕ) (fault : BoundsFault)
-    → IsLoaded format d requests dropped → FailsBounds asked requests fault → RefusesBounds format asked d (refusal_of_bounds fault)
-refused_of format asked d requests dropped bounds.Denominator loaded why = record { requests = requests; dropped = dropped; loaded = loaded; refused = why }
-refused_of format asked d requests dropped bounds.NoMemory loaded why = tt
+pub refused_of : (format : Format) (asked : BoundSettings) (d : Device) (requests : Trail) (notes : Notes) (fault : BoundsFault)
+    → IsLoaded format d requests notes → FailsBounds asked requests fault → RefusesBounds format asked d (refusal_of_bounds fault)
+refused_of format asked d requests notes bounds.Denominator loaded why = record { requests = requests; notes = notes; loaded = loaded; refused = why }
+refused_of format asked d requests notes bounds.NoMemory loaded why = tt
 
 -- what refuses the trace refuses its bounds
 pub loading_refuses : (format : Format) (asked : BoundSettings) (d : Device) (why : Refusal) → RefusesLoading format d why → RefusesBounds format asked d why
@@ -107,9 +107,9 @@ module _ (format : Format) (source : Device) where
   loading_refuses_curve why e = e
 
   -- what refuses the curve of a trace that is loaded
-  pub curve_refused : (requests : Trail) (dropped : ℕ) (fault : CurveFault) → IsLoaded format source requests dropped → IsCause requests.objects fault → RefusesCurve format source (refusal_of_curve fault)
-  curve_refused requests dropped (curve.Unequal first other) loaded why = record { requests = requests; dropped = dropped; loaded = loaded; clash = why }
-  curve_refused requests dropped curve.NoMemory loaded why = tt
+  pub curve_refused : (requests : Trail) (notes : Notes) (fault : CurveFault) → IsLoaded format source requests notes → IsCause requests.objects fault → RefusesCurve format source (refusal_of_curve fault)
+  curve_refused requests notes (curve.Unequal first other) loaded why = record { requests = requests; notes = notes; loaded = loaded; clash = why }
+  curve_refused requests notes curve.NoMemory loaded why = tt
 
 -- what refuses the bounds of the trace refuses the demo
 pub demo_refused : (drawing : DrawSettings) (asked : BoundSettings) (fault : BoundsFault) → FailsBounds asked (trace_drawn drawing) fault → RefusesDemo drawing asked (refusal_of_bounds fault)

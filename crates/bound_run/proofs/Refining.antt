@@ -18,6 +18,7 @@ use Rattle.cache_model.proofs.Flows.{flow_value-le}
 use Rattle.cache_model.proofs.Headline.{valid_bounds}
 use Rattle.price_refine.specs.Refinements.{Refinement}
 use Rattle.trace_any.specs.declared.format.Format.{Format}
+use Rattle.trace_any.specs.Readers.{Notes}
 use Rattle.interval_maker.specs.Timelines.{Timeline, timeline_of}
 use Rattle.price_refine.specs.Blocks.{AreSettled}
 use Rattle.bound_report.specs.declared.refusal.Refusal.TheVariants as refusal
@@ -170,14 +171,14 @@ module _ (width : ℕ) (trace : Requests) (h : Header) (records : List Record) (
   }
 
   -- the texts of the certificate and the report
-  pub refined_texts : (format : Format) (dropped : ℕ) (cert report : List ℕ) → cert ≡ cert_text made refined → report ≡ refined_report (counting_of format h trace) h.upper (verdict_on trace made) dropped → AreRefinedTexts format width trace dropped h records cert report
-  refined_texts format dropped cert report cert_is report_is = record { made = made; refined = refined; refinement = refinement; cert_is = cert_is; report_is = report_is }
+  pub refined_texts : (format : Format) (notes : Notes) (cert report : List ℕ) → cert ≡ cert_text made refined → report ≡ refined_report (counting_of format h trace notes.noted) h.upper (verdict_on trace made) notes.dropped → AreRefinedTexts format width trace dropped h records cert report
+  refined_texts format notes cert report cert_is report_is = record { made = made; refined = refined; refinement = refinement; cert_is = cert_is; report_is = report_is }
 
 -- what comes of a certificate that was kept
-pub refined_all : (format : Format) (width : ℕ) (source cert : Device) (requests : Requests) (dropped : ℕ) (h : Header) (records : List Record) (written report : List ℕ)
-    → IsRefinable format source cert requests dropped h records → AreRefinedTexts format width requests dropped h records written report → IsRefined format width source cert written report
-refined_all format width source cert requests dropped h records written report read texts =
-    record { requests = requests; dropped = dropped; header = h; records = records; read = read; texts = texts }
+pub refined_all : (format : Format) (width : ℕ) (source cert : Device) (requests : Requests) (notes : Notes) (h : Header) (records : List Record) (written report : List ℕ)
+    → IsRefinable format source cert requests notes h records → AreRefinedTexts format width requests notes h records written report → IsRefined format width source cert written report
+refined_all format width source cert requests notes h records written report read texts =
+    record { requests = requests; notes = notes; header = h; records = records; read = read; texts = texts }
 
 -- running out of memory is free
 pub memory_refuses : (format : Format) (source cert : Device) → RefusesCheck format source cert refusal.NoMemory

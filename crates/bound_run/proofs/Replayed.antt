@@ -1,10 +1,12 @@
 -- What a replay shows, from what it answers: that allowed contents are within the bound of each valid certificate, and whose run it is.
 use Rattle.std.proofs.Common.{◌≡◌, ℕ, ◌≤◌, Bool, true, false, ◌&&◌, not, cond, nat_le, [], ◌∷◌, sym, ap, subst, refl, arith, List, length, sum_by, ◌∙◌, Some, IfOk, Result, Ok, Err}
 use Rattle.std.specs.declared.option.Option.{Option}
+use Rattle.std.specs.Prelude.{slice_index_or}
 use Rattle.std.specs.List.{range_with_len}
 use Rattle.std.proofs.Math.Nat.{mul-le-mul_left}
 use Rattle.std.proofs.lemmas.Bool.{and_parts, and_from, le-leb, leb-true}
 use Rattle.std.proofs.lemmas.List.Sums.{sum_by-cons}
+use Rattle.std.proofs.lemmas.List.FromFn.{get_or-map-range_with_len}
 use Rattle.cache_model.specs.declared.objects.Object.{Object}
 use Rattle.cache_model.specs.declared.objects.Objective.{Objective}
 use Rattle.cache_model.specs.declared.objects.Objective.TheVariants.{Object as Hits, Bytes}
@@ -20,8 +22,10 @@ use Rattle.replay_core.specs.Laws.{IsRunOf}
 use Rattle.belady_laws.proofs.BestLemmas.{best}
 use Rattle.bit_list.specs.Bits.{bits_of}
 use Rattle.bit_list.specs.declared.list.BitList.{BitList}
+use Rattle.replay_fresh.specs.FreshRuns.{IsFreshRunOf, IsFreshlyPlayed, OnlyFill, fresh_run}
 use Rattle.replay_hits.specs.Hits.{AreHits}
-use Rattle.bound_run.specs.Replays.{earned_by, IsWithinBounds, IsReplay}
+use Rattle.replay_hits.specs.FreshHits.{AreFreshHits}
+use Rattle.bound_run.specs.Replays.{earned_by, IsFreshReplay, IsWithinBounds, IsReplay, stale_flags}
 
 -- what contents earn is their score, at any capacity
 earned-score : (capacity warmup other : ℕ) (trace : Requests) (hits bytes : ℕ) (scores : AreScores capacity warmup trace.fills trace.objects hits bytes) (o : Objective)
@@ -104,3 +108,38 @@ pub hits_are : {E : Type 0} (name : PolicyName) (capacity : ℕ) (trace : Reques
 hits_are name capacity trace (Ok flags) room known_state room_is state_is hits =
     subst (λ s. AreHits s capacity trace.objects (bits_of flags)) state_is (subst (λ c. AreHits known_state c trace.objects (bits_of flags)) room_is hits)
 hits_are name capacity trace (Err e) room known_state room_is state_is hits = tt
+
+-- ---- a replay from which objects leave
+-- the counts of a rule's run that are scores of allowed contents
+is_fresh_replay : (name : PolicyName) (capacity warmup : ℕ) (trace : Requests) (stale : List Bool) (replace : Bool) (a : Replay) → AreScores capacity warmup trace.fills trace.objects a.hits a.bytes
+    → IsFreshlyPlayed (Some (start_of name capacity)) capacity warmup trace.fills stale replace trace.objects a.hits a.bytes a.written
+    → (a.hits ≡ (fresh_run name trace.objects capacity warmup trace.fills stale replace).hits) × (a.bytes ≡ (fresh_run name trace.objects capacity warmup trace.fills stale replace).bytes)
+    → IsFreshReplay name capacity warmup trace stale replace a
+is_fresh_replay name capacity warmup trace stale replace a scores played run =
+    record { hits = run.0; bytes = run.1; played = played; bounded = within_bounds capacity warmup trace a.hits a.bytes scores }
+
+-- whatever a replay of a policy answers that begins as the rule does
+pub fresh_replayed : {E : Type 0} (name : PolicyName) (capacity warmup : ℕ) (trace : Requests) (stale : List Bool) (replace : Bool) (r : Result Replay E) (room : ℕ) (known_state : Option State)
+    → room ≡ capacity → known_state ≡ Some (start_of name capacity) → IfOk r (λ a. AreScores room warmup trace.fills trace.objects a.hits a.bytes)
+    → IfOk r (λ a. IsFreshlyPlayed known_state room warmup trace.fills stale replace trace.objects a.hits a.bytes a.written)
+    → IfOk r (λ a. IsFreshRunOf known_state trace.objects warmup trace.fills stale replace a.hits a.bytes) → IfOk r (IsFreshReplay name capacity warmup trace stale replace)
+fresh_replayed name capacity warmup trace stale replace (Ok a) room known_state room_is state_is scores played run =
+    is_fresh_replay name capacity warmup trace stale replace a (subst (λ c. AreScores c warmup trace.fills trace.objects a.hits a.bytes) room_is scores)
+    (subst (λ s. IsFreshlyPlayed s capacity warmup trace.fills stale replace trace.objects a.hits a.bytes a.written) state_is
+    (subst (λ c. IsFreshlyPlayed known_state c warmup trace.fills stale replace trace.objects a.hits a.bytes a.written) room_is played))
+    (subst (λ s. IsFreshRunOf s trace.objects warmup trace.fills stale replace a.hits a.bytes) state_is run)
+fresh_replayed name capacity warmup trace stale replace (Err e) room known_state room_is state_is scores played run = tt
+
+-- and whatever hits it answers
+pub fresh_hits_are : {E : Type 0} (name : PolicyName) (capacity : ℕ) (trace : Requests) (stale : List Bool) (replace : Bool) (r : Result BitList E) (room : ℕ) (known_state : Option State)
+    → room ≡ capacity → known_state ≡ Some (start_of name capacity) → IfOk r (λ flags. AreFreshHits known_state room trace.objects stale replace (bits_of flags))
+    → IfOk r (λ flags. AreFreshHits (Some (start_of name capacity)) capacity trace.objects stale replace (bits_of flags))
+fresh_hits_are name capacity trace stale replace (Ok flags) room known_state room_is state_is hits =
+    subst (λ s. AreFreshHits s capacity trace.objects stale replace (bits_of flags)) state_is (subst (λ c. AreFreshHits known_state c trace.objects stale replace (bits_of flags)) room_is hits)
+fresh_hits_are name capacity trace stale replace (Err e) room known_state room_is state_is hits = tt
+
+-- each request that is flagged stale only fills
+pub stale_flags-fill : (trace : Requests) (stale : List Bool) → OnlyFill (stale_flags trace stale) trace.fills trace.objects
+stale_flags-fill trace stale t within is =
+    let f : ℕ → Bool = λ u. slice_index_or stale u false && only_fills trace.fills u in
+    (and_parts (slice_index_or stale t false) (only_fills trace.fills t) (sym (get_or-map-range_with_len f 0 (length trace.objects) t t false within (omega arith)) ∙ is)).1

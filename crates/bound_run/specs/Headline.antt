@@ -1,5 +1,5 @@
 -- The headline: what is known of the numbers that a run printed, in the words of the trace and of contents alone.
-use Rattle.std.specs.Prelude.{◌≡◌, ◌↔◌, ℕ, ◌*◌, ◌≤◌, Bool, IsTrue, IfSome, List, [], length, All, Result, Ok, Err}
+use Rattle.std.specs.Prelude.{◌≡◌, ◌↔◌, ℕ, ◌*◌, ◌<◌, ◌≤◌, Bool, false, IsTrue, IfSome, List, [], length, All, Result, Ok, Err}
 use Rattle.std.specs.Io.KnownBytes.{Appends}
 use Rattle.bound_io.specs.Devices.{Device}
 use Rattle.cache_rules.specs.Stored.{Requests}
@@ -33,7 +33,8 @@ use Rattle.bound_run.specs.CapacityCurves.{IsCapacityCurveText}
 use Rattle.bound_run.specs.Curves.{IsCurveText}
 use Rattle.trace_any.specs.Loads.{IsLoaded}
 use Rattle.hit_flags.specs.Claims.{AreFlags}
-use Rattle.judge_laws.specs.Flags.{HitsFlagged}
+use Rattle.judge_laws.specs.Flags.{HitsFlagged, is_flagged}
+use Rattle.hit_judge.specs.Possible.{is_stale}
 use Rattle.cache_model.specs.Written.{written_bytes}
 use Rattle.write_laws.specs.Claims.{HitsAsCounted, HitsExactly}
 use Rattle.cache_model.specs.declared.objects.Object.{Object}
@@ -123,13 +124,14 @@ pub record HasLeastWrites (asked : JudgeSettings) (trace : Requests) (flags : Li
   pub some_just : (contents : List (List Object)) × IsAllowed asked.capacity trace.objects contents × HitsExactly trace.objects contents flags
       × (written_bytes asked.warmup trace.fills trace.objects contents ≡ written_for asked trace flags)
 
--- a judgement printed the hits that the flags claim: some allowed contents hit at each flagged request, and no valid certificate of the capacity and no longer warm-up is below the claim; if it printed written bytes, they are the least
+-- a judgement printed the hits that the flags claim: some allowed contents hit at each flagged request, of which none is stale, and no valid certificate of the capacity and no longer warm-up is below the claim; if it printed written bytes, they are the least
 pub record ShowsJudgement (format : Format) (asked : JudgeSettings) (trace : Requests) (notes : Notes) (hits report : Device) : Type 0 where
   pub flags : List Bool
   pub flags_are : AreFlags hits flags
   pub as_many : length flags ≡ length trace.objects
   pub printed : Appends report.before report.after (judged_report format asked trace notes flags)
   pub possible : (contents : List (List Object)) × IsAllowed asked.capacity trace.objects contents × HitsFlagged trace.objects contents flags
+  pub fresh : (t : ℕ) → t < length trace.objects → IsTrue (is_flagged flags t) → is_stale notes.noted.stale t ≡ false
   pub bounded : IsWithinBounds asked.capacity asked.warmup trace (claimed_by Hits asked trace flags) (claimed_by Bytes asked trace flags)
   pub written : HasLeastWrites asked trace flags
 

@@ -110,7 +110,7 @@ fn texts_of_kept(
     requires valid { IsValid kept.now.trace.objects kept.now.trace.fills kept.now.verdict.header kept.now.records }
     requires verdict { kept.now.verdict ≡ verdict_on kept.now.trace kept.now.verdict.header }
     requires width { 1 ≤ width }
-    ensures { IfOk result (λ texts. AreRefinedTexts format width kept.now.trace dropped
+    ensures { IfOk result (λ texts. AreRefinedTexts format width kept.now.trace notes.now
         kept.now.verdict.header kept.now.records texts.cert.items texts.report.items) }
 {
     let refined = refine_kept(alloc, kept, width)?;

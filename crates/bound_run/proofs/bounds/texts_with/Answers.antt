@@ -38,10 +38,10 @@ returns c =
     let trace = c.args.trace.now in
     let asked = c.args.asked.now in
     let report : List Bool → List ℕ
-    = λ keeps. rendered (counting_of c.args.format b.header trace) (bound_lines (record {
+    = λ keeps. rendered (counting_of c.args.format b.header trace c.args.notes.now.noted) (bound_lines (record {
       header = b.header;
       objects = length (objects_of trace.objects);
-      dropped = c.args.dropped;
+      dropped = c.args.notes.now.dropped;
       mode = asked.mode;
       price = b.relaxed.price;
       intervals = length (eligible_of trace.objects trace.fills b.header);

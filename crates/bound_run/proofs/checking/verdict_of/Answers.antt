@@ -1,6 +1,7 @@
 use Rattle.std.proofs.Common.{refl}
 use Rattle.bound_io.specs.Devices.{Device, seen}
 use Rattle.cert_checker.specs.Whole.{first_inputs, last_inputs}
+use Rattle.bound_run.specs.Countings.{counting_found}
 use Rattle.bound_run.proofs.Judged.{refused, said}
 use Rattle.bound_run.proofs.checking.verdict_of.Goals as goal
 
@@ -10,8 +11,8 @@ returns-in_ok-verdict_report-in-Ok-clause-yes_text g c =
     let cert : Device = seen g.Q.Source.left g.Q.Source.faults c.args.cert.now c.check_counted.new.certificate in
     let yes = c.in-Ok.ensures.yes in
     let whole = yes.passes in
-    said c.args.format (first_inputs c.args.format trace cert) (last_inputs whole.reader whole.records trace cert) refl c.in-Ok.passed.verdict c.in-Ok.passed.dropped c.in-Ok.passed.counted c.in_ok-verdict_report-in-Ok.field-0.items
-    whole.passed whole.dropped_lines yes.counted c.in_ok-verdict_report-in-Ok.ensures
+    said c.args.format (first_inputs c.args.format trace cert) (last_inputs whole.reader whole.records trace cert) refl c.in-Ok.passed.verdict c.in-Ok.passed.dropped (counting_found c.args.format c.in-Ok.passed) c.in_ok-verdict_report-in-Ok.field-0.items
+    whole.passed whole.dropped_lines (rw (yes.counted, yes.late, yes.stale) refl) c.in_ok-verdict_report-in-Ok.ensures
 
 pub returns-in-Err-clause-refused : goal.returns-in-Err-clause-refused
 returns-in-Err-clause-refused g c =

@@ -10,9 +10,9 @@ returns c =
     let asked = c.args.asked.now in
     let trace = c.args.trace.now in
     let points = c.in_ok-points.points.items in
-    let lines = capacity_curve_lines (capacity_facts asked trace c.args.dropped) points in
+    let lines = capacity_curve_lines (capacity_facts asked trace c.args.notes.now.dropped) points in
     IfOk-weaker c.render.result
     (λ text. text.items ≡ rendered c.counting_from.result lines)
-    (λ text. IsCapacityCurveText c.args.format asked c.args.capacities.now trace c.args.dropped text.items)
+    (λ text. IsCapacityCurveText c.args.format asked c.args.capacities.now trace c.args.notes.now text.items)
     (λ text is. record { points = points; are_points = c.in_ok-points.ensures; text_is = is ∙ ap (λ counting. rendered counting lines) c.counting_from.ensures })
     (rw (c.deref.ensures.value, c.len.ensures.requests, c.objects.ensures.different) at c.render.ensures)

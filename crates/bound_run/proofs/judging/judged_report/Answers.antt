@@ -17,15 +17,15 @@ returns c =
     = λ hits bytes written. rendered c.counting_from.result (judged_lines (record {
       requests = length trace.objects;
       objects = length (objects_of trace.objects);
-      dropped = claims.dropped;
+      dropped = claims.notes.dropped;
       capacity = c.args.asked.capacity;
       claimed = record { hits = hits; bytes = bytes; written = written };
       written = cond c.args.asked.writes (Some written) None;
     })) in
     IfOk-weaker c.render.result
     (λ text. text.items ≡ report c.args.claimed.hits c.args.claimed.bytes c.args.claimed.written)
-    (λ text. text.items ≡ judged_report c.args.format c.args.asked trace claims.dropped (bits_of claims.flags))
+    (λ text. text.items ≡ judged_report c.args.format c.args.asked trace claims.notes (bits_of claims.flags))
     (λ text is. is ∙ (ap (λ hits. report hits c.args.claimed.bytes c.args.claimed.written) c.requires.hits ∙ ap (λ bytes. report (claimed_by Hits c.args.asked trace flags) bytes c.args.claimed.written) c.requires.bytes
     ∙ ap (report (claimed_by Hits c.args.asked trace flags) (claimed_by Bytes c.args.asked trace flags)) c.requires.written
-    ∙ ap (λ counting. rendered counting (judged_lines (judged_facts c.args.asked trace claims.dropped (bits_of claims.flags)))) c.counting_from.ensures))
+    ∙ ap (λ counting. rendered counting (judged_lines (judged_facts c.args.asked trace claims.notes.dropped (bits_of claims.flags)))) c.counting_from.ensures))
     (rw (c.len.ensures.requests, c.objects.ensures.different, c.if_counted.ensures) at c.render.ensures)

@@ -13,7 +13,7 @@ pub returns-in_err-texts-clause-refused : goal.returns-in_err-texts-clause-refus
 returns-in_err-texts-clause-refused g c =
     let source = device (g.T.Source.left c.args.trace.now) (g.T.Source.left c.load_all.new.trace) (g.T.Source.faults c.args.trace.now) (g.T.Source.faults c.load_all.new.trace) in
     let p = err_from_is_err_and c.from_residual-in_err-texts.result c.from_residual-in_err-texts.ensures.1 in
-    rw (p.1, p.2) (refused_of c.args.format c.args.asked.now source c.in_ok-requests.requests c.in_ok-requests.dropped c.in_err-texts.field-0.0 c.in_ok-requests.ensures.loaded c.in_err-texts.ensures.refused)
+    rw (p.1, p.2) (refused_of c.args.format c.args.asked.now source c.in_ok-requests.requests c.in_ok-requests.notes c.in_err-texts.field-0.0 c.in_ok-requests.ensures.loaded c.in_err-texts.ensures.refused)
 
 pub returns-in_err-texts-clause-source : goal.returns-in_err-texts-clause-source
 returns-in_err-texts-clause-source g c = c.load_all.ensures.source
@@ -21,7 +21,7 @@ returns-in_err-texts-clause-source g c = c.load_all.ensures.source
 pub returns-clause-ready : goal.returns-clause-ready
 returns-clause-ready g c = record {
   requests = c.in_ok-requests.requests;
-  dropped = c.in_ok-requests.dropped;
+  notes = c.in_ok-requests.notes;
   loaded = c.in_ok-requests.ensures.loaded;
   texts = c.in_ok-texts.ensures.texts;
 }

@@ -9,7 +9,7 @@ returns-in-Ok-clause-kept g c =
     let trace : Device = seen g.T.Source.left g.T.Source.faults c.args.trace.now c.keep_all.new.trace in
     let cert : Device = seen g.Q.Source.left g.Q.Source.faults c.args.cert.now c.keep_all.new.certificate in
     let yes = c.in-Ok.ensures.yes in
-    rw yes.dropped_lines at (kept_all c.args.format (first_inputs c.args.format trace cert) (last_inputs yes.reader yes.records trace cert) refl c.in-Ok.found.0 yes.kept_all)
+    rw (yes.dropped_lines, yes.noted_are) at (kept_all c.args.format (first_inputs c.args.format trace cert) (last_inputs yes.reader yes.records trace cert) refl c.in-Ok.kept yes.kept_all)
 
 pub returns-in-Err-clause-refused : goal.returns-in-Err-clause-refused
 returns-in-Err-clause-refused g c =

@@ -23,11 +23,11 @@ returns c =
     ∙ ap (λ (v : Verdict). record { header = with_upper v.header c.upper.result; objects = v.objects }) c.verdict.ensures
     ∙ ap (λ n. record { header = with_upper h n; objects = kept.verdict.objects }) c.upper.ensures
     ∙ ap (λ (v : Verdict). record { header = with_upper h to.upper; objects = v.objects }) c.requires.verdict in
-    let counted : c.counting_of.result ≡ counting_of c.args.format h kept.trace = rw (c.verdict-2.ensures, c.trace.ensures) at c.counting_of.ensures in
+    let counted : c.counting_of.result ≡ counting_of c.args.format h kept.trace c.args.notes.now.noted = rw (c.verdict-2.ensures, c.trace.ensures) at c.counting_of.ensures in
     let made : c.with_upper-made.result.header ≡ with_upper h to.upper = ap (λ (v : Verdict). v.header) whole in
-    refined_texts c.args.width kept.trace h kept.records c.requires.valid to c.in_ok-refined.ensures.refined c.args.format c.args.dropped c.in_ok-cert.cert.items c.in_ok-report.report.items
+    refined_texts c.args.width kept.trace h kept.records c.requires.valid to c.in_ok-refined.ensures.refined c.args.format c.args.notes.now c.in_ok-cert.cert.items c.in_ok-report.report.items
     (rw (made, c.records.ensures, c.prices.ensures) at c.in_ok-cert.ensures)
     (c.in_ok-report.ensures
-    ∙ ap (λ (v : Verdict). refined_report c.counting_of.result v.header.upper c.with_upper-made.result c.args.dropped) c.verdict-2.ensures
-    ∙ ap (λ (v : Verdict). refined_report c.counting_of.result h.upper v c.args.dropped) whole
-    ∙ ap (λ n. refined_report n h.upper (verdict_on kept.trace (with_upper h to.upper)) c.args.dropped) counted)
+    ∙ ap (λ (v : Verdict). refined_report c.counting_of.result v.header.upper c.with_upper-made.result c.args.notes.now.dropped) c.verdict-2.ensures
+    ∙ ap (λ (v : Verdict). refined_report c.counting_of.result h.upper v c.args.notes.now.dropped) whole
+    ∙ ap (λ n. refined_report n h.upper (verdict_on kept.trace (with_upper h to.upper)) c.args.notes.now.dropped) counted)
