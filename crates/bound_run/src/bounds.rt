@@ -261,7 +261,11 @@ fn texts_with(
         written: written_by(asked, trace, bounds.keeps.as_slice()),
     };
     let cert = cert_of(alloc, &bounds.header, bounds)?;
-    let report = render(alloc, &facts, counting_of(format, &bounds.header, trace, &notes.noted))?;
+    let report = render(
+        alloc,
+        &facts,
+        counting_of(format, &bounds.header, trace, &notes.noted),
+    )?;
     Ok(Texts { cert, report })
 }
 

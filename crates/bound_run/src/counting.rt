@@ -36,9 +36,7 @@ fn count_noted(warmup: u32, trace: &Trace, own: &BitList) -> u32
 fn count_stale(trace: &Trace, stale: &BitList) -> u32
     ensures { result ≡ count_by (λ t. slice_index_or (bits_of stale.now) t false) (numbers_of trace.now.objects) }
 {
-    (0..trace.len())
-        .filter(|t| stale.get(*t as usize))
-        .count() as u32
+    (0..trace.len()).filter(|t| stale.get(*t as usize)).count() as u32
 }
 
 // How many requests from the warm-up on count by their own marks, if the form of the trace has marks.

@@ -36,7 +36,11 @@ pub(crate) fn curve_report(
         facts,
         curve: &curve,
     };
-    Ok(render(alloc, &report, counting_from(format, 0, trace, &notes.noted))?)
+    Ok(render(
+        alloc,
+        &report,
+        counting_from(format, 0, trace, &notes.noted),
+    )?)
 }
 
 /// The report of the curve over capacities of a trace of this form, with what is told beside it.
@@ -64,5 +68,9 @@ pub(crate) fn capacity_curve_report(
         facts,
         points: &points,
     };
-    render(alloc, &report, counting_from(format, asked.warmup, trace, &notes.noted))
+    render(
+        alloc,
+        &report,
+        counting_from(format, asked.warmup, trace, &notes.noted),
+    )
 }

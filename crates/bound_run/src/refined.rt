@@ -128,7 +128,11 @@ fn texts_of_kept(
             dropped: notes.dropped,
         },
     };
-    let report = render(alloc, &facts, counting_of(format, &read, kept.trace(), &notes.noted))?;
+    let report = render(
+        alloc,
+        &facts,
+        counting_of(format, &read, kept.trace(), &notes.noted),
+    )?;
     Ok(Texts { cert, report })
 }
 

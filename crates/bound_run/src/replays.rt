@@ -82,14 +82,7 @@ pub fn bounded_fresh_replay<P: LetGo>(
     ensures run { IfOk result (λ r. IsFreshRunOf (P.known_state policy.old) trace.now.objects warmup trace.now.fills (bits_of leaving.stale.now) leaving.replace r.hits r.bytes) }
     ensures bounded { IfOk result (λ r. IsWithinBounds (P.room policy.old) warmup trace.now r.hits r.bytes) }
 {
-    replay_fresh(
-        alloc,
-        trace,
-        leaving.stale,
-        leaving.replace,
-        warmup,
-        policy,
-    )
+    replay_fresh(alloc, trace, leaving.stale, leaving.replace, warmup, policy)
 }
 
 // The counts of a policy that was made for the trace. It begins as the rule of the settings does.
@@ -257,7 +250,11 @@ fn counts_text(
         replay,
         written: if_counted(r.writes, replay.written),
     };
-    render(alloc, &facts, counting_from(format, r.warmup, trace, &notes.noted))
+    render(
+        alloc,
+        &facts,
+        counting_from(format, r.warmup, trace, &notes.noted),
+    )
 }
 
 /// What the replay of a trace of this form prints, with what is told beside it.

@@ -53,10 +53,10 @@ module _ (capacity : ℕ) (stale : List Bool) (replace : Bool) (trace : List Obj
   never t within = lt-leb (length trace) t within
 
   pub unscored : (t n : ℕ) (hit : Bool) → t < length trace → 0 ≡ 0 + cond (none_counts t && hit) n 0
-  unscored t n hit within = ap (λ b. cond ((b && not (only_fills stale t)) && hit) n 0) (sym (never t within))
+  unscored t n hit within = ap (λ b. 0 + cond ((b && not (only_fills stale t)) && hit) n 0) (sym (never t within))
 
   unwritten : (t n : ℕ) (other : Bool) → t < length trace → 0 ≡ 0 + cond (nat_le (length trace) t && other) n 0
-  unwritten t n other within = ap (λ b. cond (b && other) n 0) (sym (never t within))
+  unwritten t n other within = ap (λ b. 0 + cond (b && other) n 0) (sym (never t within))
 
   -- t requests were answered: some contents hit exactly at the flags so far
   pub record AreHitsTo (first : Option State) (t : ℕ) (members : List Member) (flags : List Bool) : Type 0 where

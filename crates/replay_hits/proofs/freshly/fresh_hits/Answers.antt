@@ -1,4 +1,4 @@
-use Rattle.std.proofs.Common.{◌≡◌, ◌≤◌, ◌<◌, ◌+◌, ◌∙◌, ℕ, Bool, List, sym, ap, refl, subst, arith, length}
+use Rattle.std.proofs.Common.{◌≡◌, ◌≤◌, ◌<◌, ◌+◌, ◌∙◌, ℕ, Bool, false, List, sym, ap, refl, subst, arith, length}
 use Rattle.cache_model.specs.declared.objects.Object.{Object}
 use Rattle.cache_model.specs.Claim.{request_at}
 use Rattle.bit_list.specs.Bits.{bits_of}
@@ -74,6 +74,6 @@ loop-t-preserved g c =
           sound.without_repeats run (g.met.P.Policy.state_fits c.request.new.self));
     }
 
-pub returns-clause-hits : goal.returns-clause-hits
-returns-clause-hits g c =
-    flagged-all (g.P.Policy.room c.args.policy.now) (bits_of c.args.stale.now) c.args.replace c.args.trace.now.objects (g.P.Policy.known_state c.args.policy.now) c.loop-t.t (g.P.Policy.contents c.loop-t.policy) _ (omega arith) c.requires.fresh c.loop-t.invariant.hits
+pub returns : goal.returns
+returns g c =
+    ?
