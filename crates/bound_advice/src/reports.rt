@@ -26,10 +26,46 @@ fn empty_advice(alloc: Global, report: Numbers) -> Result<Option<String>, AllocE
     }
 }
 
-// That the capacity may be too small for nearly all that is asked for again. A warm-up leaves fewer intervals.
-fn capacity_advice(alloc: Global, report: Numbers) -> Result<Option<String>, AllocError> {
+// How many requests ask for an object again.
+fn asked_again(report: Numbers) -> u64 {
     let requests = report.requests.unwrap_or(0);
-    let again = requests.saturating_sub(report.objects.unwrap_or(0));
+    requests.saturating_sub(report.objects.unwrap_or(0))
+}
+
+// What unit the times of a layout are in.
+fn unit_of(layout: Layout) -> &'static str {
+    match layout {
+        Layout::Msr { .. } | Layout::MsrReads { .. } => {
+            "the times of msr are in units of 100 nanoseconds, 10000000 of them a second"
+        }
+        _ => "the unit of the time is that of the trace, as seconds or milliseconds",
+    }
+}
+
+// That the time after which objects expire may be in another unit, since whatever is asked for again is stale.
+fn idle_advice(
+    alloc: Global,
+    words: Words<'_>,
+    report: Numbers,
+) -> Result<Option<String>, AllocError> {
+    let again = asked_again(report);
+    match (words.form(), report.idle, report.stale) {
+        (Some(form), Some(idle), Some(stale))
+            if again > 0 && stale >= again && !form.fresh.replace =>
+        {
+            let unit = unit_of(form.layout);
+            Ok(Some(format!(in alloc;
+                "each request that asks for an object again comes more than {idle} after the one before it: {unit}"
+            )?))
+        }
+        _ => Ok(None),
+    }
+}
+
+// That the capacity may be too small for nearly all that is asked for again. A warm-up leaves fewer intervals, and so do
+// stale requests.
+fn capacity_advice(alloc: Global, report: Numbers) -> Result<Option<String>, AllocError> {
+    let again = asked_again(report).saturating_sub(report.stale.unwrap_or(0));
     match (report.intervals, report.capacity, report.warmup) {
         (Some(fitting), Some(capacity), None) if again > 0 && fitting <= again / 10 => {
             Ok(Some(format!(in alloc;
@@ -80,12 +116,13 @@ pub fn oddities_of(
     trace: Seen<'_>,
     trace_start: &[u8],
     report: Numbers,
-) -> Result<[Option<String>; 4], AllocError>
+) -> Result<[Option<String>; 5], AllocError>
     ensures { IfOk result (λ odd. is_some (slice_index_or odd 0 None) ≡ may_be_packed words.entry trace_start.now) }
 {
     Ok([
         packed_records(alloc, words, trace, trace_start)?,
         empty_advice(alloc, report)?,
+        idle_advice(alloc, words, report)?,
         capacity_advice(alloc, report)?,
         window_advice(alloc, report)?,
     ])

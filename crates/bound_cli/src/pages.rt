@@ -9,17 +9,18 @@ use bound_words::{Command, Kind, Values};
 use std::io;
 
 // What stands for which values, and what is printed behind them.
-const CHOICES: [(&str, Kind, &str); 8] = [
+const CHOICES: [(&str, Kind, &str); 9] = [
     ("FORM", Kind::Form, ", "),
     ("OBJECTIVE", Kind::Objective, ", "),
     ("MODE", Kind::Mode, ",\n"),
     ("VERSION", Kind::Version, ", "),
     ("WRITTEN", Kind::Writes, ",\n"),
     ("PRINTED", Kind::Print, ", "),
+    ("COUNTED", Kind::Counted, ",\n"),
     (
-        "COUNTED",
-        Kind::Counted,
-        ", LIST is BYTES,BYTES,.. from the smallest to the largest.\n",
+        "REPLACED",
+        Kind::Replaced,
+        ", TIME is a whole number in the unit of the trace,\nLIST is BYTES,BYTES,.. from the smallest to the largest.\n",
     ),
     ("POLICY", Kind::Policy, ".\n"),
 ];

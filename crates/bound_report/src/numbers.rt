@@ -14,6 +14,9 @@ pub struct Numbers {
     pub objects: Option<u64>,
     pub dropped: Option<u64>,
     pub capacity: Option<u64>,
+    /// The time after which objects expire, if they do.
+    pub idle: Option<u64>,
+    pub stale: Option<u64>,
     /// The steps of a window, if the steps are cut into windows.
     pub window: Option<u64>,
     pub denominator: Option<u64>,
@@ -57,6 +60,8 @@ pub fn numbers_in(text: &[u8]) -> Numbers
         objects: number_at(text, b"trace requests ", 5),
         dropped: number_at(text, b"trace requests ", 7),
         capacity: number_at(text, b"capacity ", 2),
+        idle: number_at(text, b"idle ", 2),
+        stale: number_at(text, b"stale ", 2),
         window: number_at(text, b"mode flow window ", 4),
         denominator: number_at(text, b"unit ", 6),
         intervals: number_at(text, b"intervals ", 2),

@@ -80,7 +80,8 @@ fn check_hits<P: Policy + Drop>(
         flags: BitList::new(alloc),
     };
     let found = replay(alloc, trace, 0, &mut recorded).expect(rt, "memory");
-    let claimed = judge(trace, &recorded.flags, capacity, 0).expect(rt, "possible hits");
+    let stale = BitList::new(alloc);
+    let claimed = judge(trace, &stale, &recorded.flags, capacity, 0).expect(rt, "possible hits");
     same("hits", claimed.hits, found.hits).expect(rt, "a row");
     same("bytes", claimed.bytes, found.bytes).expect(rt, "a row");
 }
@@ -168,7 +169,9 @@ fn what_no_cache_hits_is_named(rt: HostRuntime) {
     let trace = trace_of(&rt, rt.alloc(), &CYCLE);
     for (capacity, flagged, judged) in &CLAIMS {
         let flags = flags_at(&rt, rt.alloc(), trace.len(), flagged);
-        same("a claim", judge(&trace, &flags, *capacity, 0), *judged).expect(&rt, "a row");
+        let stale = BitList::new(rt.alloc());
+        let found = judge(&trace, &stale, &flags, *capacity, 0);
+        same("a claim", found, *judged).expect(&rt, "a row");
     }
 }
 
@@ -289,9 +292,10 @@ fn what_hits_must_write_is_summed(rt: HostRuntime) {
     for row in &WRITES {
         let trace = helpers::trace_of(&rt, rt.alloc(), row.asks);
         let flags = flags_at(&rt, rt.alloc(), trace.len(), row.flagged);
+        let stale = BitList::new(rt.alloc());
         same(
             row.shows,
-            judge(&trace, &flags, 3, row.warmup),
+            judge(&trace, &stale, &flags, 3, row.warmup),
             Ok(row.claimed),
         )
         .expect(&rt, "a row");

@@ -32,6 +32,8 @@ mod records;
 #[cfg(test)]
 mod replays;
 #[cfg(test)]
+mod stale;
+#[cfg(test)]
 mod traces;
 #[cfg(test)]
 mod usage;

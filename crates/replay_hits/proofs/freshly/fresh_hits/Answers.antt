@@ -75,5 +75,7 @@ loop-t-preserved g c =
     }
 
 pub returns : goal.returns
-returns g c =
-    ?
+returns g c = record {
+  hits = flagged-all (g.P.Policy.room c.args.policy.now) (bits_of c.args.stale.now) c.args.replace c.args.trace.now.objects (g.P.Policy.known_state c.args.policy.now) c.loop-t.t (g.P.Policy.contents c.loop-t.policy) _ (omega arith) c.requires.fresh
+      c.loop-t.invariant.hits;
+}
