@@ -5,7 +5,7 @@
 # The time is that of the line, in seconds since 1970 (UTC).
 function refuse(why) { print "access_log.awk: " why > "/dev/stderr"; exit 1 }
 function has_head(front) {
-    return $1 ~ "^" front "[^ ]+ - .+ \\[[0-9][0-9]/[A-Z][a-z][a-z]/[0-9][0-9][0-9][0-9]:[0-9][0-9]:[0-9][0-9]:[0-9][0-9] [-+][0-9][0-9][0-9][0-9]\\] $"
+    return $1 ~ "^" front "[^ ]+ - .+ \\[" two "/[A-Z][a-z][a-z]/" two two ":" two ":" two ":" two " [-+]" two two "\\] $"
 }
 function is_right() {
     return NF >= 3 && has_head(hosts) && seconds_of(substr($1, length($1) - 27, 26)) >= 0 && $3 ~ /^ [0-9][0-9][0-9] ([0-9]+|-)( |$)/
@@ -39,6 +39,7 @@ function reasons_text(  text, why, most, n) {
 BEGIN {
     if (length("a\0b") != 3) refuse("this awk ends a line at a NUL byte; take mawk or gawk")
     FS = "\""
+    two = "[0-9][0-9]"
     if (status == "") status = "200"
     if (status !~ /^[0-9][0-9][0-9](,[0-9][0-9][0-9])*$/) refuse("status must be numbers of three digits, with commas between them")
     if (query != "" && query != "drop") refuse("query must be drop, if it is given")
