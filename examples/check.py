@@ -1,7 +1,7 @@
 #!/usr/bin/env python3
 """Checks a certificate against a webcache trace, by the rules of docs/DEFINITIONS.md alone: check.py TRACE CERT [reads]
 
-It has nothing of the program, and no proof: a second opinion that can be read whole. With `reads` a line with w only fills."""
+It has nothing of the program, and no proof: a second opinion that can be read whole. With `reads` a line with w only fills; of idle and replace it knows nothing."""
 import re, sys
 
 NUMBER = rb"(0|[1-9][0-9]*)"

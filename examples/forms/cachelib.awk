@@ -2,8 +2,9 @@
 # them: key, op, size, op_count and key_size, in any order and among others. A line stands for op_count requests: of GET
 # and GET_LEASE each is a line with r; of SET and SET_LEASE each is one with w, which fills the cache and scores nothing.
 # A DELETE is left out, which loosens the bound at most. An object is a key, of both sizes together. A missed get is
-# logged with size 0: it has the last size of its key. The time is the number of the line. A line of more than 2^25
-# requests, the most that the program reads, is refused.
+# logged with size 0: it has the last size of its key. The time is the number of the line, so idle=T counts lines. As a
+# set gives its key another value, replace=yes beside count=reads is for these traces. A line of more than 2^25 requests,
+# the most that the program reads, is refused.
 function refuse(why) { print "cachelib.awk: " why > "/dev/stderr"; exit 1 }
 function is_number(word) { return word ~ /^[0-9]+$/ }
 function is_right() {

@@ -1,11 +1,16 @@
-"""JSON lines, an object a line, to webcache: json_lines.py [--time NAME] [--key NAME] [--size NAME] <LOG >TRACE.
+"""JSON lines, an object a line, to webcache: json_lines.py [--time NAME] [--key NAME] [--size NAME] [--unit ms] <LOG >TRACE.
 
 A NAME is that of a member, or names with dots between them, as response.bytes, of a member of a member. Without one the
 first line must have one member of a usual name: those in NAMES. `--time line` takes the number of the line as the time. A
 time is a number or a word without blanks, a key a number or any text, and a size digits, with or without quotes. A line
 that lacks one of them is left out, and the first one is refused. Lines have at most a million bytes.
+
+The time is kept as it stands, in the unit of the log; idle=T needs whole numbers. With `--unit ms` it is a number of seconds,
+with a fraction or without, or a date and time as 2026-11-27T10:00:00.5Z, which has a zone; it is cut to whole milliseconds, of
+a date those since 1970, and a line with another time is left out.
 """
 import argparse
+import datetime
 import json
 import os
 import re
@@ -18,6 +23,8 @@ NAMES = {
     "size": "size bytes length bytes_sent body_bytes_sent content_length response_size".split(),
 }
 LONGEST = 1_000_000
+SECONDS = re.compile(r"([0-9]+)(?:\.([0-9]*))?")
+DATE = re.compile(r"(\d{4}-\d\d-\d\d)[Tt](\d\d):(\d\d):(\d\d)(?:[.,](\d+))?(?:[Zz]|([-+])(\d\d):?(\d\d))", re.ASCII)
 
 
 def refuse(kept, lines, why):
@@ -62,13 +69,31 @@ def name_of(role, given, found, lines):
     return usual[0]
 
 
-def request_of(found, names, number):
+def in_ms(time):
+    """The whole milliseconds of a time in seconds, or from 1970 to a date, as a text; or None. It is cut as a text."""
+    if found := SECONDS.fullmatch(time):
+        return found[1] + f"{found[2] or ''}000"[:3]
+    found = DATE.fullmatch(time)
+    try:
+        days = datetime.date.fromisoformat(found[1]).toordinal() - datetime.date(1970, 1, 1).toordinal() if found else -1
+    except ValueError:
+        return None
+    if days < 0:
+        return None
+    hours, minutes, seconds, zone_hours, zone_minutes = (int(found[at] or 0) for at in (2, 3, 4, 7, 8))
+    zone = 60 * (60 * zone_hours + zone_minutes) * (-1 if found[6] == "-" else 1)
+    whole = 86400 * days + 60 * (60 * hours + minutes) + seconds - zone
+    return str(whole) + f"{found[5] or ''}000"[:3] if whole >= 0 else None
+
+
+def request_of(found, names, unit, number):
     """Time, key and size of a line, or None."""
     time = str(number) if names["time"] == "line" else member(found, names["time"])
     key, size = member(found, names["key"]), member(found, names["size"])
     if None in (time, key, size) or not re.fullmatch(r"[!-~]+", time) or not re.fullmatch(r"[0-9]+", size):
         return None
-    return time, key, size
+    time = in_ms(time) if unit else time
+    return time and (time, key, size)
 
 
 def names_of(found, given, lines):
@@ -76,8 +101,9 @@ def names_of(found, given, lines):
     if found is None:
         refuse(0, lines, "must be one object of JSON; a list of them is brought to lines by: jq -c '.[]'")
     names = {role: name_of(role, given[role], found, lines) for role in NAMES}
-    if not request_of(found, names, lines):
-        refuse(0, lines, f"must have {', '.join(names.values())}: a time without blanks, a key, and a size in digits")
+    if not request_of(found, names, given["unit"], lines):
+        time = "a time in seconds or a date with its zone" if given["unit"] else "a time without blanks"
+        refuse(0, lines, f"must have {', '.join(names.values())}: {time}, a key, and a size in digits")
     return names
 
 
@@ -92,7 +118,7 @@ def convert(source, given):
         found = object_of(line)
         if not names:
             names = names_of(found, given, lines)
-        request = found and request_of(found, names, lines)
+        request = found and request_of(found, names, given["unit"], lines)
         if request:
             time, key, size = request
             print(time, ids.setdefault(key, len(ids) + 1), size)
@@ -105,11 +131,16 @@ def main():
     signal.signal(signal.SIGINT, signal.SIG_DFL)
     signal.signal(signal.SIGPIPE, signal.SIG_DFL)
     parser = argparse.ArgumentParser(
-        "json_lines.py", "python3 json_lines.py [--time NAME] [--key NAME] [--size NAME] <LOG >TRACE", allow_abbrev=False
+        "json_lines.py", "python3 json_lines.py [--time NAME] [--key NAME] [--size NAME] [--unit ms] <LOG >TRACE", allow_abbrev=False
     )
     for role in NAMES:
         parser.add_argument(f"--{role}", metavar="NAME")
+    parser.add_argument("--unit", metavar="ms")
     given = vars(parser.parse_args())
+    if given["unit"] not in (None, "ms"):
+        parser.error("--unit must be ms")
+    if given["unit"] and given["time"] == "line":
+        parser.error("--unit ms needs a time, and --time line takes the number of the line")
     try:
         with open(0, "rb") as source:
             convert(source, given)

@@ -4,11 +4,20 @@
 # three given the heading may be missing. A key is any text without a comma. Blanks around a comma don't count. With -v op=4
 # that column has the operation, for count=reads: a get or a read is a line with r, a delete is left out and counted, and each
 # other operation is one with w, which fills the cache and scores nothing. A get of size 0 missed: it has the last size of its
-# key.
+# key. As a set gives its key another value, replace=yes beside count=reads is for such a table.
+# The time is the word that stands there, in the unit of the table; idle=T needs whole numbers. With -v unit=ms it is a number
+# of seconds, with a fraction or without, and is cut to whole milliseconds; a line with another is left out.
 function refuse(why) { print "key_table.awk: " why > "/dev/stderr"; exit 1 }
 function is_right() {
-    return NF == columns && (!at["time"] || $at["time"] ~ /^[^ \t]+$/) && $at["key"] != "" && $at["size"] ~ /^[0-9]+$/ &&
+    return NF == columns && (!at["time"] || is_time($at["time"])) && $at["key"] != "" && $at["size"] ~ /^[0-9]+$/ &&
         (!at["op"] || $at["op"] ~ /^[A-Za-z_]+$/)
+}
+function is_time(word) { return unit == "ms" ? word ~ /^[0-9]+(\.[0-9]*)?$/ : word ~ /^[^ \t]+$/ }
+# The time as it is printed. It is cut as a text, so no digit is lost.
+function time_of(word,  dot) {
+    if (unit != "ms") return word
+    dot = index(word, ".")
+    return dot ? substr(word, 1, dot - 1) substr(substr(word, dot + 1) "000", 1, 3) : word "000"
 }
 # A word with the small letters of A to Z, whatever the locale.
 function lower(word,  i, at, small) {
@@ -36,6 +45,8 @@ function column_of(role, given,  i, found) {
 BEGIN {
     if (length("a\0b") != 3) refuse("this awk ends a line at a NUL byte; take mawk or gawk")
     FS = "[ \t]*,[ \t]*"
+    if (unit != "" && unit != "ms") refuse("unit must be ms, if it is given")
+    if (unit != "" && time == "0") refuse("unit=ms needs a column of times, and time=0 takes the number of the line")
     names["time"] = " time timestamp ts date datetime epoch "
     names["key"] = " key id url uri path object object_id obj_id name "
     names["size"] = " size bytes length value_size size_bytes object_size obj_size content_length "
@@ -52,7 +63,7 @@ FNR == 1 {
     if (has_heading) next
 }
 FNR == 2 && has_heading && !is_right() {
-    refuse("line 2 must have the columns of line 1, " (at["time"] ? "a word as time and " : "") "a number as size" \
+    refuse("line 2 must have the columns of line 1, " (at["time"] ? (unit == "ms" ? "seconds" : "a word") " as time and " : "") "a number as size" \
         (at["op"] ? " and a word as operation" : ""))
 }
 is_right() {
@@ -62,7 +73,7 @@ is_right() {
     if (!(word in number)) number[word] = ++keys
     bytes = reads && $at["size"] + 0 == 0 && (word in last) ? last[word] : $at["size"]
     if (bytes + 0 > 0) last[word] = bytes
-    print (at["time"] ? $at["time"] : NR), number[word], bytes (at["op"] ? (reads ? " r" : " w") : "")
+    print (at["time"] ? time_of($at["time"]) : NR), number[word], bytes (at["op"] ? (reads ? " r" : " w") : "")
     kept++
 }
 END {

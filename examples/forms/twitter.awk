@@ -2,7 +2,9 @@
 # key size, value size, client id, operation and TTL. An object is a key, of both sizes together. Each get and gets is a
 # line with r; each operation that stores a value is one with w, which fills the cache and scores nothing. A delete is
 # left out, which loosens the bound at most. A missed get is logged with a value of size 0: it has the last size of its
-# key. A line whose key has a comma is left out.
+# key. A line whose key has a comma is left out. The time is in seconds, as published. As a set gives its key another
+# value, replace=yes beside count=reads is for these traces. The TTL is left out; if each value has one, idle=T with the
+# greatest of them bounds the hits.
 function is_number(word) { return word ~ /^[0-9]+$/ }
 function is_right() { return NF == 7 && is_number($1) && $2 != "" && is_number($3) && is_number($4) && $6 ~ /^[a-z]+$/ }
 function refuse(why) { print "twitter.awk: " why > "/dev/stderr"; exit 1 }

@@ -1,5 +1,6 @@
 # Wikipedia's CDN traces of uploads to webcache. Their columns, with tabs between them and a heading: relative_unix,
-# hashed_path_query, image_type, response_size and time_firstbyte. An object is a hash, of the size of its response.
+# hashed_path_query, image_type, response_size and time_firstbyte. An object is a hash, of the size of its response. The
+# time is in seconds, as published.
 function is_right() { return NF == 5 && $1 ~ /^[0-9]+$/ && $2 != "" && $4 ~ /^[0-9]+$/ }
 BEGIN { FS = "\t" }
 { sub(/\r$/, "") }
