@@ -15,7 +15,7 @@ pub(crate) fn certificate_advice(kind: InvalidKind) -> Option<&'static str>
         | InvalidKind::Unused { .. }
         | InvalidKind::LowerDiffers { .. } => {
             Some(
-                "is it the certificate of this trace, in this form, with this block and this count?",
+                "is it the certificate of this trace, in this form, with this block, count, idle and replace?",
             )
         }
         InvalidKind::Truncated => Some("it ends too early; copy it again"),

@@ -51,8 +51,7 @@ fn idle_advice(
     let again = asked_again(report);
     match (words.form(), report.idle, report.stale) {
         (Some(form), Some(idle), Some(stale))
-            if again > 0 && stale >= again && !form.fresh.replace =>
-        {
+            if again > 0 && stale >= again && !form.fresh.replace => {
             let unit = unit_of(form.layout);
             Ok(Some(format!(in alloc;
                 "each request that asks for an object again comes more than {idle} after the one before it: {unit}"

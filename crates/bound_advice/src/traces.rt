@@ -27,9 +27,12 @@ fn has_fields(form: Format) -> bool {
 fn number_in(form: Format, word: u8) -> &'static str {
     match (form.layout, word) {
         (
-            Layout::Webcache | Layout::MarkedWebcache | Layout::Msr { .. } | Layout::MsrReads { .. },
+            Layout::Webcache
+            | Layout::MarkedWebcache
+            | Layout::Msr { .. }
+            | Layout::MsrReads { .. },
             1,
-        ) => "with idle a time is digits alone, below 2^64: a fraction is cut off first",
+        ) => "with idle a time is digits alone, below 2^64",
         (Layout::Webcache | Layout::MarkedWebcache, 2) => "an id is digits alone, below 2^64",
         (Layout::Arc, 1) => "a first block is digits alone, below 2^64",
         (Layout::Arc, _) => "a number of blocks is digits alone, below 2^64",

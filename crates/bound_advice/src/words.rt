@@ -213,6 +213,12 @@ fn unsuited(alloc: Global, words: Words<'_>, word: &str) -> Result<String, Alloc
                 "{word}: reads are told apart with format=webcache or format=msr alone"
             )
         }
+        "idle" if names.contains(&"idle") => {
+            format!(in alloc; "{word}: a trace of format=arc has no times")
+        }
+        "replace" if names.contains(&"replace") => format!(in alloc;
+            "{word}: objects are replaced with format=webcache or format=oracle alone"
+        ),
         "writes" if names.contains(&"print") => {
             format!(in alloc; "{word}: print=flags prints flags in place of the report")
         }

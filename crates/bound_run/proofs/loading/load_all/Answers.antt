@@ -11,18 +11,21 @@ use Rattle.bound_run.proofs.loading.load_all.Goals as goal
 pub returns-in-Ok-clause-loaded : goal.returns-in-Ok-clause-loaded
 returns-in-Ok-clause-loaded g c =
     let reader = c.in_ok-reader.reader in
-    let read = c.in-Ok.read in
+    let left = g.T.Source.left c.args.trace.now in
+    let last = c.load.new.reader in
     let new : reader ≡ fresh c.args.format full_limits = c.in_ok-reader.ensures ∙ ap (fresh c.args.format) c.full.ensures in
     let none : reader.fault ≡ None = ap (λ r. r.fault) new in
-    let whole = subst (λ r. IfSome (known r (g.T.Source.left c.args.trace.now)) (λ bytes. IsWhole (to_come r bytes) read.0 read.1)) new (rw c.in-Ok.is at (c.load-read.ensures.whole none)) in
-    let end = subst (λ r. IfSome (known r (g.T.Source.left c.args.trace.now)) (λ _. known c.load-read.new.reader (g.T.Source.left c.load-read.new.source) ≡ Some [])) new (rw c.in-Ok.is at (c.load-read.ensures.end none)) in
-    loaded_all c.args.format _ _ _ _ _ _ whole (nothing_left _ _ c.load-read.new.reader.lines.held end)
+    let dropped = rw c.in-Ok.is at c.load.ensures.dropped in
+    let whole = subst (λ r. IfSome (known r left) (λ bytes. IsWhole (to_come r bytes) c.in-Ok.requests last.dropped)) new (rw dropped at (rw c.in-Ok.is at (c.load.ensures.whole none))) in
+    let seen_all = subst (λ r. IfSome (known r left) (λ bytes. (to_come r bytes).seen ≡ last.seen)) new (rw c.in-Ok.is at (c.load.ensures.seen_all none)) in
+    let end = subst (λ r. IfSome (known r left) (λ _. known last (g.T.Source.left c.load.new.source) ≡ Some [])) new (rw c.in-Ok.is at (c.load.ensures.end none)) in
+    rw c.into_notes.ensures (loaded_all c.args.format _ _ _ _ c.in-Ok.requests last.dropped last.seen whole seen_all (nothing_left _ _ last.lines.held end))
 
 pub returns-in-Ok-clause-refused : goal.returns-in-Ok-clause-refused
 returns-in-Ok-clause-refused g c = tt
 
 pub returns-in-Ok-clause-source : goal.returns-in-Ok-clause-source
-returns-in-Ok-clause-source g c = c.load-read.ensures.source
+returns-in-Ok-clause-source g c = c.load.ensures.source
 
 pub returns-in-Err-clause-loaded : goal.returns-in-Err-clause-loaded
 returns-in-Err-clause-loaded g c = tt
@@ -32,13 +35,13 @@ returns-in-Err-clause-refused g c =
     let reader = c.in_ok-reader.reader in
     let new : reader ≡ fresh c.args.format full_limits = c.in_ok-reader.ensures ∙ ap (fresh c.args.format) c.full.ensures in
     let none : reader.fault ≡ None = ap (λ r. r.fault) new in
-    let why = subst (λ r. IsNotLoaded r (known r (g.T.Source.left c.args.trace.now)) (g.T.Source.faults c.args.trace.now) (g.T.Source.faults c.load-read.new.source) c.in-Err.fault) new (rw c.in-Err.is at (c.load-read.ensures.refused none)) in
+    let why = subst (λ r. IsNotLoaded r (known r (g.T.Source.left c.args.trace.now)) (g.T.Source.faults c.args.trace.now) (g.T.Source.faults c.load.new.source) c.in-Err.fault) new (rw c.in-Err.is at (c.load.ensures.refused none)) in
     let begins : reader ≡ fresh reader.format reader.limits = new ∙ ap (λ (r : Reader). fresh r.format r.limits) (sym new) in
-    let lost = subst (λ (r : Reader). HasLostThrough r.format r.limits (seen g.T.Source.left g.T.Source.faults c.args.trace.now c.load-read.new.source) c.in-Err.fault) new (rw c.in-Err.is at (c.load-read.ensures.lost begins)) in
-    rw c.refusal_of.ensures (not_loaded c.args.format (g.T.Source.left c.args.trace.now) (g.T.Source.left c.load-read.new.source) _ _ c.in-Err.fault why lost)
+    let lost = subst (λ (r : Reader). HasLostThrough r.format r.limits (seen g.T.Source.left g.T.Source.faults c.args.trace.now c.load.new.source) c.in-Err.fault) new (rw c.in-Err.is at (c.load.ensures.lost begins)) in
+    rw c.refusal_of.ensures (not_loaded c.args.format (g.T.Source.left c.args.trace.now) (g.T.Source.left c.load.new.source) _ _ c.in-Err.fault why lost)
 
 pub returns-in-Err-clause-source : goal.returns-in-Err-clause-source
-returns-in-Err-clause-source g c = c.load-read.ensures.source
+returns-in-Err-clause-source g c = c.load.ensures.source
 
 pub returns-in_err-reader-clause-loaded : goal.returns-in_err-reader-clause-loaded
 returns-in_err-reader-clause-loaded g c = rw (err_from_is_err_and c.from_residual.result c.from_residual.ensures.1).1 tt
@@ -49,4 +52,4 @@ returns-in_err-reader-clause-refused g c =
     rw (p.1, p.2) tt
 
 pub returns-in-Ok-clause-none_failed : goal.returns-in-Ok-clause-none_failed
-returns-in-Ok-clause-none_failed g c = rw c.in-Ok.is at c.load-read.ensures.none_failed
+returns-in-Ok-clause-none_failed g c = rw c.in-Ok.is at c.load.ensures.none_failed
