@@ -36,7 +36,7 @@ curve_shown format trace notes points text one_size of_trace of_lru is =
     record {
       one_size = one_size;
       text_is = is ∙ ap (rendered (counting_from format 0 trace notes.noted)) (ap (λ s. curve_lines facts s (hits_with points)) of_trace.size_is
-          ∙ ap (λ ls. record { front = trace_line facts.requests facts.objects facts.dropped ∷ []; back = entry (codes "size") (first_size trace.objects) ∷ ls }) (slots_lines-agree (hits_with points) (curve_hits trace.objects trace.fills) of_trace.hits_are facts.objects));
+          ∙ ap (λ ls. record { front = trace_line facts.requests facts.objects facts.dropped ∷ []; head = entry (codes "size") (first_size trace.objects) ∷ []; back = ls }) (slots_lines-agree (hits_with points) (curve_hits trace.objects trace.fills) of_trace.hits_are facts.objects));
       of_lru = λ capacity positive.
           ap (λ n. cond (first_size trace.objects == 0) 0 n) (sym (of_trace.hits_are (capacity / first_size trace.objects)))
           ∙ ap (λ s. cond (s == 0) 0 (hits_with points (capacity / s))) (sym of_trace.size_is)

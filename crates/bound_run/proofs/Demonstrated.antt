@@ -60,7 +60,7 @@ module _ (lines text : List ℕ) (lines_after text_after : Option (List ℕ)) (g
 
 -- the text of a demo, from its parts
 pub shown_by : (drawing : DrawSettings) (asked : BoundSettings) (trace : Trail) (cert report text : List ℕ) (replays : PolicyReplays) → trace ≡ trace_drawn drawing
-    → AreTexts webcache_form asked trace 0 cert report → AreReplays asked.terms.capacity trace replays → text ≡ demo_text (demo_facts drawing asked) report replays → IsDemoText drawing asked text
+    → AreTexts webcache_form asked trace (record { dropped = 0; noted = nothing_noted }) cert report → AreReplays asked.terms.capacity trace replays → text ≡ demo_text (demo_facts drawing asked) report replays → IsDemoText drawing asked text
 shown_by drawing asked trace cert report text replays drawn texts replayed is = record {
   price = texts.price;
   header = texts.header;
@@ -72,6 +72,6 @@ shown_by drawing asked trace cert report text replays drawn texts replayed is = 
 }
 
 -- what is made of a trace is certified by its lines
-pub certified_by_texts : (asked : BoundSettings) (requests : List Object) (lines cert report : List ℕ) → reading webcache_form full_limits lines ≡ read_whole requests → AreTexts webcache_form asked (all_count requests) 0 cert report → IsCertified webcache_form lines cert
+pub certified_by_texts : (asked : BoundSettings) (requests : List Object) (lines cert report : List ℕ) → reading webcache_form full_limits lines ≡ read_whole requests → AreTexts webcache_form asked (all_count requests) (record { dropped = 0; noted = nothing_noted }) cert report → IsCertified webcache_form lines cert
 certified_by_texts asked requests lines cert report read texts =
     record { header = texts.header; records = texts.records; text_is = texts.cert_is; valid = subst (λ (r : Reading). IsValid r.requests r.fills texts.header texts.records) (sym read) texts.made.valid }

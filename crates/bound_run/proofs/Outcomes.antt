@@ -8,7 +8,7 @@ use Rattle.trace_any.specs.declared.fault.TraceFault.TheVariants as trace
 use Rattle.trace_any.specs.declared.format.Format.{Format}
 use Rattle.trace_any.specs.FirstLines.{HasLostThrough}
 use Rattle.trace_any.specs.Readings.{full_limits}
-use Rattle.trace_any.specs.Readers.{IsNotLoaded, fresh, to_come, known}
+use Rattle.trace_any.specs.Readers.{IsNotLoaded, Notes, fresh, to_come, known}
 use Rattle.trace_any.proofs.Coming.{fresh_to_come}
 use Rattle.bound_words.specs.declared.plans.BoundSettings.{BoundSettings}
 use Rattle.bound_words.specs.declared.plans.DrawSettings.{DrawSettings}

@@ -171,7 +171,7 @@ module _ (width : ℕ) (trace : Requests) (h : Header) (records : List Record) (
   }
 
   -- the texts of the certificate and the report
-  pub refined_texts : (format : Format) (notes : Notes) (cert report : List ℕ) → cert ≡ cert_text made refined → report ≡ refined_report (counting_of format h trace notes.noted) h.upper (verdict_on trace made) notes.dropped → AreRefinedTexts format width trace dropped h records cert report
+  pub refined_texts : (format : Format) (notes : Notes) (cert report : List ℕ) → cert ≡ cert_text made refined → report ≡ refined_report (counting_of format h trace notes.noted) h.upper (verdict_on trace made) notes.dropped → AreRefinedTexts format width trace notes h records cert report
   refined_texts format notes cert report cert_is report_is = record { made = made; refined = refined; refinement = refinement; cert_is = cert_is; report_is = report_is }
 
 -- what comes of a certificate that was kept

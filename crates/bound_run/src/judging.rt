@@ -1,23 +1,28 @@
 //! The judgement of hits that a simulator claims, and its report.
-ghost use Rattle.std.specs.Prelude.{◌≡◌, IfErr, IfOk, OnOk};
+ghost use Rattle.std.specs.Prelude.{◌≡◌, ◌↔◌, IfErr, IfOk, IsOk, OnOk};
+ghost use Rattle.std.specs.Result.{result_err};
 ghost use Rattle.bit_list.specs.Bits.{bits_of};
 ghost use Rattle.bound_io.specs.Devices.{seen};
 ghost use Rattle.bound_io.specs.Reading.{LosesPrefix};
 ghost use Rattle.cache_model.specs.declared.objects.Objective.TheVariants.{Object as Hits, Bytes};
+ghost use Rattle.hit_judge.specs.Causes.{first_cause};
+ghost use Rattle.hit_judge.specs.Possible.{IsPossibleFresh};
 ghost use Rattle.trace_any.specs.Readings.{IsFormat};
 ghost use Rattle.bound_run.specs.Judgements.{IsJudged, claimed_by, judged_report, written_for};
 ghost use Rattle.bound_run.specs.Refusals.{RefusesJudge};
 
 use crate::counting::{counting_from, if_counted};
 use crate::status::refusal_of_flags;
+use bit_list::BitList;
 use bound_base::NoMemory;
 use bound_io::Source;
 use bound_report::{JudgedFacts, Refusal, render};
 use bound_words::JudgeSettings;
+use cache_rules::Trace;
 use hit_flags::{Claims, read_claims};
-use hit_judge::{Claimed, judge};
+use hit_judge::{Claimed, Impossible, judge};
 use std::alloc::Global;
-use trace_any::Format;
+use trace_any::{Format, TraceNotes};
 
 // The report of possible hits, of a trace of this form.
 fn judged_report(
@@ -25,8 +30,10 @@ fn judged_report(
     format: Format,
     asked: JudgeSettings,
     claims: &Claims,
+    notes: &TraceNotes,
     claimed: Claimed,
 ) -> Result<Vec<u8>, NoMemory>
+    requires notes { notes.now ≡ claims.now.notes }
     requires hits { claimed.hits ≡ claimed_by Hits asked claims.now.trace (bits_of claims.now.flags) }
     requires bytes { claimed.bytes ≡ claimed_by Bytes asked claims.now.trace (bits_of claims.now.flags) }
     requires written { claimed.written ≡ written_for asked claims.now.trace (bits_of claims.now.flags) }
@@ -35,7 +42,7 @@ fn judged_report(
     let facts = JudgedFacts {
         requests: claims.trace.len(),
         objects: claims.trace.objects(),
-        dropped: claims.notes.dropped,
+        dropped: notes.dropped,
         capacity: asked.capacity,
         claimed,
         written: if_counted(asked.writes, claimed.written),
@@ -43,7 +50,29 @@ fn judged_report(
     render(
         alloc,
         &facts,
-        counting_from(format, asked.warmup, &claims.trace, &claims.notes.noted),
+        counting_from(format, asked.warmup, &claims.trace, &notes.noted),
+    )
+}
+
+// Whether flags are possible hits.
+fn judge_flags(
+    asked: JudgeSettings,
+    trace: &Trace,
+    notes: &TraceNotes,
+    flags: &BitList,
+) -> Result<Claimed, Impossible>
+    ensures possible { IsOk result ↔ IsPossibleFresh asked.capacity trace.now.objects notes.now.noted.stale (bits_of flags.now) }
+    ensures hits { IfOk result (λ c. c.hits ≡ claimed_by Hits asked trace.now (bits_of flags.now)) }
+    ensures bytes { IfOk result (λ c. c.bytes ≡ claimed_by Bytes asked trace.now (bits_of flags.now)) }
+    ensures written { IfOk result (λ c. c.written ≡ written_for asked trace.now (bits_of flags.now)) }
+    ensures cause { result_err result ≡ first_cause asked.capacity trace.now.objects notes.now.noted.stale (bits_of flags.now) }
+{
+    judge(
+        trace,
+        &notes.noted.stale,
+        flags,
+        asked.capacity,
+        asked.warmup,
     )
 }
 
@@ -66,15 +95,8 @@ pub(crate) fn judge_all<T: Source, H: Source>(
         Ok(claims) => claims,
         Err(fault) => return Err(refusal_of_flags(fault)),
     };
-    let stale = &claims.notes.noted.stale;
-    match judge(
-        &claims.trace,
-        stale,
-        &claims.flags,
-        asked.capacity,
-        asked.warmup,
-    ) {
-        Ok(claimed) => Ok(judged_report(alloc, format, asked, &claims, claimed)?),
+    match judge_flags(asked, &claims.trace, &claims.notes, &claims.flags) {
+        Ok(claimed) => Ok(judged_report(alloc, format, asked, &claims, &claims.notes, claimed)?),
         Err(cause) => Err(Refusal::Impossible {
             cause,
             capacity: asked.capacity,

@@ -20,6 +20,6 @@ mod upgrades;
 mod writing;
 
 pub use bound_words::{Paths, Plan, WordFault, paths_of, plan_of};
-pub use replays::bounded_replay;
+pub use replays::{Leaving, bounded_fresh_replay, bounded_replay};
 pub use status::Status;
 pub use top::run;

@@ -1,6 +1,7 @@
 //! Replays of a trace, and what they print.
-ghost use Rattle.std.specs.Prelude.{◌≡◌, ◌≤◌, [], length, false, None, Some, IfOk, IfSome, OnOk};
+ghost use Rattle.std.specs.Prelude.{◌≡◌, ◌≤◌, ◌&&◌, [], length, false, None, Some, slice_index_or, IfOk, IfSome, OnOk};
 ghost use Rattle.bit_list.specs.Bits.{bits_of};
+ghost use Rattle.cache_model.specs.Claim.{only_fills};
 ghost use Rattle.cache_model.specs.Objects.{objects_of};
 ghost use Rattle.policy_model.specs.Runs.{AreScores, IsPlayed};
 ghost use Rattle.replay_core.specs.Laws.{IsFresh, IsRunOf, IsStateAfter, IsTallied};
@@ -78,8 +79,8 @@ pub fn bounded_fresh_replay<P: LetGo>(
     requires fresh { IsFresh (P.known_state policy.old) }
     requires only_fill { OnlyFill (bits_of leaving.stale.now) trace.now.fills trace.now.objects }
     ensures scores { IfOk result (λ r. AreScores (P.room policy.old) warmup trace.now.fills trace.now.objects r.hits r.bytes) }
-    ensures written { IfOk result (λ r. IsFreshlyPlayed (P.known_state policy.old) (P.room policy.old) warmup trace.now.fills (bits_of leaving.stale.now) leaving.replace trace.now.objects r.hits r.bytes r.written) }
-    ensures run { IfOk result (λ r. IsFreshRunOf (P.known_state policy.old) trace.now.objects warmup trace.now.fills (bits_of leaving.stale.now) leaving.replace r.hits r.bytes) }
+    ensures written { IfOk result (λ r. IsFreshlyPlayed (P.known_state policy.old) (P.room policy.old) warmup trace.now.fills (bits_of leaving.entry.stale.now) leaving.entry.replace trace.now.objects r.hits r.bytes r.written) }
+    ensures run { IfOk result (λ r. IsFreshRunOf (P.known_state policy.old) trace.now.objects warmup trace.now.fills (bits_of leaving.entry.stale.now) leaving.entry.replace r.hits r.bytes) }
     ensures bounded { IfOk result (λ r. IsWithinBounds (P.room policy.old) warmup trace.now r.hits r.bytes) }
 {
     replay_fresh(alloc, trace, leaving.stale, leaving.replace, warmup, policy)
@@ -109,7 +110,7 @@ fn fresh_counts_as<P: LetGo + Drop>(
 ) -> Result<Replay, NoMemory>
     requires begins { IfOk made (λ policy. BeginsAs r.policy r.capacity (length (objects_of trace.now.objects)) (P.objects policy) (P.room policy) (P.contents policy) (P.known_state policy)) }
     requires only_fill { OnlyFill (bits_of leaving.stale.now) trace.now.fills trace.now.objects }
-    ensures { IfOk result (IsFreshReplay r.policy r.capacity r.warmup trace.now (bits_of leaving.stale.now) leaving.replace) }
+    ensures { IfOk result (IsFreshReplay r.policy r.capacity r.warmup trace.now (bits_of leaving.entry.stale.now) leaving.entry.replace) }
 {
     let mut policy = made?;
     bounded_fresh_replay(alloc, trace, leaving, r.warmup, &mut policy)
@@ -138,7 +139,7 @@ fn fresh_hits_as<P: LetGo + Drop>(
     made: Result<P, NoMemory>,
 ) -> Result<BitList, NoMemory>
     requires begins { IfOk made (λ policy. BeginsAs _r.policy _r.capacity (length (objects_of trace.now.objects)) (P.objects policy) (P.room policy) (P.contents policy) (P.known_state policy)) }
-    ensures { IfOk result (λ flags. AreHitsOf (Some (bits_of leaving.stale.now, leaving.replace)) _r trace.now (bits_of flags)) }
+    ensures { IfOk result (λ flags. AreHitsOf (Some (bits_of leaving.entry.stale.now, leaving.entry.replace)) _r trace.now (bits_of flags)) }
 {
     let mut policy = made?;
     fresh_hits(alloc, trace, leaving.stale, leaving.replace, &mut policy)
@@ -154,7 +155,7 @@ fn replay_as<P: LetGo + Drop>(
 ) -> Result<Answered, NoMemory>
     requires begins { IfOk made (λ policy. BeginsAs r.policy r.capacity (length (objects_of trace.now.objects)) (P.objects policy) (P.room policy) (P.contents policy) (P.known_state policy)) }
     requires only_fill { IfSome leaving (λ l. OnlyFill (bits_of l.stale.now) trace.now.fills trace.now.objects) }
-    ensures { IfOk result (IsAnswered (leaves leaving) r trace.now) }
+    ensures { IfOk result (IsAnswered (leaves leaving.entry) r trace.now) }
 {
     match (r.flags, leaving) {
         (true, None) => Ok(Answered::Flags(hits_as(alloc, trace, r, made)?)),
@@ -176,7 +177,7 @@ pub(crate) fn replay_by(
     leaving: Option<Leaving<'_>>,
 ) -> Result<Answered, NoMemory>
     requires only_fill { IfSome leaving (λ l. OnlyFill (bits_of l.stale.now) trace.now.fills trace.now.objects) }
-    ensures { IfOk result (IsAnswered (leaves leaving) r trace.now) }
+    ensures { IfOk result (IsAnswered (leaves leaving.entry) r trace.now) }
 {
     let n = trace.objects();
     let c = r.capacity;
@@ -196,6 +197,13 @@ pub(crate) fn replay_by(
     }
 }
 
+// Whether request `t` is stale, which only fills then.
+fn is_stale(trace: &Trace, stale: &BitList, t: u32) -> bool
+    ensures { result ≡ (slice_index_or (bits_of stale.now) t false && only_fills trace.now.fills t) }
+{
+    stale.get(t as usize) && trace.only_fills(t)
+}
+
 // A flag for each request that is stale. Each of them only fills.
 fn stale_flags(alloc: Global, trace: &Trace, stale: &BitList) -> Result<BitList, NoMemory>
     ensures { IfOk result (λ flags. bits_of flags ≡ stale_flags trace.now (bits_of stale.now)) }
@@ -203,7 +211,7 @@ fn stale_flags(alloc: Global, trace: &Trace, stale: &BitList) -> Result<BitList,
     let mut flags = BitList::new(alloc);
     for t in 0..trace.len() {
         flags.make_room()?;
-        flags.push_reserved(stale.get(t as usize) && trace.only_fills(t));
+        flags.push_reserved(is_stale(trace, stale, t));
     }
     Ok(flags)
 }

@@ -4,7 +4,8 @@ use bound_run::Status;
 use whole_runs::Said::{Refined, Text, Yes};
 use whole_runs::{GOOD, Row, check_all};
 
-const CERT: &[u8] = b"cache-bound-certificate 1\nobjective object\ncapacity 10\nrequests 3\nunit 2\n\
+const CERT: &[u8] =
+    b"cache-bound-certificate 1\nobjective object\ncapacity 10\nrequests 3\nunit 2\n\
 denominator 1\nform plain\nupper 1\nflow 0\nlower 1\nrecords\n0 1 0\n0 0 0\n0 0 0\nend\n";
 
 // One object of 2 bytes, whose third request comes 7 after the second.

@@ -11,7 +11,9 @@ const EXPIRED: Row<'static> = Row {
     shows: "what is asked for just as its time ends is fresh, and what is asked for later is stale",
     words: "bounds t c format=webcache capacity=10 mode=infinite idle=2",
     trace: b"0 1 2\n2 1 2\n9 1 2\n",
-    report: Bounds("3 1 0, 10 object, idle 2, stale 1, infinite form plain, 2 5 1, 1, 1/1 1, 0/1, 1"),
+    report: Bounds(
+        "3 1 0, 10 object, idle 2, stale 1, infinite form plain, 2 5 1, 1, 1/1 1, 0/1, 1",
+    ),
     made: b"cache-bound-certificate 1\nobjective object\ncapacity 10\nrequests 3\nunit 2\n\
 denominator 1\nform plain\nupper 1\nflow 0\nlower 1\nrecords\n0 1 0\n0 0 0\n0 0 0\nend\n",
     ..GOOD

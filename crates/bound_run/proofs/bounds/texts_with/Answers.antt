@@ -4,6 +4,8 @@ use Rattle.cache_model.specs.Certificates.{eligible_of}
 use Rattle.cache_model.specs.Objects.{objects_of}
 use Rattle.bound_report.specs.Rendering.{rendered}
 use Rattle.bound_report.specs.Reports.{bound_lines}
+use Rattle.freshness.specs.Seen.{noted_of}
+use Rattle.trace_any.specs.Readers.{Notes}
 use Rattle.bound_run.specs.Countings.{counting_of}
 use Rattle.bound_run.specs.Records.{records_in}
 use Rattle.bound_run.specs.Reports.{written_by}
@@ -37,6 +39,9 @@ returns c =
     let b = c.args.bounds.now in
     let trace = c.args.trace.now in
     let asked = c.args.asked.now in
+    let noted_is : noted_of c.notes.inside.noted ≡ c.args.notes.now.noted = ap (λ (n : Notes). n.noted) c.notes.view_is in
+    let dropped_is : c.notes.inside.dropped ≡ c.args.notes.now.dropped = ap (λ (n : Notes). n.dropped) c.notes.view_is in
+    let counting_is : c.counting_of.result ≡ counting_of c.args.format b.header trace c.args.notes.now.noted = c.counting_of.ensures ∙ ap (counting_of c.args.format b.header trace) noted_is in
     let report : List Bool → List ℕ
     = λ keeps. rendered (counting_of c.args.format b.header trace c.args.notes.now.noted) (bound_lines (record {
       header = b.header;
@@ -53,6 +58,6 @@ returns c =
       records = records_in b;
       made = c.requires.made;
       cert_is = c.in_ok-cert.ensures;
-      report_is = rw (c.counting_of.ensures, c.written_by.ensures, c.as_slice-2.ensures, c.asked.view_is, c.objects.ensures.different, c.as_slice.ensures.items, c.requires.intervals) at c.in_ok-report.ensures
+      report_is = rw (counting_is, dropped_is, c.written_by.ensures, c.as_slice-2.ensures, c.asked.view_is, c.objects.ensures.different, c.as_slice.ensures.items, c.requires.intervals) at c.in_ok-report.ensures
           ∙ ap report (sym (keeps_of-records b.relaxed.solution.prices b.keeps b.intervals.items b.relaxed.solution.flows));
     }

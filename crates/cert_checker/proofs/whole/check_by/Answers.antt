@@ -21,4 +21,3 @@ check_read-requires-clause-fresh_reader g c =
 
 pub check_read-requires-clause-fresh_cert : goal.check_read-requires-clause-fresh_cert
 check_read-requires-clause-fresh_cert g c = c.requires.fresh_cert
-
