@@ -1,6 +1,7 @@
 -- The lines of a trace that a form refuses, and the last bytes that were read of it.
-use Rattle.std.specs.Prelude.{◌≡◌, ◌≤◌, ◌⊎◌, ℕ, List, ◌++◌, drop, length, Bool, true, false, not, ◌==◌, ◌&&◌, if◌then◌else◌, None, Some}
+use Rattle.std.specs.Prelude.{◌≡◌, ◌≤◌, ◌⊎◌, ℕ, List, ◌++◌, drop, length, Bool, true, false, not, ◌==◌, ◌&&◌, ◌||◌, if◌then◌else◌, None, Some}
 use Rattle.std.specs.declared.option.Option.{Option}
+use Rattle.std.specs.Option.{is_some}
 use Rattle.std.specs.Result.{is_err}
 use Rattle.std.specs.List.{slice_split}
 use Rattle.trace_any.specs.declared.format.Format.{Format}
@@ -20,9 +21,18 @@ is_no_line_in (form.Msr block) text = is_err (msr.line_parts 4096 text)
 is_no_line_in (form.MsrReads block) text = is_err (msr.line_parts 4096 text)
 is_no_line_in form.Oracle text = false
 
--- the same of a form, if one is known
+-- whether the time of a line is no number
+abbrev pub has_no_time : Layout → List ℕ → Bool
+has_no_time form.Webcache text = is_err (webcache.line_time text)
+has_no_time form.MarkedWebcache text = is_err (webcache.line_time text)
+has_no_time form.Arc text = false
+has_no_time (form.Msr block) text = is_err (msr.line_time text)
+has_no_time (form.MsrReads block) text = is_err (msr.line_time text)
+has_no_time form.Oracle text = false
+
+-- whether a text is no line of a form, if one is known, in which a time is looked at only if objects expire
 abbrev pub is_no_line : Option Format → List ℕ → Bool
-is_no_line (Some format) text = is_no_line_in format.layout text
+is_no_line (Some format) text = is_no_line_in format.layout text || (is_some format.fresh.idle && has_no_time format.layout text)
 is_no_line None text = false
 
 -- whether a form refuses a line: one that is not blank, and none of the form without a last CR

@@ -1,7 +1,7 @@
 //! The last bytes that were read from a source.
 ghost use Rattle.std.specs.Prelude.{◌≡◌, ◌+◌, ◌-◌, ◌≤◌, ◌++◌, [], drop, find, length, vec_capacity, vec_len, if◌then◌else◌, true, IfOk};
 ghost use Rattle.std.specs.Option.{option_copied};
-ghost use Rattle.bound_advice.specs.Lines.{KeepsLast, is_no_line, is_refused, whole_lines};
+ghost use Rattle.bound_advice.specs.Lines.{KeepsLast, has_no_time, is_no_line, is_no_line_in, is_refused, whole_lines};
 
 use bound_base::NoMemory;
 use std::alloc::Global;
@@ -25,19 +25,39 @@ pub(crate) struct Recent {
     ghost has_room: { 262144 ≤ vec_capacity bytes },
 }
 
+// Whether a text is no line of a layout of lines.
+fn is_no_line_in(layout: Layout, text: &[u8]) -> bool
+    ensures { result ≡ is_no_line_in layout text.now }
+{
+    match layout {
+        Layout::Webcache => trace_webcache::parse(text).is_err(),
+        Layout::MarkedWebcache => trace_webcache::parse_marked(text).is_err(),
+        Layout::Arc => trace_arc::parse(text).is_err(),
+        Layout::Msr { .. } | Layout::MsrReads { .. } => trace_msr::parse(text, BLOCK).is_err(),
+        Layout::Oracle => false,
+    }
+}
+
+// Whether the time of a line is no number.
+fn has_no_time(layout: Layout, text: &[u8]) -> bool
+    ensures { result ≡ has_no_time layout text.now }
+{
+    match layout {
+        Layout::Webcache | Layout::MarkedWebcache => trace_webcache::time(text).is_err(),
+        Layout::Msr { .. } | Layout::MsrReads { .. } => trace_msr::time(text).is_err(),
+        Layout::Arc | Layout::Oracle => false,
+    }
+}
+
 // Whether a text is no line of a form of lines.
 fn is_no_line(format: Option<Format>, text: &[u8]) -> bool
     ensures { result ≡ is_no_line format text.now }
 {
-    match format.map(|format| format.layout) {
-        Some(Layout::Webcache) => trace_webcache::parse(text).is_err(),
-        Some(Layout::MarkedWebcache) => trace_webcache::parse_marked(text).is_err(),
-        Some(Layout::Arc) => trace_arc::parse(text).is_err(),
-        Some(Layout::Msr { .. } | Layout::MsrReads { .. }) => trace_msr::parse(
-            text, BLOCK,
-        ).is_err(),
-        Some(Layout::Oracle) | None => false,
-    }
+    let Some(format) = format else {
+        return false;
+    };
+    is_no_line_in(format.layout, text)
+        || format.fresh.idle.is_some() && has_no_time(format.layout, text)
 }
 
 // Whether a form refuses a line.
