@@ -1,0 +1,3 @@
+pub mod Late
+pub mod Areas
+pub mod Laws
