@@ -1,6 +1,6 @@
 -- The eligible interval that ends at a request, and sums over all intervals, end by end.
-use Rattle.std.proofs.Common.{◌≡◌, ◌≢◌, ℕ, ◌+◌, ◌<◌, ◌≤◌, ◌∙◌, sym, ap, Bool, true, false, not, ◌&&◌, cond, nat_lt, nat_le, List, [], ◌∷◌, length, arith, ⊎_elim, map, filter, sum_by}
-use Rattle.std.specs.List.{range_with_len}
+use Rattle.std.proofs.Common.{◌≡◌, ◌≢◌, ℕ, ◌+◌, ◌<◌, ◌≤◌, ◌∙◌, sym, ap, true, false, not, cond, nat_lt, nat_le, List, [], ◌∷◌, length, arith, ⊎_elim, map, filter, sum_by, slice_range}
+use Rattle.std.specs.List.{list_any}
 use Rattle.std.proofs.lemmas.Bool.{cases_lt, cases_Bool, both_ways, le-ltb, le-leb, and_left, and_right, and_from}
 use Rattle.std.proofs.lemmas.List.Sums.{sum_by-cons}
 use Rattle.cache_model.specs.declared.objects.Object.{Object}
@@ -18,28 +18,47 @@ use Rattle.budget_laws.specs.Budgets.{eligible_to}
 is_next_other : (trace : List Object) (a b k : ℕ) → IsNext trace a b → k ≢ a → is_next trace k b ≡ false
 is_next_other trace a b k n other =
     ⊎_elim
-    (λ (low : k < b). ⊎_elim (again low) (λ (differs : same_object (request_at trace k) (request_at trace b) ≡ false). and_left _ _ (and_right (nat_lt k b) _ differs)) (cases_Bool (same_object (request_at trace k) (request_at trace b))))
+    (λ (low : k < b).
+    ⊎_elim
+    (again low)
+    (λ (differs : same_object x y ≡ false). and_left _ _ (and_right (nat_lt k b) _ differs))
+    (cases_Bool (same_object x y)))
     (λ (high : b ≤ k). and_left _ _ (and_left _ _ (le-ltb k b high)))
     (cases_lt k b)
   where
-    again : k < b → same_object (request_at trace k) (request_at trace b) ≡ true → is_next trace k b ≡ false
+    x : Object
+    x = request_at trace k
+
+    y : Object
+    y = request_at trace b
+
+    z : Object
+    z = request_at trace a
+
+    again : k < b → same_object x y ≡ true → is_next trace k b ≡ false
     again low same =
-        let kb : request_at trace k ≡ request_at trace b = same_object-true (request_at trace k) (request_at trace b) same in
-        let ab : request_at trace a ≡ request_at trace b = same_object-true (request_at trace a) (request_at trace b) n.same in
+        let xy : x ≡ y = same_object-true x y same in
+        let zy : z ≡ y = same_object-true z y n.same in
         ⊎_elim
-        (λ (late : a < k). absurd (both_ways (same_object (request_at trace a) (request_at trace k)) (n.others k late low) (ap (same_object (request_at trace a)) kb ∙ n.same)))
+        (λ (late : a < k). absurd (both_ways (same_object z x) (n.others k late low) (ap (same_object z) xy ∙ n.same)))
         (λ (early : k ≤ a).
-        and_right _ _ (ap not (list_any-range_true (same_object (request_at trace k)) trace no_object (k + 1) b a (omega arith) n.before (omega (arith, n.within)) (ap (same_object (request_at trace k)) ab ∙ same))))
+        let between : list_any (same_object x) (slice_range trace (k + 1) b) ≡ true
+        = list_any-range_true (same_object x) trace no_object (k + 1) b a (omega arith) n.before (omega (arith, n.within))
+        (ap (same_object x) zy ∙ same) in
+        and_right _ _ (ap not between))
         (cases_lt a k)
 
 -- the object fits, and the request counts
-pub eligible_to-next : (terms : Terms) (trace : List Object) (a b : ℕ) → IsNext trace a b → (request_at trace a).size ≤ terms.capacity → counts terms b ≡ true
+pub eligible_to-next : (terms : Terms) (trace : List Object) (a b : ℕ)
+    → IsNext trace a b → (request_at trace a).size ≤ terms.capacity → counts terms b ≡ true
     → eligible_to terms trace b ≡ interval_of terms.objective trace a b ∷ []
 eligible_to-next terms trace a b n fits counted =
     ap (map (λ k. interval_of terms.objective trace k b))
     (filter-range_one (λ k. is_eligible terms trace k b) a 0 (length trace) (omega arith) (omega (arith, n.before, n.within))
     (and_from _ _ (and_from _ _ (is_next_yes trace a b n) (le-leb (request_at trace a).size terms.capacity fits)) counted)
-    (λ k low high other. and_left _ (counts terms b) (and_left _ (nat_le (request_at trace k).size terms.capacity) (is_next_other trace a b k n other))))
+    (λ k low high other.
+    and_left _ (counts terms b)
+    (and_left _ (nat_le (request_at trace k).size terms.capacity) (is_next_other trace a b k n other))))
 
 -- rows and columns of a table sum to the same
 sum_by-turn : (f : ℕ → ℕ → ℕ) (xs ys : List ℕ) → sum_by (λ x. sum_by (f x) ys) xs ≡ sum_by (λ y. sum_by (λ x. f x y) xs) ys
@@ -50,7 +69,8 @@ sum_by-turn f (x ∷ xs) ys =
       sum_by-cons (λ x. sum_by (f x) ys) x xs,
       sum_by-turn f xs ys,
       sum_by-add (f x) (λ y. sum_by (λ x. f x y) xs) ys,
-      sum_by-agree (λ y. sum_by (λ x. f x y) (x ∷ xs)) (λ y. f x y + sum_by (λ x. f x y) xs) ys (λ y. sum_by-cons (λ x. f x y) x xs),
+      sum_by-agree (λ y. sum_by (λ x. f x y) (x ∷ xs)) (λ y. f x y + sum_by (λ x. f x y) xs) ys
+          (λ y. sum_by-cons (λ x. f x y) x xs),
     )
 
 -- a sum over all eligible intervals, by the requests where they end

@@ -28,7 +28,8 @@ module _ (c : ℕ) (trace : List Object) (contents : List (List Object)) (allowe
   held n = before_request contents n
 
   -- what is held after a request is its object, or was held before
-  entered : (n : ℕ) → n < length trace → (x : Object) → Contains (held (n + 1)) x → holds (request_at trace n ∷ held n) x ≡ true
+  entered : (n : ℕ) → n < length trace → (x : Object) → Contains (held (n + 1)) x
+      → holds (request_at trace n ∷ held n) x ≡ true
   entered n within x m = at (allowed.only_requests_enter n within x m)
     where
       at : Contains (held n) x ⊎ (slice_get trace n ≡ Some x) → holds (request_at trace n ∷ held n) x ≡ true
@@ -38,7 +39,8 @@ module _ (c : ℕ) (trace : List Object) (contents : List (List Object)) (allowe
           let same : x ≡ request_at trace n = cc in
           or_left (same_object x (request_at trace n)) (holds (held n) x) (same_object-from x (request_at trace n) same)
 
-  pub all_entered : (n : ℕ) → n < length trace → AllByRecursion (λ x. holds (request_at trace n ∷ held n) x ≡ true) (held (n + 1))
+  pub all_entered : (n : ℕ) → n < length trace
+      → AllByRecursion (λ x. holds (request_at trace n ∷ held n) x ≡ true) (held (n + 1))
   all_entered n within =
       recursion_from_All (λ x. holds (request_at trace n ∷ held n) x ≡ true) (held (n + 1))
       (λ i z low. entered n within (get_or (held (n + 1)) i z) (Contains-get_or (held (n + 1)) i z low))
@@ -52,7 +54,9 @@ module _ (c : ℕ) (trace : List Object) (contents : List (List Object)) (allowe
   held-size n =
       ⊎_elim
       (λ (low : n < length contents). allowed.within_capacity n [] low)
-      (λ (high : length contents ≤ n). let e : total_size (held n) ≡ 0 = ap total_size (get_or_past contents n [] high) in omega arith)
+      (λ (high : length contents ≤ n).
+      let e : total_size (held n) ≡ 0 = ap total_size (get_or_past contents n [] high) in
+      omega arith)
       (cases_lt n (length contents))
 
   -- the weights of what is held are within the units
@@ -64,14 +68,18 @@ module _ (c : ℕ) (trace : List Object) (contents : List (List Object)) (allowe
   held-fits n x has = omega (arith, size-le-total_size (held n) x has, held-size n)
 
   -- an object that was not asked for is not held
-  not_asked : (x : Object) (n : ℕ) → n ≤ length trace → ((k : ℕ) → k < n → same_object x (request_at trace k) ≡ false) → holds (held n) x ≡ true → ⊥
+  not_asked : (x : Object) (n : ℕ) → n ≤ length trace
+      → ((k : ℕ) → k < n → same_object x (request_at trace k) ≡ false) → holds (held n) x ≡ true → ⊥
   not_asked x zero within none has = both_ways (holds (held 0) x) (ap (λ xs. holds xs x) allowed.empty_at_first) has
   not_asked x (suc n) within none has =
       let e : suc n ≡ n + 1 = omega arith in
       ⊎_elim
-      (λ (same : same_object x (request_at trace n) ≡ true). both_ways (same_object x (request_at trace n)) (none n (omega arith)) same)
+      (λ (same : same_object x (request_at trace n) ≡ true).
+      both_ways (same_object x (request_at trace n)) (none n (omega arith)) same)
       (λ (was : holds (held n) x ≡ true). not_asked x n (omega arith) (λ k low. none k (omega arith)) was)
-      (or_cases _ _ (of_holds (λ y. holds (request_at trace n ∷ held n) y ≡ true) (held (n + 1)) x (all_entered n (omega arith)) (ap (λ k. holds (held k) x) (sym e) ∙ has)))
+      (or_cases _ _
+      (of_holds (λ y. holds (request_at trace n ∷ held n) y ≡ true) (held (n + 1)) x (all_entered n (omega arith))
+      (ap (λ k. holds (held k) x) (sym e) ∙ has)))
 
   -- so one that is held has a request before
   pub held-next : (n : ℕ) → n < length trace → holds (held n) (request_at trace n) ≡ true → (a : ℕ) × IsNext trace a n

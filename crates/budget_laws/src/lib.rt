@@ -5,5 +5,6 @@
 mod laws;
 
 pub use laws::{
-    budgets_rise, every_budget, no_budget, no_policy_scores_more_within, plain_bounds_budgets, writes_for_a_score,
+    budgets_rise, every_budget, no_budget, no_policy_scores_more_within, plain_bounds_budgets,
+    writes_for_a_score,
 };
