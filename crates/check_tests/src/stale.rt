@@ -19,7 +19,7 @@ const CHECKED: Row<'static> = Row {
     ..GOOD
 };
 
-const CHECKS: [Row<'static>; 4] = [
+const CHECKS: [Row<'static>; 5] = [
     CHECKED,
     Row {
         shows: "without it each request may be a hit",
@@ -46,6 +46,17 @@ denominator 1\nform plain\nupper 1\nflow 0\nlower 2\nrecords\n0 1 0\n0 1 0\n0 0 
             },
         },
         report: Text(b"invalid line 15: lower differs 2 1\n"),
+        ..CHECKED
+    },
+    Row {
+        shows: "no flow ends at a stale request",
+        cert: b"cache-bound-certificate 1\nobjective object\ncapacity 10\nrequests 3\nunit 2\n\
+denominator 1\nform plain\nupper 1\nflow 0\nlower 1\nrecords\n0 1 0\n0 0 1\n0 0 0\nend\n",
+        status: Status::Invalid {
+            line: 14,
+            kind: InvalidKind::Unused { number: 1 },
+        },
+        report: Text(b"invalid line 14: unused flow 1\n"),
         ..CHECKED
     },
     Row {
