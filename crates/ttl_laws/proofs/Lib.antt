@@ -1,0 +1,5 @@
+mod Rows
+mod Starts
+mod Holding
+mod Objects
+mod Within

@@ -1,0 +1,7 @@
+//! What contents can score whose objects expire a time after they were written: each law is the contract of a function
+//! that does nothing.
+#![tactic(auto)]
+
+mod laws;
+
+pub use laws::no_policy_scores_more_with_ttl;
