@@ -3,3 +3,4 @@ mod Starts
 mod Holding
 mod Objects
 mod Within
+mod Idle

@@ -1,7 +1,9 @@
 -- What is proved of objects that expire a time after they were written; each law is the contract of a function.
-use Rattle.std.specs.Prelude.{◌≡◌, ℕ, ◌*◌, ◌≤◌, List, length}
+use Rattle.std.specs.Prelude.{◌≡◌, ℕ, ◌*◌, ◌≤◌, Bool, List, length, None, Some}
+use Rattle.std.specs.declared.option.Option.{Option}
 use Rattle.cache_model.specs.declared.objects.Object.{Object}
-use Rattle.cache_model.specs.Claim.{Terms, IsAllowed}
+use Rattle.cache_model.specs.Claim.{Terms, IsAllowed, score}
+use Rattle.freshness.specs.Stale.{stale_marks}
 use Rattle.ttl_laws.specs.Fresh.{score_with_ttl}
 use Rattle.ttl_laws.specs.Runs.{bound_with_ttl}
 
@@ -12,3 +14,24 @@ NoPolicyScoresMoreWithTtl =
     → IsAllowed terms.capacity trace contents
     → length prices ≡ length trace
     → denominator * score_with_ttl terms trace times ttl contents ≤ bound_with_ttl terms unit denominator trace times prices ttl
+
+-- these terms, with the marks of what is stale by this idle time, or replaced
+abbrev pub marked_stale : Terms → Option ℕ → Bool → List Object → List ℕ → Terms
+marked_stale terms idle replace trace times =
+    record terms { fills = stale_marks (record { idle = idle; replace = replace }) trace times terms.fills }
+
+-- what is stale by an idle time of at least the ttl is no fresh hit: its marks change no score with the ttl
+abbrev pub IdleAddsNothing : Type 0
+IdleAddsNothing =
+    (terms : Terms) (trace : List Object) (times : List ℕ) (ttl idle : ℕ) (replace : Bool) (contents : List (List Object))
+    → ttl ≤ idle
+    → score_with_ttl (marked_stale terms (Some idle) replace trace times) trace times ttl contents
+    ≡ score_with_ttl (marked_stale terms None replace trace times) trace times ttl contents
+
+-- so no contents score more with a ttl than with an idle time of at least that
+abbrev pub IdleBoundsTtl : Type 0
+IdleBoundsTtl =
+    (terms : Terms) (trace : List Object) (times : List ℕ) (ttl idle : ℕ) (replace : Bool) (contents : List (List Object))
+    → ttl ≤ idle
+    → score_with_ttl (marked_stale terms None replace trace times) trace times ttl contents
+    ≤ score (marked_stale terms (Some idle) replace trace times) trace contents

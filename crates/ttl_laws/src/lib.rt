@@ -4,4 +4,4 @@
 
 mod laws;
 
-pub use laws::no_policy_scores_more_with_ttl;
+pub use laws::{idle_adds_nothing, idle_bounds_ttl, no_policy_scores_more_with_ttl};
