@@ -4,3 +4,6 @@ mod Holding
 mod Objects
 mod Within
 mod Idle
+mod Ends
+mod Shorter
+mod Longer

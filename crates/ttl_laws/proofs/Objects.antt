@@ -47,15 +47,25 @@ sum_by-range_le f g a (suc n) below =
       sum_by-range_le f g (a + 1) n (λ k low. below k (omega arith)),
     )
 
--- a filter keeps different objects apart, and what holds of all
-all-filter : (P : Object → Type 0) (p : Object → Bool) (xs : List Object) → AllByRecursion P xs → AllByRecursion P (filter p xs)
-all-filter P p [] all = all
-all-filter P p (x ∷ xs) all = at (p x) (all-filter P p xs all.1)
-  where
-    at : (b : Bool) → AllByRecursion P (filter p xs) → AllByRecursion P (cond b (x ∷ filter p xs) (filter p xs))
-    at true rest = (all.0, rest)
-    at false rest = rest
+-- what holds of all holds of those that a map makes, and of those that pass a test
+pub all-map : {X Y : Type 0} (P : X → Type 0) (Q : Y → Type 0) (f : X → Y) (xs : List X)
+    → ((x : X) → P x → Q (f x)) → AllByRecursion P xs → AllByRecursion Q (map f xs)
+all-map P Q f [] so all = tt
+all-map P Q f (x ∷ xs) so all = (so x all.0, all-map P Q f xs so all.1)
 
+pub all-pass : {X : Type 0} (P Q : X → Type 0) (p : X → Bool) (xs : List X)
+    → ((x : X) → P x → p x ≡ true → Q x) → AllByRecursion P xs → AllByRecursion Q (filter p xs)
+all-pass P Q p [] so all = tt
+all-pass P Q p (x ∷ xs) so all = at (p x) refl (all-pass P Q p xs so all.1)
+  where
+    at : (b : Bool) → p x ≡ b → AllByRecursion Q (filter p xs) → AllByRecursion Q (cond b (x ∷ filter p xs) (filter p xs))
+    at true e rest = (so x all.0 e, rest)
+    at false e rest = rest
+
+pub all-filter : {X : Type 0} (P : X → Type 0) (p : X → Bool) (xs : List X) → AllByRecursion P xs → AllByRecursion P (filter p xs)
+all-filter P p xs = all-pass P P p xs (λ x holds_of passes. holds_of)
+
+-- a filter keeps different objects apart
 distinct-filter : (p : Object → Bool) (xs : List Object) → IsDistinct same_object xs → IsDistinct same_object (filter p xs)
 unfolding IsDistinct
 distinct-filter p [] apart = apart

@@ -33,7 +33,7 @@ so_far-nothing f zero none = refl
 so_far-nothing f (suc n) none = omega (arith, so_far-nothing f n none, none n)
 
 -- the sums of the objects, by requests
-sum_by-so_far : (f : Object → ℕ → ℕ) (xs : List Object) (n : ℕ)
+pub sum_by-so_far : (f : Object → ℕ → ℕ) (xs : List Object) (n : ℕ)
     → sum_by (λ x. so_far (f x) n) xs ≡ sum_by (λ t. sum_by (λ x. f x t) xs) (range_with_len 0 n)
 sum_by-so_far f xs n =
     sum_by-agree (λ x. so_far (f x) n) (λ x. sum_by (f x) (range_with_len 0 n)) xs (λ x. so_far-sum (f x) n)

@@ -1,8 +1,9 @@
 -- What is proved of objects that expire a time after they were written; each law is the contract of a function.
-use Rattle.std.specs.Prelude.{◌≡◌, ℕ, ◌*◌, ◌≤◌, Bool, List, length, None, Some}
+use Rattle.std.specs.Prelude.{◌≡◌, ℕ, ◌*◌, ◌/◌, ◌≤◌, Bool, List, length, None, Some}
 use Rattle.std.specs.declared.option.Option.{Option}
 use Rattle.cache_model.specs.declared.objects.Object.{Object}
 use Rattle.cache_model.specs.Claim.{Terms, IsAllowed, score}
+use Rattle.cache_model.specs.Intervals.{eligible_intervals, bound_of}
 use Rattle.freshness.specs.Stale.{stale_marks}
 use Rattle.ttl_laws.specs.Fresh.{score_with_ttl}
 use Rattle.ttl_laws.specs.Runs.{bound_with_ttl}
@@ -35,3 +36,19 @@ IdleBoundsTtl =
     → ttl ≤ idle
     → score_with_ttl (marked_stale terms None replace trace times) trace times ttl contents
     ≤ score (marked_stale terms (Some idle) replace trace times) trace contents
+
+-- at the same prices the bound with a ttl is at most the bound without one
+abbrev pub TtlBoundsNoWorse : Type 0
+TtlBoundsNoWorse =
+    (terms : Terms) (unit denominator : ℕ) (trace : List Object) (times prices : List ℕ) (ttl : ℕ)
+    → length prices ≡ length trace
+    → bound_with_ttl terms unit denominator trace times prices ttl
+    ≤ bound_of (eligible_intervals terms trace) unit (terms.capacity / unit) denominator prices
+
+-- and the bound with a longer ttl is no less; with a warm-up contents may score less, as they write anew at other requests
+abbrev pub BoundsRiseWithTtl : Type 0
+BoundsRiseWithTtl =
+    (terms : Terms) (unit denominator : ℕ) (trace : List Object) (times prices : List ℕ) (ttl longer : ℕ)
+    → ttl ≤ longer
+    → bound_with_ttl terms unit denominator trace times prices ttl
+    ≤ bound_with_ttl terms unit denominator trace times prices longer

@@ -1,6 +1,7 @@
 //! What is proved of objects that expire a time after they were written: each law is the contract of a function that
 //! does nothing.
-ghost use Rattle.ttl_laws.specs.Laws.{IdleAddsNothing, IdleBoundsTtl, NoPolicyScoresMoreWithTtl};
+ghost use Rattle.ttl_laws.specs.Laws.{BoundsRiseWithTtl, IdleAddsNothing, IdleBoundsTtl};
+ghost use Rattle.ttl_laws.specs.Laws.{NoPolicyScoresMoreWithTtl, TtlBoundsNoWorse};
 
 /// No allowed contents score more with a time to live than the bound of any prices with it.
 pub fn no_policy_scores_more_with_ttl()
@@ -15,4 +16,14 @@ pub fn idle_adds_nothing()
 /// No contents score more with a time to live than with an idle time of at least that.
 pub fn idle_bounds_ttl()
     ensures { IdleBoundsTtl }
+{}
+
+/// At the same prices the bound with a time to live is at most the bound without one.
+pub fn ttl_bounds_no_worse()
+    ensures { TtlBoundsNoWorse }
+{}
+
+/// At the same prices the bound with a longer time to live is no less: so it bounds each shorter one.
+pub fn bounds_rise_with_ttl()
+    ensures { BoundsRiseWithTtl }
 {}

@@ -4,4 +4,7 @@
 
 mod laws;
 
-pub use laws::{idle_adds_nothing, idle_bounds_ttl, no_policy_scores_more_with_ttl};
+pub use laws::{
+    bounds_rise_with_ttl, idle_adds_nothing, idle_bounds_ttl, no_policy_scores_more_with_ttl,
+    ttl_bounds_no_worse,
+};
