@@ -1,35 +1,36 @@
 -- What was asked for too long ago was written too long ago: so marks of what is stale by an idle time change no score with a ttl.
 use Rattle.std.proofs.Common.{◌≡◌, ℕ, zero, suc, ◌+◌, ◌<◌, ◌≤◌, ◌∙◌, sym, refl, ap, max, Bool, true, false, not, ◌&&◌, ◌||◌, cond, nat_le, List, [], ◌∷◌, length, arith, ⊎_elim, fold, take, None, Some, Any}
 use Rattle.std.specs.List.{list_any, range_with_len}
-use Rattle.std.proofs.Math.Nat.{le-max_left}
+use Rattle.std.proofs.Math.Nat.{le-max_left, mul-le-mul_left}
 use Rattle.std.proofs.lemmas.Bool.{cases_eq, cases_Bool, both_ways, and_parts, leb-true, ltb-true}
 use Rattle.std.proofs.lemmas.List.Folds.{Any-from_list_any}
 use Rattle.std.proofs.lemmas.List.FromFn.{get_or-map-range_with_len, get_or-range_with_len, length-range_with_len}
 use Rattle.std.proofs.lemmas.List.Sums.{sum_by-le-sum_by}
 use Rattle.cache_model.specs.declared.objects.Object.{Object}
-use Rattle.cache_model.specs.Claim.{Terms, counts, before_request, gain_of, holds, is_latest, no_object, only_fills, request_at, same_object, score}
+use Rattle.cache_model.specs.Claim.{Terms, counts, before_request, gain_of, holds, is_latest, no_object, only_fills, request_at, same_object, score, terms_of}
 use Rattle.cache_model.specs.Objects.{is_first, numbers_of}
 use Rattle.cache_model.proofs.Duality.{same_object-true, same_object-refl}
 use Rattle.cache_model.proofs.Eligible.{list_any-range_true}
+use Rattle.cache_model.proofs.Headline.{valid_bounds}
 use Rattle.cache_model.proofs.Pairs.{same_object-sym}
 use Rattle.cache_model.proofs.Streams.{sum_by-range_agree}
 use Rattle.freshness.specs.declared.fresh.Freshness.{Freshness}
 use Rattle.freshness.specs.Stale.{clock, is_older, has_expired, is_replaced, is_stale, stale_marks}
 use Rattle.ttl_laws.specs.Fresh.{hits_fresh, writes_anew, written_at, is_fresh_hit, score_with_ttl}
-use Rattle.ttl_laws.specs.Laws.{marked_stale, IdleAddsNothing, IdleBoundsTtl}
+use Rattle.ttl_laws.specs.Laws.{marked_stale, IdleAddsNothing, IdleBoundsTtl, IdleCertificatesBoundTtl}
 
 -- the greatest of more times is no less
-greatest-more : (a k : ℕ) (xs : List ℕ) → fold max a (take k xs) ≤ fold max a (take (suc k) xs)
+pub greatest-more : (a k : ℕ) (xs : List ℕ) → fold max a (take k xs) ≤ fold max a (take (suc k) xs)
 greatest-more a zero [] = omega arith
 greatest-more a (suc k) [] = omega arith
 greatest-more a zero (x ∷ xs) = le-max_left a x
 greatest-more a (suc k) (x ∷ xs) = greatest-more (max a x) k xs
 
 -- the greatest time before request n
-abbrev clock_before : List ℕ → ℕ → ℕ
+abbrev pub clock_before : List ℕ → ℕ → ℕ
 clock_before times n = fold max 0 (take n times)
 
-clock-next : (times : List ℕ) (t : ℕ) → clock times t ≡ clock_before times (suc t)
+pub clock-next : (times : List ℕ) (t : ℕ) → clock times t ≡ clock_before times (suc t)
 clock-next times t = let e : t + 1 ≡ suc t = omega arith in ap (clock_before times) e
 
 module _ (fills : List Bool) (trace : List Object) (times : List ℕ) (ttl : ℕ) (contents : List (List Object)) where
@@ -37,7 +38,7 @@ module _ (fills : List Bool) (trace : List Object) (times : List ℕ) (ttl : ℕ
   written n x = written_at fills trace times ttl contents n x
 
   -- the clock at the last write is none later than the requests so far
-  written-le : (n : ℕ) (x : Object) → written n x ≤ clock_before times n
+  pub written-le : (n : ℕ) (x : Object) → written n x ≤ clock_before times n
   written-le zero x = omega arith
   written-le (suc t) x =
       at (same_object (request_at trace t) x && writes_anew fills times ttl contents t x (written t x)) (written-le t x)
@@ -249,4 +250,12 @@ idle_bounds_ttl terms trace times ttl idle replace contents longer =
       arith,
       idle_adds_nothing terms trace times ttl idle replace contents longer,
       fresh-le (marked_stale terms (Some idle) replace trace times) trace times ttl contents,
+    )
+
+pub idle_certificates_bound_ttl : IdleCertificatesBoundTtl
+idle_certificates_bound_ttl trace times fills h records ttl idle replace contents longer valid allowed =
+    omega (
+      arith,
+      mul-le-mul_left h.denominator (idle_bounds_ttl (terms_of h fills) trace times ttl idle replace contents longer),
+      (valid_bounds trace (stale_marks (record { idle = Some idle; replace = replace }) trace times fills) h records valid).no_policy_scores_more contents allowed,
     )

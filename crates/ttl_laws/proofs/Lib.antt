@@ -7,3 +7,4 @@ mod Idle
 mod Ends
 mod Shorter
 mod Longer
+mod Misses

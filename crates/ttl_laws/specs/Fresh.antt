@@ -5,7 +5,7 @@ use Rattle.cache_model.specs.Claim.{Terms, counts, gain_of, holds, before_reques
 use Rattle.cache_model.specs.Objects.{numbers_of}
 use Rattle.freshness.specs.Stale.{clock}
 
--- whether request t is a fresh hit on x, which was last written at this clock: x is held before the request, which doesn't only fill, and no more than the ttl has passed
+-- whether request t is a fresh hit on x, last written at this clock: x is held before it, it doesn't only fill, and no more than the ttl passed
 abbrev pub hits_fresh : List Bool → List ℕ → ℕ → List (List Object) → ℕ → Object → ℕ → Bool
 hits_fresh fills times ttl contents t x written =
     holds (before_request contents t) x && not (only_fills fills t) && nat_le (clock times t) (written + ttl)

@@ -2,7 +2,10 @@
 use Rattle.std.specs.Prelude.{◌≡◌, ℕ, ◌*◌, ◌/◌, ◌≤◌, Bool, List, length, None, Some}
 use Rattle.std.specs.declared.option.Option.{Option}
 use Rattle.cache_model.specs.declared.objects.Object.{Object}
-use Rattle.cache_model.specs.Claim.{Terms, IsAllowed, score}
+use Rattle.cache_model.specs.declared.certificates.Header.{Header}
+use Rattle.cache_model.specs.declared.certificates.Record.{Record}
+use Rattle.cache_model.specs.Claim.{Terms, IsAllowed, score, terms_of}
+use Rattle.cache_model.specs.Certificates.{IsValid}
 use Rattle.cache_model.specs.Intervals.{eligible_intervals, bound_of}
 use Rattle.freshness.specs.Stale.{stale_marks}
 use Rattle.ttl_laws.specs.Fresh.{score_with_ttl}
@@ -37,6 +40,16 @@ IdleBoundsTtl =
     → score_with_ttl (marked_stale terms None replace trace times) trace times ttl contents
     ≤ score (marked_stale terms (Some idle) replace trace times) trace contents
 
+-- and a valid certificate of that idle time bounds what contents score with the ttl
+abbrev pub IdleCertificatesBoundTtl : Type 0
+IdleCertificatesBoundTtl =
+    (trace : List Object) (times : List ℕ) (fills : List Bool) (h : Header) (records : List Record)
+    (ttl idle : ℕ) (replace : Bool) (contents : List (List Object))
+    → ttl ≤ idle
+    → IsValid trace (stale_marks (record { idle = Some idle; replace = replace }) trace times fills) h records
+    → IsAllowed h.capacity trace contents
+    → h.denominator * score_with_ttl (marked_stale (terms_of h fills) None replace trace times) trace times ttl contents ≤ h.upper
+
 -- at the same prices the bound with a ttl is at most the bound without one
 abbrev pub TtlBoundsNoWorse : Type 0
 TtlBoundsNoWorse =
@@ -45,10 +58,19 @@ TtlBoundsNoWorse =
     → bound_with_ttl terms unit denominator trace times prices ttl
     ≤ bound_of (eligible_intervals terms trace) unit (terms.capacity / unit) denominator prices
 
--- and the bound with a longer ttl is no less; with a warm-up contents may score less, as they write anew at other requests
+-- and the bound with a longer ttl is no less
 abbrev pub BoundsRiseWithTtl : Type 0
 BoundsRiseWithTtl =
     (terms : Terms) (unit denominator : ℕ) (trace : List Object) (times prices : List ℕ) (ttl longer : ℕ)
     → ttl ≤ longer
     → bound_with_ttl terms unit denominator trace times prices ttl
     ≤ bound_with_ttl terms unit denominator trace times prices longer
+
+-- without a warm-up no allowed contents score less with a longer ttl; with one some do, which then write anew at a request that counts and not before
+abbrev pub LongerScoresMore : Type 0
+LongerScoresMore =
+    (terms : Terms) (trace : List Object) (times : List ℕ) (ttl longer : ℕ) (contents : List (List Object))
+    → IsAllowed terms.capacity trace contents
+    → terms.warmup ≡ 0
+    → ttl ≤ longer
+    → score_with_ttl terms trace times ttl contents ≤ score_with_ttl terms trace times longer contents

@@ -1,4 +1,4 @@
--- Runs of an object, each from a request that may write it to requests at most the ttl later, and the bound of prices with a ttl.
+-- Runs of an object from a request that writes it to requests at most the ttl later, and the bound of prices with a ttl.
 use Rattle.std.specs.Prelude.{ℕ, zero, suc, ◌+◌, ◌-◌, ◌*◌, ◌/◌, max, nat_le, Bool, if◌then◌else◌, List, [], ◌∷◌, length, fold, map, filter, slice_index_or, sum, sum_by}
 use Rattle.cache_model.specs.declared.objects.Object.{Object}
 use Rattle.cache_model.specs.Claim.{Terms, counts, gain_of, only_fills, request_at, same_object}
@@ -36,11 +36,11 @@ pub record Walk : Type 0 where
 abbrev pub nothing_walked : Walk
 nothing_walked = record { top = 0; starts = [] }
 
--- the runs that go on past a request with this gain: none if it only fills, and else those whose start is no more than the ttl ago
+-- the runs that go on past a request with this gain: none if it only fills, as it gains nothing and the object is written anew there; else those whose start is no more than the ttl ago
 abbrev pub going_on : Bool → ℕ → ℕ → ℕ → List Start → List Start
 going_on fills now ttl gain starts = if fills then [] else map (with_gain gain) (filter (λ s. nat_le now (s.clock + ttl)) starts)
 
--- at a request of the object: a run may start, or go on, and the greatest worth is that of one of them
+-- at a request of the object a run may start, whose hit is given up, or go on; the greatest worth is that of one of them
 abbrev pub with_request : Bool → ℕ → ℕ → ℕ → Walk → Walk
 with_request fills now ttl gain w =
     let starts = new_start now w.top ∷ going_on fills now ttl gain w.starts in
@@ -50,7 +50,7 @@ with_request fills now ttl gain w =
 abbrev pub with_step : ℕ → Walk → Walk
 with_step price w = record w { starts = map (with_price price) w.starts }
 
--- what is known of x after the first n requests and the steps after them; what is stale only fills, and a run that ends there gains nothing
+-- what is known of x after the first n requests and the step after each
 abbrev pub walk : Terms → ℕ → ℕ → List Object → List ℕ → List ℕ → ℕ → ℕ → Object → Walk
 walk terms unit denominator trace times prices ttl zero x = nothing_walked
 walk terms unit denominator trace times prices ttl (suc t) x =

@@ -1,7 +1,7 @@
 //! What is proved of objects that expire a time after they were written: each law is the contract of a function that
 //! does nothing.
-ghost use Rattle.ttl_laws.specs.Laws.{BoundsRiseWithTtl, IdleAddsNothing, IdleBoundsTtl};
-ghost use Rattle.ttl_laws.specs.Laws.{NoPolicyScoresMoreWithTtl, TtlBoundsNoWorse};
+ghost use Rattle.ttl_laws.specs.Laws.{BoundsRiseWithTtl, IdleAddsNothing, IdleBoundsTtl, IdleCertificatesBoundTtl};
+ghost use Rattle.ttl_laws.specs.Laws.{LongerScoresMore, NoPolicyScoresMoreWithTtl, TtlBoundsNoWorse};
 
 /// No allowed contents score more with a time to live than the bound of any prices with it.
 pub fn no_policy_scores_more_with_ttl()
@@ -18,6 +18,11 @@ pub fn idle_bounds_ttl()
     ensures { IdleBoundsTtl }
 {}
 
+/// A valid certificate of an idle time bounds what contents score with a time to live of at most that.
+pub fn idle_certificates_bound_ttl()
+    ensures { IdleCertificatesBoundTtl }
+{}
+
 /// At the same prices the bound with a time to live is at most the bound without one.
 pub fn ttl_bounds_no_worse()
     ensures { TtlBoundsNoWorse }
@@ -26,4 +31,9 @@ pub fn ttl_bounds_no_worse()
 /// At the same prices the bound with a longer time to live is no less: so it bounds each shorter one.
 pub fn bounds_rise_with_ttl()
     ensures { BoundsRiseWithTtl }
+{}
+
+/// Without a warm-up allowed contents score no less with a longer time to live.
+pub fn longer_scores_more()
+    ensures { LongerScoresMore }
 {}
