@@ -1,0 +1,10 @@
+mod Rows
+mod Starts
+mod Holding
+mod Objects
+mod Within
+mod Idle
+mod Ends
+mod Shorter
+mod Longer
+mod Misses
