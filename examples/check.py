@@ -26,8 +26,7 @@ def check(trace, text, reads, idle=None, replace="no"):
     must(head and text.endswith(b"\nend\n"), "it is no certificate")
     by_bytes, is_exact = head[2] == b"bytes", head[7] == b"exact"
     capacity, count, unit, denominator, upper, flow, lower, warmup = (int(head[at] or 0) for at in (3, 4, 5, 6, 8, 9, 10, 11))
-    is_in_range = 1 <= unit <= capacity <= 2**56 and 1 <= denominator <= 2**48 and max(count, warmup) <= 2**25
-    must(is_in_range, "a number of its head is out of range")
+    must(1 <= unit <= capacity <= 2**56 and 1 <= denominator <= 2**48 and max(count, warmup) <= 2**25, "a number of its head is out of range")
     records = records_in(text[head.end() : -4].split(b"\n")[:-1], head[1] == b"2")
     units, latest, sizes, held = capacity // unit, {}, {}, 0  # latest: of each object the prices so far, keep, flow and clock
     bound = value = score = price = total = load = prices = clock = 0
@@ -49,12 +48,13 @@ def check(trace, text, reads, idle=None, replace="no"):
         held, load, total = held + size * (keep - kept), load + amount - flowed, total + 1
         must(held <= capacity and load <= units, f"step {total - 1} is overfull")
         must(amount <= (size // unit if size <= capacity else 0), f"a flow is above its weight at step {total - 1}")
-        latest[name], sizes[name[0]] = (prices, keep, amount, clock), size
-        prices += price
+        latest[name], sizes[name[0]], prices = (prices, keep, amount, clock), size, prices + price
         must(units * prices <= 2**126, "its prices are too large")
     must(total == count and next(records, None) is None and price == 0, "other requests, or a last price above 0")
     must(all(flowed == 0 for _, _, flowed, _ in latest.values()), "a flow goes past the last request of its object")
     must((upper, flow, lower) == (bound + units * prices, value, score) and (not is_exact or upper == flow), "other bounds")
     print(f"upper {upper}/{denominator} floor {upper // denominator}\nlower {lower}\nvalid")
 
-check(open(sys.argv[1], "rb"), open(sys.argv[2], "rb").read(), "reads" in sys.argv, **dict(word.split("=") for word in sys.argv[3:] if "=" in word))
+if len(sys.argv) < 3 or "--help" in sys.argv:
+    sys.exit(print(__doc__) if "--help" in sys.argv else __doc__)
+check(open(sys.argv[1], "rb"), open(sys.argv[2], "rb").read(), "reads" in sys.argv, **dict(word.split("=") for word in sys.argv[3:] if re.match("idle=|replace=", word)))
