@@ -306,3 +306,6 @@ class_few n h = class_below n 143360 (omega (arith, top_is))
 -- and of one below 2^32
 pub length_class_few : (n : ℕ) → n < 2 ^ 32 → class_of n < 45056
 length_class_few n h = class_below n 45056 (omega (arith, at_parts 21 0 (omega arith)))
+
+pub short_pos : (class : ℕ) → 0 < class → 0 < short_at class
+short_pos class h = omega (arith, low 0 (omega arith), grows 0 class h)

@@ -1,5 +1,5 @@
 -- The sums that are kept: spans in groups, by the first capacity that holds the object and by the class of the cost.
-use Rattle.std.specs.Prelude.{◌≡◌, ℕ, ◌+◌, ◌-◌, ◌*◌, ◌^◌, ◌<◌, ◌≤◌, ◌==◌, nat_lt, nat_le, Bool, ◌&&◌, if◌then◌else◌, List, [], ◌∷◌, ◌++◌, length, take, slice_index_or, All, count_by, sum_by, unwrap_or}
+use Rattle.std.specs.Prelude.{◌≡◌, ℕ, ◌+◌, ◌-◌, ◌*◌, ◌^◌, ◌<◌, ◌≤◌, ◌==◌, nat_lt, nat_le, Bool, ◌&&◌, ◌⊎◌, if◌then◌else◌, List, [], ◌∷◌, ◌++◌, length, take, slice_index_or, All, count_by, sum_by, unwrap_or}
 use Rattle.std.specs.Map.{lookup}
 use Rattle.std.specs.List.Sorted.{IsStrictlyIncreasing}
 use Rattle.indexmap.specs.IndexMap.{insert_entry}
@@ -7,7 +7,9 @@ use Rattle.cache_model.specs.declared.objects.Objective.{Objective}
 use Rattle.cache_model.specs.declared.objects.Objective.TheVariants.{Object as Hits, Bytes}
 use Rattle.area_sums.specs.declared.group.Key.{Key}
 use Rattle.area_sums.specs.declared.group.Group.{Group}
+use Rattle.area_sums.specs.declared.bound.EdgeBound.{EdgeBound}
 use Rattle.area_sums.specs.Short.{class_of, short_at}
+use Rattle.area_sums.specs.Bounds.{IsNoWorse}
 use Rattle.area_sums.specs.Spans.{Span, area_of, cost_of, gain_of}
 
 -- the first of the ascending capacities that holds an object of a size, or how many there are if none does
@@ -118,3 +120,33 @@ gain_below groups class = sum_by (λ g. g.gain) (take class groups)
 
 abbrev pub area_below : List Group → ℕ → ℕ
 area_below groups class = sum_by (λ g. g.area) (take class groups)
+
+-- the bound of the edge at a class: the area of the cache, with what the groups below it lack to the edge
+abbrev pub bound_over : ℕ → Group → ℕ → EdgeBound
+bound_over area below class = record { upper = area + short_at class * below.gain - below.area; edge = short_at class }
+
+abbrev pub group_below : List Group → ℕ → Group
+group_below groups class = record { gain = gain_below groups class; area = area_below groups class }
+
+-- the bound without a price
+abbrev pub gain_bound : List Group → EdgeBound
+gain_bound groups = record { upper = sum_by (λ g. g.gain) groups; edge = 1 }
+
+-- the edge of a class is tried: it is above 1, and stands at one of the first classes that have a span, or after it
+pub record IsTriedClass (groups : List Group) (first class : ℕ) : Type 0 where
+  pub above_one : 1 < class
+  pub of : ℕ
+  pub early : of < first
+  pub some : 0 < (group_at groups of).gain
+  pub next : (class ≡ of) ⊎ (class ≡ of + 1)
+
+-- the least of the bound without a price and of those that are tried at the first classes
+pub record IsLeastOf (area : ℕ) (groups : List Group) (first : ℕ) (bound : EdgeBound) : Type 0 where
+  pub is_one : (bound ≡ gain_bound groups)
+      ⊎ ((class : ℕ) × (IsTriedClass groups first class × (bound ≡ bound_over area (group_below groups class) class)))
+  pub no_price : IsNoWorse bound (gain_bound groups)
+  pub least : (class : ℕ) → IsTriedClass groups first class → IsNoWorse bound (bound_over area (group_below groups class) class)
+
+-- no class has greater costs than its own
+abbrev pub AreCheap : List Group → Type 0
+AreCheap groups = (class : ℕ) → class < length groups → (group_at groups class).area ≤ (group_at groups class).gain * short_at (class + 1)
