@@ -25,7 +25,7 @@ no_worse-trans a b c x y = record {
 }
 
 -- ---- what lies below a class
-product-le : (a b c d : ℕ) → a ≤ b → c ≤ d → a * c ≤ b * d
+pub product-le : (a b c d : ℕ) → a ≤ b → c ≤ d → a * c ≤ b * d
 product-le a b c d x y = omega (arith, mul-le-mul_left a y, mul-le-mul_left d x)
 
 module _ (groups : List Group) where

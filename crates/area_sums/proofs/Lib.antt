@@ -3,3 +3,6 @@ pub mod MoreLemmas
 pub mod PlaceLemmas
 pub mod LeastLemmas
 pub mod WithinLemmas
+pub mod AddLemmas
+pub mod TotalLemmas
+pub mod SpanLemmas

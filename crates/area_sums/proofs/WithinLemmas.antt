@@ -1,7 +1,8 @@
 -- The groups of some entries, class by class.
-use Rattle.std.proofs.Common.{◌≡◌, ℕ, ◌+◌, ◌<◌, ◌≤◌, ◌^◌, ◌⊎◌, inl, inr, refl, sym, ap, ◌∙◌, subst, Bool, true, false, ◌&&◌, ◌==◌, eqb, leb, List, [], ◌∷◌, length, set, get_or, replicate, All, sum_by, arith, get_or-set_same, get_or-set_other, eq-eqb}
+use Rattle.std.proofs.Common.{◌≡◌, ℕ, ◌+◌, ◌<◌, ◌≤◌, ◌^◌, ◌⊎◌, inl, inr, refl, sym, ap, ◌∙◌, subst, Bool, true, false, ◌&&◌, ◌==◌, eqb, leb, List, [], ◌∷◌, length, set, get_or, replicate, All, sum_by, arith, get_or-set_same, get_or-set_other, eq-eqb, slice_get, Some}
 use Rattle.std.proofs.lemmas.Bool.{cases_lt, eqb-false, eqb-true, ne_eqb}
 use Rattle.std.proofs.lemmas.List.{get_or-replicate, length-set, length-replicate}
+use Rattle.std.proofs.lemmas.Option.{get_or_from_slice_get, slice_get-get_or}
 use Rattle.std.proofs.lemmas.List.Elements.{All-head, All-tail}
 use Rattle.std.proofs.lemmas.List.Sums.{sum_by-cons, sum_by-le-sum_by}
 use Rattle.area_sums.specs.declared.group.Key.{Key}
@@ -39,6 +40,10 @@ gains_where-first test e es = sum_by-cons (λ (e : Key × Group). if_so (test e.
 pub areas_where-first : (test : ℕ → ℕ → Bool) (e : Key × Group) (es : List (Key × Group)) → areas_where test (e ∷ es) ≡ if_so (test e.0.place e.0.class) e.1.area + areas_where test es
 areas_where-first test e es = sum_by-cons (λ (e : Key × Group). if_so (test e.0.place e.0.class) e.1.area) e es
 
+-- the item that a read gives
+pub item-is : (groups : List Group) (class : ℕ) (x : Group) → class < length groups → x ≡ get_or groups class x → x ≡ group_at groups class
+item-is groups class x within e = sym (get_or_from_slice_get groups class x no_group (slice_get-get_or groups class x within ∙ ap Some (sym e)))
+
 -- before the first
 pub partly-none : (place classes : ℕ) (entries : List (Key × Group)) → All (λ e. e.0.class < classes) entries
     → ArePartly place classes entries entries (replicate classes no_group)
@@ -58,7 +63,7 @@ partly-all place classes entries groups h = record {
 }
 
 module _ (place classes : ℕ) (entries es : List (Key × Group)) (e : Key × Group) (groups : List Group) (h : ArePartly place classes entries (e ∷ es) groups) where
-  in_class : e.0.class < classes
+  pub in_class : e.0.class < classes
   in_class = All-head (λ (e : Key × Group). e.0.class < classes) e es h.early
 
   -- an entry of a later place changes nothing
