@@ -309,3 +309,6 @@ length_class_few n h = class_below n 45056 (omega (arith, at_parts 21 0 (omega a
 
 pub short_pos : (class : ℕ) → 0 < class → 0 < short_at class
 short_pos class h = omega (arith, low 0 (omega arith), grows 0 class h)
+
+pub length_top_is : short_at 45056 ≡ 2 ^ 32
+length_top_is = at_parts 21 0 (omega arith)

@@ -1,15 +1,17 @@
 -- Sums over groups of one capacity, class by class, and what they are of the spans.
-use Rattle.std.proofs.Common.{◌≡◌, ℕ, zero, suc, ◌+◌, ◌-◌, ◌*◌, ◌<◌, ◌≤◌, ◌⊎◌, inl, inr, refl, sym, ap, ◌∙◌, subst, Bool, true, false, cond, ◌&&◌, ◌==◌, eqb, leb, ltb, List, [], ◌∷◌, length, take, get_or, All, sum_by, filter, arith, eq-eqb}
+use Rattle.std.proofs.Common.{◌≡◌, ℕ, zero, suc, ◌+◌, ◌-◌, ◌*◌, ◌^◌, ◌<◌, ◌≤◌, ◌⊎◌, inl, inr, refl, sym, ap, ◌∙◌, subst, Bool, true, false, cond, ◌&&◌, ◌==◌, eqb, leb, ltb, List, [], ◌∷◌, length, take, get_or, All, sum_by, filter, arith, eq-eqb}
 use Rattle.std.proofs.Math.Nat.{mul-le-mul_left}
 use Rattle.std.proofs.lemmas.Bool.{cases_lt, eqb-false, eqb-true, le-ltb, lt-ltb, ltb-true, ltb-false, ne_eqb}
+use Rattle.std.proofs.lemmas.List.{take_all}
 use Rattle.std.proofs.lemmas.List.Elements.{All-head, All-tail}
 use Rattle.std.proofs.lemmas.List.Sums.{sum_by-cons, sum_by_more}
 use Rattle.cache_model.proofs.Sums.{sum_by-nothing}
 use Rattle.area_sums.specs.declared.group.Key.{Key}
 use Rattle.area_sums.specs.declared.group.Group.{Group}
-use Rattle.area_sums.specs.Groups.{AreClasses, IsGroup, areas_where, gain_below, gains_where, group_at, if_so, no_group}
+use Rattle.area_sums.specs.Groups.{AreCheap, AreClasses, IsGroup, areas_where, gain_below, gains_where, group_at, if_so, no_group}
 use Rattle.area_sums.specs.Short.{short_at}
-use Rattle.area_sums.proofs.WithinLemmas.{is_class}
+use Rattle.area_sums.proofs.LeastLemmas.{product-le}
+use Rattle.area_sums.proofs.WithinLemmas.{gains_where-le, is_class}
 
 -- sums of terms that add up
 pub sum_by-split : {X : Type 0} (f g h : X → ℕ) (xs : List X) → ((x : X) → h x ≡ f x + g x) → sum_by h xs ≡ sum_by f xs + sum_by g xs
@@ -116,3 +118,24 @@ class-cheap classes place class (e ∷ es) all =
     by false t h = omega arith
     by true false h = omega arith
     by true true h = subst (λ c. e.1.area ≤ e.1.gain * short_at (c + 1)) (eqb-true e.0.class class h) (All-head (IsGroup classes) e es all).costs
+
+-- no class of such groups costs more than the edge after it
+pub classes-cheap : (classes place : ℕ) (entries : List (Key × Group)) (groups : List Group) → AreClasses place entries groups
+    → All (IsGroup classes) entries → AreCheap groups
+classes-cheap classes place entries groups h all class low =
+    omega (arith, h.area class low, ap (λ m. m * short_at (class + 1)) (h.gain class low), class-cheap classes place class entries all)
+
+-- and the totals at all edges fit
+pub classes-room : (place top most area : ℕ) (entries : List (Key × Group)) (groups : List Group) → AreClasses place entries groups
+    → short_at (length groups) ≤ top → sum_by (λ e. e.1.gain) entries ≤ most → top * most ≤ 2 ^ 112 → area ≤ 2 ^ 88
+    → area + short_at (length groups) * sum_by (λ g. g.gain) groups < 2 ^ 128
+classes-room place top most area entries groups h edge gains product small =
+    let all = sum-below (λ g. g.gain) place entries groups h.gain (length groups) (omega arith) in
+    let whole = ap (sum_by (λ (g : Group). g.gain)) (take_all (length groups) groups (omega arith)) in
+    let few : sum_by (λ (g : Group). g.gain) groups ≤ most = omega (arith, all, whole, gains_where-le (is_below place (length groups)) entries, gains) in
+    omega (arith, product, small, product-le (short_at (length groups)) top (sum_by (λ (g : Group). g.gain) groups) most edge few)
+
+-- the classes of such groups are below their number
+pub groups-early : (classes : ℕ) (entries : List (Key × Group)) (groups : List Group) → length groups ≡ classes
+    → All (IsGroup classes) entries → All (λ e. e.0.class < length groups) entries
+groups-early classes entries groups len all = λ k d low. omega (arith, (all k d low).class, len)
