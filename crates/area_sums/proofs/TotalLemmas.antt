@@ -135,7 +135,6 @@ classes-room place top most area entries groups h edge gains product small =
     let few : sum_by (λ (g : Group). g.gain) groups ≤ most = omega (arith, all, whole, gains_where-le (is_below place (length groups)) entries, gains) in
     omega (arith, product, small, product-le (short_at (length groups)) top (sum_by (λ (g : Group). g.gain) groups) most edge few)
 
--- the classes of such groups are below their number
-pub groups-early : (classes : ℕ) (entries : List (Key × Group)) (groups : List Group) → length groups ≡ classes
-    → All (IsGroup classes) entries → All (λ e. e.0.class < length groups) entries
-groups-early classes entries groups len all = λ k d low. omega (arith, (all k d low).class, len)
+-- the classes of groups are below their limit
+pub groups-classes : (classes : ℕ) (entries : List (Key × Group)) → All (IsGroup classes) entries → All (λ e. e.0.class < classes) entries
+groups-classes classes entries all = λ k d low. (all k d low).class

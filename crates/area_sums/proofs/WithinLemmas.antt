@@ -1,9 +1,9 @@
 -- The groups of some entries, class by class.
-use Rattle.std.proofs.Common.{◌≡◌, ℕ, ◌+◌, ◌<◌, ◌≤◌, ◌^◌, ◌⊎◌, inl, inr, refl, sym, ap, ◌∙◌, subst, Bool, true, false, ◌&&◌, ◌==◌, eqb, leb, List, [], ◌∷◌, length, set, get_or, replicate, All, sum_by, arith, get_or-set_same, get_or-set_other, eq-eqb, slice_get, Some}
+use Rattle.std.proofs.Common.{◌≡◌, ℕ, ◌+◌, ◌<◌, ◌≤◌, ◌^◌, ◌⊎◌, inl, inr, refl, sym, ap, ◌∙◌, subst, Bool, true, false, ◌&&◌, ◌==◌, eqb, leb, List, [], ◌∷◌, length, max, set, get_or, replicate, All, sum_by, arith, get_or-set_same, get_or-set_other, eq-eqb, slice_get, Some}
 use Rattle.std.proofs.lemmas.Bool.{cases_lt, eqb-false, eqb-true, ne_eqb}
 use Rattle.std.proofs.lemmas.List.{get_or-replicate, length-set, length-replicate}
 use Rattle.std.proofs.lemmas.Option.{get_or_from_slice_get, slice_get-get_or}
-use Rattle.std.proofs.lemmas.List.Elements.{All-head, All-tail}
+use Rattle.std.proofs.lemmas.List.Elements.{All-cons, All-head, All-nil, All-tail}
 use Rattle.std.proofs.lemmas.List.Sums.{sum_by-cons, sum_by-le-sum_by}
 use Rattle.area_sums.specs.declared.group.Key.{Key}
 use Rattle.area_sums.specs.declared.group.Group.{Group}
@@ -130,3 +130,26 @@ module _ (place classes : ℕ) (entries es : List (Key × Group)) (e : Key × Gr
         area_at class low false t =
             omega (arith, ap (λ (g : Group). g.area) (apart class (eqb-false e.0.class class t)), h.area class low, areas_where-first (is_class place class) e es,
             other class e.1.area (eqb-false e.0.class class t))
+
+-- ---- how many classes there are
+
+-- so many classes are enough for all entries but those that are left, and no fewer are
+pub record IsCounted (entries rest : List (Key × Group)) (count : ℕ) : Type 0 where
+  pub enough : (limit : ℕ) → count ≤ limit → All (λ e. e.0.class < limit) rest → All (λ e. e.0.class < limit) entries
+  pub no_more : (limit : ℕ) → All (λ e. e.0.class < limit) entries → (count ≤ limit) × All (λ e. e.0.class < limit) rest
+
+pub counted-none : (entries : List (Key × Group)) → IsCounted entries entries 0
+counted-none entries = record { enough = λ limit most all. all; no_more = λ limit all. (omega arith, all) }
+
+pub counted-more : (entries es : List (Key × Group)) (e : Key × Group) (count : ℕ) → IsCounted entries (e ∷ es) count → IsCounted entries es (max count (e.0.class + 1))
+counted-more entries es e count h = record {
+  enough = λ limit most all.
+      h.enough limit (omega arith) (All-cons (λ (e : Key × Group). e.0.class < limit) e es (omega arith) all);
+  no_more = λ limit all.
+      let rest = h.no_more limit all in
+      let own = All-head (λ (e : Key × Group). e.0.class < limit) e es rest.1 in
+      (omega (arith, rest.0, own), All-tail (λ (e : Key × Group). e.0.class < limit) e es rest.1);
+}
+
+pub counted-all : (entries : List (Key × Group)) (count : ℕ) → IsCounted entries [] count → All (λ e. e.0.class < count) entries
+counted-all entries count h = h.enough count (omega arith) (All-nil (λ (e : Key × Group). e.0.class < count))

@@ -43,7 +43,8 @@ pub(crate) fn least_bound(groups: &[Group], area: u128) -> EdgeBound
     requires classes { length groups.now ≤ area_classes }
     requires cheap { AreCheap groups.now }
     requires room { area + short_at (length groups.now) * sum_by (λ g. g.gain) groups.now < 2 ^ 128 }
-    ensures { IsLeastOf area groups.now (length groups.now) result }
+    ensures edge { 0 < result.edge }
+    ensures least { IsLeastOf area groups.now (length groups.now) result }
 {
     let mut least = EdgeBound {
         upper: total_gain(groups),

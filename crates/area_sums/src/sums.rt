@@ -1,5 +1,5 @@
 //! Sums of areas, and the bounds that follow from them.
-ghost use Rattle.std.specs.Prelude.{◌≡◌, ◌+◌, ◌<◌, ◌≤◌, ◌^◌, ◌∷◌, ◌++◌, [], List, All, length, slice_index, sum_by, IfOk, OnOk, OnErr};
+ghost use Rattle.std.specs.Prelude.{◌≡◌, ℕ, ◌+◌, ◌<◌, ◌≤◌, ◌^◌, ◌∷◌, ◌++◌, [], List, All, length, slice_index, sum_by, IfOk, OnOk, OnErr};
 ghost use Rattle.std.specs.List.Sorted.{IsStrictlyIncreasing};
 ghost use Rattle.cache_model.specs.declared.objects.Objective.TheVariants.{Object as ForHits, Bytes as ForBytes};
 ghost use Rattle.area_sums.specs.Spans.{Span};
@@ -14,10 +14,6 @@ use bound_base::NoMemory;
 use indexmap::IndexMap;
 use std::alloc::Global;
 use std::marker::Model;
-
-// How many classes there are of areas and of lengths.
-const AREA_CLASSES: usize = 143_360;
-const LENGTH_CLASSES: usize = 45_056;
 
 /// Counts and areas of requests that can be hits, summed by the first capacity that holds the object and by the class of
 /// the area, and of the length. It takes an entry of a hash map for each such pair that occurs.
@@ -47,20 +43,32 @@ fn first_holding(capacities: &[u64], size: u64) -> usize
     capacities.partition_point(|capacity| *capacity < size)
 }
 
+// How many classes there are up to the greatest that has a group.
+fn class_count(entries: &IndexMap<Key, Group>) -> usize
+    ensures enough { All (λ e. e.0.class < result) entries.now.entries }
+    ensures no_more { (limit : ℕ) → All (λ e. e.0.class < limit) entries.now.entries → result ≤ limit }
+{
+    let mut count = 0;
+    for (key, _) in entries.iter() {
+        count = count.max(key.class as usize + 1);
+    }
+    count
+}
+
 // The groups of the places up to one, by class.
 fn groups_within(
     alloc: Global,
     entries: &IndexMap<Key, Group>,
     place: usize,
-    classes: usize,
 ) -> Result<Vec<Group>, NoMemory>
-    requires classes { All (λ e. e.0.class < classes) entries.now.entries }
     requires gains { sum_by (λ e. e.1.gain) entries.now.entries < 2 ^ 128 }
     requires areas { sum_by (λ e. e.1.area) entries.now.entries < 2 ^ 128 }
-    ensures len { IfOk result (λ groups. length groups.items ≡ classes) }
     ensures sums { IfOk result (λ groups. AreClasses place entries.now.entries groups.items) }
+    ensures enough { IfOk result (λ groups. All (λ e. e.0.class < length groups.items) entries.now.entries) }
+    ensures no_more { IfOk result (λ groups. (limit : ℕ) → All (λ e. e.0.class < limit) entries.now.entries → length groups.items ≤ limit) }
 {
-    let mut groups = vec![in alloc; Group::EMPTY; classes]?;
+    let count = class_count(entries);
+    let mut groups = vec![in alloc; Group::EMPTY; count]?;
     for (key, group) in entries.iter() {
         if key.place <= place {
             let class = key.class as usize;
@@ -123,8 +131,8 @@ impl AreaSums {
         Ok(())
     }
 
-    /// The least bounds at one of the capacities, for a trace of so many requests but one. It goes over the groups and
-    /// the classes once.
+    /// The least bounds at one of the capacities. The steps are one fewer than the requests of the trace. It goes twice
+    /// over the groups and once over the classes, of which there are at most 188,416, and takes memory for these.
     pub fn bounds_at(
         &self,
         alloc: Global,
@@ -132,14 +140,15 @@ impl AreaSums {
         steps: u32,
     ) -> Result<CapacityBounds, NoMemory>
         requires { place < length self.now.capacities }
+        ensures edges { IfOk result (λ bounds. (0 < bounds.hits.edge) × (0 < bounds.bytes.edge)) }
         ensures hits { IfOk result (λ bounds. (spans : List Span) → AreSumsOf spans self.now
             → IsLeastBound ForHits (slice_index self.now.capacities place) steps spans bounds.hits) }
         ensures bytes { IfOk result (λ bounds. (spans : List Span) → AreSumsOf spans self.now
             → IsLeastBound ForBytes (slice_index self.now.capacities place) steps spans bounds.bytes) }
     {
         let area = u128::from(self.capacities[place]) * u128::from(steps);
-        let hits = groups_within(alloc, &self.hits, place, AREA_CLASSES)?;
-        let bytes = groups_within(alloc, &self.bytes, place, LENGTH_CLASSES)?;
+        let hits = groups_within(alloc, &self.hits, place)?;
+        let bytes = groups_within(alloc, &self.bytes, place)?;
         Ok(CapacityBounds {
             hits: least_bound(&hits, area),
             bytes: least_bound(&bytes, area),

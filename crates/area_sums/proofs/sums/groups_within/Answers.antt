@@ -12,10 +12,10 @@ plus-requires-clause-gain c =
     let e : Key × Group = (c.in-Some.key.now, c.in-Some.group.now) in
     let groups = c.loop-key.groups.items in
     let entries = c.args.entries.now.entries in
-    let now = subst (λ rest. ArePartly c.args.place c.args.classes entries rest groups) c.in-Some.ensures.steps c.loop-key.invariant in
-    let item = item-is groups e.0.class c.index.result.now (omega (arith, now.len, in_class c.args.place c.args.classes entries left e groups now)) c.index.ensures in
+    let now = subst (λ rest. ArePartly c.args.place c.class_count-count.result entries rest groups) c.in-Some.ensures.steps c.loop-key.invariant in
+    let item = item-is groups e.0.class c.index.result.now (omega (arith, now.len, in_class c.args.place c.class_count-count.result entries left e groups now)) c.index.ensures in
     omega (arith, ap (λ (g : Group). g.gain) item,
-    partly-gain_fits c.args.place c.args.classes entries left e groups now (le-leb e.0.place c.args.place c.if-key-place.true) c.requires.gains)
+    partly-gain_fits c.args.place c.class_count-count.result entries left e groups now (le-leb e.0.place c.args.place c.if-key-place.true) c.requires.gains)
 
 pub plus-requires-clause-area : goal.plus-requires-clause-area
 plus-requires-clause-area c =
@@ -23,10 +23,10 @@ plus-requires-clause-area c =
     let e : Key × Group = (c.in-Some.key.now, c.in-Some.group.now) in
     let groups = c.loop-key.groups.items in
     let entries = c.args.entries.now.entries in
-    let now = subst (λ rest. ArePartly c.args.place c.args.classes entries rest groups) c.in-Some.ensures.steps c.loop-key.invariant in
-    let item = item-is groups e.0.class c.index.result.now (omega (arith, now.len, in_class c.args.place c.args.classes entries left e groups now)) c.index.ensures in
+    let now = subst (λ rest. ArePartly c.args.place c.class_count-count.result entries rest groups) c.in-Some.ensures.steps c.loop-key.invariant in
+    let item = item-is groups e.0.class c.index.result.now (omega (arith, now.len, in_class c.args.place c.class_count-count.result entries left e groups now)) c.index.ensures in
     omega (arith, ap (λ (g : Group). g.area) item,
-    partly-area_fits c.args.place c.args.classes entries left e groups now (le-leb e.0.place c.args.place c.if-key-place.true) c.requires.areas)
+    partly-area_fits c.args.place c.class_count-count.result entries left e groups now (le-leb e.0.place c.args.place c.if-key-place.true) c.requires.areas)
 
 pub loop-key-preserved-then-key-place : goal.loop-key-preserved-then-key-place
 loop-key-preserved-then-key-place c =
@@ -34,13 +34,13 @@ loop-key-preserved-then-key-place c =
     let e : Key × Group = (c.in-Some.key.now, c.in-Some.group.now) in
     let groups = c.loop-key.groups.items in
     let entries = c.args.entries.now.entries in
-    let now = subst (λ rest. ArePartly c.args.place c.args.classes entries rest groups) c.in-Some.ensures.steps c.loop-key.invariant in
-    let item = item-is groups e.0.class c.index.result.now (omega (arith, now.len, in_class c.args.place c.args.classes entries left e groups now)) c.index.ensures in
-    subst (λ g. ArePartly c.args.place c.args.classes entries left (set groups e.0.class g)) (sym (c.plus.ensures ∙ ap (λ g. both g e.1) item))
-    (partly-yes c.args.place c.args.classes entries left e groups now (le-leb e.0.place c.args.place c.if-key-place.true))
+    let now = subst (λ rest. ArePartly c.args.place c.class_count-count.result entries rest groups) c.in-Some.ensures.steps c.loop-key.invariant in
+    let item = item-is groups e.0.class c.index.result.now (omega (arith, now.len, in_class c.args.place c.class_count-count.result entries left e groups now)) c.index.ensures in
+    subst (λ g. ArePartly c.args.place c.class_count-count.result entries left (set groups e.0.class g)) (sym (c.plus.ensures ∙ ap (λ g. both g e.1) item))
+    (partly-yes c.args.place c.class_count-count.result entries left e groups now (le-leb e.0.place c.args.place c.if-key-place.true))
 
 pub loop-key-preserved : goal.loop-key-preserved
 loop-key-preserved c =
     partly-no _ _ _ _ (c.in-Some.key.now, c.in-Some.group.now) _
-    (subst (λ left. ArePartly c.args.place c.args.classes c.args.entries.now.entries left c.loop-key.groups.items) c.in-Some.ensures.steps c.loop-key.invariant)
+    (subst (λ left. ArePartly c.args.place c.class_count-count.result c.args.entries.now.entries left c.loop-key.groups.items) c.in-Some.ensures.steps c.loop-key.invariant)
     (lt-leb c.in-Some.key.now.place c.args.place c.if-key-place.false)
