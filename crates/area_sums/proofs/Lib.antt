@@ -6,3 +6,4 @@ pub mod WithinLemmas
 pub mod AddLemmas
 pub mod TotalLemmas
 pub mod SpanLemmas
+mod Rows

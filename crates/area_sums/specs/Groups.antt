@@ -77,24 +77,26 @@ pub record AreCapacities (capacities : List ℕ) : Type 0 where
   pub ascending : IsStrictlyIncreasing capacities
   pub limit : All (λ capacity. capacity ≤ 2 ^ 56) capacities
 
--- a group has a class below this, and no greater costs than its class
+-- a group has a class below this, and its area is no more than that of its gain at the edge after the class
 pub record IsGroup (classes : ℕ) (e : Key × Group) : Type 0 where
   pub class : e.0.class < classes
   pub costs : e.1.area ≤ e.1.gain * short_at (e.0.class + 1)
 
--- groups of so many spans, with gains up to this
+-- groups of at most so many spans, none of which gains more than this
 pub record AreGroups (classes most count : ℕ) (groups : List (Key × Group)) : Type 0 where
   pub each : All (IsGroup classes) groups
   pub gains : sum_by (λ e. e.1.gain) groups ≤ count * most
   pub areas : sum_by (λ e. e.1.area) groups ≤ count * 2 ^ 80
 
--- the classes of areas and of lengths
+-- how many classes areas have: the short number at this place is 2^80
 abbrev pub area_classes : ℕ
 area_classes = 143360
 
+-- and lengths, which are below 2^32
 abbrev pub length_classes : ℕ
 length_classes = 45056
 
+-- what is kept is within these ranges
 pub record AreSums (sums : Sums) : Type 0 where
   pub capacities : AreCapacities sums.capacities
   pub count : sums.count < 2 ^ 32
@@ -114,7 +116,7 @@ pub record AreClasses (place : ℕ) (entries : List (Key × Group)) (groups : Li
   pub area : (class : ℕ) → class < length groups
       → (group_at groups class).area ≡ areas_where (λ p c. nat_le p place && (c == class)) entries
 
--- the groups of the classes below one, as one
+-- the gains, and the areas, of the classes below one
 abbrev pub gain_below : List Group → ℕ → ℕ
 gain_below groups class = sum_by (λ g. g.gain) (take class groups)
 
@@ -125,6 +127,7 @@ area_below groups class = sum_by (λ g. g.area) (take class groups)
 abbrev pub bound_over : ℕ → Group → ℕ → EdgeBound
 bound_over area below class = record { upper = area + short_at class * below.gain - below.area; edge = short_at class }
 
+-- both of them
 abbrev pub group_below : List Group → ℕ → Group
 group_below groups class = record { gain = gain_below groups class; area = area_below groups class }
 
@@ -147,6 +150,6 @@ pub record IsLeastOf (area : ℕ) (groups : List Group) (first : ℕ) (bound : E
   pub no_price : IsNoWorse bound (gain_bound groups)
   pub least : (class : ℕ) → IsTriedClass groups first class → IsNoWorse bound (bound_over area (group_below groups class) class)
 
--- no class has greater costs than its own
+-- the area of each class is no more than that of its gain at the edge after it
 abbrev pub AreCheap : List Group → Type 0
 AreCheap groups = (class : ℕ) → class < length groups → (group_at groups class).area ≤ (group_at groups class).gain * short_at (class + 1)

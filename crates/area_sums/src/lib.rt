@@ -8,6 +8,8 @@ mod bound;
 mod group;
 mod least;
 mod short;
+#[cfg(test)]
+mod small_trace;
 mod sums;
 
 pub use bound::{CapacityBounds, EdgeBound};
