@@ -1,5 +1,5 @@
 -- The sums after one span more are those of the spans with it.
-use Rattle.std.proofs.Common.{◌≡◌, ℕ, ◌+◌, ◌-◌, ◌*◌, ◌^◌, ◌<◌, ◌≤◌, refl, sym, ap, ◌∙◌, subst, Bool, List, [], ◌∷◌, ◌++◌, length, All, sum_by, arith}
+use Rattle.std.proofs.Common.{◌≡◌, ℕ, ◌+◌, ◌-◌, ◌*◌, ◌^◌, ◌<◌, ◌≤◌, refl, ap, List, [], ◌∷◌, ◌++◌, length, arith}
 use Rattle.std.proofs.Math.Nat.{mul-le-mul_left}
 use Rattle.std.proofs.lemmas.List.{length-append}
 use Rattle.std.proofs.lemmas.List.Elements.{All-append, All-cons, All-nil}
@@ -10,7 +10,7 @@ use Rattle.area_sums.specs.declared.group.Key.{Key}
 use Rattle.area_sums.specs.declared.group.Group.{Group}
 use Rattle.area_sums.specs.Short.{class_of, short_at}
 use Rattle.area_sums.specs.Spans.{Span, area_of, cost_of, gain_of}
-use Rattle.area_sums.specs.Groups.{AreGroups, AreGroupsOf, AreSums, AreSumsOf, IsGroup, Sums, area_classes, both, gains_where, if_so, length_classes, no_group, passes, place_of, with_more}
+use Rattle.area_sums.specs.Groups.{AreGroups, AreGroupsOf, AreSums, AreSumsOf, IsGroup, Sums, area_classes, if_so, length_classes, passes, place_of, with_more}
 use Rattle.area_sums.proofs.ShortLemmas.{class_few, class_holds, length_class_few}
 use Rattle.area_sums.proofs.LeastLemmas.{product-le}
 use Rattle.area_sums.proofs.MoreLemmas.{All-with_more, areas-add, gains-add, some_areas-add, some_gains-add, sum-with_more}
@@ -33,14 +33,24 @@ pub groups-of : (objective : Objective) (capacities : List ℕ) (spans : List Sp
 groups-of objective capacities spans groups key more s place class gain area h = record {
   gains = λ test.
       let own : if_so (test key.place key.class) more.gain ≡ if_so (passes test objective capacities s) (gain_of objective s) =
-          λ i. if_so (test (place i) (class i)) (gain i) in
-      omega (arith, sum-with_more (λ k g. if_so (test k.place k.class) g.gain) (some_gains-add test) key more groups, h.gains test, own,
-      sum_by_push (λ s. if_so (passes test objective capacities s) (gain_of objective s)) spans s);
+      λ i. if_so (test (place i) (class i)) (gain i) in
+      omega (
+        arith,
+        sum-with_more (λ k g. if_so (test k.place k.class) g.gain) (some_gains-add test) key more groups,
+        h.gains test,
+        own,
+        sum_by_push (λ s. if_so (passes test objective capacities s) (gain_of objective s)) spans s,
+      );
   areas = λ test.
       let own : if_so (test key.place key.class) more.area ≡ if_so (passes test objective capacities s) (area_of s) =
-          λ i. if_so (test (place i) (class i)) (area i) in
-      omega (arith, sum-with_more (λ k g. if_so (test k.place k.class) g.area) (some_areas-add test) key more groups, h.areas test, own,
-      sum_by_push (λ s. if_so (passes test objective capacities s) (area_of s)) spans s);
+      λ i. if_so (test (place i) (class i)) (area i) in
+      omega (
+        arith,
+        sum-with_more (λ k g. if_so (test k.place k.class) g.area) (some_areas-add test) key more groups,
+        h.areas test,
+        own,
+        sum_by_push (λ s. if_so (passes test objective capacities s) (area_of s)) spans s,
+      );
 }
 
 -- one more in the groups of a place, of the class of an area and that of a length
@@ -68,7 +78,7 @@ module _ (sums : Sums) (s : Span) (place of_area of_length gain area : ℕ) (is_
         bytes = groups-kept length_classes (2 ^ 48) sums.count sums.bytes (record { place = place; class = of_length }) (record { gain = gain; area = area })
             (omega (arith, is_of_length, length_class_few s.length length)) (omega arith) (omega arith)
             (let below : s.length ≤ short_at (of_length + 1) = omega (arith, ap (λ c. short_at (c + 1)) is_of_length, (class_holds s.length).next_above) in
-                omega (arith, is_area, ap (λ m. m * short_at (of_length + 1)) is_gain, mul-le-mul_left s.size below)) h.bytes;
+            omega (arith, is_area, ap (λ m. m * short_at (of_length + 1)) is_gain, mul-le-mul_left s.size below)) h.bytes;
       }
 
   pub sums-of : (spans : List Span) → 0 < s.size → AreSumsOf spans sums → AreSumsOf (spans ++ s ∷ []) (more_sums sums place of_area of_length gain area)

@@ -1,6 +1,6 @@
 -- The least bound over edges, class by class.
-use Rattle.std.proofs.Common.{◌≡◌, ℕ, zero, suc, ◌+◌, ◌-◌, ◌*◌, ◌/◌, ◌^◌, ◌<◌, ◌≤◌, ◌⊎◌, inl, inr, refl, sym, ap, ◌∙◌, subst, List, [], ◌∷◌, length, take, sum_by, get_or, arith}
-use Rattle.std.proofs.Math.Nat.{mul-le-mul_left, mul-le-mul_right}
+use Rattle.std.proofs.Common.{◌≡◌, ℕ, zero, suc, ◌+◌, ◌*◌, ◌/◌, ◌^◌, ◌<◌, ◌≤◌, ◌⊎◌, inl, inr, refl, sym, ap, ◌∙◌, subst, List, length, take, sum_by, arith}
+use Rattle.std.proofs.Math.Nat.{mul-le-mul_left}
 use Rattle.std.proofs.lemmas.Bool.{cases_lt}
 use Rattle.std.proofs.lemmas.List.{take_all}
 use Rattle.std.proofs.lemmas.List.Sums.{sum_by_more, sum_by-take-le}
@@ -9,7 +9,7 @@ use Rattle.area_sums.specs.declared.group.Group.{Group}
 use Rattle.area_sums.specs.Short.{short_at}
 use Rattle.area_sums.specs.Bounds.{IsNoWorse}
 use Rattle.area_sums.specs.Groups.{AreCheap, IsLeastOf, IsTriedClass, area_below, both, bound_over, gain_below, gain_bound, group_at, group_below, no_group}
-use Rattle.area_sums.proofs.ShortLemmas.{grows_le, low, next, short_pos}
+use Rattle.area_sums.proofs.ShortLemmas.{grows_le, next, short_pos}
 
 -- ---- one bound is no worse than another
 pub no_worse-refl : (a : EdgeBound) → IsNoWorse a a
@@ -25,10 +25,12 @@ no_worse-trans a b c x y = record {
 }
 
 -- ---- what lies below a class
+-- products grow with their factors
 pub product-le : (a b c d : ℕ) → a ≤ b → c ≤ d → a * c ≤ b * d
 product-le a b c d x y = omega (arith, mul-le-mul_left a y, mul-le-mul_left d x)
 
 module _ (groups : List Group) where
+  -- the sums below the next class
   gain-more : (class : ℕ) → class < length groups → gain_below groups (class + 1) ≡ gain_below groups class + (group_at groups class).gain
   gain-more class within = sum_by_more (λ (g : Group). g.gain) groups class no_group within
 
@@ -39,6 +41,7 @@ module _ (groups : List Group) where
   pub below-more : (class : ℕ) → class < length groups → group_below groups (class + 1) ≡ both (group_below groups class) (group_at groups class)
   below-more class within = λ i. record { gain = gain-more class within i; area = area-more class within i }
 
+  -- a class without gains adds nothing
   pub below-same : (class : ℕ) → class < length groups → AreCheap groups → (group_at groups class).gain ≡ 0 → group_below groups (class + 1) ≡ group_below groups class
   below-same class within cheap none =
       let gain : gain_below groups (class + 1) ≡ gain_below groups class = omega (arith, gain-more class within, none) in
@@ -55,15 +58,25 @@ module _ (groups : List Group) where
       by rest =
           let e : suc class ≡ class + 1 = omega arith in
           subst (λ c. area_below groups c ≤ short_at c * gain_below groups c) (sym e)
-          (omega (arith, ap (λ (m : ℕ). short_at (class + 1) * m) (gain-more class (omega arith)), area-more class (omega arith), cheap class (omega arith), rest,
-          mul-le-mul_left (gain_below groups class) (grows_le class (class + 1) (omega arith))))
+          (omega (
+            arith,
+            ap (λ (m : ℕ). short_at (class + 1) * m) (gain-more class (omega arith)),
+            area-more class (omega arith),
+            cheap class (omega arith),
+            rest,
+            mul-le-mul_left (gain_below groups class) (grows_le class (class + 1) (omega arith)),
+          ))
 
   module _ (area : ℕ) (room : area + short_at (length groups) * sum_by (λ (g : Group). g.gain) groups < 2 ^ 128) where
     -- the totals at the edges fit
     pub room-below : (class : ℕ) → class ≤ length groups → area + short_at class * gain_below groups class < 2 ^ 128
     room-below class within =
-        omega (arith, room, product-le (short_at class) (short_at (length groups)) (gain_below groups class) (sum_by (λ (g : Group). g.gain) groups)
-        (grows_le class (length groups) within) (sum_by-take-le (λ (g : Group). g.gain) groups class))
+        omega (
+          arith,
+          room,
+          product-le (short_at class) (short_at (length groups)) (gain_below groups class) (sum_by (λ (g : Group). g.gain) groups)
+              (grows_le class (length groups) within) (sum_by-take-le (λ (g : Group). g.gain) groups class),
+        )
 
     pub area-fits : AreCheap groups → (class : ℕ) → class ≤ length groups → area_below groups class < 2 ^ 128
     area-fits cheap class within = omega (arith, cheap-below cheap class within, room-below class within)
@@ -73,17 +86,19 @@ module _ (groups : List Group) where
       where
         by : (0 < length groups) ⊎ (length groups ≤ 0) → sum_by (λ (g : Group). g.gain) groups < 2 ^ 128
         by (inl some) =
-            omega (arith, room, product-le 1 (short_at (length groups)) (sum_by (λ (g : Group). g.gain) groups) (sum_by (λ (g : Group). g.gain) groups)
-            (omega (arith, short_pos (length groups) some)) (omega arith))
+            omega (
+              arith,
+              room,
+              product-le 1 (short_at (length groups)) (sum_by (λ (g : Group). g.gain) groups) (sum_by (λ (g : Group). g.gain) groups)
+                  (omega (arith, short_pos (length groups) some)) (omega arith),
+            )
         by (inr none) =
             let all : take 0 groups ≡ groups = take_all 0 groups none in
             omega (arith, ap (sum_by (λ (g : Group). g.gain)) all)
 
   -- ---- one class more
   module _ (area : ℕ) where
-    at_class : ℕ → EdgeBound
-    at_class class = bound_over area (group_below groups class) class
-
+    -- a class that is tried among the first is tried among more
     later : (first class : ℕ) → IsTriedClass groups first class → IsTriedClass groups (first + 1) class
     later first class h = record { above_one = h.above_one; of = h.of; early = omega (arith, h.early); some = h.some; next = h.next }
 

@@ -1,4 +1,5 @@
 pub mod ShortLemmas
+pub mod LogLemmas
 pub mod MoreLemmas
 pub mod PlaceLemmas
 pub mod LeastLemmas

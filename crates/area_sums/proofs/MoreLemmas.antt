@@ -1,5 +1,5 @@
 -- Sums over groups after one span more.
-use Rattle.std.proofs.Common.{◌≡◌, ℕ, ◌+◌, ◌*◌, ◌<◌, ◌≤◌, refl, sym, ap, ◌∙◌, subst, Bool, true, false, cond, ◌&&◌, eqb, List, [], ◌∷◌, All, Option, None, Some, sum_by, unwrap_or, arith}
+use Rattle.std.proofs.Common.{◌≡◌, ℕ, ◌+◌, ◌≤◌, refl, ap, ◌∙◌, subst, Bool, true, false, cond, ◌&&◌, eqb, List, [], ◌∷◌, All, Some, sum_by, unwrap_or, arith}
 use Rattle.std.proofs.lemmas.Bool.{eqb-true}
 use Rattle.std.proofs.lemmas.List.Sums.{sum_by-cons}
 use Rattle.std.proofs.lemmas.List.Elements.{All-cons, All-head, All-nil, All-tail}
@@ -26,6 +26,7 @@ pub record AddsUp (weight : Key → Group → ℕ) : Type 0 where
   pub none : (key : Key) → weight key no_group ≡ 0
   pub more : (key : Key) (a b : Group) → weight key (both a b) ≡ weight key a + weight key b
 
+-- a test of nothing, and of a sum
 if_so-zero : (b : Bool) → if_so b 0 ≡ 0
 if_so-zero true = refl
 if_so-zero false = refl
@@ -68,8 +69,8 @@ module _ (weight : Key → Group → ℕ) (adds : AddsUp weight) (key : Key) (mo
       by : (b : Bool) → same_key key e.0 ≡ b
           → weighed (with_more es key more) ≡ weighed es + weight key more
           → weighed (cond b ((e.0, both (unwrap_or (cond b (Some e.1) (lookup (same_key key) es)) no_group) more) ∷ es)
-              (e ∷ insert_entry same_key es key (both (unwrap_or (cond b (Some e.1) (lookup (same_key key) es)) no_group) more)))
-              ≡ weighed (e ∷ es) + weight key more
+          (e ∷ insert_entry same_key es key (both (unwrap_or (cond b (Some e.1) (lookup (same_key key) es)) no_group) more)))
+          ≡ weighed (e ∷ es) + weight key more
       by true same rest =
           omega (arith, first (e.0, both e.1 more) es, first e es, adds.more e.0 e.1 more, ap (λ k. weight k more) (same_key-is key e.0 same))
       by false other rest = omega (arith, first e (with_more es key more), first e es, rest)
@@ -97,7 +98,7 @@ module _ (P : Key → Group → Type 0) (closed : (key : Key) (a b : Group) → 
       by : (b : Bool) → same_key key e.0 ≡ b
           → All (λ (e : Key × Group). P e.0 e.1) (with_more es key more)
           → All (λ (e : Key × Group). P e.0 e.1) (cond b ((e.0, both (unwrap_or (cond b (Some e.1) (lookup (same_key key) es)) no_group) more) ∷ es)
-              (e ∷ insert_entry same_key es key (both (unwrap_or (cond b (Some e.1) (lookup (same_key key) es)) no_group) more)))
+          (e ∷ insert_entry same_key es key (both (unwrap_or (cond b (Some e.1) (lookup (same_key key) es)) no_group) more)))
       by true same rest =
           All-cons (λ (e : Key × Group). P e.0 e.1) (e.0, both e.1 more) es
           (closed e.0 e.1 more (All-head (λ (e : Key × Group). P e.0 e.1) e es all) (subst (λ k. P k more) (same_key-is key e.0 same) ok))

@@ -1,5 +1,5 @@
 -- The first of ascending capacities that holds an object.
-use Rattle.std.proofs.Common.{◌≡◌, ℕ, zero, suc, ◌+◌, ◌-◌, ◌<◌, ◌≤◌, ◌⊎◌, inl, inr, refl, sym, ap, ◌∙◌, Bool, true, false, cond, ltb, leb, List, [], ◌∷◌, length, get_or, count_by, arith}
+use Rattle.std.proofs.Common.{◌≡◌, ℕ, zero, suc, ◌+◌, ◌-◌, ◌<◌, ◌≤◌, ◌⊎◌, inl, inr, sym, ap, ◌∙◌, Bool, true, false, cond, ltb, leb, List, [], ◌∷◌, length, get_or, count_by, arith}
 use Rattle.std.specs.List.Sorted.{IsPartitionPoint, IsStrictlyIncreasing, IsNonDecreasing}
 use Rattle.std.proofs.lemmas.Bool.{cases_lt, lt-ltb, le-ltb, lt-leb, le-leb}
 use Rattle.std.proofs.lemmas.List.Sorted.{IsNonDecreasingBy-from_default}
@@ -56,9 +56,9 @@ place-le capacities rises size p within = by (cases_lt (get_or capacities p 0) s
     by : (get_or capacities p 0 < size) ⊎ (size ≤ get_or capacities p 0) → leb (place_of capacities size) p ≡ leb size (get_or capacities p 0)
     by (inl small) =
         let later = count-least (λ c. ltb c size) capacities (p + 1) (omega arith)
-            (λ k low. lt-ltb (get_or capacities k 0) size (omega (arith, ascends_to capacities rises k p (omega arith) within))) in
+        (λ k low. lt-ltb (get_or capacities k 0) size (omega (arith, ascends_to capacities rises k p (omega arith) within))) in
         lt-leb (place_of capacities size) p (omega arith) ∙ sym (lt-leb size (get_or capacities p 0) small)
     by (inr large) =
         let early = count-most (λ c. ltb c size) capacities p
-            (λ k high low. le-ltb (get_or capacities k 0) size (omega (arith, ascends_to capacities rises p k high low))) in
+        (λ k high low. le-ltb (get_or capacities k 0) size (omega (arith, ascends_to capacities rises p k high low))) in
         le-leb (place_of capacities size) p early ∙ sym (le-leb size (get_or capacities p 0) large)

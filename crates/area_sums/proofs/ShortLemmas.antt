@@ -1,15 +1,15 @@
 -- Short numbers grow with their places, and the class of a number is the place of the greatest that is not above it.
-use Rattle.std.proofs.Common.{◌≡◌, ℕ, zero, suc, ◌+◌, ◌-◌, ◌*◌, ◌/◌, ◌%◌, ◌^◌, ◌<◌, ◌≤◌, ◌⊎◌, inl, inr, ⊎_elim, ltb, cond, true, false, Bool, refl, sym, ap, ◌∙◌, subst, arith}
+use Rattle.std.proofs.Common.{◌≡◌, ℕ, zero, suc, ◌+◌, ◌-◌, ◌*◌, ◌/◌, ◌%◌, ◌^◌, ◌<◌, ◌≤◌, ◌⊎◌, inl, inr, ltb, cond, Bool, sym, ap, ◌∙◌, subst, arith}
 use Rattle.std.proofs.lemmas.Bool.{cases_lt, lt-ltb, le-ltb}
 use Rattle.std.proofs.Math.Nat.{pow-suc, mul-le-mul_left}
-use Rattle.std.proofs.Math.Pow.{pow_mono}
-use Rattle.std.proofs.lemmas.Nat.{pow-add}
 use Rattle.area_sums.specs.Short.{IsShort, IsShortBelow, IsShortAbove, short_at, class_within, class_of}
 
+-- the first are all numbers
 pub low : (class : ℕ) → class < 2048 → short_at class ≡ class
 unfolding short_at
 low class h = ap (λ (b : Bool). cond b class ((2048 + class % 2048) * 2 ^ (class / 2048 - 1))) (lt-ltb class 2048 h)
 
+-- the others have 12 significant digits
 pub high : (class : ℕ) → 2048 ≤ class → short_at class ≡ (2048 + class % 2048) * 2 ^ (class / 2048 - 1)
 unfolding short_at
 high class h = ap (λ (b : Bool). cond b class ((2048 + class % 2048) * 2 ^ (class / 2048 - 1))) (le-ltb class 2048 h)
@@ -21,6 +21,7 @@ at_parts k r h =
     let quotient : (2048 * (k + 1) + r) / 2048 - 1 ≡ k = omega arith in
     high (2048 * (k + 1) + r) (omega arith) ∙ ap (λ (m : ℕ). (2048 + m) * 2 ^ ((2048 * (k + 1) + r) / 2048 - 1)) rest ∙ ap (λ (m : ℕ). (2048 + r) * 2 ^ m) quotient
 
+-- a power of 2 is not 0
 pub pow_pos : (k : ℕ) → 0 < 2 ^ k
 pow_pos zero = omega arith
 pow_pos (suc k) = omega (arith, pow-suc 2 k, pow_pos k)
@@ -67,6 +68,7 @@ grows a (suc b) h = by (grows a b) (cases_lt a b)
     by rest (inl less) = omega (arith, rest less, one)
     by rest (inr same) = let e : a ≡ b = omega arith in omega (arith, ap short_at e, one)
 
+-- or stay
 pub grows_le : (a b : ℕ) → a ≤ b → short_at a ≤ short_at b
 grows_le a b h = by (cases_lt a b)
   where
@@ -137,6 +139,7 @@ twice_holds half n many h = record {
     big = let e : short_at 2048 ≡ 2048 = at_parts 0 0 (omega arith) in
         omega (arith, places_grow 2048 (half + 1) (omega (arith, h.next_above)))
 
+-- so does the class that is found in enough steps
 within_holds : (steps n : ℕ) → n ≤ steps → HoldsNumber (class_within steps n) n
 unfolding class_within
 within_holds zero n h = small n (omega arith)
@@ -162,6 +165,7 @@ class_is class n h = same_class class (class_of n) n h (class_holds n)
 pub class_below : (n class : ℕ) → n < short_at class → class_of n < class
 class_below n class h = places_grow (class_of n) class (omega (arith, (class_holds n).not_above))
 
+-- and not below it if the number is not
 pub class_not_below : (n class : ℕ) → short_at class ≤ n → class ≤ class_of n
 class_not_below n class h = omega (arith, places_grow class (class_of n + 1) (omega (arith, (class_holds n).next_above)))
 
@@ -179,9 +183,10 @@ digits_at k digits least most = by (cases_lt digits 4096)
         let e : digits ≡ 4096 = omega arith in
         subst (λ m. short_at (2048 * k + m) ≡ m * 2 ^ k) (sym e)
         (let same : 2048 * k + 4096 ≡ 2048 * (suc k + 1) + 0 = omega arith in
-            ap short_at same ∙ at_parts (suc k) 0 (omega arith) ∙ omega (arith, pow-suc 2 k))
+        ap short_at same ∙ at_parts (suc k) 0 (omega arith) ∙ omega (arith, pow-suc 2 k))
 
-factor_below : (p a b : ℕ) → a * p < b * p → a < b
+-- of two products with one factor the lesser has the lesser other factor
+pub factor_below : (p a b : ℕ) → a * p < b * p → a < b
 factor_below p a b h = by (cases_lt a b)
   where
     by : (a < b) ⊎ (b ≤ a) → a < b
@@ -216,7 +221,6 @@ at_is_short class = by (cases_lt class 2048)
     by (inl few) = record { digits = class; zeros = 0; few = omega arith; written = low class few ∙ omega arith }
     by (inr many) = record { digits = 2048 + class % 2048; zeros = class / 2048 - 1; few = omega arith; written = high class many }
 
-
 -- and each short number a place
 short_place : (k digits n : ℕ) → digits < 4096 → n ≡ digits * 2 ^ k → (class : ℕ) × (n ≡ short_at class)
 short_place zero digits n few e = by (cases_lt digits 2048)
@@ -230,12 +234,13 @@ short_place (suc k) digits n few e = by (λ less. short_place k (2 * digits) n (
     by rest (inl less) = rest less
     by rest (inr more) = (2048 * suc k + digits, e ∙ sym (digits_at (suc k) digits more (omega arith)))
 
--- a short number not above n stands at the class of n or before it, and one above it after it
+-- a short number not above n stands at the class of n or before it
 below_class : (n other : ℕ) → IsShort other → other ≤ n → other ≤ short_at (class_of n)
 below_class n other short h =
     let p = short_place short.zeros short.digits other (omega (arith, short.few)) short.written in
     omega (arith, p.1, grows_le p.0 (class_of n) (class_not_below n p.0 (omega (arith, p.1))))
 
+-- and one above n after it
 above_class : (n other : ℕ) → IsShort other → n < other → short_at (class_of n + 1) ≤ other
 above_class n other short h =
     let p = short_place short.zeros short.digits other (omega (arith, short.few)) short.written in
@@ -248,6 +253,7 @@ short_below n = record { short = at_is_short (class_of n); not_above = (class_ho
 pub short_above : (n : ℕ) → IsShortAbove (short_at (class_of n + 1)) n
 short_above n = record { short = at_is_short (class_of n + 1); above = (class_holds n).next_above; least = above_class n }
 
+-- and there are no others
 pub short_below_is : (e n : ℕ) → IsShortBelow e n → e ≡ short_at (class_of n)
 short_below_is e n h =
     let a : e ≤ short_at (class_of n) = below_class n e h.short h.not_above in
@@ -260,44 +266,13 @@ short_above_is e n h =
     let b : e ≤ short_at (class_of n + 1) = h.least (short_at (class_of n + 1)) (at_is_short (class_of n + 1)) (class_holds n).next_above in
     omega arith
 
--- ---- at the binary logarithm of n
-pub log_large : (n log : ℕ) → 4096 ≤ n → n < 2 * 2 ^ log → 12 ≤ log
-log_large n log h next_power = by (cases_lt log 12)
-  where
-    by : (log < 12) ⊎ (12 ≤ log) → 12 ≤ log
-    by (inl less) = absurd (omega (arith, pow_mono {i = log} {j = 11} (omega arith)))
-    by (inr more) = more
-
-pub log_small : (n log : ℕ) → n < 2 ^ 80 → 2 ^ log ≤ n → log < 80
-log_small n log h power = by (cases_lt log 80)
-  where
-    by : (log < 80) ⊎ (80 ≤ log) → log < 80
-    by (inl less) = less
-    by (inr more) = absurd (omega (arith, pow_mono {i = 80} {j = log} more))
-
-power_parts : (log : ℕ) → 12 ≤ log → 2 ^ log ≡ 2048 * 2 ^ (log - 11)
-power_parts log h =
-    let e : log ≡ 11 + (log - 11) = omega arith in
-    ap (λ (m : ℕ). 2 ^ m) e ∙ pow-add 2 11 (log - 11)
-
-pub log_class : (n log : ℕ) → 4096 ≤ n → 2 ^ log ≤ n → n < 2 * 2 ^ log → 2048 * (log - 11) + n / 2 ^ (log - 11) ≡ class_of n
-log_class n log h power next_power =
-    let e = power_parts log (log_large n log h next_power) in
-    digits_hold n (log - 11) (omega (arith, e)) (omega (arith, e))
-
-pub log_digits : (n log : ℕ) → 4096 ≤ n → n < 2 * 2 ^ log → n / 2 ^ (log - 11) < 4096
-log_digits n log h next_power =
-    let e = power_parts log (log_large n log h next_power) in
-    factor_below (2 ^ (log - 11)) (n / 2 ^ (log - 11)) 4096 (omega (arith, e, pow_pos (log - 11)))
-
+-- ---- at the places of 2^80 and 2^32
+-- the short numbers there
 pub top_is : short_at 143360 ≡ 2 ^ 80
 top_is = at_parts 69 0 (omega arith)
 
--- a short number up to 2^80 fits, so it is shifted whole
-pub shifted : (class : ℕ) → 2048 ≤ class → class ≤ 143360 → (2048 + class % 2048) * 2 ^ (class / 2048 - 1) % 340282366920938463463374607431768211456 ≡ short_at class
-shifted class many few =
-    subst (λ m. m % 340282366920938463463374607431768211456 ≡ short_at class) (high class many)
-    (omega (arith, grows_le class 143360 few, top_is))
+pub length_top_is : short_at 45056 ≡ 2 ^ 32
+length_top_is = at_parts 21 0 (omega arith)
 
 -- the class of a number below 2^80
 pub class_few : (n : ℕ) → n < 2 ^ 80 → class_of n < 143360
@@ -307,8 +282,6 @@ class_few n h = class_below n 143360 (omega (arith, top_is))
 pub length_class_few : (n : ℕ) → n < 2 ^ 32 → class_of n < 45056
 length_class_few n h = class_below n 45056 (omega (arith, at_parts 21 0 (omega arith)))
 
+-- only the first is 0
 pub short_pos : (class : ℕ) → 0 < class → 0 < short_at class
 short_pos class h = omega (arith, low 0 (omega arith), grows 0 class h)
-
-pub length_top_is : short_at 45056 ≡ 2 ^ 32
-length_top_is = at_parts 21 0 (omega arith)

@@ -1,5 +1,5 @@
 -- The least bound of groups is that of the spans.
-use Rattle.std.proofs.Common.{◌≡◌, ℕ, zero, suc, ◌+◌, ◌-◌, ◌*◌, ◌/◌, ◌<◌, ◌≤◌, ◌⊎◌, inl, inr, refl, sym, ap, ◌∙◌, subst, Bool, true, false, cond, ◌&&◌, ◌==◌, eqb, leb, ltb, List, [], ◌∷◌, length, take, get_or, All, Contains, sum_by, filter, arith, eq-eqb}
+use Rattle.std.proofs.Common.{◌≡◌, ℕ, suc, ◌+◌, ◌-◌, ◌*◌, ◌<◌, ◌≤◌, ◌⊎◌, inl, inr, refl, sym, ap, ◌∙◌, subst, Bool, true, false, cond, ◌&&◌, eqb, leb, ltb, List, [], ◌∷◌, length, get_or, All, Contains, sum_by, filter, arith, eq-eqb}
 use Rattle.std.specs.List.Sorted.{IsStrictlyIncreasing}
 use Rattle.std.proofs.lemmas.Bool.{cases_lt, eqb-true, le-ltb, lt-ltb, ne_eqb}
 use Rattle.std.proofs.lemmas.List.{take_all}
@@ -14,10 +14,10 @@ use Rattle.area_sums.specs.declared.group.Group.{Group}
 use Rattle.area_sums.specs.Short.{IsShortAbove, IsShortBelow, class_of, short_at}
 use Rattle.area_sums.specs.Spans.{Span, area_of, cost_of, edge_total, gain_of, gain_total, within}
 use Rattle.area_sums.specs.Bounds.{IsLeastBound, IsNextTo, IsNoWorse, IsTried, bound_at}
-use Rattle.area_sums.specs.Groups.{AreClasses, AreGroupsOf, IsLeastOf, IsTriedClass, area_below, bound_over, gain_below, gain_bound, group_at, group_below, if_so, passes, place_of}
+use Rattle.area_sums.specs.Groups.{AreClasses, AreGroupsOf, IsLeastOf, IsTriedClass, area_below, bound_over, gain_below, gain_bound, group_below, if_so, passes}
 use Rattle.area_sums.proofs.ShortLemmas.{class_below, class_not_below, grows, low, places_grow, short_above, short_above_is, short_below, short_below_is}
 use Rattle.area_sums.proofs.PlaceLemmas.{place-le}
-use Rattle.area_sums.proofs.TotalLemmas.{class-early, is_below, sum-all, sum-below, sum_by-split, where_sum}
+use Rattle.area_sums.proofs.TotalLemmas.{class-early, sum-all, sum-below, where_sum}
 use Rattle.area_sums.proofs.WithinLemmas.{is_class}
 
 -- the gain times the cost is the area
@@ -38,9 +38,6 @@ lack-below gain cost area edge is_area below =
     omega (arith, ap (λ m. m * gain) e, is_area)
 
 module _ (objective : Objective) (capacity class : ℕ) where
-  cost_class : Span → ℕ
-  cost_class s = class_of (cost_of objective s)
-
   -- at one span
   lack-span : (s : Span)
       → if_so (leb s.size capacity && ltb (class_of (cost_of objective s)) class) (gain_of objective s) * short_at class
@@ -70,10 +67,14 @@ module _ (objective : Objective) (capacity class : ℕ) where
       + sum_by (λ s. if_so (leb s.size capacity && ltb (class_of (cost_of objective s)) class) (area_of s)) spans
   lack-spans [] = omega arith
   lack-spans (s ∷ more) =
-      omega (arith, lack-span s, lack-spans more,
-      ap (λ m. m * short_at class) (sum_by-cons (λ s. if_so (leb s.size capacity && ltb (class_of (cost_of objective s)) class) (gain_of objective s)) s more),
-      sum_by-cons (λ s. if_so (leb s.size capacity) (gain_of objective s * (short_at class - cost_of objective s))) s more,
-      sum_by-cons (λ s. if_so (leb s.size capacity && ltb (class_of (cost_of objective s)) class) (area_of s)) s more)
+      omega (
+        arith,
+        lack-span s,
+        lack-spans more,
+        ap (λ m. m * short_at class) (sum_by-cons (λ s. if_so (leb s.size capacity && ltb (class_of (cost_of objective s)) class) (gain_of objective s)) s more),
+        sum_by-cons (λ s. if_so (leb s.size capacity) (gain_of objective s * (short_at class - cost_of objective s))) s more,
+        sum_by-cons (λ s. if_so (leb s.size capacity && ltb (class_of (cost_of objective s)) class) (area_of s)) s more,
+      )
 
 -- ---- members
 first-in : (x : Span) (xs : List Span) → Contains (x ∷ xs) x
@@ -82,7 +83,7 @@ first-in x xs = (0, omega arith, refl)
 later-in : (x y : Span) (xs : List Span) → Contains xs y → Contains (x ∷ xs) y
 later-in x y xs (k, within, e) = (suc k, omega arith, e)
 
--- a sum that is not 0 has a term that is not, and one with such a term is not 0
+-- a sum that is not 0 has a term that is not
 some-span : (p q : Span → Bool) (f : Span → ℕ) (xs : List Span) → 0 < sum_by (λ s. if_so (p s && q s) (f s)) xs
     → (s : Span) × (Contains (filter p xs) s × (q s ≡ true))
 some-span p q f [] some = absurd (omega arith)
@@ -99,13 +100,18 @@ some-span p q f (x ∷ xs) some =
         (r.0, (later-in x r.0 (filter p xs) r.1.0, r.1.1))
     by false c e rest some = rest (omega arith)
 
+-- and a sum with such a term is not 0
 span-some : (p q : Span → Bool) (f : Span → ℕ) (xs : List Span) (s : Span) → Contains (filter p xs) s → q s ≡ true → 0 < f s
     → 0 < sum_by (λ s. if_so (p s && q s) (f s)) xs
 span-some p q f xs s (k, within, e) so some =
-    omega (arith, sum_by-filter (λ s. if_so (q s) (f s)) p xs,
-    get_or-le-sum_by (λ s. if_so (q s) (f s)) (filter p xs) k s within,
-    ap (λ s. if_so (q s) (f s)) e, ap (λ b. if_so b (f s)) so,
-    sum_by-agree (λ s. if_so (p s && q s) (f s)) (λ s. if_so (p s) (if_so (q s) (f s))) xs (λ s. nested (p s) (q s) (f s)))
+    omega (
+      arith,
+      sum_by-filter (λ s. if_so (q s) (f s)) p xs,
+      get_or-le-sum_by (λ s. if_so (q s) (f s)) (filter p xs) k s within,
+      ap (λ s. if_so (q s) (f s)) e,
+      ap (λ b. if_so b (f s)) so,
+      sum_by-agree (λ s. if_so (p s && q s) (f s)) (λ s. if_so (p s) (if_so (q s) (f s))) xs (λ s. nested (p s) (q s) (f s)),
+    )
   where
     nested : (a b : Bool) (n : ℕ) → if_so (a && b) n ≡ if_so a (if_so b n)
     nested true b n = refl
@@ -116,12 +122,6 @@ module _ (objective : Objective) (capacities : List ℕ) (spans : List Span) (en
     (rises : IsStrictlyIncreasing capacities) (in_place : place < length capacities) (sizes : All (λ s. 0 < s.size) spans)
     (are : AreGroupsOf objective capacities spans entries) (early : All (λ e. e.0.class < length groups) entries)
     (classes : AreClasses place entries groups) where
-  abbrev capacity : ℕ
-  capacity = get_or capacities place 0
-
-  abbrev class_at : Span → ℕ
-  class_at s = class_of (cost_of objective s)
-
   -- the entries up to the place are those of the spans within the capacity
   gains-spans : (test : ℕ → Bool) → where_sum (λ g. g.gain) (λ p c. leb p place && test c) entries
       ≡ sum_by (λ s. if_so (leb s.size (get_or capacities place 0) && test (class_of (cost_of objective s))) (gain_of objective s)) spans
@@ -146,16 +146,22 @@ module _ (objective : Objective) (capacities : List ℕ) (spans : List Span) (en
   total-class class few =
       let gains = sum-below (λ g. g.gain) place entries groups classes.gain class few ∙ gains-spans (λ c. ltb c class) in
       let areas = sum-below (λ g. g.area) place entries groups classes.area class few ∙ areas-spans (λ c. ltb c class) in
-      omega (arith, ap (λ m. m * short_at class) gains, areas, lack-spans objective (get_or capacities place 0) class spans,
-      sum_by-filter (λ s. gain_of objective s * (short_at class - cost_of objective s)) (λ s. leb s.size (get_or capacities place 0)) spans)
+      omega (
+        arith,
+        ap (λ m. m * short_at class) gains,
+        areas,
+        lack-spans objective (get_or capacities place 0) class spans,
+        sum_by-filter (λ s. gain_of objective s * (short_at class - cost_of objective s)) (λ s. leb s.size (get_or capacities place 0)) spans,
+      )
 
+  -- so is the bound
   bound-class : (class : ℕ) → 1 < class → class ≤ length groups
       → bound_over (get_or capacities place 0 * steps) (group_below groups class) class ≡ bound_at objective (get_or capacities place 0) steps spans (short_at class)
   bound-class class more few =
       let above : 1 < short_at class = omega (arith, low 1 (omega arith), grows 1 class more) in
       let priced : eqb (short_at class) 1 ≡ false = ne_eqb (short_at class) 1 (λ e. omega arith) in
       let upper = total-class class few
-          ∙ sym (ap (λ b. cond b (gain_total objective (get_or capacities place 0) spans) (edge_total objective (get_or capacities place 0) steps spans (short_at class))) priced) in
+      ∙ sym (ap (λ b. cond b (gain_total objective (get_or capacities place 0) spans) (edge_total objective (get_or capacities place 0) steps spans (short_at class))) priced) in
       λ i. record { upper = upper i; edge = short_at class }
 
   -- what all gain
@@ -194,9 +200,6 @@ module _ (objective : Objective) (capacities : List ℕ) (spans : List Span) (en
       → (class : ℕ) × (IsTriedClass groups (length groups) class × (edge ≡ short_at class))
   span-class edge s member next = by next.next
     where
-      own : ℕ
-      own = class_of (cost_of objective s)
-
       positive : 0 < s.size
       positive =
           let all = All-filter (λ s. leb s.size (get_or capacities place 0)) (λ s. 0 < s.size) spans sizes in
@@ -204,9 +207,12 @@ module _ (objective : Objective) (capacities : List ℕ) (spans : List Span) (en
 
       gained : 0 < where_sum (λ g. g.gain) (is_class place (class_of (cost_of objective s))) entries
       gained =
-          omega (arith, gains-spans (λ c. eqb c (class_of (cost_of objective s))),
-          span-some (λ s. leb s.size (get_or capacities place 0)) (λ t. eqb (class_of (cost_of objective t)) (class_of (cost_of objective s))) (gain_of objective) spans s member
-          (eq-eqb (class_of (cost_of objective s)) (class_of (cost_of objective s)) refl) (gain-some objective s positive))
+          omega (
+            arith,
+            gains-spans (λ c. eqb c (class_of (cost_of objective s))),
+            span-some (λ s. leb s.size (get_or capacities place 0)) (λ t. eqb (class_of (cost_of objective t)) (class_of (cost_of objective s))) (gain_of objective) spans s member
+                (eq-eqb (class_of (cost_of objective s)) (class_of (cost_of objective s)) refl) (gain-some objective s positive),
+          )
 
       few : class_of (cost_of objective s) < length groups
       few = class-early (λ g. g.gain) place (length groups) (class_of (cost_of objective s)) entries early gained
@@ -217,24 +223,35 @@ module _ (objective : Objective) (capacities : List ℕ) (spans : List Span) (en
       by : IsShortBelow edge (cost_of objective s) ⊎ IsShortAbove edge (cost_of objective s)
           → (class : ℕ) × (IsTriedClass groups (length groups) class × (edge ≡ short_at class))
       by (inl short) =
-          let e = short_below_is edge (cost_of objective s) short in
-          (class_of (cost_of objective s), (record {
-            above_one = above (class_of (cost_of objective s)) e;
-            of = class_of (cost_of objective s);
-            early = few;
-            some = omega (arith, gained, classes.gain (class_of (cost_of objective s)) few);
-            next = inl refl;
-          }, e))
+          let e = short_below_is edge (cost_of objective s) short in (
+            class_of (cost_of objective s),
+            (
+              record {
+                above_one = above (class_of (cost_of objective s)) e;
+                of = class_of (cost_of objective s);
+                early = few;
+                some = omega (arith, gained, classes.gain (class_of (cost_of objective s)) few);
+                next = inl refl;
+              },
+              e,
+            ),
+          )
       by (inr short) =
-          let e = short_above_is edge (cost_of objective s) short in
-          (class_of (cost_of objective s) + 1, (record {
-            above_one = above (class_of (cost_of objective s) + 1) e;
-            of = class_of (cost_of objective s);
-            early = few;
-            some = omega (arith, gained, classes.gain (class_of (cost_of objective s)) few);
-            next = inr refl;
-          }, e))
+          let e = short_above_is edge (cost_of objective s) short in (
+            class_of (cost_of objective s) + 1,
+            (
+              record {
+                above_one = above (class_of (cost_of objective s) + 1) e;
+                of = class_of (cost_of objective s);
+                early = few;
+                some = omega (arith, gained, classes.gain (class_of (cost_of objective s)) few);
+                next = inr refl;
+              },
+              e,
+            ),
+          )
 
+  -- a class that is tried is at most one after the last
   early-class : (class : ℕ) → IsTriedClass groups (length groups) class → class ≤ length groups
   early-class class tried = by tried.next
     where
@@ -257,9 +274,10 @@ module _ (objective : Objective) (capacities : List ℕ) (spans : List Span) (en
               let edge : 1 ≡ bound.edge = sym (ap (λ b. b.edge) e) in
               (inl (sym edge), e ∙ bound-free ∙ ap (bound_at objective (get_or capacities place 0) steps spans) edge)
           by (inr (class, (tried, e))) =
-              let edge : short_at class ≡ bound.edge = sym (ap (λ b. b.edge) e) in
-              (subst (IsTried objective (get_or capacities place 0) spans) edge (tried-span class tried),
-              e ∙ bound-class class tried.above_one (early-class class tried) ∙ ap (bound_at objective (get_or capacities place 0) steps spans) edge)
+              let edge : short_at class ≡ bound.edge = sym (ap (λ b. b.edge) e) in (
+                subst (IsTried objective (get_or capacities place 0) spans) edge (tried-span class tried),
+                e ∙ bound-class class tried.above_one (early-class class tried) ∙ ap (bound_at objective (get_or capacities place 0) steps spans) edge,
+              )
 
       least : (edge : ℕ) → IsTried objective (get_or capacities place 0) spans edge → IsNoWorse bound (bound_at objective (get_or capacities place 0) steps spans edge)
       least edge (inl e) =

@@ -1,14 +1,13 @@
 -- Sums over groups of one capacity, class by class, and what they are of the spans.
-use Rattle.std.proofs.Common.{◌≡◌, ℕ, zero, suc, ◌+◌, ◌-◌, ◌*◌, ◌^◌, ◌<◌, ◌≤◌, ◌⊎◌, inl, inr, refl, sym, ap, ◌∙◌, subst, Bool, true, false, cond, ◌&&◌, ◌==◌, eqb, leb, ltb, List, [], ◌∷◌, length, take, get_or, All, sum_by, filter, arith, eq-eqb}
-use Rattle.std.proofs.Math.Nat.{mul-le-mul_left}
-use Rattle.std.proofs.lemmas.Bool.{cases_lt, eqb-false, eqb-true, le-ltb, lt-ltb, ltb-true, ltb-false, ne_eqb}
+use Rattle.std.proofs.Common.{◌≡◌, ℕ, zero, suc, ◌+◌, ◌*◌, ◌^◌, ◌<◌, ◌≤◌, ◌⊎◌, inl, inr, refl, sym, ap, subst, Bool, true, false, ◌&&◌, ◌==◌, eqb, leb, ltb, List, [], ◌∷◌, length, take, get_or, All, sum_by, arith, eq-eqb}
+use Rattle.std.proofs.lemmas.Bool.{cases_lt, eqb-true, le-ltb, lt-ltb, ne_eqb}
 use Rattle.std.proofs.lemmas.List.{take_all}
 use Rattle.std.proofs.lemmas.List.Elements.{All-head, All-tail}
 use Rattle.std.proofs.lemmas.List.Sums.{sum_by-cons, sum_by_more}
 use Rattle.cache_model.proofs.Sums.{sum_by-nothing}
 use Rattle.area_sums.specs.declared.group.Key.{Key}
 use Rattle.area_sums.specs.declared.group.Group.{Group}
-use Rattle.area_sums.specs.Groups.{AreCheap, AreClasses, IsGroup, areas_where, gain_below, gains_where, group_at, if_so, no_group}
+use Rattle.area_sums.specs.Groups.{AreCheap, AreClasses, IsGroup, areas_where, gains_where, group_at, if_so, no_group}
 use Rattle.area_sums.specs.Short.{short_at}
 use Rattle.area_sums.proofs.LeastLemmas.{product-le}
 use Rattle.area_sums.proofs.WithinLemmas.{gains_where-le, is_class}
@@ -26,24 +25,38 @@ is_below place class p c = leb p place && ltb c class
 abbrev pub where_sum : (Group → ℕ) → (ℕ → ℕ → Bool) → List (Key × Group) → ℕ
 where_sum f test entries = sum_by (λ e. if_so (test e.0.place e.0.class) (f e.1)) entries
 
+-- below the next class is what is below a class or in it
 below-suc : (place class p c n : ℕ) → if_so (is_below place (class + 1) p c) n ≡ if_so (is_below place class p c) n + if_so (is_class place class p c) n
 below-suc place class p c n = by (leb p place) (cases_lt c class)
   where
     by : (b : Bool) → (c < class) ⊎ (class ≤ c) → if_so (b && ltb c (class + 1)) n ≡ if_so (b && ltb c class) n + if_so (b && (c == class)) n
     by false any = refl
     by true (inl less) =
-        omega (arith, ap (λ b. if_so b n) (lt-ltb c (class + 1) (omega arith)), ap (λ b. if_so b n) (lt-ltb c class less),
-        ap (λ b. if_so b n) (ne_eqb c class (λ e. omega arith)))
+        omega (
+          arith,
+          ap (λ b. if_so b n) (lt-ltb c (class + 1) (omega arith)),
+          ap (λ b. if_so b n) (lt-ltb c class less),
+          ap (λ b. if_so b n) (ne_eqb c class (λ e. omega arith)),
+        )
     by true (inr more) = at (cases_lt class c)
       where
         at : (class < c) ⊎ (c ≤ class) → if_so (ltb c (class + 1)) n ≡ if_so (ltb c class) n + if_so (c == class) n
         at (inl above) =
-            omega (arith, ap (λ b. if_so b n) (le-ltb c (class + 1) (omega arith)), ap (λ b. if_so b n) (le-ltb c class more),
-            ap (λ b. if_so b n) (ne_eqb c class (λ e. omega arith)))
+            omega (
+              arith,
+              ap (λ b. if_so b n) (le-ltb c (class + 1) (omega arith)),
+              ap (λ b. if_so b n) (le-ltb c class more),
+              ap (λ b. if_so b n) (ne_eqb c class (λ e. omega arith)),
+            )
         at (inr same) =
-            omega (arith, ap (λ b. if_so b n) (lt-ltb c (class + 1) (omega arith)), ap (λ b. if_so b n) (le-ltb c class more),
-            ap (λ b. if_so b n) (eq-eqb c class (omega arith)))
+            omega (
+              arith,
+              ap (λ b. if_so b n) (lt-ltb c (class + 1) (omega arith)),
+              ap (λ b. if_so b n) (le-ltb c class more),
+              ap (λ b. if_so b n) (eq-eqb c class (omega arith)),
+            )
 
+-- and nothing is below the first
 below-zero : (place p c n : ℕ) → if_so (is_below place 0 p c) n ≡ 0
 below-zero place p c n = by (leb p place)
   where
@@ -63,18 +76,27 @@ sum-below f place entries groups each (suc class) within = by (sum-below f place
     by rest =
         let e : suc class ≡ class + 1 = omega arith in
         subst (λ c. sum_by f (take c groups) ≡ where_sum f (is_below place c) entries) (sym e)
-        (omega (arith, sum_by_more f groups class no_group (omega arith), each class (omega arith), rest,
-        sum_by-split (λ (e : Key × Group). if_so (is_below place class e.0.place e.0.class) (f e.1)) (λ e. if_so (is_class place class e.0.place e.0.class) (f e.1))
-        (λ e. if_so (is_below place (class + 1) e.0.place e.0.class) (f e.1)) entries (λ e. below-suc place class e.0.place e.0.class (f e.1))))
+        (omega (
+          arith,
+          sum_by_more f groups class no_group (omega arith),
+          each class (omega arith),
+          rest,
+          sum_by-split (λ (e : Key × Group). if_so (is_below place class e.0.place e.0.class) (f e.1)) (λ e. if_so (is_class place class e.0.place e.0.class) (f e.1))
+              (λ e. if_so (is_below place (class + 1) e.0.place e.0.class) (f e.1)) entries (λ e. below-suc place class e.0.place e.0.class (f e.1)),
+        ))
 
 -- tests that agree on all entries
 pub where_sum-agree : (f : Group → ℕ) (p q : ℕ → ℕ → Bool) (entries : List (Key × Group))
     → All (λ e. p e.0.place e.0.class ≡ q e.0.place e.0.class) entries → where_sum f p entries ≡ where_sum f q entries
 where_sum-agree f p q [] all = refl
 where_sum-agree f p q (e ∷ es) all =
-    omega (arith, sum_by-cons (λ (e : Key × Group). if_so (p e.0.place e.0.class) (f e.1)) e es, sum_by-cons (λ (e : Key × Group). if_so (q e.0.place e.0.class) (f e.1)) e es,
-    ap (λ b. if_so b (f e.1)) (All-head (λ (e : Key × Group). p e.0.place e.0.class ≡ q e.0.place e.0.class) e es all),
-    where_sum-agree f p q es (All-tail (λ (e : Key × Group). p e.0.place e.0.class ≡ q e.0.place e.0.class) e es all))
+    omega (
+      arith,
+      sum_by-cons (λ (e : Key × Group). if_so (p e.0.place e.0.class) (f e.1)) e es,
+      sum_by-cons (λ (e : Key × Group). if_so (q e.0.place e.0.class) (f e.1)) e es,
+      ap (λ b. if_so b (f e.1)) (All-head (λ (e : Key × Group). p e.0.place e.0.class ≡ q e.0.place e.0.class) e es all),
+      where_sum-agree f p q es (All-tail (λ (e : Key × Group). p e.0.place e.0.class ≡ q e.0.place e.0.class) e es all),
+    )
 
 -- all entries are below the number of classes
 pub sum-all : (f : Group → ℕ) (place classes : ℕ) (entries : List (Key × Group)) → All (λ e. e.0.class < classes) entries
@@ -94,10 +116,13 @@ class-early f place classes class entries early some = by (cases_lt class classe
     by : (class < classes) ⊎ (classes ≤ class) → class < classes
     by (inl less) = less
     by (inr more) =
-        absurd (omega (arith, some,
-        where_sum-agree f (is_class place class) (λ p c. false) entries (λ k d low.
-            none (leb (get_or entries k d).0.place place) (ne_eqb (get_or entries k d).0.class class (λ e. omega (arith, early k d low)))),
-        sum_by-nothing (λ (e : Key × Group). if_so false (f e.1)) entries (λ e. refl)))
+        absurd (omega (
+          arith,
+          some,
+          where_sum-agree f (is_class place class) (λ p c. false) entries (λ k d low.
+              none (leb (get_or entries k d).0.place place) (ne_eqb (get_or entries k d).0.class class (λ e. omega (arith, early k d low)))),
+          sum_by-nothing (λ (e : Key × Group). if_so false (f e.1)) entries (λ e. refl),
+        ))
       where
         none : (b : Bool) {c : Bool} → c ≡ false → (b && c) ≡ false
         none true e = e
@@ -109,10 +134,13 @@ pub class-cheap : (classes place class : ℕ) (entries : List (Key × Group)) �
 class-cheap classes place class [] all = omega arith
 class-cheap classes place class (e ∷ es) all =
     let gains = sum_by-cons (λ (e : Key × Group). if_so (is_class place class e.0.place e.0.class) e.1.gain) e es in
-    omega (arith, sum_by-cons (λ (e : Key × Group). if_so (is_class place class e.0.place e.0.class) e.1.area) e es,
-    ap (λ (m : ℕ). m * short_at (class + 1)) gains,
-    by (leb e.0.place place) (eqb e.0.class class) refl,
-    class-cheap classes place class es (All-tail (IsGroup classes) e es all))
+    omega (
+      arith,
+      sum_by-cons (λ (e : Key × Group). if_so (is_class place class e.0.place e.0.class) e.1.area) e es,
+      ap (λ (m : ℕ). m * short_at (class + 1)) gains,
+      by (leb e.0.place place) (eqb e.0.class class) refl,
+      class-cheap classes place class es (All-tail (IsGroup classes) e es all),
+    )
   where
     by : (b t : Bool) → eqb e.0.class class ≡ t → if_so (b && t) e.1.area ≤ if_so (b && t) e.1.gain * short_at (class + 1)
     by false t h = omega arith

@@ -1,6 +1,6 @@
 -- The groups of some entries, class by class.
-use Rattle.std.proofs.Common.{◌≡◌, ℕ, ◌+◌, ◌<◌, ◌≤◌, ◌^◌, ◌⊎◌, inl, inr, refl, sym, ap, ◌∙◌, subst, Bool, true, false, ◌&&◌, ◌==◌, eqb, leb, List, [], ◌∷◌, length, max, set, get_or, replicate, All, sum_by, arith, get_or-set_same, get_or-set_other, eq-eqb, slice_get, Some}
-use Rattle.std.proofs.lemmas.Bool.{cases_lt, eqb-false, eqb-true, ne_eqb}
+use Rattle.std.proofs.Common.{◌≡◌, ℕ, ◌+◌, ◌<◌, ◌≤◌, ◌^◌, refl, sym, ap, ◌∙◌, subst, Bool, true, false, ◌&&◌, ◌==◌, eqb, leb, List, [], ◌∷◌, length, max, set, get_or, replicate, All, sum_by, arith, get_or-set_same, get_or-set_other, eq-eqb, Some}
+use Rattle.std.proofs.lemmas.Bool.{eqb-false, eqb-true, ne_eqb}
 use Rattle.std.proofs.lemmas.List.{get_or-replicate, length-set, length-replicate}
 use Rattle.std.proofs.lemmas.Option.{get_or_from_slice_get, slice_get-get_or}
 use Rattle.std.proofs.lemmas.List.Elements.{All-cons, All-head, All-nil, All-tail}
@@ -22,6 +22,7 @@ pub record ArePartly (place classes : ℕ) (entries rest : List (Key × Group)) 
   pub area : (class : ℕ) → class < classes
       → (group_at groups class).area + areas_where (is_class place class) rest ≡ areas_where (is_class place class) entries
 
+-- what passes a test is no more than all
 if_so-le : (b : Bool) (n : ℕ) → if_so b n ≤ n
 if_so-le true n = omega arith
 if_so-le false n = omega arith
@@ -34,6 +35,7 @@ pub areas_where-le : (test : ℕ → ℕ → Bool) (groups : List (Key × Group)
 areas_where-le test groups =
     sum_by-le-sum_by (λ (e : Key × Group). if_so (test e.0.place e.0.class) e.1.area) (λ e. e.1.area) groups (λ e. if_so-le (test e.0.place e.0.class) e.1.area)
 
+-- the first entry and the others
 pub gains_where-first : (test : ℕ → ℕ → Bool) (e : Key × Group) (es : List (Key × Group)) → gains_where test (e ∷ es) ≡ if_so (test e.0.place e.0.class) e.1.gain + gains_where test es
 gains_where-first test e es = sum_by-cons (λ (e : Key × Group). if_so (test e.0.place e.0.class) e.1.gain) e es
 
@@ -115,21 +117,41 @@ module _ (place classes : ℕ) (entries es : List (Key × Group)) (e : Key × Gr
             → (group_at (set groups e.0.class (both (group_at groups e.0.class) e.1)) class).gain + gains_where (is_class place class) es ≡ gains_where (is_class place class) entries
         gain_at class low true t =
             let s : e.0.class ≡ class = eqb-true e.0.class class t in
-            omega (arith, ap (λ (g : Group). g.gain) (same class s), h.gain class low, gains_where-first (is_class place class) e es,
-            subst (λ k. if_so (is_class place k e.0.place e.0.class) e.1.gain ≡ e.1.gain) s (own e.1.gain))
+            omega (
+              arith,
+              ap (λ (g : Group). g.gain) (same class s),
+              h.gain class low,
+              gains_where-first (is_class place class) e es,
+              subst (λ k. if_so (is_class place k e.0.place e.0.class) e.1.gain ≡ e.1.gain) s (own e.1.gain),
+            )
         gain_at class low false t =
-            omega (arith, ap (λ (g : Group). g.gain) (apart class (eqb-false e.0.class class t)), h.gain class low, gains_where-first (is_class place class) e es,
-            other class e.1.gain (eqb-false e.0.class class t))
+            omega (
+              arith,
+              ap (λ (g : Group). g.gain) (apart class (eqb-false e.0.class class t)),
+              h.gain class low,
+              gains_where-first (is_class place class) e es,
+              other class e.1.gain (eqb-false e.0.class class t),
+            )
 
         area_at : (class : ℕ) → class < classes → (b : Bool) → eqb e.0.class class ≡ b
             → (group_at (set groups e.0.class (both (group_at groups e.0.class) e.1)) class).area + areas_where (is_class place class) es ≡ areas_where (is_class place class) entries
         area_at class low true t =
             let s : e.0.class ≡ class = eqb-true e.0.class class t in
-            omega (arith, ap (λ (g : Group). g.area) (same class s), h.area class low, areas_where-first (is_class place class) e es,
-            subst (λ k. if_so (is_class place k e.0.place e.0.class) e.1.area ≡ e.1.area) s (own e.1.area))
+            omega (
+              arith,
+              ap (λ (g : Group). g.area) (same class s),
+              h.area class low,
+              areas_where-first (is_class place class) e es,
+              subst (λ k. if_so (is_class place k e.0.place e.0.class) e.1.area ≡ e.1.area) s (own e.1.area),
+            )
         area_at class low false t =
-            omega (arith, ap (λ (g : Group). g.area) (apart class (eqb-false e.0.class class t)), h.area class low, areas_where-first (is_class place class) e es,
-            other class e.1.area (eqb-false e.0.class class t))
+            omega (
+              arith,
+              ap (λ (g : Group). g.area) (apart class (eqb-false e.0.class class t)),
+              h.area class low,
+              areas_where-first (is_class place class) e es,
+              other class e.1.area (eqb-false e.0.class class t),
+            )
 
 -- ---- how many classes there are
 
@@ -138,9 +160,11 @@ pub record IsCounted (entries rest : List (Key × Group)) (count : ℕ) : Type 0
   pub enough : (limit : ℕ) → count ≤ limit → All (λ e. e.0.class < limit) rest → All (λ e. e.0.class < limit) entries
   pub no_more : (limit : ℕ) → All (λ e. e.0.class < limit) entries → (count ≤ limit) × All (λ e. e.0.class < limit) rest
 
+-- before the first
 pub counted-none : (entries : List (Key × Group)) → IsCounted entries entries 0
 counted-none entries = record { enough = λ limit most all. all; no_more = λ limit all. (omega arith, all) }
 
+-- one entry more
 pub counted-more : (entries es : List (Key × Group)) (e : Key × Group) (count : ℕ) → IsCounted entries (e ∷ es) count → IsCounted entries es (max count (e.0.class + 1))
 counted-more entries es e count h = record {
   enough = λ limit most all.
@@ -151,5 +175,6 @@ counted-more entries es e count h = record {
       (omega (arith, rest.0, own), All-tail (λ (e : Key × Group). e.0.class < limit) e es rest.1);
 }
 
+-- after the last
 pub counted-all : (entries : List (Key × Group)) (count : ℕ) → IsCounted entries [] count → All (λ e. e.0.class < count) entries
 counted-all entries count h = h.enough count (omega arith) (All-nil (λ (e : Key × Group). e.0.class < count))

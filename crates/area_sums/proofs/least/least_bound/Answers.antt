@@ -21,22 +21,26 @@ lesser_at-least-requires-clause-room c =
 
 pub plus-below-requires-clause-area : goal.plus-below-requires-clause-area
 plus-below-requires-clause-area c =
-    omega (arith, area-fits c.args.groups.now c.args.area c.requires.room c.requires.cheap (c.loop-class.class + 1) (omega arith),
-    ap (λ g. g.area) (below-more c.args.groups.now c.loop-class.class (omega arith)), ap (λ g. g.area) c.loop-class.invariant.below)
+    omega (
+      arith,
+      area-fits c.args.groups.now c.args.area c.requires.room c.requires.cheap (c.loop-class.class + 1) (omega arith),
+      ap (λ g. g.area) (below-more c.args.groups.now c.loop-class.class (omega arith)),
+      ap (λ g. g.area) c.loop-class.invariant.below,
+    )
 
 pub lesser_at-least-requires-then-group-gt0-clause-cheap : goal.lesser_at-least-requires-then-group-gt0-clause-cheap
 lesser_at-least-requires-then-group-gt0-clause-cheap c =
     let e : c.plus-below.result ≡ group_below c.args.groups.now (c.loop-class.class + 1) =
-        c.plus-below.ensures ∙ ap (λ g. both g (group_at c.args.groups.now c.loop-class.class)) c.loop-class.invariant.below
-        ∙ sym (below-more c.args.groups.now c.loop-class.class (omega arith)) in
+    c.plus-below.ensures ∙ ap (λ g. both g (group_at c.args.groups.now c.loop-class.class)) c.loop-class.invariant.below
+    ∙ sym (below-more c.args.groups.now c.loop-class.class (omega arith)) in
     subst (λ (g : Group). g.area ≤ short_at (c.loop-class.class + 1) * g.gain) (sym e)
     (cheap-below c.args.groups.now c.requires.cheap (c.loop-class.class + 1) (omega arith))
 
 pub lesser_at-least-requires-then-group-gt0-clause-room : goal.lesser_at-least-requires-then-group-gt0-clause-room
 lesser_at-least-requires-then-group-gt0-clause-room c =
     let e : c.plus-below.result ≡ group_below c.args.groups.now (c.loop-class.class + 1) =
-        c.plus-below.ensures ∙ ap (λ g. both g (group_at c.args.groups.now c.loop-class.class)) c.loop-class.invariant.below
-        ∙ sym (below-more c.args.groups.now c.loop-class.class (omega arith)) in
+    c.plus-below.ensures ∙ ap (λ g. both g (group_at c.args.groups.now c.loop-class.class)) c.loop-class.invariant.below
+    ∙ sym (below-more c.args.groups.now c.loop-class.class (omega arith)) in
     subst (λ (g : Group). c.args.area + short_at (c.loop-class.class + 1) * g.gain < 340282366920938463463374607431768211456) (sym e)
     (room-below c.args.groups.now c.args.area c.requires.room (c.loop-class.class + 1) (omega arith))
 
@@ -48,7 +52,7 @@ loop-class-preserved c =
     elim c.if-group-gt0.branch [
       | then-group-gt0 w ↦
           let one_more : w.plus-below.result ≡ group_below groups (class + 1) =
-              w.plus-below.ensures ∙ ap (λ g. both g (group_at groups class)) c.loop-class.invariant.below ∙ sym (below-more groups class within) in
+          w.plus-below.ensures ∙ ap (λ g. both g (group_at groups class)) c.loop-class.invariant.below ∙ sym (below-more groups class within) in
           let first = w.lesser_at-least.ensures in
           let second = w.lesser_at-least-then-group-gt0.ensures in
           record {
@@ -58,9 +62,9 @@ loop-class-preserved c =
                 (least-more groups c.args.area class c.loop-class.least w.lesser_at-least.result w.lesser_at-least-then-group-gt0.result
                 (omega (arith, w.if-group-gt0.true))
                 (lesser-is groups c.args.area class c.loop-class.below c.loop-class.least w.lesser_at-least.result c.loop-class.invariant.below
-                    first.same first.either first.no_worse first.no_worse_than_edge)
+                first.same first.either first.no_worse first.no_worse_than_edge)
                 (lesser-is groups c.args.area (class + 1) w.plus-below.result w.lesser_at-least.result w.lesser_at-least-then-group-gt0.result one_more
-                    second.same second.either second.no_worse second.no_worse_than_edge)
+                second.same second.either second.no_worse second.no_worse_than_edge)
                 c.loop-class.invariant.least);
           }
       | else-group-gt0 w ↦

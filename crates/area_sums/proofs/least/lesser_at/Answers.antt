@@ -1,4 +1,4 @@
-use Rattle.std.proofs.Common.{◌+◌, ◌-◌, ◌*◌, inl, inr, ap, subst, arith}
+use Rattle.std.proofs.Common.{inl, inr, ap, arith}
 use Rattle.area_sums.proofs.ShortLemmas.{short_pos}
 use Rattle.area_sums.proofs.least.lesser_at.Goals as goal
 

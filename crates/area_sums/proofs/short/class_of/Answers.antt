@@ -1,6 +1,6 @@
-use Rattle.std.proofs.Common.{◌≡◌, ◌+◌, ◌<◌, ◌≤◌, ◌^◌, ℕ, ◌-◌, ◌*◌, ◌/◌, ◌%◌, sym, ◌∙◌, arith}
-use Rattle.area_sums.specs.Short.{class_of, short_at}
-use Rattle.area_sums.proofs.ShortLemmas.{class_is, small, log_large, log_small, log_digits, log_class}
+use Rattle.std.proofs.Common.{arith}
+use Rattle.area_sums.proofs.LogLemmas.{log_class, log_digits, log_large, log_small}
+use Rattle.area_sums.proofs.ShortLemmas.{class_is, small}
 use Rattle.area_sums.proofs.short.class_of.Goals as goal
 
 pub returns-then-number-lt-WHOLE : goal.returns-then-number-lt-WHOLE
@@ -15,9 +15,11 @@ overflow_cast-result-3 c =
 
 pub overflow_add-result : goal.overflow_add-result
 overflow_add-result c = record {
-  fits = omega (arith,
-      log_small c.args.number c.ilog2-zeros.result c.requires c.ilog2-zeros.ensures.power_le,
-      log_digits c.args.number c.ilog2-zeros.result c.if-number-lt-WHOLE.false c.ilog2-zeros.ensures.next_power_gt);
+  fits = omega (
+    arith,
+    log_small c.args.number c.ilog2-zeros.result c.requires c.ilog2-zeros.ensures.power_le,
+    log_digits c.args.number c.ilog2-zeros.result c.if-number-lt-WHOLE.false c.ilog2-zeros.ensures.next_power_gt,
+  );
 }
 
 pub returns : goal.returns

@@ -1,6 +1,6 @@
-use Rattle.std.proofs.Common.{◌≡◌, ◌+◌, ◌<◌, ◌≤◌, ◌^◌, ℕ, ◌-◌, ◌*◌, ◌/◌, ◌%◌, sym, ap, ◌∙◌, arith}
-use Rattle.area_sums.specs.Short.{short_at}
-use Rattle.area_sums.proofs.ShortLemmas.{low, high, shifted}
+use Rattle.std.proofs.Common.{◌^◌, ℕ, ◌-◌, ◌*◌, ◌/◌, ◌%◌, sym, ap, ◌∙◌}
+use Rattle.area_sums.proofs.ShortLemmas.{low}
+use Rattle.area_sums.proofs.LogLemmas.{shifted}
 use Rattle.area_sums.proofs.short.short_at.Goals as goal
 
 pub returns-then-class-lt2048 : goal.returns-then-class-lt2048

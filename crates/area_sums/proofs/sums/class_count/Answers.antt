@@ -1,4 +1,4 @@
-use Rattle.std.proofs.Common.{◌≡◌, ◌∷◌, ◌+◌, max, ap, subst, sym, ◌∙◌, rules}
+use Rattle.std.proofs.Common.{◌≡◌, ◌+◌, max, subst, sym, rules}
 use Rattle.area_sums.proofs.WithinLemmas.{IsCounted, counted-more}
 use Rattle.area_sums.proofs.sums.class_count.Goals as goal
 
