@@ -1,0 +1,10 @@
+pub mod ShortLemmas
+pub mod LogLemmas
+pub mod MoreLemmas
+pub mod PlaceLemmas
+pub mod LeastLemmas
+pub mod WithinLemmas
+pub mod AddLemmas
+pub mod TotalLemmas
+pub mod SpanLemmas
+mod Rows

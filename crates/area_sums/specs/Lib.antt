@@ -1,0 +1,4 @@
+pub mod Short
+pub mod Spans
+pub mod Bounds
+pub mod Groups
