@@ -26,7 +26,7 @@ abbrev pub IsTried : Objective → ℕ → List Span → ℕ → Type 0
 IsTried objective capacity spans edge =
     (edge ≡ 1) ⊎ ((s : Span) × (Contains (within capacity spans) s × IsNextTo objective edge s))
 
--- one bound comes before another: its floor is less, or it is the same and the edge is not greater
+-- a bound is no worse than another: its floor is less, or the floors are equal and its edge is not greater
 pub record IsNoWorse (bound other : EdgeBound) : Type 0 where
   pub floor : floor_of bound ≤ floor_of other
   pub edge : floor_of bound ≡ floor_of other → bound.edge ≤ other.edge

@@ -24,6 +24,7 @@ no_group = record { gain = 0; area = 0 }
 abbrev pub both : Group → Group → Group
 both a b = record { gain = a.gain + b.gain; area = a.area + b.area }
 
+-- the same place and class
 abbrev pub same_key : Key → Key → Bool
 same_key a b = (a.place == b.place) && (a.class == b.class)
 
@@ -123,13 +124,13 @@ gain_below groups class = sum_by (λ g. g.gain) (take class groups)
 abbrev pub area_below : List Group → ℕ → ℕ
 area_below groups class = sum_by (λ g. g.area) (take class groups)
 
--- the bound of the edge at a class: the area of the cache, with what the groups below it lack to the edge
-abbrev pub bound_over : ℕ → Group → ℕ → EdgeBound
-bound_over area below class = record { upper = area + short_at class * below.gain - below.area; edge = short_at class }
-
 -- both of them
 abbrev pub group_below : List Group → ℕ → Group
 group_below groups class = record { gain = gain_below groups class; area = area_below groups class }
+
+-- the bound of the edge at a class: the area of the cache, with what the groups below it lack to the edge
+abbrev pub bound_over : ℕ → Group → ℕ → EdgeBound
+bound_over area below class = record { upper = area + short_at class * below.gain - below.area; edge = short_at class }
 
 -- the bound without a price
 abbrev pub gain_bound : List Group → EdgeBound
