@@ -49,9 +49,12 @@ abbrev pub passes : (ℕ → ℕ → Bool) → Objective → List ℕ → Span �
 passes test objective capacities s = test (place_of capacities s.size) (class_of (cost_of objective s))
 
 -- the groups are those of the spans: at any places and classes they have the same gains and areas
-pub record AreGroupsOf (objective : Objective) (capacities : List ℕ) (spans : List Span) (groups : List (Key × Group)) : Type 0 where
-  pub gains : (test : ℕ → ℕ → Bool) → gains_where test groups ≡ sum_by (λ s. if_so (passes test objective capacities s) (gain_of objective s)) spans
-  pub areas : (test : ℕ → ℕ → Bool) → areas_where test groups ≡ sum_by (λ s. if_so (passes test objective capacities s) (area_of s)) spans
+pub record AreGroupsOf (objective : Objective) (capacities : List ℕ) (spans : List Span) (groups : List (Key × Group))
+    : Type 0 where
+  pub gains : (test : ℕ → ℕ → Bool)
+      → gains_where test groups ≡ sum_by (λ s. if_so (passes test objective capacities s) (gain_of objective s)) spans
+  pub areas : (test : ℕ → ℕ → Bool)
+      → areas_where test groups ≡ sum_by (λ s. if_so (passes test objective capacities s) (area_of s)) spans
 
 -- what is kept: the capacities, how many spans there were, and their groups for each objective
 pub record Sums : Type 0 where
@@ -149,8 +152,11 @@ pub record IsLeastOf (area : ℕ) (groups : List Group) (first : ℕ) (bound : E
   pub is_one : (bound ≡ gain_bound groups)
       ⊎ ((class : ℕ) × (IsTriedClass groups first class × (bound ≡ bound_over area (group_below groups class) class)))
   pub no_price : IsNoWorse bound (gain_bound groups)
-  pub least : (class : ℕ) → IsTriedClass groups first class → IsNoWorse bound (bound_over area (group_below groups class) class)
+  pub least : (class : ℕ) → IsTriedClass groups first class
+      → IsNoWorse bound (bound_over area (group_below groups class) class)
 
 -- the area of each class is no more than that of its gain at the edge after it
 abbrev pub AreCheap : List Group → Type 0
-AreCheap groups = (class : ℕ) → class < length groups → (group_at groups class).area ≤ (group_at groups class).gain * short_at (class + 1)
+AreCheap groups =
+    (class : ℕ) → class < length groups
+    → (group_at groups class).area ≤ (group_at groups class).gain * short_at (class + 1)
