@@ -16,7 +16,7 @@ bound_at objective capacity steps spans edge = record {
 abbrev pub floor_of : EdgeBound → ℕ
 floor_of bound = bound.upper / bound.edge
 
--- the edge is above 1, and is next to the cost of this span: the greatest short number not above it, or the least above it
+-- the edge is above 1, and next to the cost of a span: the greatest short number not above it, or the least above it
 pub record IsNextTo (objective : Objective) (edge : ℕ) (s : Span) : Type 0 where
   pub above_one : 1 < edge
   pub next : IsShortBelow edge (cost_of objective s) ⊎ IsShortAbove edge (cost_of objective s)
@@ -26,13 +26,15 @@ abbrev pub IsTried : Objective → ℕ → List Span → ℕ → Type 0
 IsTried objective capacity spans edge =
     (edge ≡ 1) ⊎ ((s : Span) × (Contains (within capacity spans) s × IsNextTo objective edge s))
 
--- one bound comes before another: its floor is less, or it is the same and the edge is not greater
+-- a bound is no worse than another: its floor is less, or the floors are equal and its edge is not greater
 pub record IsNoWorse (bound other : EdgeBound) : Type 0 where
   pub floor : floor_of bound ≤ floor_of other
   pub edge : floor_of bound ≡ floor_of other → bound.edge ≤ other.edge
 
 -- the least bound at a capacity: that of an edge that is tried, and no worse than that of any other
-pub record IsLeastBound (objective : Objective) (capacity steps : ℕ) (spans : List Span) (bound : EdgeBound) : Type 0 where
+pub record IsLeastBound (objective : Objective) (capacity steps : ℕ) (spans : List Span) (bound : EdgeBound)
+    : Type 0 where
   pub tried : IsTried objective capacity spans bound.edge
   pub is_bound : bound ≡ bound_at objective capacity steps spans bound.edge
-  pub least : (edge : ℕ) → IsTried objective capacity spans edge → IsNoWorse bound (bound_at objective capacity steps spans edge)
+  pub least : (edge : ℕ) → IsTried objective capacity spans edge
+      → IsNoWorse bound (bound_at objective capacity steps spans edge)

@@ -24,6 +24,7 @@ no_group = record { gain = 0; area = 0 }
 abbrev pub both : Group → Group → Group
 both a b = record { gain = a.gain + b.gain; area = a.area + b.area }
 
+-- the same place and class
 abbrev pub same_key : Key → Key → Bool
 same_key a b = (a.place == b.place) && (a.class == b.class)
 
@@ -48,9 +49,12 @@ abbrev pub passes : (ℕ → ℕ → Bool) → Objective → List ℕ → Span �
 passes test objective capacities s = test (place_of capacities s.size) (class_of (cost_of objective s))
 
 -- the groups are those of the spans: at any places and classes they have the same gains and areas
-pub record AreGroupsOf (objective : Objective) (capacities : List ℕ) (spans : List Span) (groups : List (Key × Group)) : Type 0 where
-  pub gains : (test : ℕ → ℕ → Bool) → gains_where test groups ≡ sum_by (λ s. if_so (passes test objective capacities s) (gain_of objective s)) spans
-  pub areas : (test : ℕ → ℕ → Bool) → areas_where test groups ≡ sum_by (λ s. if_so (passes test objective capacities s) (area_of s)) spans
+pub record AreGroupsOf (objective : Objective) (capacities : List ℕ) (spans : List Span) (groups : List (Key × Group))
+    : Type 0 where
+  pub gains : (test : ℕ → ℕ → Bool)
+      → gains_where test groups ≡ sum_by (λ s. if_so (passes test objective capacities s) (gain_of objective s)) spans
+  pub areas : (test : ℕ → ℕ → Bool)
+      → areas_where test groups ≡ sum_by (λ s. if_so (passes test objective capacities s) (area_of s)) spans
 
 -- what is kept: the capacities, how many spans there were, and their groups for each objective
 pub record Sums : Type 0 where
@@ -123,13 +127,13 @@ gain_below groups class = sum_by (λ g. g.gain) (take class groups)
 abbrev pub area_below : List Group → ℕ → ℕ
 area_below groups class = sum_by (λ g. g.area) (take class groups)
 
--- the bound of the edge at a class: the area of the cache, with what the groups below it lack to the edge
-abbrev pub bound_over : ℕ → Group → ℕ → EdgeBound
-bound_over area below class = record { upper = area + short_at class * below.gain - below.area; edge = short_at class }
-
 -- both of them
 abbrev pub group_below : List Group → ℕ → Group
 group_below groups class = record { gain = gain_below groups class; area = area_below groups class }
+
+-- the bound of the edge at a class: the area of the cache, with what the groups below it lack to the edge
+abbrev pub bound_over : ℕ → Group → ℕ → EdgeBound
+bound_over area below class = record { upper = area + short_at class * below.gain - below.area; edge = short_at class }
 
 -- the bound without a price
 abbrev pub gain_bound : List Group → EdgeBound
@@ -148,8 +152,11 @@ pub record IsLeastOf (area : ℕ) (groups : List Group) (first : ℕ) (bound : E
   pub is_one : (bound ≡ gain_bound groups)
       ⊎ ((class : ℕ) × (IsTriedClass groups first class × (bound ≡ bound_over area (group_below groups class) class)))
   pub no_price : IsNoWorse bound (gain_bound groups)
-  pub least : (class : ℕ) → IsTriedClass groups first class → IsNoWorse bound (bound_over area (group_below groups class) class)
+  pub least : (class : ℕ) → IsTriedClass groups first class
+      → IsNoWorse bound (bound_over area (group_below groups class) class)
 
 -- the area of each class is no more than that of its gain at the edge after it
 abbrev pub AreCheap : List Group → Type 0
-AreCheap groups = (class : ℕ) → class < length groups → (group_at groups class).area ≤ (group_at groups class).gain * short_at (class + 1)
+AreCheap groups =
+    (class : ℕ) → class < length groups
+    → (group_at groups class).area ≤ (group_at groups class).gain * short_at (class + 1)

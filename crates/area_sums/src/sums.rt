@@ -30,9 +30,19 @@ impl Model for AreaSums {
 
     ghost Value = { Sums };
 
-    ghost view = { λ s. record { capacities = s.capacities.items; count = s.count; hits = s.hits.entries; bytes = s.bytes.entries } };
+    ghost view = { λ s. record {
+      capacities = s.capacities.items;
+      count = s.count;
+      hits = s.hits.entries;
+      bytes = s.bytes.entries;
+    } };
 
-    ghost invariant = { λ s. AreSums (record { capacities = s.capacities.items; count = s.count; hits = s.hits.entries; bytes = s.bytes.entries }) };
+    ghost invariant = { λ s. AreSums (record {
+      capacities = s.capacities.items;
+      count = s.count;
+      hits = s.hits.entries;
+      bytes = s.bytes.entries;
+    }) };
 }
 
 // The first capacity that holds an object of a size, and how many there are if none does.
@@ -65,7 +75,8 @@ fn groups_within(
     requires areas { sum_by (λ e. e.1.area) entries.now.entries < 2 ^ 128 }
     ensures sums { IfOk result (λ groups. AreClasses place entries.now.entries groups.items) }
     ensures enough { IfOk result (λ groups. All (λ e. e.0.class < length groups.items) entries.now.entries) }
-    ensures no_more { IfOk result (λ groups. (limit : ℕ) → All (λ e. e.0.class < limit) entries.now.entries → length groups.items ≤ limit) }
+    ensures no_more { IfOk result (λ groups. (limit : ℕ) → All (λ e. e.0.class < limit) entries.now.entries
+        → length groups.items ≤ limit) }
 {
     let count = class_count(entries);
     let mut groups = vec![in alloc; Group::EMPTY; count]?;

@@ -22,7 +22,7 @@ pub least_bound-requires-clause-cheap : goal.least_bound-requires-clause-cheap
 least_bound-requires-clause-cheap c =
     let e : c.deref.result.now ≡ c.in_ok-hits.hits.items = search rules in
     subst AreCheap (sym e)
-    (classes-cheap 143360 c.args.place c.self.inside.hits.entries c.in_ok-hits.hits.items c.in_ok-hits.ensures.sums c.self.invariant.hits.each)
+    (classes-cheap 143360 _ c.self.inside.hits.entries c.in_ok-hits.hits.items c.in_ok-hits.ensures.sums c.self.invariant.hits.each)
 
 pub least_bound-requires-clause-room : goal.least_bound-requires-clause-room
 least_bound-requires-clause-room c =
@@ -34,7 +34,7 @@ least_bound-requires-clause-room c =
     omega (arith, c.from.ensures, item, All-get_or (λ (capacity : ℕ). capacity ≤ 2 ^ 56) c.self.inside.capacities.items c.args.place 0 in_place c.self.invariant.capacities.limit) in
     let steps : c.from-2.result ≤ 2 ^ 32 = omega (arith, c.from-2.ensures, c.ranges.steps.fits) in
     subst (λ (groups : List Group). c.from.result * c.from-2.result + short_at (length groups) * sum_by (λ (g : Group). g.gain) groups < 340282366920938463463374607431768211456) (sym e)
-    (classes-room c.args.place (2 ^ 80) (2 ^ 32) (c.from.result * c.from-2.result) c.self.inside.hits.entries c.in_ok-hits.hits.items c.in_ok-hits.ensures.sums
+    (classes-room _ (2 ^ 80) (2 ^ 32) (c.from.result * c.from-2.result) c.self.inside.hits.entries c.in_ok-hits.hits.items c.in_ok-hits.ensures.sums
     (omega (arith, grows_le (length c.in_ok-hits.hits.items) 143360 (c.in_ok-hits.ensures.no_more 143360 (groups-classes 143360 c.self.inside.hits.entries c.self.invariant.hits.each)), top_is)) (omega (arith, c.self.invariant.hits.gains, c.self.invariant.count)) (omega arith)
     (omega (arith, product-le c.from.result (2 ^ 56) c.from-2.result (2 ^ 32) capacity steps)))
 
@@ -47,7 +47,7 @@ pub least_bound-requires-2-clause-cheap : goal.least_bound-requires-2-clause-che
 least_bound-requires-2-clause-cheap c =
     let e : c.deref-2.result.now ≡ c.in_ok-bytes.bytes.items = search rules in
     subst AreCheap (sym e)
-    (classes-cheap 45056 c.args.place c.self.inside.bytes.entries c.in_ok-bytes.bytes.items c.in_ok-bytes.ensures.sums c.self.invariant.bytes.each)
+    (classes-cheap 45056 _ c.self.inside.bytes.entries c.in_ok-bytes.bytes.items c.in_ok-bytes.ensures.sums c.self.invariant.bytes.each)
 
 pub least_bound-requires-2-clause-room : goal.least_bound-requires-2-clause-room
 least_bound-requires-2-clause-room c =
@@ -59,7 +59,7 @@ least_bound-requires-2-clause-room c =
     omega (arith, c.from.ensures, item, All-get_or (λ (capacity : ℕ). capacity ≤ 2 ^ 56) c.self.inside.capacities.items c.args.place 0 in_place c.self.invariant.capacities.limit) in
     let steps : c.from-2.result ≤ 2 ^ 32 = omega (arith, c.from-2.ensures, c.ranges.steps.fits) in
     subst (λ (groups : List Group). c.from.result * c.from-2.result + short_at (length groups) * sum_by (λ (g : Group). g.gain) groups < 340282366920938463463374607431768211456) (sym e)
-    (classes-room c.args.place (2 ^ 32) (2 ^ 80) (c.from.result * c.from-2.result) c.self.inside.bytes.entries c.in_ok-bytes.bytes.items c.in_ok-bytes.ensures.sums
+    (classes-room _ (2 ^ 32) (2 ^ 80) (c.from.result * c.from-2.result) c.self.inside.bytes.entries c.in_ok-bytes.bytes.items c.in_ok-bytes.ensures.sums
     (omega (arith, grows_le (length c.in_ok-bytes.bytes.items) 45056 (c.in_ok-bytes.ensures.no_more 45056 (groups-classes 45056 c.self.inside.bytes.entries c.self.invariant.bytes.each)), length_top_is)) (omega (arith, c.self.invariant.bytes.gains, c.self.invariant.count)) (omega arith)
     (omega (arith, product-le c.from.result (2 ^ 56) c.from-2.result (2 ^ 32) capacity steps)))
 
