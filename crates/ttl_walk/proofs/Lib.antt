@@ -1,0 +1,4 @@
+mod Lists
+mod Queues
+mod Standing
+mod Asking
