@@ -1,4 +1,6 @@
+mod Rows
 mod Lists
 mod Queues
 mod Standing
 mod Asking
+mod Walking

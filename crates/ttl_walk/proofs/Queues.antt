@@ -148,3 +148,11 @@ queue-back xs ys (Some c) is queue = queue-init ys c (subst IsQueue is queue)
 pub popped-le : (last : Option Candidate) (new old : ℕ) → MatchOption last ((old ≡ 0) × (new ≡ 0)) (λ c. new + 1 ≡ old) → new ≤ old
 popped-le None new old is = omega arith
 popped-le (Some c) new old is = omega arith
+
+-- the start joins those that are left at the back
+pub joined-is : (start : Candidate) (xs initial now : List Candidate) (joins : Bool) → IsQueue xs → ends_no_lower start.floor xs ≡ false
+    → filter (λ d. not (nat_le start.floor d.floor)) xs ≡ filter (λ d. not (nat_le start.floor d.floor)) initial
+    → joins ≡ true → now ≡ cond joins (xs ++ start ∷ []) xs → now ≡ with_candidate start initial
+joined-is start xs initial now joins queue low same fits is =
+    is ∙ ap (λ b. cond b (xs ++ start ∷ []) xs) fits
+    ∙ ap (λ kept. kept ++ start ∷ []) (sym (filter-lower start.floor xs queue low) ∙ same)

@@ -2,7 +2,11 @@
 //! a request.
 #![tactic(auto)]
 
+mod asked;
+mod laws;
+mod object_walk;
 mod starts;
-mod walk;
 
-pub use walk::{Asked, ObjectWalk};
+pub use asked::Asked;
+pub use laws::walks_over_requests;
+pub use object_walk::ObjectWalk;

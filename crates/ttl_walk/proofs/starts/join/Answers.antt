@@ -1,6 +1,7 @@
-use Rattle.std.proofs.Common.{◌∙◌, sym, ap, arith, cond, ◌++◌, ◌∷◌, []}
-use Rattle.ttl_walk.proofs.Queues.{filter-back, filter-lower, queue-back, popped-le}
+use Rattle.std.proofs.Common.{◌∙◌, sym, arith}
+use Rattle.std.specs.Result.{is_ok}
 use Rattle.std.specs.VecDeque.{deque_len}
+use Rattle.ttl_walk.proofs.Queues.{filter-back, joined-is, popped-le, queue-back}
 use Rattle.ttl_walk.proofs.starts.join.Goals as goal
 
 pub loop-starts-preserved : goal.loop-starts-preserved
@@ -22,9 +23,6 @@ loop-starts-preserved c =
 
 pub returns : goal.returns
 returns c =
-    let low = sym c.ends_no_lower.ensures ∙ c.loop-starts-test.false in
-    let all = filter-lower c.args.start.floor c.loop-starts.starts.items c.loop-starts.invariant.queue low in
-    let xs = c.loop-starts.starts.items in
-    c.push_back.ensures.items
-    ∙ ap (λ joins. cond joins (xs ++ c.args.start ∷ []) xs) (c.push_back.ensures.succeeds c.loop-starts.invariant.room)
-    ∙ ap (λ l. l ++ c.args.start ∷ []) (sym all ∙ c.loop-starts.invariant.same)
+    joined-is c.args.start c.loop-starts.starts.items c.args.starts.now.items c.push_back.new.self.items (is_ok c.push_back.result)
+    c.loop-starts.invariant.queue (sym c.ends_no_lower.ensures ∙ c.loop-starts-test.false) c.loop-starts.invariant.same
+    (c.push_back.ensures.succeeds c.loop-starts.invariant.room) c.push_back.ensures.items

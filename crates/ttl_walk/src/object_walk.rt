@@ -1,26 +1,15 @@
 //! What is kept of an object from request to request.
 ghost use Rattle.std.specs.Prelude.{◌≡◌, ◌+◌, ◌≤◌, ◌<◌, ◌^◌, OnOk, OnErr};
-ghost use Rattle.ttl_laws.specs.Runs.{Walk, nothing_walked, with_request, with_step};
+ghost use Rattle.ttl_laws.specs.Runs.{Walk, nothing_walked};
 ghost use Rattle.ttl_walk.specs.Kept.{StandsFor, latest_clock};
+ghost use Rattle.ttl_walk.specs.Requests.{walk_on};
 
+use crate::asked::Asked;
 use crate::starts::{Candidate, first_worth, go_on, join};
 use bound_base::NoMemory;
 use std::alloc::Global;
 use std::collections::VecDeque;
 use std::marker::Model;
-
-/// The next request of an object.
-#[derive(Clone, Copy, Debug)]
-pub struct Asked {
-    /// The clock there.
-    pub clock: u64,
-    /// Whether it only fills.
-    pub fills: bool,
-    /// The gain times the denominator if it counts, else 0.
-    pub gain: u128,
-    /// The weight times the prices of the steps since the request before it.
-    pub priced: u128,
-}
 
 /// The greatest worth of an object so far, and the few of its starts that can still matter.
 ///
@@ -74,8 +63,7 @@ impl ObjectWalk {
         requires clock { latest_clock self.old ≤ asked.clock }
         requires priced { self.old.top + asked.priced ≤ self.old.level }
         requires gain { self.old.level + asked.gain < 2 ^ 128 }
-        ensures walk { OnOk result
-            ((w : Walk) → StandsFor self.old w → StandsFor self.new (with_request asked.fills asked.clock ttl asked.gain (with_step asked.priced w))) }
+        ensures walk { OnOk result ((w : Walk) → StandsFor self.old w → StandsFor self.new (walk_on ttl w asked)) }
         ensures level { OnOk result (self.new.level + asked.priced ≡ self.old.level + asked.gain) }
         ensures top { OnOk result (self.new.top ≤ self.old.top + asked.gain) }
         ensures clock { OnOk result (latest_clock self.new ≡ asked.clock) }
@@ -93,6 +81,45 @@ impl ObjectWalk {
                 floor,
             },
         );
+        Ok(())
+    }
+}
+
+#[cfg(test)]
+mod tests {
+    use super::*;
+
+    // The next request, by its parts.
+    fn asked(clock: u64, fills: bool, gain: u128, priced: u128) -> Asked
+        ensures { result ≡ record { clock = clock; fills = fills; gain = gain; priced = priced } }
+    {
+        Asked {
+            clock,
+            fills,
+            gain,
+            priced,
+        }
+    }
+
+    // The greatest worth of all choices of runs, by a program in Python that tries each.
+    #[test]
+    fn rises_by_the_best_run(rt: HostRuntime) -> Result<(), NoMemory> {
+        let mut walk = ObjectWalk::new(rt.alloc());
+        walk.ask(4, asked(0, false, 0, 0))?;
+        walk.ask(4, asked(2, false, 4, 1))?;
+        assert_eq!(rt; walk.top(), 3, "after a run of 2");
+        walk.ask(4, asked(3, false, 4, 6))?;
+        assert_eq!(rt; walk.top(), 3, "a step of too high a price");
+        walk.ask(4, asked(5, false, 4, 2))?;
+        assert_eq!(rt; walk.top(), 5, "after a run that began after it");
+        walk.ask(4, asked(6, true, 0, 1))?;
+        walk.ask(4, asked(7, false, 4, 3))?;
+        assert_eq!(rt; walk.top(), 6, "no run passes a request that only fills");
+        walk.ask(4, asked(9, false, 0, 2))?;
+        walk.ask(4, asked(10, false, 4, 1))?;
+        assert_eq!(rt; walk.top(), 9, "a run of exactly 4");
+        walk.ask(4, asked(14, false, 9, 2))?;
+        assert_eq!(rt; walk.top(), 13, "a run of 5 is too long");
         Ok(())
     }
 }
