@@ -5,7 +5,7 @@ use Rattle.ttl_laws.specs.Runs.{Start, Walk}
 use Rattle.ttl_walk.specs.declared.starts.Candidate.{Candidate}
 use Rattle.ttl_walk.specs.Queue.{IsQueue}
 
--- a level that rises by each gain and falls by each price, the greatest worth so far, and the starts that can still matter
+-- a level that rises by each gain and falls by each price, the greatest worth so far, and the starts that can still matter; a run is worth what the level is above the floor of its start
 pub record Kept : Type 0 where
   pub level : ℕ
   pub top : ℕ

@@ -5,7 +5,7 @@ ghost use Rattle.ttl_walk.specs.Kept.{StandsFor, latest_clock};
 ghost use Rattle.ttl_walk.specs.Requests.{walk_on};
 
 use crate::asked::Asked;
-use crate::starts::{Candidate, first_worth, go_on, join};
+use crate::starts::{Candidate, first_worth, go_on, join, make_room};
 use bound_base::NoMemory;
 use std::alloc::Global;
 use std::collections::VecDeque;
@@ -14,7 +14,7 @@ use std::marker::Model;
 /// The greatest worth of an object so far, and the few of its starts that can still matter.
 ///
 /// The level begins at 2^126, rises by each gain and falls by each price: a run is worth what the level is above the floor
-/// of its start. From front to back the starts are no older and their floors rise.
+/// of its start. From front to back the starts are no older and their floors rise. It takes 32 bytes for each start.
 #[derive(Drop)]
 pub struct ObjectWalk {
     level: u128,
@@ -59,6 +59,9 @@ impl ObjectWalk {
 
     /// Walks the next request of the object, with this time to live. Each request joins the starts and leaves them once, so
     /// that this takes constant time on average.
+    ///
+    /// It can be called as long as the prices sum to at most 2^126, and the gains to less: the greatest worth is at most the
+    /// sum of the gains.
     pub fn ask(&mut self, ttl: u64, asked: Asked) -> Result<(), NoMemory>
         requires clock { latest_clock self.old ≤ asked.clock }
         requires priced { self.old.top + asked.priced ≤ self.old.level }
@@ -69,7 +72,7 @@ impl ObjectWalk {
         ensures clock { OnOk result (latest_clock self.new ≡ asked.clock) }
         ensures err { OnErr result (self.new ≡ self.old) }
     {
-        self.starts.reserve(1)?;
+        make_room(&mut self.starts)?;
         self.level = self.level - asked.priced + asked.gain;
         go_on(&mut self.starts, ttl, asked.clock, asked.fills);
         let floor = self.level - self.top;

@@ -1,10 +1,10 @@
 //! The starts of an object from which a run may go on, and that can still matter.
-ghost use Rattle.std.specs.Prelude.{◌≡◌, ◌<◌, ◌≤◌};
+ghost use Rattle.std.specs.Prelude.{◌≡◌, ◌<◌, ◌≤◌, OnOk};
 ghost use Rattle.std.specs.List.{filter};
 ghost use Rattle.std.specs.VecDeque.{deque_capacity, deque_len};
 ghost use Rattle.ttl_walk.specs.Queue.{IsQueue, begins_old, ends_no_lower, first_worth, going_on, is_fresh, with_candidate};
 
-use std::alloc::Global;
+use bound_base::NoMemory;
 use std::collections::VecDeque;
 
 /// A start, and the level above which a run from there is worth something.
@@ -41,6 +41,19 @@ fn drop_old(starts: &mut VecDeque<Candidate>, ttl: u64, now: u64)
     while begins_old(starts, ttl, now) {
         starts.pop_front();
     }
+}
+
+/// Makes room for one more. The first room is for one alone, since an object that is asked for once keeps no more.
+pub(crate) fn make_room(starts: &mut VecDeque<Candidate>) -> Result<(), NoMemory>
+    ensures same { starts.new.items ≡ starts.old.items }
+    ensures room { OnOk result (deque_len starts.new < deque_capacity starts.new) }
+{
+    if starts.capacity() == 0 {
+        starts.reserve_exact(1)?;
+    } else {
+        starts.reserve(1)?;
+    }
+    Ok(())
 }
 
 /// Those from which no run goes on past a request at this clock leave: all if it only fills, else those too old.

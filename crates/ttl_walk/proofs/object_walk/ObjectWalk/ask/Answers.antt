@@ -10,8 +10,8 @@ use Rattle.ttl_walk.proofs.object_walk.ObjectWalk.ask.Goals.{After-join}
 pub join-requires-clause-queue : goal.join-requires-clause-queue
 join-requires-clause-queue c =
     subst IsQueue (sym c.go_on.ensures.items)
-    (queue-going_on c.args.asked.fills c.args.ttl c.args.asked.clock c.reserve.new.self.items
-    (subst IsQueue (sym c.reserve.ensures.items) c.self.invariant.starts))
+    (queue-going_on c.args.asked.fills c.args.ttl c.args.asked.clock c.make_room.new.starts.items
+    (subst IsQueue (sym c.make_room.ensures.same) c.self.invariant.starts))
 
 -- what was kept before, and what the request asks of it
 abbrev old : After-join → Kept
@@ -29,8 +29,8 @@ new c = record { level = (c.self.inside.level - c.args.asked.priced) + c.args.as
 
 made : (c : After-join) → kept_after c.args.asked.fills c.args.ttl c.args.asked.clock c.args.asked.gain c.args.asked.priced (old c) ≡ new c
 made c =
-    made-after c.args.asked.fills c.args.ttl c.args.asked.clock c.args.asked.gain c.args.asked.priced (old c) c.reserve.new.self.items
-    c.go_on.new.starts.items c.join.new.starts.items c.first_worth.result c.max-self-inside.result c.reserve.ensures.items
+    made-after c.args.asked.fills c.args.ttl c.args.asked.clock c.args.asked.gain c.args.asked.priced (old c) c.make_room.new.starts.items
+    c.go_on.new.starts.items c.join.new.starts.items c.first_worth.result c.max-self-inside.result c.make_room.ensures.same
     c.go_on.ensures.items c.first_worth.ensures c.max-self-inside.ensures c.join.ensures
 
 pub invariant_of-self-2 : goal.invariant_of-self-2
