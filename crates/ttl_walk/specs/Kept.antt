@@ -1,11 +1,11 @@
--- What is kept of an object from request to request, and the walk that it stands for.
+-- What is kept of an object from request to request, and the walk that it stands for. A run is worth what the level is above the floor of its start.
 use Rattle.std.specs.Prelude.{◌≡◌, ℕ, ◌+◌, ◌≤◌, ◌⊎◌, max, List, [], ◌∷◌, fold, map}
 use Rattle.std.specs.List.{AllByRecursion}
 use Rattle.ttl_laws.specs.Runs.{Start, Walk}
 use Rattle.ttl_walk.specs.declared.starts.Candidate.{Candidate}
 use Rattle.ttl_walk.specs.Queue.{IsQueue}
 
--- a level that rises by each gain and falls by each price, the greatest worth so far, and the starts that can still matter; a run is worth what the level is above the floor of its start
+-- the level, which rises by each gain and falls by each price, the greatest worth so far, and the starts that can still matter
 pub record Kept : Type 0 where
   pub level : ℕ
   pub top : ℕ
@@ -34,7 +34,7 @@ IsSameStart level c s = (c.clock ≡ s.clock) × (c.floor + (s.before + s.earned
 abbrev pub IsNoWorse : ℕ → Candidate → Start → Type 0
 IsNoWorse level c s = (s.clock ≤ c.clock) × (c.floor + (s.before + s.earned) ≤ level + s.priced)
 
--- the greatest worth is that of the walk, each start that is kept is one of its starts, and for each of its starts one is kept that is no worse
+-- the greatest worth is that of the walk; each start that is kept is one of the walk, and for each of the walk one is kept that is no worse
 pub record StandsFor (k : Kept) (w : Walk) : Type 0 where
   pub top : k.top ≡ w.top
   pub known : AllByRecursion (λ c. HasOne (IsSameStart k.level c) w.starts) k.starts
