@@ -3,4 +3,4 @@ mod Lists
 mod Queues
 mod Standing
 mod Asking
-mod Walking
+pub mod Walking

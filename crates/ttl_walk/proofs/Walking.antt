@@ -5,6 +5,7 @@ use Rattle.cache_model.specs.Claim.{Terms, counts, gain_of, only_fills, request_
 use Rattle.freshness.specs.Stale.{clock}
 use Rattle.ttl_laws.specs.Runs.{Start, with_price, Walk, nothing_walked, walk, with_request, with_step}
 use Rattle.ttl_walk.specs.declared.asked.Asked.{Asked}
+use Rattle.ttl_walk.specs.Kept.{Kept, StandsFor}
 use Rattle.ttl_walk.specs.Requests.{walk_on, walk_over, prices_since, requests_of}
 
 -- one price after another is their sum
@@ -27,24 +28,28 @@ walk_over-append ttl requests asked = at nothing_walked requests
     at w (a ∷ requests) = at (walk_on ttl w a) requests
 
 module _ (terms : Terms) (unit denominator : ℕ) (trace : List Object) (times prices : List ℕ) (ttl : ℕ) (x : Object) where
-  abbrev weight : ℕ
+  abbrev pub weight : ℕ
   weight = x.size / unit
 
-  abbrev over : ℕ → Walk
+  abbrev pub over : ℕ → Walk
   over n = walk_over ttl (requests_of terms unit denominator trace times prices n x)
 
-  abbrev is : ℕ → Type 0
+  -- request t, if it is for x
+  abbrev pub asked_at : ℕ → Asked
+  asked_at t = record {
+    clock = clock times t;
+    fills = only_fills terms.fills t;
+    gain = cond (counts terms t) (denominator * gain_of terms.objective x) 0;
+    priced = weight * prices_since trace prices t x;
+  }
+
+  abbrev pub is : ℕ → Type 0
   is n = walk terms unit denominator trace times prices ttl n x ≡ with_step (weight * prices_since trace prices n x) (over n)
 
   pub walks : (n : ℕ) → is n
   walks zero = refl
   walks (suc t) = at (same_object (request_at trace t) x) (slice_index_or prices t 0) (prices_since trace prices t x)
-      (record {
-        clock = clock times t;
-        fills = only_fills terms.fills t;
-        gain = cond (counts terms t) (denominator * gain_of terms.objective x) 0;
-        priced = weight * prices_since trace prices t x;
-      })
+      (asked_at t)
       refl (walk terms unit denominator trace times prices ttl t x) (requests_of terms unit denominator trace times prices t x) (walks t)
     where
       at : (b : Bool) (price since : ℕ) (asked : Asked) → asked.priced ≡ weight * since → (w : Walk) (requests : List Asked)
@@ -61,3 +66,18 @@ module _ (terms : Terms) (unit denominator : ℕ) (trace : List Object) (times p
           let sum : weight * since + weight * price ≡ weight * (since + price) = omega arith in
           ap (with_step (weight * price)) so ∙ with_step-with_step (weight * since) (weight * price) (walk_over ttl requests)
           ∙ ap (λ p. with_step p (walk_over ttl requests)) sum
+
+  -- so what stands for the walk over its requests has its greatest worth
+  pub stands-top : (n : ℕ) (k : Kept) → StandsFor k (over n) → k.top ≡ (walk terms unit denominator trace times prices ttl n x).top
+  stands-top n k stands = stands.top ∙ sym (ap (λ (w : Walk). w.top) (walks n))
+
+  -- a request for another object changes nothing, and one for it is walked
+  pub over-other : (t : ℕ) → same_object (request_at trace t) x ≡ false → over (suc t) ≡ over t
+  over-other t other =
+      let before : List Asked = requests_of terms unit denominator trace times prices t x in
+      ap (λ b. walk_over ttl (cond b (before ++ asked_at t ∷ []) before)) other
+
+  pub over-own : (t : ℕ) → same_object (request_at trace t) x ≡ true → over (suc t) ≡ walk_on ttl (over t) (asked_at t)
+  over-own t same =
+      let before : List Asked = requests_of terms unit denominator trace times prices t x in
+      ap (λ b. walk_over ttl (cond b (before ++ asked_at t ∷ []) before)) same ∙ walk_over-append ttl before (asked_at t)
