@@ -1,0 +1,6 @@
+mod Rows
+mod Lists
+mod Queues
+mod Standing
+mod Asking
+pub mod Walking
