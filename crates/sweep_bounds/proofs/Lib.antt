@@ -1,0 +1,4 @@
+pub mod Grown
+pub mod Seen
+pub mod Bridge
+pub mod Told

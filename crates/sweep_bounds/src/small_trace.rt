@@ -1,0 +1,1 @@
+//! The bounds of small traces, which a second program worked out.
