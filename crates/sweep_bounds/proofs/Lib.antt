@@ -2,3 +2,4 @@ pub mod Grown
 pub mod Seen
 pub mod Bridge
 pub mod Told
+mod Rows

@@ -1,12 +1,13 @@
 -- What a sweep has seen after one request more.
-use Rattle.std.proofs.Common.{◌≡◌, ℕ, ◌+◌, ◌<◌, ◌≤◌, ◌∙◌, sym, ap, subst, Bool, true, false, not, ◌&&◌, cond, nat_le, List, [], ◌∷◌, ◌++◌, length, arith, ⊎_elim, None, Some}
-use Rattle.std.specs.Map.{lookup}
+use Rattle.std.proofs.Common.{append-nil, is_some, refl, ◌≡◌, ℕ, ◌+◌, ◌<◌, ◌≤◌, ◌∙◌, sym, ap, subst, Bool, true, false, not, ◌&&◌, cond, nat_le, List, [], ◌∷◌, ◌++◌, length, arith, ⊎_elim, None, Some}
+use Rattle.std.specs.Map.{keys_of, lookup}
+use Rattle.indexmap.specs.IndexMap.{insert_entry}
 use Rattle.std.specs.declared.option.Option.{Option}
 use Rattle.std.proofs.lemmas.Bool.{cases_Bool, cases_lt}
 use Rattle.cache_model.specs.declared.objects.Object.{Object}
 use Rattle.cache_model.specs.Claim.{only_fills, request_at, same_object}
-use Rattle.cache_model.specs.Objects.{IsNew}
-use Rattle.cache_model.proofs.DifferentObjects.{IsLatest-early, IsLatest-pushed, length-pushed, request_at-early, request_at-pushed}
+use Rattle.cache_model.specs.Objects.{IsNew, objects_of}
+use Rattle.cache_model.proofs.DifferentObjects.{IsLatest-early, IsLatest-pushed, length-pushed, objects_of-pushed_again, objects_of-pushed_new, request_at-early, request_at-pushed}
 use Rattle.cache_model.proofs.Duality.{same_object-true}
 use Rattle.cache_model.proofs.Pairs.{same_object-sym}
 use Rattle.area_sums.specs.Spans.{Span}
@@ -46,9 +47,27 @@ module _ (trace : List Object) (x : Object) where
       (latest-early y found (same_object-sym y x ∙ differs) was))
       (cases_Bool (same_object x y))
 
+  -- the objects: one more if this one was not there
+  keys-inserted : (t : ℕ) (entries : List (Object × ℕ)) → keys_of (insert_entry same_object entries x t)
+      ≡ keys_of entries ++ cond (is_some (lookup (same_object x) entries)) [] (x ∷ [])
+  keys-inserted t [] = refl
+  keys-inserted t (e ∷ es) = at (same_object x e.0) (keys-inserted t es)
+    where
+      at : (b : Bool) → keys_of (insert_entry same_object es x t) ≡ keys_of es ++ cond (is_some (lookup (same_object x) es)) [] (x ∷ [])
+          → keys_of (cond b ((e.0, t) ∷ es) (e ∷ insert_entry same_object es x t))
+          ≡ e.0 ∷ keys_of es ++ cond (is_some (cond b (Some e.1) (lookup (same_object x) es))) [] (x ∷ [])
+      at true rest = ap (λ ks. e.0 ∷ ks) (sym (append-nil (keys_of es)))
+      at false rest = ap (λ ks. e.0 ∷ ks) rest
+
+  objects-pushed : (found : Option ℕ) → IsLatestOrNew trace x found
+      → objects_of (trace ++ x ∷ []) ≡ objects_of trace ++ cond (is_some found) [] (x ∷ [])
+  objects-pushed None new = objects_of-pushed_new trace x new
+  objects-pushed (Some a) latest = objects_of-pushed_again trace x a latest ∙ sym (append-nil (objects_of trace))
+
   module _ (old new : Sweep) (only : Bool)
       (warmup : new.warmup ≡ old.warmup) (delay : new.delay ≡ old.delay) (requests : new.requests ≡ old.requests + 1)
       (latest : (y : Object) → lookup (same_object y) new.latest ≡ cond (same_object x y) (Some old.requests) (lookup (same_object y) old.latest))
+      (entries : new.latest ≡ insert_entry same_object old.latest x old.requests)
       (sums : (spans : List Span) → AreSumsOf spans old.sums → AreSumsOf (spans ++ span_if x.size (next_length old x only)) new.sums) where
     -- it has seen the request, with its mark
     pub HasSeen-pushed : (fills marks : List Bool)
@@ -58,6 +77,9 @@ module _ (trace : List Object) (x : Object) where
       requests = omega (arith, requests, h.requests, length-pushed trace x);
       latest = λ y. subst (IsLatestOrNew (trace ++ x ∷ []) y) (sym (latest y))
           (latest-pushed old.requests y (lookup (same_object y) old.latest) h.requests (h.latest y));
+      objects = ap keys_of entries ∙ keys-inserted old.requests old.latest
+          ∙ ap (λ ks. ks ++ cond (is_some (lookup (same_object x) old.latest)) [] (x ∷ [])) h.objects
+          ∙ sym (objects-pushed (lookup (same_object x) old.latest) (h.latest x));
       sums = subst (λ spans. AreSumsOf spans new.sums) (sym grown) (sums (spans_of old.warmup old.delay fills trace) h.sums);
     }
       where

@@ -1,10 +1,10 @@
 -- What a sweep keeps, and that it has seen a trace.
-use Rattle.std.specs.Prelude.{◌≡◌, ℕ, ◌-◌, nat_le, Bool, not, ◌&&◌, if◌then◌else◌, List, [], ◌∷◌, length, None, Some}
+use Rattle.std.specs.Prelude.{◌≡◌, ℕ, ◌-◌, ◌^◌, ◌<◌, ◌≤◌, nat_le, Bool, not, ◌&&◌, if◌then◌else◌, List, [], ◌∷◌, length, None, Some}
 use Rattle.std.specs.declared.option.Option.{Option}
-use Rattle.std.specs.Map.{lookup}
+use Rattle.std.specs.Map.{keys_of, lookup}
 use Rattle.cache_model.specs.declared.objects.Object.{Object}
 use Rattle.cache_model.specs.Claim.{same_object}
-use Rattle.cache_model.specs.Objects.{IsLatest, IsNew}
+use Rattle.cache_model.specs.Objects.{IsLatest, IsNew, objects_of}
 use Rattle.area_sums.specs.Spans.{Span}
 use Rattle.area_sums.specs.Groups.{AreSumsOf, Sums}
 use Rattle.sweep_bounds.specs.Spans.{spans_of}
@@ -26,7 +26,14 @@ IsLatestOrNew trace x (Some a) = IsLatest trace x a
 pub record HasSeen (trace : List Object) (fills : List Bool) (sweep : Sweep) : Type 0 where
   pub requests : sweep.requests ≡ length trace
   pub latest : (x : Object) → IsLatestOrNew trace x (lookup (same_object x) sweep.latest)
+  pub objects : keys_of sweep.latest ≡ objects_of trace
   pub sums : AreSumsOf (spans_of sweep.warmup sweep.delay fills trace) sweep.sums
+
+-- no more spans than requests, nor objects, and the requests fit their number
+pub record IsWithinRequests (sweep : Sweep) : Type 0 where
+  pub few : sweep.requests < 2 ^ 32
+  pub spans : sweep.sums.count ≤ sweep.requests
+  pub objects : length sweep.latest ≤ sweep.requests
 
 -- ---- one request more
 -- how far it is from the latest of its object, less the delay

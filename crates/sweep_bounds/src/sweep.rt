@@ -1,7 +1,9 @@
 //! One pass over the requests of a trace.
 ghost use Rattle.std.specs.Prelude.{◌≡◌, ℕ, ◌+◌, ◌-◌, ◌<◌, ◌≤◌, ◌^◌, ◌∷◌, ◌++◌, [], List, Bool, false, length, slice_index, IfOk, IfSome, OnOk, OnErr};
 ghost use Rattle.cache_model.specs.declared.objects.Objective.TheVariants.{Object as ForHits, Bytes as ForBytes};
+ghost use Rattle.cache_model.specs.declared.objects.Object.{Object};
 ghost use Rattle.cache_model.specs.Claim.{terms_from};
+ghost use Rattle.cache_model.specs.Objects.{objects_of};
 ghost use Rattle.area_sums.specs.Spans.{Span};
 ghost use Rattle.area_sums.specs.Groups.{AreCapacities, AreSumsOf, no_sums};
 ghost use Rattle.sweep_bounds.specs.Bounds.{IsSweepBound};
@@ -26,15 +28,13 @@ pub struct SweepBounds {
 }
 
 impl Model for SweepBounds {
-    ghost use Rattle.sweep_bounds.specs.Sweep.{Sweep};
+    ghost use Rattle.sweep_bounds.specs.Sweep.{IsWithinRequests, Sweep};
 
     ghost Value = { Sweep };
 
     ghost view = { λ s. record { warmup = s.warmup; delay = s.delay; requests = s.requests; latest = s.latest.entries; sums = s.sums } };
 
-    ghost use Rattle.std.specs.Prelude.{◌≤◌};
-
-    ghost invariant = { λ s. s.sums.count ≤ s.requests };
+    ghost invariant = { λ s. IsWithinRequests (record { warmup = s.warmup; delay = s.delay; requests = s.requests; latest = s.latest.entries; sums = s.sums }) };
 }
 
 // Adds the span of an object of this size, if there is a length.
@@ -115,6 +115,13 @@ impl SweepBounds {
         ensures { result ≡ self.now.requests }
     {
         self.requests
+    }
+
+    /// How many different objects were asked for.
+    pub fn objects(&self) -> u32
+        ensures { (trace : List Object) (fills : List Bool) → HasSeen trace fills self.now → result ≡ length (objects_of trace) }
+    {
+        self.latest.len() as u32
     }
 
     /// The least bounds at one of the capacities. It goes twice over the groups of the sums.

@@ -1,6 +1,7 @@
 use Rattle.std.proofs.Common.{◌≡◌, ℕ, ◌+◌, ◌<◌, ◌∙◌, sym, ap, refl, subst, Bool, false, List, [], ◌∷◌, ◌++◌, length, cond, Some, arith}
 use Rattle.std.specs.Map.{lookup}
 use Rattle.std.proofs.lemmas.List.{get_or_append_left, get_or_push}
+use Rattle.indexmap.specs.IndexMap.{insert_entry}
 use Rattle.cache_model.specs.contracts.objects.ObjectPartialEq.TheImpl.{eq-value}
 use Rattle.cache_model.specs.declared.objects.Object.{Object}
 use Rattle.cache_model.specs.Claim.{only_fills, same_object}
@@ -32,6 +33,8 @@ seen c trace fills marks marked last h =
     same_object-derived
     (λ y. c.in_ok-insert.ensures.updates.0 y ∙ ap (λ e. cond (eq-value.it x y) (Some old.requests) (lookup (eq-value.it y) e)) c.reserve.ensures.entries) in
     HasSeen-pushed trace x old (after c) c.args.only_fills refl refl refl latest
+    (c.in_ok-insert.ensures.entries
+    ∙ (λ i. insert_entry (same_object-derived i) (c.reserve.ensures.entries i) x old.requests))
     (λ spans were. subst (λ l. AreSumsOf (spans ++ span_if x.size l) c.add_span.new.sums) span (c.in_ok-add_span.ensures.added spans were))
     fills marks marked last (subst (HasSeen trace fills) (sym c.self.view_is) h)
 
