@@ -2,12 +2,10 @@
 ghost use Rattle.std.specs.Prelude.{◌≡◌, ℕ, ◌+◌, ◌-◌, ◌<◌, ◌≤◌, ◌^◌, ◌∷◌, ◌++◌, [], List, Bool, false, length, slice_index, IfOk, IfSome, OnOk, OnErr};
 ghost use Rattle.cache_model.specs.declared.objects.Objective.TheVariants.{Object as ForHits, Bytes as ForBytes};
 ghost use Rattle.cache_model.specs.declared.objects.Object.{Object};
-ghost use Rattle.cache_model.specs.Claim.{terms_from};
 ghost use Rattle.cache_model.specs.Objects.{objects_of};
 ghost use Rattle.area_sums.specs.Spans.{Span};
 ghost use Rattle.area_sums.specs.Groups.{AreCapacities, AreSumsOf, no_sums};
-ghost use Rattle.sweep_bounds.specs.Bounds.{IsSweepBound};
-ghost use Rattle.sweep_bounds.specs.Sweep.{HasSeen, next_length, span_if};
+ghost use Rattle.sweep_bounds.specs.Sweep.{HasSeen, IsBoundAt, next_length, span_if};
 
 use area_sums::{AreaSums, CapacityBounds};
 use bound_base::NoMemory;
@@ -128,10 +126,8 @@ impl SweepBounds {
     pub fn bounds_at(&self, alloc: Global, place: usize) -> Result<CapacityBounds, NoMemory>
         requires { place < length self.now.sums.capacities }
         ensures edges { IfOk result (λ bounds. (0 < bounds.hits.edge) × (0 < bounds.bytes.edge)) }
-        ensures hits { IfOk result (λ bounds. (trace : List Object) (fills : List Bool) → HasSeen trace fills self.now
-            → IsSweepBound (terms_from ForHits (slice_index self.now.sums.capacities place) self.now.warmup fills) self.now.delay trace bounds.hits) }
-        ensures bytes { IfOk result (λ bounds. (trace : List Object) (fills : List Bool) → HasSeen trace fills self.now
-            → IsSweepBound (terms_from ForBytes (slice_index self.now.sums.capacities place) self.now.warmup fills) self.now.delay trace bounds.bytes) }
+        ensures hits { IfOk result (λ bounds. IsBoundAt ForHits place self.now bounds.hits) }
+        ensures bytes { IfOk result (λ bounds. IsBoundAt ForBytes place self.now bounds.bytes) }
     {
         self.sums
             .bounds_at(alloc, place, self.requests.saturating_sub(1))
