@@ -1,10 +1,10 @@
 //! One pass over the requests of a trace.
-ghost use Rattle.std.specs.Prelude.{◌≡◌, ℕ, ◌+◌, ◌-◌, ◌<◌, ◌≤◌, ◌^◌, ◌∷◌, ◌++◌, [], List, Bool, false, length, slice_index, IfOk, IfSome, OnOk, OnErr};
+ghost use Rattle.std.specs.Prelude.{◌≡◌, ◌+◌, ◌<◌, ◌≤◌, ◌^◌, ◌∷◌, ◌++◌, [], List, Bool, false, length, IfOk, IfSome, OnOk, OnErr};
 ghost use Rattle.cache_model.specs.declared.objects.Objective.TheVariants.{Object as ForHits, Bytes as ForBytes};
 ghost use Rattle.cache_model.specs.declared.objects.Object.{Object};
 ghost use Rattle.cache_model.specs.Objects.{objects_of};
 ghost use Rattle.area_sums.specs.Spans.{Span};
-ghost use Rattle.area_sums.specs.Groups.{AreCapacities, AreSumsOf, no_sums};
+ghost use Rattle.area_sums.specs.Groups.{AreCapacities, AreSumsOf};
 ghost use Rattle.sweep_bounds.specs.Sweep.{HasSeen, IsBoundAt, next_length, span_if};
 
 use area_sums::{AreaSums, CapacityBounds};
