@@ -1,0 +1,5 @@
+pub mod Grown
+pub mod Seen
+pub mod Bridge
+pub mod Told
+mod Rows

@@ -1,0 +1,3 @@
+pub mod Spans
+pub mod Bounds
+pub mod Sweep
