@@ -67,7 +67,7 @@ impl Model for LineReader {
 
     ghost view = { λ r. record { limit = r.limit; consumed = r.consumed; line = r.line; held = r.buffer; fault = r.fault } };
 
-    ghost invariant = { λ r. (r.limit ≤ 2 ^ 36) × (r.consumed ≤ r.limit) × (r.line ≤ r.consumed) × (length r.buffer ≤ 65536) };
+    ghost invariant = { λ r. (r.limit ≤ 2 ^ 44) × (r.consumed ≤ r.limit) × (r.line ≤ r.consumed) × (length r.buffer ≤ 65536) };
 }
 
 impl LineReader {
@@ -80,7 +80,7 @@ impl LineReader {
 
     /// A reader of lines of at most `limit` bytes in all, which takes its buffer here.
     pub fn new(alloc: Global, limit: u64) -> Result<Self, NoMemory>
-        requires { limit ≤ 2 ^ 36 }
+        requires { limit ≤ 2 ^ 44 }
         ensures { IfOk result (λ reader. reader ≡ record { limit = limit; consumed = 0; line = 0; held = []; fault = None }) }
     {
         Ok(LineReader {

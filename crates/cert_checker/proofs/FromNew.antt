@@ -18,7 +18,8 @@ use Rattle.cert_checker.specs.declared.verdict.Verdict.{Verdict}
 use Rattle.cert_checker.specs.declared.walking.CheckFault.{CheckFault}
 use Rattle.cert_checker.specs.declared.walking.CheckFault.TheVariants as fault
 use Rattle.cert_checker.specs.Checks.{Inputs, IsCalmBut, IsEvent, IsNear, inputs, trace_source, cert_source}
-use Rattle.cert_checker.specs.Counting.{PassesCounted, counted_in, is_stale, own_marks, stale_in}
+use Rattle.cert_checker.specs.Counting.{PassesCounted}
+use Rattle.trace_any.specs.Counts.{counted_in, is_stale, own_marks, stale_in}
 use Rattle.cert_checker.specs.Keeping.{HasKept, IsCheckEnd}
 use Rattle.cert_checker.specs.Whole.{Ends, Fails, Passes, first_inputs, last_inputs}
 use Rattle.cert_checker.proofs.Nearness.{near_closed}

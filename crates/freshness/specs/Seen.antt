@@ -3,7 +3,7 @@ use Rattle.std.specs.Prelude.{◌≡◌, ◌⊎◌, ℕ, ◌+◌, ◌==◌, max,
 use Rattle.std.specs.declared.option.Option.{Option}
 use Rattle.std.specs.Map.{lookup}
 use Rattle.indexmap.specs.IndexMap.{insert_entry}
-use Rattle.bit_list.specs.Bits.{bits_of}
+use Rattle.bit_list.specs.Bits.{HasRoom, bits_of}
 use Rattle.cache_model.specs.declared.objects.Object.{Object}
 use Rattle.cache_model.specs.Claim.{same_object}
 use Rattle.freshness.specs.declared.fresh.Freshness.{Freshness}
@@ -21,6 +21,10 @@ pub record Staleness : Type 0 where
 abbrev pub noted_of : StaleRequests → Staleness
 noted_of r = record { late = r.late; stale = bits_of r.stale; own = bits_of r.own }
 
+-- there is room to note one request more
+abbrev pub HasRoomForOne : StaleRequests → Type 0
+HasRoomForOne r = HasRoom r.stale × HasRoom r.own
+
 -- of no request
 abbrev pub nothing_noted : Staleness
 nothing_noted = record { late = 0; stale = []; own = [] }
@@ -29,16 +33,17 @@ nothing_noted = record { late = 0; stale = []; own = [] }
 abbrev pub with_noted : Staleness → Bool → Bool → Bool → Staleness
 with_noted n late stale own = record { late = n.late + (if late then 1 else 0); stale = n.stale ++ stale ∷ []; own = n.own ++ own ∷ [] }
 
--- the clock, which is the greatest time so far; of each object the clock at its last request; of each id the size of its last; and what is noted of the requests
+-- the clock, which is the greatest time so far; of each object the clock at its last request; of each id the size of its last; what is noted of the requests; and their times
 pub record Seen : Type 0 where
   pub clock : ℕ
   pub clocks : List (Object × ℕ)
   pub sizes : List (Id × ℕ)
   pub noted : Staleness
+  pub times : List ℕ
 
 -- before the first request
 abbrev pub nothing_seen : Seen
-nothing_seen = record { clock = 0; clocks = []; sizes = []; noted = nothing_noted }
+nothing_seen = record { clock = 0; clocks = []; sizes = []; noted = nothing_noted; times = [] }
 
 -- the id of an object, whatever its size
 abbrev pub id_of : Object → Id
@@ -81,6 +86,7 @@ with_seen fresh seen x time own =
       clocks = insert_entry same_object seen.clocks x (max seen.clock time);
       sizes = with_size fresh.replace seen.sizes x;
       noted = with_noted seen.noted (nat_lt time seen.clock) (is_stale fresh seen x time) own;
+      times = seen.times ++ time ∷ [];
     }
     else seen
 

@@ -4,6 +4,7 @@
 #![tactic(auto)]
 
 mod fresh;
+mod history;
 mod id;
 mod seen;
 mod stale;

@@ -2,35 +2,44 @@
 ghost use Rattle.std.specs.Prelude.{◌≡◌, ◌<◌, ◌≤◌, ◌+◌, ◌^◌, true, IfOk, OnOk, OnErr, ◌&&◌};
 ghost use Rattle.std.specs.Map.{lookup};
 ghost use Rattle.freshness.specs.Stale.{can_end};
-ghost use Rattle.freshness.specs.Seen.{IsNotedInPart, id_of, is_old, is_other, is_stale, is_stale_since, noted_of, nothing_seen, same_id, with_seen, with_size};
+ghost use Rattle.freshness.specs.Seen.{IsNotedInPart, id_of, is_old, is_other, is_stale, is_stale_since, nothing_seen, same_id, with_seen, with_size};
 
 use crate::fresh::Freshness;
+use crate::history::{History, Noted};
 use crate::id::Id;
-use crate::stale::StaleRequests;
+use crate::stale::one_if;
 use bound_base::NoMemory;
 use cache_model::Object;
 use indexmap::IndexMap;
 use std::alloc::Global;
 use std::marker::Model;
 
-/// The clock, when each object was last asked for, which size each id had last, and what is noted of each request.
+/// The clock, when each object was last asked for, which size each id had last, and how many requests had a time below the
+/// clock before them. What was said of each request is known to proofs alone.
 ///
-/// If requests can be stale, it takes one entry of a hash map for each object and two bits for each request, and if objects
-/// are replaced one entry more for each id.
+/// If requests can be stale, it takes one entry of a hash map for each object, and if objects are replaced one entry more for
+/// each id. It takes no memory for a request.
 #[derive(Drop)]
 pub struct SeenObjects {
     clock: u64,
     clocks: IndexMap<Object, u64>,
     sizes: IndexMap<Id, u64>,
-    noted: StaleRequests,
+    late: u64,
+    history: History,
 }
 
 impl Model for SeenObjects {
-    ghost use Rattle.freshness.specs.Seen.{Seen, noted_of};
+    ghost use Rattle.freshness.specs.Seen.{Seen};
 
     ghost Value = { Seen };
 
-    ghost view = { λ s. record { clock = s.clock; clocks = s.clocks.entries; sizes = s.sizes.entries; noted = noted_of s.noted } };
+    ghost view = { λ s. record {
+      clock = s.clock;
+      clocks = s.clocks.entries;
+      sizes = s.sizes.entries;
+      noted = record { late = s.late; stale = s.history.stale; own = s.history.own };
+      times = s.history.times;
+    } };
 }
 
 // Whether more than this time passed since an object was last asked for.
@@ -76,22 +85,16 @@ impl SeenObjects {
             clock: 0,
             clocks: IndexMap::new(alloc),
             sizes: IndexMap::new(alloc),
-            noted: StaleRequests::new(alloc),
+            late: 0,
+            history: History::new(),
         }
     }
 
-    /// What is noted of the requests.
-    pub fn noted(&self) -> &StaleRequests
-        ensures { noted_of result.now ≡ self.now.noted }
+    /// How many requests had a time below the clock before them, if some can be stale.
+    pub fn late(&self) -> u64
+        ensures { result ≡ self.now.noted.late }
     {
-        &self.noted
-    }
-
-    /// The same, once no more requests come. The rest is dropped.
-    pub fn into_noted(self) -> StaleRequests
-        ensures { noted_of result ≡ self.noted }
-    {
-        self.noted
+        self.late
     }
 
     // Notes a request where some can be stale.
@@ -109,11 +112,11 @@ impl SeenObjects {
         ensures err { OnErr result (IsNotedInPart fresh self.old self.new object) }
     {
         let clock = self.clock.max(time);
-        self.noted.make_room()?;
         let other = note_size(fresh.replace, &mut self.sizes, object)?;
         let (_, last) = self.clocks.insert_full(object, clock)?;
         let stale = is_stale_since(fresh.idle, clock, last, other);
-        self.noted.push_reserved(time < self.clock, stale, own);
+        self.late += one_if(time < self.clock);
+        self.history = self.history.with(&Noted { stale, own, time });
         self.clock = clock;
         Ok(stale)
     }

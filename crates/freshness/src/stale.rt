@@ -1,7 +1,6 @@
 //! What is noted of requests of which some can be stale.
 ghost use Rattle.std.specs.Prelude.{◌≡◌, ◌<◌, ◌+◌, ◌^◌, OnOk, if◌then◌else◌};
-ghost use Rattle.bit_list.specs.Bits.{HasRoom};
-ghost use Rattle.freshness.specs.Seen.{noted_of, nothing_noted, with_noted};
+ghost use Rattle.freshness.specs.Seen.{HasRoomForOne, noted_of, nothing_noted, with_noted};
 
 use bit_list::BitList;
 use bound_base::NoMemory;
@@ -16,8 +15,8 @@ pub struct StaleRequests {
     pub own: BitList,
 }
 
-// One request, if it is counted.
-fn one_if(counted: bool) -> u64
+/// One request, if it is counted.
+pub(crate) fn one_if(counted: bool) -> u64
     ensures { result ≡ (if counted then 1 else 0) }
 {
     u64::from(counted)
@@ -35,19 +34,19 @@ impl StaleRequests {
         }
     }
 
-    // Makes room for one more request.
-    pub(crate) fn make_room(&mut self) -> Result<(), NoMemory>
+    /// Makes room for one more request.
+    pub fn make_room(&mut self) -> Result<(), NoMemory>
         ensures noted { noted_of self.new ≡ noted_of self.old }
-        ensures room { OnOk result (HasRoom self.new.stale × HasRoom self.new.own) }
+        ensures room { OnOk result (HasRoomForOne self.new) }
     {
         self.stale.make_room()?;
         self.own.make_room()?;
         Ok(())
     }
 
-    // Notes a request, for which there is room.
-    pub(crate) fn push_reserved(&mut self, late: bool, stale: bool, own: bool)
-        requires room { HasRoom self.old.stale × HasRoom self.old.own }
+    /// Notes a request, for which there is room.
+    pub fn push_reserved(&mut self, late: bool, stale: bool, own: bool)
+        requires room { HasRoomForOne self.old }
         requires few { self.old.late + 1 < 2 ^ 64 }
         ensures { noted_of self.new ≡ with_noted (noted_of self.old) late stale own }
     {

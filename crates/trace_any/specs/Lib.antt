@@ -5,3 +5,4 @@ pub mod Readers
 pub mod NextPieces
 pub mod FirstLines
 pub mod Loads
+pub mod Counts

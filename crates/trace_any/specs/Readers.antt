@@ -10,7 +10,7 @@ use Rattle.bound_io.specs.Lines.{stands_in}
 use Rattle.cache_model.specs.declared.objects.Object.{Object}
 use Rattle.cache_rules.specs.Stored.{Requests, mark_if, with_mark}
 use Rattle.freshness.specs.Stale.{can_end}
-use Rattle.freshness.specs.Seen.{Seen, Staleness, nothing_seen, with_seen}
+use Rattle.freshness.specs.Seen.{Seen, Staleness, is_stale, nothing_seen, with_seen}
 use Rattle.trace_any.specs.declared.fault.TraceFault.{TraceFault}
 use Rattle.trace_any.specs.declared.fault.TraceFault.TheVariants.{BadLine, ReadFault, InputTooLong, TooManyRequests, NoMemory}
 use Rattle.trace_any.specs.declared.format.Format.{Format}
@@ -148,6 +148,22 @@ GivesFirst old new x = (new.given ≡ old.given + 1) × ((bytes : List ℕ) → 
 -- what is known of the objects, once this request is given at the time of its line
 abbrev pub seen_with : Reader → Object → Seen
 seen_with r x = with_seen r.format.fresh r.seen x r.ahead.stamp.time r.ahead.stamp.fills
+
+-- one request more is noted, at the time of its line and with its own mark, and it was stale or not
+abbrev pub NotesRequest : Reader → Reader → Object → Type 0
+NotesRequest old new x =
+    (new.seen ≡ with_seen old.format.fresh old.seen x new.ahead.stamp.time new.ahead.stamp.fills)
+    × (new.stale ≡ is_stale old.format.fresh old.seen x new.ahead.stamp.time)
+
+-- nothing more is noted of requests
+abbrev pub NotesNone : Reader → Reader → Type 0
+NotesNone old new = (new.seen.noted ≡ old.seen.noted) × (new.seen.times ≡ old.seen.times)
+
+-- what an answer notes: the request that it gives, and else nothing; at the end nothing more is known of the objects either
+abbrev pub NotesAnswer : Reader → Reader → Result (Option Object) TraceFault → Type 0
+NotesAnswer old new (Ok (Some x)) = NotesRequest old new x
+NotesAnswer old new (Ok None) = new.seen ≡ old.seen
+NotesAnswer old new (Err fault) = NotesNone old new
 
 -- there is room for no request, and whatever the bytes, that is what stops the reading
 abbrev pub IsFull : Reader → Reader → TraceFault → Type 0

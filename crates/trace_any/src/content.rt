@@ -1,5 +1,5 @@
 //! What a line or a record asks for, by the form of the trace.
-ghost use Rattle.std.specs.Prelude.{◌≡◌, ◌≢◌, ◌+◌, ◌≤◌, ◌^◌, true, false, None, Some, length, IfOk, IfSome, IsSome, OnOk, OnErr, ◌&&◌};
+ghost use Rattle.std.specs.Prelude.{◌≡◌, ◌≢◌, ◌+◌, ◌≤◌, ◌<◌, ◌^◌, true, false, None, Some, length, IfOk, IfSome, IsSome, OnOk, OnErr, ◌&&◌};
 ghost use Rattle.trace_any.specs.Readers.{with_named_by, number_by};
 ghost use Rattle.trace_any.specs.Readings.{HasVolumes, IsFormat, IsLayout, NamesVolumes, at_time, content_named, has_records, is_of_records, text_content, time_of, untimed, untimed_content, whole_record};
 ghost use Rattle.trace_lines.specs.Lines.{IsSpan};
@@ -186,14 +186,15 @@ pub(crate) fn number_of(
     volumes: &mut Volumes,
     alloc: Global,
     content: &LineContent<'_>,
-) -> Result<u32, NoMemory>
-    requires few { length volumes.old ≤ 2 ^ 25 }
+) -> Result<u64, NoMemory>
+    requires few { length volumes.old < 2 ^ 32 }
     ensures number { IfOk result (λ n. n ≡ number_by content.now.span volumes.old (volume_of content.now.volume)) }
     ensures volumes { OnOk result (volumes.new ≡ with_named_by content.now.span volumes.old (volume_of content.now.volume)) }
     ensures err { OnErr result (volumes.new ≡ volumes.old) }
     ensures memory { OnErr result (IsSome content.now.volume) }
     ensures something { OnErr result (content.now.span ≢ Span.Nothing) }
     ensures most { length volumes.new ≤ length volumes.old + 1 }
+    ensures within { IfOk result (λ n. n ≤ length volumes.new) }
 {
     if content.span == Span::Nothing {
         return Ok(0);

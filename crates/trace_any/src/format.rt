@@ -1,5 +1,6 @@
 //! The forms of a trace, and how much of one is read.
 ghost use Rattle.std.specs.Prelude.{◌≡◌};
+ghost use Rattle.trace_any.specs.Loads.{pass_limits};
 ghost use Rattle.trace_any.specs.Readings.{full_limits, has_marks, has_records, is_marked, lasting};
 
 use freshness::Freshness;
@@ -74,13 +75,23 @@ pub struct Limits {
 }
 
 impl Limits {
-    /// The limits of this program: 2^25 requests and 2^36 bytes.
+    /// The limits of a trace in memory: 2^25 requests and 2^36 bytes.
     pub fn full() -> Limits
         ensures { result ≡ full_limits }
     {
         Limits {
             requests: 1 << 25,
             bytes: 1 << 36,
+        }
+    }
+
+    /// The limits of a trace that is read in one pass: 2^32 - 1 requests and 2^44 bytes.
+    pub fn of_one_pass() -> Limits
+        ensures { result ≡ pass_limits }
+    {
+        Limits {
+            requests: u32::MAX,
+            bytes: 1 << 44,
         }
     }
 }

@@ -11,6 +11,7 @@ mod notes;
 mod pieces;
 mod progress;
 mod requests;
+mod stream;
 mod volumes;
 
 pub use fault::TraceFault;
@@ -19,3 +20,4 @@ pub use freshness::{Freshness, StaleRequests};
 pub use loading::{builder_for, load, push_given};
 pub use notes::TraceNotes;
 pub use requests::RequestReader;
+pub use stream::RequestStream;

@@ -48,12 +48,14 @@ pub fn push_given(
 /// dropped in all. A reader that has answered a fault answers it again, unless there is no memory to begin with.
 ///
 /// A line that asks for more requests than there is room for is refused before any of them is taken. It takes memory for
-/// the requests, the different objects and the hosts of the volumes, and none for the text.
+/// the requests, the different objects and the hosts of the volumes, and none for the text. A trace in memory has at most
+/// 2^25 requests.
 pub fn load<S: Source>(
     alloc: Global,
     reader: &mut RequestReader,
     source: &mut S,
 ) -> Result<(Trace, u64), TraceFault>
+    requires few { reader.old.limits.requests ≤ 2 ^ 25 }
     ensures whole { reader.old.fault ≡ None → IfOk result (λ loaded. LoadsAll reader.old (S.left source.old) loaded.0 loaded.1) }
     ensures end { reader.old.fault ≡ None → IfOk result (λ _. LeavesNone reader.old reader.new (seen S.left S.faults source.old source.new)) }
     ensures seen_all { reader.old.fault ≡ None → IfOk result (λ _. HasSeenAll reader.old (S.left source.old) reader.new) }

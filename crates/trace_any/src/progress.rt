@@ -1,9 +1,9 @@
 //! How far the reading of a trace has come.
-ghost use Rattle.std.specs.Prelude.{◌≡◌, ◌+◌, ◌-◌, ◌≤◌, ◌<◌, ◌^◌, ◌&&◌, ◌⊎◌, None, Some, Err, true, false, length, nat_lt, IfOk, IfErr, IfSome, OnOk};
+ghost use Rattle.std.specs.Prelude.{◌≡◌, ◌+◌, ◌-◌, ◌≤◌, ◌<◌, ◌^◌, ◌&&◌, ◌⊎◌, None, Some, Err, true, false, length, nat_lt, IfOk, IfErr, IfSome, OnOk, OnErr};
 ghost use Rattle.bound_io.specs.Devices.{IsUntouched, seen};
 ghost use Rattle.bound_io.specs.Reading.{LosesPrefix};
 ghost use Rattle.std.specs.Option.{option_map};
-ghost use Rattle.freshness.specs.Seen.{noted_of};
+ghost use Rattle.freshness.specs.Stale.{can_end};
 ghost use Rattle.trace_lines.specs.Lines.{IsSpan};
 ghost use Rattle.trace_any.specs.Readings.{IsFormat, NamesVolumes, TakesMemory, is_marked};
 ghost use Rattle.trace_any.specs.Readers.{ahead_by, ahead_of};
@@ -16,7 +16,7 @@ use crate::volumes::Volumes;
 use bound_base::NoMemory;
 use bound_io::{LineReader, Source};
 use cache_rules::Object;
-use freshness::{SeenObjects, StaleRequests};
+use freshness::SeenObjects;
 use std::alloc::Global;
 use std::marker::Model;
 use trace_lines::Span;
@@ -24,7 +24,7 @@ use trace_lines::Span;
 // The blocks of the last line whose requests are still to be given.
 #[derive(Clone, Copy)]
 struct Range {
-    volume: u32,
+    volume: u64,
     time: u64,
     fills: bool,
     first: u64,
@@ -48,7 +48,7 @@ pub(crate) struct Progress {
 }
 
 impl Model for Progress {
-    ghost use Rattle.std.specs.Prelude.{◌≡◌, ◌≤◌, ◌^◌, ◌+◌, None, length};
+    ghost use Rattle.std.specs.Prelude.{◌≡◌, ◌≤◌, ◌<◌, ◌^◌, ◌+◌, None, length};
     ghost use Rattle.trace_any.specs.Readers.{Reader, ahead_of};
     ghost use Rattle.trace_any.specs.Readings.{IsFormat};
 
@@ -68,18 +68,20 @@ impl Model for Progress {
     } };
 
     ghost invariant = { λ r.
-        IsFormat r.format × (r.limits.requests ≤ 2 ^ 25) × (r.limits.bytes ≤ 2 ^ 36) × (r.lines.limit ≡ r.limits.bytes)
+        IsFormat r.format × (r.limits.requests < 2 ^ 32) × (r.limits.bytes ≤ 2 ^ 44) × (r.lines.limit ≡ r.limits.bytes)
         × (r.lines.consumed ≤ r.limits.bytes) × (r.lines.line ≤ r.lines.consumed) × (length r.lines.held ≤ 65536)
         × (r.given ≤ r.limits.requests) × (r.dropped ≤ r.lines.line) × (length r.volumes ≤ r.given + 1)
         × (r.ahead.count ≡ 0 → length r.volumes ≤ r.given) × (r.seen.noted.late ≤ r.given)
-        × (1 ≤ r.ahead.count → (1 ≤ r.ahead.size) × (r.ahead.size ≤ 2 ^ 48) × (r.ahead.first + r.ahead.count ≤ 2 ^ 64)) };
+        × (1 ≤ r.ahead.count → (1 ≤ r.ahead.size) × (r.ahead.size ≤ 2 ^ 48) × (r.ahead.first + r.ahead.count ≤ 2 ^ 64))
+        × (r.ahead.volume ≤ length r.volumes) };
 }
 
 // The blocks that a line asks for, if any.
-fn range_of(volume: u32, time: u64, fills: bool, span: Span) -> Option<Range>
+fn range_of(volume: u64, time: u64, fills: bool, span: Span) -> Option<Range>
     requires { IsSpan span }
     ensures ahead { option_map ahead_of result ≡ ahead_by volume (record { time = time; fills = fills }) span }
     ensures range { IfSome result (λ r. (1 ≤ r.count) × (1 ≤ r.size) × (r.size ≤ 2 ^ 48) × (r.first + r.count ≤ 2 ^ 64)) }
+    ensures volume { IfSome result (λ r. r.volume ≡ volume) }
 {
     let (first, count, size) = match span {
         Span::Nothing => return None,
@@ -98,13 +100,13 @@ fn range_of(volume: u32, time: u64, fills: bool, span: Span) -> Option<Range>
 
 impl Progress {
     ghost use Rattle.trace_any.specs.FirstLines.{GivesFirstIn, GoesNoFurtherFrom, GoesToRequest, StopsNoFurther};
-    ghost use Rattle.trace_any.specs.Readers.{GivesFirst, GivesRequest, IsUngiven, ReadsNothing, TakesLine, fresh, last_fills};
+    ghost use Rattle.trace_any.specs.Readers.{GivesFirst, GivesRequest, IsUngiven, NotesAnswer, NotesNone, NotesRequest, ReadsNothing, TakesLine, fresh, last_fills};
 
     /// Nothing is read yet. The buffer is taken here.
     pub fn new(alloc: Global, format: Format, limits: Limits) -> Result<Self, NoMemory>
         requires format { IsFormat format }
-        requires requests { limits.requests ≤ 2 ^ 25 }
-        requires bytes { limits.bytes ≤ 2 ^ 36 }
+        requires requests { limits.requests < 2 ^ 32 }
+        requires bytes { limits.bytes ≤ 2 ^ 44 }
         ensures { IfOk result (λ progress. progress ≡ fresh format limits) }
     {
         Ok(Progress {
@@ -134,18 +136,39 @@ impl Progress {
         self.dropped
     }
 
-    /// What is noted of the requests, if some can be stale.
-    pub fn noted(&self) -> &StaleRequests
-        ensures { noted_of result.now ≡ self.now.seen.noted }
+    /// How many requests had a time below the clock before them, if some can be stale.
+    pub fn late(&self) -> u64
+        ensures { result ≡ self.now.seen.noted.late }
     {
-        self.seen.noted()
+        self.seen.late()
     }
 
-    /// The same, once no more requests come.
-    pub fn into_noted(self) -> StaleRequests
-        ensures { noted_of result ≡ self.seen.noted }
+    /// Whether the last request was stale.
+    pub fn last_stale(&self) -> bool
+        ensures { result ≡ self.now.stale }
     {
-        self.seen.into_noted()
+        self.stale
+    }
+
+    /// Whether the last request only fills the cache by its own mark.
+    pub fn last_own(&self) -> bool
+        ensures { result ≡ self.now.ahead.stamp.fills }
+    {
+        self.ahead.fills
+    }
+
+    /// The time of the last request, if times are asked for, and else 0.
+    pub fn last_time(&self) -> u64
+        ensures { result ≡ self.now.ahead.stamp.time }
+    {
+        self.ahead.time
+    }
+
+    /// Whether a request can be stale.
+    pub fn can_end(&self) -> bool
+        ensures { result ≡ can_end self.now.format.fresh }
+    {
+        self.format.fresh.can_end()
     }
 
     /// Whether the form of the trace has marks.
@@ -174,9 +197,10 @@ impl Progress {
         requires no_fault { self.old.lines.fault ≡ None }
         requires nothing_ahead { self.old.ahead.count ≡ 0 }
         ensures still { (self.new.format ≡ self.old.format) × (self.new.limits ≡ self.old.limits) × (self.new.given ≡ self.old.given) }
+        ensures seen { self.new.seen ≡ self.old.seen }
         ensures no_fault { OnOk result (self.new.lines.fault ≡ None) }
         ensures within { (self.new.lines.consumed ≤ self.new.limits.bytes) × (length self.new.lines.held ≤ 65536) }
-        ensures few { (self.new.given ≤ self.new.limits.requests) × (self.new.limits.requests ≤ 2 ^ 25) }
+        ensures few { (self.new.given ≤ self.new.limits.requests) × (self.new.limits.requests < 2 ^ 32) }
         ensures forgets_none { self.old.dropped ≤ self.new.dropped }
         ensures taken { TakesLine self.old self.new (seen S.left S.faults source.old source.new) result }
         ensures lines { IfOk result (λ more. more ≡ true → GoesNoFurtherFrom (S.left source.old) (λ s. s) self.old self.new) }
@@ -215,17 +239,20 @@ impl Progress {
     fn give(&mut self) -> Result<Object, TraceFault>
         requires some { 0 < self.old.ahead.count }
         ensures still { ReadsNothing self.old self.new }
-        ensures few { (self.new.given ≤ self.new.limits.requests) × (self.new.limits.requests ≤ 2 ^ 25) }
+        ensures few { (self.new.given ≤ self.new.limits.requests) × (self.new.limits.requests < 2 ^ 32) }
         ensures size { IfOk result (λ x. (1 ≤ x.size) × (x.size ≤ 2 ^ 48)) }
         ensures given { IfOk result (GivesFirst self.old self.new) }
         ensures given_in { IfOk result (GivesFirstIn self.old self.new) }
         ensures ungiven { IfErr result (IsUngiven self.old self.new) }
+        ensures noted { IfOk result (NotesRequest self.old self.new) }
+        ensures none_noted { OnErr result (NotesNone self.old self.new) }
+        ensures late { self.new.seen.noted.late ≤ self.new.given }
     {
         if self.given == self.limits.requests {
             return Err(TraceFault::TooManyRequests);
         }
         let object = Object {
-            volume: self.ahead.volume,
+            volume: self.ahead.volume as u32,
             id: self.ahead.first,
             size: self.ahead.size,
         };
@@ -246,7 +273,9 @@ impl Progress {
         ensures still { (self.new.format ≡ self.old.format) × (self.new.limits ≡ self.old.limits) }
         ensures no_fault { OnOk result (self.new.lines.fault ≡ None) }
         ensures size { IfOk result (λ found. IfSome found (λ x. (1 ≤ x.size) × (x.size ≤ 2 ^ 48))) }
-        ensures few { (self.new.given ≤ self.new.limits.requests) × (self.new.limits.requests ≤ 2 ^ 25) }
+        ensures few { (self.new.given ≤ self.new.limits.requests) × (self.new.limits.requests < 2 ^ 32) }
+        ensures noted { NotesAnswer self.old self.new result }
+        ensures late { self.new.seen.noted.late ≤ self.new.given }
         ensures ahead { length self.new.lines.held ≤ 65536 }
         ensures forgets_none { self.old.dropped ≤ self.new.dropped }
         ensures next { GivesRequest self.old self.new (seen S.left S.faults source.old source.new) result }

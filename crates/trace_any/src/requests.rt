@@ -1,14 +1,14 @@
-//! A reader of requests.
-ghost use Rattle.std.specs.Prelude.{◌≡◌, ◌-◌, ◌≤◌, ◌<◌, ◌^◌, ◌&&◌, ◌⊎◌, None, Some, Err, IfOk, IfErr, IfSome, OnOk, length, nat_lt};
+//! A reader of requests that keeps what is noted of them.
+ghost use Rattle.std.specs.Prelude.{◌≡◌, ◌+◌, ◌-◌, ◌≤◌, ◌<◌, ◌^◌, ◌&&◌, ◌⊎◌, true, None, Some, Err, IfOk, IfErr, IfSome, OnOk, OnErr, length, nat_lt};
 ghost use Rattle.bound_io.specs.Devices.{IsUntouched, seen};
 ghost use Rattle.bound_io.specs.Reading.{LosesPrefix};
-ghost use Rattle.freshness.specs.Seen.{noted_of};
+ghost use Rattle.freshness.specs.Seen.{HasRoomForOne, noted_of, with_noted};
 ghost use Rattle.trace_any.specs.Readings.{IsFormat, TakesMemory, is_marked};
 
 use crate::fault::TraceFault;
 use crate::format::{Format, Limits};
 use crate::notes::TraceNotes;
-use crate::progress::Progress;
+use crate::stream::RequestStream;
 use bound_base::NoMemory;
 use bound_io::Source;
 use cache_rules::Object;
@@ -20,24 +20,47 @@ use std::marker::Model;
 ///
 /// It doesn't keep the source: each reading call is given it. Over one source the requests are those of all its
 /// bytes, in whatever pieces it gives them. A reader that has answered a fault answers the same from then on, and
-/// reads nothing more.
+/// reads nothing more. If a request can be stale, it keeps what is noted of each.
 #[derive(Drop)]
 pub struct RequestReader {
-    progress: Progress,
-    fault: Option<TraceFault>,
+    stream: RequestStream,
+    noted: StaleRequests,
 }
 
 impl Model for RequestReader {
-    ghost use Rattle.std.specs.Prelude.{◌≡◌, ◌≤◌, ◌^◌, ◌&&◌, None, length};
-    ghost use Rattle.trace_any.specs.Readers.{Reader, with_fault};
+    ghost use Rattle.std.specs.Prelude.{◌≡◌, ◌≤◌, ◌<◌, ◌^◌, length};
+    ghost use Rattle.freshness.specs.Seen.{noted_of};
+    ghost use Rattle.trace_any.specs.Readers.{Reader};
 
     ghost Value = { Reader };
 
-    ghost view = { λ r. with_fault r.progress r.fault };
+    ghost view = { λ r. r.stream };
 
     ghost invariant = { λ r.
-        (r.fault ≡ None → r.progress.lines.fault ≡ None) × (r.progress.given ≤ r.progress.limits.requests)
-        × (r.progress.limits.requests ≤ 2 ^ 25) × (length r.progress.lines.held ≤ 65536) };
+        (noted_of r.noted ≡ r.stream.seen.noted) × (r.stream.seen.noted.late ≤ r.stream.given)
+        × (r.stream.given ≤ r.stream.limits.requests) × (r.stream.limits.requests < 2 ^ 32) × (length r.stream.lines.held ≤ 65536) };
+}
+
+// Makes room for what is noted of one request more, if it can be stale.
+fn make_room(noted: &mut StaleRequests, can_end: bool) -> Result<(), NoMemory>
+    ensures noted { noted_of noted.new ≡ noted_of noted.old }
+    ensures room { OnOk result (can_end ≡ true → HasRoomForOne noted.new) }
+    ensures memory { OnErr result (can_end ≡ true) }
+{
+    if can_end {
+        noted.make_room()?;
+    }
+    Ok(())
+}
+
+// Notes what a stream says of the request that it has just given, for which there is room.
+fn note_last(noted: &mut StaleRequests, stream: &RequestStream)
+    requires room { HasRoomForOne noted.old }
+    requires few { noted.old.late + 1 < 2 ^ 64 }
+    ensures { noted_of noted.new ≡ with_noted (noted_of noted.old) (nat_lt noted.old.late stream.now.seen.noted.late) stream.now.stale stream.now.ahead.stamp.fills }
+{
+    let late = noted.late < stream.late();
+    noted.push_reserved(late, stream.last_stale(), stream.last_own());
 }
 
 impl RequestReader {
@@ -45,16 +68,16 @@ impl RequestReader {
     ghost use Rattle.trace_any.specs.Readers.{AnswersAgain, GivesRequest, err_of, fresh, last_fills, notes_of, with_fault};
 
     /// A reader of a trace of this form, within these limits. It takes its buffer here, and later memory for each volume, and
-    /// for each request, object and id if a request can be stale.
+    /// if a request can be stale for each object and id, and two bits for each request.
     pub fn new(alloc: Global, format: Format, limits: Limits) -> Result<Self, NoMemory>
         requires format { IsFormat format }
-        requires requests { limits.requests ≤ 2 ^ 25 }
-        requires bytes { limits.bytes ≤ 2 ^ 36 }
+        requires requests { limits.requests < 2 ^ 32 }
+        requires bytes { limits.bytes ≤ 2 ^ 44 }
         ensures { IfOk result (λ reader. reader ≡ fresh format limits) }
     {
         Ok(RequestReader {
-            progress: Progress::new(alloc, format, limits)?,
-            fault: None,
+            stream: RequestStream::new(alloc, format, limits)?,
+            noted: StaleRequests::new(alloc),
         })
     }
 
@@ -62,21 +85,21 @@ impl RequestReader {
     pub fn dropped(&self) -> u64
         ensures { result ≡ self.now.dropped }
     {
-        self.progress.dropped()
+        self.stream.dropped()
     }
 
     /// What is noted of the requests, if some can be stale.
     pub fn noted(&self) -> &StaleRequests
         ensures { noted_of result.now ≡ self.now.seen.noted }
     {
-        self.progress.noted()
+        &self.noted
     }
 
     /// The same, once no more requests are asked for.
     pub fn into_noted(self) -> StaleRequests
         ensures { noted_of result ≡ self.seen.noted }
     {
-        self.progress.into_noted()
+        self.noted
     }
 
     /// What it tells beside the requests, once no more are asked for.
@@ -84,8 +107,8 @@ impl RequestReader {
         ensures { result ≡ notes_of self }
     {
         TraceNotes {
-            dropped: self.progress.dropped(),
-            noted: self.progress.into_noted(),
+            dropped: self.stream.dropped(),
+            noted: self.noted,
         }
     }
 
@@ -93,7 +116,7 @@ impl RequestReader {
     pub fn is_marked(&self) -> bool
         ensures { result ≡ is_marked self.now.format }
     {
-        self.progress.is_marked()
+        self.stream.is_marked()
     }
 
     /// Whether the request that `next` has just given only fills the cache, by its own mark or since it is stale. In a form
@@ -101,7 +124,7 @@ impl RequestReader {
     pub fn last_fills(&self) -> bool
         ensures { result ≡ (is_marked self.now.format && last_fills self.now) }
     {
-        self.progress.last_fills()
+        self.stream.last_fills()
     }
 
     /// The next request, or None at the end.
@@ -117,7 +140,7 @@ impl RequestReader {
         ensures again { AnswersAgain self.old self.new result (seen S.left S.faults source.old source.new) }
         ensures size { IfOk result (λ found. IfSome found (λ x. (1 ≤ x.size) × (x.size ≤ 2 ^ 48))) }
         ensures format { self.new.format ≡ self.old.format }
-        ensures few { (self.new.limits ≡ self.old.limits) × (self.new.given ≤ self.new.limits.requests) × (self.new.limits.requests ≤ 2 ^ 25) }
+        ensures few { (self.new.limits ≡ self.old.limits) × (self.new.given ≤ self.new.limits.requests) × (self.new.limits.requests < 2 ^ 32) }
         ensures ahead { length self.new.lines.held ≤ 65536 }
         ensures source { LosesPrefix (S.left source.old) (S.left source.new) }
         ensures later { S.faults source.old ≤ S.faults source.new }
@@ -127,21 +150,25 @@ impl RequestReader {
         ensures untouched { self.old.fault ≡ None → 0 < self.old.ahead.count → IsUntouched (seen S.left S.faults source.old source.new) }
         ensures memory { self.old.fault ≡ None → IfErr result (λ fault. fault ≡ TraceFault.NoMemory → TakesMemory self.old.format) }
     {
-        if let Some(fault) = self.fault {
+        if let Some(fault) = self.stream.fault() {
             return Err(fault);
         }
-        let found = self.progress.find(alloc, source);
-        if let Err(fault) = found {
-            self.fault = Some(fault);
+        let can_end = self.stream.can_end();
+        if let Err(NoMemory) = make_room(&mut self.noted, can_end) {
+            return Err(self.stream.refuse_rest(TraceFault::NoMemory));
         }
-        found
+        let found = self.stream.next(alloc, source)?;
+        if can_end && found.is_some() {
+            note_last(&mut self.noted, &self.stream);
+        }
+        Ok(found)
     }
 
     // Whether the blocks that are left of the last line are more than there is room for.
     pub(crate) fn passes_limit(&self) -> bool
         ensures { result ≡ nat_lt (self.now.limits.requests - self.now.given) self.now.ahead.count }
     {
-        self.progress.passes_limit()
+        self.stream.passes_limit()
     }
 
     // Refuses all that is left, for this reason.
@@ -149,7 +176,6 @@ impl RequestReader {
         ensures fault { result ≡ fault }
         ensures kept { self.new ≡ with_fault self.old (Some fault) }
     {
-        self.fault = Some(fault);
-        fault
+        self.stream.refuse_rest(fault)
     }
 }

@@ -1,5 +1,5 @@
 //! The numbers of volumes.
-ghost use Rattle.std.specs.Prelude.{◌≡◌, ◌+◌, ◌≤◌, ◌^◌, ◌&&◌, ◌==◌, [], false, length, IfOk, OnOk, OnErr};
+ghost use Rattle.std.specs.Prelude.{◌≡◌, ◌+◌, ◌≤◌, ◌<◌, ◌^◌, ◌&&◌, ◌==◌, [], false, length, IfOk, OnOk, OnErr};
 ghost use Rattle.std.specs.List.{list_any};
 ghost use Rattle.std.specs.Str.{bytes_eq};
 ghost use Rattle.trace_any.specs.Volumes.{same_volume, volume_number, with_volume};
@@ -64,8 +64,8 @@ impl Volumes {
 
     /// The number of a volume, from 1. A new one takes memory; a known one is looked up without any.
     #[inline(never)]
-    pub fn number(&mut self, alloc: Global, host: &[u8], disk: u64) -> Result<u32, NoMemory>
-        requires few { length self.old ≤ 2 ^ 25 }
+    pub fn number(&mut self, alloc: Global, host: &[u8], disk: u64) -> Result<u64, NoMemory>
+        requires few { length self.old < 2 ^ 32 }
         ensures number { IfOk result (λ n. n ≡ volume_number self.old (record { host = host.now; disk = disk })) }
         ensures volumes { OnOk result (self.new ≡ with_volume self.old (record { host = host.now; disk = disk })) }
         ensures err { OnErr result (self.new ≡ self.old) }
@@ -74,13 +74,13 @@ impl Volumes {
         ensures within { IfOk result (λ n. n ≤ length self.new) }
     {
         if let Some(index) = self.keys.get_index_of(VolumeName { host, disk }) {
-            return Ok(index as u32 + 1);
+            return Ok(index as u64 + 1);
         }
         let key = VolumeKey {
             host: Vec::from_slice(alloc, host)?,
             disk,
         };
         let (index, _) = self.keys.insert_full(key)?;
-        Ok(index as u32 + 1)
+        Ok(index as u64 + 1)
     }
 }

@@ -1,5 +1,5 @@
 //! `trace_any`: answers after a fault, and loads of what is still to come. The answers were made by hand.
-ghost use Rattle.std.specs.Prelude.{◌≡◌, None, Err};
+ghost use Rattle.std.specs.Prelude.{◌≡◌, ◌≤◌, ◌^◌, None, Err};
 
 use crate::trace_any_requests::{gives, source_of};
 use bound_io::{CalmSource, MemSource};
@@ -15,7 +15,9 @@ fn sizes_loaded(
     alloc: Global,
     reader: &mut RequestReader,
     source: &mut MemSource,
-) -> Result<(u32, u32, u64), TraceFault> {
+) -> Result<(u32, u32, u64), TraceFault>
+    requires { reader.old.limits.requests ≤ 2 ^ 25 }
+{
     let (trace, dropped) = load(alloc, reader, source)?;
     Ok((trace.len(), trace.objects(), dropped))
 }

@@ -1,4 +1,7 @@
 //! `trace_any`: the marks of requests over sources in memory, worked out by hand.
+ghost use Rattle.std.specs.Prelude.{◌≡◌};
+ghost use Rattle.trace_any.specs.Readings.{full_limits};
+
 use crate::trace_any_requests::is_format;
 use bound_io::MemSource;
 use cache_rules::{Object, Trace};
@@ -68,7 +71,9 @@ const ROWS: [Row; 4] = [
 ];
 
 // A reader of the form, which has given nothing.
-fn reader_of(rt: &impl Abort, alloc: Global, format: Format) -> RequestReader {
+fn reader_of(rt: &impl Abort, alloc: Global, format: Format) -> RequestReader
+    ensures { result.limits ≡ full_limits }
+{
     holds("a form", is_format(format)).expect(rt, "a row");
     RequestReader::new(alloc, format, Limits::full()).expect(rt, "memory")
 }

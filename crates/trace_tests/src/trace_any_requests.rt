@@ -290,7 +290,9 @@ pub fn gives(
     reader: &mut RequestReader,
     source: &mut MemSource,
     want: Result<Option<Object>, TraceFault>,
-) -> bool {
+) -> bool
+    ensures { reader.new.limits ≡ reader.old.limits }
+{
     reader.next(alloc, source) == want
 }
 

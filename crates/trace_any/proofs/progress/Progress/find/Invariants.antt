@@ -10,6 +10,7 @@ invariant-loop-self g l = record {
   format : l.self.format ≡ l.initial.self.format;
   limits : l.self.limits ≡ l.initial.self.limits;
   given : l.self.given ≡ l.initial.self.given;
+  noted : l.self.seen ≡ l.initial.self.seen;
   no_fault : l.self.lines.fault ≡ None;
   forgets_none : l.initial.self.dropped ≤ l.self.dropped;
   goes_on : IfSome (known l.initial.self (g.S.Source.left l.initial.source)) (λ bytes. GoesOn (λ r. r) l.initial.self l.self bytes (known l.self (g.S.Source.left l.source)));

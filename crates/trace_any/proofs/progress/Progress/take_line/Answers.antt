@@ -145,35 +145,35 @@ invariant_of-self g c =
     let i = c.self.invariant in
     let next = c.next_piece.follows.holds-at-none in
     let lines = goes_onward _ _ _ c.self.inside.lines c.next_piece.follows.lender-at-none _ _ c.next_piece.result i.3 i.4 i.5 i.8 next.0 in
-    (i.0, i.1, i.2, lines.limit, lines.within, lines.counted, next.1, i.7, lines.some_dropped, i.9, i.10, i.11, i.12)
+    (i.0, i.1, i.2, lines.limit, lines.within, lines.counted, next.1, i.7, lines.some_dropped, i.9, i.10, i.11, i.12, i.13)
 
 pub invariant_of-self-in_default : goal.invariant_of-self-in_default
 invariant_of-self-in_default g c =
     let i = c.self.invariant in
     let next = c.next_piece.follows.holds-at-none in
     let lines = goes_onward _ _ _ c.self.inside.lines c.next_piece.follows.lender-at-none _ _ c.next_piece.result i.3 i.4 i.5 i.8 next.0 in
-    (i.0, i.1, i.2, lines.limit, lines.within, lines.counted, next.1, i.7, lines.some_dropped, i.9, i.10, i.11, i.12)
+    (i.0, i.1, i.2, lines.limit, lines.within, lines.counted, next.1, i.7, lines.some_dropped, i.9, i.10, i.11, i.12, i.13)
 
 pub invariant_of-self-in-Err : goal.invariant_of-self-in-Err
 invariant_of-self-in-Err g c =
     let i = c.self.invariant in
     let next = c.next_piece.follows.holds-at-none in
     let lines = goes_onward _ _ _ c.self.inside.lines c.next_piece.follows.lender-at-none _ _ c.next_piece.result i.3 i.4 i.5 i.8 next.0 in
-    (i.0, i.1, i.2, lines.limit, lines.within, lines.counted, next.1, i.7, lines.some_dropped, i.9, i.10, i.11, i.12)
+    (i.0, i.1, i.2, lines.limit, lines.within, lines.counted, next.1, i.7, lines.some_dropped, i.9, i.10, i.11, i.12, i.13)
 
 pub invariant_of-self-in_default-content : goal.invariant_of-self-in_default-content
 invariant_of-self-in_default-content g c =
     let i = c.self.invariant in
     let next = c.next_piece.follows.holds-at-none in
     let lines = goes_onward _ _ _ c.self.inside.lines c.next_piece.follows.lender-at-none _ _ c.next_piece.result i.3 i.4 i.5 i.8 next.0 in
-    (i.0, i.1, i.2, lines.limit, lines.within, lines.counted, next.1, i.7, lines.some_dropped, i.9, i.10, i.11, i.12)
+    (i.0, i.1, i.2, lines.limit, lines.within, lines.counted, next.1, i.7, lines.some_dropped, i.9, i.10, i.11, i.12, i.13)
 
 pub invariant_of-self-in_err-volume : goal.invariant_of-self-in_err-volume
 invariant_of-self-in_err-volume g c =
     let i = c.self.invariant in
     let next = c.next_piece.follows.holds-at-none in
     let lines = goes_onward _ _ _ c.self.inside.lines c.next_piece.follows.lender-at-none _ _ c.next_piece.result i.3 i.4 i.5 i.8 next.0 in
-    rw (c.in_err-volume.ensures.err) (i.0, i.1, i.2, lines.limit, lines.within, lines.counted, next.1, i.7, lines.some_dropped, i.9, i.10, i.11, i.12)
+    rw (c.in_err-volume.ensures.err) (i.0, i.1, i.2, lines.limit, lines.within, lines.counted, next.1, i.7, lines.some_dropped, i.9, i.10, i.11, i.12, i.13)
 
 pub invariant_of-self-in-Some-range_of : goal.invariant_of-self-in-Some-range_of
 invariant_of-self-in-Some-range_of g c =
@@ -181,7 +181,8 @@ invariant_of-self-in-Some-range_of g c =
     let next = c.next_piece.follows.holds-at-none in
     let lines = goes_onward _ _ _ c.self.inside.lines c.next_piece.follows.lender-at-none _ _ c.next_piece.result i.3 i.4 i.5 i.8 next.0 in
     let none : c.self.inside.ahead.count ≡ 0 = ap (λ r. r.ahead.count) c.self.view_is ∙ c.requires.nothing_ahead in
-    let range = c.in-Some-range_of.ensures.range in (
+    let range = c.in-Some-range_of.ensures.range in
+    let named = c.in_ok-volume.ensures.within in (
       i.0,
       i.1,
       i.2,
@@ -195,6 +196,7 @@ invariant_of-self-in-Some-range_of g c =
       λ no. absurd (omega (arith, no, range.0)),
       i.11,
       λ some. (range.1, range.2, range.3),
+      rw (sym c.in-Some-range_of.ensures.volume) at named,
     )
 
 pub returns-in_err-text-clause-still : goal.returns-in_err-text-clause-still

@@ -1,19 +1,10 @@
-use Rattle.std.proofs.Common.{◌≡◌, Some, None, subst, rules}
-use Rattle.trace_any.specs.Readings.{TakesMemory}
-use Rattle.trace_any.specs.Readers.{Reader}
+use Rattle.std.proofs.Common.{◌∙◌, ap}
+use Rattle.trace_any.proofs.Stopping.{stands_as}
 use Rattle.trace_any.proofs.requests.RequestReader.next.Goals as goal
 
-pub returns-in-Err-clause-memory : goal.returns-in-Err-clause-memory
-returns-in-Err-clause-memory g c none no_memory = subst (λ (r : Reader). TakesMemory r.format) c.self.view_is (c.in-Err.ensures.memory no_memory)
-
-pub invariant_of-self : goal.invariant_of-self
-invariant_of-self g c = (λ none. absurd (some none), c.in-Err.ensures.few.0, c.in-Err.ensures.few.1, c.in-Err.ensures.ahead)
-  where
-    some : Some c.in-Err.fault ≡ None → ⊥
-    some e = search rules
-
-pub invariant_of-self-in_default-found : goal.invariant_of-self-in_default-found
-invariant_of-self-in_default-found g c = (λ _. c.in_default-found.ensures.no_fault, c.in_default-found.ensures.few.0, c.in_default-found.ensures.few.1, c.in_default-found.ensures.ahead)
-
-pub returns-in_default-found-clause-next : goal.returns-in_default-found-clause-next
-returns-in_default-found-clause-next g c none = search (rules, c.in_default-found.ensures.next, c.self.view_is, none)
+pub returns-in-Err-clause-no_further : goal.returns-in-Err-clause-no_further
+returns-in-Err-clause-no_further g c = λ _.
+    let old = c.args.self.now in
+    let kept = c.refuse_rest.ensures.kept in
+    let is = c.self.view_is in
+    rw (c.refuse_rest.ensures.fault) (tt, stands_as old c.refuse_rest.new.self (g.S.Source.left c.args.source.now) (ap (λ r. r.lines) kept ∙ ap (λ r. r.lines) is) (ap (λ r. r.dropped) kept ∙ ap (λ r. r.dropped) is))

@@ -17,19 +17,9 @@ at_most_one : (b : Bool) → cond b 1 0 ≤ 1
 at_most_one true = omega arith
 at_most_one false = omega arith
 
-pub overflow_cast-result : goal.overflow_cast-result
-unfolding shown
-overflow_cast-result c = omega (arith, c.in-Some.ensures.within, as_many c.self.inside.keys.keys c.args.self.now c.self.view_is, c.requires.few)
-
 pub overflow_add-result : goal.overflow_add-result
 unfolding shown
 overflow_add-result c = omega (arith, c.in-Some.ensures.within, as_many c.self.inside.keys.keys c.args.self.now c.self.view_is, c.requires.few)
-
-pub overflow_cast-result-2 : goal.overflow_cast-result-2
-unfolding shown
-overflow_cast-result-2 c =
-    let kept = as_many c.self.inside.keys.keys c.args.self.now c.self.view_is in
-    omega (arith, c.in_ok-index.ensures.within, c.in_ok-index.ensures.len, at_most_one c.in_ok-index.field-0-1, kept, c.requires.few)
 
 pub overflow_add-result-2 : goal.overflow_add-result-2
 unfolding shown
