@@ -16,7 +16,8 @@ use Rattle.area_laws.specs.Areas.{area_of, area_surplus, edge_bound}
 use Rattle.area_laws.specs.Laws.{AreasBoundEveryPolicy, GainsBoundEveryPolicy}
 use Rattle.area_laws.proofs.Since.{since, since-ge}
 use Rattle.area_laws.proofs.Held.{stored, hit_area, hit_areas-le}
-use Rattle.area_laws.proofs.Hits.{earns, hits-le, sum_by-range_le}
+use Rattle.area_laws.proofs.Hits.{earns, hits-le}
+use Rattle.interval_ends.proofs.Tables.{sum_by-range_le}
 
 module _ (terms : Terms) (delay edge : ℕ) (trace : List Object) (contents : List (List Object)) where
   -- what a hit at request t earns

@@ -15,7 +15,7 @@ object id size = record { volume = 0; id = id; size = size }
 abbrev interval : ℕ → ℕ → ℕ → ℕ → Interval
 interval a b s g = record { start = a; end = b; size = s; gain = g }
 
--- ---- B A B A, each of size 1, at a capacity of one
+-- B A B A, each of size 1, at a capacity of one
 abbrev a : Object
 a = object 1 1
 
@@ -112,7 +112,7 @@ delay_counts : ((terms : Terms) (delay edge : ℕ) (trace : List Object) (conten
 delay_counts law =
     let passed : 3 * score one turns late ≤ edge_bound one 0 3 turns = law one 1 3 turns late late_is_allowed in omega arith
 
--- ---- A(2) B(3) A(2) B(3) A(2) at a capacity of both
+-- A(2) B(3) A(2) B(3) A(2) at a capacity of both
 abbrev pair : List Object
 pair = object 1 2 ∷ object 2 3 ∷ object 1 2 ∷ object 2 3 ∷ object 1 2 ∷ []
 
@@ -156,7 +156,7 @@ areas_below_five = refl
 all_hits : gains_of (eligible_intervals (terms_from Hits 5 0 []) pair) ≡ 3
 all_hits = refl
 
--- ---- no request, and one
+-- no request, and one
 no_area : edge_bound (terms_from Hits 5 0 []) 0 3 [] ≡ 0
 no_area = refl
 

@@ -11,7 +11,7 @@ use Rattle.area_sums.specs.Bounds.{IsNoWorse}
 use Rattle.area_sums.specs.Groups.{AreCheap, IsLeastOf, IsTriedClass, area_below, both, bound_over, gain_below, gain_bound, group_at, group_below, no_group}
 use Rattle.area_sums.proofs.ShortLemmas.{grows_le, next, short_pos}
 
--- ---- one bound is no worse than another
+-- a bound is no worse than itself, nor than one that another is no worse than
 pub no_worse-refl : (a : EdgeBound) → IsNoWorse a a
 no_worse-refl a = record { floor = omega arith; edge = λ e. omega arith }
 
@@ -24,7 +24,6 @@ no_worse-trans a b c x y = record {
       omega (arith, x.edge first, y.edge second);
 }
 
--- ---- what lies below a class
 -- products grow with their factors
 pub product-le : (a b c d : ℕ) → a ≤ b → c ≤ d → a * c ≤ b * d
 product-le a b c d x y = omega (arith, mul-le-mul_left a y, mul-le-mul_left d x)
@@ -96,7 +95,6 @@ module _ (groups : List Group) where
             let all : take 0 groups ≡ groups = take_all 0 groups none in
             omega (arith, ap (sum_by (λ (g : Group). g.gain)) all)
 
-  -- ---- one class more
   module _ (area : ℕ) where
     -- a class that is tried among the first is tried among more
     later : (first class : ℕ) → IsTriedClass groups first class → IsTriedClass groups (first + 1) class

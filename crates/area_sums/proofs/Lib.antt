@@ -7,4 +7,6 @@ pub mod WithinLemmas
 pub mod AddLemmas
 pub mod TotalLemmas
 pub mod SpanLemmas
+pub mod PassLemmas
+pub mod BoundsLemmas
 mod Rows

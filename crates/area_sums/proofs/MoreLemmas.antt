@@ -3,7 +3,7 @@ use Rattle.std.proofs.Common.{◌≡◌, ℕ, ◌+◌, ◌≤◌, refl, ap, ◌�
 use Rattle.std.proofs.lemmas.Bool.{eqb-true}
 use Rattle.std.proofs.lemmas.List.Sums.{sum_by-cons}
 use Rattle.std.proofs.lemmas.List.Elements.{All-cons, All-head, All-nil, All-tail}
-use Rattle.std.specs.Map.{lookup}
+use Rattle.std.specs.Map.{lookup, set_value}
 use Rattle.indexmap.specs.IndexMap.{insert_entry}
 use Rattle.area_sums.specs.declared.group.Key.{Key}
 use Rattle.area_sums.specs.declared.group.Group.{Group}
@@ -20,6 +20,18 @@ same_key-is a b h =
     parts : (x y : Bool) → (x && y) ≡ true → (x ≡ true) × (y ≡ true)
     parts true y h = (refl, h)
     parts false y h = cc
+
+-- a write to a value that is there leaves what an insertion leaves
+pub set_value-insert : {K V : Type 0} (same : K → K → Bool) (key : K) (old new : V) (entries : List (K × V)) → lookup (same key) entries ≡ Some old
+    → set_value (same key) entries new ≡ insert_entry same entries key new
+set_value-insert same key old new [] found = cc
+set_value-insert same key old new (e ∷ es) found = by (same key e.0) found (set_value-insert same key old new es)
+  where
+    by : (b : Bool) → cond b (Some e.1) (lookup (same key) es) ≡ Some old
+        → (lookup (same key) es ≡ Some old → set_value (same key) es new ≡ insert_entry same es key new)
+        → cond b ((e.0, new) ∷ es) (e ∷ set_value (same key) es new) ≡ cond b ((e.0, new) ∷ es) (e ∷ insert_entry same es key new)
+    by true found rest = refl
+    by false found rest = ap (λ es. e ∷ es) (rest found)
 
 -- a weight of groups that adds up
 pub record AddsUp (weight : Key → Group → ℕ) : Type 0 where

@@ -7,7 +7,7 @@ use Rattle.area_sums.specs.Spans.{Span}
 use Rattle.area_sums.specs.Bounds.{bound_at, floor_of}
 use Rattle.area_sums.specs.Groups.{place_of}
 
--- ---- short numbers: all below 4096, then every second one, and every fourth from 8192 on
+-- short numbers: all below 4096, then every second one, and every fourth from 8192 on
 classes : map class_of (0 ∷ 2047 ∷ 2048 ∷ 4095 ∷ 4096 ∷ 4097 ∷ 4098 ∷ 8191 ∷ 8192 ∷ []) ≡ 0 ∷ 2047 ∷ 2048 ∷ 4095 ∷ 4096 ∷ 4096 ∷ 4097 ∷ 6143 ∷ 6144 ∷ []
 unfolding class_of class_within
 classes = refl
@@ -20,7 +20,7 @@ top_class : short_at 143360 ≡ 2 ^ 80
 unfolding short_at
 top_class = refl
 
--- ---- the requests A B A C C B A A, where A is of size 2, B of 1 and C of 3
+-- the requests A B A C C B A A, where A is of size 2, B of 1 and C of 3
 abbrev spans : List Span
 spans =
     record { size = 2; length = 2 } ∷ record { size = 3; length = 1 } ∷ record { size = 1; length = 4 }
@@ -47,6 +47,6 @@ byte_floors_at_two = refl
 floors_at_four : map (λ edge. floor_of (bound_at Hits 4 7 spans edge)) (1 ∷ 2 ∷ 5 ∷ 9 ∷ []) ≡ 5 ∷ 14 ∷ 7 ∷ 5 ∷ []
 floors_at_four = refl
 
--- ---- the first of three capacities that holds an object
+-- the first of three capacities that holds an object
 places : map (place_of (1 ∷ 2 ∷ 4 ∷ [])) (1 ∷ 2 ∷ 3 ∷ 4 ∷ 5 ∷ []) ≡ 0 ∷ 1 ∷ 2 ∷ 2 ∷ 3 ∷ []
 places = refl

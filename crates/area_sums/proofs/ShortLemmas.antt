@@ -266,8 +266,7 @@ short_above_is e n h =
     let b : e ≤ short_at (class_of n + 1) = h.least (short_at (class_of n + 1)) (at_is_short (class_of n + 1)) (class_holds n).next_above in
     omega arith
 
--- ---- at the places of 2^80 and 2^32
--- the short numbers there
+-- the short numbers at the places of 2^80 and 2^32
 pub top_is : short_at 143360 ≡ 2 ^ 80
 top_is = at_parts 69 0 (omega arith)
 

@@ -76,7 +76,7 @@ module _ (objective : Objective) (capacity class : ℕ) where
         sum_by-cons (λ s. if_so (leb s.size capacity && ltb (class_of (cost_of objective s)) class) (area_of s)) s more,
       )
 
--- ---- members
+-- the first of a list is in it, and so are the later ones
 first-in : (x : Span) (xs : List Span) → Contains (x ∷ xs) x
 first-in x xs = (0, omega arith, refl)
 
@@ -117,7 +117,6 @@ span-some p q f xs s (k, within, e) so some =
     nested true b n = refl
     nested false b n = refl
 
--- ---- one capacity
 module _ (objective : Objective) (capacities : List ℕ) (spans : List Span) (entries : List (Key × Group)) (place steps : ℕ) (groups : List Group)
     (rises : IsStrictlyIncreasing capacities) (in_place : place < length capacities) (sizes : All (λ s. 0 < s.size) spans)
     (are : AreGroupsOf objective capacities spans entries) (early : All (λ e. e.0.class < length groups) entries)

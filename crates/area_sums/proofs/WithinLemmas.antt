@@ -1,26 +1,18 @@
--- The groups of some entries, class by class.
-use Rattle.std.proofs.Common.{◌≡◌, ℕ, ◌+◌, ◌<◌, ◌≤◌, ◌^◌, refl, sym, ap, ◌∙◌, subst, Bool, true, false, ◌&&◌, ◌==◌, eqb, leb, List, [], ◌∷◌, length, max, set, get_or, replicate, All, sum_by, arith, get_or-set_same, get_or-set_other, eq-eqb, Some}
-use Rattle.std.proofs.lemmas.Bool.{eqb-false, eqb-true, ne_eqb}
-use Rattle.std.proofs.lemmas.List.{get_or-replicate, length-set, length-replicate}
+-- Groups that are added to those of their classes, and how many classes there are.
+use Rattle.std.proofs.Common.{◌≡◌, ℕ, ◌+◌, ◌<◌, ◌≤◌, ◌^◌, refl, sym, ap, ◌∙◌, subst, Bool, true, false, ◌&&◌, ◌==◌, eqb, leb, List, [], ◌∷◌, ◌++◌, length, take, max, set, get_or, All, sum_by, arith, get_or-set_same, get_or-set_other, eq-eqb, Some}
+use Rattle.std.proofs.lemmas.Bool.{eqb-false, eqb-true}
+use Rattle.std.proofs.lemmas.List.{take_more}
 use Rattle.std.proofs.lemmas.Option.{get_or_from_slice_get, slice_get-get_or}
 use Rattle.std.proofs.lemmas.List.Elements.{All-cons, All-head, All-nil, All-tail}
-use Rattle.std.proofs.lemmas.List.Sums.{sum_by-cons, sum_by-le-sum_by}
+use Rattle.std.proofs.lemmas.List.Sums.{sum_by-append, sum_by-cons, sum_by-le-sum_by, sum_by_more_le}
 use Rattle.area_sums.specs.declared.group.Key.{Key}
 use Rattle.area_sums.specs.declared.group.Group.{Group}
-use Rattle.area_sums.specs.Groups.{AreClasses, areas_where, both, gains_where, group_at, if_so, no_group}
+use Rattle.area_sums.specs.Groups.{areas_where, both, gains_where, group_at, if_so, no_group}
+use Rattle.area_sums.specs.Places.{HasMore, HasRoomFor, class_area, class_gain}
 
 -- the test of a class and of the places up to one
 abbrev pub is_class : ℕ → ℕ → ℕ → ℕ → Bool
 is_class place class p c = leb p place && (c == class)
-
--- the groups of all entries but those that are left
-pub record ArePartly (place classes : ℕ) (entries rest : List (Key × Group)) (groups : List Group) : Type 0 where
-  pub len : length groups ≡ classes
-  pub early : All (λ e. e.0.class < classes) rest
-  pub gain : (class : ℕ) → class < classes
-      → (group_at groups class).gain + gains_where (is_class place class) rest ≡ gains_where (is_class place class) entries
-  pub area : (class : ℕ) → class < classes
-      → (group_at groups class).area + areas_where (is_class place class) rest ≡ areas_where (is_class place class) entries
 
 -- what passes a test is no more than all
 if_so-le : (b : Bool) (n : ℕ) → if_so b n ≤ n
@@ -46,114 +38,98 @@ areas_where-first test e es = sum_by-cons (λ (e : Key × Group). if_so (test e.
 pub item-is : (groups : List Group) (class : ℕ) (x : Group) → class < length groups → x ≡ get_or groups class x → x ≡ group_at groups class
 item-is groups class x within e = sym (get_or_from_slice_get groups class x no_group (slice_get-get_or groups class x within ∙ ap Some (sym e)))
 
--- before the first
-pub partly-none : (place classes : ℕ) (entries : List (Key × Group)) → All (λ e. e.0.class < classes) entries
-    → ArePartly place classes entries entries (replicate classes no_group)
-partly-none place classes entries early = record {
-  len = length-replicate classes no_group;
-  early = early;
-  gain = λ class low. omega (arith, ap (λ (g : Group). g.gain) (get_or-replicate classes class no_group no_group low));
-  area = λ class low. omega (arith, ap (λ (g : Group). g.area) (get_or-replicate classes class no_group no_group low));
+-- nothing is added
+pub more-none : (groups : List Group) → HasMore groups [] groups
+more-none groups = record { gain = λ class low. omega arith; area = λ class low. omega arith }
+
+-- what is added at once, and after it
+pub more-both : (old mid new : List Group) (a b : List (Key × Group)) → length mid ≡ length old
+    → HasMore old a mid → HasMore mid b new → HasMore old (a ++ b) new
+more-both old mid new a b len x y = record {
+  gain = λ class low.
+      omega (
+        arith,
+        x.gain class low,
+        y.gain class (omega (arith, len)),
+        sum_by-append (λ (e : Key × Group). if_so (e.0.class == class) e.1.gain) a b,
+      );
+  area = λ class low.
+      omega (
+        arith,
+        x.area class low,
+        y.area class (omega (arith, len)),
+        sum_by-append (λ (e : Key × Group). if_so (e.0.class == class) e.1.area) a b,
+      );
 }
 
--- after the last
-pub partly-all : (place classes : ℕ) (entries : List (Key × Group)) (groups : List Group)
-    → ArePartly place classes entries [] groups → AreClasses place entries groups
-partly-all place classes entries groups h = record {
-  gain = λ class low. omega (arith, h.gain class (omega (arith, h.len)));
-  area = λ class low. omega (arith, h.area class (omega (arith, h.len)));
-}
+-- one group more, in its class
+module _ (groups : List Group) (e : Key × Group) (within : e.0.class < length groups) where
+  same : (class : ℕ) → e.0.class ≡ class → group_at (set groups e.0.class (both (group_at groups e.0.class) e.1)) class ≡ both (group_at groups class) e.1
+  same class s =
+      subst (λ k. group_at (set groups e.0.class (both (group_at groups e.0.class) e.1)) k ≡ both (group_at groups k) e.1) s
+      (get_or-set_same groups e.0.class (both (group_at groups e.0.class) e.1) no_group within)
 
-module _ (place classes : ℕ) (entries es : List (Key × Group)) (e : Key × Group) (groups : List Group) (h : ArePartly place classes entries (e ∷ es) groups) where
-  pub in_class : e.0.class < classes
-  in_class = All-head (λ (e : Key × Group). e.0.class < classes) e es h.early
+  apart : (class : ℕ) → (e.0.class ≡ class → ⊥) → group_at (set groups e.0.class (both (group_at groups e.0.class) e.1)) class ≡ group_at groups class
+  apart class differ = get_or-set_other groups e.0.class class (both (group_at groups e.0.class) e.1) no_group (λ s. differ (sym s))
 
-  -- an entry of a later place changes nothing
-  pub partly-no : leb e.0.place place ≡ false → ArePartly place classes entries es groups
-  partly-no late = record {
-    len = h.len;
-    early = All-tail (λ (e : Key × Group). e.0.class < classes) e es h.early;
-    gain = λ class low. omega (arith, h.gain class low, gains_where-first (is_class place class) e es, ap (λ b. if_so (b && (e.0.class == class)) e.1.gain) late);
-    area = λ class low. omega (arith, h.area class low, areas_where-first (is_class place class) e es, ap (λ b. if_so (b && (e.0.class == class)) e.1.area) late);
+  pub more-one : HasMore groups (e ∷ []) (set groups e.0.class (both (group_at groups e.0.class) e.1))
+  more-one = record {
+    gain = λ class low. gain_at class (eqb e.0.class class) refl;
+    area = λ class low. area_at class (eqb e.0.class class) refl;
   }
+    where
+      gain_at : (class : ℕ) (b : Bool) → eqb e.0.class class ≡ b
+          → (group_at (set groups e.0.class (both (group_at groups e.0.class) e.1)) class).gain ≡ (group_at groups class).gain + class_gain class (e ∷ [])
+      gain_at class true t = omega (arith, ap (λ (g : Group). g.gain) (same class (eqb-true e.0.class class t)), ap (λ b. if_so b e.1.gain) t)
+      gain_at class false t = omega (arith, ap (λ (g : Group). g.gain) (apart class (eqb-false e.0.class class t)), ap (λ b. if_so b e.1.gain) t)
 
-  module _ (yes : leb e.0.place place ≡ true) where
-    own : (n : ℕ) → if_so (is_class place e.0.class e.0.place e.0.class) n ≡ n
-    own n = ap (λ b. if_so (b && (e.0.class == e.0.class)) n) yes ∙ ap (λ b. if_so b n) (eq-eqb e.0.class e.0.class refl)
+      area_at : (class : ℕ) (b : Bool) → eqb e.0.class class ≡ b
+          → (group_at (set groups e.0.class (both (group_at groups e.0.class) e.1)) class).area ≡ (group_at groups class).area + class_area class (e ∷ [])
+      area_at class true t = omega (arith, ap (λ (g : Group). g.area) (same class (eqb-true e.0.class class t)), ap (λ b. if_so b e.1.area) t)
+      area_at class false t = omega (arith, ap (λ (g : Group). g.area) (apart class (eqb-false e.0.class class t)), ap (λ b. if_so b e.1.area) t)
 
-    other : (class n : ℕ) → (e.0.class ≡ class → ⊥) → if_so (is_class place class e.0.place e.0.class) n ≡ 0
-    other class n apart = ap (λ b. if_so (b && (e.0.class == class)) n) yes ∙ ap (λ b. if_so b n) (ne_eqb e.0.class class apart)
+-- the entry at a place
+abbrev pub entry_at : List (Key × Group) → ℕ → Key × Group
+entry_at entries k = get_or entries k (record { place = 0; class = 0 }, no_group)
 
-    -- there is room for the entry
-    pub partly-gain_fits : sum_by (λ e. e.1.gain) entries < 2 ^ 128 → (group_at groups e.0.class).gain + e.1.gain < 2 ^ 128
-    partly-gain_fits few =
-        omega (arith, h.gain e.0.class in_class, gains_where-first (is_class place e.0.class) e es, own e.1.gain, gains_where-le (is_class place e.0.class) entries)
+-- one group more of a list
+module _ (old groups : List Group) (more : List (Key × Group)) (k : ℕ) (low : k < length more) (classes : All (λ e. e.0.class < length old) more)
+    (h : HasMore old (take k more) groups) where
+  in_class : (entry_at more k).0.class < length old
+  in_class = classes k (record { place = 0; class = 0 }, no_group) low
 
-    pub partly-area_fits : sum_by (λ e. e.1.area) entries < 2 ^ 128 → (group_at groups e.0.class).area + e.1.area < 2 ^ 128
-    partly-area_fits few =
-        omega (arith, h.area e.0.class in_class, areas_where-first (is_class place e.0.class) e es, own e.1.area, areas_where-le (is_class place e.0.class) entries)
+  own : (n : ℕ) → if_so ((entry_at more k).0.class == (entry_at more k).0.class) n ≡ n
+  own n = ap (λ b. if_so b n) (eq-eqb (entry_at more k).0.class (entry_at more k).0.class refl)
 
-    -- and it goes to its class
-    pub partly-yes : ArePartly place classes entries es (set groups e.0.class (both (group_at groups e.0.class) e.1))
-    partly-yes = record {
-      len = length-set groups e.0.class (both (group_at groups e.0.class) e.1) ∙ h.len;
-      early = All-tail (λ (e : Key × Group). e.0.class < classes) e es h.early;
-      gain = λ class low. gain_at class low (eqb e.0.class class) refl;
-      area = λ class low. area_at class low (eqb e.0.class class) refl;
-    }
-      where
-        new : List Group
-        new = set groups e.0.class (both (group_at groups e.0.class) e.1)
+  -- there is room for it
+  pub next-gain_fits : HasRoomFor old more → (group_at groups (entry_at more k).0.class).gain + (entry_at more k).1.gain < 2 ^ 128
+  next-gain_fits room =
+      omega (
+        arith,
+        h.gain (entry_at more k).0.class in_class,
+        room.gain (entry_at more k).0.class in_class,
+        sum_by_more_le (λ (e : Key × Group). if_so (e.0.class == (entry_at more k).0.class) e.1.gain) more k (record { place = 0; class = 0 }, no_group) low,
+        own (entry_at more k).1.gain,
+      )
 
-        same : (class : ℕ) → e.0.class ≡ class → group_at (set groups e.0.class (both (group_at groups e.0.class) e.1)) class ≡ both (group_at groups class) e.1
-        same class s =
-            subst (λ k. group_at (set groups e.0.class (both (group_at groups e.0.class) e.1)) k ≡ both (group_at groups k) e.1) s
-            (get_or-set_same groups e.0.class (both (group_at groups e.0.class) e.1) no_group (omega (arith, in_class, h.len)))
+  pub next-area_fits : HasRoomFor old more → (group_at groups (entry_at more k).0.class).area + (entry_at more k).1.area < 2 ^ 128
+  next-area_fits room =
+      omega (
+        arith,
+        h.area (entry_at more k).0.class in_class,
+        room.area (entry_at more k).0.class in_class,
+        sum_by_more_le (λ (e : Key × Group). if_so (e.0.class == (entry_at more k).0.class) e.1.area) more k (record { place = 0; class = 0 }, no_group) low,
+        own (entry_at more k).1.area,
+      )
 
-        apart : (class : ℕ) → (e.0.class ≡ class → ⊥) → group_at (set groups e.0.class (both (group_at groups e.0.class) e.1)) class ≡ group_at groups class
-        apart class differ = get_or-set_other groups e.0.class class (both (group_at groups e.0.class) e.1) no_group (λ s. differ (sym s))
-
-        gain_at : (class : ℕ) → class < classes → (b : Bool) → eqb e.0.class class ≡ b
-            → (group_at (set groups e.0.class (both (group_at groups e.0.class) e.1)) class).gain + gains_where (is_class place class) es ≡ gains_where (is_class place class) entries
-        gain_at class low true t =
-            let s : e.0.class ≡ class = eqb-true e.0.class class t in
-            omega (
-              arith,
-              ap (λ (g : Group). g.gain) (same class s),
-              h.gain class low,
-              gains_where-first (is_class place class) e es,
-              subst (λ k. if_so (is_class place k e.0.place e.0.class) e.1.gain ≡ e.1.gain) s (own e.1.gain),
-            )
-        gain_at class low false t =
-            omega (
-              arith,
-              ap (λ (g : Group). g.gain) (apart class (eqb-false e.0.class class t)),
-              h.gain class low,
-              gains_where-first (is_class place class) e es,
-              other class e.1.gain (eqb-false e.0.class class t),
-            )
-
-        area_at : (class : ℕ) → class < classes → (b : Bool) → eqb e.0.class class ≡ b
-            → (group_at (set groups e.0.class (both (group_at groups e.0.class) e.1)) class).area + areas_where (is_class place class) es ≡ areas_where (is_class place class) entries
-        area_at class low true t =
-            let s : e.0.class ≡ class = eqb-true e.0.class class t in
-            omega (
-              arith,
-              ap (λ (g : Group). g.area) (same class s),
-              h.area class low,
-              areas_where-first (is_class place class) e es,
-              subst (λ k. if_so (is_class place k e.0.place e.0.class) e.1.area ≡ e.1.area) s (own e.1.area),
-            )
-        area_at class low false t =
-            omega (
-              arith,
-              ap (λ (g : Group). g.area) (apart class (eqb-false e.0.class class t)),
-              h.area class low,
-              areas_where-first (is_class place class) e es,
-              other class e.1.area (eqb-false e.0.class class t),
-            )
-
--- ---- how many classes there are
+  -- and it goes to its class
+  pub more-next : length groups ≡ length old
+      → HasMore old (take (k + 1) more) (set groups (entry_at more k).0.class (both (group_at groups (entry_at more k).0.class) (entry_at more k).1))
+  more-next len =
+      subst (λ es. HasMore old es (set groups (entry_at more k).0.class (both (group_at groups (entry_at more k).0.class) (entry_at more k).1)))
+      (sym (take_more more k (record { place = 0; class = 0 }, no_group) low))
+      (more-both old groups (set groups (entry_at more k).0.class (both (group_at groups (entry_at more k).0.class) (entry_at more k).1)) (take k more) (entry_at more k ∷ []) len h
+      (more-one groups (entry_at more k) (omega (arith, in_class, len))))
 
 -- so many classes are enough for all entries but those that are left, and no fewer are
 pub record IsCounted (entries rest : List (Key × Group)) (count : ℕ) : Type 0 where

@@ -1,6 +1,7 @@
 -- The least bound over edges.
-use Rattle.std.specs.Prelude.{◌≡◌, ℕ, ◌/◌, ◌<◌, ◌≤◌, ◌⊎◌, ◌==◌, if◌then◌else◌, List, Contains}
+use Rattle.std.specs.Prelude.{◌≡◌, ℕ, ◌/◌, ◌<◌, ◌≤◌, ◌⊎◌, ◌==◌, if◌then◌else◌, List, Contains, slice_index_or}
 use Rattle.cache_model.specs.declared.objects.Objective.{Objective}
+use Rattle.area_sums.specs.declared.bound.CapacityBounds.{CapacityBounds}
 use Rattle.area_sums.specs.declared.bound.EdgeBound.{EdgeBound}
 use Rattle.area_sums.specs.Short.{IsShortBelow, IsShortAbove}
 use Rattle.area_sums.specs.Spans.{Span, cost_of, edge_total, gain_total, within}
@@ -38,3 +39,8 @@ pub record IsLeastBound (objective : Objective) (capacity steps : ℕ) (spans : 
   pub is_bound : bound ≡ bound_at objective capacity steps spans bound.edge
   pub least : (edge : ℕ) → IsTried objective capacity spans edge
       → IsNoWorse bound (bound_at objective capacity steps spans edge)
+
+-- the bounds at a place of a list
+abbrev pub at_place : List CapacityBounds → ℕ → CapacityBounds
+at_place bounds place =
+    slice_index_or bounds place (record { hits = record { upper = 0; edge = 0 }; bytes = record { upper = 0; edge = 0 } })

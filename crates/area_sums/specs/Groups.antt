@@ -1,5 +1,5 @@
 -- The sums that are kept: spans in groups, by the first capacity that holds the object and by the class of the cost.
-use Rattle.std.specs.Prelude.{◌≡◌, ℕ, ◌+◌, ◌-◌, ◌*◌, ◌^◌, ◌<◌, ◌≤◌, ◌==◌, nat_lt, nat_le, Bool, ◌&&◌, ◌⊎◌, if◌then◌else◌, List, [], length, take, slice_index_or, All, count_by, sum_by, unwrap_or}
+use Rattle.std.specs.Prelude.{◌≡◌, ℕ, ◌+◌, ◌-◌, ◌*◌, ◌^◌, ◌<◌, ◌≤◌, ◌==◌, nat_lt, nat_le, Bool, ◌&&◌, ◌⊎◌, if◌then◌else◌, List, [], length, take, slice_index, slice_index_or, All, count_by, sum_by, unwrap_or}
 use Rattle.std.specs.Map.{lookup}
 use Rattle.std.specs.List.Sorted.{IsStrictlyIncreasing}
 use Rattle.indexmap.specs.IndexMap.{insert_entry}
@@ -7,9 +7,10 @@ use Rattle.cache_model.specs.declared.objects.Objective.{Objective}
 use Rattle.cache_model.specs.declared.objects.Objective.TheVariants.{Object as Hits, Bytes}
 use Rattle.area_sums.specs.declared.group.Key.{Key}
 use Rattle.area_sums.specs.declared.group.Group.{Group}
+use Rattle.area_sums.specs.declared.bound.CapacityBounds.{CapacityBounds}
 use Rattle.area_sums.specs.declared.bound.EdgeBound.{EdgeBound}
 use Rattle.area_sums.specs.Short.{class_of, short_at}
-use Rattle.area_sums.specs.Bounds.{IsNoWorse}
+use Rattle.area_sums.specs.Bounds.{IsLeastBound, IsNoWorse, at_place}
 use Rattle.area_sums.specs.Spans.{Span, area_of, cost_of, gain_of}
 
 -- the first of the ascending capacities that holds an object of a size, or how many there are if none does
@@ -74,7 +75,19 @@ pub record AreSumsOf (spans : List Span) (sums : Sums) : Type 0 where
   pub hits : AreGroupsOf Hits sums.capacities spans sums.hits
   pub bytes : AreGroupsOf Bytes sums.capacities spans sums.bytes
 
--- ---- ranges
+-- the bound is the least at the capacity of a place, of whatever spans the sums are
+abbrev pub IsLeastBoundAt : Objective → ℕ → Sums → ℕ → EdgeBound → Type 0
+IsLeastBoundAt objective place sums steps bound =
+    (spans : List Span) → AreSumsOf spans sums
+    → IsLeastBound objective (slice_index sums.capacities place) steps spans bound
+
+-- the least bounds at each of the capacities
+pub record AreLeastBounds (sums : Sums) (steps : ℕ) (bounds : List CapacityBounds) : Type 0 where
+  pub each : length bounds ≡ length sums.capacities
+  pub edges : (place : ℕ) → place < length bounds
+      → (0 < (at_place bounds place).hits.edge) × (0 < (at_place bounds place).bytes.edge)
+  pub hits : (place : ℕ) → place < length bounds → IsLeastBoundAt Hits place sums steps (at_place bounds place).hits
+  pub bytes : (place : ℕ) → place < length bounds → IsLeastBoundAt Bytes place sums steps (at_place bounds place).bytes
 
 -- the capacities are strictly ascending, and at most 2^56
 pub record AreCapacities (capacities : List ℕ) : Type 0 where
@@ -106,8 +119,6 @@ pub record AreSums (sums : Sums) : Type 0 where
   pub count : sums.count < 2 ^ 32
   pub hits : AreGroups area_classes 1 sums.count sums.hits
   pub bytes : AreGroups length_classes (2 ^ 48) sums.count sums.bytes
-
--- ---- the groups within one capacity, by class
 
 -- the group of a class
 abbrev pub group_at : List Group → ℕ → Group

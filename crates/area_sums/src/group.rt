@@ -49,7 +49,13 @@ pub(crate) fn add_to_group(
     ensures err { OnErr result (groups.new.entries ≡ groups.old.entries) }
     ensures err_only_if_full { OnErr result (spare groups.old ≡ 0) }
 {
-    let group = groups.get(&key).copied().unwrap_or(Group::EMPTY);
-    groups.insert(key, group.plus(more))?;
+    match groups.get_mut(&key) {
+        Some(group) => {
+            *group = group.plus(more);
+        }
+        None => {
+            groups.insert(key, more)?;
+        }
+    }
     Ok(())
 }

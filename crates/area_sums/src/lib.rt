@@ -7,9 +7,8 @@
 mod bound;
 mod group;
 mod least;
+mod places;
 mod short;
-#[cfg(test)]
-mod small_trace;
 mod sums;
 
 pub use bound::{CapacityBounds, EdgeBound};

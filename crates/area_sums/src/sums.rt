@@ -1,14 +1,13 @@
 //! Sums of areas, and the bounds that follow from them.
 ghost use Rattle.std.specs.Prelude.{◌≡◌, ℕ, ◌+◌, ◌<◌, ◌≤◌, ◌^◌, ◌∷◌, ◌++◌, [], List, All, length, slice_index, sum_by, IfOk, OnOk, OnErr};
 ghost use Rattle.std.specs.List.Sorted.{IsStrictlyIncreasing};
-ghost use Rattle.cache_model.specs.declared.objects.Objective.TheVariants.{Object as ForHits, Bytes as ForBytes};
 ghost use Rattle.area_sums.specs.Spans.{Span};
-ghost use Rattle.area_sums.specs.Bounds.{IsLeastBound};
-ghost use Rattle.area_sums.specs.Groups.{AreCapacities, AreClasses, AreSumsOf, no_sums, place_of};
+ghost use Rattle.area_sums.specs.Places.{pairs};
+ghost use Rattle.area_sums.specs.Groups.{AreCapacities, AreLeastBounds, AreSumsOf, no_sums, place_of};
 
-use crate::bound::CapacityBounds;
+use crate::bound::{CapacityBounds, EdgeBound};
 use crate::group::{Group, Key, add_to_group};
-use crate::least::least_bound;
+use crate::places::least_bounds;
 use crate::short::class_of;
 use bound_base::NoMemory;
 use indexmap::IndexMap;
@@ -26,6 +25,7 @@ pub struct AreaSums {
 }
 
 impl Model for AreaSums {
+    ghost use Rattle.area_sums.specs.Places.{pairs};
     ghost use Rattle.area_sums.specs.Groups.{Sums, AreSums};
 
     ghost Value = { Sums };
@@ -53,40 +53,23 @@ fn first_holding(capacities: &[u64], size: u64) -> usize
     capacities.partition_point(|capacity| *capacity < size)
 }
 
-// How many classes there are up to the greatest that has a group.
-fn class_count(entries: &IndexMap<Key, Group>) -> usize
-    ensures enough { All (λ e. e.0.class < result) entries.now.entries }
-    ensures no_more { (limit : ℕ) → All (λ e. e.0.class < limit) entries.now.entries → result ≤ limit }
-{
-    let mut count = 0;
-    for (key, _) in entries.iter() {
-        count = count.max(key.class as usize + 1);
-    }
-    count
-}
-
-// The groups of the places up to one, by class.
-fn groups_within(
+// The bounds of hits and of bytes, capacity by capacity.
+fn paired(
     alloc: Global,
-    entries: &IndexMap<Key, Group>,
-    place: usize,
-) -> Result<Vec<Group>, NoMemory>
-    requires gains { sum_by (λ e. e.1.gain) entries.now.entries < 2 ^ 128 }
-    requires areas { sum_by (λ e. e.1.area) entries.now.entries < 2 ^ 128 }
-    ensures sums { IfOk result (λ groups. AreClasses place entries.now.entries groups.items) }
-    ensures enough { IfOk result (λ groups. All (λ e. e.0.class < length groups.items) entries.now.entries) }
-    ensures no_more { IfOk result (λ groups. (limit : ℕ) → All (λ e. e.0.class < limit) entries.now.entries
-        → length groups.items ≤ limit) }
+    hits: &[EdgeBound],
+    bytes: &[EdgeBound],
+) -> Result<Vec<CapacityBounds>, NoMemory>
+    ensures { IfOk result (λ bounds. bounds.items ≡ pairs hits.now bytes.now) }
 {
-    let count = class_count(entries);
-    let mut groups = vec![in alloc; Group::EMPTY; count]?;
-    for (key, group) in entries.iter() {
-        if key.place <= place {
-            let class = key.class as usize;
-            groups[class] = groups[class].plus(*group);
-        }
-    }
-    Ok(groups)
+    Ok(
+        hits.iter()
+            .zip(bytes)
+            .map(|(hits, bytes)| CapacityBounds {
+                hits: *hits,
+                bytes: *bytes,
+            })
+            .collect(alloc)?,
+    )
 }
 
 impl AreaSums {
@@ -142,27 +125,14 @@ impl AreaSums {
         Ok(())
     }
 
-    /// The least bounds at one of the capacities. The steps are one fewer than the requests of the trace. It goes twice
-    /// over the groups and once over the classes, of which there are at most 188,416, and takes memory for these.
-    pub fn bounds_at(
-        &self,
-        alloc: Global,
-        place: usize,
-        steps: u32,
-    ) -> Result<CapacityBounds, NoMemory>
-        requires { place < length self.now.capacities }
-        ensures edges { IfOk result (λ bounds. (0 < bounds.hits.edge) × (0 < bounds.bytes.edge)) }
-        ensures hits { IfOk result (λ bounds. (spans : List Span) → AreSumsOf spans self.now
-            → IsLeastBound ForHits (slice_index self.now.capacities place) steps spans bounds.hits) }
-        ensures bytes { IfOk result (λ bounds. (spans : List Span) → AreSumsOf spans self.now
-            → IsLeastBound ForBytes (slice_index self.now.capacities place) steps spans bounds.bytes) }
+    /// The least bounds at each of the capacities, in their order. The steps are one fewer than the requests of the trace.
+    /// It sorts the groups, goes over them once, and at each capacity over the classes, of which there are at most 188,416.
+    /// It takes memory for all of these.
+    pub fn bounds(&self, alloc: Global, steps: u32) -> Result<Vec<CapacityBounds>, NoMemory>
+        ensures { IfOk result (λ bounds. AreLeastBounds self.now steps bounds.items) }
     {
-        let area = u128::from(self.capacities[place]) * u128::from(steps);
-        let hits = groups_within(alloc, &self.hits, place)?;
-        let bytes = groups_within(alloc, &self.bytes, place)?;
-        Ok(CapacityBounds {
-            hits: least_bound(&hits, area),
-            bytes: least_bound(&bytes, area),
-        })
+        let hits = least_bounds(alloc, &self.capacities, &self.hits, steps)?;
+        let bytes = least_bounds(alloc, &self.capacities, &self.bytes, steps)?;
+        paired(alloc, &hits, &bytes)
     }
 }

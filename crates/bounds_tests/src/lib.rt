@@ -7,6 +7,8 @@
 #![tactic(auto)]
 
 #[cfg(test)]
+mod area_sums_bounds;
+#[cfg(test)]
 mod constant_price_least;
 #[cfg(test)]
 mod flow_network_pushes;
@@ -34,5 +36,9 @@ mod relaxation_marks;
 mod relaxation_values;
 #[cfg(test)]
 mod schedule_round_keeps;
+#[cfg(test)]
+mod sweep_bounds_traces;
+#[cfg(test)]
+mod ttl_walk_worths;
 #[cfg(test)]
 mod window_bounds_solutions;

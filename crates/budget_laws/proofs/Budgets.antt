@@ -6,7 +6,7 @@ use Rattle.std.proofs.Math.Nat.{div-mul-le_self, div-zero, mul-le-mul_left, mul-
 use Rattle.std.proofs.lemmas.Bool.{cases_lt}
 use Rattle.std.proofs.lemmas.Grind.{div_ceil_times}
 use Rattle.std.proofs.lemmas.Nat.{le-div}
-use Rattle.std.proofs.lemmas.List.Sums.{sum_by-cons}
+use Rattle.std.proofs.lemmas.List.Sums.{sum_by-cons, sum_by-le-sum_by}
 use Rattle.cache_model.specs.Claim.{counts, gain_of, holds, before_request, request_at}
 use Rattle.cache_model.specs.Objects.{numbers_of}
 use Rattle.cache_model.specs.Intervals.{eligible_intervals, surplus}
@@ -17,8 +17,8 @@ use Rattle.cache_model.proofs.Sums.{sum_by-agree, sum_by-nothing}
 use Rattle.budget_laws.specs.Budgets.{debts, surplus_within, surpluses_within}
 use Rattle.budget_laws.specs.Laws.{NoPolicyScoresMoreWithin, EveryBudget, WritesForAScore, BudgetsRise, NoBudget, PlainBoundsBudgets}
 use Rattle.budget_laws.proofs.Debts.{debts-unpriced}
-use Rattle.budget_laws.proofs.Ends.{sum_by-ends}
-use Rattle.budget_laws.proofs.Holding.{held-weight}
+use Rattle.interval_ends.proofs.Ends.{sums_by_ends}
+use Rattle.interval_ends.proofs.Holding.{held-weight}
 use Rattle.budget_laws.proofs.Within.{load, priced, so_far}
 
 -- what a test lets pass, times a number
@@ -93,7 +93,7 @@ every_budget terms unit d trace prices q contents allowed same =
       ap (λ k. sum_by steps (range_with_len 0 k)) same,
       paid-le unit q (λ t. nat_le terms.warmup t && writes terms.fills trace contents t)
           (λ t. (request_at trace t).size) (numbers_of trace),
-      sum_by-ends (surplus_within unit d prices (debts terms unit d trace prices q (length trace))) terms trace,
+      sums_by_ends (surplus_within unit d prices (debts terms unit d trace prices q (length trace))) terms trace,
     )
 
 pub no_policy_scores_more_within : NoPolicyScoresMoreWithin
@@ -127,10 +127,6 @@ pub budgets_rise : BudgetsRise
 budgets_rise terms unit d trace prices q budget more low =
     omega (arith, mul-le-mul_right q (units-rise budget more unit low))
 
-sum_by-mono : (f g : ℕ → ℕ) (xs : List ℕ) → ((t : ℕ) → f t ≤ g t) → sum_by f xs ≤ sum_by g xs
-sum_by-mono f g [] below = omega arith
-sum_by-mono f g (x ∷ xs) below = omega (arith, sum_by-cons f x xs, sum_by-cons g x xs, below x, sum_by-mono f g xs below)
-
 pub no_budget : NoBudget
 no_budget terms unit d trace prices budget contents =
     let owing : List ℕ = debts terms unit d trace prices 0 (length trace) in
@@ -138,7 +134,7 @@ no_budget terms unit d trace prices budget contents =
     = sum_by-agree (surplus_within unit d prices owing) (surplus unit d prices) (eligible_intervals terms trace)
     (λ i. omega (arith, debts-unpriced terms unit d trace prices i.start)) in (
       omega arith,
-      sum_by-mono _ _ (numbers_of trace)
+      sum_by-le-sum_by _ _ (numbers_of trace)
           (λ t. at (nat_le terms.warmup t) (writes terms.fills trace contents t) (request_at trace t).size),
     )
   where

@@ -9,8 +9,9 @@ use Rattle.cache_model.specs.declared.intervals.Interval.{Interval}
 use Rattle.cache_model.specs.Claim.{Terms, counts, request_at}
 use Rattle.cache_model.specs.Objects.{IsNext}
 use Rattle.cache_model.specs.Intervals.{interval_of}
-use Rattle.budget_laws.specs.Budgets.{fee_of, eligible_to, owed, debt_after, debts, surplus_within}
-use Rattle.budget_laws.proofs.Ends.{eligible_to-next}
+use Rattle.budget_laws.specs.Budgets.{fee_of, owed, debt_after, debts, surplus_within}
+use Rattle.interval_ends.specs.Ends.{eligible_to}
+use Rattle.interval_ends.proofs.Ends.{next_ends_alone}
 
 -- a debt is at most the fee
 debt_after-le : (unit d : ℕ) (prices owing : List ℕ) (fee : ℕ) (ends : List Interval)
@@ -80,7 +81,7 @@ module _ (terms : Terms) (unit d : ℕ) (trace : List Object) (prices : List ℕ
         let fee : ℕ = fee_of terms unit trace q t in
         let own : debt t ≡ debt_after unit d prices (debts_of t) fee (interval ∷ [])
         = debt-own t next.within
-        ∙ ap (debt_after unit d prices (debts_of t) fee) (eligible_to-next terms trace a t next fits counted) in
+        ∙ ap (debt_after unit d prices (debts_of t) fee) (next_ends_alone terms trace a t next fits counted) in
         omega (
           arith,
           own,
@@ -93,7 +94,7 @@ module _ (terms : Terms) (unit d : ℕ) (trace : List Object) (prices : List ℕ
     unfolding debt
     surplus-owing =
         let f : Interval → ℕ = surplus_within unit d prices (debts_of (length trace)) in
-        ap (sum_by f) (eligible_to-next terms trace a t next fits counted) ∙ omega (arith, sum_by-cons f interval [])
+        ap (sum_by f) (next_ends_alone terms trace a t next fits counted) ∙ omega (arith, sum_by-cons f interval [])
 
 -- if writing has no price, nothing is owed
 pub debts-unpriced : (terms : Terms) (unit d : ℕ) (trace : List Object) (prices : List ℕ) (t : ℕ)

@@ -1,60 +1,13 @@
 -- What each object owes before each request, and how contents that step on stay within it.
-use Rattle.std.proofs.Common.{◌≡◌, ℕ, zero, suc, ◌+◌, ◌-◌, ◌*◌, ◌<◌, ◌≤◌, ◌∙◌, sym, refl, ap, Bool, true, false, not, cond, List, [], ◌∷◌, length, arith, ⊎_elim, get_or, sum, sum_by, take, drop, slice_range}
+use Rattle.std.proofs.Common.{◌≡◌, ℕ, ◌+◌, ◌≤◌, ◌∙◌, sym, refl, ap, Bool, true, false, not, cond, List, [], ◌∷◌, arith, ⊎_elim, sum_by}
 use Rattle.std.specs.List.{IsDistinct, AllByRecursion}
-use Rattle.std.proofs.lemmas.Bool.{cases_eq, both_ways, or_cases, or_parts}
-use Rattle.std.proofs.lemmas.List.Edits.{between_more}
-use Rattle.std.proofs.lemmas.List.Sums.{sum_by-cons, sum_by_push}
+use Rattle.std.proofs.lemmas.Bool.{both_ways, or_cases, or_parts}
+use Rattle.std.proofs.lemmas.List.Sums.{sum_by-cons}
 use Rattle.cache_model.specs.declared.objects.Object.{Object}
-use Rattle.cache_model.specs.Claim.{same_object, holds, request_at}
-use Rattle.cache_model.specs.Objects.{IsNext}
-use Rattle.cache_model.proofs.Duality.{same_object-true, same_object-refl, without, holds-without, inside-without, sum_by-subset}
+use Rattle.cache_model.specs.Claim.{same_object, holds}
+use Rattle.cache_model.proofs.Duality.{same_object-refl, without, holds-without, inside-without, sum_by-subset}
 use Rattle.cache_model.proofs.Pairs.{same_object-sym}
 use Rattle.cache_model.proofs.Sums.{sum_by-agree, sum_by-filter}
-
--- the prices of no steps
-sum-none : (prices : List ℕ) (a : ℕ) → sum (slice_range prices a a) ≡ 0
-sum-none prices a = let e : a - a ≡ 0 = omega arith in ap (λ k. sum (take k (drop a prices))) e
-
--- one more step
-sum-more : (prices : List ℕ) (a b : ℕ) → a ≤ b → b < length prices
-    → sum (slice_range prices a (suc b)) ≡ sum (slice_range prices a b) + get_or prices b 0
-sum-more prices a b low high =
-    let e : suc b ≡ b + 1 = omega arith in
-    ap (λ k. sum (slice_range prices a k)) e ∙ ap sum (between_more prices a b 0 low high)
-    ∙ sum_by_push (λ (n : ℕ). n) (slice_range prices a b) (get_or prices b 0)
-
-module _ (trace : List Object) (prices : List ℕ) (w : Object → ℕ) (debt : ℕ → ℕ) where
-  -- what x owes before request n: the debt after its latest request, and its weight times the prices of the steps since
-  unfoldable pub owes : ℕ → Object → ℕ
-  owes zero x = 0
-  owes (suc n) x = cond (same_object (request_at trace n) x) (debt n) (owes n x) + w x * get_or prices n 0
-
-  -- before the next request it is what the interval owes
-  pub owes-next : (a b : ℕ) → length prices ≡ length trace → IsNext trace a b
-      → owes b (request_at trace b) ≡ debt a + w (request_at trace a) * sum (slice_range prices a b)
-  unfolding owes
-  owes-next a b same n =
-      let here : request_at trace a ≡ request_at trace b = same_object-true (request_at trace a) (request_at trace b) n.same in
-      ap (owes b) (sym here) ∙ since b n.before (omega arith)
-    where
-      since : (k : ℕ) → a < k → k ≤ b → owes k (request_at trace a) ≡ debt a + w (request_at trace a) * sum (slice_range prices a k)
-      since zero low high = absurd (omega arith)
-      since (suc k) low high =
-          let y : Object = request_at trace a in
-          let more : w y * sum (slice_range prices a (suc k)) ≡ w y * (sum (slice_range prices a k) + get_or prices k 0)
-          = ap (λ m. w y * m) (sum-more prices a k (omega arith) (omega (arith, n.within))) in
-          ⊎_elim
-          (λ (e : k ≡ a).
-          let own : owes (suc k) y ≡ debt a + w y * get_or prices k 0
-          = ap (λ j. cond (same_object (request_at trace j) y) (debt j) (owes j y) + w y * get_or prices k 0) e
-          ∙ ap (λ s. cond s (debt a) (owes a y) + w y * get_or prices k 0) (same_object-refl y) in
-          omega (arith, own, more, ap (λ j. w y * sum (slice_range prices a j)) e, ap (λ m. w y * m) (sum-none prices a)))
-          (λ (ne : k ≡ a → ⊥).
-          let other : owes (suc k) y ≡ owes k y + w y * get_or prices k 0
-          = ap (λ s. cond s (debt k) (owes k y) + w y * get_or prices k 0)
-          (same_object-sym (request_at trace k) y ∙ n.others k (omega arith) (omega arith)) in
-          omega (arith, other, more, since k (omega arith) (omega arith)))
-          (cases_eq k a)
 
 -- members of the next contents that are not r were held before, if r is no member
 inside-others : (r : Object) (held xs : List Object)

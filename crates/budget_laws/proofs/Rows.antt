@@ -24,7 +24,7 @@ at_two = upper 1 2 4
 abbrev debts_at_two : Terms → List Object → List ℕ
 debts_at_two terms trace = debts terms 1 4 trace (prices 1 trace) 2 (length trace)
 
--- ---- A B A B C A B C of 2, 1 and 3 bytes, at capacity 3
+-- A B A B C A B C of 2, 1 and 3 bytes, at capacity 3
 abbrev three : List Object
 three = object 0 2 ∷ object 1 1 ∷ object 0 2 ∷ object 1 1 ∷ object 2 3 ∷ object 0 2 ∷ object 1 1 ∷ object 2 3 ∷ []
 
@@ -84,7 +84,7 @@ both_written = refl
 all_asked : asked_bytes 0 three ≡ 15
 all_asked = refl
 
--- ---- the same with a warm-up of three requests
+-- the same with a warm-up of three requests
 abbrev warm : Terms
 warm = terms_from Hits 3 3 []
 
@@ -112,7 +112,7 @@ warm_best_3 = refl
 all_asked_past_three : asked_bytes 3 three ≡ 10
 all_asked_past_three = refl
 
--- ---- bytes in place of hits
+-- bytes in place of hits
 abbrev bytes : Terms
 bytes = terms_from Bytes 3 0 []
 
@@ -131,11 +131,11 @@ bytes_best_2 = refl
 bytes_best_6 : upper 1 0 3 bytes three 6 ≡ 24
 bytes_best_6 = refl
 
--- ---- in units of 2 bytes, of which a budget of 3 has one, and B has none
+-- in units of 2 bytes, of which a budget of 3 has one, and B has none
 three_in_pairs : bound_within hits 2 4 three (prices 1 three) 2 3 ≡ 18
 three_in_pairs = refl
 
--- ---- A B A B A B A B of a byte each, at capacity 1
+-- A B A B A B A B of a byte each, at capacity 1
 abbrev turns : List Object
 turns = object 0 1 ∷ object 1 1 ∷ object 0 1 ∷ object 1 1 ∷ object 0 1 ∷ object 1 1 ∷ object 0 1 ∷ object 1 1 ∷ []
 
@@ -157,7 +157,7 @@ turns_best_1 = refl
 turns_best_2 : upper 1 0 2 one turns 2 ≡ 7
 turns_best_2 = refl
 
--- ---- A A B A A B A, where A has 2 bytes, and its first and third requests only fill
+-- A A B A A B A, where A has 2 bytes, and its first and third requests only fill
 abbrev marked : List Object
 marked = object 0 2 ∷ object 0 2 ∷ object 1 1 ∷ object 0 2 ∷ object 0 2 ∷ object 1 1 ∷ object 0 2 ∷ []
 

@@ -10,8 +10,9 @@ use Rattle.cache_model.proofs.Duality.{same_object-true, without, sum_by-without
 use Rattle.cache_model.proofs.Pairs.{weight_of}
 use Rattle.cache_model.proofs.Streams.{sum_by-range_last}
 use Rattle.budget_laws.proofs.Debts.{debt, debt-le_fee, debt-le_owing, surplus-owing, surplus_at, owing}
-use Rattle.budget_laws.proofs.Owing.{owes, owes-next, anew, next-anew}
-use Rattle.budget_laws.proofs.Holding.{all_entered, held-apart, held-fits, held-next}
+use Rattle.budget_laws.proofs.Owing.{anew, next-anew}
+use Rattle.interval_ends.proofs.Owing.{owes, owes-next}
+use Rattle.interval_ends.proofs.Holding.{all_entered, held-apart, held-fits, held-next}
 
 -- one request: past the warm-up or not, it only fills or not, its object was held or not, and is now
 one_request : (past fill was now : Bool) (gain fee debt owe top : ℕ)

@@ -1,20 +1,16 @@
 -- A budget of bytes to write: fees, debts and the bound within it. The price of writing is that of one unit.
-use Rattle.std.specs.Prelude.{ℕ, zero, suc, ◌+◌, ◌-◌, ◌*◌, ◌/◌, min, nat_le, if◌then◌else◌, List, [], ◌∷◌, ◌++◌, length, map, filter, slice_index_or, slice_range, sum, sum_by}
+use Rattle.std.specs.Prelude.{ℕ, zero, suc, ◌+◌, ◌-◌, ◌*◌, ◌/◌, min, nat_le, if◌then◌else◌, List, [], ◌∷◌, ◌++◌, length, slice_index_or, slice_range, sum, sum_by}
 use Rattle.cache_model.specs.declared.objects.Object.{Object}
 use Rattle.cache_model.specs.declared.intervals.Interval.{Interval}
 use Rattle.cache_model.specs.Claim.{Terms, request_at}
 use Rattle.cache_model.specs.Objects.{numbers_of}
-use Rattle.cache_model.specs.Intervals.{is_eligible, interval_of, eligible_intervals}
+use Rattle.cache_model.specs.Intervals.{eligible_intervals}
 use Rattle.cache_model.specs.Units.{weight}
+use Rattle.interval_ends.specs.Ends.{eligible_to}
 
 -- the fee of request t: from the warm-up on the price of writing times the weight of its object, and 0 before
 abbrev pub fee_of : Terms → ℕ → List Object → ℕ → ℕ → ℕ
 fee_of terms unit trace write_price t = if nat_le terms.warmup t then write_price * ((request_at trace t).size / unit) else 0
-
--- the eligible intervals that end at request b: one, or none
-abbrev pub eligible_to : Terms → List Object → ℕ → List Interval
-eligible_to terms trace b =
-    map (λ a. interval_of terms.objective trace a b) (filter (λ a. is_eligible terms trace a b) (numbers_of trace))
 
 -- what an interval owes at its end: the debt after its start, and its weight times the prices of the steps covered
 abbrev pub owed : ℕ → List ℕ → List ℕ → Interval → ℕ

@@ -1,33 +1,20 @@
 -- Sums over the eligible intervals are sums over the spans within the capacity.
-use Rattle.std.proofs.Common.{◌≡◌, ℕ, ◌+◌, ◌-◌, ◌<◌, ◌≤◌, ◌∙◌, sym, refl, ap, Bool, true, false, ◌&&◌, cond, nat_le, List, [], ◌∷◌, length, arith, map, filter, sum_by}
+use Rattle.std.proofs.Common.{◌≡◌, ℕ, ◌+◌, ◌-◌, ◌<◌, ◌≤◌, ◌∙◌, sym, refl, ap, Bool, true, false, ◌&&◌, cond, nat_le, List, [], length, arith, map, filter, sum_by}
 use Rattle.std.specs.List.{range_with_len}
 use Rattle.std.proofs.lemmas.Bool.{le-ltb, lt-ltb}
-use Rattle.std.proofs.lemmas.List.Sums.{sum_by-cons}
 use Rattle.cache_model.specs.declared.objects.Object.{Object}
 use Rattle.cache_model.specs.declared.intervals.Interval.{Interval}
 use Rattle.cache_model.specs.Claim.{Terms, counts, is_latest, request_at, same_object}
 use Rattle.cache_model.specs.Objects.{numbers_of}
-use Rattle.cache_model.specs.Intervals.{eligible_from, eligible_intervals, interval_of, is_eligible}
+use Rattle.cache_model.specs.Intervals.{eligible_intervals, interval_of, is_eligible}
 use Rattle.cache_model.proofs.Duality.{same_object-true}
-use Rattle.cache_model.proofs.Ranges.{sum_by-add}
 use Rattle.cache_model.proofs.Rounding.{sum_by-range_upto}
 use Rattle.cache_model.proofs.Streams.{sum_by-range_agree}
-use Rattle.cache_model.proofs.Sums.{sum_by-agree, sum_by-filter, sum_by-flat_map, sum_by-map, sum_by-nothing}
+use Rattle.cache_model.proofs.Sums.{sum_by-filter, sum_by-flat_map, sum_by-map, sum_by-nothing}
+use Rattle.interval_ends.specs.Ends.{eligible_to}
+use Rattle.interval_ends.proofs.Ends.{sums_by_ends}
 use Rattle.area_sums.specs.Spans.{Span, within}
 use Rattle.sweep_bounds.specs.Spans.{last_before, span_from, spans_at, spans_of}
-
--- rows and columns of a table sum to the same
-sum_by-turn : (f : ℕ → ℕ → ℕ) (xs ys : List ℕ) → sum_by (λ x. sum_by (f x) ys) xs ≡ sum_by (λ y. sum_by (λ x. f x y) xs) ys
-sum_by-turn f [] ys = sym (sum_by-nothing (λ y. 0) ys (λ y. omega arith))
-sum_by-turn f (x ∷ xs) ys =
-    omega (
-      arith,
-      sum_by-cons (λ x. sum_by (f x) ys) x xs,
-      sum_by-turn f xs ys,
-      sum_by-add (f x) (λ y. sum_by (λ x. f x y) xs) ys,
-      sum_by-agree (λ y. sum_by (λ x. f x y) (x ∷ xs)) (λ y. f x y + sum_by (λ x. f x y) xs) ys
-          (λ y. sum_by-cons (λ x. f x y) x xs),
-    )
 
 -- a range whose terms are 0 from the first n on
 sum_by-range_short : (f g : ℕ → ℕ) (n m : ℕ) → n ≤ m → ((k : ℕ) → k < n → f k ≡ g k) → ((k : ℕ) → n ≤ k → f k ≡ 0)
@@ -85,9 +72,11 @@ module _ (f : Interval → ℕ) (g : Span → ℕ) (terms : Terms) (delay : ℕ)
 
   -- what the intervals add that end at a request
   column : (b : ℕ) → b ≤ length trace
-      → sum_by (λ a. pair a b) (numbers_of trace) ≡ sum_by fitting (spans_at terms.warmup delay terms.fills trace b)
+      → sum_by f (eligible_to terms trace b) ≡ sum_by fitting (spans_at terms.warmup delay terms.fills trace b)
   column b within =
-      sum_by-range_short (λ a. pair a b) (λ a. cond (counts terms b) (last_pair b a) 0) b (length trace) within
+      sum_by-map f (λ a. interval_of terms.objective trace a b) (filter (λ a. is_eligible terms trace a b) (numbers_of trace))
+      ∙ sum_by-filter (λ a. f (interval_of terms.objective trace a b)) (λ a. is_eligible terms trace a b) (numbers_of trace)
+      ∙ sum_by-range_short (λ a. pair a b) (λ a. cond (counts terms b) (last_pair b a) 0) b (length trace) within
       (λ a low. pair-early a b low) (λ a high. pair-late a b high)
       ∙ at (counts terms b)
     where
@@ -103,12 +92,8 @@ module _ (f : Interval → ℕ) (g : Span → ℕ) (terms : Terms) (delay : ℕ)
   pub sum_by-spans : sum_by f (eligible_intervals terms trace) ≡ sum_by g (within terms.capacity (spans_of terms.warmup delay terms.fills trace))
   sum_by-spans =
       let requests : List ℕ = numbers_of trace in
-      sum_by-flat_map f (eligible_from terms trace) requests
-      ∙ sum_by-agree (λ a. sum_by f (eligible_from terms trace a)) (λ a. sum_by (pair a) requests) requests
-      (λ a. sum_by-map f (interval_of terms.objective trace a) (filter (is_eligible terms trace a) requests)
-      ∙ sum_by-filter (λ b. f (interval_of terms.objective trace a b)) (is_eligible terms trace a) requests)
-      ∙ sum_by-turn pair requests requests
-      ∙ sum_by-range_agree (λ b. sum_by (λ a. pair a b) requests) (λ b. sum_by fitting (spans_at terms.warmup delay terms.fills trace b)) 0 (length trace)
+      sums_by_ends f terms trace
+      ∙ sum_by-range_agree (λ b. sum_by f (eligible_to terms trace b)) (λ b. sum_by fitting (spans_at terms.warmup delay terms.fills trace b)) 0 (length trace)
       (λ b low high. column b (omega arith))
       ∙ sym
       (sum_by-filter g (λ s. nat_le s.size terms.capacity) (spans_of terms.warmup delay terms.fills trace)

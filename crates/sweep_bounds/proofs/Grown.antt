@@ -41,7 +41,7 @@ module _ (trace : List Object) (x : Object) where
   abbrev longer : List Object
   longer = trace ++ x ∷ []
 
-  -- ---- the requests so far
+  -- nothing changes for the requests so far
   is_latest-early : (t a : ℕ) → a < t → t < length trace → is_latest longer t a ≡ is_latest trace t a
   is_latest-early t a low high =
       ap (λ y. not (list_any (same_object y) (slice_range longer (a + 1) t))) (request_at-early trace x a (omega arith))
@@ -66,7 +66,7 @@ module _ (trace : List Object) (x : Object) where
       let earlier = last_before-early t within in
       λ i. spans_by delay t (nat_le warmup t && not (marked i)) (y i) (earlier i)
 
-  -- ---- the last one
+  -- the number of the last one
   abbrev now : ℕ
   now = length trace
 

@@ -23,7 +23,7 @@ c = object 3 3
 abbrev span : ℕ → ℕ → Span
 span size length = record { size = size; length = length }
 
--- ---- A B A C C B A A
+-- A B A C C B A A
 abbrev trace : List Object
 trace = a ∷ b ∷ a ∷ c ∷ c ∷ b ∷ a ∷ a ∷ []
 
@@ -63,7 +63,7 @@ hits_at_two = refl
 bytes_at_two : numerators Bytes (1 ∷ 2 ∷ 3 ∷ 4 ∷ 5 ∷ []) ≡ 7 ∷ 16 ∷ 20 ∷ 24 ∷ 31 ∷ []
 bytes_at_two = refl
 
--- ---- C C A B B B B B A C, of which the eighth only fills, at a capacity of 3 with a warm-up of two and a delay of one
+-- C C A B B B B B A C, of which the eighth only fills, at a capacity of 3 with a warm-up of two and a delay of one
 abbrev marked : List Object
 marked = c ∷ c ∷ a ∷ b ∷ b ∷ b ∷ b ∷ b ∷ a ∷ c ∷ []
 

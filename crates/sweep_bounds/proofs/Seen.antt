@@ -13,8 +13,23 @@ use Rattle.cache_model.proofs.Pairs.{same_object-sym}
 use Rattle.area_sums.specs.Spans.{Span}
 use Rattle.area_sums.specs.Groups.{AreSumsOf}
 use Rattle.sweep_bounds.specs.Spans.{spans_of}
-use Rattle.sweep_bounds.specs.Sweep.{HasSeen, IsLatestOrNew, Sweep, length_since, next_length, span_if}
+use Rattle.sweep_bounds.specs.Sweep.{HasSeen, IsLatestOrNew, Sweep, length_since, span_if}
 use Rattle.sweep_bounds.proofs.Grown.{spans_of-pushed}
+
+-- the length of the span that the next request ends, if it ends one
+abbrev pub next_length : Sweep → Object → Bool → Option ℕ
+next_length sweep x only_fills =
+    cond (nat_le sweep.warmup sweep.requests && not only_fills)
+    (length_since sweep.delay sweep.requests (lookup (same_object x) sweep.latest)) None
+
+-- what is kept after a request
+pub record Takes (x : Object) (only : Bool) (old new : Sweep) : Type 0 where
+  pub warmup : new.warmup ≡ old.warmup
+  pub delay : new.delay ≡ old.delay
+  pub requests : new.requests ≡ old.requests + 1
+  pub latest : (y : Object) → lookup (same_object y) new.latest ≡ cond (same_object x y) (Some old.requests) (lookup (same_object y) old.latest)
+  pub entries : new.latest ≡ insert_entry same_object old.latest x old.requests
+  pub sums : (spans : List Span) → AreSumsOf spans old.sums → AreSumsOf (spans ++ span_if x.size (next_length old x only)) new.sums
 
 module _ (trace : List Object) (x : Object) where
   -- an object without a request has none after one of another object
@@ -64,30 +79,26 @@ module _ (trace : List Object) (x : Object) where
   objects-pushed None new = objects_of-pushed_new trace x new
   objects-pushed (Some a) latest = objects_of-pushed_again trace x a latest ∙ sym (append-nil (objects_of trace))
 
-  module _ (old new : Sweep) (only : Bool)
-      (warmup : new.warmup ≡ old.warmup) (delay : new.delay ≡ old.delay) (requests : new.requests ≡ old.requests + 1)
-      (latest : (y : Object) → lookup (same_object y) new.latest ≡ cond (same_object x y) (Some old.requests) (lookup (same_object y) old.latest))
-      (entries : new.latest ≡ insert_entry same_object old.latest x old.requests)
-      (sums : (spans : List Span) → AreSumsOf spans old.sums → AreSumsOf (spans ++ span_if x.size (next_length old x only)) new.sums) where
+  module _ (old new : Sweep) (only : Bool) (takes : Takes x only old new) where
     -- it has seen the request, with its mark
     pub HasSeen-pushed : (fills marks : List Bool)
         → ((t : ℕ) → t < length trace → only_fills marks t ≡ only_fills fills t) → only_fills marks (length trace) ≡ only
         → HasSeen trace fills old → HasSeen (trace ++ x ∷ []) marks new
     HasSeen-pushed fills marks marked last h = record {
-      requests = omega (arith, requests, h.requests, length-pushed trace x);
-      latest = λ y. subst (IsLatestOrNew (trace ++ x ∷ []) y) (sym (latest y))
+      requests = omega (arith, takes.requests, h.requests, length-pushed trace x);
+      latest = λ y. subst (IsLatestOrNew (trace ++ x ∷ []) y) (sym (takes.latest y))
           (latest-pushed old.requests y (lookup (same_object y) old.latest) h.requests (h.latest y));
-      objects = ap keys_of entries ∙ keys-inserted old.requests old.latest
+      objects = ap keys_of takes.entries ∙ keys-inserted old.requests old.latest
           ∙ ap (λ ks. ks ++ cond (is_some (lookup (same_object x) old.latest)) [] (x ∷ [])) h.objects
           ∙ sym (objects-pushed (lookup (same_object x) old.latest) (h.latest x));
-      sums = subst (λ spans. AreSumsOf spans new.sums) (sym grown) (sums (spans_of old.warmup old.delay fills trace) h.sums);
+      sums = subst (λ spans. AreSumsOf spans new.sums) (sym grown) (takes.sums (spans_of old.warmup old.delay fills trace) h.sums);
     }
       where
         grown : spans_of new.warmup new.delay marks (trace ++ x ∷ [])
             ≡ spans_of old.warmup old.delay fills trace ++ span_if x.size (next_length old x only)
         grown =
-            ap (λ w. spans_of w new.delay marks (trace ++ x ∷ [])) warmup
-            ∙ ap (λ d. spans_of old.warmup d marks (trace ++ x ∷ [])) delay
+            ap (λ w. spans_of w new.delay marks (trace ++ x ∷ [])) takes.warmup
+            ∙ ap (λ d. spans_of old.warmup d marks (trace ++ x ∷ [])) takes.delay
             ∙ spans_of-pushed trace x old.warmup old.delay fills marks only (lookup (same_object x) old.latest) marked last (h.latest x)
             ∙ ap (λ t. spans_of old.warmup old.delay fills trace
             ++ span_if x.size (cond (nat_le old.warmup t && not only) (length_since old.delay t (lookup (same_object x) old.latest)) None)) (sym h.requests)

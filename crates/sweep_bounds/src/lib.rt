@@ -4,8 +4,6 @@
 //! The spans are added to sums of areas, from which the least bound comes at each of many capacities.
 #![tactic(auto)]
 
-#[cfg(test)]
-mod small_trace;
 mod sweep;
 
 pub use sweep::SweepBounds;

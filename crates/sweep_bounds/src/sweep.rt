@@ -1,11 +1,10 @@
 //! One pass over the requests of a trace.
-ghost use Rattle.std.specs.Prelude.{◌≡◌, ◌+◌, ◌<◌, ◌≤◌, ◌^◌, ◌∷◌, ◌++◌, [], List, Bool, false, length, IfOk, IfSome, OnOk, OnErr};
-ghost use Rattle.cache_model.specs.declared.objects.Objective.TheVariants.{Object as ForHits, Bytes as ForBytes};
+ghost use Rattle.std.specs.Prelude.{◌≡◌, ◌&&◌, not, nat_le, ◌+◌, ◌<◌, ◌≤◌, ◌^◌, ◌∷◌, ◌++◌, [], List, Bool, false, Some, None, if◌then◌else◌, length, IfOk, IfSome, OnOk, OnErr};
 ghost use Rattle.cache_model.specs.declared.objects.Object.{Object};
 ghost use Rattle.cache_model.specs.Objects.{objects_of};
 ghost use Rattle.area_sums.specs.Spans.{Span};
 ghost use Rattle.area_sums.specs.Groups.{AreCapacities, AreSumsOf};
-ghost use Rattle.sweep_bounds.specs.Sweep.{HasSeen, IsBoundAt, next_length, span_if};
+ghost use Rattle.sweep_bounds.specs.Sweep.{AreBoundsOf, HasSeen, length_since, span_if};
 
 use area_sums::{AreaSums, CapacityBounds};
 use bound_base::NoMemory;
@@ -52,6 +51,18 @@ fn add_span(sums: &mut AreaSums, size: u64, span: Option<u64>) -> Result<(), NoM
     }
 }
 
+// How far a request that counts is from the latest of its object, less the delay.
+fn length_if(counts: bool, delay: u32, requests: u32, last: u32) -> Option<u64>
+    ensures length { result ≡ (if counts then length_since delay requests (Some last) else None) }
+    ensures range { IfSome result (λ n. n < 2 ^ 32) }
+{
+    if !counts {
+        return None;
+    }
+    let apart = requests.saturating_sub(last);
+    Some(u64::from(apart.saturating_sub(delay)))
+}
+
 impl SweepBounds {
     /// No request so far. The warm-up and the delay are in requests: those of the warm-up do not count, and an object may
     /// be stored as late as the delay after it was asked for.
@@ -72,17 +83,11 @@ impl SweepBounds {
         })
     }
 
-    // The length of the span that the next request would end, if it would.
-    fn next_length(&self, object: Object, only_fills: bool) -> Option<u64>
-        ensures length { result ≡ next_length self.now object only_fills }
-        ensures range { IfSome result (λ n. n < 2 ^ 32) }
+    // Whether the next request counts.
+    fn counts_next(&self, only_fills: bool) -> bool
+        ensures { result ≡ (nat_le self.now.warmup self.now.requests && not only_fills) }
     {
-        if self.requests < self.warmup || only_fills {
-            return None;
-        }
-        let last = *self.latest.get(&object)?;
-        let apart = self.requests.saturating_sub(last);
-        Some(u64::from(apart.saturating_sub(self.delay)))
+        self.requests >= self.warmup && !only_fills
     }
 
     /// The next request, whose size is in bytes, and which may only fill the cache. A stale request is told as one that
@@ -100,10 +105,17 @@ impl SweepBounds {
             → HasSeen (trace ++ object ∷ []) [] self.new) }
         ensures err { OnErr result (self.new ≡ self.old) }
     {
-        let span = self.next_length(object, only_fills);
-        self.latest.reserve(1)?;
-        add_span(&mut self.sums, object.size, span)?;
-        self.latest.insert(object, self.requests)?;
+        let counts = self.counts_next(only_fills);
+        match self.latest.get_mut(&object) {
+            Some(last) => {
+                let span = length_if(counts, self.delay, self.requests, *last);
+                add_span(&mut self.sums, object.size, span)?;
+                *last = self.requests;
+            }
+            None => {
+                self.latest.insert(object, self.requests)?;
+            }
+        }
         self.requests += 1;
         Ok(())
     }
@@ -122,14 +134,11 @@ impl SweepBounds {
         self.latest.len() as u32
     }
 
-    /// The least bounds at one of the capacities. It goes twice over the groups of the sums.
-    pub fn bounds_at(&self, alloc: Global, place: usize) -> Result<CapacityBounds, NoMemory>
-        requires { place < length self.now.sums.capacities }
-        ensures edges { IfOk result (λ bounds. (0 < bounds.hits.edge) × (0 < bounds.bytes.edge)) }
-        ensures hits { IfOk result (λ bounds. IsBoundAt ForHits place self.now bounds.hits) }
-        ensures bytes { IfOk result (λ bounds. IsBoundAt ForBytes place self.now bounds.bytes) }
+    /// The least bounds at each of the capacities, in their order. It sorts the groups of the sums, goes over them once, and at
+    /// each capacity over their classes.
+    pub fn bounds(&self, alloc: Global) -> Result<Vec<CapacityBounds>, NoMemory>
+        ensures { IfOk result (λ bounds. AreBoundsOf self.now bounds.items) }
     {
-        self.sums
-            .bounds_at(alloc, place, self.requests.saturating_sub(1))
+        self.sums.bounds(alloc, self.requests.saturating_sub(1))
     }
 }

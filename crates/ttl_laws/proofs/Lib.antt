@@ -1,10 +1,8 @@
 mod Rows
-mod Starts
-mod Holding
-mod Objects
+pub mod Starts
+pub mod Objects
 mod Within
 mod Idle
-mod Ends
 mod Shorter
 mod Longer
 mod Misses

@@ -7,9 +7,9 @@ use Rattle.cache_model.specs.declared.objects.Object.{Object}
 use Rattle.cache_model.specs.Claim.{Terms, counts, gain_of, only_fills, request_at, same_object}
 use Rattle.cache_model.specs.Objects.{objects_of}
 use Rattle.freshness.specs.Stale.{clock}
-use Rattle.ttl_laws.specs.Runs.{Start, new_start, worth, with_gain, with_price, Walk, going_on, with_request, with_step, walk, greatest_worth}
+use Rattle.ttl_laws.specs.Runs.{HasOne, Start, new_start, worth, with_gain, with_price, Walk, going_on, with_request, with_step, walk, greatest_worth}
 use Rattle.ttl_laws.specs.Laws.{BoundsRiseWithTtl}
-use Rattle.ttl_laws.proofs.Starts.{HasOne, one-map, one-filter, greatest-any, greatest-le}
+use Rattle.ttl_laws.proofs.Starts.{one-map, one-filter, greatest-any, greatest-le}
 use Rattle.ttl_laws.proofs.Objects.{all-map, all-pass}
 
 -- a start at the same clock, whose run is worth no less

@@ -11,9 +11,10 @@ use Rattle.freshness.specs.Stale.{clock}
 use Rattle.ttl_laws.specs.Fresh.{hits_fresh, written_at, is_fresh_hit, score_with_ttl}
 use Rattle.ttl_laws.specs.Laws.{LongerScoresMore}
 use Rattle.ttl_laws.proofs.Starts.{is_hit}
-use Rattle.ttl_laws.proofs.Holding.{held-before}
+use Rattle.interval_ends.proofs.Tables.{sum_by-range_le}
+use Rattle.interval_ends.proofs.Holding.{held-before}
 use Rattle.ttl_laws.proofs.Idle.{clock-next, greatest-more, written-le}
-use Rattle.ttl_laws.proofs.Objects.{sum_by-range_le, asked-le, asked-only}
+use Rattle.ttl_laws.proofs.Objects.{asked-le, asked-only}
 use Rattle.ttl_laws.proofs.Within.{so_far, sum_by-so_far}
 
 -- of two scores the second is a hit ahead, or is no less and was written no earlier
@@ -150,7 +151,7 @@ module _ (terms : Terms) (trace : List Object) (times : List ℕ) (contents : Li
         let objects : List Object = objects_of trace in
         omega (
           arith,
-          sum_by-range_le (hit_at ttl) (λ t. sum_by (λ x. earned_at ttl x t) objects) 0 n (λ t within. own t (omega arith)),
+          sum_by-range_le (hit_at ttl) (λ t. sum_by (λ x. earned_at ttl x t) objects) 0 n (λ t low high. own t (omega arith)),
           sum_by-so_far (earned_at ttl) objects n,
           sum_by-le-sum_by (earned ttl n) (earned longer n) objects (λ x. (all_behind n x (omega arith)).0),
           sum_by-so_far (earned_at longer) objects n,

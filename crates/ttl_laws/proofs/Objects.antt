@@ -12,40 +12,7 @@ use Rattle.cache_model.proofs.Keeps.{Contains-filter_range}
 use Rattle.cache_model.proofs.Pairs.{same_object-sym}
 use Rattle.cache_model.proofs.Scores.{first_or_next}
 use Rattle.cache_model.proofs.Steps.{holds-from_Contains}
-use Rattle.cache_model.proofs.Sums.{sum_by-filter, sum_by-nothing}
-
--- rows and columns of a table sum to the same
-pub sum_by-turn : {X Y : Type 0} (f : X → Y → ℕ) (xs : List X) (ys : List Y)
-    → sum_by (λ x. sum_by (f x) ys) xs ≡ sum_by (λ y. sum_by (λ x. f x y) xs) ys
-sum_by-turn f [] ys = sym (sum_by-nothing (λ y. 0) ys (λ y. refl))
-sum_by-turn {Y = Y} f (x ∷ xs) ys =
-    sum_by-cons (λ x. sum_by (f x) ys) x xs ∙ ap (λ n. sum_by (f x) ys + n) (sum_by-turn f xs ys) ∙ more ys
-  where
-    more : (zs : List Y)
-        → sum_by (f x) zs + sum_by (λ y. sum_by (λ x. f x y) xs) zs ≡ sum_by (λ y. sum_by (λ x. f x y) (x ∷ xs)) zs
-    more [] = refl
-    more (z ∷ zs) =
-        omega (
-          arith,
-          more zs,
-          sum_by-cons (f x) z zs,
-          sum_by-cons (λ y. sum_by (λ x. f x y) xs) z zs,
-          sum_by-cons (λ y. sum_by (λ x. f x y) (x ∷ xs)) z zs,
-          sum_by-cons (λ x. f x z) x xs,
-        )
-
--- terms that are no greater
-pub sum_by-range_le : (f g : ℕ → ℕ) (a n : ℕ) → ((k : ℕ) → k < a + n → f k ≤ g k)
-    → sum_by f (range_with_len a n) ≤ sum_by g (range_with_len a n)
-sum_by-range_le f g a zero below = omega arith
-sum_by-range_le f g a (suc n) below =
-    omega (
-      arith,
-      sum_by-cons f a (range_with_len (a + 1) n),
-      sum_by-cons g a (range_with_len (a + 1) n),
-      below a (omega arith),
-      sum_by-range_le f g (a + 1) n (λ k low. below k (omega arith)),
-    )
+use Rattle.cache_model.proofs.Sums.{sum_by-filter}
 
 -- what holds of all holds of those that a map makes, and of those that pass a test
 pub all-map : {X Y : Type 0} (P : X → Type 0) (Q : Y → Type 0) (f : X → Y) (xs : List X)

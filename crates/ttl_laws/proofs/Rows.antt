@@ -29,7 +29,7 @@ most_idle fills trace times idle =
     let marks = stale_marks (record { idle = Some idle; replace = false }) trace times fills in
     bound_of (eligible_intervals (hits marks) trace) 1 2 1 (free trace)
 
--- ---- one object, every two seconds
+-- one object, every two seconds
 abbrev five : List Object
 five = object 0 ∷ object 0 ∷ object 0 ∷ object 0 ∷ object 0 ∷ []
 
@@ -74,7 +74,7 @@ priced prices ttl = bound_with_ttl (terms_from Hits 1 0 []) 1 4 five evenly pric
 five_priced : map (priced (1 ∷ 1 ∷ 1 ∷ 1 ∷ 0 ∷ [])) (1 ∷ 2 ∷ 4 ∷ 8 ∷ []) ≡ 4 ∷ 10 ∷ 13 ∷ 16 ∷ []
 five_priced = refl
 
--- ---- two objects, and a request that only fills
+-- two objects, and a request that only fills
 abbrev two : List Object
 two = object 0 ∷ object 1 ∷ object 0 ∷ object 0 ∷ object 1 ∷ object 0 ∷ object 1 ∷ object 0 ∷ []
 
@@ -90,7 +90,7 @@ two_ttl = refl
 two_idle : map (most_idle filled two two_times) (0 ∷ 2 ∷ 3 ∷ 5 ∷ 8 ∷ []) ≡ 0 ∷ 1 ∷ 4 ∷ 5 ∷ 5 ∷ []
 two_idle = refl
 
--- ---- times that go back
+-- times that go back
 abbrev three : List Object
 three = object 0 ∷ object 0 ∷ object 0 ∷ []
 
@@ -103,7 +103,7 @@ three_ttl = refl
 three_idle : map (most_idle [] three back) (0 ∷ 3 ∷ 4 ∷ []) ≡ 1 ∷ 1 ∷ 2 ∷ []
 three_idle = refl
 
--- ---- the two objects in bytes, the first of 2, past a first request, over 4
+-- the two objects in bytes, the first of 2, past a first request, over 4
 abbrev sized : ℕ → Object
 sized zero = record { volume = 0; id = 0; size = 2 }
 sized (suc n) = object (suc n)

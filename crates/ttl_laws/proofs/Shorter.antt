@@ -16,7 +16,9 @@ use Rattle.ttl_laws.specs.Runs.{Start, worth, with_gain, with_price, Walk, going
 use Rattle.ttl_laws.specs.Laws.{TtlBoundsNoWorse}
 use Rattle.ttl_laws.proofs.Starts.{greatest-le}
 use Rattle.ttl_laws.proofs.Objects.{all-filter, all-map, asked-only}
-use Rattle.ttl_laws.proofs.Ends.{eligible_to, eligible_to-next, sum_by-ends, pending, pending-next}
+use Rattle.interval_ends.specs.Ends.{eligible_to}
+use Rattle.interval_ends.proofs.Ends.{next_ends_alone, sums_by_ends}
+use Rattle.interval_ends.proofs.Owing.{owes, owes-next}
 use Rattle.ttl_laws.proofs.Within.{so_far, sum_by-so_far}
 
 -- a start whose run is worth no more than the sum, even if the pending prices were paid back
@@ -51,8 +53,9 @@ module _ (terms : Terms) (unit d : ℕ) (trace : List Object) (times prices : Li
   abbrev walked : ℕ → Object → Walk
   walked t x = walk terms unit d trace times prices ttl t x
 
+  -- the weight of an object times the prices of the steps since its latest request
   abbrev due : ℕ → Object → ℕ
-  due t x = pending trace prices (weight_of unit) t x
+  due t x = owes trace prices (weight_of unit) (λ t. 0) t x
 
   abbrev gain : ℕ → Object → ℕ
   gain t x = cond (counts terms t) (d * gain_of terms.objective x) 0
@@ -78,8 +81,8 @@ module _ (terms : Terms) (unit d : ℕ) (trace : List Object) (times prices : Li
           let i : Interval = interval_of terms.objective trace a t in
           omega (
             arith,
-            pending-next trace prices (weight_of unit) a t same next,
-            ap (sum_by (surplus unit d prices)) (eligible_to-next terms trace a t next (omega (arith, fits, ap (λ (y : Object). y.size) own)) e),
+            owes-next trace prices (weight_of unit) (λ t. 0) a t same next,
+            ap (sum_by (surplus unit d prices)) (next_ends_alone terms trace a t next (omega (arith, fits, ap (λ (y : Object). y.size) own)) e),
             sum_by-cons (surplus unit d prices) i [],
           )
 
@@ -95,6 +98,7 @@ module _ (terms : Terms) (unit d : ℕ) (trace : List Object) (times prices : Li
   IsLow n x = ((walked n x).top ≤ so_far (surplus_of x) n) × AllByRecursion (IsBelow (due n x) (so_far (surplus_of x) n)) (walked n x).starts
 
   step : (t : ℕ) (x : Object) → t < length trace → x.size ≤ terms.capacity → IsLow t x → IsLow (suc t) x
+  unfolding owes
   step t x within fits low = at (same_object (request_at trace t) x) refl
     where
       asked : Walk
@@ -159,7 +163,7 @@ module _ (terms : Terms) (unit d : ℕ) (trace : List Object) (times prices : Li
         sum_by-so_far surplus_of (objects_of trace) n,
         sum_by-le-sum_by (λ t. sum_by (λ x. surplus_of x t) (objects_of trace)) surplus_at (numbers_of trace)
             (λ t. asked-only trace (λ x. surplus_at t) t),
-        sum_by-ends (surplus unit d prices) terms trace,
+        sums_by_ends (surplus unit d prices) terms trace,
       )
 
 pub ttl_bounds_no_worse : TtlBoundsNoWorse

@@ -3,12 +3,7 @@ use Rattle.std.proofs.Common.{◌≡◌, ℕ, ◌+◌, ◌-◌, ◌≤◌, ◌�
 use Rattle.std.specs.List.{AllByRecursion}
 use Rattle.std.proofs.Math.Nat.{le-max_left, le-max_right, max-le}
 use Rattle.std.proofs.lemmas.Bool.{and_parts, both_ways}
-use Rattle.ttl_laws.specs.Runs.{Start, worth, with_gain, with_price, Walk, going_on, with_request}
-
--- some element has the property
-abbrev pub HasOne : {X : Type 0} → (X → Type 0) → List X → Type 0
-HasOne P [] = ⊥
-HasOne P (x ∷ xs) = P x ⊎ HasOne P xs
+use Rattle.ttl_laws.specs.Runs.{HasOne, Start, worth, with_gain, with_price, Walk, going_on, with_request}
 
 pub one-map : {X Y : Type 0} (P : X → Type 0) (Q : Y → Type 0) (f : X → Y) (xs : List X)
     → ((x : X) → P x → Q (f x)) → HasOne P xs → HasOne Q (map f xs)

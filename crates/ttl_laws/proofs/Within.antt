@@ -13,11 +13,12 @@ use Rattle.cache_model.proofs.Streams.{sum_by-range_last}
 use Rattle.cache_model.proofs.Sums.{sum_by-agree}
 use Rattle.freshness.specs.Stale.{clock}
 use Rattle.ttl_laws.specs.Fresh.{hits_fresh, written_at, is_fresh_hit}
-use Rattle.ttl_laws.specs.Runs.{Walk, with_request, with_step, walk, greatest_worth, bound_with_ttl}
+use Rattle.ttl_laws.specs.Runs.{HasOne, Walk, with_request, with_step, walk, greatest_worth, bound_with_ttl}
 use Rattle.ttl_laws.specs.Laws.{NoPolicyScoresMoreWithTtl}
-use Rattle.ttl_laws.proofs.Starts.{HasOne, IsEnough, request-top, request-start, step-start}
-use Rattle.ttl_laws.proofs.Holding.{held-before, held-fits, held-weight}
-use Rattle.ttl_laws.proofs.Objects.{sum_by-turn, sum_by-range_le, sum_by-members, objects-apart, asked-le}
+use Rattle.ttl_laws.proofs.Starts.{IsEnough, request-top, request-start, step-start}
+use Rattle.interval_ends.proofs.Tables.{sum_by-range_le, sum_by-turn}
+use Rattle.interval_ends.proofs.Holding.{held-before, held-fits, held-weight}
+use Rattle.ttl_laws.proofs.Objects.{sum_by-members, objects-apart, asked-le}
 
 -- the terms of the first n requests, summed
 abbrev pub so_far : (ℕ → ℕ) → ℕ → ℕ
@@ -205,11 +206,11 @@ module _ (terms : Terms) (unit d : ℕ) (trace : List Object) (times prices : Li
       let n : ℕ = length trace in
       omega (
         arith,
-        sum_by-range_le hit_at (λ t. sum_by (λ x. earned_at x t) objects) 0 n (λ t low. hit-le t (omega arith)),
+        sum_by-range_le hit_at (λ t. sum_by (λ x. earned_at x t) objects) 0 n (λ t low high. hit-le t (omega arith)),
         sum_by-so_far earned_at objects n,
         sum_by-below (earned n) (paid n) (greatest_worth terms unit d trace times prices ttl) objects of_object,
         sum_by-so_far paid_at objects n,
-        sum_by-range_le (λ t. sum_by (λ x. paid_at x t) objects) (λ t. load t * get_or prices t 0) 0 n (λ t low. paid-le t),
+        sum_by-range_le (λ t. sum_by (λ x. paid_at x t) objects) (λ t. load t * get_or prices t 0) 0 n (λ t low high. paid-le t),
         loads_paid (terms.capacity / unit) load prices load-le,
         ap (λ k. sum_by (λ t. load t * get_or prices t 0) (range_with_len 0 k)) same,
       )

@@ -1,9 +1,14 @@
 -- Runs of an object from a request that writes it to requests at most the ttl later, and the bound of prices with a ttl.
-use Rattle.std.specs.Prelude.{ℕ, zero, suc, ◌+◌, ◌-◌, ◌*◌, ◌/◌, max, nat_le, Bool, if◌then◌else◌, List, [], ◌∷◌, length, fold, map, filter, slice_index_or, sum, sum_by}
+use Rattle.std.specs.Prelude.{ℕ, zero, suc, ◌+◌, ◌-◌, ◌*◌, ◌/◌, max, ◌⊎◌, nat_le, Bool, if◌then◌else◌, List, [], ◌∷◌, length, fold, map, filter, slice_index_or, sum, sum_by}
 use Rattle.cache_model.specs.declared.objects.Object.{Object}
 use Rattle.cache_model.specs.Claim.{Terms, counts, gain_of, only_fills, request_at, same_object}
 use Rattle.cache_model.specs.Objects.{objects_of}
 use Rattle.freshness.specs.Stale.{clock}
+
+-- some element has the property
+abbrev pub HasOne : {X : Type 0} → (X → Type 0) → List X → Type 0
+HasOne P [] = ⊥
+HasOne P (x ∷ xs) = P x ⊎ HasOne P xs
 
 -- a start of a run of an object: its clock, what the object was worth without being held before, and what the run earned and was priced at since
 pub record Start : Type 0 where

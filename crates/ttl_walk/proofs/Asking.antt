@@ -6,7 +6,9 @@ use Rattle.ttl_laws.specs.Runs.{Start, Walk, going_on as walk_going_on, with_req
 use Rattle.ttl_walk.specs.declared.starts.Candidate.{Candidate}
 use Rattle.ttl_walk.specs.Queue.{IsQueue, first_worth, going_on, is_fresh, with_candidate}
 use Rattle.ttl_walk.specs.Kept.{Kept, latest_clock, IsInOrder, StandsFor}
-use Rattle.ttl_walk.proofs.Lists.{all-map, all-filter, all-append, one-map, one-last, greatest-any, greatest-le, all-le-greatest}
+use Rattle.ttl_laws.proofs.Objects.{all-map, all-pass}
+use Rattle.ttl_laws.proofs.Starts.{one-map, greatest-any, greatest-le}
+use Rattle.ttl_walk.proofs.Lists.{all-append, one-last, all-le-greatest}
 use Rattle.ttl_walk.proofs.Queues.{first-most, queue-going_on, queue-with_candidate}
 use Rattle.ttl_walk.proofs.Standing.{Known, Enough, own, top-is, known-step, enough-step, known-going_on, enough-going_on, known-joined, enough-joined}
 
@@ -14,7 +16,7 @@ use Rattle.ttl_walk.proofs.Standing.{Known, Enough, own, top-is, known-step, eno
 pub all-going_on : (P : Candidate → Type 0) (fills : Bool) (ttl now : ℕ) (xs : List Candidate)
     → AllByRecursion P xs → AllByRecursion P (going_on fills ttl now xs)
 all-going_on P true ttl now xs all = tt
-all-going_on P false ttl now xs all = all-filter P P (is_fresh ttl now) xs (λ c is e. is) all
+all-going_on P false ttl now xs all = all-pass P P (is_fresh ttl now) xs (λ c is e. is) all
 
 -- what is kept after a request
 abbrev pub kept_after : Bool → ℕ → ℕ → ℕ → ℕ → Kept → Kept
@@ -43,7 +45,7 @@ module _ (fills : Bool) (ttl now gain priced : ℕ) (k : Kept) (is : IsInOrder k
   early-joined : AllByRecursion (λ c. c.clock ≤ now) after.starts
   early-joined =
       all-append (λ c. c.clock ≤ now) (filter passes starts) (own now level k.top)
-      (all-filter (λ c. c.clock ≤ now) (λ c. c.clock ≤ now) passes starts (λ c low e. low) early) (omega arith)
+      (all-pass (λ c. c.clock ≤ now) (λ c. c.clock ≤ now) passes starts (λ c low e. low) early) (omega arith)
 
   queue : IsQueue starts
   queue = queue-going_on fills ttl now k.starts is.starts
@@ -97,7 +99,7 @@ module _ (fills : Bool) (ttl now gain priced : ℕ) (k : Kept) (is : IsInOrder k
         within = max-le (omega (arith, paid)) (first-within starts);
         greatest =
             all-append (λ c. level ≤ c.floor + after.top) (filter passes starts) (own now level k.top)
-            (all-filter (λ c. level - c.floor ≤ first_worth level starts) (λ c. level ≤ c.floor + after.top) passes starts
+            (all-pass (λ c. level - c.floor ≤ first_worth level starts) (λ c. level ≤ c.floor + after.top) passes starts
             (λ c low e. omega (arith, low, le-max_right k.top (first_worth level starts))) (first-most level starts queue))
             (omega (arith, le-max_left k.top (first_worth level starts)));
       }

@@ -1,29 +1,14 @@
 -- What holds of all elements of a list, or of one, and the greatest of numbers.
 use Rattle.std.proofs.Common.{◌≡◌, ℕ, ◌≤◌, ◌⊎◌, inl, inr, refl, max, Bool, true, false, cond, List, [], ◌∷◌, ◌++◌, arith, fold, map, filter}
 use Rattle.std.specs.List.{AllByRecursion}
-use Rattle.std.proofs.Math.Nat.{le-max_left, le-max_right, max-le}
-use Rattle.std.proofs.lemmas.Bool.{both_ways}
-use Rattle.ttl_walk.specs.Kept.{HasOne}
+use Rattle.std.proofs.Math.Nat.{le-max_right}
+use Rattle.ttl_laws.specs.Runs.{HasOne}
+use Rattle.ttl_laws.proofs.Starts.{greatest-first}
 
 pub all-more : {X : Type 0} (P Q : X → Type 0) (xs : List X)
     → ((x : X) → P x → Q x) → AllByRecursion P xs → AllByRecursion Q xs
 all-more P Q [] so all = tt
 all-more P Q (x ∷ xs) so all = (so x all.0, all-more P Q xs so all.1)
-
-pub all-map : {X Y : Type 0} (P : X → Type 0) (Q : Y → Type 0) (f : X → Y) (xs : List X)
-    → ((x : X) → P x → Q (f x)) → AllByRecursion P xs → AllByRecursion Q (map f xs)
-all-map P Q f [] so all = tt
-all-map P Q f (x ∷ xs) so all = (so x all.0, all-map P Q f xs so all.1)
-
--- what is left passes the test too
-pub all-filter : {X : Type 0} (P Q : X → Type 0) (p : X → Bool) (xs : List X)
-    → ((x : X) → P x → p x ≡ true → Q x) → AllByRecursion P xs → AllByRecursion Q (filter p xs)
-all-filter P Q p [] so all = tt
-all-filter P Q p (x ∷ xs) so all = at (p x) refl (all-filter P Q p xs so all.1)
-  where
-    at : (b : Bool) → p x ≡ b → AllByRecursion Q (filter p xs) → AllByRecursion Q (cond b (x ∷ filter p xs) (filter p xs))
-    at true e rest = (so x all.0 e, rest)
-    at false e rest = rest
 
 pub all-append : {X : Type 0} (P : X → Type 0) (xs : List X) (y : X)
     → AllByRecursion P xs → P y → AllByRecursion P (xs ++ y ∷ [])
@@ -35,28 +20,10 @@ pub all-init : {X : Type 0} (P : X → Type 0) (xs : List X) (y : X)
 all-init P [] y all = (tt, all.0)
 all-init P (x ∷ xs) y all = let rest = all-init P xs y all.1 in ((all.0, rest.0), rest.1)
 
-pub one-map : {X Y : Type 0} (P : X → Type 0) (Q : Y → Type 0) (f : X → Y) (xs : List X)
-    → ((x : X) → P x → Q (f x)) → HasOne P xs → HasOne Q (map f xs)
-one-map P Q f [] so one = one
-one-map P Q f (x ∷ xs) so (inl here) = inl (so x here)
-one-map P Q f (x ∷ xs) so (inr there) = inr (one-map P Q f xs so there)
-
 pub one-more : {X : Type 0} (P Q : X → Type 0) (xs : List X) → ((x : X) → P x → Q x) → HasOne P xs → HasOne Q xs
 one-more P Q [] so one = one
 one-more P Q (x ∷ xs) so (inl here) = inl (so x here)
 one-more P Q (x ∷ xs) so (inr there) = inr (one-more P Q xs so there)
-
-pub one-filter : {X : Type 0} (P : X → Type 0) (p : X → Bool) (xs : List X)
-    → ((x : X) → P x → p x ≡ true) → HasOne P xs → HasOne P (filter p xs)
-one-filter P p [] passes one = one
-one-filter P p (x ∷ xs) passes one = at (p x) refl (one-filter P p xs passes) one
-  where
-    at : (b : Bool) → p x ≡ b → (HasOne P xs → HasOne P (filter p xs)) → P x ⊎ HasOne P xs
-        → HasOne P (cond b (x ∷ filter p xs) (filter p xs))
-    at true e later (inl here) = inl here
-    at true e later (inr there) = inr (later there)
-    at false e later (inl here) = absurd (both_ways (p x) e (passes x here))
-    at false e later (inr there) = later there
 
 pub one-last : {X : Type 0} (P : X → Type 0) (xs : List X) (y : X) → P y → HasOne P (xs ++ y ∷ [])
 one-last P [] y here = inl here
@@ -82,21 +49,7 @@ from-one P Q R [] so all one = absurd one
 from-one P Q R (x ∷ xs) so all (inl here) = so x all.0 here
 from-one P Q R (x ∷ xs) so all (inr there) = from-one P Q R xs so all.1 there
 
--- the greatest is none below the first, and none below any
-pub greatest-first : (a : ℕ) (xs : List ℕ) → a ≤ fold max a xs
-greatest-first a [] = omega arith
-greatest-first a (x ∷ xs) = omega (arith, le-max_left a x, greatest-first (max a x) xs)
-
-pub greatest-any : (a n : ℕ) (xs : List ℕ) → HasOne (λ x. n ≤ x) xs → n ≤ fold max a xs
-greatest-any a n [] one = absurd one
-greatest-any a n (x ∷ xs) (inl here) = omega (arith, here, le-max_right a x, greatest-first (max a x) xs)
-greatest-any a n (x ∷ xs) (inr there) = greatest-any (max a x) n xs there
-
--- and is within what all are
-pub greatest-le : (a m : ℕ) (xs : List ℕ) → a ≤ m → AllByRecursion (λ x. x ≤ m) xs → fold max a xs ≤ m
-greatest-le a m [] low all = low
-greatest-le a m (x ∷ xs) low all = greatest-le (max a x) m xs (max-le low all.0) all.1
-
+-- all are within the greatest
 pub all-le-greatest : {X : Type 0} (f : X → ℕ) (a m : ℕ) (xs : List X) → fold max a (map f xs) ≤ m → AllByRecursion (λ x. f x ≤ m) xs
 all-le-greatest f a m [] low = tt
 all-le-greatest f a m (x ∷ xs) low =

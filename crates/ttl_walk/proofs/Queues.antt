@@ -7,7 +7,8 @@ use Rattle.std.proofs.lemmas.Bool.Decides.{leb_tells}
 use Rattle.std.proofs.lemmas.List.Elements.{filter-append}
 use Rattle.ttl_walk.specs.declared.starts.Candidate.{Candidate}
 use Rattle.ttl_walk.specs.Queue.{IsQueue, begins_old, ends_no_lower, first_worth, going_on, is_fresh, with_candidate}
-use Rattle.ttl_walk.proofs.Lists.{all-more, all-filter, all-append, all-init}
+use Rattle.ttl_laws.proofs.Objects.{all-pass}
+use Rattle.ttl_walk.proofs.Lists.{all-more, all-append, all-init}
 
 -- what a test says that fails, and one that doesn't
 pub lt-of : (a b : ℕ) → not (nat_le a b) ≡ true → b < a
@@ -28,7 +29,7 @@ queue-filter p [] queue = tt
 queue-filter p (c ∷ later) queue = at (p c) (queue-filter p later queue.1)
   where
     at : (b : Bool) → IsQueue (filter p later) → IsQueue (cond b (c ∷ filter p later) (filter p later))
-    at true rest = (all-filter (λ d. (c.clock ≤ d.clock) × (c.floor < d.floor)) (λ d. (c.clock ≤ d.clock) × (c.floor < d.floor)) p later (λ d is e. is) queue.0, rest)
+    at true rest = (all-pass (λ d. (c.clock ≤ d.clock) × (c.floor < d.floor)) (λ d. (c.clock ≤ d.clock) × (c.floor < d.floor)) p later (λ d is e. is) queue.0, rest)
     at false rest = rest
 
 pub queue-append : (xs : List Candidate) (c : Candidate) → IsQueue xs
@@ -51,7 +52,7 @@ pub queue-with_candidate : (c : Candidate) (xs : List Candidate) → IsQueue xs 
     → IsQueue (with_candidate c xs)
 queue-with_candidate c xs queue all =
     queue-append (filter (λ d. not (nat_le c.floor d.floor)) xs) c (queue-filter (λ d. not (nat_le c.floor d.floor)) xs queue)
-    (all-filter (λ d. d.clock ≤ c.clock) (λ d. (d.clock ≤ c.clock) × (d.floor < c.floor)) (λ d. not (nat_le c.floor d.floor)) xs
+    (all-pass (λ d. d.clock ≤ c.clock) (λ d. (d.clock ≤ c.clock) × (d.floor < c.floor)) (λ d. not (nat_le c.floor d.floor)) xs
     (λ d low e. (low, lt-of c.floor d.floor e)) all)
 
 -- all pass a test: none leaves
@@ -59,7 +60,6 @@ pub filter-all : (p : Candidate → Bool) (xs : List Candidate) → AllByRecursi
 filter-all p [] all = refl
 filter-all p (c ∷ later) all = ap (λ b. cond b (c ∷ filter p later) (filter p later)) all.0 ∙ ap (λ r. c ∷ r) (filter-all p later all.1)
 
--- ---- at the front
 -- one that is too old leaves
 pub filter-old : (ttl now : ℕ) (xs : List Candidate) → begins_old ttl now xs ≡ true
     → filter (is_fresh ttl now) (drop 1 xs) ≡ filter (is_fresh ttl now) xs
@@ -96,7 +96,7 @@ first-most level (c ∷ later) queue = (
       (λ d is. omega (arith, is.1)) queue.0,
 )
 
--- ---- at the back
+-- the last of them decides whether it ends no lower
 pub ends-last : (floor : ℕ) (xs : List Candidate) (c : Candidate) → ends_no_lower floor (xs ++ c ∷ []) ≡ nat_le floor c.floor
 ends-last floor [] c = refl
 ends-last floor (d ∷ []) c = refl

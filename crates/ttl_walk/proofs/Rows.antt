@@ -15,7 +15,7 @@ start clock floor = record { clock = clock; floor = floor }
 abbrev asked : ℕ → Bool → ℕ → ℕ → Asked
 asked clock fills gain priced = record { clock = clock; fills = fills; gain = gain; priced = priced }
 
--- ---- the greatest worth after each request, with a ttl of 1, 2, 4 and 5: that of all choices of runs, by a program that tries each
+-- the greatest worth after each request, with a ttl of 1, 2, 4 and 5: that of all choices of runs, by a program that tries each
 abbrev nine : List Asked
 nine =
     asked 0 false 0 0 ∷ asked 2 false 4 1 ∷ asked 3 false 4 6 ∷ asked 5 false 4 2 ∷ asked 6 true 0 1 ∷ asked 7 false 4 3 ∷ asked 9 false 0 2
@@ -36,7 +36,7 @@ tops-4 = refl
 tops-5 : tops 5 ≡ 0 ∷ 3 ∷ 3 ∷ 5 ∷ 5 ∷ 6 ∷ 6 ∷ 9 ∷ 16 ∷ []
 tops-5 = refl
 
--- ---- a queue
+-- a queue
 abbrev three : List Candidate
 three = start 3 10 ∷ start 5 12 ∷ start 8 17 ∷ []
 
@@ -63,7 +63,7 @@ joined = refl
 joined-ends : map (λ floor. ends_no_lower floor three) (18 ∷ 17 ∷ []) ≡ false ∷ true ∷ []
 joined-ends = refl
 
--- ---- the requests of an object of 2 units in a trace, past a warm-up of 1 request, of which the third only fills
+-- the requests of an object of 2 units in a trace, past a warm-up of 1 request, of which the third only fills
 abbrev object : ℕ → Object
 object id = record { volume = 0; id = id; size = 2 }
 

@@ -3,11 +3,13 @@ use Rattle.std.proofs.Common.{◌≡◌, ℕ, ◌+◌, ◌-◌, ◌≤◌, inl, 
 use Rattle.std.specs.List.{AllByRecursion}
 use Rattle.std.proofs.Math.Nat.{le-max_left, le-max_right, max-le}
 use Rattle.std.proofs.lemmas.Bool.{leb-true, le-leb}
-use Rattle.ttl_laws.specs.Runs.{Start, new_start, worth, with_gain, with_price, going_on as walk_going_on}
+use Rattle.ttl_laws.specs.Runs.{HasOne, Start, new_start, worth, with_gain, with_price, going_on as walk_going_on}
 use Rattle.ttl_walk.specs.declared.starts.Candidate.{Candidate}
 use Rattle.ttl_walk.specs.Queue.{IsQueue, first_worth, going_on, is_fresh, with_candidate}
-use Rattle.ttl_walk.specs.Kept.{HasOne, IsSameStart, IsNoWorse}
-use Rattle.ttl_walk.proofs.Lists.{all-more, all-map, all-filter, all-append, one-map, one-more, one-filter, one-last, one-joined, from-one, greatest-any, greatest-le}
+use Rattle.ttl_walk.specs.Kept.{IsSameStart, IsNoWorse}
+use Rattle.ttl_laws.proofs.Objects.{all-map, all-pass}
+use Rattle.ttl_laws.proofs.Starts.{one-map, one-filter, greatest-any, greatest-le}
+use Rattle.ttl_walk.proofs.Lists.{all-more, all-append, one-more, one-last, one-joined, from-one}
 use Rattle.ttl_walk.proofs.Queues.{le-of, first-most}
 
 -- each start that is kept is one of these, and for each of these one is kept that is no worse
@@ -17,7 +19,7 @@ Known level kept starts = AllByRecursion (λ c. HasOne (IsSameStart level c) sta
 abbrev pub Enough : ℕ → List Candidate → List Start → Type 0
 Enough level kept starts = AllByRecursion (λ s. HasOne (λ c. IsNoWorse level c s) kept) starts
 
--- ---- over the price of a step
+-- what stands over the price of a step
 pub known-step : (level price : ℕ) (kept : List Candidate) (starts : List Start) → price ≤ level
     → Known level kept starts → Known (level - price) kept (map (with_price price) starts)
 known-step level price kept starts low known =
@@ -36,12 +38,12 @@ enough-step level price kept starts low enough =
     (λ c is. (is.0, omega (arith, low, is.1))) one)
     enough
 
--- ---- the runs that go on past a request
+-- and what goes on past a request
 pub known-going_on : (fills : Bool) (ttl now gain level : ℕ) (kept : List Candidate) (starts : List Start) → Known level kept starts
     → Known (level + gain) (going_on fills ttl now kept) (walk_going_on fills now ttl gain starts)
 known-going_on true ttl now gain level kept starts known = tt
 known-going_on false ttl now gain level kept starts known =
-    all-filter (λ c. HasOne (IsSameStart level c) starts)
+    all-pass (λ c. HasOne (IsSameStart level c) starts)
     (λ c. HasOne (IsSameStart (level + gain) c) (map (with_gain gain) (filter (λ s. nat_le now (s.clock + ttl)) starts)))
     (is_fresh ttl now) kept
     (λ c one fresh.
@@ -62,7 +64,7 @@ enough-going_on false ttl now gain level kept starts enough =
     (λ s one.
     one-more (λ c. IsNoWorse level c s) (λ c. IsNoWorse (level + gain) c (with_gain gain s)) (filter (is_fresh ttl now) kept)
     (λ c is. (is.0, omega (arith, is.1))) one)
-    (all-filter (λ s. HasOne (λ c. IsNoWorse level c s) kept) (λ s. HasOne (λ c. IsNoWorse level c s) (filter (is_fresh ttl now) kept))
+    (all-pass (λ s. HasOne (λ c. IsNoWorse level c s) kept) (λ s. HasOne (λ c. IsNoWorse level c s) (filter (is_fresh ttl now) kept))
     (λ s. nat_le now (s.clock + ttl)) starts
     (λ s one fresh.
     let low : now ≤ s.clock + ttl = leb-true now (s.clock + ttl) fresh in
@@ -70,7 +72,6 @@ enough-going_on false ttl now gain level kept starts enough =
     (λ c is. le-leb now (c.clock + ttl) (omega (arith, is.0, low))) one)
     enough)
 
--- ---- the greatest worth: that of a run from the first, if it is greater
 module _ (level top now : ℕ) (kept : List Candidate) (starts : List Start) (queue : IsQueue kept)
     (known : Known level kept starts) (enough : Enough level kept starts) where
   abbrev greatest : ℕ
@@ -102,7 +103,7 @@ module _ (level top now : ℕ) (kept : List Candidate) (starts : List Start) (qu
   pub top-is : max top (first_worth level kept) ≡ greatest
   top-is = le_antisymm (max-le own-le first-le) top-le
 
--- ---- the request's own start joins
+-- the request's own start
 abbrev pub own : ℕ → ℕ → ℕ → Candidate
 own now level top = record { clock = now; floor = level - top }
 
@@ -111,7 +112,7 @@ pub known-joined : (level top now : ℕ) (kept : List Candidate) (starts : List 
 known-joined level top now kept starts within known =
     let passes : Candidate → Bool = λ d. not (nat_le (level - top) d.floor) in
     all-append (λ c. HasOne (IsSameStart level c) (new_start now top ∷ starts)) (filter passes kept) (own now level top)
-    (all-filter (λ c. HasOne (IsSameStart level c) starts) (λ c. HasOne (IsSameStart level c) (new_start now top ∷ starts)) passes kept
+    (all-pass (λ c. HasOne (IsSameStart level c) starts) (λ c. HasOne (IsSameStart level c) (new_start now top ∷ starts)) passes kept
     (λ c one e. inr one) known)
     (inl (refl, omega (arith, within)))
 

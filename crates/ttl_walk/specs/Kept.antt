@@ -1,7 +1,7 @@
 -- What is kept of an object from request to request, and the walk that it stands for. A run is worth what the level is above the floor of its start.
-use Rattle.std.specs.Prelude.{◌≡◌, ℕ, ◌+◌, ◌≤◌, ◌⊎◌, max, List, [], ◌∷◌, fold, map}
+use Rattle.std.specs.Prelude.{◌≡◌, ℕ, ◌+◌, ◌≤◌, max, List, fold, map}
 use Rattle.std.specs.List.{AllByRecursion}
-use Rattle.ttl_laws.specs.Runs.{Start, Walk}
+use Rattle.ttl_laws.specs.Runs.{HasOne, Start, Walk}
 use Rattle.ttl_walk.specs.declared.starts.Candidate.{Candidate}
 use Rattle.ttl_walk.specs.Queue.{IsQueue}
 
@@ -20,11 +20,6 @@ pub record IsInOrder (k : Kept) : Type 0 where
   pub starts : IsQueue k.starts
   pub within : k.top ≤ k.level
   pub greatest : AllByRecursion (λ c. k.level ≤ c.floor + k.top) k.starts
-
--- some element has the property
-abbrev pub HasOne : {X : Type 0} → (X → Type 0) → List X → Type 0
-HasOne P [] = ⊥
-HasOne P (x ∷ xs) = P x ⊎ HasOne P xs
 
 -- at this level the start that is kept is that of the walk: at its clock, and a run from it is worth the same, above 0 or below
 abbrev pub IsSameStart : ℕ → Candidate → Start → Type 0

@@ -1,16 +1,18 @@
--- What allowed contents hold: what was held before or is asked for, and what fits.
-use Rattle.std.proofs.Common.{◌≡◌, ℕ, ◌+◌, ◌/◌, ◌<◌, ◌≤◌, sym, refl, ap, subst, true, false, List, [], ◌∷◌, length, arith, inl, inr, ◌⊎◌, ⊎_elim, Some, Contains, get_or, slice_get, sum_by}
-use Rattle.std.specs.List.{AllByRecursion}
+-- What allowed contents hold: what was asked for before, and what fits.
+use Rattle.std.proofs.Common.{◌≡◌, ℕ, zero, suc, ◌+◌, ◌/◌, ◌<◌, ◌≤◌, ◌∙◌, sym, refl, ap, subst, true, false, List, [], ◌∷◌, length, arith, inl, inr, ◌⊎◌, ⊎_elim, Some, Contains, get_or, slice_get, sum_by}
+use Rattle.std.specs.List.{AllByRecursion, IsDistinct}
 use Rattle.std.proofs.lemmas.Bool.{cases_lt, both_ways, or_cases, or_left, or_right}
 use Rattle.std.proofs.lemmas.Option.{slice_get-get_or}
 use Rattle.std.proofs.lemmas.List.{get_or_past}
 use Rattle.std.proofs.lemmas.List.Elements.{recursion_from_All, Contains-get_or}
+use Rattle.std.proofs.lemmas.Map.Made.{IsDistinct-from_AllPairs}
 use Rattle.cache_model.specs.declared.objects.Object.{Object}
 use Rattle.cache_model.specs.Claim.{same_object, total_size, holds, before_request, IsAllowed, request_at, no_object}
+use Rattle.cache_model.specs.Objects.{IsFirst, IsNext}
 use Rattle.cache_model.proofs.Duality.{same_object-true}
 use Rattle.cache_model.proofs.Pairs.{same_object-sym, weight_of}
 use Rattle.cache_model.proofs.Steps.{weights-le, holds-from_Contains, same_object-from}
-use Rattle.cache_model.proofs.Scores.{size-le-total_size}
+use Rattle.cache_model.proofs.Scores.{first_or_next, size-le-total_size}
 
 -- what holds of all members
 of_holds : (P : Object → Type 0) (xs : List Object) (x : Object) → AllByRecursion P xs → holds xs x ≡ true → P x
@@ -37,18 +39,26 @@ module _ (c : ℕ) (trace : List Object) (contents : List (List Object)) (allowe
           let same : x ≡ request_at trace n = cc in
           or_left (same_object x (request_at trace n)) (holds (held n) x) (same_object-from x (request_at trace n) same)
 
+  pub all_entered : (n : ℕ) → n < length trace
+      → AllByRecursion (λ x. holds (request_at trace n ∷ held n) x ≡ true) (held (n + 1))
+  all_entered n within =
+      recursion_from_All (λ x. holds (request_at trace n ∷ held n) x ≡ true) (held (n + 1))
+      (λ i z low. entered n within (get_or (held (n + 1)) i z) (Contains-get_or (held (n + 1)) i z low))
+
   -- so an object that is not asked for was held before
   pub held-before : (n : ℕ) (x : Object) → n < length trace → same_object (request_at trace n) x ≡ false
       → holds (held (n + 1)) x ≡ true → holds (held n) x ≡ true
   held-before n x within other has =
-      let all : AllByRecursion (λ y. holds (request_at trace n ∷ held n) y ≡ true) (held (n + 1))
-      = recursion_from_All (λ y. holds (request_at trace n ∷ held n) y ≡ true) (held (n + 1))
-      (λ i z low. entered n within (get_or (held (n + 1)) i z) (Contains-get_or (held (n + 1)) i z low)) in
       ⊎_elim
       (λ (same : same_object x (request_at trace n) ≡ true).
       absurd (both_ways (same_object (request_at trace n) x) other (rw (same_object-sym (request_at trace n) x) same)))
       (λ (was : holds (held n) x ≡ true). was)
-      (or_cases _ _ (of_holds (λ y. holds (request_at trace n ∷ held n) y ≡ true) (held (n + 1)) x all has))
+      (or_cases _ _ (of_holds (λ y. holds (request_at trace n ∷ held n) y ≡ true) (held (n + 1)) x (all_entered n within) has))
+
+  pub held-apart : (n : ℕ) → n ≤ length trace → IsDistinct same_object (held n)
+  held-apart n within =
+      IsDistinct-from_AllPairs (λ a b. (same_object-true a b, same_object-from a b)) (held n)
+      (allowed.without_repeats n [] (omega (arith, allowed.one_more_than_requests)))
 
   held-size : (n : ℕ) → total_size (held n) ≤ c
   held-size n =
@@ -66,3 +76,25 @@ module _ (c : ℕ) (trace : List Object) (contents : List (List Object)) (allowe
   -- an object that is held fits
   pub held-fits : (n : ℕ) (x : Object) → holds (held n) x ≡ true → x.size ≤ c
   held-fits n x has = omega (arith, size-le-total_size (held n) x has, held-size n)
+
+  -- an object that was not asked for is not held
+  not_asked : (x : Object) (n : ℕ) → n ≤ length trace
+      → ((k : ℕ) → k < n → same_object x (request_at trace k) ≡ false) → holds (held n) x ≡ true → ⊥
+  not_asked x zero within none has = both_ways (holds (held 0) x) (ap (λ xs. holds xs x) allowed.empty_at_first) has
+  not_asked x (suc n) within none has =
+      let e : suc n ≡ n + 1 = omega arith in
+      ⊎_elim
+      (λ (same : same_object x (request_at trace n) ≡ true).
+      both_ways (same_object x (request_at trace n)) (none n (omega arith)) same)
+      (λ (was : holds (held n) x ≡ true). not_asked x n (omega arith) (λ k low. none k (omega arith)) was)
+      (or_cases _ _
+      (of_holds (λ y. holds (request_at trace n ∷ held n) y ≡ true) (held (n + 1)) x (all_entered n (omega arith))
+      (ap (λ k. holds (held k) x) (sym e) ∙ has)))
+
+  -- so one that is held has a request before
+  pub held-next : (n : ℕ) → n < length trace → holds (held n) (request_at trace n) ≡ true → (a : ℕ) × IsNext trace a n
+  held-next n within has =
+      ⊎_elim
+      (λ (first : IsFirst trace n). absurd (not_asked (request_at trace n) n (omega arith) first has))
+      (λ (found : (a : ℕ) × IsNext trace a n). found)
+      (first_or_next trace n within)

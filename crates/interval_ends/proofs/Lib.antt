@@ -1,0 +1,5 @@
+pub mod Tables
+pub mod Ends
+pub mod Holding
+pub mod Owing
+mod Rows
