@@ -1,6 +1,6 @@
 # arc or msr lines to webcache, a line for each block that one asks for: awk -v form=msr -v block=4096 -f blocks.awk.
 # A block of msr has 4096 bytes if block isn't given, and one of arc has 512. A line that goes to block or byte 2^53 or
-# beyond is left out: awk computes with 53 bits. A line of more than 2^25 blocks, the most that the program reads, is
+# beyond is left out: awk computes with 53 bits. A line of more than 2^25 blocks, the most that the program keeps, is
 # refused. The time is the number of the line.
 function refuse(why) { print "blocks.awk: " why > "/dev/stderr"; exit 1 }
 function is_number(word) { return word ~ /^[0-9]+$/ }
@@ -24,7 +24,7 @@ is_right() && (form == "arc" ? $2 : $6) > 0 {
     volume = form == "arc" ? "" : $2 "," plain($3)
     first = form == "arc" ? $1 : int($5 / block)
     last = form == "arc" ? $1 + $2 - 1 : int(($5 + $6 - 1) / block)
-    if (last - first >= 2 ^ 25) refuse("line " NR " asks for more than 2^25 blocks, the most that the program reads")
+    if (last - first >= 2 ^ 25) refuse("line " NR " asks for more than 2^25 blocks, the most that the program keeps")
     for (i = first; i <= last; i++) {
         name = volume sprintf(",%.0f", i)
         if (!(name in number)) number[name] = ++blocks

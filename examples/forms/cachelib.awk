@@ -4,7 +4,7 @@
 # A DELETE is left out, which loosens the bound at most. An object is a key, of both sizes together. A missed get is
 # logged with size 0: it has the last size of its key. The time is the number of the line, so idle=T counts lines. As a
 # set gives its key another value, replace=yes beside count=reads is for these traces. A line of more than 2^25 requests,
-# the most that the program reads, is refused.
+# the most that the program keeps, is refused.
 function refuse(why) { print "cachelib.awk: " why > "/dev/stderr"; exit 1 }
 function is_number(word) { return word ~ /^[0-9]+$/ }
 function is_right() {
@@ -25,7 +25,7 @@ FNR == 1 {
 }
 FNR == 2 && !is_right() { refuse("line 2 must have the columns of the heading, and numbers as sizes and op_count") }
 is_right() && $at["op"] ~ /^[GS]ET(_LEASE)?$/ && $at["op_count"] > 0 {
-    if ($at["op_count"] > 2 ^ 25) refuse("line " NR " stands for more than 2^25 requests, the most that the program reads")
+    if ($at["op_count"] > 2 ^ 25) refuse("line " NR " stands for more than 2^25 requests, the most that the program keeps")
     key = $at["key"]
     if (!(key in number)) number[key] = ++keys
     reads = $at["op"] ~ /^G/

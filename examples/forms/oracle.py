@@ -3,7 +3,7 @@
 A record is packed and little endian: a u32 of the time, a u64 of the id, a u32 of the size in bytes, and an i64 of
 the number, from 0, of the next request of that id, or -1. Blank lines are left out. A part of a record, or a line that
 doesn't begin with three numbers in these ranges, is refused with status 1, and of lines nothing is written then. Lines
-have at most 65,535 bytes, and there are at most 2^25 of them, as the program reads them.
+have at most 65,535 bytes, and there are at most 2^25 of them, as it keeps them all.
 """
 import array
 import os
@@ -63,7 +63,7 @@ def requests_of(source):
         if not numbers:
             end(0, lines, "lines", f"line {lines} must be a time below 2^32, an id below 2^64 and a size below 2^32")
         if len(ids) == MOST:
-            end(0, lines, "lines", f"line {lines} goes beyond 2^25 requests, the most that the program reads: cut the trace")
+            end(0, lines, "lines", f"line {lines} goes beyond 2^25 requests, the most that it keeps: cut the trace, or give its lines to sweep")
         for column, number in zip((times, ids, sizes), numbers):
             column.append(number)
     return times, ids, sizes, lines

@@ -16,7 +16,7 @@ use Rattle.trace_lines.specs.declared.line.LineKind.TheVariants.{TooFewWords, Ba
 use Rattle.bound_terms.specs.declared.words.WordKind.{WordKind}
 use Rattle.bound_terms.specs.declared.words.WordKind.TheVariants.{Missing, Unknown, Twice, BadValue}
 use Rattle.bound_report.specs.declared.refusal.LimitName.{LimitName}
-use Rattle.bound_report.specs.declared.refusal.LimitName.TheVariants.{Requests, TraceBytes, Denominator}
+use Rattle.bound_report.specs.declared.refusal.LimitName.TheVariants.{Requests, TraceBytes, PassRequests, PassBytes, Denominator}
 use Rattle.bound_report.specs.declared.refusal.Refusal.{Refusal}
 use Rattle.bound_report.specs.declared.refusal.Refusal.TheVariants.{Invalid, NotFlag, FlagCount, Impossible as ImpossibleHits, Words, BadLine, Limit, Unequal, TraceFault, CertFault, MadeFault, NoMemory}
 use Rattle.bound_report.specs.Refusals.{word_kind_text, line_kind_text, limit_text, invalid_kind_text, impossible_text, refusal_line}
@@ -101,6 +101,8 @@ line_kind-line (PartRecord bytes) = line (codes "part record " ++ decimal bytes)
 limit-line : (name : LimitName) → IsAsciiLine (limit_text name)
 limit-line Requests = line (codes "requests 33554432") refl
 limit-line TraceBytes = line (codes "trace bytes 68719476736") refl
+limit-line PassRequests = line (codes "requests 4294967295") refl
+limit-line PassBytes = line (codes "trace bytes 17592186044416") refl
 limit-line Denominator = line (codes "denominator 281474976710656") refl
 
 invalid_kind-low : (kind : InvalidKind) → IsLow (invalid_kind_text kind)

@@ -15,11 +15,13 @@ pub const PURPOSE: &str =
 replacement policy can exceed, a schedule that reaches the lower bound, and a certificate of both.
 ";
 
-/// What else is to know, and seven examples.
+/// What else is to know, and eight examples.
 pub const EXAMPLES: &str =
     "A path - is the standard input or output. The report goes to the standard output.
 HITS has a line for each request: 1 if a simulator of your own counted a hit, and 0 if not.
 A curve takes an objective, a denominator and a warm-up with capacities alone.
+A sweep has bounds at many capacities, in one pass over a trace of up to 4294967295 requests. With a delay they are
+bounds of caches, too, that let an object in up to that many requests after it was asked for.
 
 A demo draws a trace of its own and shows its bounds, that they are checked, and the hits of five policies.
 
@@ -30,6 +32,7 @@ examples:
   bound_cli replay examples/build-files.webcache format=webcache capacity=8388608 policy=lru
   bound_cli curve examples/database-blocks.msr format=msr block=8192
   bound_cli curve examples/build-files.webcache format=webcache capacities=4194304,8388608,16777216
+  bound_cli sweep examples/build-files.webcache format=webcache capacities=4194304,8388608,16777216
   bound_cli judge examples/build-files.webcache hits format=webcache capacity=8388608
 
 docs/GUIDE.md goes from a trace to a decision, docs/REFERENCE.md and man -l docs/bound_cli.1 have every operand.";

@@ -51,10 +51,16 @@ pub fn refusal_line(alloc: Global, refusal: &Refusal) -> Result<String, AllocErr
 fn limit_advice(name: LimitName) -> &'static str {
     match name {
         LimitName::Requests => {
-            "a trace has at most 33554432 requests here; examples/parts cuts a longer one of webcache lines, and examples/long adds the bounds of its parts"
+            "a trace has at most 33554432 requests here; examples/parts cuts a longer one of webcache lines, and examples/long adds the bounds of its parts; sweep reads up to 4294967295 in one pass"
         }
         LimitName::TraceBytes => {
-            "a trace has at most 68719476736 bytes here; cut it, or leave out words that are not looked at"
+            "a trace has at most 68719476736 bytes here; cut it, or leave out words that are not looked at; sweep reads up to 17592186044416 in one pass"
+        }
+        LimitName::PassRequests => {
+            "a trace has at most 4294967295 requests in a sweep; examples/parts cuts a longer one of webcache lines, and examples/long adds the bounds of its parts, without a delay"
+        }
+        LimitName::PassBytes => {
+            "a trace has at most 17592186044416 bytes in a sweep; cut it, or leave out words that are not looked at"
         }
         LimitName::Denominator => {
             "no denominator up to 281474976710656 leaves each cost whole; without denominator=exact costs are rounded up"

@@ -2,10 +2,24 @@
 ghost use Rattle.std.specs.Prelude.{◌≡◌, ◌≤◌, ◌<◌, [], length, IfOk, OnOk};
 ghost use Rattle.std.specs.Io.KnownBytes.{WriteAppends};
 ghost use Rattle.bound_io.specs.Causes.{HasCause};
-ghost use Rattle.bound_advice.specs.Starts.{KeepsStart};
+ghost use Rattle.bound_advice.specs.Starts.{AreWholeLines, KeepsStart};
 
 use crate::first_bytes::FirstBytes;
 use bound_io::{Failed, Sink};
+
+// The whole lines of a text.
+fn whole_lines(text: &[u8]) -> &[u8]
+    ensures { AreWholeLines text.now result.now }
+{
+    let mut lines = text;
+    while let Some((last, before)) = lines.split_last() {
+        if *last == b'\n' {
+            return lines;
+        }
+        lines = before;
+    }
+    lines
+}
 
 /// A sink that remembers the first 1,024 bytes that it took. Else it is the sink that it is made of.
 #[derive(Drop)]
@@ -38,6 +52,13 @@ impl<K: Sink + Drop> Told<K> {
         ensures { result.now ≡ self.now.start }
     {
         self.start.as_slice()
+    }
+
+    /// The whole lines of these. What stands behind them may be a part of a line.
+    pub fn start_lines(&self) -> &[u8]
+        ensures { AreWholeLines self.now.start result.now }
+    {
+        whole_lines(self.start())
     }
 }
 

@@ -133,7 +133,7 @@ fn run_files<R: Files + Input + Print + Eprint>(rt: &R, alloc: Global, words: &[
         line: refused_line(&trace, asked, status),
     };
     match status {
-        Status::Done => say_oddities(rt, alloc, asked, devices, numbers_in(report.start())),
+        Status::Done => say_oddities(rt, alloc, asked, devices, numbers_in(report.start_lines())),
         Status::ReportFault => say_report_fault(rt, alloc, seen_sink(report.sink())),
         _ => say_refusal(rt, alloc, asked, devices, status),
     }

@@ -10,3 +10,4 @@ pub mod Demos
 pub mod Rendering
 pub mod Judged
 pub mod Numbers
+pub mod Sweeps

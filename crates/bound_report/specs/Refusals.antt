@@ -8,7 +8,7 @@ use Rattle.hit_judge.specs.declared.causes.Impossible.TheVariants.{First, Size, 
 use Rattle.trace_lines.specs.declared.line.LineKind.{LineKind}
 use Rattle.trace_lines.specs.declared.line.LineKind.TheVariants.{TooFewWords, BadNumber, SizeTooLarge, BadRange, BadType, QuoteByte, TooLong, PartRecord}
 use Rattle.bound_report.specs.declared.refusal.LimitName.{LimitName}
-use Rattle.bound_report.specs.declared.refusal.LimitName.TheVariants.{Requests, TraceBytes, Denominator}
+use Rattle.bound_report.specs.declared.refusal.LimitName.TheVariants.{Requests, TraceBytes, PassRequests, PassBytes, Denominator}
 use Rattle.bound_terms.specs.declared.words.WordKind.{WordKind}
 use Rattle.bound_terms.specs.declared.words.WordKind.TheVariants.{Missing, Unknown, Twice, BadValue}
 use Rattle.bound_report.specs.declared.refusal.Refusal.{Refusal}
@@ -36,6 +36,8 @@ line_kind_text (PartRecord bytes) = codes "part record " ++ decimal bytes ++ cod
 abbrev pub limit_text : LimitName → List ℕ
 limit_text Requests = codes "requests 33554432\n"
 limit_text TraceBytes = codes "trace bytes 68719476736\n"
+limit_text PassRequests = codes "requests 4294967295\n"
+limit_text PassBytes = codes "trace bytes 17592186044416\n"
 limit_text Denominator = codes "denominator 281474976710656\n"
 
 -- why a certificate isn't valid

@@ -15,6 +15,7 @@ mod refusal;
 mod rendering;
 mod replays;
 mod report;
+mod sweeps;
 mod upgrade;
 mod verdict;
 
@@ -32,5 +33,7 @@ pub use refusal::{LimitName, Refusal, RefusalText, refusal_text};
 pub use rendering::{Counting, Report, StaleCounts, render};
 pub use replays::{ReplayFacts, replay_text};
 pub use report::report_text;
+pub use sweeps::{SweepFacts, SweepReport};
+pub use trace_sweep::SweepPoint;
 pub use upgrade::upgrade_text;
 pub use verdict::{CheckFacts, verdict_text};

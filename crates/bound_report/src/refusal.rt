@@ -17,6 +17,10 @@ pub enum LimitName {
     Requests,
     /// 2^36 bytes of a trace.
     TraceBytes,
+    /// 2^32 - 1 requests of a trace that is read in one pass.
+    PassRequests,
+    /// 2^44 bytes of a trace that is read in one pass.
+    PassBytes,
     /// 2^48 of a denominator.
     Denominator,
 }
@@ -97,6 +101,8 @@ fn limit_text(name: LimitName) -> &'static [u8]
     match name {
         LimitName::Requests => b"requests 33554432\n",
         LimitName::TraceBytes => b"trace bytes 68719476736\n",
+        LimitName::PassRequests => b"requests 4294967295\n",
+        LimitName::PassBytes => b"trace bytes 17592186044416\n",
         LimitName::Denominator => b"denominator 281474976710656\n",
     }
 }

@@ -22,7 +22,7 @@ use Rattle.hit_flags.specs.declared.fault.FlagFault.{FlagFault}
 use Rattle.hit_flags.specs.declared.fault.FlagFault.TheVariants as flag
 use Rattle.hit_flags.specs.Claims.{AreRead, IsStop}
 use Rattle.hit_flags.specs.Flags.{by_turns, flags_in, stop_of}
-use Rattle.bound_report.specs.declared.refusal.LimitName.TheVariants.{Requests as MostRequests, TraceBytes, Denominator}
+use Rattle.bound_report.specs.declared.refusal.LimitName.TheVariants.{Requests as MostRequests, TraceBytes, PassRequests, PassBytes, Denominator}
 use Rattle.bound_words.specs.declared.plans.JudgeSettings.{JudgeSettings}
 use Rattle.bound_run.specs.declared.status.Status.{Status}
 use Rattle.bound_run.specs.declared.status.Status.TheVariants.{Done, Invalid, Words, BadLine, Limit, TraceFault, CertFault, ReportFault, MadeFault, NoMemory, Unequal, NotFlag, FlagCount, Impossible}
@@ -126,6 +126,8 @@ module _ (format : Format) (asked : JudgeSettings) (source hits report : Device)
   judge_complete (Limit MostRequests) e = no_answer (Limit MostRequests) source.before hits.before known_trace known_hits (λ bytes text never. never) (stopped_at (flag.Trace of_trace.TooManyRequests) e.0.0)
   judge_complete (Limit TraceBytes) e = no_answer (Limit TraceBytes) source.before hits.before known_trace known_hits (λ bytes text never. never) (stopped_at (flag.Trace of_trace.InputTooLong) e.0.0)
   judge_complete (Limit Denominator) e = absurd e.0
+  judge_complete (Limit PassRequests) e = absurd e.0
+  judge_complete (Limit PassBytes) e = absurd e.0
   judge_complete (NotFlag line) e = no_answer (NotFlag line) source.before hits.before known_trace known_hits (λ bytes text never. never) (stopped_at (flag.NotFlag line) e.0.0)
   judge_complete (FlagCount flags requests) e = no_answer (FlagCount flags requests) source.before hits.before known_trace known_hits (λ bytes text never. never) (stopped_at (flag.Count flags requests) e.0.0)
   judge_complete (Impossible cause capacity) e =

@@ -17,7 +17,7 @@ use Rattle.trace_any.specs.declared.fault.TraceFault.TheVariants as trace
 use Rattle.trace_any.specs.Readings.{Reading as Trace, reading, full_limits}
 use Rattle.trace_any.specs.Readers.{IsWhole}
 use Rattle.bound_io.specs.Devices.{Device, HasFailed}
-use Rattle.bound_report.specs.declared.refusal.LimitName.TheVariants.{Requests, TraceBytes, Denominator}
+use Rattle.bound_report.specs.declared.refusal.LimitName.TheVariants.{Requests, TraceBytes, PassRequests, PassBytes, Denominator}
 use Rattle.cert_format.specs.declared.fault.CertFault.{CertFault as TextFault}
 use Rattle.cert_format.specs.declared.fault.CertFault.TheVariants as cert
 use Rattle.cert_checker.specs.declared.invalid.InvalidKind.{InvalidKind}
@@ -35,15 +35,18 @@ use Rattle.bound_words.specs.declared.words.WordFault.{WordFault}
 use Rattle.bound_run.specs.declared.status.Status.{Status}
 use Rattle.bound_run.specs.declared.status.Status.TheVariants.{Done, Invalid, Words, BadLine, Limit, TraceFault, CertFault, ReportFault, MadeFault, NoMemory, Unequal, NotFlag, FlagCount, Impossible}
 use Rattle.bound_run.specs.Demos.{trace_drawn}
+use Rattle.trace_any.specs.Loads.{pass_limits}
+use Rattle.bound_words.specs.declared.plans.SweepSettings.{SweepSettings}
+use Rattle.bound_run.specs.Sweeps.{IsGoodPass}
 use Rattle.bound_run.specs.BoundsMade.{RefusesDenominator}
 use Rattle.bound_run.specs.Readings.{HasDenominator, IsCapacityCurved, IsGoodTrace, IsReplayed, trace_in}
-use Rattle.bound_run.specs.Run.{AnswersCurve, AnswersCurveOf, AnswersOf, Answers, AreGoodInputs, BoundsEnd, CheckEnds, CurveEnds, Completes, DemoEnds, Devices, NoneFails, RefineEnds, ReportsEnd, RunEnds, CommandEnds, UpgradeEnds}
+use Rattle.bound_run.specs.Run.{AnswersCurve, AnswersCurveOf, AnswersOf, Answers, AreGoodInputs, BoundsEnd, CheckEnds, CurveEnds, Completes, DemoEnds, Devices, NoneFails, RefineEnds, ReportsEnd, RunEnds, CommandEnds, UpgradeEnds, SweepEnds}
 use Rattle.bound_run.specs.Refusals.{RefusesLoading}
 use Rattle.bound_run.specs.Upgrades.{IsGoodCertificate}
 use Rattle.bound_run.specs.Statuses.{ending_of}
 use Rattle.bound_run.proofs.Claimed.{judge_complete}
 use Rattle.bound_words.specs.declared.plans.Settings.{Settings}
-use Rattle.bound_words.specs.declared.plans.Settings.TheVariants.{Bounds, Check, Replay, Curve, CapacityCurve, Judge, Demo, Upgrade, Refine}
+use Rattle.bound_words.specs.declared.plans.Settings.TheVariants.{Bounds, Check, Replay, Curve, CapacityCurve, Sweep, Judge, Demo, Upgrade, Refine}
 use Rattle.bound_words.specs.Capacities.{capacities_in}
 use Rattle.bound_words.specs.Plans.{settings_of}
 
@@ -125,6 +128,8 @@ module _ (format : Format) (asked : BoundSettings) (source report made : Device)
   bounds_complete (Limit Requests) e = absurd (not_refused source.before trace.TooManyRequests good e.0.0)
   bounds_complete (Limit TraceBytes) e = absurd (not_refused source.before trace.InputTooLong good e.0.0)
   bounds_complete (Limit Denominator) e = absurd (not_past source.before e.0.requests e.0.notes.dropped denominator e.0.loaded.read e.0.refused good)
+  bounds_complete (Limit PassRequests) e = absurd e.0
+  bounds_complete (Limit PassBytes) e = absurd e.0
   bounds_complete TraceFault e = absurd (source_works e.0)
   bounds_complete ReportFault (cert, text, ready, all, failed) = absurd (report_works failed.0)
   bounds_complete MadeFault (cert, text, ready, failed, line) = absurd (made_works failed.0)
@@ -174,6 +179,8 @@ module _ (format : Format) where
     check_complete (Limit Requests) e = absurd (not_refused_at source.before cert.before trace.TooManyRequests good known_cert e.0.0)
     check_complete (Limit TraceBytes) e = absurd (not_refused_at source.before cert.before trace.InputTooLong good known_cert e.0.0)
     check_complete (Limit Denominator) e = absurd e.0
+    check_complete (Limit PassRequests) e = absurd e.0
+    check_complete (Limit PassBytes) e = absurd e.0
     check_complete TraceFault e = absurd (source_works e.0)
     check_complete CertFault e = absurd (cert_works e.0)
     check_complete ReportFault (text, said, failed) = absurd (report_works failed.0)
@@ -195,6 +202,8 @@ module _ (format : Format) where
     refine_complete (Limit Requests) e = absurd (not_refused_at source.before cert.before trace.TooManyRequests good known_cert e.0.0)
     refine_complete (Limit TraceBytes) e = absurd (not_refused_at source.before cert.before trace.InputTooLong good known_cert e.0.0)
     refine_complete (Limit Denominator) e = absurd e.0
+    refine_complete (Limit PassRequests) e = absurd e.0
+    refine_complete (Limit PassBytes) e = absurd e.0
     refine_complete TraceFault e = absurd (source_works e.0)
     refine_complete CertFault e = absurd (cert_works e.0)
     refine_complete ReportFault (written, text, refined, all, failed) = absurd (report_works failed.0)
@@ -221,6 +230,8 @@ module _ (format : Format) (IsText : List ℕ → Type 0) (source report : Devic
   report_complete (Limit Requests) e = absurd (loading_works source.before trace.TooManyRequests good e.0.0)
   report_complete (Limit TraceBytes) e = absurd (loading_works source.before trace.InputTooLong good e.0.0)
   report_complete (Limit Denominator) e = absurd e.0
+  report_complete (Limit PassRequests) e = absurd e.0
+  report_complete (Limit PassBytes) e = absurd e.0
   report_complete TraceFault e = absurd (source_works e.0)
   report_complete ReportFault (text, replayed, failed) = absurd (report_works failed.0)
   report_complete MadeFault e = absurd e.0
@@ -231,6 +242,34 @@ module _ (format : Format) (IsText : List ℕ → Type 0) (source report : Devic
   report_complete (NotFlag line) e = absurd e.0
   report_complete (FlagCount flags requests) e = absurd e.0
   report_complete (Impossible cause capacity) e = absurd e.0
+
+-- sweeps
+
+module _ (format : Format) (asked : SweepSettings) (capacities : List ℕ) (source report : Device) (good : IsGoodPass format source.before)
+    (source_works : ¬ (HasFailed source)) (report_works : ¬ (HasFailed report)) where
+  pass_works : (before : Option (List ℕ)) (fault : FaultOfTrace) → IsGoodPass format before → IfSome before (λ bytes. (reading format pass_limits bytes).refused ≡ Some fault) → ⊥
+  pass_works None fault known_trace why = known_trace
+  pass_works (Some bytes) fault known_trace why = some_is_not_none fault _ why known_trace
+
+  sweep_complete : (status : Status) → SweepEnds format asked capacities source report (ending_of status) → (status ≡ Done) ⊎ (status ≡ NoMemory)
+  sweep_complete Done e = inl refl
+  sweep_complete NoMemory e = inr refl
+  sweep_complete (BadLine line kind) e = absurd (pass_works source.before (trace.BadLine line kind) good e.0.0)
+  sweep_complete (Limit PassRequests) e = absurd (pass_works source.before trace.TooManyRequests good e.0.0)
+  sweep_complete (Limit PassBytes) e = absurd (pass_works source.before trace.InputTooLong good e.0.0)
+  sweep_complete (Limit Requests) e = absurd e.0
+  sweep_complete (Limit TraceBytes) e = absurd e.0
+  sweep_complete (Limit Denominator) e = absurd e.0
+  sweep_complete TraceFault e = absurd (source_works e.0)
+  sweep_complete ReportFault (text, swept, failed) = absurd (report_works failed.0)
+  sweep_complete MadeFault e = absurd e.0
+  sweep_complete (Invalid line kind) e = absurd e.0
+  sweep_complete (Words fault) e = absurd e.0
+  sweep_complete CertFault e = absurd e.0
+  sweep_complete (Unequal first other) e = absurd e.0
+  sweep_complete (NotFlag line) e = absurd e.0
+  sweep_complete (FlagCount flags requests) e = absurd e.0
+  sweep_complete (Impossible cause capacity) e = absurd e.0
 
 -- curves
 
@@ -258,6 +297,8 @@ module _ (format : Format) (source report : Device) (good : IsGoodTrace format s
   curve_complete (Limit Requests) e = absurd (curve_not_refused source.before trace.TooManyRequests good e.0.0)
   curve_complete (Limit TraceBytes) e = absurd (curve_not_refused source.before trace.InputTooLong good e.0.0)
   curve_complete (Limit Denominator) e = absurd e.0
+  curve_complete (Limit PassRequests) e = absurd e.0
+  curve_complete (Limit PassBytes) e = absurd e.0
   curve_complete TraceFault e = absurd (source_works e.0)
   curve_complete ReportFault (text, curved, failed) = absurd (report_works failed.0)
   curve_complete MadeFault e = absurd e.0
@@ -278,6 +319,8 @@ module _ (drawing : DrawSettings) (asked : BoundSettings) (report : Device) (den
   demo_complete (Limit Requests) e = absurd e.0
   demo_complete (Limit TraceBytes) e = absurd e.0
   demo_complete (Limit Denominator) e = absurd (denominator e.0)
+  demo_complete (Limit PassRequests) e = absurd e.0
+  demo_complete (Limit PassBytes) e = absurd e.0
   demo_complete TraceFault e = absurd e.0
   demo_complete ReportFault (text, shows, failed) = absurd (report_works failed.0)
   demo_complete MadeFault e = absurd e.0
@@ -321,6 +364,8 @@ module _ (d : Devices) (status : Status) (works : NoneFails d) where
   command_complete (Curve format) e inputs = curve_complete format d.trace d.report inputs works.trace works.report status e.0
   command_complete (CapacityCurve format capacities asked) e inputs =
       report_complete format (IsCapacityCurved format asked (capacities_in capacities) d.trace) d.trace d.report inputs works.trace works.report status e.0
+  command_complete (Sweep format capacities asked) e inputs =
+      sweep_complete format asked (capacities_in capacities) d.trace d.report inputs works.trace works.report status e.0
   command_complete (Judge format asked) e inputs = judge_complete format asked d.trace d.beside d.report inputs.0 inputs.1 works.trace works.beside works.report status e.0
   command_complete Upgrade e inputs = upgrade_complete d.beside d.report d.made inputs works.beside works.report works.made status e.0
   command_complete (Check format) e inputs = check_complete format d.trace d.beside d.report inputs.0 inputs.1 works.trace works.beside works.report status e.0

@@ -24,7 +24,7 @@ use Rattle.bound_run.specs.Statuses.{done, ending_of}
 use Rattle.judge_laws.proofs.Possible.{possible_is_allowed}
 use Rattle.bound_run.proofs.Claimed.{claims_bounded}
 use Rattle.bound_words.specs.declared.plans.Settings.{Settings}
-use Rattle.bound_words.specs.declared.plans.Settings.TheVariants.{Bounds, Check, Replay, Curve, CapacityCurve, Judge, Demo, Upgrade, Refine}
+use Rattle.bound_words.specs.declared.plans.Settings.TheVariants.{Bounds, Check, Replay, Curve, CapacityCurve, Sweep, Judge, Demo, Upgrade, Refine}
 use Rattle.bound_words.specs.Plans.{settings_of}
 
 -- a valid certificate has true bounds
@@ -110,6 +110,7 @@ shown (CapacityCurve format capacities asked) d ((text, curved, printed), source
   curved.loaded,
   record { text = text; printed = printed; curve = curved.report },
 )
+shown (Sweep format capacities asked) d ((text, swept, printed), source, cert, made) = record { text = text; printed = printed; sweep = swept }
 shown (Judge format asked) d ((text, judged, printed), trace, hits, made) = (
   judged.requests,
   judged.notes,

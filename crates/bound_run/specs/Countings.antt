@@ -3,7 +3,7 @@ use Rattle.std.specs.Prelude.{ℕ}
 use Rattle.cache_rules.specs.Stored.{Requests}
 use Rattle.cache_model.specs.declared.certificates.Header.{Header}
 use Rattle.bound_report.specs.declared.rendering.Counting.{Counting}
-use Rattle.cert_checker.specs.Counting.{counted_in, stale_in}
+use Rattle.trace_any.specs.Counts.{counted_in, stale_in}
 use Rattle.cert_checker.specs.declared.counting.Passed.{Passed}
 use Rattle.freshness.specs.Seen.{Staleness}
 use Rattle.trace_any.specs.declared.format.Format.{Format}

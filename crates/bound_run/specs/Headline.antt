@@ -23,6 +23,7 @@ use Rattle.bound_run.specs.Countings.{counting_of}
 use Rattle.bound_words.specs.declared.plans.BoundSettings.{BoundSettings}
 use Rattle.bound_words.specs.declared.plans.DrawSettings.{DrawSettings}
 use Rattle.bound_words.specs.declared.plans.ReplaySettings.{ReplaySettings}
+use Rattle.bound_words.specs.declared.plans.SweepSettings.{SweepSettings}
 use Rattle.bound_words.specs.declared.plans.Plan.{Plan}
 use Rattle.bound_words.specs.declared.words.WordFault.{WordFault}
 use Rattle.bound_report.specs.declared.demo.PolicyReplays.{PolicyReplays}
@@ -45,10 +46,11 @@ use Rattle.bound_run.specs.BoundsMade.{is_unwindowed}
 use Rattle.bound_run.specs.Refined.{IsRefinement, verdict_on}
 use Rattle.bound_run.specs.Replays.{IsReplayText, IsWithinBounds}
 use Rattle.bound_run.specs.Reports.{bounds_report, refined_report, verdict_report}
+use Rattle.bound_run.specs.Sweeps.{IsSweepText}
 use Rattle.bound_run.specs.Upgrades.{IsUpgraded}
 use Rattle.bound_run.specs.Run.{Devices}
 use Rattle.bound_words.specs.declared.plans.Settings.{Settings}
-use Rattle.bound_words.specs.declared.plans.Settings.TheVariants.{Bounds, Check, Replay, Curve, CapacityCurve, Judge, Demo, Upgrade, Refine}
+use Rattle.bound_words.specs.declared.plans.Settings.TheVariants.{Bounds, Check, Replay, Curve, CapacityCurve, Sweep, Judge, Demo, Upgrade, Refine}
 use Rattle.bound_words.specs.Capacities.{capacities_in}
 use Rattle.bound_words.specs.Plans.{settings_of}
 
@@ -117,6 +119,12 @@ pub record ShowsCapacityCurve (format : Format) (asked : CurveTerms) (capacities
   pub printed : Appends report.before report.after text
   pub curve : IsCapacityCurveText format asked capacities trace notes text
 
+-- a sweep printed bounds at the capacities, of hits and of their bytes, which no contents pass that let objects in no later than the delay
+pub record ShowsSweep (format : Format) (asked : SweepSettings) (capacities : List ℕ) (source report : Device) : Type 0 where
+  pub text : List ℕ
+  pub printed : Appends report.before report.after text
+  pub sweep : IsSweepText format asked capacities source text
+
 -- no allowed contents that hit at the flags, and at no other request that counts, write fewer bytes than is said of them; and some that hit exactly there write just these
 pub record HasLeastWrites (asked : JudgeSettings) (trace : Requests) (flags : List Bool) : Type 0 where
   pub none_fewer : (contents : List (List Object)) → IsAllowed asked.capacity trace.objects contents → HitsAsCounted asked.warmup trace.fills trace.objects contents flags
@@ -175,6 +183,7 @@ ShowsElse (Replay format r) d = (trace : Requests) × (notes : Notes) × IsLoade
 ShowsElse (Curve format) d = (trace : Requests) × (notes : Notes) × IsLoaded format d.trace trace notes × ShowsCurve format trace notes d.report
 ShowsElse (CapacityCurve format capacities asked) d =
     (trace : Requests) × (notes : Notes) × IsLoaded format d.trace trace notes × ShowsCapacityCurve format asked (capacities_in capacities) trace notes d.report
+ShowsElse (Sweep format capacities asked) d = ShowsSweep format asked (capacities_in capacities) d.trace d.report
 ShowsElse (Judge format asked) d = (trace : Requests) × (notes : Notes) × IsLoaded format d.trace trace notes × ShowsJudgement format asked trace notes d.beside d.report
 ShowsElse (Demo drawing asked) d = ShowsDemo drawing asked d.report
 ShowsElse Upgrade d = ShowsUpgrade d.beside d.report d.made

@@ -14,6 +14,7 @@ pub mod Refined
 pub mod Demos
 pub mod Refusals
 pub mod Writings
+pub mod Sweeps
 pub mod Run
 pub mod Judgements
 pub mod Headline

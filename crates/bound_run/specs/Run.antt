@@ -17,6 +17,7 @@ use Rattle.bound_words.specs.declared.plans.BoundSettings.{BoundSettings}
 use Rattle.bound_words.specs.declared.plans.DrawSettings.{DrawSettings}
 use Rattle.bound_words.specs.declared.plans.JudgeSettings.{JudgeSettings}
 use Rattle.bound_words.specs.declared.plans.ReplaySettings.{ReplaySettings}
+use Rattle.bound_words.specs.declared.plans.SweepSettings.{SweepSettings}
 use Rattle.bound_words.specs.declared.plans.Plan.{Plan}
 use Rattle.bound_words.specs.declared.words.WordFault.{WordFault}
 use Rattle.bound_run.specs.declared.status.Status.{Status}
@@ -27,10 +28,11 @@ use Rattle.bound_run.specs.BoundsMade.{RefusesDenominator}
 use Rattle.bound_run.specs.Judgements.{ArePossible, IsJudged}
 use Rattle.bound_run.specs.Readings.{HasDenominator, IsCertified, IsGoodTrace, IsReady, IsReplayed, IsCurved, IsCapacityCurved, IsVerdictText}
 use Rattle.bound_run.specs.Refined.{IsRefined}
+use Rattle.bound_run.specs.Sweeps.{IsGoodPass, IsSweepText, RefusesSweep}
 use Rattle.bound_run.specs.Upgrades.{IsGoodCertificate, IsUpgraded}
 use Rattle.bound_run.specs.Statuses.{Ending, done, refused, unreported, ending_of}
 use Rattle.bound_words.specs.declared.plans.Settings.{Settings}
-use Rattle.bound_words.specs.declared.plans.Settings.TheVariants.{Bounds, Check, Replay, Curve, CapacityCurve, Judge, Demo, Upgrade, Refine}
+use Rattle.bound_words.specs.declared.plans.Settings.TheVariants.{Bounds, Check, Replay, Curve, CapacityCurve, Sweep, Judge, Demo, Upgrade, Refine}
 use Rattle.bound_words.specs.Capacities.{capacities_in}
 use Rattle.bound_words.specs.Plans.{settings_of}
 
@@ -89,6 +91,10 @@ abbrev pub CapacityCurveEnds : Format → CurveTerms → List ℕ → Device →
 CapacityCurveEnds format asked capacities source report ending =
     ReportsEnd (IsCapacityCurved format asked capacities source) (RefusesLoading format source) report ending
 
+-- how a sweep ends, and what the report got then
+abbrev pub SweepEnds : Format → SweepSettings → List ℕ → Device → Device → Ending → Type 0
+SweepEnds format asked capacities source report ending = ReportsEnd (IsSweepText format asked capacities source) (RefusesSweep format source) report ending
+
 -- how a judgement ends, and what the report got then
 abbrev pub JudgeEnds : Format → JudgeSettings → Device → Device → Device → Ending → Type 0
 JudgeEnds format asked source hits report ending = ReportsEnd (IsJudged format asked source hits) (RefusesJudge format asked source hits) report ending
@@ -109,6 +115,8 @@ CommandEnds (Replay format r) d ending = ReplayEnds format r d.trace d.report en
 CommandEnds (Curve format) d ending = CurveEnds format d.trace d.report ending × IsReadFrom d.trace × IsUntouched d.beside × IsUntouched d.made
 CommandEnds (CapacityCurve format capacities asked) d ending =
     CapacityCurveEnds format asked (capacities_in capacities) d.trace d.report ending × IsReadFrom d.trace × IsUntouched d.beside × IsUntouched d.made
+CommandEnds (Sweep format capacities asked) d ending =
+    SweepEnds format asked (capacities_in capacities) d.trace d.report ending × IsReadFrom d.trace × IsUntouched d.beside × IsUntouched d.made
 CommandEnds (Judge format asked) d ending = JudgeEnds format asked d.trace d.beside d.report ending × IsReadFrom d.trace × IsReadFrom d.beside × IsUntouched d.made
 CommandEnds (Demo drawing asked) d ending = DemoEnds drawing asked d.report ending × IsUntouched d.trace × IsUntouched d.beside × IsUntouched d.made
 CommandEnds Upgrade d ending = UpgradeEnds d.beside d.report d.made ending × IsReadFrom d.beside × IsUntouched d.trace
@@ -142,6 +150,7 @@ AreGoodInputs (Check format) d = IsGoodTrace format d.trace.before × IsSome d.b
 AreGoodInputs (Replay format r) d = IsGoodTrace format d.trace.before
 AreGoodInputs (Curve format) d = IsGoodTrace format d.trace.before
 AreGoodInputs (CapacityCurve format capacities asked) d = IsGoodTrace format d.trace.before
+AreGoodInputs (Sweep format capacities asked) d = IsGoodPass format d.trace.before
 AreGoodInputs (Judge format asked) d = IsSome d.trace.before × IsSome d.beside.before
 AreGoodInputs (Demo drawing asked) d = ¬ (RefusesDenominator asked (trace_drawn drawing))
 AreGoodInputs Upgrade d = IsGoodCertificate d.beside.before
@@ -184,6 +193,7 @@ Answers (Check format) d status = AnswersOf format d.trace.before d.beside.befor
 Answers (Replay format r) d status = (status ≡ Done) ⊎ (status ≡ NoMemory)
 Answers (Curve format) d status = AnswersCurveOf format d.trace.before status
 Answers (CapacityCurve format capacities asked) d status = (status ≡ Done) ⊎ (status ≡ NoMemory)
+Answers (Sweep format capacities asked) d status = (status ≡ Done) ⊎ (status ≡ NoMemory)
 Answers (Judge format asked) d status = AnswersJudge format asked d.trace.before d.beside.before status
 Answers (Demo drawing asked) d status = (status ≡ Done) ⊎ (status ≡ NoMemory)
 Answers Upgrade d status = (status ≡ Done) ⊎ (status ≡ NoMemory)

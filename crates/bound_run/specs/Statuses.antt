@@ -4,7 +4,7 @@ use Rattle.bound_report.specs.declared.refusal.Refusal.{Refusal}
 use Rattle.bound_report.specs.declared.refusal.Refusal.TheVariants as refusal
 use Rattle.trace_any.specs.declared.fault.TraceFault.{TraceFault as FaultOfTrace}
 use Rattle.trace_any.specs.declared.fault.TraceFault.TheVariants as trace
-use Rattle.bound_report.specs.declared.refusal.LimitName.TheVariants.{Requests, TraceBytes, Denominator}
+use Rattle.bound_report.specs.declared.refusal.LimitName.TheVariants.{Requests, TraceBytes, PassRequests, PassBytes, Denominator}
 use Rattle.cert_checker.specs.declared.walking.CheckFault.{CheckFault}
 use Rattle.cert_checker.specs.declared.walking.CheckFault.TheVariants as check
 use Rattle.stack_curve.specs.declared.pass.CurveFault.{CurveFault}
@@ -78,6 +78,14 @@ refusal_of trace.ReadFault = refusal.TraceFault
 refusal_of trace.InputTooLong = refusal.Limit TraceBytes
 refusal_of trace.TooManyRequests = refusal.Limit Requests
 refusal_of trace.NoMemory = refusal.NoMemory
+
+-- the refusal that a fault of a trace that is read in one pass leads to
+abbrev pub refusal_of_sweep : FaultOfTrace → Refusal
+refusal_of_sweep (trace.BadLine line kind) = refusal.BadLine line kind
+refusal_of_sweep trace.ReadFault = refusal.TraceFault
+refusal_of_sweep trace.InputTooLong = refusal.Limit PassBytes
+refusal_of_sweep trace.TooManyRequests = refusal.Limit PassRequests
+refusal_of_sweep trace.NoMemory = refusal.NoMemory
 
 -- the refusal that a fault of a check leads to
 abbrev pub refusal_of_check : CheckFault → Refusal

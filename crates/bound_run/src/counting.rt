@@ -3,7 +3,7 @@ ghost use Rattle.std.specs.Prelude.{◌≡◌, if◌then◌else◌, count_by, fa
 ghost use Rattle.bit_list.specs.Bits.{bits_of};
 ghost use Rattle.cache_model.specs.Claim.{counts_past};
 ghost use Rattle.cache_model.specs.Objects.{numbers_of};
-ghost use Rattle.cert_checker.specs.Counting.{counted_in, stale_in};
+ghost use Rattle.trace_any.specs.Counts.{counted_in, stale_in};
 ghost use Rattle.freshness.specs.Seen.{noted_of};
 ghost use Rattle.bound_run.specs.Countings.{counting_found, counting_from, counting_of};
 

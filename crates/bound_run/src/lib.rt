@@ -15,6 +15,7 @@ mod refined;
 mod relaxed;
 mod replays;
 mod status;
+mod sweeps;
 mod top;
 mod upgrades;
 mod writing;

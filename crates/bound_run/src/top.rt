@@ -5,7 +5,7 @@ ghost use Rattle.bound_io.specs.Reading.{LosesPrefix};
 ghost use Rattle.trace_any.specs.Readings.{IsFormat};
 ghost use Rattle.bound_run.specs.Headline.{Headline};
 ghost use Rattle.bound_run.specs.Run.{BoundsEnd, CapacityCurveEnds, CheckEnds, Completes, CurveEnds, DemoEnds};
-ghost use Rattle.bound_run.specs.Run.{IsCalm, JudgeEnds, RefineEnds, ReplayEnds, RunEnds, UpgradeEnds, devices};
+ghost use Rattle.bound_run.specs.Run.{IsCalm, JudgeEnds, RefineEnds, ReplayEnds, RunEnds, SweepEnds, UpgradeEnds, devices};
 ghost use Rattle.bound_run.specs.Statuses.{ending_of};
 ghost use Rattle.bound_words.specs.Capacities.{capacities_in};
 ghost use Rattle.bound_words.specs.Plans.{IsPlanInRange};
@@ -17,13 +17,14 @@ use crate::judging::judge_all;
 use crate::loading::{capacity_curve_all, curve_all, prepare, replay_all};
 use crate::refined::refine_all;
 use crate::status::Status;
+use crate::sweeps::sweep_all;
 use crate::upgrades::upgrade_all;
 use crate::writing::{refuse, write_out, write_report};
 use bound_io::{Sink, Source};
 use bound_report::Refusal;
 use bound_words::{
     BoundSettings, CapacityList, DrawSettings, JudgeSettings, Plan, ReplaySettings, Settings,
-    WordFault, plan_of, settings_of,
+    SweepSettings, WordFault, plan_of, settings_of,
 };
 use capacity_curve::CurveTerms;
 use std::alloc::Global;
@@ -135,6 +136,28 @@ fn run_capacity_curve<T: Source, R: Sink>(
 {
     match capacity_curve_all(alloc, format, asked, capacities, trace) {
         Ok(curved) => write_report(report, &curved),
+        Err(refusal) => refuse(report, refusal),
+    }
+}
+
+// Goes once over the trace, and writes the bounds at these capacities.
+fn run_sweep<T: Source, R: Sink>(
+    alloc: Global,
+    format: Format,
+    asked: SweepSettings,
+    capacities: &CapacityList<'_>,
+    trace: &mut T,
+    report: &mut R,
+) -> Status
+    requires format { IsFormat format }
+    ensures ends { SweepEnds format asked (capacities_in capacities.now)
+        (seen T.left T.faults trace.old trace.new)
+        (seen R.written R.faults report.old report.new) (ending_of result) }
+    ensures source { LosesPrefix (T.left trace.old) (T.left trace.new) }
+    ensures none_failed { result ≡ Status.Done → (T.faults trace.new ≡ T.faults trace.old) × (R.faults report.new ≡ R.faults report.old) }
+{
+    match sweep_all(alloc, format, asked, capacities, trace) {
+        Ok(swept) => write_report(report, &swept),
         Err(refusal) => refuse(report, refusal),
     }
 }
@@ -255,6 +278,9 @@ fn run_plan<T: Source, Q: Source, R: Sink, K: Sink>(
         Settings::CapacityCurve(format, capacities, asked) => {
             run_capacity_curve(alloc, format, &asked, &capacities, trace, report)
         }
+        Settings::Sweep(format, capacities, asked) => {
+            run_sweep(alloc, format, asked, &capacities, trace, report)
+        }
         Settings::Judge(format, asked) => run_judge(alloc, format, asked, trace, beside, report),
         Settings::Demo(drawing, asked) => run_demo(alloc, drawing, &asked, report),
         Settings::Upgrade => run_upgrade(alloc, beside, report, made),
@@ -265,7 +291,7 @@ fn run_plan<T: Source, Q: Source, R: Sink, K: Sink>(
 }
 
 /// Does all that the program does. It reads the words, and for bounds the trace, and writes the certificate and then
-/// the report; for a check it reads the trace and the certificate side by side, for a replay or a curve the trace, and
+/// the report; for a check it reads the trace and the certificate side by side, for a replay, a curve or a sweep the trace, and
 /// writes the report; for claimed hits it reads the trace and their flags by turns, and writes the report; for a demo it
 /// reads nothing and writes the report; for an upgrade it reads the certificate, and writes it in the second version of
 /// its text and then the report; for a refinement it reads the trace and the certificate, and writes the certificate with

@@ -39,6 +39,9 @@ needed command.Curve words operands = given _ _ (value_given (codes "format") op
 needed command.CapacityCurve words operands =
     given _ _ (value_given (codes "format") operands) _ _ (λ format.
     given _ _ (value_given (codes "capacities") operands) _ _ (λ capacities. refl))
+needed command.Sweep words operands =
+    given _ _ (value_given (codes "format") operands) _ _ (λ format.
+    given _ _ (value_given (codes "capacities") operands) _ _ (λ capacities. refl))
 needed command.Judge words operands =
     given _ _ (value_given (codes "format") operands) _ _ (λ format.
     given _ _ (value_given (codes "capacity") operands) _ _ (λ capacity.
@@ -61,6 +64,7 @@ same_operands command.Curve operands words = at (is_some (value_given (codes "ca
     at true = refl
     at false = refl
 same_operands command.CapacityCurve operands words = refl
+same_operands command.Sweep operands words = refl
 same_operands command.Judge operands words = refl
 same_operands command.Demo operands words = refl
 same_operands command.Upgrade operands words = refl

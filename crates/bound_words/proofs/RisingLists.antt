@@ -1,7 +1,7 @@
 -- Lists of capacities, read one word at a time.
 use Rattle.std.proofs.Common.{◌≡◌, ◌∙◌, ℕ, zero, suc, ◌+◌, ◌<◌, ◌≤◌, ◌^◌, ap, sym, subst, refl, arith, Bool, true, false, cond, Bor, not, nat_le, nat_lt, eqb, ◌&&◌, List, [], ◌∷◌, ◌++◌, append-nil, append_assoc, length, get_or, Some, None, unwrap_or, Result, Ok, Err, All}
 use Rattle.std.specs.declared.option.Option.{Option}
-use Rattle.std.specs.List.Sorted.{IsNonDecreasing}
+use Rattle.std.specs.List.Sorted.{IsNonDecreasing, IsStrictlyIncreasing}
 use Rattle.std.specs.Option.{is_some, option_and_then, option_copied, option_map}
 use Rattle.std.proofs.lemmas.Bool.{and_parts, leb-true, ltb-true, le-ltb, lt-ltb, lt-leb, le-leb}
 use Rattle.std.proofs.lemmas.List.Elements.{All-cons}
@@ -181,6 +181,14 @@ climbs-ascend last (capacity ∷ more) climbs zero zero d order low = omega arit
 climbs-ascend last (capacity ∷ more) climbs zero (suc j) d order low = omega (arith, climbs-above capacity more j d climbs.2 (omega arith))
 climbs-ascend last (capacity ∷ more) climbs (suc i) zero d order low = absurd (omega arith)
 climbs-ascend last (capacity ∷ more) climbs (suc i) (suc j) d order low = climbs-ascend capacity more climbs.2 i j d (omega arith) (omega arith)
+
+-- each above the one before it
+pub climbs-strictly : (last : ℕ) (capacities : List ℕ) → Climbs last capacities → IsStrictlyIncreasing capacities
+climbs-strictly last [] climbs k low = absurd (omega arith)
+climbs-strictly last (capacity ∷ more) climbs zero low = climbs-above capacity more 0 0 climbs.2 (omega (arith, low))
+climbs-strictly last (capacity ∷ more) climbs (suc k) low =
+    let next : suc (k + 1) ≡ suc k + 1 = omega arith in
+    subst (λ n. get_or (capacity ∷ more) (suc k) 0 < get_or (capacity ∷ more) n 0) next (climbs-strictly capacity more climbs.2 k (omega (arith, low)))
 
 -- the capacities of a list climb
 pub list-climbs : (list : List ℕ) → Climbs 0 (capacities_in list)

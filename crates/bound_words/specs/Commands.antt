@@ -14,6 +14,7 @@ command_word command.Check = codes "check"
 command_word command.Replay = codes "replay"
 command_word command.Curve = codes "curve"
 command_word command.CapacityCurve = codes "curve"
+command_word command.Sweep = codes "sweep"
 command_word command.Judge = codes "judge"
 command_word command.Demo = codes "demo"
 command_word command.Upgrade = codes "upgrade"
@@ -22,7 +23,7 @@ command_word command.Refine = codes "refine"
 -- each command that a word names, in the order of the help
 abbrev pub all_commands : List Command
 all_commands =
-    command.Bounds ∷ command.Check ∷ command.Replay ∷ command.Curve
+    command.Bounds ∷ command.Check ∷ command.Replay ∷ command.Curve ∷ command.Sweep
     ∷ command.Judge ∷ command.Demo ∷ command.Upgrade ∷ command.Refine ∷ []
 
 -- the command that a word names
@@ -41,6 +42,7 @@ places_of command.Check = record { count = 2; trace = Some 1; beside = Some 2; m
 places_of command.Replay = record { count = 1; trace = Some 1; beside = None; made = None }
 places_of command.Curve = record { count = 1; trace = Some 1; beside = None; made = None }
 places_of command.CapacityCurve = record { count = 1; trace = Some 1; beside = None; made = None }
+places_of command.Sweep = record { count = 1; trace = Some 1; beside = None; made = None }
 places_of command.Judge = record { count = 2; trace = Some 1; beside = Some 2; made = None }
 places_of command.Demo = record { count = 0; trace = None; beside = None; made = None }
 places_of command.Upgrade = record { count = 2; trace = None; beside = Some 1; made = Some 2 }
@@ -53,6 +55,7 @@ path_names command.Check = codes "trace" ∷ codes "certificate" ∷ []
 path_names command.Replay = codes "trace" ∷ []
 path_names command.Curve = codes "trace" ∷ []
 path_names command.CapacityCurve = codes "trace" ∷ []
+path_names command.Sweep = codes "trace" ∷ []
 path_names command.Judge = codes "trace" ∷ codes "hits" ∷ []
 path_names command.Demo = []
 path_names command.Upgrade = codes "certificate" ∷ codes "new certificate" ∷ []
@@ -79,6 +82,7 @@ needed_names command.Check = codes "format" ∷ []
 needed_names command.Replay = codes "format" ∷ codes "capacity" ∷ codes "policy" ∷ []
 needed_names command.Curve = codes "format" ∷ []
 needed_names command.CapacityCurve = codes "format" ∷ codes "capacities" ∷ []
+needed_names command.Sweep = codes "format" ∷ codes "capacities" ∷ []
 needed_names command.Judge = codes "format" ∷ codes "capacity" ∷ []
 needed_names command.Demo = []
 needed_names command.Upgrade = []
@@ -92,6 +96,7 @@ other_names command.Check = codes "block" ∷ codes "count" ∷ codes "idle" ∷
 other_names command.Replay = codes "block" ∷ codes "count" ∷ codes "idle" ∷ codes "replace" ∷ codes "warmup" ∷ codes "writes" ∷ codes "print" ∷ []
 other_names command.Curve = codes "block" ∷ codes "count" ∷ codes "idle" ∷ []
 other_names command.CapacityCurve = codes "block" ∷ codes "count" ∷ codes "idle" ∷ codes "objective" ∷ codes "denominator" ∷ codes "warmup" ∷ []
+other_names command.Sweep = codes "block" ∷ codes "count" ∷ codes "idle" ∷ codes "replace" ∷ codes "warmup" ∷ codes "delay" ∷ []
 other_names command.Judge = codes "block" ∷ codes "count" ∷ codes "idle" ∷ codes "replace" ∷ codes "warmup" ∷ codes "writes" ∷ []
 other_names command.Demo =
     codes "seed" ∷ codes "requests" ∷ codes "objects" ∷ codes "capacity"

@@ -26,7 +26,7 @@ use Rattle.bound_words.specs.declared.operands.Values.{Values}
 use Rattle.bound_words.specs.declared.operands.Values.TheVariants as values
 use Rattle.bound_words.specs.Capacities.{capacities_of, capacity_list}
 use Rattle.bound_words.specs.Named.{value_given}
-use Rattle.bound_words.specs.Values.{block_of, layout_of, capacity_of, count_of, objective_of, width_of, window_of, mode_of, denominator_of, number_to, reads_of, replaced_of, writes_of, flags_of, version_of, whole_of, drawn_of, usual_denominator, named}
+use Rattle.bound_words.specs.Values.{block_of, layout_of, capacity_of, count_of, long_count_of, objective_of, width_of, window_of, mode_of, denominator_of, number_to, reads_of, replaced_of, writes_of, flags_of, version_of, whole_of, drawn_of, usual_denominator, named}
 
 -- whether a value is of this kind
 abbrev pub takes : Kind → List ℕ → Bool
@@ -45,6 +45,7 @@ takes kind.Denominator value = is_some (denominator_of value)
 takes kind.Number value = is_some (number_to (2 ^ 48) value)
 takes kind.Policy value = is_some (policy_named value)
 takes kind.Warmup value = is_some (count_of value)
+takes kind.Requests value = is_some (long_count_of value)
 takes kind.Version value = is_some (version_of value)
 takes kind.Writes value = is_some (writes_of value)
 takes kind.Print value = is_some (flags_of value)
@@ -78,19 +79,24 @@ usual_kind name =
     else (if bytes_eq name (codes "denominator") then Some kind.Denominator
     else (if bytes_eq name (codes "policy") then Some kind.Policy
     else (if bytes_eq name (codes "warmup") then Some kind.Warmup
+    else (if bytes_eq name (codes "delay") then Some kind.Requests
     else (if bytes_eq name (codes "version") then Some kind.Version
     else (if bytes_eq name (codes "writes") then Some kind.Writes
     else (if bytes_eq name (codes "print") then Some kind.Print
     else (if bytes_eq name (codes "seed") then Some kind.Seed
     else (if bytes_eq name (codes "requests") || bytes_eq name (codes "objects") then Some kind.Drawn
-    else None))))))))))))))))
+    else None)))))))))))))))))
 
--- what it has in a command: the window of a refinement is a number of steps, and over capacities the denominator is a number
+-- what it has in a command: the window of a refinement is a number of steps, over capacities the denominator is a number, and the warm-up of a sweep may have any length
 abbrev pub kind_of : Command → List ℕ → Option Kind
 kind_of command.Refine name = if bytes_eq name (codes "window") then Some kind.Width else usual_kind name
 kind_of command.CapacityCurve name =
     if bytes_eq name (codes "capacities") then Some kind.Capacities
     else (if bytes_eq name (codes "denominator") then Some kind.Number
+    else usual_kind name)
+kind_of command.Sweep name =
+    if bytes_eq name (codes "capacities") then Some kind.Capacities
+    else (if bytes_eq name (codes "warmup") then Some kind.Requests
     else usual_kind name)
 kind_of command name = usual_kind name
 
@@ -170,6 +176,14 @@ policy_given operands = option_and_then policy_named (value_given (codes "policy
 -- the warm-up that the operands give, and 0 if they give none
 abbrev pub warmup_given : List (List ℕ) → ℕ
 warmup_given operands = unwrap_or (option_and_then count_of (value_given (codes "warmup") operands)) 0
+
+-- the warm-up that the operands of a sweep give, and 0 if they give none
+abbrev pub long_warmup_given : List (List ℕ) → ℕ
+long_warmup_given operands = unwrap_or (option_and_then long_count_of (value_given (codes "warmup") operands)) 0
+
+-- by how many requests the operands let an object enter late, and 0 if they don't say it
+abbrev pub delay_given : List (List ℕ) → ℕ
+delay_given operands = unwrap_or (option_and_then long_count_of (value_given (codes "delay") operands)) 0
 
 -- the version of the certificate that the operands give, and the first where they give none
 abbrev pub version_given : List (List ℕ) → ℕ

@@ -1,5 +1,5 @@
 -- The values of operands.
-use Rattle.std.specs.Prelude.{ℕ, ◌^◌, List, Bool, true, false, nat_le, ◌&&◌, if◌then◌else◌, codes, Result, Ok, Err, None, Some}
+use Rattle.std.specs.Prelude.{ℕ, ◌^◌, List, Bool, true, false, nat_le, nat_lt, ◌&&◌, if◌then◌else◌, codes, Result, Ok, Err, None, Some}
 use Rattle.std.specs.declared.option.Option.{Option}
 use Rattle.std.specs.Option.{option_map}
 use Rattle.std.specs.Str.{bytes_eq}
@@ -109,6 +109,15 @@ few (Ok n) = if nat_le n (2 ^ 25) then Some n else None
 -- a number of requests is 0 to 2^25
 abbrev pub count_of : List ℕ → Option ℕ
 count_of value = few (number_of (2 ^ 64) value)
+
+-- a number that is below 2^32
+abbrev pub few_in_one_pass : Result ℕ NumFault → Option ℕ
+few_in_one_pass (Err e) = None
+few_in_one_pass (Ok n) = if nat_lt n (2 ^ 32) then Some n else None
+
+-- a number of requests of a trace of any length is 0 to 2^32 - 1
+abbrev pub long_count_of : List ℕ → Option ℕ
+long_count_of value = few_in_one_pass (number_of (2 ^ 64) value)
 
 -- a certificate is written in one of two versions
 abbrev pub version_of : List ℕ → Option ℕ

@@ -1,6 +1,6 @@
 //! Capacities between commas.
 ghost use Rattle.std.specs.Prelude.{◌≡◌, ◌∷◌, All, MatchOption, IfOk, None, true};
-ghost use Rattle.std.specs.List.Sorted.{IsNonDecreasing};
+ghost use Rattle.std.specs.List.Sorted.{IsNonDecreasing, IsStrictlyIncreasing};
 ghost use Rattle.std.specs.Option.{is_some, option_copied};
 ghost use Rattle.capacity_curve.specs.Points.{IsInRange};
 ghost use Rattle.bound_words.specs.Capacities.{IsNext, capacities_in, capacities_of, capacity_list, rising, words_left, words_of_list};
@@ -130,6 +130,7 @@ impl<'a> CapacityList<'a> {
     pub fn capacities(&self, alloc: Global) -> Result<Vec<u64>, NoMemory>
         ensures listed { IfOk result (λ capacities. capacities.items ≡ capacities_in self.now) }
         ensures ascending { IfOk result (λ capacities. IsNonDecreasing capacities.items) }
+        ensures strictly { IfOk result (λ capacities. IsStrictlyIncreasing capacities.items) }
         ensures range { IfOk result (λ capacities. All IsInRange capacities.items) }
     {
         let capacities = capacities_in(alloc, self.list)?;

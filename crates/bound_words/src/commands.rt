@@ -20,6 +20,8 @@ pub enum Command {
     Curve,
     /// LRU's hits on a trace, and a bound, at each of some capacities: a curve with the operand `capacities`.
     CapacityCurve,
+    /// Bounds on the best scores at each of some capacities, in one pass over a trace of any length.
+    Sweep,
     /// Whether the hits that a simulator claims on a trace are possible.
     Judge,
     /// Bounds, their check and replays on a trace that is made.
@@ -42,11 +44,12 @@ pub(crate) struct PathPlaces {
 
 impl Command {
     /// Each command that a word names, in the order of the help.
-    pub const ALL: [Command; 8] = [
+    pub const ALL: [Command; 9] = [
         Command::Bounds,
         Command::Check,
         Command::Replay,
         Command::Curve,
+        Command::Sweep,
         Command::Judge,
         Command::Demo,
         Command::Upgrade,
@@ -63,6 +66,7 @@ impl Command {
             Command::Check => "check",
             Command::Replay => "replay",
             Command::Curve | Command::CapacityCurve => "curve",
+            Command::Sweep => "sweep",
             Command::Judge => "judge",
             Command::Demo => "demo",
             Command::Upgrade => "upgrade",
@@ -77,7 +81,9 @@ impl Command {
     {
         match self {
             Command::Bounds | Command::Check => &["trace", "certificate"],
-            Command::Replay | Command::Curve | Command::CapacityCurve => &["trace"],
+            Command::Replay | Command::Curve | Command::CapacityCurve | Command::Sweep => &[
+                "trace",
+            ],
             Command::Judge => &["trace", "hits"],
             Command::Demo => &[],
             Command::Upgrade => &["certificate", "new certificate"],
@@ -121,6 +127,16 @@ impl Command {
                 "denominator",
                 "warmup",
             ],
+            Command::Sweep => &[
+                "format",
+                "capacities",
+                "block",
+                "count",
+                "idle",
+                "replace",
+                "warmup",
+                "delay",
+            ],
             Command::Judge => &[
                 "format", "capacity", "block", "count", "idle", "replace", "warmup", "writes",
             ],
@@ -144,7 +160,11 @@ impl Command {
         ensures { result ≡ length (needed_names self) }
     {
         match self {
-            Command::Bounds | Command::CapacityCurve | Command::Judge | Command::Refine => 2,
+            Command::Bounds
+            | Command::CapacityCurve
+            | Command::Sweep
+            | Command::Judge
+            | Command::Refine => 2,
             Command::Check | Command::Curve => 1,
             Command::Replay => 3,
             Command::Demo | Command::Upgrade => 0,
@@ -173,6 +193,10 @@ impl Command {
             Command::Curve | Command::CapacityCurve => &[
                 "bound_cli curve TRACE format=FORM [capacities=LIST] [block=BYTES] [count=COUNTED]",
                 "    [idle=TIME] [objective=OBJECTIVE] [denominator=NUMBER] [warmup=REQUESTS]",
+            ],
+            Command::Sweep => &[
+                "bound_cli sweep TRACE format=FORM capacities=LIST [block=BYTES] [count=COUNTED]",
+                "    [idle=TIME] [replace=REPLACED] [warmup=REQUESTS] [delay=REQUESTS]",
             ],
             Command::Judge => &[
                 "bound_cli judge TRACE HITS format=FORM capacity=BYTES [block=BYTES] [count=COUNTED]",
@@ -225,12 +249,13 @@ impl Command {
                 beside: Some(2),
                 made: None,
             },
-            Command::Replay | Command::Curve | Command::CapacityCurve => PathPlaces {
-                count: 1,
-                trace: Some(1),
-                beside: None,
-                made: None,
-            },
+            Command::Replay | Command::Curve | Command::CapacityCurve | Command::Sweep =>
+                PathPlaces {
+                    count: 1,
+                    trace: Some(1),
+                    beside: None,
+                    made: None,
+                },
             Command::Demo => PathPlaces {
                 count: 0,
                 trace: None,

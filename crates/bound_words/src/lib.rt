@@ -20,7 +20,8 @@ pub use named::{has_equals, name_of, value_given, value_of};
 pub use operands::{Kind, Values, format_given, is_operand, kind_of};
 pub use paths::{Paths, paths_of};
 pub use plans::{
-    BoundSettings, DrawSettings, JudgeSettings, Plan, ReplaySettings, Settings, settings_of,
+    BoundSettings, DrawSettings, JudgeSettings, Plan, ReplaySettings, Settings, SweepSettings,
+    settings_of,
 };
 pub use values::{MOST_CAPACITY, MOST_DENOMINATOR};
 pub use words::{WordFault, command_asked, operands_of, plan_of};

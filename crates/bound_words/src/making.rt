@@ -4,13 +4,14 @@ ghost use Rattle.std.specs.Option.{ForSome, option_copied};
 ghost use Rattle.bound_words.specs.Faults.{required};
 ghost use Rattle.bound_words.specs.Plans.{IsPlanInRange, bounds_plan, capacity_curve_plan, check_plan, curve_plan};
 ghost use Rattle.bound_words.specs.Plans.{demo_plan, inputs_fault, is_dash, judge_plan, plan_of_command};
-ghost use Rattle.bound_words.specs.Plans.{refine_plan, replay_plan};
+ghost use Rattle.bound_words.specs.Plans.{refine_plan, replay_plan, sweep_plan};
 
 use crate::commands::{Command, PathPlaces};
 use crate::operands::{
-    capacities_given, capacity_given, capacity_or_usual, denominator_given, flags_given,
-    format_given, mode_given, number_given, objective_given, objects_given, policy_given,
-    requests_given, seed_given, version_given, warmup_given, width_given, writes_given,
+    capacities_given, capacity_given, capacity_or_usual, delay_given, denominator_given,
+    flags_given, format_given, long_warmup_given, mode_given, number_given, objective_given,
+    objects_given, policy_given, requests_given, seed_given, version_given, warmup_given,
+    width_given, writes_given,
 };
 use crate::plans::Plan;
 use crate::values::is;
@@ -167,6 +168,21 @@ fn capacity_curve_plan(end: u64, operands: &[String]) -> Result<Plan<'_>, WordFa
     })
 }
 
+// The plan of a sweep that accepted operands give, if the words end before a place.
+fn sweep_plan(end: u64, operands: &[String]) -> Result<Plan<'_>, WordFault>
+    ensures plan { result ≡ sweep_plan end (map string_bytes operands.now) }
+    ensures range { IfOk result IsPlanInRange }
+{
+    let format = required(end, format_given(operands))?;
+    let capacities = required(end, capacities_given(operands))?;
+    Ok(Plan::Sweep {
+        format,
+        capacities,
+        warmup: long_warmup_given(operands),
+        delay: delay_given(operands),
+    })
+}
+
 // The plan of a demo that accepted operands give. Each has a usual value.
 fn demo_plan(operands: &[String]) -> Plan<'_>
     ensures plan { result ≡ demo_plan (map string_bytes operands.now) }
@@ -199,6 +215,7 @@ pub(crate) fn plan_of_command<'a>(
         Command::Replay => replay_plan(words.len() as u64 + 1, operands),
         Command::Curve => curve_plan(words.len() as u64 + 1, operands),
         Command::CapacityCurve => capacity_curve_plan(words.len() as u64 + 1, operands),
+        Command::Sweep => sweep_plan(words.len() as u64 + 1, operands),
         Command::Judge => judge_plan(command.places(), words, operands),
         Command::Demo => Ok(demo_plan(operands)),
         Command::Upgrade => Ok(Plan::Upgrade),

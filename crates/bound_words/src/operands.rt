@@ -6,7 +6,7 @@ ghost use Rattle.trace_any.specs.Readings.{IsFormat};
 ghost use Rattle.bound_words.specs.declared.commands.Command.{Command};
 ghost use Rattle.bound_words.specs.Ranges.{IsModeInRange};
 ghost use Rattle.bound_words.specs.Operands.{block_given, capacities_given, capacity_given, capacity_or_usual, denominator_given};
-ghost use Rattle.bound_words.specs.Operands.{accepts, drawn_given, flags_given, format_given, fresh_given, idle_given, is_operand, kind_of, mode_given, number_given, objective_given, replaced_given, takes, usual_kind};
+ghost use Rattle.bound_words.specs.Operands.{accepts, delay_given, drawn_given, flags_given, format_given, fresh_given, idle_given, is_operand, kind_of, long_warmup_given, mode_given, number_given, objective_given, replaced_given, takes, usual_kind};
 ghost use Rattle.bound_words.specs.Operands.{objects_given, policy_given, reads_given, requests_given, seed_given};
 ghost use Rattle.bound_words.specs.Operands.{takes_value, version_given, warmup_given, width_given, window_given, writes_given};
 ghost use Rattle.cache_model.specs.declared.version.TheConstants.{CERT_VERSION, SHORT_VERSION};
@@ -17,8 +17,8 @@ use crate::named::value_given;
 use crate::values::{
     MOST_BLOCK, MOST_CAPACITY, MOST_DENOMINATOR, MOST_DRAWN, MOST_REQUESTS, MOST_WINDOW,
     USUAL_BLOCK, block_of, capacity_of, count_of, denominator_of, drawn_of, flags_of, is,
-    layout_of, mode_of, number_of, objective_of, reads_of, replaced_of, usual_denominator,
-    version_of, whole_of, width_of, window_of, writes_of,
+    layout_of, long_count_of, mode_of, number_of, objective_of, reads_of, replaced_of,
+    usual_denominator, version_of, whole_of, width_of, window_of, writes_of,
 };
 use bound_terms::{Mode, Window};
 use cache_model::{CERT_VERSION, SHORT_VERSION};
@@ -69,6 +69,8 @@ pub enum Kind {
     Policy,
     /// How many requests, which may be none.
     Warmup,
+    /// How many requests of a trace of any length, which may be none.
+    Requests,
     /// The version of a certificate's text.
     Version,
     /// Whether written bytes are counted.
@@ -123,6 +125,7 @@ impl Kind {
             Kind::Number => number_of(value).is_some(),
             Kind::Policy => PolicyName::named(value).is_some(),
             Kind::Warmup => count_of(value).is_some(),
+            Kind::Requests => long_count_of(value).is_some(),
             Kind::Version => version_of(value).is_some(),
             Kind::Writes => writes_of(value).is_some(),
             Kind::Print => flags_of(value).is_some(),
@@ -157,6 +160,7 @@ impl Kind {
             Kind::Number => up_to(MOST_DENOMINATOR),
             Kind::Policy => Values::Policy,
             Kind::Warmup => from_0(MOST_REQUESTS),
+            Kind::Requests => from_0(u64::from(u32::MAX)),
             Kind::Version => up_to(u64::from(SHORT_VERSION)),
             Kind::Writes => Values::Words(&["none", "count"]),
             Kind::Print => Values::Words(&["report", "flags"]),
@@ -208,6 +212,8 @@ fn usual_kind(name: &str) -> Option<Kind>
         Some(Kind::Policy)
     } else if is(name, "warmup") {
         Some(Kind::Warmup)
+    } else if is(name, "delay") {
+        Some(Kind::Requests)
     } else if is(name, "version") {
         Some(Kind::Version)
     } else if is(name, "writes") {
@@ -236,14 +242,28 @@ fn kind_over_capacities(name: &str) -> Option<Kind>
     }
 }
 
-/// What the operand of a name has for its value in a command. A refinement has a number of steps for its window, and a
-/// curve over capacities has a number for its denominator.
+// What the operand of a name has for its value in a sweep.
+fn kind_in_sweep(name: &str) -> Option<Kind>
+    ensures { result ≡ kind_of Command.Sweep name.now }
+{
+    if is(name, "capacities") {
+        Some(Kind::Capacities)
+    } else if is(name, "warmup") {
+        Some(Kind::Requests)
+    } else {
+        usual_kind(name)
+    }
+}
+
+/// What the operand of a name has for its value in a command. A refinement has a number of steps for its window, a curve
+/// over capacities has a number for its denominator, and a sweep may have a warm-up of any length.
 pub fn kind_of(command: Command, name: &str) -> Option<Kind>
     ensures { result ≡ kind_of command name.now }
 {
     match command {
         Command::Refine if is(name, "window") => Some(Kind::Width),
         Command::CapacityCurve => kind_over_capacities(name),
+        Command::Sweep => kind_in_sweep(name),
         _ => usual_kind(name),
     }
 }
@@ -332,7 +352,7 @@ pub(crate) fn capacity_given(operands: &[String]) -> Option<u64>
     capacity_of(value_given("capacity", operands)?)
 }
 
-/// The capacities of a curve over them.
+/// The capacities of a curve over them, or of a sweep.
 pub(crate) fn capacities_given(operands: &[String]) -> Option<CapacityList<'_>>
     ensures { result ≡ capacities_given (map string_bytes operands.now) }
 {
@@ -410,6 +430,26 @@ pub(crate) fn warmup_given(operands: &[String]) -> u32
 {
     match value_given("warmup", operands) {
         Some(value) => count_of(value).unwrap_or(0),
+        None => 0,
+    }
+}
+
+/// The warm-up of a sweep.
+pub(crate) fn long_warmup_given(operands: &[String]) -> u32
+    ensures { result ≡ long_warmup_given (map string_bytes operands.now) }
+{
+    match value_given("warmup", operands) {
+        Some(value) => long_count_of(value).unwrap_or(0),
+        None => 0,
+    }
+}
+
+/// By how many requests an object may enter the cache late.
+pub(crate) fn delay_given(operands: &[String]) -> u32
+    ensures { result ≡ delay_given (map string_bytes operands.now) }
+{
+    match value_given("delay", operands) {
+        Some(value) => long_count_of(value).unwrap_or(0),
         None => 0,
     }
 }

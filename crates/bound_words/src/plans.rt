@@ -59,6 +59,14 @@ pub enum Plan<'a> {
         denominator: u64,
         warmup: u32,
     },
+    /// Bounds on the best scores on a trace of this form from request `warmup` on, at each of the capacities, also of caches
+    /// that let an object in up to `delay` requests after it was asked for.
+    Sweep {
+        format: Format,
+        capacities: CapacityList<'a>,
+        warmup: u32,
+        delay: u32,
+    },
     /// Whether hits that are claimed on a trace of this form are possible at a capacity in bytes, counted from request
     /// `warmup` on; if written bytes are counted, also the least that the hits must write.
     Judge {
@@ -117,6 +125,13 @@ pub struct JudgeSettings {
     pub writes: bool,
 }
 
+/// What a sweep is of: the request from which hits count, and by how many requests an object may enter the cache late.
+#[derive(Clone, Copy, Debug, PartialEq, Eq)]
+pub struct SweepSettings {
+    pub warmup: u32,
+    pub delay: u32,
+}
+
 /// Which trace is drawn: the seed of its generator, how many requests it has, and how many objects they are drawn from.
 #[derive(Clone, Copy)]
 pub struct DrawSettings {
@@ -133,6 +148,7 @@ pub enum Settings<'a> {
     Replay(Format, ReplaySettings),
     Curve(Format),
     CapacityCurve(Format, CapacityList<'a>, CurveTerms),
+    Sweep(Format, CapacityList<'a>, SweepSettings),
     Judge(Format, JudgeSettings),
     Demo(DrawSettings, BoundSettings),
     Upgrade,
@@ -293,6 +309,12 @@ pub fn settings_of(plan: Plan<'_>) -> Settings<'_>
                 warmup,
             },
         ),
+        Plan::Sweep {
+            format,
+            capacities,
+            warmup,
+            delay,
+        } => Settings::Sweep(format, capacities, SweepSettings { warmup, delay }),
         Plan::Judge {
             format,
             capacity,

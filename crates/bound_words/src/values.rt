@@ -7,7 +7,7 @@ ghost use Rattle.trace_any.specs.Readings.{IsLayout};
 ghost use Rattle.trace_any.specs.declared.format.Layout.TheVariants.{Webcache, Msr, MarkedWebcache, MsrReads};
 ghost use Rattle.bound_words.specs.Ranges.{IsModeInRange};
 ghost use Rattle.bound_words.specs.Values.{block_of, capacity_of, count_of, denominator_of, drawn_of};
-ghost use Rattle.bound_words.specs.Values.{flags_of, layout_of, mode_of, number_to, objective_of, reads_of, replaced_of};
+ghost use Rattle.bound_words.specs.Values.{flags_of, layout_of, long_count_of, mode_of, number_to, objective_of, reads_of, replaced_of};
 ghost use Rattle.bound_words.specs.Values.{usual_denominator, version_of, whole_of, width_of, window_of, writes_of};
 ghost use Rattle.cache_model.specs.declared.version.TheConstants.{CERT_VERSION, SHORT_VERSION};
 
@@ -249,6 +249,16 @@ pub(crate) fn count_of(value: &str) -> Option<u32>
 {
     match read_u64(value.as_bytes()) {
         Ok(number) if number <= MOST_REQUESTS => Some(number as u32),
+        _ => None,
+    }
+}
+
+/// A number of requests of a trace of any length, which may be 0.
+pub(crate) fn long_count_of(value: &str) -> Option<u32>
+    ensures { result ≡ long_count_of value.now }
+{
+    match read_u64(value.as_bytes()) {
+        Ok(number) if number < 1 << 32 => Some(number as u32),
         _ => None,
     }
 }

@@ -6,3 +6,4 @@ pub mod Bounds
 pub mod Verdicts
 pub mod Refinements
 pub mod Demos
+pub mod Sweeps

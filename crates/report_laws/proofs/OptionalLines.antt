@@ -41,7 +41,7 @@ optional_apart word (Some c) (Some d) xs ys ok pc pd other_x other_y e =
     (cc, cc)
 
 -- what may stand before lines that begin otherwise
-optional_otherwise : (word other : List ℕ) (c : Option ℕ) (lines : List (List ℕ)) → ((m n : ℕ) → entry word m ≡ entry other n → ⊥)
+pub optional_otherwise : (word other : List ℕ) (c : Option ℕ) (lines : List (List ℕ)) → ((m n : ℕ) → entry word m ≡ entry other n → ⊥)
     → BeginsOtherwise other lines → BeginsOtherwise other (optional word c lines)
 optional_otherwise word other None lines apart rest n e = rest n e
 optional_otherwise word other (Some c) lines apart rest n e = apart c n e
@@ -61,7 +61,7 @@ unless_zero_apart zero (suc w) e = absurd cc
 unless_zero_apart (suc v) zero e = absurd cc
 unless_zero_apart (suc v) (suc w) e = cc
 
-unless_zero_lines : (word : List ℕ) (v : ℕ) → (if v == 0 then [] else entry word v ∷ []) ≡ optional word (unless_zero v) []
+pub unless_zero_lines : (word : List ℕ) (v : ℕ) → (if v == 0 then [] else entry word v ∷ []) ≡ optional word (unless_zero v) []
 unless_zero_lines word zero = refl
 unless_zero_lines word (suc n) = ap (λ none. cond none [] (entry word (suc n) ∷ [])) (ne_eqb (suc n) 0 (λ e. omega arith))
 
@@ -87,11 +87,11 @@ warmed_otherwise v lines other = optional_otherwise (codes "warmup") (codes "wri
 
 -- ---- stale requests
 -- lines, and before them that of how many requests were stale, if any can be
-abbrev stale_before : StaleCounts → List (List ℕ) → List (List ℕ)
+abbrev pub stale_before : StaleCounts → List (List ℕ) → List (List ℕ)
 stale_before counts lines = optional (codes "stale") counts.stale lines
 
 -- and that of how many were late
-abbrev late_before : StaleCounts → List (List ℕ) → List (List ℕ)
+abbrev pub late_before : StaleCounts → List (List ℕ) → List (List ℕ)
 late_before counts lines = optional (codes "late") (unless_zero counts.late) (stale_before counts lines)
 
 -- lines, and before them those of stale requests that are there

@@ -90,7 +90,7 @@ pub record IsReport (r : Report) : Type 0 where
   pub no_warmup : BeginsOtherwise (codes "warmup") r.behind
   pub no_writes : BeginsOtherwise (codes "writes") r.behind
 
-lacks-both : (xs ys : List (List ℕ)) → AllByRecursion (Lacks 10) xs → AllByRecursion (Lacks 10) ys → AllByRecursion (Lacks 10) (xs ++ ys)
+pub lacks-both : (xs ys : List (List ℕ)) → AllByRecursion (Lacks 10) xs → AllByRecursion (Lacks 10) ys → AllByRecursion (Lacks 10) (xs ++ ys)
 lacks-both [] ys a b = b
 lacks-both (x ∷ xs) ys a b = (a.0, lacks-both xs ys a.1 b)
 
@@ -103,7 +103,7 @@ report_lacks r is =
     lacks-both r.before (after_trace r) is.before (optional_lacks (codes "counted") r.counting.counted (from_capacity r) refl is.counted (is.body.0, rest))
 
 -- two lists of which as many elements are cut off
-split_at : (xs ys ps qs : List (List ℕ)) → length xs ≡ length ys → xs ++ ps ≡ ys ++ qs → (xs ≡ ys) × (ps ≡ qs)
+pub split_at : (xs ys ps qs : List (List ℕ)) → length xs ≡ length ys → xs ++ ps ≡ ys ++ qs → (xs ≡ ys) × (ps ≡ qs)
 split_at [] [] ps qs same e = (refl, e)
 split_at [] (y ∷ ys) ps qs same e = absurd (omega arith)
 split_at (x ∷ xs) [] ps qs same e = absurd (omega arith)
@@ -123,7 +123,7 @@ pub record SameReport (r s : Report) : Type 0 where
   pub written : r.written ≡ s.written
   pub behind : r.behind ≡ s.behind
 
-same_counting : (c d : Counting) → c.warmup ≡ d.warmup → c.counted ≡ d.counted → c.stale ≡ d.stale → c ≡ d
+pub same_counting : (c d : Counting) → c.warmup ≡ d.warmup → c.counted ≡ d.counted → c.stale ≡ d.stale → c ≡ d
 same_counting c d warmup counted stale =
     ap (λ v. record { warmup = v; counted = c.counted; stale = c.stale }) warmup
     ∙ ap (λ n. record { warmup = d.warmup; counted = n; stale = c.stale }) counted

@@ -132,7 +132,7 @@ unit_numbers h = h.unit ∷ units_of h ∷ h.denominator ∷ []
 abbrev upper_numbers : Header → List ℕ
 upper_numbers h = h.upper ∷ h.denominator ∷ h.upper / h.denominator ∷ []
 
-div_small : (n d : ℕ) → IsPrintable n → IsPrintable (n / d)
+pub div_small : (n d : ℕ) → IsPrintable n → IsPrintable (n / d)
 div_small n d small = omega (arith, div-le_self n d)
 
 -- the numbers of these lines

@@ -1,5 +1,5 @@
 -- A printed report can be read in one way only; each law is the contract of a function.
-use Rattle.std.specs.Prelude.{◌≡◌, ℕ, ◌^◌, ◌<◌, Bool, false, List, [], ◌∷◌, ◌++◌, All, IfSome, None, Some}
+use Rattle.std.specs.Prelude.{◌≡◌, ℕ, ◌^◌, ◌<◌, Bool, false, List, [], ◌∷◌, ◌++◌, All, IfSome, None, Some, flat_map}
 use Rattle.std.specs.declared.option.Option.{Option}
 use Rattle.cache_model.specs.declared.certificates.Header.{Header}
 use Rattle.cert_checker.specs.declared.verdict.Verdict.{Verdict}
@@ -11,10 +11,13 @@ use Rattle.bound_report.specs.declared.demo.DemoFacts.{DemoFacts}
 use Rattle.bound_report.specs.declared.demo.PolicyReplays.{PolicyReplays}
 use Rattle.bound_report.specs.declared.rendering.Counting.{Counting}
 use Rattle.bound_report.specs.declared.rendering.StaleCounts.{StaleCounts}
+use Rattle.bound_report.specs.declared.sweeps.SweepFacts.{SweepFacts}
+use Rattle.trace_sweep.specs.declared.points.SweepPoint.{SweepPoint}
 use Rattle.bound_report.specs.Demos.{demo_text}
 use Rattle.bound_report.specs.Refinements.{refined_lines}
 use Rattle.bound_report.specs.Rendering.{rendered}
 use Rattle.bound_report.specs.Reports.{bound_lines}
+use Rattle.bound_report.specs.Sweeps.{sweep_lines}
 use Rattle.bound_report.specs.Verdicts.{verdict_lines}
 
 -- a number of at most 128 bits, as all numbers of a report are; a longer one may share its text with another
@@ -118,3 +121,19 @@ DemosHaveOneReading =
     → ArePrintable c (demo_numbers a r ++ bound_numbers f) → ArePrintable d (demo_numbers b s ++ bound_numbers g)
     → demo_text a (rendered c (bound_lines f)) r ≡ demo_text b (rendered d (bound_lines g)) s
     → (a ≡ b) × SameBounds f g × (c ≡ d) × (replay_numbers r ≡ replay_numbers s)
+
+-- the numbers that a sweep prints of a capacity: its bytes, and of both bounds the numerator and the edge
+abbrev pub point_numbers : SweepPoint → List ℕ
+point_numbers p = p.capacity ∷ p.bounds.hits.upper ∷ p.bounds.hits.edge ∷ p.bounds.bytes.upper ∷ p.bounds.bytes.edge ∷ []
+
+-- the numbers that a sweep prints
+abbrev pub sweep_numbers : SweepFacts → List SweepPoint → List ℕ
+sweep_numbers f points = f.requests ∷ f.objects ∷ f.dropped ∷ f.capacities ∷ f.policies ∷ f.delay ∷ flat_map point_numbers points
+
+-- two sweeps with one text have the same counts of the trace, of capacities and of policies, the same delay, and the same bounds at each capacity
+abbrev pub SweepsHaveOneReading : Type 0
+SweepsHaveOneReading =
+    (f g : SweepFacts) (ps qs : List SweepPoint) (c d : Counting)
+    → ArePrintable c (sweep_numbers f ps) → ArePrintable d (sweep_numbers g qs)
+    → rendered c (sweep_lines f ps) ≡ rendered d (sweep_lines g qs)
+    → (f ≡ g) × (ps ≡ qs) × (c ≡ d)

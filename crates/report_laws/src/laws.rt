@@ -1,5 +1,5 @@
 //! A printed report can be read in one way only: each law is the contract of a function that does nothing.
-ghost use Rattle.report_laws.specs.Laws.{BoundsHaveOneReading, DemosHaveOneReading, RefinementsHaveOneReading, VerdictsHaveOneReading};
+ghost use Rattle.report_laws.specs.Laws.{BoundsHaveOneReading, DemosHaveOneReading, RefinementsHaveOneReading, SweepsHaveOneReading, VerdictsHaveOneReading};
 
 /// Two reports of bounds with one text print the same.
 pub fn bounds_have_one_reading()
@@ -19,4 +19,9 @@ pub fn refinements_have_one_reading()
 /// Two demos with one text were asked the same, and have the same bounds, and the same hits of each policy with their bytes.
 pub fn demos_have_one_reading()
     ensures { DemosHaveOneReading }
+{}
+
+/// Two sweeps with one text print the same counts and the same delay, and the same bounds at each capacity.
+pub fn sweeps_have_one_reading()
+    ensures { SweepsHaveOneReading }
 {}

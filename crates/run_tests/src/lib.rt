@@ -1,4 +1,4 @@
-//! Tests of whole runs that read a trace alone: bounds, replays, curves and demos, the words of the command line, and
+//! Tests of whole runs that read a trace alone: bounds, replays, curves, sweeps and demos, the words of the command line, and
 //! devices of which a call fails. The expected texts and numbers were made by hand.
 //!
 //! They stand apart from the program, since a crate with tests is proved twice, and apart from `check_tests`, so that
@@ -33,6 +33,8 @@ mod records;
 mod replays;
 #[cfg(test)]
 mod stale;
+#[cfg(test)]
+mod sweeps;
 #[cfg(test)]
 mod traces;
 #[cfg(test)]

@@ -22,6 +22,9 @@ returns-in-Curve-clause-ends g c = rw (c.in-Ok.is, ← c.in-Curve.ensures) (c.ru
 pub returns-in-CapacityCurve-clause-ends : goal.returns-in-CapacityCurve-clause-ends
 returns-in-CapacityCurve-clause-ends g c = rw (c.in-Ok.is, ← c.in-CapacityCurve.ensures) (c.run_capacity_curve.ensures.ends, c.run_capacity_curve.ensures.source, (refl, refl), (refl, refl))
 
+pub returns-in-Sweep-clause-ends : goal.returns-in-Sweep-clause-ends
+returns-in-Sweep-clause-ends g c = rw (c.in-Ok.is, ← c.in-Sweep.ensures) (c.run_sweep.ensures.ends, c.run_sweep.ensures.source, (refl, refl), (refl, refl))
+
 pub returns-in-Upgrade-clause-ends : goal.returns-in-Upgrade-clause-ends
 returns-in-Upgrade-clause-ends g c = rw (c.in-Ok.is, ← c.in-Upgrade.ensures) (c.run_upgrade.ensures.ends, c.run_upgrade.ensures.source, (refl, refl))
 
@@ -48,6 +51,9 @@ returns-in-Curve-clause-none_failed g c = λ is. let h = c.run_curve.ensures.non
 
 pub returns-in-CapacityCurve-clause-none_failed : goal.returns-in-CapacityCurve-clause-none_failed
 returns-in-CapacityCurve-clause-none_failed g c = λ is. let h = c.run_capacity_curve.ensures.none_failed is in record { trace = h.0; beside = refl; report = h.1; made = refl }
+
+pub returns-in-Sweep-clause-none_failed : goal.returns-in-Sweep-clause-none_failed
+returns-in-Sweep-clause-none_failed g c = λ is. let h = c.run_sweep.ensures.none_failed is in record { trace = h.0; beside = refl; report = h.1; made = refl }
 
 pub returns-in-Judge-clause-none_failed : goal.returns-in-Judge-clause-none_failed
 returns-in-Judge-clause-none_failed g c = λ is. let h = c.run_judge.ensures.none_failed is in record { trace = h.0; beside = h.1; report = h.2; made = refl }

@@ -1,0 +1,78 @@
+-- What a sweep shows.
+use Rattle.std.specs.Prelude.{◌≡◌, ℕ, List, length, None, Some}
+use Rattle.std.specs.declared.option.Option.{Option}
+use Rattle.bound_io.specs.Devices.{Device, HasFailed}
+use Rattle.cache_rules.specs.Stored.{Requests}
+use Rattle.cache_model.specs.Objects.{objects_of}
+use Rattle.trace_any.specs.declared.fault.TraceFault.{TraceFault as FaultOfTrace}
+use Rattle.trace_any.specs.declared.fault.TraceFault.TheVariants as trace
+use Rattle.trace_any.specs.declared.format.Format.{Format}
+use Rattle.trace_any.specs.Loads.{IsRead, pass_limits}
+use Rattle.trace_any.specs.Readers.{Notes}
+use Rattle.trace_any.specs.Readings.{reading}
+use Rattle.trace_sweep.specs.Swept.{IsNotSwept}
+use Rattle.trace_sweep.specs.Points.{AreSweepPoints}
+use Rattle.trace_sweep.specs.declared.points.SweepPoint.{SweepPoint}
+use Rattle.trace_sweep.specs.declared.sweeping.Swept.{Swept}
+use Rattle.bound_report.specs.declared.rendering.Counting.{Counting}
+use Rattle.bound_report.specs.declared.sweeps.SweepFacts.{SweepFacts}
+use Rattle.bound_report.specs.Sweeps.{sweep_lines}
+use Rattle.bound_report.specs.Rendering.{rendered}
+use Rattle.bound_report.specs.declared.refusal.LimitName.TheVariants.{PassRequests, PassBytes}
+use Rattle.bound_report.specs.declared.refusal.Refusal.{Refusal}
+use Rattle.bound_report.specs.declared.refusal.Refusal.TheVariants as refusal
+use Rattle.bound_words.specs.declared.plans.SweepSettings.{SweepSettings}
+use Rattle.bound_run.specs.Countings.{counting_from}
+
+-- what the report of a sweep states
+abbrev pub sweep_facts : SweepSettings → List ℕ → Requests → ℕ → SweepFacts
+sweep_facts asked capacities trace dropped = record {
+  requests = length trace.objects;
+  objects = length (objects_of trace.objects);
+  dropped = dropped;
+  capacities = length capacities;
+  policies = 0;
+  delay = asked.delay;
+}
+
+-- what it states of what a sweep found
+abbrev pub swept_facts : SweepSettings → ℕ → Swept → SweepFacts
+swept_facts asked capacities swept = record {
+  requests = swept.requests;
+  objects = swept.objects;
+  dropped = swept.dropped;
+  capacities = capacities;
+  policies = 0;
+  delay = asked.delay;
+}
+
+-- how the requests count that a sweep passed
+abbrev pub counting_of_swept : Format → ℕ → Swept → Counting
+counting_of_swept format warmup swept = record {
+  warmup = warmup;
+  counted = swept.counted;
+  stale = record { idle = format.fresh.idle; late = swept.late; stale = swept.stale };
+}
+
+-- the text tells bounds at these capacities of all that the source had left, which was read in one pass
+pub record IsSweepText (format : Format) (asked : SweepSettings) (capacities : List ℕ) (source : Device) (text : List ℕ) : Type 0 where
+  pub trace : Requests
+  pub notes : Notes
+  pub read : IsRead pass_limits format source trace notes
+  pub points : List SweepPoint
+  pub are_points : AreSweepPoints asked.warmup asked.delay trace capacities points
+  pub text_is : text ≡ rendered (counting_from format asked.warmup trace notes.noted) (sweep_lines (sweep_facts asked capacities trace notes.dropped) points)
+
+-- why a trace is not swept: a bad line, a passed limit, a failed read, or no memory
+abbrev pub RefusesSweep : Format → Device → Refusal → Type 0
+RefusesSweep format source (refusal.BadLine line kind) = IsNotSwept format source (trace.BadLine line kind)
+RefusesSweep format source (refusal.Limit PassRequests) = IsNotSwept format source trace.TooManyRequests
+RefusesSweep format source (refusal.Limit PassBytes) = IsNotSwept format source trace.InputTooLong
+RefusesSweep format source refusal.TraceFault = HasFailed source
+RefusesSweep format source refusal.NoMemory = Unit {0}
+RefusesSweep format source other = ⊥
+
+-- the bytes are known, and are a trace within the limits of one pass
+abbrev pub IsGoodPass : Format → Option (List ℕ) → Type 0
+IsGoodPass format None = ⊥
+IsGoodPass format (Some bytes) = (reading format pass_limits bytes).refused ≡ None

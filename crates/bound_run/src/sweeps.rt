@@ -1,0 +1,99 @@
+//! A sweep over a trace, and its report.
+ghost use Rattle.std.specs.Prelude.{◌≡◌, All, IfOk, IfErr, OnOk};
+ghost use Rattle.bound_io.specs.Devices.{seen};
+ghost use Rattle.bound_io.specs.Reading.{LosesPrefix};
+ghost use Rattle.trace_any.specs.Readings.{IsFormat};
+ghost use Rattle.trace_sweep.specs.Swept.{IsSwept};
+ghost use Rattle.bound_words.specs.Capacities.{capacities_in};
+ghost use Rattle.bound_run.specs.Statuses.{refusal_of_sweep};
+ghost use Rattle.bound_report.specs.Rendering.{rendered};
+ghost use Rattle.bound_report.specs.Sweeps.{sweep_lines};
+ghost use Rattle.trace_sweep.specs.Points.{HasEdges};
+ghost use Rattle.bound_run.specs.Sweeps.{IsSweepText, RefusesSweep, counting_of_swept, swept_facts};
+
+use bound_base::NoMemory;
+use bound_io::Source;
+use bound_report::{Counting, LimitName, Refusal, StaleCounts, SweepFacts, SweepReport, render};
+use bound_words::{CapacityList, SweepSettings};
+use std::alloc::Global;
+use trace_any::{Format, TraceFault};
+use trace_sweep::{Swept, sweep};
+
+// The refusal that a fault of a trace that is read in one pass leads to.
+fn refusal_of_sweep(fault: TraceFault) -> Refusal
+    ensures { result ≡ refusal_of_sweep fault }
+{
+    match fault {
+        TraceFault::BadLine { line, kind } => Refusal::BadLine { line, kind },
+        TraceFault::ReadFault => Refusal::TraceFault,
+        TraceFault::InputTooLong => Refusal::Limit(LimitName::PassBytes),
+        TraceFault::TooManyRequests => Refusal::Limit(LimitName::PassRequests),
+        TraceFault::NoMemory => Refusal::NoMemory,
+    }
+}
+
+// How the requests count that a sweep passed.
+fn counting_of_sweep(format: Format, warmup: u32, swept: &Swept) -> Counting
+    ensures { result ≡ counting_of_swept format warmup swept.now }
+{
+    Counting {
+        warmup,
+        counted: swept.counted,
+        stale: StaleCounts {
+            idle: format.fresh.idle,
+            late: swept.late,
+            stale: swept.stale,
+        },
+    }
+}
+
+// The report of what a sweep found.
+fn sweep_report(
+    alloc: Global,
+    format: Format,
+    asked: SweepSettings,
+    capacities: u64,
+    swept: &Swept,
+) -> Result<Vec<u8>, NoMemory>
+    requires edges { All HasEdges swept.now.points.items }
+    ensures { IfOk result (λ text. text.items ≡ rendered (counting_of_swept format asked.warmup swept.now)
+        (sweep_lines (swept_facts asked capacities swept.now) swept.now.points.items)) }
+{
+    let report = SweepReport {
+        facts: SweepFacts {
+            requests: swept.requests,
+            objects: swept.objects,
+            dropped: swept.dropped,
+            capacities,
+            policies: 0,
+            delay: asked.delay,
+        },
+        points: &swept.points,
+    };
+    render(
+        alloc,
+        &report,
+        counting_of_sweep(format, asked.warmup, swept),
+    )
+}
+
+/// The report of a sweep at these capacities over all that the source has left.
+pub(crate) fn sweep_all<T: Source>(
+    alloc: Global,
+    format: Format,
+    asked: SweepSettings,
+    capacities: &CapacityList<'_>,
+    trace: &mut T,
+) -> Result<Vec<u8>, Refusal>
+    requires format { IsFormat format }
+    ensures swept { IfOk result (λ text. IsSweepText format asked (capacities_in capacities.now) (seen T.left T.faults trace.old trace.new) text.items) }
+    ensures refused { IfErr result (RefusesSweep format (seen T.left T.faults trace.old trace.new)) }
+    ensures source { LosesPrefix (T.left trace.old) (T.left trace.new) }
+    ensures none_failed { OnOk result (T.faults trace.new ≡ T.faults trace.old) }
+{
+    let capacities = capacities.capacities(alloc)?;
+    match sweep(alloc, format, &capacities, asked.warmup, asked.delay, trace) {
+        Ok(swept) => Ok(sweep_report(alloc, format, asked, capacities.len() as u64, &swept)?),
+        Err(fault) => Err(refusal_of_sweep(fault)),
+    }
+}

@@ -1,0 +1,47 @@
+use Rattle.std.proofs.Common.{◌≡◌, ◌∙◌, refl, sym, ap, subst}
+use Rattle.std.proofs.lemmas.Result.{err_from_is_err_and}
+use Rattle.bound_io.specs.Devices.{seen}
+use Rattle.trace_any.specs.FirstLines.{HasLostThrough}
+use Rattle.trace_any.specs.Loads.{pass_limits}
+use Rattle.trace_any.specs.Readers.{Reader, RefusesTrace, fresh}
+use Rattle.std.specs.Bool.{then_some}
+use Rattle.trace_sweep.specs.Points.{points_of}
+use Rattle.trace_sweep.specs.Swept.{HasSweptAll}
+use Rattle.trace_sweep.proofs.Whole.{not_swept, swept_whole}
+use Rattle.trace_sweep.proofs.sweeping.sweep.Goals as goal
+
+pub returns-in_err-tally-clause-refused : goal.returns-in_err-tally-clause-refused
+returns-in_err-tally-clause-refused g c =
+    let source = seen g.S.Source.left g.S.Source.faults c.args.source.now c.sweep_all.new.source in
+    let new : c.in_ok-stream.stream ≡ fresh c.args.format pass_limits = c.in_ok-stream.ensures ∙ ap (fresh c.args.format) c.of_one_pass.ensures in
+    let fault = c.in_err-tally.field-0.0 in
+    let why = subst (λ (r : Reader). RefusesTrace r source fault) new c.in_err-tally.ensures.refused in
+    let lost = subst (λ (r : Reader). HasLostThrough r.format r.limits source fault) new c.in_err-tally.ensures.lost in
+    let p = err_from_is_err_and c.from_residual-in_err-tally.result c.from_residual-in_err-tally.ensures.1 in
+    rw (p.1, p.2) (not_swept c.args.format source fault why lost)
+
+pub returns-clause-swept : goal.returns-clause-swept
+returns-clause-swept g c =
+    let source = seen g.S.Source.left g.S.Source.faults c.args.source.now c.sweep_all.new.source in
+    let new : c.in_ok-stream.stream ≡ fresh c.args.format pass_limits = c.in_ok-stream.ensures ∙ ap (fresh c.args.format) c.of_one_pass.ensures in
+    let sweep = c.sweep_all.new.bounds in
+    let last = c.sweep_all.new.stream in
+    let tally = c.in_ok-tally.tally in
+    let swept : HasSweptAll c.args.warmup (fresh c.args.format pass_limits) last source sweep tally = subst (λ r. HasSweptAll c.args.warmup r last source sweep tally) new c.in_ok-tally.ensures.swept in
+    let kept = c.sweep_all.ensures.kept in
+    let found = c.in_ok-bounds.ensures in
+    swept_whole c.args.format c.args.warmup c.args.delay source last sweep tally swept _ _ _ _ refl c.args.capacities.now c.in_ok-least.least.items _
+    (kept.0 ∙ found.warmup) (kept.1 ∙ found.delay) (kept.2 ∙ found.capacities) c.in_ok-least.ensures
+    c.requests.ensures (c.objects.ensures swept.trace.objects swept.trace.fills swept.seen) c.dropped.ensures
+    (c.then_some.ensures ∙ ap (λ b. then_some b tally.counted) c.has_marks-marked.ensures) c.late.ensures (c.then_some-2.ensures ∙ ap (λ b. then_some b tally.stale) c.can_end-can_end.ensures)
+    (c.in_ok-points_of.ensures ∙ ap (points_of c.args.capacities.now) c.deref.ensures.value)
+
+pub returns-in_err-least-clause-refused : goal.returns-in_err-least-clause-refused
+returns-in_err-least-clause-refused g c =
+    let p = err_from_is_err_and c.from_residual-in_err-least.result c.from_residual-in_err-least.ensures.1 in
+    rw (p.1, p.2) tt
+
+pub returns-in_err-points_of-clause-refused : goal.returns-in_err-points_of-clause-refused
+returns-in_err-points_of-clause-refused g c =
+    let p = err_from_is_err_and c.from_residual-in_err-points_of.result c.from_residual-in_err-points_of.ensures.1 in
+    rw (p.1, p.2) tt

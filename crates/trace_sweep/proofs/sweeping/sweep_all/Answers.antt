@@ -1,0 +1,131 @@
+use Rattle.std.proofs.Common.{◌≡◌, ◌∙◌, ℕ, refl, sym, ap, subst, arith, nat_le, not, ◌&&◌, length, length-append, None, [], ◌∷◌, IfSome}
+use Rattle.bound_io.proofs.KnownLemmas.{loses_then}
+use Rattle.bound_io.specs.Devices.{seen}
+use Rattle.cache_rules.specs.Stored.{Requests, with_request}
+use Rattle.trace_any.specs.declared.fault.TraceFault.TheVariants.{NoMemory, TooManyRequests}
+use Rattle.trace_any.specs.FirstLines.{StopsNoFurther}
+use Rattle.trace_any.specs.Readers.{NotesRequest, Reader, last_mark}
+use Rattle.trace_any.proofs.Coming.{after_all, goes_nowhere, loads_more, loads_past, loses_nothing, past_room}
+use Rattle.trace_any.proofs.Lost.{lost_if, lost_through}
+use Rattle.trace_any.proofs.Stopping.{given_more, nothing_given, of_fault, rests_after, stands_given, stands_then, through_given}
+use Rattle.trace_sweep.specs.Counts.{more}
+use Rattle.trace_sweep.specs.Swept.{IsTally}
+use Rattle.trace_sweep.specs.declared.tally.Tally.{Tally}
+use Rattle.trace_sweep.proofs.Tallies.{aligned_after, more-le, tallied_after, told_after}
+use Rattle.trace_sweep.proofs.sweeping.sweep_all.Goals as goal
+
+pub loop-object-init : goal.loop-object-init
+loop-object-init g c =
+    let begins = c.requires.begins in
+    let none : Requests = record { objects = []; fills = [] } in
+    record {
+      trace = none;
+      format = refl;
+      limits = refl;
+      fault = ap (λ (r : Reader). r.fault) begins;
+      given = ap (λ (r : Reader). r.given) begins;
+      goes_on = goes_nowhere c.args.stream.now [] [] _ refl refl;
+      given_all = nothing_given c.args.stream.now none _ refl;
+      source = loses_nothing (g.S.Source.left c.args.source.now);
+      none_failed = refl;
+      seen = c.requires.nothing [];
+      warmup = refl;
+      delay = refl;
+      capacities = refl;
+      aligned = record {
+        marks = λ _. refl;
+        none = λ _. refl;
+        stale = λ _. ap (λ (r : Reader). length r.seen.noted.stale) begins;
+        own = λ _. ap (λ (r : Reader). length r.seen.noted.own) begins;
+      };
+      tallied = record { counted = λ _. refl; stale = λ _. refl };
+      counted = omega arith;
+      stale = omega arith;
+    }
+
+pub loop-object-preserved : goal.loop-object-preserved
+loop-object-preserved g c =
+    let i = c.loop-object.invariant in
+    let n = c.next.ensures in
+    let object = c.in-Some.object in
+    let old = c.loop-object.stream in
+    let new = c.next.new.self in
+    let format = c.args.stream.now.format in
+    let next = rw (c.in-Some.is) at (c.in_ok-object.ensures.next i.fault) in
+    let notes : NotesRequest old new object = rw (c.in-Some.is) at c.in_ok-object.ensures.noted in
+    let form : new.format ≡ format = n.format ∙ i.format in
+    let told = c.in_ok-request.ensures in
+    let size = length-append i.trace.objects (object ∷ []) in
+    let counts : c.is_counted-counts.result ≡ (nat_le c.args.bounds.now.warmup (length i.trace.objects) && not new.ahead.stamp.fills) =
+    c.is_counted-counts.ensures ∙ ap (λ w. nat_le w c.requests.result && not c.last_own.result) (sym c.requires.warmup)
+    ∙ ap (λ t. nat_le c.args.bounds.now.warmup t && not c.last_own.result) (c.requests.ensures ∙ i.seen.requests) ∙ ap (λ own. nat_le c.args.bounds.now.warmup (length i.trace.objects) && not own) c.last_own.ensures in
+    let tally : c.with-tally.result ≡ record {
+      counted = more c.loop-object.tally.counted (nat_le c.args.bounds.now.warmup (length i.trace.objects) && not new.ahead.stamp.fills);
+      stale = more c.loop-object.tally.stale new.stale;
+    } = c.with-tally.ensures ∙ ap (λ b. record { counted = more c.loop-object.tally.counted b; stale = more c.loop-object.tally.stale c.last_stale.result }) counts
+    ∙ ap (λ b. record { counted = more c.loop-object.tally.counted (nat_le c.args.bounds.now.warmup (length i.trace.objects) && not new.ahead.stamp.fills); stale = more c.loop-object.tally.stale b }) c.last_stale.ensures in
+    record {
+      trace = with_request i.trace object (last_mark new);
+      format = form;
+      limits = n.few.0 ∙ i.limits;
+      fault = c.in_ok-object.ensures.fault i.fault;
+      given = omega (arith, next.0, i.given, size);
+      goes_on = loads_more c.args.stream.now old new i.trace object (last_mark new) _ _ _ i.goes_on (next.1);
+      given_all = given_more c.args.stream.now old new i.trace object (last_mark new) _ _ (rests_after i.trace c.args.stream.now old _ _ i.goes_on) i.given_all (rw (c.in-Some.is) at (c.in_ok-object.ensures.lines i.fault));
+      source = loses_then _ _ _ (n.source.0) i.source (n.source.1);
+      none_failed = c.in_ok-object.ensures.none_failed ∙ i.none_failed;
+      seen = told_after format old new i.trace object form i.format notes i.aligned c.last_fills.result c.loop-object.bounds c.request.new.self c.last_fills.ensures i.seen told.seen told.seen_unmarked;
+      warmup = told.warmup ∙ i.warmup;
+      delay = told.delay ∙ i.delay;
+      capacities = told.capacities ∙ i.capacities;
+      aligned = aligned_after format old new i.trace object form i.format notes i.aligned;
+      tallied = subst (IsTally format c.args.bounds.now.warmup (with_request i.trace object (last_mark new)) new.seen.noted) (sym tally) (tallied_after format old new i.trace object form i.format notes i.aligned c.args.bounds.now.warmup c.loop-object.tally i.tallied);
+      counted = omega (arith, size, i.counted, more-le c.loop-object.tally.counted c.is_counted-counts.result, ap (λ (t : Tally). t.counted) c.with-tally.ensures);
+      stale = omega (arith, size, i.stale, more-le c.loop-object.tally.stale c.last_stale.result, ap (λ (t : Tally). t.stale) c.with-tally.ensures);
+    }
+
+pub returns-in_err-object-clause-source : goal.returns-in_err-object-clause-source
+returns-in_err-object-clause-source g c = loses_then _ _ _ (c.next.ensures.source.0) (c.loop-object.invariant.source) (c.next.ensures.source.1)
+
+pub returns-then-passes_limit-clause-source : goal.returns-then-passes_limit-clause-source
+returns-then-passes_limit-clause-source g c = loses_then _ _ _ (c.next.ensures.source.0) (c.loop-object.invariant.source) (c.next.ensures.source.1)
+
+pub returns-in_err-request-clause-source : goal.returns-in_err-request-clause-source
+returns-in_err-request-clause-source g c = loses_then _ _ _ (c.next.ensures.source.0) (c.loop-object.invariant.source) (c.next.ensures.source.1)
+
+pub returns-clause-source : goal.returns-clause-source
+returns-clause-source g c = loses_then _ _ _ (c.next.ensures.source.0) (c.loop-object.invariant.source) (c.next.ensures.source.1)
+
+pub returns-in_err-object-clause-lost : goal.returns-in_err-object-clause-lost
+returns-in_err-object-clause-lost g c =
+    let i = c.loop-object.invariant in
+    let first = c.args.stream.now in
+    let second = c.loop-object.stream in
+    let third = c.next.new.self in
+    let stops = c.in_err-object.ensures.no_further i.fault in
+    lost_if c.from_residual.result first third (seen g.S.Source.left g.S.Source.faults c.args.source.now c.next.new.source) c.requires.begins c.next.ensures.ahead
+    (of_fault c.from_residual.result c.in_err-object.field-0.0 (StopsNoFurther first third (seen g.S.Source.left g.S.Source.faults c.args.source.now c.next.new.source)) c.from_residual.ensures.1
+    (stops.0, stands_then (after_all i.trace) first second third _ _ _ (λ s. (refl, refl, refl)) (rests_after i.trace first second _ _ i.goes_on) (through_given i.trace first second _ i.given_all) stops.1))
+
+pub returns-then-passes_limit-clause-refused : goal.returns-then-passes_limit-clause-refused
+returns-then-passes_limit-clause-refused g c =
+    let i = c.loop-object.invariant in
+    let next = rw (c.in-Some.is) at (c.in_ok-object.ensures.next i.fault) in
+    let past = sym c.passes_limit.ensures ∙ c.if-passes_limit.true in
+    loads_past c.args.stream.now c.loop-object.stream c.next.new.self i.trace c.in-Some.object (last_mark c.next.new.self) _ _ _ i.goes_on (next.1) (λ bytes. past_room c.next.new.self bytes past)
+
+pub returns-then-passes_limit-clause-lost : goal.returns-then-passes_limit-clause-lost
+returns-then-passes_limit-clause-lost g c =
+    let i = c.loop-object.invariant in
+    let stands = stands_given i.trace c.args.stream.now c.loop-object.stream c.next.new.self c.next.new.self c.in-Some.object (last_mark c.next.new.self) _ _ (g.S.Source.left c.next.new.source) refl refl
+    i.goes_on i.given_all (rw (c.in-Some.is) at (c.in_ok-object.ensures.next i.fault)).1 (rw (c.in-Some.is) at (c.in_ok-object.ensures.lines i.fault)) in
+    lost_through c.args.stream.now.format c.args.stream.now.limits c.args.stream.now c.next.new.self (seen g.S.Source.left g.S.Source.faults c.args.source.now c.next.new.source) TooManyRequests c.requires.begins
+    c.next.ensures.ahead (tt, stands)
+
+pub returns-in_err-request-clause-lost : goal.returns-in_err-request-clause-lost
+returns-in_err-request-clause-lost g c =
+    let i = c.loop-object.invariant in
+    let stands = stands_given i.trace c.args.stream.now c.loop-object.stream c.next.new.self c.next.new.self c.in-Some.object (last_mark c.next.new.self) _ _ (g.S.Source.left c.next.new.source) refl refl
+    i.goes_on i.given_all (rw (c.in-Some.is) at (c.in_ok-object.ensures.next i.fault)).1 (rw (c.in-Some.is) at (c.in_ok-object.ensures.lines i.fault)) in
+    lost_if c.from_residual-in_err-request.result c.args.stream.now c.next.new.self (seen g.S.Source.left g.S.Source.faults c.args.source.now c.next.new.source) c.requires.begins c.next.ensures.ahead
+    (of_fault c.from_residual-in_err-request.result NoMemory (StopsNoFurther c.args.stream.now c.next.new.self (seen g.S.Source.left g.S.Source.faults c.args.source.now c.next.new.source)) c.from_residual-in_err-request.ensures.1 (tt, stands))

@@ -1,0 +1,54 @@
+-- What a sweep over all that a source has left finds.
+use Rattle.std.specs.Prelude.{◌≡◌, ℕ, true, List, length, count_by}
+use Rattle.bound_io.specs.Devices.{Device}
+use Rattle.bound_io.specs.Causes.{HasNewFault}
+use Rattle.cache_model.specs.Claim.{counts_past}
+use Rattle.cache_model.specs.Objects.{numbers_of, objects_of}
+use Rattle.cache_rules.specs.Stored.{Requests}
+use Rattle.freshness.specs.Stale.{can_end}
+use Rattle.freshness.specs.Seen.{Staleness}
+use Rattle.trace_any.specs.declared.fault.TraceFault.{TraceFault}
+use Rattle.trace_any.specs.declared.fault.TraceFault.TheVariants.{BadLine, ReadFault, InputTooLong, TooManyRequests, NoMemory}
+use Rattle.trace_any.specs.declared.format.Format.{Format}
+use Rattle.trace_any.specs.Counts.{counted_in, is_stale, own_marks, stale_in}
+use Rattle.trace_any.specs.FirstLines.{HasLostThrough}
+use Rattle.trace_any.specs.Loads.{IsRead, IsRefusedWithin, pass_limits}
+use Rattle.trace_any.specs.Readers.{Notes, Reader, LoadsAll, LeavesNone, HasSeenAll}
+use Rattle.trace_any.specs.Readings.{has_marks}
+use Rattle.sweep_bounds.specs.Sweep.{HasSeen, Sweep}
+use Rattle.trace_sweep.specs.Points.{AreSweepPoints}
+use Rattle.trace_sweep.specs.declared.sweeping.Swept.{Swept}
+use Rattle.trace_sweep.specs.declared.tally.Tally.{Tally}
+
+-- all that the source had left was read in one pass, and its requests have these counts and bounds
+pub record IsSwept (format : Format) (capacities : List ℕ) (warmup delay : ℕ) (source : Device) (swept : Swept) : Type 0 where
+  pub trace : Requests
+  pub notes : Notes
+  pub read : IsRead pass_limits format source trace notes
+  pub requests : swept.requests ≡ length trace.objects
+  pub objects : swept.objects ≡ length (objects_of trace.objects)
+  pub dropped : swept.dropped ≡ notes.dropped
+  pub counted : swept.counted ≡ counted_in format warmup trace notes.noted
+  pub late : swept.late ≡ notes.noted.late
+  pub stale : swept.stale ≡ stale_in format trace notes.noted
+  pub points : AreSweepPoints warmup delay trace capacities swept.points.items
+
+-- what the source had left is refused so within the limits of one pass, and little was lost beyond what refuses it; or a read failed, or memory ran out
+abbrev pub IsNotSwept : Format → Device → TraceFault → Type 0
+IsNotSwept format source ReadFault = HasNewFault source.faults_before source.faults_after
+IsNotSwept format source NoMemory = Unit {0}
+IsNotSwept format source fault = IsRefusedWithin pass_limits format source fault × HasLostThrough format pass_limits source fault
+
+-- this many requests count by their own marks from the warm-up on, if the form of the trace has marks, and are stale, if any can be
+pub record IsTally (format : Format) (warmup : ℕ) (trace : Requests) (noted : Staleness) (tally : Tally) : Type 0 where
+  pub counted : has_marks format.layout ≡ true → tally.counted ≡ count_by (counts_past warmup (own_marks format trace noted)) (numbers_of trace.objects)
+  pub stale : can_end format.fresh ≡ true → tally.stale ≡ count_by (is_stale noted) (numbers_of trace.objects)
+
+-- a sweep was told all that a stream had to give, and so many of the requests count and are stale
+pub record HasSweptAll (warmup : ℕ) (old new : Reader) (source : Device) (sweep : Sweep) (tally : Tally) : Type 0 where
+  pub trace : Requests
+  pub whole : LoadsAll old source.before trace new.dropped
+  pub end : LeavesNone old new source
+  pub seen_all : HasSeenAll old source.before new
+  pub seen : HasSeen trace.objects trace.fills sweep
+  pub tallied : IsTally old.format warmup trace new.seen.noted tally

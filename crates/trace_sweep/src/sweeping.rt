@@ -1,0 +1,100 @@
+//! A sweep over all that a source has left.
+ghost use Rattle.std.specs.Prelude.{◌≡◌, List, Bool, [], IfOk, IfErr, OnOk};
+ghost use Rattle.area_sums.specs.Groups.{AreCapacities};
+ghost use Rattle.bound_io.specs.Devices.{seen};
+ghost use Rattle.bound_io.specs.Reading.{LosesPrefix};
+ghost use Rattle.sweep_bounds.specs.Sweep.{HasSeen};
+ghost use Rattle.trace_any.specs.FirstLines.{HasLostThrough};
+ghost use Rattle.trace_any.specs.Loads.{IsRefusedWithin, pass_limits};
+ghost use Rattle.trace_any.specs.Readings.{IsFormat};
+ghost use Rattle.trace_any.specs.Readers.{RefusesTrace, fresh};
+ghost use Rattle.trace_sweep.specs.Swept.{HasSweptAll, IsNotSwept, IsSwept};
+
+use crate::points::{SweepPoint, points_of};
+use crate::tally::{Tally, is_counted};
+use bound_io::Source;
+use std::alloc::Global;
+use sweep_bounds::SweepBounds;
+use trace_any::{Format, Limits, RequestStream, TraceFault};
+
+/// What one pass over a trace finds: how many requests and different objects it has and how many lines were dropped; how
+/// many requests from the warm-up on count by their own marks, if the form of the trace has marks; how many had a time
+/// below the clock before them, and how many were stale, if any can be; and the bounds at each capacity.
+#[derive(Debug, Drop)]
+pub struct Swept {
+    pub requests: u32,
+    pub objects: u32,
+    pub dropped: u64,
+    pub counted: Option<u32>,
+    pub late: u64,
+    pub stale: Option<u32>,
+    pub points: Vec<SweepPoint>,
+}
+
+// Tells the sweep each request that the stream has to give.
+fn sweep_all<S: Source>(
+    alloc: Global,
+    stream: &mut RequestStream,
+    bounds: &mut SweepBounds,
+    warmup: u32,
+    source: &mut S,
+) -> Result<Tally, TraceFault>
+    requires begins { stream.old ≡ fresh stream.old.format stream.old.limits }
+    requires nothing { (fills : List Bool) → HasSeen [] fills bounds.old }
+    requires warmup { bounds.old.warmup ≡ warmup }
+    ensures kept { (bounds.new.warmup ≡ bounds.old.warmup) × (bounds.new.delay ≡ bounds.old.delay) × (bounds.new.sums.capacities ≡ bounds.old.sums.capacities) }
+    ensures swept { IfOk result (HasSweptAll warmup stream.old stream.new (seen S.left S.faults source.old source.new) bounds.new) }
+    ensures refused { IfErr result (RefusesTrace stream.old (seen S.left S.faults source.old source.new)) }
+    ensures lost { IfErr result (HasLostThrough stream.old.format stream.old.limits (seen S.left S.faults source.old source.new)) }
+    ensures source { LosesPrefix (S.left source.old) (S.left source.new) }
+    ensures none_failed { OnOk result (S.faults source.new ≡ S.faults source.old) }
+{
+    let mut tally = Tally::NONE;
+    while let Some(object) = stream.next(alloc, source)? {
+        if stream.passes_limit() {
+            return Err(TraceFault::TooManyRequests);
+        }
+        let counts = is_counted(warmup, bounds.requests(), stream.last_own());
+        tally = tally.with(counts, stream.last_stale());
+        bounds.request(object, stream.last_fills())?;
+    }
+    Ok(tally)
+}
+
+/// Goes once over all that the source has left, within the limits of one pass, and tells the least bounds that follow from
+/// areas at each of the capacities, in bytes. Requests of the warm-up don't count, and objects may enter the cache as late
+/// as the delay, in requests.
+///
+/// It takes an entry of a hash map for each object, and two if requests can be stale, and none for a request. A line that
+/// asks for more requests than there is room for is refused before any but its first is told.
+pub fn sweep<S: Source>(
+    alloc: Global,
+    format: Format,
+    capacities: &[u64],
+    warmup: u32,
+    delay: u32,
+    source: &mut S,
+) -> Result<Swept, TraceFault>
+    requires format { IsFormat format }
+    requires capacities { AreCapacities capacities.now }
+    ensures swept { IfOk result (IsSwept format capacities.now warmup delay (seen S.left S.faults source.old source.new)) }
+    ensures refused { IfErr result (IsNotSwept format (seen S.left S.faults source.old source.new)) }
+    ensures source { LosesPrefix (S.left source.old) (S.left source.new) }
+    ensures none_failed { OnOk result (S.faults source.new ≡ S.faults source.old) }
+{
+    let mut stream = RequestStream::new(alloc, format, Limits::of_one_pass())?;
+    let mut bounds = SweepBounds::new(alloc, capacities, warmup, delay)?;
+    let tally = sweep_all(alloc, &mut stream, &mut bounds, warmup, source)?;
+    let marked = format.layout.has_marks();
+    let can_end = format.fresh.can_end();
+    let least = bounds.bounds(alloc)?;
+    Ok(Swept {
+        requests: bounds.requests(),
+        objects: bounds.objects(),
+        dropped: stream.dropped(),
+        counted: marked.then_some(tally.counted),
+        late: stream.late(),
+        stale: can_end.then_some(tally.stale),
+        points: points_of(alloc, capacities, &least)?,
+    })
+}
