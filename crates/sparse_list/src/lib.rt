@@ -1,0 +1,7 @@
+//! A list of values by number, most of which are none. It takes 4 bytes for each number up to the greatest that was put, and
+//! a cell for each number that has a value.
+#![tactic(auto)]
+
+mod list;
+
+pub use list::SparseList;
