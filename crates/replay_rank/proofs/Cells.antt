@@ -1,5 +1,5 @@
 -- What is read from an array of what is held, and written into it, by its pairs.
-use Rattle.std.proofs.Common.{◌≡◌, ℕ, zero, suc, ◌+◌, ◌<◌, ◌≤◌, ◌∙◌, sym, refl, ap, ⊎_elim, Bool, true, false, cond, ltb, List, [], ◌∷◌, ◌++◌, length, arith, Some, None, Option, IsSome}
+use Rattle.std.proofs.Common.{◌≡◌, ℕ, zero, suc, ◌+◌, ◌<◌, ◌≤◌, ◌≢◌, ◌-◌, ◌∙◌, sym, refl, ap, ⊎_elim, Bool, true, false, cond, ltb, List, [], ◌∷◌, ◌++◌, length, length-append, arith, Some, None, Option, IsSome}
 use Rattle.std.specs.Prelude.{replicate, slice_set, slice_index_or}
 use Rattle.std.specs.declared.cmp.Ordering.TheVariants.{Less}
 use Rattle.std.specs.BTreeMap.{is_at, insert_entry}
@@ -8,6 +8,8 @@ use Rattle.std.specs.List.Sorted.{IsStrictlySortedBy}
 use Rattle.std.specs.Map.{keys_of, lookup, remove_entry}
 use Rattle.std.specs.Ordering.{nat_cmp, match_ordering}
 use Rattle.std.proofs.lemmas.Bool.{cases_lt, eq-eqb, ne_eqb, lt-ltb, le-ltb}
+use Rattle.std.proofs.lemmas.List.{get_or_past, length-replicate}
+use Rattle.sparse_list.specs.Sparse.{Sparse, item_at, up_to}
 use Rattle.policy_model.proofs.Comparisons.{at-eqb, cmp-less, cmp-equal, cmp-greater}
 use Rattle.replay_rank.specs.declared.holdings.Held.{Held}
 use Rattle.replay_rank.specs.HeldPairs.{pairs_from}
@@ -44,19 +46,32 @@ module _ {X : Type 0} where
   lookup-past (h ∷ rest) i (suc j) k e past =
       skipped h i k (pairs_from (i + 1) rest) (omega arith) (ltb 0 h.size) ∙ lookup-past rest (i + 1) j k (omega arith) (omega arith)
 
-  -- what is read of a cell, by its size
-  module _ (cells : List (Held X)) (k : ℕ) (d : Held X) (is : d ≡ slice_index_or cells k d) (within : k < length cells) where
-    read : lookup (is_at (nat_cmp k)) (pairs_from 0 cells) ≡ cond (ltb 0 d.size) (Some d) None
-    read = lookup-cell cells 0 k k d (omega arith) within ∙ ap (λ (h : Held X). cond (ltb 0 h.size) (Some h) None) (sym is)
+  -- what is read of any number, if that for none has no size
+  module _ (s : Sparse (Held X)) (k : ℕ) (empty : s.none.size ≡ 0) where
+    read : lookup (is_at (nat_cmp k)) (pairs_from 0 s.items) ≡ cond (ltb 0 (item_at s k).size) (Some (item_at s k)) None
+    read =
+        ⊎_elim (λ (within : k < length s.items). lookup-cell s.items 0 k k s.none (omega arith) within)
+        (λ (past : length s.items ≤ k).
+        lookup-past s.items 0 k k (omega arith) past
+        ∙ sym (ap (λ (h : Held X). cond (ltb 0 h.size) (Some h) None) (get_or_past s.items k s.none past) ∙ ap (λ t. cond t (Some s.none) None) (le-ltb 0 s.none.size (omega (arith, empty)))))
+        (cases_lt k (length s.items))
 
-    pub cell-empty : d.size ≡ 0 → None ≡ lookup (is_at (nat_cmp k)) (pairs_from 0 cells)
-    cell-empty empty = sym (read ∙ ap (λ t. cond t (Some d) None) (le-ltb 0 d.size (omega arith)))
+    pub item-empty : (item_at s k).size ≡ 0 → None ≡ lookup (is_at (nat_cmp k)) (pairs_from 0 s.items)
+    item-empty no_size = sym (read ∙ ap (λ t. cond t (Some (item_at s k)) None) (le-ltb 0 (item_at s k).size (omega (arith, no_size))))
 
-    pub cell-held : (d.size ≡ 0 → ⊥) → Some d ≡ lookup (is_at (nat_cmp k)) (pairs_from 0 cells)
-    cell-held some =
-        ⊎_elim (λ (above : 0 < d.size). sym (read ∙ ap (λ t. cond t (Some d) None) (lt-ltb 0 d.size above)))
-        (λ (none : d.size ≤ 0). absurd (some (omega arith)))
-        (cases_lt 0 d.size)
+    pub item-held : ((item_at s k).size ≡ 0 → ⊥) → Some (item_at s k) ≡ lookup (is_at (nat_cmp k)) (pairs_from 0 s.items)
+    item-held some =
+        ⊎_elim (λ (above : 0 < (item_at s k).size). sym (read ∙ ap (λ t. cond t (Some (item_at s k)) None) (lt-ltb 0 (item_at s k).size above)))
+        (λ (low : (item_at s k).size ≤ 0). absurd (some (omega (arith, low))))
+        (cases_lt 0 (item_at s k).size)
+
+    -- what is held is another value than that for none
+    pub item-there : IsSome (lookup (is_at (nat_cmp k)) (pairs_from 0 s.items)) → item_at s k ≢ s.none
+    item-there some same = nothing (lookup (is_at (nat_cmp k)) (pairs_from 0 s.items)) (item-empty (ap (λ (h : Held X). h.size) same ∙ empty)) some
+      where
+        nothing : (o : Option (Held X)) → None ≡ o → IsSome o → ⊥
+        nothing None e some = cc
+        nothing (Some x) e some = cc
 
   -- the cell of an object that is held is in the array
   pub cell-there : (cells : List (Held X)) (k : ℕ) → IsSome (lookup (is_at (nat_cmp k)) (pairs_from 0 cells)) → k < length cells
@@ -129,6 +144,12 @@ module _ {X : Type 0} where
           ap (λ ps. (i, h) ∷ ps) more
           ∙ sym (ap (λ o. match_ordering o ((k, held) ∷ (i, h) ∷ pairs_from (i + 1) rest) ((i, held) ∷ pairs_from (i + 1) rest) ((i, h) ∷ insert_entry nat_cmp (pairs_from (i + 1) rest) k held)) (cmp-greater k i (omega arith)))
       at false more = more
+
+  -- a value of a size above 0 is put
+  pub pairs-put-up : (s : Sparse (Held X)) (k : ℕ) (held : Held X) → s.none.size ≡ 0 → 1 ≤ held.size → pairs_from 0 (slice_set (up_to k s) k held) ≡ insert_entry nat_cmp (pairs_from 0 s.items) k held
+  pairs-put-up s k held empty some =
+      pairs-put (up_to k s) 0 k k held (omega arith) (omega (arith, length-append s.items (replicate (k + 1 - length s.items) s.none), length-replicate (k + 1 - length s.items) s.none)) some
+      ∙ ap (λ ps. insert_entry nat_cmp ps k held) (pairs-longer s.items (k + 1 - length s.items) 0 s.none empty)
 
   remove-none : (cells : List (Held X)) (i k : ℕ) → k < i → remove_entry (is_at (nat_cmp k)) (pairs_from i cells) ≡ pairs_from i cells
   remove-none [] i k low = refl

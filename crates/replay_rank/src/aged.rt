@@ -15,7 +15,7 @@ use std::marker::Model;
 /// size. The floor rises to the rank of what is given up (GreedyDual-Size, Cao and Irani 1997, with a count of requests).
 ///
 /// Requests take, one with another, time logarithmic in the number of entries, for themselves and for each entry that is
-/// given up. It takes memory for each object with the first entry, and for each entry.
+/// given up. It takes 4 bytes for each object up to the greatest that came in, and memory for each entry.
 #[derive(Drop)]
 pub struct Gdsf {
     aging: Aging,
@@ -85,7 +85,7 @@ impl LetGo for Gdsf {
 /// the rank of what is given up (LFU with Dynamic Aging, Arlitt and others 2000).
 ///
 /// Requests take, one with another, time logarithmic in the number of entries, for themselves and for each entry that is
-/// given up. It takes memory for each object with the first entry, and for each entry.
+/// given up. It takes 4 bytes for each object up to the greatest that came in, and memory for each entry.
 #[derive(Drop)]
 pub struct Lfuda {
     aging: Aging,

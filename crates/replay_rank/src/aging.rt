@@ -39,6 +39,14 @@ pub(crate) struct Ranked {
     pub(crate) rank: u128,
 }
 
+impl Ranked {
+    pub(crate) const NONE: Ranked = Ranked {
+        count: 0,
+        last: 0,
+        rank: 0,
+    };
+}
+
 /// What is held, by object and by rank, and the floor, which is the rank of what was given up last.
 ///
 /// A hit that raises a rank leaves the heap as it is, whose items stand for no greater ranks than those of the objects. An
@@ -171,7 +179,6 @@ pub(crate) fn renew(
 pub(crate) fn put(
     holdings: &mut Holdings<Ranked>,
     order: &mut Items,
-    objects: u32,
     object: u32,
     held: Held<Ranked>,
 ) -> Result<(), NoMemory>
@@ -183,7 +190,7 @@ pub(crate) fn put(
     ensures err { OnErr result (entries_of holdings.new ≡ entries_of holdings.old) }
 {
     order.push(Reverse(((held.kept.rank, held.kept.last), object)))?;
-    holdings.put(objects, object, held)?;
+    holdings.put(object, held)?;
     Ok(())
 }
 
@@ -267,7 +274,7 @@ impl Aging {
             requests: 0,
             used: 0,
             floor: 0,
-            holdings: Holdings::new(alloc),
+            holdings: Holdings::new(alloc, Ranked::NONE),
             order: BinaryHeap::new(alloc),
             limit: FEW,
         }
@@ -321,13 +328,7 @@ impl Aging {
         self.used = left.used;
         self.floor = left.floor;
         let ranked = enter(size, self.floor, worth, self.requests);
-        put(
-            &mut self.holdings,
-            &mut self.order,
-            self.objects,
-            object,
-            ranked,
-        )?;
+        put(&mut self.holdings, &mut self.order, object, ranked)?;
         self.used += size;
         self.requests = requests;
         Ok(Outcome::Miss)

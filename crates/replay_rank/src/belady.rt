@@ -124,7 +124,6 @@ fn renew(
 fn put(
     holdings: &mut Holdings<u64>,
     order: &mut Items,
-    objects: u32,
     object: u32,
     held: Held<u64>,
 ) -> Result<(), NoMemory>
@@ -137,7 +136,7 @@ fn put(
     ensures err { OnErr result (entries_of holdings.new ≡ entries_of holdings.old) }
 {
     order.push((held.kept, object))?;
-    holdings.put(objects, object, held)?;
+    holdings.put(object, held)?;
     Ok(())
 }
 
@@ -190,7 +189,7 @@ impl Belady {
             objects,
             requests: 0,
             used: 0,
-            holdings: Holdings::new(alloc),
+            holdings: Holdings::new(alloc, 0),
             order: BinaryHeap::new(alloc),
             limit: FEW,
         })
@@ -219,7 +218,6 @@ impl Belady {
         put(
             &mut self.holdings,
             &mut self.order,
-            self.objects,
             object,
             Held { size, kept: next },
         )?;

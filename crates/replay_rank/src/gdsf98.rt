@@ -27,8 +27,8 @@ use std::marker::Model;
 /// stays as it was. One that comes in has its rank over the floor before that request (Cherkasova 1998).
 ///
 /// Requests take, one with another, time logarithmic in the number of entries, for themselves, for each entry that is given
-/// up, and for each that is set aside and stays. It takes memory for each object with the first entry, for each entry, and
-/// for the most entries that were set aside at once.
+/// up, and for each that is set aside and stays. It takes 4 bytes for each object up to the greatest that came in, and
+/// memory for each entry and for the most entries that were set aside at once.
 #[derive(Drop)]
 pub struct Gdsf98 {
     alloc: Global,
@@ -148,7 +148,6 @@ fn restore(
     order: &mut Items,
     aside: &mut Vec<(u32, Held<Ranked>)>,
     in_use: &mut u64,
-    objects: u32,
 ) -> Result<(), NoMemory>
     requires range { used (put_again aside.old.items (entries_of holdings.old)) ≤ 2 ^ 56 }
     requires apart { Apart (put_again aside.old.items (entries_of holdings.old)) }
@@ -161,7 +160,7 @@ fn restore(
     ensures ordered { AreOrdered holdings.new (heap_items order.new) }
 {
     while let Some((object, held)) = aside.pop() {
-        put(holdings, order, objects, object, held)?;
+        put(holdings, order, object, held)?;
         *in_use += held.size;
     }
     Ok(())
@@ -180,7 +179,7 @@ impl Gdsf98 {
             objects,
             requests: 0,
             left: Left { used: 0, floor: 0 },
-            holdings: Holdings::new(alloc),
+            holdings: Holdings::new(alloc, Ranked::NONE),
             order: BinaryHeap::new(alloc),
             limit: FEW,
             aside: Vec::new(alloc),
@@ -208,13 +207,7 @@ impl Gdsf98 {
             ranked.kept.rank,
         )?;
         if self.left.used + size <= self.capacity {
-            put(
-                &mut self.holdings,
-                &mut self.order,
-                self.objects,
-                object,
-                ranked,
-            )?;
+            put(&mut self.holdings, &mut self.order, object, ranked)?;
             self.left.used += size;
             return Ok(());
         }
@@ -223,7 +216,6 @@ impl Gdsf98 {
             &mut self.order,
             &mut self.aside,
             &mut self.left.used,
-            self.objects,
         )?;
         self.left.floor = floor;
         Ok(())

@@ -1,12 +1,13 @@
-//! What is held of each object, in an array by the objects' numbers.
-ghost use Rattle.std.specs.Prelude.{◌≡◌, ◌≤◌, ◌<◌, [], IsSome, IfSome, OnOk, OnErr, length};
+//! What is held of each object, by the objects' numbers.
+ghost use Rattle.std.specs.Prelude.{◌≡◌, ◌≤◌, [], IsSome, IfSome, OnOk, OnErr};
 ghost use Rattle.std.specs.BTreeMap.{is_at, insert_entry};
 ghost use Rattle.std.specs.List.Sorted.{IsStrictlySortedBy};
 ghost use Rattle.std.specs.Map.{keys_of, lookup, remove_entry};
 ghost use Rattle.std.specs.Ordering.{nat_cmp};
-ghost use Rattle.replay_rank.specs.HeldPairs.{pairs_from, found_size};
+ghost use Rattle.replay_rank.specs.HeldPairs.{found_size};
 
 use bound_base::NoMemory;
+use sparse_list::SparseList;
 use std::alloc::Global;
 use std::marker::Model;
 
@@ -17,14 +18,15 @@ pub(crate) struct Held<X> {
     pub(crate) kept: X,
 }
 
-/// The objects that are held, by their numbers. A size of 0 stands for one that is not.
+/// The objects that are held, by their numbers. It takes 4 bytes for each object up to the greatest that was put in, and a
+/// cell for each that is held. A size of 0 stands for one that is not.
 #[derive(Drop)]
 pub(crate) struct Holdings<X> {
-    cells: Vec<Held<X>>,
+    cells: SparseList<Held<X>>,
 }
 
 impl<X> Model for Holdings<X> {
-    ghost use Rattle.std.specs.Prelude.{ℕ, List};
+    ghost use Rattle.std.specs.Prelude.{◌≡◌, ℕ, List};
     ghost use Rattle.replay_rank.specs.declared.holdings.Held.{Held};
 
     ghost Value = { List (ℕ × Held X) };
@@ -32,33 +34,17 @@ impl<X> Model for Holdings<X> {
     ghost use Rattle.replay_rank.specs.HeldPairs.{pairs_from};
 
     ghost view = { λ h. pairs_from 0 h.cells.items };
-}
 
-// Makes a cell for this object, if there is none, and then for each of the objects.
-fn make_cells<X: Copy>(
-    cells: &mut Vec<Held<X>>,
-    objects: u32,
-    object: u32,
-    none: Held<X>,
-) -> Result<(), NoMemory>
-    requires none { none.size ≡ 0 }
-    ensures same { pairs_from 0 cells.new.items ≡ pairs_from 0 cells.old.items }
-    ensures room { OnOk result (object < length cells.new.items) }
-{
-    let needed = object as usize + 1;
-    if cells.len() < needed {
-        cells.resize(needed.max(objects as usize), none)?;
-    }
-    Ok(())
+    ghost invariant = { λ h. h.cells.none.size ≡ 0 };
 }
 
 impl<X: Copy> Holdings<X> {
-    /// It takes memory with the first object.
-    pub(crate) fn new(alloc: Global) -> Self
+    /// It takes memory with the first object. What is kept of an object that is not held has no meaning.
+    pub(crate) fn new(alloc: Global, kept: X) -> Self
         ensures { result ≡ [] }
     {
         Holdings {
-            cells: Vec::new(alloc),
+            cells: SparseList::new(alloc, Held { size: 0, kept }),
         }
     }
 
@@ -68,30 +54,21 @@ impl<X: Copy> Holdings<X> {
         ensures size { IfSome result (λ held. 1 ≤ held.size) }
         ensures is_ordered { IsStrictlySortedBy nat_cmp (keys_of self.now) }
     {
-        let cell = object as usize;
-        if cell >= self.cells.len() {
-            return None;
-        }
-        let held = self.cells[cell];
+        let held = self.cells.get(object);
         if held.size == 0 {
             return None;
         }
         Some(held)
     }
 
-    /// Puts in an object. It takes memory for this many objects with the first.
-    pub(crate) fn put(&mut self, objects: u32, object: u32, held: Held<X>) -> Result<(), NoMemory>
+    /// Puts in an object.
+    pub(crate) fn put(&mut self, object: u32, held: Held<X>) -> Result<(), NoMemory>
         requires size { 1 ≤ held.size }
         ensures put { OnOk result (self.new ≡ insert_entry nat_cmp self.old object held) }
         ensures stays { OnErr result (self.new ≡ self.old) }
         ensures was_ordered { IsStrictlySortedBy nat_cmp (keys_of self.old) }
     {
-        let none = Held {
-            size: 0,
-            kept: held.kept,
-        };
-        make_cells(&mut self.cells, objects, object, none)?;
-        self.cells[object as usize] = held;
+        self.cells.put(object, held)?;
         Ok(())
     }
 
@@ -102,7 +79,7 @@ impl<X: Copy> Holdings<X> {
         ensures renewed { self.new ≡ insert_entry nat_cmp self.old object held }
         ensures was_ordered { IsStrictlySortedBy nat_cmp (keys_of self.old) }
     {
-        self.cells[object as usize] = held;
+        self.cells.change(object, held);
     }
 
     /// Gives up an object that is held.
@@ -110,7 +87,7 @@ impl<X: Copy> Holdings<X> {
         requires there { IsSome (lookup (is_at (nat_cmp object)) self.old) }
         ensures { self.new ≡ remove_entry (is_at (nat_cmp object)) self.old }
     {
-        self.cells[object as usize].size = 0;
+        self.cells.remove(object);
     }
 
     /// Lets go of an object, and says its size, or 0 if it isn't held.

@@ -36,13 +36,17 @@ struct Uses {
     last: u64,
 }
 
+impl Uses {
+    const NONE: Uses = Uses { count: 0, last: 0 };
+}
+
 /// The object with the fewest hits since it entered is given up first, and of those the one that was used longest ago.
 ///
 /// A hit changes what is held and leaves the heap as it is, whose items stand for no more uses than there were. An item
 /// that comes out of it with fewer goes back with all of them. The item of an object that is let go of stays there too;
 /// if there are then twice as many items as were left when such ones were last thrown away, they are thrown away again.
 /// So requests take, one with another, time logarithmic in the number of entries, for themselves and for each entry
-/// that is given up. It takes memory for each object with the first entry, and for each entry.
+/// that is given up. It takes 4 bytes for each object up to the greatest that came in, and memory for each entry.
 #[derive(Drop)]
 pub struct Lfu {
     alloc: Global,
@@ -124,7 +128,6 @@ fn count_hit(
 fn put(
     holdings: &mut Holdings<Uses>,
     order: &mut Items,
-    objects: u32,
     object: u32,
     held: Held<Uses>,
 ) -> Result<(), NoMemory>
@@ -136,7 +139,7 @@ fn put(
     ensures err { OnErr result (entries_of holdings.new ≡ entries_of holdings.old) }
 {
     order.push(Reverse(((held.kept.count, held.kept.last), object)))?;
-    holdings.put(objects, object, held)?;
+    holdings.put(object, held)?;
     Ok(())
 }
 
@@ -247,7 +250,7 @@ impl Lfu {
             objects,
             requests: 0,
             used: 0,
-            holdings: Holdings::new(alloc),
+            holdings: Holdings::new(alloc, Uses::NONE),
             order: BinaryHeap::new(alloc),
             limit: FEW,
         })
@@ -291,7 +294,6 @@ impl Lfu {
         put(
             &mut self.holdings,
             &mut self.order,
-            self.objects,
             object,
             Held { size, kept },
         )?;
