@@ -1,0 +1,2 @@
+pub mod NextKept
+pub mod OneMore
