@@ -1,0 +1,9 @@
+//! Policies that are replayed side by side, each at its own capacity, over requests that come one after another.
+//!
+//! The requests are kept in batches, and each policy goes through a batch at once, so that what it keeps stays near the
+//! processor meanwhile.
+#![tactic(auto)]
+
+mod running;
+
+pub use running::Running;
