@@ -70,3 +70,9 @@ pub record IsAnyRunning (running : Running) (batch : List Asked) : Type 0 where
   pub ahead_of : name ≢ Belady
   pub asked : AreAsked told objects t batch
   pub is : IsRunning told name capacity objects t running
+
+-- one policy after the other has gone through the same requests
+abbrev pub Advances : List Asked → Running → Running → Type 0
+Advances batch old new =
+    (told : Told) (name : PolicyName) (capacity objects t : ℕ) → name ≢ Belady → AreAsked told objects t batch
+    → IsRunning told name capacity objects t old → IsRunning told name capacity objects (t + length batch) new

@@ -4,6 +4,7 @@
 //! processor meanwhile.
 #![tactic(auto)]
 
+mod replays;
 mod running;
 
 pub use running::Running;

@@ -1,8 +1,8 @@
 //! A policy, and what it has counted.
-ghost use Rattle.std.specs.Prelude.{◌≡◌, ◌≢◌, ◌+◌, ◌≤◌, ◌^◌, ◌∷◌, [], ℕ, length, IfOk, OnOk};
+ghost use Rattle.std.specs.Prelude.{◌≡◌, ◌≢◌, ◌+◌, ◌≤◌, ◌^◌, ◌∷◌, [], ℕ, IfOk, OnOk};
 ghost use Rattle.policy_model.specs.declared.names.PolicyName.{PolicyName};
 ghost use Rattle.policy_model.specs.declared.names.PolicyName.TheVariants.{Belady};
-ghost use Rattle.policy_sweep.specs.Running.{AreAsked, IsAnyRunning, IsRunning, IsToldRequest, Told};
+ghost use Rattle.policy_sweep.specs.Running.{Advances, IsAnyRunning, IsRunning, IsToldRequest, Told};
 
 use any_policy::AnyPolicy;
 use bound_base::NoMemory;
@@ -55,8 +55,7 @@ impl Running {
     // Asks the policy for each of the requests, in their order.
     pub(crate) fn go_through(&mut self, alloc: Global, batch: &[Asked]) -> Result<(), NoMemory>
         requires of_some { IsAnyRunning self.old batch.now }
-        ensures more { OnOk result ((told : Told) (name : PolicyName) (capacity objects t : ℕ) → name ≢ Belady → AreAsked told objects t batch.now
-            → IsRunning told name capacity objects t self.old → IsRunning told name capacity objects (t + length batch.now) self.new) }
+        ensures more { OnOk result (Advances batch.now self.old self.new) }
     {
         for asked in batch {
             self.request(alloc, asked)?;
