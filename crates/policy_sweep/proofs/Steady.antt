@@ -1,5 +1,5 @@
 -- A policy in a replay keeps its rule, its capacity and its bound of objects.
-use Rattle.std.proofs.Common.{◌≡◌, ◌≢◌, ℕ, zero, suc, ◌+◌, ◌*◌, ◌^◌, ◌<◌, ◌≤◌, ◌∙◌, ap, sym, refl, subst, arith, take, Some, None, All, IfSome, [], ◌∷◌, List, length, slice_index_or}
+use Rattle.std.proofs.Common.{◌≡◌, ◌≢◌, ℕ, zero, suc, ◌+◌, ◌^◌, ◌<◌, ◌∙◌, ap, sym, refl, subst, arith, take, Some, All, [], ◌∷◌, length, slice_index_or}
 use Rattle.std.specs.declared.option.Option.{Option}
 use Rattle.std.specs.Prelude.{unwrap_or}
 use Rattle.cache_model.specs.Claim.{counts_past, request_at}
@@ -12,7 +12,6 @@ use Rattle.policy_model.proofs.Holdings.{size-held}
 use Rattle.replay_core.specs.declared.counts.Replay.{Replay}
 use Rattle.replay_core.specs.Keeping.{contents_of, state_of}
 use Rattle.replay_fresh.specs.Fresh.{fresh_asks, leaving}
-use Rattle.replay_fresh.proofs.KnownRuns.{run_to}
 use Rattle.replay_steps.specs.declared.asked.Asked.{Asked}
 use Rattle.replay_steps.specs.Steps.{IsReplayedTo, IsRequest}
 use Rattle.replay_steps.proofs.NextKept.{run-name}

@@ -1,6 +1,5 @@
 -- Policies that are replayed over the requests of a trace, as far as they have come.
-use Rattle.std.specs.Prelude.{◌≡◌, ◌≢◌, ℕ, ◌+◌, ◌<◌, ◌≤◌, ◌^◌, ◌++◌, ◌∷◌, Bool, nat_le, IsTrue, IfSome, List, [], length, slice_index_or, Some, None, option_to_list}
-use Rattle.std.specs.declared.option.Option.{Option}
+use Rattle.std.specs.Prelude.{◌≡◌, ◌≢◌, ℕ, ◌+◌, ◌<◌, ◌≤◌, ◌^◌, Bool, nat_le, IsTrue, IfSome, List, length, slice_index_or, Some, None}
 use Rattle.cache_model.specs.declared.objects.Object.{Object}
 use Rattle.cache_model.specs.Claim.{only_fills}
 use Rattle.policy_model.specs.declared.names.PolicyName.{PolicyName}
@@ -76,3 +75,8 @@ abbrev pub Advances : List Asked → Running → Running → Type 0
 Advances batch old new =
     (told : Told) (name : PolicyName) (capacity objects t : ℕ) → name ≢ Belady → AreAsked told objects t batch
     → IsRunning told name capacity objects t old → IsRunning told name capacity objects (t + length batch) new
+
+-- a rule and the capacity of its policy
+pub record Setting : Type 0 where
+  pub name : PolicyName
+  pub capacity : ℕ

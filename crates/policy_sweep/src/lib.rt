@@ -7,4 +7,4 @@
 mod replays;
 mod running;
 
-pub use running::Running;
+pub use replays::PolicyReplays;

@@ -1,12 +1,27 @@
 //! The policies at all capacities, and the requests that they have not gone through yet.
-ghost use Rattle.std.specs.Prelude.{◌≡◌, ◌+◌, ◌<◌, ◌^◌, ◌++◌, ◌∷◌, [], ℕ, List, length, slice_index_or, OnOk, OnErr};
-ghost use Rattle.policy_sweep.specs.Running.{Advances, IsAnyRunning};
+ghost use Rattle.std.specs.Prelude.{◌≡◌, ◌≢◌, ◌+◌, ◌<◌, ◌≤◌, ◌^◌, ◌++◌, ◌∷◌, [], ℕ, List, length, map, slice_index_or, IfOk, OnOk};
+ghost use Rattle.policy_model.specs.declared.names.PolicyName.TheVariants.{Belady};
 ghost use Rattle.policy_sweep.specs.declared.running.Running.{Running};
+ghost use Rattle.policy_sweep.specs.Running.{Advances, IsAnyRunning, IsToldRequest, Setting, Told};
+ghost use Rattle.policy_sweep.specs.Replays.{AreReplays, HasGone, HasGoneSome, IsNextOfSome};
 
 use crate::running::Running;
 use bound_base::NoMemory;
+use policy_model::PolicyName;
+use replay_core::Replay;
 use replay_steps::Asked;
 use std::alloc::Global;
+
+// How many requests a batch has. It takes 160 KiB.
+const BATCH: usize = 4096;
+
+/// Policies that are replayed side by side over requests that come one after another. It takes memory for what each of
+/// them takes, and for a batch of requests.
+#[derive(Drop)]
+pub struct PolicyReplays {
+    running: Vec<Running>,
+    batch: Vec<Asked>,
+}
 
 // Each of the policies goes through the requests.
 fn go_through_all(
@@ -23,4 +38,81 @@ fn go_through_all(
         one.go_through(alloc, batch)?;
     }
     Ok(())
+}
+
+// What each of the policies has counted.
+fn counts_of(alloc: Global, running: &[Running]) -> Result<Vec<Replay>, NoMemory>
+    ensures { IfOk result (λ counts. counts.items ≡ map (λ r. r.counts) running.now) }
+{
+    let mut counts = Vec::with_capacity(alloc, running.len())?;
+    for one in running {
+        counts.push(one.counts)?;
+    }
+    Ok(counts)
+}
+
+impl PolicyReplays {
+    /// No policy so far.
+    pub fn new(alloc: Global) -> Self
+        ensures { (told : Told) (objects : ℕ) → HasGone told objects [] 0 result }
+    {
+        PolicyReplays {
+            running: Vec::new(alloc),
+            batch: Vec::new(alloc),
+        }
+    }
+
+    /// One policy more, before the first request, with its capacity in bytes, for objects numbered below this.
+    pub fn add(
+        &mut self,
+        alloc: Global,
+        name: PolicyName,
+        capacity: u64,
+        objects: u32,
+    ) -> Result<(), NoMemory>
+        requires range { (1 ≤ capacity) × (capacity ≤ 2 ^ 56) }
+        requires few { objects ≤ 2 ^ 31 }
+        requires ahead_of { name ≢ Belady }
+        ensures added { OnOk result ((told : Told) (settings : List Setting) → HasGone told objects settings 0 self.old
+            → HasGone told objects (settings ++ record { name = name; capacity = capacity } ∷ []) 0 self.new) }
+    {
+        let one = Running::new(alloc, name, capacity, objects)?;
+        self.running.push(one)?;
+        Ok(())
+    }
+
+    // All policies go through the batch.
+    fn flush(&mut self, alloc: Global) -> Result<(), NoMemory>
+        requires of_some { HasGoneSome self.old }
+        ensures gone { OnOk result ((told : Told) (objects : ℕ) (settings : List Setting) (t : ℕ) → HasGone told objects settings t self.old → HasGone told objects settings t self.new) }
+        ensures none { OnOk result (self.new.batch.items ≡ []) }
+    {
+        go_through_all(alloc, &mut self.running, &self.batch)?;
+        self.batch.clear();
+        Ok(())
+    }
+
+    /// Tells the policies one request more. They go through it with those of its batch.
+    pub fn request(&mut self, alloc: Global, asked: Asked) -> Result<(), NoMemory>
+        requires of_some { IsNextOfSome self.old asked }
+        ensures gone { OnOk result ((told : Told) (objects : ℕ) (settings : List Setting) (t : ℕ) → IsToldRequest told objects t asked → t + 1 < 2 ^ 32
+            → HasGone told objects settings t self.old → HasGone told objects settings (t + 1) self.new) }
+    {
+        self.batch.push(asked)?;
+        if self.batch.len() >= BATCH {
+            self.flush(alloc)?;
+        }
+        Ok(())
+    }
+
+    /// What each of the policies has counted, once it has gone through all requests.
+    pub fn finish(&mut self, alloc: Global) -> Result<Vec<Replay>, NoMemory>
+        requires of_some { HasGoneSome self.old }
+        ensures replays { IfOk result (λ replays. (told : Told) (objects : ℕ) (settings : List Setting) → HasGone told objects settings (length told.trace) self.old
+            → AreReplays told settings replays.items) }
+    {
+        self.flush(alloc)?;
+        let counts = counts_of(alloc, &self.running)?;
+        Ok(counts)
+    }
 }

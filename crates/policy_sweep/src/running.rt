@@ -13,14 +13,14 @@ use std::alloc::Global;
 
 /// A policy in a replay, and what it has counted so far.
 #[derive(Drop)]
-pub struct Running {
+pub(crate) struct Running {
     pub(crate) policy: AnyPolicy,
     pub(crate) counts: Replay,
 }
 
 impl Running {
     /// A policy of this rule that was asked for nothing, with its capacity in bytes, for objects numbered below this.
-    pub fn new(
+    pub(crate) fn new(
         alloc: Global,
         name: PolicyName,
         capacity: u64,
@@ -33,13 +33,6 @@ impl Running {
         let policy = AnyPolicy::new(alloc, name, capacity, objects)?;
         let counts = begin(&policy);
         Ok(Running { policy, counts })
-    }
-
-    /// What it has counted.
-    pub fn counts(&self) -> Replay
-        ensures { result ≡ self.now.counts }
-    {
-        self.counts
     }
 
     // Asks the policy for one request more.

@@ -1,4 +1,4 @@
-use Rattle.std.proofs.Common.{◌≡◌, ℕ, ◌<◌, ◌≤◌, ◌≢◌, ◌∙◌, ◌+◌, sym, ap, refl, subst, inl, inr, arith, length, length-set, slice_index_or, slice_set, List}
+use Rattle.std.proofs.Common.{◌≡◌, ℕ, ◌<◌, ◌∙◌, sym, refl, subst, inl, inr, arith, length, length-set, slice_index_or, slice_set, List}
 use Rattle.std.proofs.lemmas.Bool.{cases_eq}
 use Rattle.std.proofs.lemmas.List.{get_or_default, get_or-set_same, get_or-set_other}
 use Rattle.policy_sweep.specs.Running.{Advances, IsAnyRunning}
@@ -30,13 +30,13 @@ loop-place-preserved c =
     record {
       each = length-set cur place new ∙ c.loop-place.invariant.each;
       gone = λ i d low. elim (cases_eq i place) [
-          | inl same ↦
-              subst (λ k. Advances c.args.batch.now (slice_index_or init k d) (slice_index_or (slice_set cur place new) k d)) (sym same)
-              (subst (λ r. Advances c.args.batch.now r (slice_index_or (slice_set cur place new) place d)) (is ∙ get_or_default init place one d below)
-              (subst (λ r. Advances c.args.batch.now one r) (sym (get_or-set_same cur place new d within)) c.in_ok-go_through.ensures.more))
-          | inr apart ↦
-              subst (λ r. Advances c.args.batch.now (slice_index_or init i d) r) (sym (get_or-set_other cur place i new d apart)) (c.loop-place.invariant.gone i d (omega (arith, low, apart)))
-        ];
+        | inl same ↦
+            subst (λ k. Advances c.args.batch.now (slice_index_or init k d) (slice_index_or (slice_set cur place new) k d)) (sym same)
+            (subst (λ r. Advances c.args.batch.now r (slice_index_or (slice_set cur place new) place d)) (is ∙ get_or_default init place one d below)
+            (subst (λ r. Advances c.args.batch.now one r) (sym (get_or-set_same cur place new d within)) c.in_ok-go_through.ensures.more))
+        | inr apart ↦
+            subst (λ r. Advances c.args.batch.now (slice_index_or init i d) r) (sym (get_or-set_other cur place i new d apart)) (c.loop-place.invariant.gone i d (omega (arith, low, apart)))
+      ];
       rest = λ i d high. get_or-set_other cur place i new d (λ same. omega (arith, high, same)) ∙ c.loop-place.invariant.rest i d (omega (arith, high));
     }
 

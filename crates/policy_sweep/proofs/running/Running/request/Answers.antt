@@ -1,5 +1,5 @@
 use Rattle.std.proofs.Common.{◌<◌, ◌∙◌, sym, subst, IfSome}
-use Rattle.policy_sweep.specs.Running.{IsToldRequest, replaying}
+use Rattle.policy_sweep.specs.Running.{replaying}
 use Rattle.policy_sweep.proofs.Steady.{first-asked, is-request, rule-stays, sizes-stay}
 use Rattle.policy_sweep.proofs.running.Running.request.Goals as goal
 

@@ -1,0 +1,98 @@
+-- Policies side by side, as one is added, as they are told a request more, and as they go through the batch.
+use Rattle.std.proofs.Common.{◌≡◌, ◌≢◌, ℕ, ◌+◌, ◌^◌, ◌<◌, ◌∙◌, ap, sym, refl, subst, inl, inr, arith, List, [], ◌∷◌, ◌++◌, length, slice_index_or, Some}
+use Rattle.std.proofs.lemmas.Bool.{cases_eq}
+use Rattle.std.proofs.lemmas.List.{get_or_append_left, get_or_push, length_push}
+use Rattle.policy_model.specs.declared.names.PolicyName.{PolicyName}
+use Rattle.policy_model.specs.declared.names.PolicyName.TheVariants.{Belady}
+use Rattle.policy_model.specs.States.{start_of}
+use Rattle.replay_core.specs.Keeping.{contents_of, state_of}
+use Rattle.replay_fresh.proofs.KnownRuns.{run-all}
+use Rattle.replay_fresh.proofs.Writes.{written-all}
+use Rattle.replay_steps.specs.declared.asked.Asked.{Asked}
+use Rattle.any_policy.specs.Any.{kept_of, name_of}
+use Rattle.policy_sweep.specs.declared.running.Running.{Running}
+use Rattle.policy_sweep.specs.declared.replays.PolicyReplays.{PolicyReplays}
+use Rattle.policy_sweep.specs.Running.{Advances, AreAsked, IsRunning, IsToldRequest, Setting, Told}
+use Rattle.policy_sweep.specs.Replays.{HasGone, IsReplayOf}
+
+-- one request more in a batch
+asked-more : (told : Told) (objects n : ℕ) (batch : List Asked) (asked : Asked) → AreAsked told objects n batch → IsToldRequest told objects (n + length batch) asked → n + length batch + 1 < 2 ^ 32 → AreAsked told objects n (batch ++ asked ∷ [])
+asked-more told objects n batch asked are is few = record {
+  each = λ i d below. elim (cases_eq i (length batch)) [
+    | inl last ↦
+        subst (λ k. IsToldRequest told objects (n + k) (slice_index_or (batch ++ asked ∷ []) k d)) (sym last)
+        (subst (IsToldRequest told objects (n + length batch)) (sym (get_or_push batch asked d (length batch) refl)) is)
+    | inr apart ↦
+        let within : i < length batch = omega (arith, below, apart, length_push batch asked) in
+        subst (IsToldRequest told objects (n + i)) (sym (get_or_append_left batch (asked ∷ []) d i within)) (are.each i d within)
+  ];
+  few = omega (arith, few, length_push batch asked);
+}
+
+-- the policies are told a request more
+pub told-more : (told : Told) (objects : ℕ) (settings : List Setting) (t : ℕ) (old new : PolicyReplays) (asked : Asked) → new.running.items ≡ old.running.items → new.batch.items ≡ old.batch.items ++ asked ∷ []
+    → IsToldRequest told objects t asked → t + 1 < 2 ^ 32 → HasGone told objects settings t old → HasGone told objects settings (t + 1) new
+told-more told objects settings t old new asked same pushed is few h = record {
+  gone = h.gone;
+  others = omega (arith, h.others, ap length pushed, length_push old.batch.items asked);
+  asked = subst (AreAsked told objects h.gone) (sym pushed)
+      (asked-more told objects h.gone old.batch.items asked h.asked (subst (λ n. IsToldRequest told objects n asked) (sym h.others) is) (omega (arith, few, h.others)));
+  each = ap length same ∙ h.each;
+  ahead_of = h.ahead_of;
+  running = λ i s d below. subst (λ rs. IsRunning told (slice_index_or settings i s).name (slice_index_or settings i s).capacity objects h.gone (slice_index_or rs i d)) (sym same) (h.running i s d below);
+}
+
+-- they go through the batch
+pub gone-through : (told : Told) (objects : ℕ) (settings : List Setting) (t : ℕ) (old new : PolicyReplays) → length new.running.items ≡ length old.running.items → new.batch.items ≡ []
+    → ((i : ℕ) (d : Running) → i < length old.running.items → Advances old.batch.items (slice_index_or old.running.items i d) (slice_index_or new.running.items i d))
+    → HasGone told objects settings t old → HasGone told objects settings t new
+gone-through told objects settings t old new long none more h = record {
+  gone = t;
+  others = ap (λ (b : List Asked). t + length b) none ∙ omega arith;
+  asked = subst (AreAsked told objects t) (sym none) (record { each = λ i d below. absurd (omega (arith, below)); few = omega (arith, h.asked.few, h.others) });
+  each = long ∙ h.each;
+  ahead_of = h.ahead_of;
+  running = λ i s d below.
+      subst (λ n. IsRunning told (slice_index_or settings i s).name (slice_index_or settings i s).capacity objects n (slice_index_or new.running.items i d)) h.others
+      (more i d (omega (arith, below, h.each)) told (slice_index_or settings i s).name (slice_index_or settings i s).capacity objects h.gone (h.ahead_of i s below) h.asked (h.running i s d below));
+}
+
+-- a policy is added before the first request
+pub added-one : (told : Told) (objects : ℕ) (settings : List Setting) (setting : Setting) (old new : PolicyReplays) (one : Running) → new.running.items ≡ old.running.items ++ one ∷ [] → new.batch.items ≡ old.batch.items
+    → setting.name ≢ Belady → IsRunning told setting.name setting.capacity objects 0 one → HasGone told objects settings 0 old → HasGone told objects (settings ++ setting ∷ []) 0 new
+added-one told objects settings setting old new one pushed same other is h =
+    let first : h.gone ≡ 0 = omega (arith, h.others) in
+    record {
+      gone = h.gone;
+      others = ap (λ (b : List Asked). h.gone + length b) same ∙ h.others;
+      asked = subst (AreAsked told objects h.gone) (sym same) h.asked;
+      each = ap length pushed ∙ omega (arith, length_push old.running.items one, length_push settings setting, h.each);
+      ahead_of = λ i s below. elim (cases_eq i (length settings)) [
+        | inl last ↦ subst (λ (x : Setting). x.name ≢ Belady) (sym (get_or_push settings setting s i (sym last))) other
+        | inr apart ↦
+            let within : i < length settings = omega (arith, below, apart, length_push settings setting) in
+            subst (λ (x : Setting). x.name ≢ Belady) (sym (get_or_append_left settings (setting ∷ []) s i within)) (h.ahead_of i s within)
+      ];
+      running = λ i s d below. elim (cases_eq i (length settings)) [
+        | inl last ↦
+            subst (λ (x : Setting). IsRunning told x.name x.capacity objects h.gone (slice_index_or new.running.items i d)) (sym (get_or_push settings setting s i (sym last)))
+            (subst (λ r. IsRunning told setting.name setting.capacity objects h.gone r)
+            (sym (ap (λ rs. slice_index_or rs i d) pushed ∙ get_or_push old.running.items one d i (h.each ∙ sym last)))
+            (subst (λ n. IsRunning told setting.name setting.capacity objects n one) (sym first) is))
+        | inr apart ↦
+            let within : i < length settings = omega (arith, below, apart, length_push settings setting) in
+            subst (λ (x : Setting). IsRunning told x.name x.capacity objects h.gone (slice_index_or new.running.items i d)) (sym (get_or_append_left settings (setting ∷ []) s i within))
+            (subst (λ r. IsRunning told (slice_index_or settings i s).name (slice_index_or settings i s).capacity objects h.gone r)
+            (sym (ap (λ rs. slice_index_or rs i d) pushed ∙ get_or_append_left old.running.items (one ∷ []) d i (omega (arith, within, h.each))))
+            (h.running i s d within))
+      ];
+    }
+
+-- a policy that has gone through the whole trace has counted what its rule's run counts
+pub replay-of : (told : Told) (name : PolicyName) (capacity objects t : ℕ) (running : Running) → t ≡ length told.trace → IsRunning told name capacity objects t running → IsReplayOf told name capacity running.counts
+replay-of told name capacity objects t running end is = record {
+  played = written-all capacity told.warmup told.fills told.stale told.replace told.trace (Some (start_of name capacity)) t (contents_of (kept_of running.policy)) running.counts.hits running.counts.bytes running.counts.written
+      end refl is.replayed.played;
+  run = run-all told.warmup told.fills told.stale told.replace told.trace (Some (start_of name capacity)) (Some (state_of (name_of running.policy) (kept_of running.policy))) t running.counts.hits running.counts.bytes
+      end refl is.replayed.run;
+}

@@ -1,0 +1,49 @@
+-- Policies side by side, as far as they were told, and what they have counted in the end.
+use Rattle.std.specs.Prelude.{◌≡◌, ◌≢◌, ℕ, ◌+◌, ◌<◌, ◌^◌, List, length, slice_index_or, Some}
+use Rattle.policy_model.specs.declared.names.PolicyName.{PolicyName}
+use Rattle.policy_model.specs.declared.names.PolicyName.TheVariants.{Belady}
+use Rattle.policy_model.specs.States.{start_of}
+use Rattle.replay_core.specs.declared.counts.Replay.{Replay}
+use Rattle.replay_fresh.specs.FreshRuns.{IsFreshRunOf, IsFreshlyPlayed}
+use Rattle.replay_steps.specs.declared.asked.Asked.{Asked}
+use Rattle.policy_sweep.specs.declared.running.Running.{Running}
+use Rattle.policy_sweep.specs.declared.replays.PolicyReplays.{PolicyReplays}
+use Rattle.policy_sweep.specs.Running.{AreAsked, IsRunning, IsToldRequest, Setting, Told}
+
+-- the policies of these settings were told t requests: they have gone through the first of them, and the batch has the others
+pub record HasGone (told : Told) (objects : ℕ) (settings : List Setting) (t : ℕ) (replays : PolicyReplays) : Type 0 where
+  pub gone : ℕ
+  pub others : gone + length replays.batch.items ≡ t
+  pub asked : AreAsked told objects gone replays.batch.items
+  pub each : length replays.running.items ≡ length settings
+  pub ahead_of : (i : ℕ) (s : Setting) → i < length settings → (slice_index_or settings i s).name ≢ Belady
+  pub running : (i : ℕ) (s : Setting) (d : Running) → i < length settings
+      → IsRunning told (slice_index_or settings i s).name (slice_index_or settings i s).capacity objects gone (slice_index_or replays.running.items i d)
+
+-- they have gone through some trace
+pub record HasGoneSome (replays : PolicyReplays) : Type 0 where
+  pub told : Told
+  pub objects : ℕ
+  pub settings : List Setting
+  pub t : ℕ
+  pub gone : HasGone told objects settings t replays
+
+-- and this is its next request
+pub record IsNextOfSome (replays : PolicyReplays) (asked : Asked) : Type 0 where
+  pub told : Told
+  pub objects : ℕ
+  pub settings : List Setting
+  pub t : ℕ
+  pub gone : HasGone told objects settings t replays
+  pub request : IsToldRequest told objects t asked
+  pub few : t + 1 < 2 ^ 32
+
+-- these are the counts of a replay of the trace by the rule: some allowed contents have them, which are those of its run
+pub record IsReplayOf (told : Told) (name : PolicyName) (capacity : ℕ) (replay : Replay) : Type 0 where
+  pub played : IsFreshlyPlayed (Some (start_of name capacity)) capacity told.warmup told.fills told.stale told.replace told.trace replay.hits replay.bytes replay.written
+  pub run : IsFreshRunOf (Some (start_of name capacity)) told.trace told.warmup told.fills told.stale told.replace replay.hits replay.bytes
+
+-- the replays of these settings, in their order
+pub record AreReplays (told : Told) (settings : List Setting) (replays : List Replay) : Type 0 where
+  pub each : length replays ≡ length settings
+  pub are : (i : ℕ) (s : Setting) (d : Replay) → i < length settings → IsReplayOf told (slice_index_or settings i s).name (slice_index_or settings i s).capacity (slice_index_or replays i d)
