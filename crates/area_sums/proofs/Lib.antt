@@ -1,11 +1,14 @@
 pub mod ShortLemmas
 pub mod LogLemmas
-pub mod MoreLemmas
+pub mod TestLemmas
+pub mod RowLemmas
+pub mod PageLemmas
 pub mod PlaceLemmas
 pub mod LeastLemmas
-pub mod WithinLemmas
+pub mod PlaceSums
+pub mod ClassSums
 pub mod AddLemmas
-pub mod TotalLemmas
+pub mod KeptLemmas
 pub mod SpanLemmas
 pub mod PassLemmas
 pub mod BoundsLemmas

@@ -1,6 +1,5 @@
 -- The least bound of groups is that of the spans.
 use Rattle.std.proofs.Common.{◌≡◌, ℕ, suc, ◌+◌, ◌-◌, ◌*◌, ◌<◌, ◌≤◌, ◌⊎◌, inl, inr, refl, sym, ap, ◌∙◌, subst, Bool, true, false, cond, ◌&&◌, eqb, leb, ltb, List, [], ◌∷◌, length, get_or, All, Contains, sum_by, filter, arith, eq-eqb}
-use Rattle.std.specs.List.Sorted.{IsStrictlyIncreasing}
 use Rattle.std.proofs.lemmas.Bool.{cases_lt, eqb-true, le-ltb, lt-ltb, ne_eqb}
 use Rattle.std.proofs.lemmas.List.{take_all}
 use Rattle.std.proofs.lemmas.List.Elements.{All-filter}
@@ -9,16 +8,15 @@ use Rattle.cache_model.specs.declared.objects.Objective.{Objective}
 use Rattle.cache_model.specs.declared.objects.Objective.TheVariants.{Object as Hits, Bytes}
 use Rattle.cache_model.proofs.Sums.{sum_by-agree, sum_by-filter}
 use Rattle.area_sums.specs.declared.bound.EdgeBound.{EdgeBound}
-use Rattle.area_sums.specs.declared.group.Key.{Key}
 use Rattle.area_sums.specs.declared.group.Group.{Group}
 use Rattle.area_sums.specs.Short.{IsShortAbove, IsShortBelow, class_of, short_at}
 use Rattle.area_sums.specs.Spans.{Span, area_of, cost_of, edge_total, gain_of, gain_total, within}
 use Rattle.area_sums.specs.Bounds.{IsLeastBound, IsNextTo, IsNoWorse, IsTried, bound_at}
-use Rattle.area_sums.specs.Groups.{AreClasses, AreGroupsOf, IsLeastOf, IsTriedClass, area_below, bound_over, gain_below, gain_bound, group_below, if_so, passes}
+use Rattle.area_sums.specs.Groups.{IsLeastOf, IsTriedClass, area_below, bound_over, gain_below, gain_bound, group_at, group_below}
 use Rattle.area_sums.proofs.ShortLemmas.{class_below, class_not_below, grows, low, places_grow, short_above, short_above_is, short_below, short_below_is}
-use Rattle.area_sums.proofs.PlaceLemmas.{place-le}
-use Rattle.area_sums.proofs.TotalLemmas.{class-early, sum-all, sum-below, where_sum}
-use Rattle.area_sums.proofs.WithinLemmas.{is_class}
+use Rattle.area_sums.proofs.TestLemmas.{if_so}
+use Rattle.area_sums.proofs.PlaceSums.{class_at}
+use Rattle.area_sums.proofs.ClassSums.{sum-all, sum-below}
 
 -- the gain times the cost is the area
 gain-cost : (objective : Objective) (s : Span) → gain_of objective s * cost_of objective s ≡ area_of s
@@ -117,38 +115,53 @@ span-some p q f xs s (k, within, e) so some =
     nested true b n = refl
     nested false b n = refl
 
-module _ (objective : Objective) (capacities : List ℕ) (spans : List Span) (entries : List (Key × Group)) (place steps : ℕ) (groups : List Group)
-    (rises : IsStrictlyIncreasing capacities) (in_place : place < length capacities) (sizes : All (λ s. 0 < s.size) spans)
-    (are : AreGroupsOf objective capacities spans entries) (early : All (λ e. e.0.class < length groups) entries)
-    (classes : AreClasses place entries groups) where
-  -- the entries up to the place are those of the spans within the capacity
-  gains-spans : (test : ℕ → Bool) → where_sum (λ g. g.gain) (λ p c. leb p place && test c) entries
-      ≡ sum_by (λ s. if_so (leb s.size (get_or capacities place 0) && test (class_of (cost_of objective s))) (gain_of objective s)) spans
-  gains-spans test =
-      are.gains (λ p c. leb p place && test c)
-      ∙ sum_by-agree (λ s. if_so (passes (λ p c. leb p place && test c) objective capacities s) (gain_of objective s))
-      (λ s. if_so (leb s.size (get_or capacities place 0) && test (class_of (cost_of objective s))) (gain_of objective s)) spans
-      (λ s. ap (λ b. if_so (b && test (class_of (cost_of objective s))) (gain_of objective s)) (place-le capacities rises s.size place in_place))
+-- a span that the capacity holds has a class, if no class after the last has a span that it holds
+early-class_of : (objective : Objective) (capacity classes : ℕ) (spans : List Span) → All (λ s. 0 < s.size) spans
+    → ((class : ℕ) → classes ≤ class → sum_by (λ s. if_so (leb s.size capacity && eqb (class_at objective s) class) (gain_of objective s)) spans ≡ 0)
+    → All (λ s. leb s.size capacity ≡ true → class_at objective s < classes) spans
+early-class_of objective capacity classes spans sizes none = λ k d low held. by k d low held (cases_lt (class_at objective (get_or spans k d)) classes)
+  where
+    by : (k : ℕ) (d : Span) → k < length spans → leb (get_or spans k d).size capacity ≡ true
+        → (class_at objective (get_or spans k d) < classes) ⊎ (classes ≤ class_at objective (get_or spans k d))
+        → class_at objective (get_or spans k d) < classes
+    by k d low held (inl less) = less
+    by k d low held (inr more) =
+        let s : Span = get_or spans k d in
+        let class : ℕ = class_at objective s in
+        absurd (omega (
+          arith,
+          none class more,
+          get_or-le-sum_by (λ s. if_so (leb s.size capacity && eqb (class_at objective s) class) (gain_of objective s)) spans k d low,
+          ap (λ b. if_so (b && eqb class class) (gain_of objective s)) held,
+          ap (λ b. if_so b (gain_of objective s)) (eq-eqb class class refl),
+          gain-some objective s (sizes k d low),
+        ))
 
-  areas-spans : (test : ℕ → Bool) → where_sum (λ g. g.area) (λ p c. leb p place && test c) entries
-      ≡ sum_by (λ s. if_so (leb s.size (get_or capacities place 0) && test (class_of (cost_of objective s))) (area_of s)) spans
-  areas-spans test =
-      are.areas (λ p c. leb p place && test c)
-      ∙ sum_by-agree (λ s. if_so (passes (λ p c. leb p place && test c) objective capacities s) (area_of s))
-      (λ s. if_so (leb s.size (get_or capacities place 0) && test (class_of (cost_of objective s))) (area_of s)) spans
-      (λ s. ap (λ b. if_so (b && test (class_of (cost_of objective s))) (area_of s)) (place-le capacities rises s.size place in_place))
+module _ (objective : Objective) (capacities : List ℕ) (spans : List Span) (place steps : ℕ) (groups : List Group) (sizes : All (λ s. 0 < s.size) spans)
+    (gains : (class : ℕ) → class < length groups
+    → (group_at groups class).gain ≡ sum_by (λ s. if_so (leb s.size (get_or capacities place 0) && eqb (class_at objective s) class) (gain_of objective s)) spans)
+    (areas : (class : ℕ) → class < length groups
+    → (group_at groups class).area ≡ sum_by (λ s. if_so (leb s.size (get_or capacities place 0) && eqb (class_at objective s) class) (area_of s)) spans)
+    (none : (class : ℕ) → length groups ≤ class
+    → sum_by (λ s. if_so (leb s.size (get_or capacities place 0) && eqb (class_at objective s) class) (gain_of objective s)) spans ≡ 0) where
+  -- the capacity holds the span
+  abbrev held : Span → Bool
+  held s = leb s.size (get_or capacities place 0)
+
+  early : All (λ s. held s ≡ true → class_at objective s < length groups) spans
+  early = early-class_of objective (get_or capacities place 0) (length groups) spans sizes none
 
   -- the total at the edge of a class
   total-class : (class : ℕ) → class ≤ length groups
       → get_or capacities place 0 * steps + short_at class * gain_below groups class - area_below groups class
       ≡ edge_total objective (get_or capacities place 0) steps spans (short_at class)
   total-class class few =
-      let gains = sum-below (λ g. g.gain) place entries groups classes.gain class few ∙ gains-spans (λ c. ltb c class) in
-      let areas = sum-below (λ g. g.area) place entries groups classes.area class few ∙ areas-spans (λ c. ltb c class) in
+      let all_gains = sum-below objective held (λ g. g.gain) (gain_of objective) spans groups gains class few in
+      let all_areas = sum-below objective held (λ g. g.area) area_of spans groups areas class few in
       omega (
         arith,
-        ap (λ m. m * short_at class) gains,
-        areas,
+        ap (λ m. m * short_at class) all_gains,
+        all_areas,
         lack-spans objective (get_or capacities place 0) class spans,
         sum_by-filter (λ s. gain_of objective s * (short_at class - cost_of objective s)) (λ s. leb s.size (get_or capacities place 0)) spans,
       )
@@ -167,13 +180,9 @@ module _ (objective : Objective) (capacities : List ℕ) (spans : List Span) (en
   gain-all : sum_by (λ g. g.gain) groups ≡ gain_total objective (get_or capacities place 0) spans
   gain-all =
       sym (ap (sum_by (λ (g : Group). g.gain)) (take_all (length groups) groups (omega arith)))
-      ∙ sum-below (λ g. g.gain) place entries groups classes.gain (length groups) (omega arith)
-      ∙ sum-all (λ g. g.gain) place (length groups) entries early
-      ∙ are.gains (λ p c. leb p place)
-      ∙ sum_by-agree (λ s. if_so (passes (λ p c. leb p place) objective capacities s) (gain_of objective s))
-      (λ s. if_so (leb s.size (get_or capacities place 0)) (gain_of objective s)) spans
-      (λ s. ap (λ b. if_so b (gain_of objective s)) (place-le capacities rises s.size place in_place))
-      ∙ sym (sum_by-filter (gain_of objective) (λ s. leb s.size (get_or capacities place 0)) spans)
+      ∙ sum-below objective held (λ g. g.gain) (gain_of objective) spans groups gains (length groups) (omega arith)
+      ∙ sum-all objective held (λ g. g.gain) (gain_of objective) spans (length groups) early
+      ∙ sym (sum_by-filter (gain_of objective) held spans)
 
   bound-free : gain_bound groups ≡ bound_at objective (get_or capacities place 0) steps spans 1
   bound-free = λ i. record { upper = gain-all i; edge = 1 }
@@ -185,7 +194,7 @@ module _ (objective : Objective) (capacities : List ℕ) (spans : List Span) (en
       found : (s : Span) × (Contains (within (get_or capacities place 0) spans) s × (eqb (class_of (cost_of objective s)) tried.of ≡ true))
       found =
           some-span (λ s. leb s.size (get_or capacities place 0)) (λ s. eqb (class_of (cost_of objective s)) tried.of) (gain_of objective) spans
-          (omega (arith, tried.some, classes.gain tried.of tried.early, gains-spans (λ c. eqb c tried.of)))
+          (omega (arith, tried.some, gains tried.of tried.early))
 
       own : class_of (cost_of objective found.0) ≡ tried.of
       own = eqb-true (class_of (cost_of objective found.0)) tried.of found.1.1
@@ -204,17 +213,20 @@ module _ (objective : Objective) (capacities : List ℕ) (spans : List Span) (en
           let all = All-filter (λ s. leb s.size (get_or capacities place 0)) (λ s. 0 < s.size) spans sizes in
           omega (arith, all member.0 s member.1, ap (λ s. s.size) member.2)
 
-      gained : 0 < where_sum (λ g. g.gain) (is_class place (class_of (cost_of objective s))) entries
-      gained =
-          omega (
-            arith,
-            gains-spans (λ c. eqb c (class_of (cost_of objective s))),
-            span-some (λ s. leb s.size (get_or capacities place 0)) (λ t. eqb (class_of (cost_of objective t)) (class_of (cost_of objective s))) (gain_of objective) spans s member
-                (eq-eqb (class_of (cost_of objective s)) (class_of (cost_of objective s)) refl) (gain-some objective s positive),
-          )
+      span_gains : 0 < sum_by (λ t. if_so (leb t.size (get_or capacities place 0) && eqb (class_at objective t) (class_of (cost_of objective s))) (gain_of objective t)) spans
+      span_gains =
+          span-some (λ t. leb t.size (get_or capacities place 0)) (λ t. eqb (class_at objective t) (class_of (cost_of objective s))) (gain_of objective) spans s member
+          (eq-eqb (class_of (cost_of objective s)) (class_of (cost_of objective s)) refl) (gain-some objective s positive)
 
       few : class_of (cost_of objective s) < length groups
-      few = class-early (λ g. g.gain) place (length groups) (class_of (cost_of objective s)) entries early gained
+      few = held_early (cases_lt (class_of (cost_of objective s)) (length groups))
+        where
+          held_early : (class_of (cost_of objective s) < length groups) ⊎ (length groups ≤ class_of (cost_of objective s)) → class_of (cost_of objective s) < length groups
+          held_early (inl less) = less
+          held_early (inr more) = absurd (omega (arith, span_gains, none (class_of (cost_of objective s)) more))
+
+      gained : 0 < (group_at groups (class_of (cost_of objective s))).gain
+      gained = omega (arith, span_gains, gains (class_of (cost_of objective s)) few)
 
       above : (class : ℕ) → edge ≡ short_at class → 1 < class
       above class e = places_grow 1 class (omega (arith, low 1 (omega arith), e, next.above_one))
@@ -229,7 +241,7 @@ module _ (objective : Objective) (capacities : List ℕ) (spans : List Span) (en
                 above_one = above (class_of (cost_of objective s)) e;
                 of = class_of (cost_of objective s);
                 early = few;
-                some = omega (arith, gained, classes.gain (class_of (cost_of objective s)) few);
+                some = gained;
                 next = inl refl;
               },
               e,
@@ -243,7 +255,7 @@ module _ (objective : Objective) (capacities : List ℕ) (spans : List Span) (en
                 above_one = above (class_of (cost_of objective s) + 1) e;
                 of = class_of (cost_of objective s);
                 early = few;
-                some = omega (arith, gained, classes.gain (class_of (cost_of objective s)) few);
+                some = gained;
                 next = inr refl;
               },
               e,

@@ -1,11 +1,9 @@
 -- The sums that are kept: spans in groups, by the first capacity that holds the object and by the class of the cost.
-use Rattle.std.specs.Prelude.{◌≡◌, ℕ, ◌+◌, ◌-◌, ◌*◌, ◌^◌, ◌<◌, ◌≤◌, ◌==◌, nat_lt, nat_le, Bool, ◌&&◌, ◌⊎◌, if◌then◌else◌, List, [], length, take, slice_index, slice_index_or, All, count_by, sum_by, unwrap_or}
-use Rattle.std.specs.Map.{lookup}
+use Rattle.std.specs.Prelude.{◌≡◌, ℕ, ◌+◌, ◌-◌, ◌*◌, ◌^◌, ◌<◌, ◌≤◌, ◌==◌, nat_lt, ◌&&◌, ◌⊎◌, if◌then◌else◌, List, [], length, take, slice_index, slice_index_or, All, count_by, filter, map, sum_by}
+use Rattle.std.specs.List.{range_with_len}
 use Rattle.std.specs.List.Sorted.{IsStrictlyIncreasing}
-use Rattle.indexmap.specs.IndexMap.{insert_entry}
 use Rattle.cache_model.specs.declared.objects.Objective.{Objective}
 use Rattle.cache_model.specs.declared.objects.Objective.TheVariants.{Object as Hits, Bytes}
-use Rattle.area_sums.specs.declared.group.Key.{Key}
 use Rattle.area_sums.specs.declared.group.Group.{Group}
 use Rattle.area_sums.specs.declared.bound.CapacityBounds.{CapacityBounds}
 use Rattle.area_sums.specs.declared.bound.EdgeBound.{EdgeBound}
@@ -25,55 +23,68 @@ no_group = record { gain = 0; area = 0 }
 abbrev pub both : Group → Group → Group
 both a b = record { gain = a.gain + b.gain; area = a.area + b.area }
 
--- the same place and class
-abbrev pub same_key : Key → Key → Bool
-same_key a b = (a.place == b.place) && (a.class == b.class)
+-- the group of a class
+abbrev pub group_at : List Group → ℕ → Group
+group_at groups class = slice_index_or groups class no_group
 
--- the groups with more in that of a key
-abbrev pub with_more : List (Key × Group) → Key → Group → List (Key × Group)
-with_more groups key more =
-    insert_entry same_key groups key (both (unwrap_or (lookup (same_key key) groups) no_group) more)
+-- how many classes areas have: the short number at this place is 2^80
+abbrev pub area_classes : ℕ
+area_classes = 143360
 
--- the number, if the test passes
-abbrev pub if_so : Bool → ℕ → ℕ
-if_so test n = if test then n else 0
+-- and lengths, which are below 2^32
+abbrev pub length_classes : ℕ
+length_classes = 45056
 
--- the gains, and the areas, of the groups whose place and class pass a test
-abbrev pub gains_where : (ℕ → ℕ → Bool) → List (Key × Group) → ℕ
-gains_where test groups = sum_by (λ e. if_so (test e.0.place e.0.class) e.1.gain) groups
+-- the group of a place and a class, in a row for each place
+abbrev pub groups_of : List (List Group) → ℕ → ℕ → Group
+groups_of rows place class = group_at (slice_index_or rows place []) class
 
-abbrev pub areas_where : (ℕ → ℕ → Bool) → List (Key × Group) → ℕ
-areas_where test groups = sum_by (λ e. if_so (test e.0.place e.0.class) e.1.area) groups
+-- a row for each of so many places, of the groups of all classes
+unfoldable pub rows_of : ℕ → (ℕ → ℕ → Group) → List (List Group)
+rows_of places groups = map (λ place. map (groups place) (range_with_len 0 area_classes)) (range_with_len 0 places)
 
--- whether the place of a span and the class of its cost pass a test
-abbrev pub passes : (ℕ → ℕ → Bool) → Objective → List ℕ → Span → Bool
-passes test objective capacities s = test (place_of capacities s.size) (class_of (cost_of objective s))
+-- the groups of places and classes, with more in one of them
+abbrev pub with_more : (ℕ → ℕ → Group) → ℕ → ℕ → Group → ℕ → ℕ → Group
+with_more groups place class more p c =
+    if (class == c) && (place == p) then both (groups p c) more else groups p c
 
--- the groups are those of the spans: at any places and classes they have the same gains and areas
-pub record AreGroupsOf (objective : Objective) (capacities : List ℕ) (spans : List Span) (groups : List (Key × Group))
+-- the spans of a place and of a class
+abbrev pub spans_at : Objective → List ℕ → ℕ → ℕ → List Span → List Span
+spans_at objective capacities place class spans =
+    filter (λ s. (class_of (cost_of objective s) == class) && (place_of capacities s.size == place)) spans
+
+-- the gains and the areas of spans, summed
+abbrev pub group_of : Objective → List Span → Group
+group_of objective spans = record { gain = sum_by (gain_of objective) spans; area = sum_by area_of spans }
+
+-- the groups are those of the spans, at the place of each capacity and at each class
+pub record AreGroupsOf (objective : Objective) (capacities : List ℕ) (spans : List Span) (groups : ℕ → ℕ → Group)
     : Type 0 where
-  pub gains : (test : ℕ → ℕ → Bool)
-      → gains_where test groups ≡ sum_by (λ s. if_so (passes test objective capacities s) (gain_of objective s)) spans
-  pub areas : (test : ℕ → ℕ → Bool)
-      → areas_where test groups ≡ sum_by (λ s. if_so (passes test objective capacities s) (area_of s)) spans
+  pub each : (place class : ℕ) → place < length capacities
+      → groups place class ≡ group_of objective (spans_at objective capacities place class spans)
 
--- what is kept: the capacities, how many spans there were, and their groups for each objective
+-- what is kept: the capacities, how many spans there were, and their groups for each objective, a row for each capacity
 pub record Sums : Type 0 where
   pub capacities : List ℕ
   pub count : ℕ
-  pub hits : List (Key × Group)
-  pub bytes : List (Key × Group)
+  pub hits : List (List Group)
+  pub bytes : List (List Group)
 
 -- of no span
 abbrev pub no_sums : List ℕ → Sums
-no_sums capacities = record { capacities = capacities; count = 0; hits = []; bytes = [] }
+no_sums capacities = record {
+  capacities = capacities;
+  count = 0;
+  hits = rows_of (length capacities) (λ place class. no_group);
+  bytes = rows_of (length capacities) (λ place class. no_group);
+}
 
 -- the sums are those of these spans
 pub record AreSumsOf (spans : List Span) (sums : Sums) : Type 0 where
   pub count : sums.count ≡ length spans
   pub sizes : All (λ s. 0 < s.size) spans
-  pub hits : AreGroupsOf Hits sums.capacities spans sums.hits
-  pub bytes : AreGroupsOf Bytes sums.capacities spans sums.bytes
+  pub hits : AreGroupsOf Hits sums.capacities spans (groups_of sums.hits)
+  pub bytes : AreGroupsOf Bytes sums.capacities spans (groups_of sums.bytes)
 
 -- the bound is the least at the capacity of a place, of whatever spans the sums are
 abbrev pub IsLeastBoundAt : Objective → ℕ → Sums → ℕ → EdgeBound → Type 0
@@ -94,42 +105,23 @@ pub record AreCapacities (capacities : List ℕ) : Type 0 where
   pub ascending : IsStrictlyIncreasing capacities
   pub limit : All (λ capacity. capacity ≤ 2 ^ 56) capacities
 
--- a group has a class below this, and its area is no more than that of its gain at the edge after the class
-pub record IsGroup (classes : ℕ) (e : Key × Group) : Type 0 where
-  pub class : e.0.class < classes
-  pub costs : e.1.area ≤ e.1.gain * short_at (e.0.class + 1)
+-- how many classes costs have
+abbrev pub classes_for : Objective → ℕ
+classes_for Hits = area_classes
+classes_for Bytes = length_classes
 
--- groups of at most so many spans, none of which gains more than this
-pub record AreGroups (classes most count : ℕ) (groups : List (Key × Group)) : Type 0 where
-  pub each : All (IsGroup classes) groups
-  pub gains : sum_by (λ e. e.1.gain) groups ≤ count * most
-  pub areas : sum_by (λ e. e.1.area) groups ≤ count * 2 ^ 80
+-- a span in the ranges of what is told
+pub record IsInRange (s : Span) : Type 0 where
+  pub size : s.size ≤ 2 ^ 48
+  pub length : s.length < 2 ^ 32
 
--- how many classes areas have: the short number at this place is 2^80
-abbrev pub area_classes : ℕ
-area_classes = 143360
-
--- and lengths, which are below 2^32
-abbrev pub length_classes : ℕ
-length_classes = 45056
-
--- what is kept is within these ranges
+-- the sums are those of some spans, which are in these ranges
 pub record AreSums (sums : Sums) : Type 0 where
   pub capacities : AreCapacities sums.capacities
   pub count : sums.count < 2 ^ 32
-  pub hits : AreGroups area_classes 1 sums.count sums.hits
-  pub bytes : AreGroups length_classes (2 ^ 48) sums.count sums.bytes
-
--- the group of a class
-abbrev pub group_at : List Group → ℕ → Group
-group_at groups class = slice_index_or groups class no_group
-
--- each class has the groups of the places up to this one
-pub record AreClasses (place : ℕ) (entries : List (Key × Group)) (groups : List Group) : Type 0 where
-  pub gain : (class : ℕ) → class < length groups
-      → (group_at groups class).gain ≡ gains_where (λ p c. nat_le p place && (c == class)) entries
-  pub area : (class : ℕ) → class < length groups
-      → (group_at groups class).area ≡ areas_where (λ p c. nat_le p place && (c == class)) entries
+  pub spans : List Span
+  pub ranges : All IsInRange spans
+  pub are : AreSumsOf spans sums
 
 -- the gains, and the areas, of the classes below one
 abbrev pub gain_below : List Group → ℕ → ℕ

@@ -1,62 +1,49 @@
--- Groups in the order of their places, as they are added up from capacity to capacity.
-use Rattle.std.specs.Prelude.{◌≡◌, ℕ, ◌+◌, ◌*◌, ◌^◌, ◌<◌, ◌≤◌, ◌==◌, List, length, slice_index, slice_index_or, All, map, zip, sum_by}
-use Rattle.std.specs.List.{AllWithin}
-use Rattle.area_sums.specs.declared.group.Key.{Key}
+-- Groups of classes, as they are added up from place to place.
+use Rattle.std.specs.Prelude.{◌≡◌, ℕ, zero, suc, ◌+◌, ◌^◌, ◌<◌, ◌≤◌, List, length, slice_index, slice_index_or, All, map, zip}
+use Rattle.cache_model.specs.declared.objects.Objective.{Objective}
 use Rattle.area_sums.specs.declared.group.Group.{Group}
 use Rattle.area_sums.specs.declared.bound.CapacityBounds.{CapacityBounds}
 use Rattle.area_sums.specs.declared.bound.EdgeBound.{EdgeBound}
-use Rattle.area_sums.specs.Short.{short_at}
-use Rattle.area_sums.specs.Groups.{AreClasses, IsGroup, IsLeastOf, area_classes, areas_where, gains_where, group_at}
+use Rattle.area_sums.specs.Spans.{Span}
+use Rattle.area_sums.specs.Bounds.{IsLeastBound}
+use Rattle.area_sums.specs.Groups.{AreGroupsOf, IsInRange, both, classes_for, group_at, no_group}
 
--- the gains, and the areas, of the groups of a class
-abbrev pub class_gain : ℕ → List (Key × Group) → ℕ
-class_gain class groups = gains_where (λ p c. c == class) groups
-
-abbrev pub class_area : ℕ → List (Key × Group) → ℕ
-class_area class groups = areas_where (λ p c. c == class) groups
+-- the groups of a class at the places before one, as one
+abbrev pub group_before : (ℕ → ℕ → Group) → ℕ → ℕ → Group
+group_before groups class zero = no_group
+group_before groups class (suc place) = both (group_before groups class place) (groups place class)
 
 -- there is room for more in each class
-pub record HasRoomFor (groups : List Group) (more : List (Key × Group)) : Type 0 where
-  pub gain : (class : ℕ) → class < length groups → (group_at groups class).gain + class_gain class more < 2 ^ 128
-  pub area : (class : ℕ) → class < length groups → (group_at groups class).area + class_area class more < 2 ^ 128
+pub record HasRoomFor (more : ℕ → Group) (classes : List Group) : Type 0 where
+  pub gain : (class : ℕ) → class < length classes → (group_at classes class).gain + (more class).gain < 2 ^ 128
+  pub area : (class : ℕ) → class < length classes → (group_at classes class).area + (more class).area < 2 ^ 128
 
--- each class has what it had, and more
-pub record HasMore (old : List Group) (more : List (Key × Group)) (new : List Group) : Type 0 where
-  pub gain : (class : ℕ) → class < length old → (group_at new class).gain ≡ (group_at old class).gain + class_gain class more
-  pub area : (class : ℕ) → class < length old → (group_at new class).area ≡ (group_at old class).area + class_area class more
+-- each class has its groups of the places before this one
+pub record AreBefore (place : ℕ) (groups : ℕ → ℕ → Group) (classes : List Group) : Type 0 where
+  pub each : (class : ℕ) → class < length classes → group_at classes class ≡ group_before groups class place
 
--- the groups are of this number of classes, and their sums fit, and the totals at the edges of the classes
-pub record HasRoom (classes : ℕ) (groups : List (Key × Group)) : Type 0 where
-  pub few : classes ≤ area_classes
-  pub each : All (IsGroup classes) groups
-  pub gains : sum_by (λ e. e.1.gain) groups < 2 ^ 128
-  pub areas : sum_by (λ e. e.1.area) groups < 2 ^ 128
-  pub totals : short_at classes * sum_by (λ e. e.1.gain) groups ≤ 2 ^ 112
-
--- the sorted groups of the places up to this one end there
-pub record IsEndOf (place : ℕ) (sorted : List (Key × Group)) (end : ℕ) : Type 0 where
-  pub within : end ≤ length sorted
-  pub before : AllWithin (λ e. e.0.place ≤ place) sorted 0 end
-  pub after : AllWithin (λ e. place < e.0.place) sorted end (length sorted)
-
--- the least bound of the groups of the places up to this one
-pub record IsLeastAt (place area : ℕ) (entries : List (Key × Group)) (bound : EdgeBound) : Type 0 where
-  pub groups : List Group
-  pub classes : AreClasses place entries groups
-  pub enough : All (λ e. e.0.class < length groups) entries
-  pub edge : 0 < bound.edge
-  pub least : IsLeastOf area groups (length groups) bound
+-- the groups are those of fewer than 2^32 spans in the ranges of what is told, and of their classes
+pub record AreOfSpans (capacities : List ℕ) (classes : ℕ) (groups : ℕ → ℕ → Group) : Type 0 where
+  pub objective : Objective
+  pub spans : List Span
+  pub few : length spans < 2 ^ 32
+  pub ranges : All IsInRange spans
+  pub are : AreGroupsOf objective capacities spans groups
+  pub within : classes ≤ classes_for objective
+  pub none_above : (place class : ℕ) → classes ≤ class → groups place class ≡ no_group
 
 -- the bound at a place of a list
 abbrev pub edge_bound_at : List EdgeBound → ℕ → EdgeBound
 edge_bound_at bounds place = slice_index_or bounds place (record { upper = 0; edge = 0 })
 
--- the least bounds at each of the capacities, whose areas are over this number of steps
-pub record AreLeastOver (steps : ℕ) (capacities : List ℕ) (entries : List (Key × Group)) (bounds : List EdgeBound)
+-- the least bounds at the first so many places, of whatever spans the groups are, where areas are over this number of steps
+pub record AreLeastBefore (places steps : ℕ) (capacities : List ℕ) (groups : ℕ → ℕ → Group) (bounds : List EdgeBound)
     : Type 0 where
-  pub each : length bounds ≡ length capacities
-  pub least : (place : ℕ) → place < length bounds
-      → IsLeastAt place (slice_index capacities place * steps) entries (edge_bound_at bounds place)
+  pub each : length bounds ≡ places
+  pub edges : (place : ℕ) → place < places → 0 < (edge_bound_at bounds place).edge
+  pub least : (objective : Objective) (spans : List Span) → All (λ s. 0 < s.size) spans
+      → AreGroupsOf objective capacities spans groups → (place : ℕ) → place < places
+      → IsLeastBound objective (slice_index capacities place) steps spans (edge_bound_at bounds place)
 
 -- the bounds of hits and of bytes, capacity by capacity
 abbrev pub pairs : List EdgeBound → List EdgeBound → List CapacityBounds

@@ -7,6 +7,7 @@
 mod bound;
 mod group;
 mod least;
+mod pages;
 mod places;
 mod short;
 mod sums;

@@ -1,81 +1,49 @@
-//! The least bounds at all capacities, in one pass over the groups in the order of their places.
-ghost use Rattle.std.specs.Prelude.{◌≡◌, ℕ, ◌+◌, ◌<◌, ◌≤◌, ◌^◌, All, length, replicate, IfOk};
-ghost use Rattle.std.specs.List.Sorted.{IsNonDecreasingBy, IsPermutation};
-ghost use Rattle.area_sums.specs.Groups.{no_group};
-ghost use Rattle.area_sums.specs.Places.{AreLeastOver, HasRoom, HasRoomFor, HasMore, IsEndOf};
+//! The least bounds at all capacities, in one pass over the places.
+ghost use Rattle.std.specs.Prelude.{◌≡◌, ℕ, ◌+◌, ◌*◌, ◌<◌, ◌≤◌, ◌^◌, length, replicate, IfOk};
+ghost use Rattle.area_sums.specs.Groups.{AreCapacities, area_classes, both, group_at, no_group};
+ghost use Rattle.area_sums.specs.PageLayout.{page_size};
+ghost use Rattle.area_sums.specs.Pages.{group_in};
+ghost use Rattle.area_sums.specs.Places.{AreLeastBefore, AreOfSpans, HasRoomFor};
 
 use crate::bound::EdgeBound;
-use crate::group::{Group, Key};
+use crate::group::Group;
 use crate::least::least_bound;
+use crate::pages::Pages;
 use bound_base::NoMemory;
-use indexmap::IndexMap;
 use std::alloc::Global;
 
-// How many classes there are up to the greatest that has a group.
-fn class_count(entries: &IndexMap<Key, Group>) -> usize
-    ensures enough { All (λ e. e.0.class < result) entries.now.entries }
-    ensures no_more { (limit : ℕ) → All (λ e. e.0.class < limit) entries.now.entries → result ≤ limit }
+// Adds the groups of a place to those of their classes.
+fn add_place(groups: &mut [Group], pages: &Pages, place: usize)
+    requires place { place < pages.now.places }
+    requires few { length groups.old ≤ area_classes }
+    requires classes { length groups.old ≡ pages.now.rows * page_size }
+    requires room { HasRoomFor (group_in pages.now place) groups.old }
+    ensures { (class : ℕ) → class < length groups.old
+        → group_at groups.new class ≡ both (group_at groups.old class) (group_in pages.now place class) }
 {
-    let mut count = 0;
-    for (key, _) in entries.iter() {
-        count = count.max(key.class as usize + 1);
+    for class in 0..groups.len() {
+        groups[class] = groups[class].plus(pages.group(place, class as u32));
     }
-    count
-}
-
-// The groups with their keys, in the order of the places.
-fn by_place(alloc: Global, entries: &IndexMap<Key, Group>) -> Result<Vec<(Key, Group)>, NoMemory>
-    ensures same { IfOk result (λ sorted. IsPermutation entries.now.entries sorted.items) }
-    ensures ascending { IfOk result (λ sorted. IsNonDecreasingBy (λ e. e.0.place) sorted.items) }
-{
-    let mut sorted = Vec::with_capacity(alloc, entries.len())?;
-    for (key, group) in entries.iter() {
-        sorted.push((*key, *group))?;
-    }
-    sorted.sort_unstable_by_key(|entry| entry.0.place);
-    Ok(sorted)
-}
-
-// Adds groups to those of their classes.
-fn add_groups(groups: &mut [Group], more: &[(Key, Group)])
-    requires classes { All (λ e. e.0.class < length groups.old) more.now }
-    requires room { HasRoomFor groups.old more.now }
-    ensures { HasMore groups.old more.now groups.new }
-{
-    for (key, group) in more {
-        let class = key.class as usize;
-        groups[class] = groups[class].plus(*group);
-    }
-}
-
-// Where the groups of the places up to one end.
-fn end_of(sorted: &[(Key, Group)], place: usize) -> usize
-    requires { IsNonDecreasingBy (λ e. e.0.place) sorted.now }
-    ensures { IsEndOf place sorted.now result }
-{
-    sorted.partition_point(|entry| entry.0.place <= place)
 }
 
 // The least bound at each of the capacities, where no class has a group at first.
 fn bounds_over(
     alloc: Global,
     capacities: &[u64],
-    sorted: &[(Key, Group)],
+    pages: &Pages,
     groups: &mut [Group],
     steps: u32,
 ) -> Result<Vec<EdgeBound>, NoMemory>
-    requires capacities { All (λ capacity. capacity ≤ 2 ^ 56) capacities.now }
-    requires ascending { IsNonDecreasingBy (λ e. e.0.place) sorted.now }
+    requires capacities { AreCapacities capacities.now }
+    requires places { pages.now.places ≡ length capacities.now }
+    requires classes { length groups.old ≡ pages.now.rows * page_size }
+    requires spans { AreOfSpans capacities.now (length groups.old) (group_in pages.now) }
     requires none { groups.old ≡ replicate (length groups.old) no_group }
-    requires room { HasRoom (length groups.old) sorted.now }
-    ensures { IfOk result (λ bounds. AreLeastOver steps capacities.now sorted.now bounds.items) }
+    ensures { IfOk result (λ bounds. AreLeastBefore (length capacities.now) steps capacities.now (group_in pages.now) bounds.items) }
 {
     let mut bounds = Vec::with_capacity(alloc, capacities.len())?;
-    let mut first = 0;
     for (place, capacity) in capacities.iter().enumerate() {
-        let end = end_of(sorted, place);
-        add_groups(groups, &sorted[first..end]);
-        first = end;
+        add_place(groups, pages, place);
         bounds.push(least_bound(groups, u128::from(*capacity) * u128::from(steps)))?;
     }
     Ok(bounds)
@@ -85,14 +53,14 @@ fn bounds_over(
 pub(crate) fn least_bounds(
     alloc: Global,
     capacities: &[u64],
-    entries: &IndexMap<Key, Group>,
+    pages: &Pages,
     steps: u32,
 ) -> Result<Vec<EdgeBound>, NoMemory>
-    requires capacities { All (λ capacity. capacity ≤ 2 ^ 56) capacities.now }
-    requires room { (classes : ℕ) × HasRoom classes entries.now.entries }
-    ensures { IfOk result (λ bounds. AreLeastOver steps capacities.now entries.now.entries bounds.items) }
+    requires capacities { AreCapacities capacities.now }
+    requires places { pages.now.places ≡ length capacities.now }
+    requires spans { AreOfSpans capacities.now (pages.now.rows * page_size) (group_in pages.now) }
+    ensures { IfOk result (λ bounds. AreLeastBefore (length capacities.now) steps capacities.now (group_in pages.now) bounds.items) }
 {
-    let sorted = by_place(alloc, entries)?;
-    let mut groups = vec![in alloc; Group::EMPTY; class_count(entries)]?;
-    bounds_over(alloc, capacities, &sorted, &mut groups, steps)
+    let mut groups = vec![in alloc; Group::EMPTY; pages.classes()]?;
+    bounds_over(alloc, capacities, pages, &mut groups, steps)
 }

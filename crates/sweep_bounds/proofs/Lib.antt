@@ -1,3 +1,4 @@
+pub mod Writes
 pub mod Grown
 pub mod Seen
 pub mod Bridge

@@ -134,8 +134,7 @@ impl SweepBounds {
         self.latest.len() as u32
     }
 
-    /// The least bounds at each of the capacities, in their order. It sorts the groups of the sums, goes over them once, and at
-    /// each capacity over their classes.
+    /// The least bounds at each of the capacities, in their order. At each capacity it goes over the classes of the sums.
     pub fn bounds(&self, alloc: Global) -> Result<Vec<CapacityBounds>, NoMemory>
         ensures { IfOk result (λ bounds. AreBoundsOf self.now bounds.items) }
     {

@@ -10,7 +10,7 @@ use Rattle.cache_model.specs.declared.objects.Object.{Object}
 use Rattle.cache_model.specs.Claim.{same_object}
 use Rattle.cache_model.proofs.DifferentObjects.{same_object-derived}
 use Rattle.area_sums.specs.Groups.{AreSumsOf}
-use Rattle.area_sums.proofs.MoreLemmas.{set_value-insert}
+use Rattle.sweep_bounds.proofs.Writes.{set_value-insert}
 use Rattle.sweep_bounds.specs.Sweep.{HasSeen, Sweep, length_since, span_if}
 use Rattle.sweep_bounds.specs.contracts.sweep.SweepBounds.{the_view}
 use Rattle.sweep_bounds.proofs.Seen.{HasSeen-pushed, Takes, next_length}
