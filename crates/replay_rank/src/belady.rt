@@ -42,8 +42,8 @@ type Items = BinaryHeap<(u64, u32)>;
 ///
 /// A hit puts an item of the new next request into a heap, and that of the former one stays there. When there are twice as
 /// many items as were left when such ones were last thrown away, they are thrown away again. So requests take, one with
-/// another, time logarithmic in the number of entries, for themselves and for each entry that is given up. It takes memory
-/// for each object with the first entry, and for each entry.
+/// another, time logarithmic in the number of entries, for themselves and for each entry that is given up. It takes 4 bytes
+/// for each object up to the greatest that came in, and memory for each entry.
 #[derive(Drop)]
 pub struct Belady {
     capacity: u64,
