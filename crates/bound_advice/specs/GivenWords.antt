@@ -4,7 +4,7 @@ use Rattle.std.specs.declared.option.Option.{Option}
 use Rattle.trace_any.specs.declared.format.Format.{Format}
 use Rattle.bound_words.specs.declared.commands.Command.{Command}
 use Rattle.bound_words.specs.Commands.{operands_of}
-use Rattle.bound_words.specs.Operands.{format_given}
+use Rattle.bound_words.specs.Given.{format_given}
 use Rattle.bound_advice.specs.declared.words.Words.{Words}
 
 -- the operands of a command, and none if there is no command

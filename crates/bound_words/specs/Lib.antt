@@ -3,7 +3,8 @@ pub mod Ranges
 pub mod Commands
 pub mod Values
 pub mod Named
-pub mod Operands
+pub mod Kinds
+pub mod Given
 pub mod Faults
 pub mod Plans
 pub mod Words

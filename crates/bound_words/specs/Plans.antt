@@ -19,8 +19,8 @@ use Rattle.bound_words.specs.declared.words.WordFault.{WordFault}
 use Rattle.bound_terms.specs.declared.words.WordKind.TheVariants.{BadValue}
 use Rattle.bound_words.specs.Commands.{places_of}
 use Rattle.bound_words.specs.Faults.{◌>>=◌, fault, passed, required}
-use Rattle.bound_words.specs.Operands.{capacities_given, capacity_given, capacity_or_usual, delay_given, denominator_given, format_given, mode_given, number_given}
-use Rattle.bound_words.specs.Operands.{flags_given, long_warmup_given, objective_given, objects_given, policy_given, requests_given, seed_given, version_given, warmup_given, width_given, writes_given}
+use Rattle.bound_words.specs.Given.{capacities_given, capacity_given, capacity_or_usual, delay_given, denominator_given, format_given, mode_given, number_given}
+use Rattle.bound_words.specs.Given.{flags_given, long_warmup_given, objective_given, objects_given, policy_given, requests_given, seed_given, version_given, warmup_given, width_given, writes_given}
 use Rattle.bound_words.specs.Ranges.{AreBoundSettingsInRange, AreDrawSettingsInRange, AreReplaySettingsInRange}
 
 -- the settings of bounds, in the order of a plan

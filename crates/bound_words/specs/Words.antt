@@ -14,7 +14,8 @@ use Rattle.bound_words.specs.declared.commands.Command.TheVariants as command
 use Rattle.bound_words.specs.Commands.{command_named, has_operand, needed_names, places_of, operands_at, operands_of}
 use Rattle.bound_words.specs.Faults.{◌>>=◌, fault, passed}
 use Rattle.bound_words.specs.Named.{has_equals, name_of, value_of, value_given, place_given}
-use Rattle.bound_words.specs.Operands.{flags_given, takes_value, reads_given, writes_given}
+use Rattle.bound_words.specs.Kinds.{takes_value}
+use Rattle.bound_words.specs.Given.{flags_given, reads_given, writes_given}
 use Rattle.bound_words.specs.Plans.{plan_of_command}
 use Rattle.bound_words.specs.Values.{layout_of}
 use Rattle.trace_any.specs.Readings.{has_marks}

@@ -6,9 +6,10 @@
 
 mod capacities;
 mod commands;
+mod given;
+mod kinds;
 mod making;
 mod named;
-mod operands;
 mod paths;
 mod plans;
 mod values;
@@ -16,8 +17,9 @@ mod words;
 
 pub use capacities::{CapacityList, MOST_CAPACITIES};
 pub use commands::{Command, command_named};
+pub use given::format_given;
+pub use kinds::{Kind, Values, is_operand, kind_of};
 pub use named::{has_equals, name_of, value_given, value_of};
-pub use operands::{Kind, Values, format_given, is_operand, kind_of};
 pub use paths::{Paths, paths_of};
 pub use plans::{
     BoundSettings, DrawSettings, JudgeSettings, Plan, ReplaySettings, Settings, SweepSettings,

@@ -7,7 +7,7 @@ ghost use Rattle.bound_words.specs.Plans.{demo_plan, inputs_fault, is_dash, judg
 ghost use Rattle.bound_words.specs.Plans.{refine_plan, replay_plan, sweep_plan};
 
 use crate::commands::{Command, PathPlaces};
-use crate::operands::{
+use crate::given::{
     capacities_given, capacity_given, capacity_or_usual, delay_given, denominator_given,
     flags_given, format_given, long_warmup_given, mode_given, number_given, objective_given,
     objects_given, policy_given, requests_given, seed_given, version_given, warmup_given,

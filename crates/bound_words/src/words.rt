@@ -9,9 +9,10 @@ ghost use Rattle.bound_words.specs.Words.{count_fault, earlier, form_fault, has_
 ghost use Rattle.bound_words.specs.Words.{path, paths, plan, plan_of_operands, replace_fault, unknown_operand, window_fault, writes_fault};
 
 use crate::commands::{Command, command_named, has_operand};
+use crate::given::{flags_given, reads_given, writes_given};
+use crate::kinds::takes_value;
 use crate::making::plan_of_command;
 use crate::named::{has_equals, name_of, place_given, value_given, value_of};
-use crate::operands::{flags_given, reads_given, takes_value, writes_given};
 use crate::plans::Plan;
 use crate::values::{USUAL_BLOCK, is, layout_of};
 use bound_terms::WordKind;
