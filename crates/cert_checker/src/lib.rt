@@ -2,6 +2,19 @@
 //! entry for each object.
 //!
 //! The rules are "The rules of a certificate" and "The walk of a check" in docs/DEFINITIONS.md.
+//!
+//! ```text
+//! Checker, which is given requests and records
+//!
+//!     new ---> step or step_filling, once for each request that the header states ---> finish
+//!                `---> a fault: the checker stays as it was
+//!
+//! check_streams, over a RequestReader and a CertReader of which no call was made; it ends at the first fault
+//!
+//!     header ---> next, of the trace
+//!                   |---> a request: a record is left ---> next_record ---> its rules ---> next
+//!                   `---> none: no record is left ---> finish_text ---> the rules of the end
+//! ```
 #![tactic(auto)]
 
 mod checker;

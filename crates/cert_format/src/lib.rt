@@ -1,7 +1,37 @@
 //! The text of a certificate, both ways: a header, records and the end are written to a sink, and read from a source
 //! line by line.
 //!
-//! The rules are "The text of a certificate" and "The reading of a certificate" in docs/DEFINITIONS.md.
+//! The rules are "The text of a certificate" and "The reading of a certificate" in docs/DEFINITIONS.md. The lines,
+//! in two versions of the text:
+//!
+//! | line | version 1 | version 2 | the number |
+//! |---|---|---|---|
+//! | 1 | `cache-bound-certificate 1` | `cache-bound-certificate 2` | |
+//! | 2 | `objective object` or `objective bytes` | the same | |
+//! | 3 | `capacity n` | the same | 1 to 2^56 |
+//! | 4 | `requests n` | the same | 0 to 2^25 |
+//! | 5 | `unit n` | the same | 1 to the capacity |
+//! | 6 | `denominator n` | the same | 1 to 2^48 |
+//! | 7 | `form exact` or `form plain` | the same | |
+//! | 8, 9, 10 | `upper n`, `flow n`, `lower n` | the same | 0 to 2^127 - 1 |
+//! | 11, with a warm-up | `warmup n` | the same | 1 to 2^25 |
+//! | 11 or 12 | `records` | the same | |
+//! | one a request | `price keep flow` | the same if the price is new; else `keep flow` | 0 to 2^126; 0, 1; 0 to 2^48 |
+//! | the last | `end` | the same | |
+//!
+//! A price is new if it differs from the one before, which is 0 for the first record.
+//!
+//! ```text
+//! CertReader over a Source
+//!
+//!     new ---> header ---> next_record, once for each record ---> finish_text
+//!     a fault stays: each later call answers it again, and reads nothing
+//!
+//! CertWriter over a Sink
+//!
+//!     begin ---> push, once for each record ---> end
+//!     a call that fails has written a prefix of its lines, and not all
+//! ```
 #![tactic(auto)]
 
 mod fault;
