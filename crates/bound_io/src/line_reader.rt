@@ -1,9 +1,9 @@
 //! A reader of lines.
-ghost use Rattle.std.specs.Prelude.{◌≡◌, ◌+◌, ◌≤◌, ◌<◌, ◌^◌, ◌⊎◌, [], length, take, IfOk, IfErr, OnOk, IfSome, IfNone};
+ghost use Rattle.std.specs.Prelude.{◌≡◌, ◌+◌, ◌≤◌, ◌<◌, ◌^◌, [], length, take, IfOk, IfErr, IfSome, IfNone};
 ghost use Rattle.std.specs.Io.KnownBytes.{IsAtEnd, Keeps};
 ghost use Rattle.bound_io.specs.Devices.{IsUntouched, seen};
 ghost use Rattle.bound_io.specs.Lines.{HasExtent, text_len};
-ghost use Rattle.bound_io.specs.Reading.{LosesPrefix};
+ghost use Rattle.bound_io.specs.Reading.{ReadsSource};
 
 use crate::buffer::Buffer;
 use crate::device::{Failed, Source};
@@ -122,10 +122,7 @@ impl LineReader {
         ensures still { self.new ≡ with_held self.old self.new.held }
         ensures room { length self.new.held ≤ 65536 }
         ensures kept { Keeps (known self.old (S.left source.old)) (known self.new (S.left source.new)) }
-        ensures source { LosesPrefix (S.left source.old) (S.left source.new) }
-        ensures later { S.faults source.old ≤ S.faults source.new }
-        ensures none_failed { OnOk result (S.faults source.new ≡ S.faults source.old) }
-        ensures else_none_failed { IfErr result (λ fault. (fault ≡ LineFault.ReadFault) ⊎ (S.faults source.new ≡ S.faults source.old)) }
+        ensures reads { ReadsSource LineFault.ReadFault (seen S.left S.faults source.old source.new) result }
         ensures untouched { text_len self.old.held < length self.old.held → IsUntouched (seen S.left S.faults source.old source.new) }
     {
         let Ok(text) = self.buffer.find_text(source) else {
@@ -154,10 +151,7 @@ impl LineReader {
         ensures again { AnswersAgain self.old.fault result (seen S.left S.faults source.old source.new) }
         ensures room { length self.new.held ≤ 65536 }
         ensures kept { Keeps (known self.old (S.left source.old)) (known self.new (S.left source.new)) }
-        ensures source { LosesPrefix (S.left source.old) (S.left source.new) }
-        ensures later { S.faults source.old ≤ S.faults source.new }
-        ensures none_failed { OnOk result (S.faults source.new ≡ S.faults source.old) }
-        ensures else_none_failed { IfErr result (λ fault. (fault ≡ LineFault.ReadFault) ⊎ (S.faults source.new ≡ S.faults source.old)) }
+        ensures reads { ReadsSource LineFault.ReadFault (seen S.left S.faults source.old source.new) result }
         ensures untouched { text_len self.old.held < length self.old.held → IsUntouched (seen S.left S.faults source.old source.new) }
     {
         if let Some(fault) = self.fault {
@@ -177,10 +171,7 @@ impl LineReader {
         ensures short { IfOk result (λ line. IfSome (given line) (λ text. length text ≤ 65535)) }
         ensures refused { self.old.fault ≡ None → IfErr result (RefusesLine self.old (seen S.left S.faults source.old source.new)) }
         ensures again { AnswersAgain self.old.fault result (seen S.left S.faults source.old source.new) }
-        ensures source { LosesPrefix (S.left source.old) (S.left source.new) }
-        ensures later { S.faults source.old ≤ S.faults source.new }
-        ensures none_failed { OnOk result (S.faults source.new ≡ S.faults source.old) }
-        ensures else_none_failed { IfErr result (λ fault. (fault ≡ LineFault.ReadFault) ⊎ (S.faults source.new ≡ S.faults source.old)) }
+        ensures reads { ReadsSource LineFault.ReadFault (seen S.left S.faults source.old source.new) result }
         ensures untouched { text_len self.old.held < length self.old.held → IsUntouched (seen S.left S.faults source.old source.new) }
         ensures* after { sem 𝓛 (Rests the_row self.entry (LeavesLine self.old (seen S.left S.faults source.old source.new) (given_by result))) }
     {
@@ -206,10 +197,7 @@ impl LineReader {
         ensures short { IfOk result (λ found. IfSome found (λ text. length text.now ≤ 65535)) }
         ensures refused { self.old.fault ≡ None → IfErr result (RefusesLine self.old (seen S.left S.faults source.old source.new)) }
         ensures again { AnswersAgain self.old.fault result (seen S.left S.faults source.old source.new) }
-        ensures source { LosesPrefix (S.left source.old) (S.left source.new) }
-        ensures later { S.faults source.old ≤ S.faults source.new }
-        ensures none_failed { OnOk result (S.faults source.new ≡ S.faults source.old) }
-        ensures else_none_failed { IfErr result (λ fault. (fault ≡ LineFault.ReadFault) ⊎ (S.faults source.new ≡ S.faults source.old)) }
+        ensures reads { ReadsSource LineFault.ReadFault (seen S.left S.faults source.old source.new) result }
         ensures untouched { text_len self.old.held < length self.old.held → IsUntouched (seen S.left S.faults source.old source.new) }
         ensures* after { sem 𝓛 (Rests the_row self.entry (LeavesLine self.old (seen S.left S.faults source.old source.new) result)) }
     {
@@ -228,10 +216,7 @@ impl LineReader {
         ensures still { self.new ≡ with_held self.old self.new.held }
         ensures room { length self.new.held ≤ 65536 }
         ensures kept { Keeps (known self.old (S.left source.old)) (known self.new (S.left source.new)) }
-        ensures source { LosesPrefix (S.left source.old) (S.left source.new) }
-        ensures later { S.faults source.old ≤ S.faults source.new }
-        ensures none_failed { OnOk result (S.faults source.new ≡ S.faults source.old) }
-        ensures else_none_failed { IfErr result (λ fault. (fault ≡ LineFault.ReadFault) ⊎ (S.faults source.new ≡ S.faults source.old)) }
+        ensures reads { ReadsSource LineFault.ReadFault (seen S.left S.faults source.old source.new) result }
         ensures untouched { count ≤ length self.old.held → IsUntouched (seen S.left S.faults source.old source.new) }
     {
         let held = self.buffer.hold(source, count);
@@ -254,10 +239,7 @@ impl LineReader {
         ensures again { AnswersAgain self.old.fault result (seen S.left S.faults source.old source.new) }
         ensures room { length self.new.held ≤ 65536 }
         ensures kept { Keeps (known self.old (S.left source.old)) (known self.new (S.left source.new)) }
-        ensures source { LosesPrefix (S.left source.old) (S.left source.new) }
-        ensures later { S.faults source.old ≤ S.faults source.new }
-        ensures none_failed { OnOk result (S.faults source.new ≡ S.faults source.old) }
-        ensures else_none_failed { IfErr result (λ fault. (fault ≡ LineFault.ReadFault) ⊎ (S.faults source.new ≡ S.faults source.old)) }
+        ensures reads { ReadsSource LineFault.ReadFault (seen S.left S.faults source.old source.new) result }
         ensures untouched { count ≤ length self.old.held → IsUntouched (seen S.left S.faults source.old source.new) }
     {
         if let Some(fault) = self.fault {
@@ -283,10 +265,7 @@ impl LineReader {
         ensures most { IfOk result (λ piece. length piece.now ≤ count) }
         ensures refused { self.old.fault ≡ None → IfErr result (RefusesPiece count self.old (seen S.left S.faults source.old source.new)) }
         ensures again { AnswersAgain self.old.fault result (seen S.left S.faults source.old source.new) }
-        ensures source { LosesPrefix (S.left source.old) (S.left source.new) }
-        ensures later { S.faults source.old ≤ S.faults source.new }
-        ensures none_failed { OnOk result (S.faults source.new ≡ S.faults source.old) }
-        ensures else_none_failed { IfErr result (λ fault. (fault ≡ LineFault.ReadFault) ⊎ (S.faults source.new ≡ S.faults source.old)) }
+        ensures reads { ReadsSource LineFault.ReadFault (seen S.left S.faults source.old source.new) result }
         ensures untouched { count ≤ length self.old.held → IsUntouched (seen S.left S.faults source.old source.new) }
         ensures* after { sem 𝓛 (Rests the_row self.entry (LeavesBytes count self.old (seen S.left S.faults source.old source.new) result)) }
     {

@@ -1,6 +1,7 @@
 //! The check of a certificate against a trace, both read as streams.
-ghost use Rattle.std.specs.Prelude.{◌≡◌, ◌⊎◌, ◌≤◌, ◌<◌, ◌+◌, ◌^◌, [], IfOk, IfErr, IfSome, None, OnOk, length};
-ghost use Rattle.bound_io.specs.Reading.{LosesPrefix};
+ghost use Rattle.std.specs.Prelude.{◌≡◌, ◌≤◌, ◌<◌, ◌+◌, ◌^◌, [], IfOk, IfErr, IfSome, None, OnOk, length};
+ghost use Rattle.bound_io.specs.Devices.{seen};
+ghost use Rattle.bound_io.specs.Reading.{LosesPrefix, ReadsSource};
 ghost use Rattle.cache_model.specs.Certificates.{IsRecordInRange};
 ghost use Rattle.cert_checker.specs.declared.invalid.InvalidKind.TheVariants.{RequestCount};
 ghost use Rattle.cert_format.specs.Lines.{IsTaken};
@@ -192,11 +193,9 @@ fn check_last<Q: Source>(
     ensures checked { ChecksLast
         (seen_cert Q.left Q.faults cert.old certificate.old) checker.now
         (seen_cert Q.left Q.faults cert.new certificate.new) result }
-    ensures else_none_failed { IfErr result (λ why. (why ≡ CheckFault.CertReadFault) ⊎ (Q.faults certificate.new ≡ Q.faults certificate.old)) }
     ensures taken { IsTaken cert.old.lines cert.new.lines (Q.left certificate.old) (Q.left certificate.new) }
     ensures kept { KeepsAnswer None cert.new.fault result }
-    ensures source { LosesPrefix (Q.left certificate.old) (Q.left certificate.new) }
-    ensures later { Q.faults certificate.old ≤ Q.faults certificate.new }
+    ensures reads { ReadsSource CheckFault.CertReadFault (seen Q.left Q.faults certificate.old certificate.new) result }
 {
     let read = records_read(header, cert);
     if read < header.requests as u64 {

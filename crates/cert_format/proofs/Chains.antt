@@ -115,8 +115,8 @@ module _ {A : Type 0} (count : ℕ) (P : List ℕ → Type 0) (fault_of : ℕ �
             let so_far = at_some (known old a) bytes _ e done.stands in
             past_both old now new bytes count done.given (at_some (known old a) bytes _ e done.past) (at_some (known now b) (after_lines count bytes) _ so_far.1 reads.past));
         taken = taken_both old now new a b d done.loses done.taken reads.taken;
-        loses = loses_both a b d done.loses reads.loses;
-        none_failed = at_ok (λ _. z ≡ y) reads.none_failed ∙ done.none_failed;
+        loses = loses_both a b d done.loses reads.reads.source;
+        none_failed = at_ok (λ _. z ≡ y) reads.reads.none_failed ∙ done.none_failed;
       }
     where
       at_ok : (Q : A → Type 0) → IfOk r Q → Q v
@@ -138,10 +138,7 @@ module _ {A : Type 0} (count : ℕ) (P : List ℕ → Type 0) (fault_of : ℕ �
         let so_far = at_some (known old a) bytes _ e done.stands in
         past_both old now new bytes count done.given (at_some (known old a) bytes _ e done.past) (at_some (known now b) (after_lines count bytes) _ so_far.1 reads.past));
     taken = taken_both old now new a b d done.loses done.taken reads.taken;
-    loses = loses_both a b d done.loses reads.loses;
-    later = omega (arith, done.none_failed, reads.later);
-    none_failed = tt;
-    else_none_failed = calm (subst (λ s. IfErr s (λ f. (f ≡ ReadFault) ⊎ (z ≡ y))) is reads.else_none_failed);
+    reads = record { source = loses_both a b d done.loses reads.reads.source; later = omega (arith, done.none_failed, reads.reads.later); none_failed = tt; else_none_failed = calm (subst (λ s. IfErr s (λ f. (f ≡ ReadFault) ⊎ (z ≡ y))) is reads.reads.else_none_failed) };
   }
     where
       calm : (fault ≡ ReadFault) ⊎ (z ≡ y) → (fault ≡ ReadFault) ⊎ (z ≡ x)
@@ -173,10 +170,7 @@ all_done count P old now a b x y whole value_of v done held none is = record {
   within = tt;
   past = done.past;
   taken = done.taken;
-  loses = done.loses;
-  later = omega (arith, done.none_failed);
-  none_failed = done.none_failed;
-  else_none_failed = tt;
+  reads = record { source = done.loses; later = omega (arith, done.none_failed); none_failed = done.none_failed; else_none_failed = tt };
 }
 
 -- the last of several readings

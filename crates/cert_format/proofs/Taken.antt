@@ -1,5 +1,5 @@
 -- One line more is read.
-use Rattle.std.proofs.Common.{OnOk, ◌≡◌, ℕ, ◌+◌, ◌-◌, ◌*◌, ◌^◌, ◌≤◌, ◌<◌, ◌∙◌, sym, refl, ap, subst, true, false, not, cond, List, [], ◌++◌, length, length-append, arith, Some, None, Option, Ok, Err, Result, IfSome, IfOk, IfErr, inl, inr, ◌⊎◌, length-take, length-drop}
+use Rattle.std.proofs.Common.{◌≡◌, ℕ, ◌+◌, ◌-◌, ◌*◌, ◌^◌, ◌≤◌, ◌<◌, ◌∙◌, sym, refl, ap, subst, true, false, not, cond, List, [], ◌++◌, length, length-append, arith, Some, None, Option, Ok, Err, Result, IfSome, IfOk, IfErr, inl, inr, ◌⊎◌, length-take, length-drop}
 use Rattle.std.specs.Prelude.{nat_le}
 use Rattle.std.specs.Option.{option_map}
 use Rattle.std.specs.Result.{is_ok}
@@ -7,7 +7,7 @@ use Rattle.std.proofs.lemmas.Bool.{true≢false, cases_Bool, ne_eqb, leb-true, l
 use Rattle.std.proofs.lemmas.List.Sums.{prefix_len-le-length}
 use Rattle.std.specs.Io.KnownBytes.{Keeps}
 use Rattle.bound_io.specs.Devices.{Device}
-use Rattle.bound_io.specs.Reading.{LosesPrefix}
+use Rattle.bound_io.specs.Reading.{LosesPrefix, ReadsSource}
 use Rattle.bound_io.specs.Lines.{is_lf, text_len, first_text, first_line, after_line, stands_in}
 use Rattle.bound_io.specs.Positions.{Position, GivesLine, GivesNone, Stops, NextLine, IsRefused, IsLine, given, given_by}
 use Rattle.bound_io.specs.declared.line_reader.LineFault.{LineFault}
@@ -36,10 +36,7 @@ pub record Gave (old new : Position) (source : Device) (r : Result WholeLine Lin
   pub next : NextLine old new (stands_in old.held source.before) (stands_in new.held source.after) (given_by r)
   pub short : IfOk r (λ w. IfSome (given w) (λ text. length text ≤ 65535))
   pub held : length new.held ≤ 65536
-  pub loses : LosesPrefix source.before source.after
-  pub later : source.faults_before ≤ source.faults_after
-  pub none_failed : OnOk r (source.faults_after ≡ source.faults_before)
-  pub else_none_failed : IfErr r (λ fault. (fault ≡ read_fault) ⊎ (source.faults_after ≡ source.faults_before))
+  pub reads : ReadsSource read_fault source r
 
 -- a fault of the reader of lines that isn't that of a read has no failed read behind it
 calm_too_long : (m before now : ℕ) → (line.LineTooLong m ≡ line.ReadFault) ⊎ (now ≡ before) → now ≡ before
@@ -130,7 +127,7 @@ module _ {A : Type 0} (slots_of : List ℕ → List Slot) (value : List ℕ → 
 
   -- from its parts
   stops : (fault : CertFault) → (fault ≡ ReadFault) ⊎ (source.faults_after ≡ source.faults_before) → (new.limit ≡ old.limit) → (length new.held ≤ 65536) → IsStopped (line_fault_of (old.line + 1) slots_of) (known old source.before) source fault → IsWithin new.line fault → IfSome (known old source.before) (IsPast old new) → IsTaken old new source.before source.after → Stopped fault
-  stops fault calm same held stopped within past taken = record { limit = same; held = held; given = tt; passes = tt; value_is = tt; stopped = stopped; within = within; past = past; taken = taken; loses = loses; later = later; none_failed = tt; else_none_failed = calm }
+  stops fault calm same held stopped within past taken = record { limit = same; held = held; given = tt; passes = tt; value_is = tt; stopped = stopped; within = within; past = past; taken = taken; reads = record { source = loses; later = later; none_failed = tt; else_none_failed = calm } }
 
   -- the bytes that the reader of lines stands in are known too
   in_known : (P : List ℕ → Type 0) → IfSome (stands_in old.held source.before) P → (bytes : List ℕ) → known old source.before ≡ Some bytes → P bytes
@@ -164,20 +161,20 @@ module _ {A : Type 0} (slots_of : List ℕ → List Slot) (value : List ℕ → 
   stop_line (Ok (Whole text)) fault gave is = absurd (no_value text.now fault is)
   stop_line (Ok (Unended text)) fault gave is =
       let same : Truncated (old.line + 1) ≡ fault = cc in
-      subst Stopped same (stop_unended text.now gave.short gave.next gave.held gave.line gave.none_failed)
+      subst Stopped same (stop_unended text.now gave.short gave.next gave.held gave.line gave.reads.none_failed)
   stop_line (Ok AtEnd) fault gave is =
       let same : Truncated (old.line + 1) ≡ fault = cc in
-      subst Stopped same (stop_end gave.next gave.held gave.line gave.none_failed)
+      subst Stopped same (stop_end gave.next gave.held gave.line gave.reads.none_failed)
   stop_line (Err line.ReadFault) fault gave is =
       let same : ReadFault ≡ fault = cc in
       subst Stopped same (stop_fault line.ReadFault ReadFault gave.next gave.held gave.refused tt (inl refl))
   stop_line (Err (line.LineTooLong m)) fault gave is =
       let same : BadText (old.line + 1) TooLong ≡ fault = cc in
       subst Stopped same (stop_fault (line.LineTooLong m) (BadText (old.line + 1) TooLong) gave.next gave.held
-      (if_known (known old source.before) _ (λ bytes e. long_line (old.line + 1) (slots_of (first_text bytes)) bytes (in_known _ gave.refused.1 bytes e))) (omega arith) (inr (calm_too_long m _ _ gave.else_none_failed)))
+      (if_known (known old source.before) _ (λ bytes e. long_line (old.line + 1) (slots_of (first_text bytes)) bytes (in_known _ gave.refused.1 bytes e))) (omega arith) (inr (calm_too_long m _ _ gave.reads.else_none_failed)))
   stop_line (Err line.InputTooLong) fault gave is =
       let same : BadText (old.line + 1) TooLong ≡ fault = cc in
-      subst Stopped same (stop_fault line.InputTooLong (BadText (old.line + 1) TooLong) gave.next gave.held (not_past gave.refused) (omega arith) (inr (calm_past_limit _ _ gave.else_none_failed)))
+      subst Stopped same (stop_fault line.InputTooLong (BadText (old.line + 1) TooLong) gave.next gave.held (not_past gave.refused) (omega arith) (inr (calm_past_limit _ _ gave.reads.else_none_failed)))
 
 -- a whole line is read: its text has this fault, or this value
 module _ {A : Type 0} (slots_of : List ℕ → List Slot) (value : List ℕ → A) (old new : Position) (source : Device) (text : List ℕ) (short : line_fault (slots_of text) text ≡ None → length text ≤ 63) (loses : LosesPrefix source.before source.after) (later : source.faults_before ≤ source.faults_after) where
@@ -210,10 +207,7 @@ module _ {A : Type 0} (slots_of : List ℕ → List Slot) (value : List ℕ → 
     within = tt;
     past = if_known (known old source.before) _ (λ bytes e. one_past old new bytes gives.line (at_some (stands_in old.held source.before) bytes _ (known_some old source.before bytes e).1 gives.consumed));
     taken = line_taken old new source.before source.after gives;
-    loses = loses;
-    later = later;
-    none_failed = calm;
-    else_none_failed = tt;
+    reads = record { source = loses; later = later; none_failed = calm; else_none_failed = tt };
   }
   read_whole (Some kind) fault gives held long is calm = record {
     limit = gives.limit;
@@ -228,16 +222,13 @@ module _ {A : Type 0} (slots_of : List ℕ → List Slot) (value : List ℕ → 
     within = omega (arith, gives.line);
     past = if_known (known old source.before) _ (λ bytes e. one_past old new bytes gives.line (at_some (stands_in old.held source.before) bytes _ (known_some old source.before bytes e).1 gives.consumed));
     taken = line_taken old new source.before source.after gives;
-    loses = loses;
-    later = later;
-    none_failed = tt;
-    else_none_failed = inr calm;
+    reads = record { source = loses; later = later; none_failed = tt; else_none_failed = inr calm };
   }
 
   pub read_line : (r : Result WholeLine LineFault) → Gave old new source r → text_given (old.line + 1) r ≡ Ok text → Read (of_line (old.line + 1) (value_unless (line_fault (slots_of text) text) (value text)))
   read_line (Ok (Whole whole)) gave is =
       let same : whole.now ≡ text = cc in
-      read_whole (line_fault (slots_of text) text) refl gave.next gave.held (omega (arith, gave.short, ap length same)) (subst (λ t. IfSome (stands_in old.held source.before) (λ bytes. (t ≡ first_text bytes) × (text_len bytes < length bytes))) same gave.line) gave.none_failed
+      read_whole (line_fault (slots_of text) text) refl gave.next gave.held (omega (arith, gave.short, ap length same)) (subst (λ t. IfSome (stands_in old.held source.before) (λ bytes. (t ≡ first_text bytes) × (text_len bytes < length bytes))) same gave.line) gave.reads.none_failed
   read_line (Ok (Unended cut)) gave is = absurd (no_fault text (Truncated (old.line + 1)) is)
   read_line (Ok AtEnd) gave is = absurd (no_fault text (Truncated (old.line + 1)) is)
   read_line (Err line.ReadFault) gave is = absurd (no_fault text ReadFault is)
@@ -266,7 +257,7 @@ module _ (old new : Position) (source : Device) (limit : old.limit ≡ 2 ^ 36) (
   Looked result = Reads (trailing (old.line + 1)) 0 (λ bytes. tt) old new source result
 
   refuses : (fault : CertFault) → (fault ≡ ReadFault) ⊎ (source.faults_after ≡ source.faults_before) → (new.limit ≡ old.limit) → (length new.held ≤ 65536) → IsStopped (trailing (old.line + 1)) (known old source.before) source fault → IsWithin new.line fault → IfSome (known old source.before) (IsPast old new) → IsTaken old new source.before source.after → Looked (Err fault)
-  refuses fault calm same held stopped within past taken = record { limit = same; held = held; given = tt; passes = tt; value_is = tt; stopped = stopped; within = within; past = past; taken = taken; loses = loses; later = later; none_failed = tt; else_none_failed = calm }
+  refuses fault calm same held stopped within past taken = record { limit = same; held = held; given = tt; passes = tt; value_is = tt; stopped = stopped; within = within; past = past; taken = taken; reads = record { source = loses; later = later; none_failed = tt; else_none_failed = calm } }
 
   known_in : (P : List ℕ → Type 0) → IfSome (stands_in old.held source.before) P → (bytes : List ℕ) → known old source.before ≡ Some bytes → P bytes
   known_in P all bytes is = at_some (stands_in old.held source.before) bytes P (known_some old source.before bytes is).1 all
@@ -305,23 +296,20 @@ module _ (old new : Position) (source : Device) (limit : old.limit ≡ 2 ^ 36) (
     within = tt;
     past = if_known (known old source.before) _ (λ bytes e. kept_past old new bytes (ap (λ p. p.line) gives.still) (ap (λ p. p.consumed) gives.still));
     taken = held_taken old new source.before source.after (ap (λ p. p.consumed) gives.still) gives.rest;
-    loses = loses;
-    later = later;
-    none_failed = calm;
-    else_none_failed = tt;
+    reads = record { source = loses; later = later; none_failed = calm; else_none_failed = tt };
   }
 
   pub look_on : (r : Result WholeLine LineFault) → Gave old new source r → Looked (nothing_given (old.line + 1) r)
-  look_on (Ok (Whole text)) gave = refuse_line gave.next gave.held (longer (stands_in old.held source.before) _ gave.line (λ bytes is. omega (arith, is.1))) gave.none_failed
-  look_on (Ok (Unended text)) gave = refuse_line gave.next gave.held (longer (stands_in old.held source.before) _ gave.line (λ bytes is. is.2)) gave.none_failed
-  look_on (Ok AtEnd) gave = no_line gave.next gave.held gave.none_failed
+  look_on (Ok (Whole text)) gave = refuse_line gave.next gave.held (longer (stands_in old.held source.before) _ gave.line (λ bytes is. omega (arith, is.1))) gave.reads.none_failed
+  look_on (Ok (Unended text)) gave = refuse_line gave.next gave.held (longer (stands_in old.held source.before) _ gave.line (λ bytes is. is.2)) gave.reads.none_failed
+  look_on (Ok AtEnd) gave = no_line gave.next gave.held gave.reads.none_failed
   look_on (Err line.ReadFault) gave = refuse_fault line.ReadFault ReadFault gave.next gave.held gave.refused tt (inl refl)
   look_on (Err (line.LineTooLong m)) gave = refuse_fault (line.LineTooLong m) (Trailing (old.line + 1)) gave.next gave.held
-      (if_known (known old source.before) _ (λ bytes e. some_trailing (old.line + 1) bytes (omega (arith, known_in _ gave.refused.1 bytes e, prefix_len-le-length (λ b. not (is_lf b)) bytes)))) (omega arith) (inr (calm_too_long m _ _ gave.else_none_failed))
+      (if_known (known old source.before) _ (λ bytes e. some_trailing (old.line + 1) bytes (omega (arith, known_in _ gave.refused.1 bytes e, prefix_len-le-length (λ b. not (is_lf b)) bytes)))) (omega arith) (inr (calm_too_long m _ _ gave.reads.else_none_failed))
   look_on (Err line.InputTooLong) gave = refuse_fault line.InputTooLong (Trailing (old.line + 1)) gave.next gave.held
       (if_known (known old source.before) _ (λ bytes e.
       let past = known_in _ gave.refused bytes e in
-      some_trailing (old.line + 1) bytes (omega (arith, past.1, (known_some old source.before bytes e).0, limit, few, length-take (text_len bytes + 1) bytes)))) (omega arith) (inr (calm_past_limit _ _ gave.else_none_failed))
+      some_trailing (old.line + 1) bytes (omega (arith, past.1, (known_some old source.before bytes e).0, limit, few, length-take (text_len bytes + 1) bytes)))) (omega arith) (inr (calm_past_limit _ _ gave.reads.else_none_failed))
 
 -- what is made of the text of a line
 pub read_of_line : {A : Type 0} (n line : ℕ) (result : Result A CertFault) (parsed : Result A TextKind) (fault : Option TextKind) (value : A) → result ≡ of_line (n + 1) parsed → parsed ≡ value_unless fault value → n ≡ line → result ≡ of_line (line + 1) (value_unless fault value)

@@ -1,8 +1,8 @@
 -- How lines of a certificate are read from a source.
-use Rattle.std.specs.Prelude.{◌≡◌, ◌⊎◌, ℕ, ◌+◌, ◌-◌, ◌*◌, ◌≤◌, List, length, nat_le, if◌then◌else◌, Result, Ok, Err, None, Some, IfSome, IfOk, IfErr, OnOk}
+use Rattle.std.specs.Prelude.{◌≡◌, ℕ, ◌+◌, ◌-◌, ◌*◌, ◌≤◌, List, length, nat_le, if◌then◌else◌, Result, Ok, Err, None, Some, IfSome, IfOk, IfErr, OnOk}
 use Rattle.std.specs.declared.option.Option.{Option}
 use Rattle.bound_io.specs.Devices.{Device, HasFailed}
-use Rattle.bound_io.specs.Reading.{LosesPrefix}
+use Rattle.bound_io.specs.Reading.{ReadsSource}
 use Rattle.bound_io.specs.Lines.{first_text, stands_in}
 use Rattle.bound_io.specs.Positions.{Position}
 use Rattle.bound_io.specs.declared.line_reader.LineFault.{LineFault}
@@ -82,10 +82,7 @@ pub record Reads {A : Type 0} (fault_of : List ℕ → Option CertFault) (count 
   pub within : IfErr result (IsWithin new.line)
   pub past : IfSome (known old source.before) (IsPast old new)
   pub taken : IsTaken old new source.before source.after
-  pub loses : LosesPrefix source.before source.after
-  pub later : source.faults_before ≤ source.faults_after
-  pub none_failed : OnOk result (source.faults_after ≡ source.faults_before)
-  pub else_none_failed : IfErr result (λ fault. (fault ≡ ReadFault) ⊎ (source.faults_after ≡ source.faults_before))
+  pub reads : ReadsSource ReadFault source result
 
 -- lines are read from the next one on, and their fault is told by its number
 abbrev pub ReadsNext : {A : Type 0} → (ℕ → List ℕ → Option CertFault) → ℕ → (List ℕ → A) → Position → Position → Device → Result A CertFault → Type 0

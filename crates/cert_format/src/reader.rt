@@ -1,7 +1,7 @@
 //! A reader of certificates.
-ghost use Rattle.std.specs.Prelude.{◌≡◌, ◌≢◌, ◌⊎◌, ◌+◌, ◌^◌, ◌<◌, ◌≤◌, IfOk, IfErr, IfSome, OnErr, OnOk, length, None, Err};
+ghost use Rattle.std.specs.Prelude.{◌≡◌, ◌≢◌, ◌+◌, ◌^◌, ◌<◌, ◌≤◌, IfOk, IfErr, IfSome, OnErr, OnOk, length, None, Err};
 ghost use Rattle.bound_io.specs.Devices.{seen};
-ghost use Rattle.bound_io.specs.Reading.{LosesPrefix};
+ghost use Rattle.bound_io.specs.Reading.{ReadsSource};
 ghost use Rattle.cache_model.specs.Certificates.{IsHeaderInRange, IsRecordInRange};
 ghost use Rattle.cert_format.specs.Lines.{IsPast, IsTaken, IsWithin, ReadsNext, known};
 ghost use Rattle.cert_format.specs.Finish.{finish_fault, lines_left};
@@ -129,10 +129,7 @@ impl CertReader {
         ensures past { IfSome (known self.old.lines (Q.left source.old)) (IsPast self.old.lines self.new.lines) }
         ensures taken { IsTaken self.old.lines self.new.lines (Q.left source.old) (Q.left source.new) }
         ensures ahead { length self.new.lines.held ≤ 65536 }
-        ensures source { LosesPrefix (Q.left source.old) (Q.left source.new) }
-        ensures later { Q.faults source.old ≤ Q.faults source.new }
-        ensures none_failed { OnOk result (Q.faults source.new ≡ Q.faults source.old) }
-        ensures else_none_failed { IfErr result (λ fault. (fault ≡ CertFault.ReadFault) ⊎ (Q.faults source.new ≡ Q.faults source.old)) }
+        ensures reads { ReadsSource CertFault.ReadFault (seen Q.left Q.faults source.old source.new) result }
     {
         if let Some(fault) = self.fault {
             return Err(fault);
@@ -162,10 +159,7 @@ impl CertReader {
         ensures past { IfSome (known self.old.lines (Q.left source.old)) (IsPast self.old.lines self.new.lines) }
         ensures taken { IsTaken self.old.lines self.new.lines (Q.left source.old) (Q.left source.new) }
         ensures ahead { length self.new.lines.held ≤ 65536 }
-        ensures source { LosesPrefix (Q.left source.old) (Q.left source.new) }
-        ensures later { Q.faults source.old ≤ Q.faults source.new }
-        ensures none_failed { OnOk result (Q.faults source.new ≡ Q.faults source.old) }
-        ensures else_none_failed { IfErr result (λ fault. (fault ≡ CertFault.ReadFault) ⊎ (Q.faults source.new ≡ Q.faults source.old)) }
+        ensures reads { ReadsSource CertFault.ReadFault (seen Q.left Q.faults source.old source.new) result }
     {
         if let Some(fault) = self.fault {
             return Err(fault);
@@ -193,10 +187,7 @@ impl CertReader {
         ensures past { IfSome (known self.old.lines (Q.left source.old)) (IsPast self.old.lines self.new.lines) }
         ensures taken { IsTaken self.old.lines self.new.lines (Q.left source.old) (Q.left source.new) }
         ensures ahead { length self.new.lines.held ≤ 65536 }
-        ensures source { LosesPrefix (Q.left source.old) (Q.left source.new) }
-        ensures later { Q.faults source.old ≤ Q.faults source.new }
-        ensures none_failed { OnOk result (Q.faults source.new ≡ Q.faults source.old) }
-        ensures else_none_failed { IfErr result (λ fault. (fault ≡ CertFault.ReadFault) ⊎ (Q.faults source.new ≡ Q.faults source.old)) }
+        ensures reads { ReadsSource CertFault.ReadFault (seen Q.left Q.faults source.old source.new) result }
     {
         if let Some(fault) = self.fault {
             return Err(fault);

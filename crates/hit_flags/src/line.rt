@@ -1,7 +1,7 @@
 //! The flags of a simulator, line by line.
-ghost use Rattle.std.specs.Prelude.{◌≡◌, ◌+◌, ◌≤◌, ◌^◌, ◌⊎◌, None, Some, IfOk, IfErr, OnOk};
+ghost use Rattle.std.specs.Prelude.{◌≡◌, ◌+◌, ◌≤◌, ◌^◌, None, Some, IfOk, IfErr, OnOk};
 ghost use Rattle.bound_io.specs.Devices.{seen};
-ghost use Rattle.bound_io.specs.Reading.{LosesPrefix};
+ghost use Rattle.bound_io.specs.Reading.{ReadsSource};
 ghost use Rattle.hit_flags.specs.Flags.{flag_of};
 ghost use Rattle.hit_flags.specs.Lines.{GivesFlag, IsAtItsEnd, IsCount, IsGoing, IsNextLine, ReadsFlag, StopsEnd, StopsTurn};
 ghost use Rattle.hit_flags.specs.Nearness.{GoesLine, IsAtTurn};
@@ -25,10 +25,7 @@ fn next_flag<H: Source>(lines: &mut LineReader, hits: &mut H) -> Result<Option<b
     requires going { IsGoing lines.old }
     requires few { lines.old.line ≤ 2 ^ 25 }
     ensures next { ReadsFlag lines.old lines.new (seen H.left H.faults hits.old hits.new) result }
-    ensures source { LosesPrefix (H.left hits.old) (H.left hits.new) }
-    ensures later { H.faults hits.old ≤ H.faults hits.new }
-    ensures none_failed { OnOk result (H.faults hits.new ≡ H.faults hits.old) }
-    ensures else_none_failed { IfErr result (λ fault. (fault ≡ FlagFault.ReadFault) ⊎ (H.faults hits.new ≡ H.faults hits.old)) }
+    ensures reads { ReadsSource FlagFault.ReadFault (seen H.left H.faults hits.old hits.new) result }
     ensures lines { GoesLine lines.old lines.new (seen H.left H.faults hits.old hits.new) }
     ensures turn { IfErr result (IsAtTurn (lines.old.line + 1)) }
 {
@@ -57,10 +54,7 @@ pub(crate) fn flag_for<H: Source>(lines: &mut LineReader, hits: &mut H) -> Resul
     ensures line { OnOk result (IsNextLine lines.old lines.new) }
     ensures stopped { IfErr result (StopsTurn lines.old (seen H.left H.faults hits.old hits.new)) }
     ensures count { IfErr result (IsCount lines.old.line (lines.old.line + 1)) }
-    ensures source { LosesPrefix (H.left hits.old) (H.left hits.new) }
-    ensures later { H.faults hits.old ≤ H.faults hits.new }
-    ensures none_failed { OnOk result (H.faults hits.new ≡ H.faults hits.old) }
-    ensures else_none_failed { IfErr result (λ fault. (fault ≡ FlagFault.ReadFault) ⊎ (H.faults hits.new ≡ H.faults hits.old)) }
+    ensures reads { ReadsSource FlagFault.ReadFault (seen H.left H.faults hits.old hits.new) result }
     ensures lines { GoesLine lines.old lines.new (seen H.left H.faults hits.old hits.new) }
     ensures turn { IfErr result (IsAtTurn (lines.old.line + 1)) }
 {
@@ -81,10 +75,7 @@ pub(crate) fn no_more<H: Source>(lines: &mut LineReader, hits: &mut H) -> Result
     ensures end { OnOk result (IsAtItsEnd lines.old lines.new (seen H.left H.faults hits.old hits.new)) }
     ensures stopped { IfErr result (StopsEnd lines.old (seen H.left H.faults hits.old hits.new)) }
     ensures count { IfErr result (IsCount (lines.old.line + 1) lines.old.line) }
-    ensures source { LosesPrefix (H.left hits.old) (H.left hits.new) }
-    ensures later { H.faults hits.old ≤ H.faults hits.new }
-    ensures none_failed { OnOk result (H.faults hits.new ≡ H.faults hits.old) }
-    ensures else_none_failed { IfErr result (λ fault. (fault ≡ FlagFault.ReadFault) ⊎ (H.faults hits.new ≡ H.faults hits.old)) }
+    ensures reads { ReadsSource FlagFault.ReadFault (seen H.left H.faults hits.old hits.new) result }
     ensures lines { GoesLine lines.old lines.new (seen H.left H.faults hits.old hits.new) }
     ensures turn { IfErr result (IsAtTurn (lines.old.line + 1)) }
 {

@@ -1,7 +1,7 @@
 //! Whole traces.
-ghost use Rattle.std.specs.Prelude.{◌≡◌, ◌≤◌, ◌<◌, ◌^◌, ◌⊎◌, Some, [], None, Err, length, IfOk, IfErr, OnOk, OnErr};
+ghost use Rattle.std.specs.Prelude.{◌≡◌, ◌≤◌, ◌<◌, ◌^◌, Some, [], None, Err, length, IfOk, IfErr, OnOk, OnErr};
 ghost use Rattle.bound_io.specs.Devices.{seen};
-ghost use Rattle.bound_io.specs.Reading.{LosesPrefix};
+ghost use Rattle.bound_io.specs.Reading.{ReadsSource};
 ghost use Rattle.cache_rules.specs.Stored.{with_request};
 ghost use Rattle.trace_any.specs.FirstLines.{HasLostThrough, StopsNoFurther};
 ghost use Rattle.trace_any.specs.Readings.{is_marked};
@@ -66,10 +66,7 @@ pub fn load<S: Source>(
     ensures format { reader.new.format ≡ reader.old.format }
     ensures limits { reader.new.limits ≡ reader.old.limits }
     ensures again { LoadsNoMore reader.old reader.new result (seen S.left S.faults source.old source.new) }
-    ensures source { LosesPrefix (S.left source.old) (S.left source.new) }
-    ensures later { S.faults source.old ≤ S.faults source.new }
-    ensures none_failed { OnOk result (S.faults source.new ≡ S.faults source.old) }
-    ensures else_none_failed { IfErr result (λ fault. (fault ≡ TraceFault.ReadFault) ⊎ (S.faults source.new ≡ S.faults source.old)) }
+    ensures reads { ReadsSource TraceFault.ReadFault (seen S.left S.faults source.old source.new) result }
     ensures no_further { reader.old.fault ≡ None → IfErr result (StopsNoFurther reader.old reader.new (seen S.left S.faults source.old source.new)) }
     ensures lost { reader.old ≡ fresh reader.old.format reader.old.limits → IfErr result (HasLostThrough reader.old.format reader.old.limits (seen S.left S.faults source.old source.new)) }
 {

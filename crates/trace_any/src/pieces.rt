@@ -1,11 +1,11 @@
 //! The next line of a trace, or its next record.
-ghost use Rattle.std.specs.Prelude.{◌≡◌, ◌≤◌, ◌<◌, ◌⊎◌, None, true, length, IfOk, IfErr, OnOk, IfSome, IfNone};
+ghost use Rattle.std.specs.Prelude.{◌≡◌, ◌≤◌, ◌<◌, None, true, length, IfOk, IfErr, IfSome, IfNone};
 ghost use Rattle.std.specs.Borrow.{sem};
 ghost use Rattle.std.specs.Io.BufRead.{Rests};
 ghost use Rattle.std.specs.Io.KnownBytes.{IsAtEnd};
 ghost use Rattle.bound_io.specs.Devices.{seen};
 ghost use Rattle.bound_io.specs.Positions.{known};
-ghost use Rattle.bound_io.specs.Reading.{LosesPrefix};
+ghost use Rattle.bound_io.specs.Reading.{ReadsSource};
 ghost use Rattle.bound_io.specs.contracts.line_reader.LineReader.{the_row};
 ghost use Rattle.trace_any.specs.NextPieces.{IsNextText, LeavesPiece, RefusesNext};
 
@@ -27,10 +27,7 @@ pub(crate) fn next_piece<'a, S: Source>(
     ensures short { IfOk result (λ found. IfSome found (λ text. length text.now ≤ 65535)) }
     ensures record { records ≡ true → IfOk result (λ found. IfSome found (λ text. length text.now ≤ 24)) }
     ensures refused { IfErr result (RefusesNext records lines.old (seen S.left S.faults source.old source.new)) }
-    ensures source { LosesPrefix (S.left source.old) (S.left source.new) }
-    ensures later { S.faults source.old ≤ S.faults source.new }
-    ensures none_failed { OnOk result (S.faults source.new ≡ S.faults source.old) }
-    ensures else_none_failed { IfErr result (λ fault. (fault ≡ LineFault.ReadFault) ⊎ (S.faults source.new ≡ S.faults source.old)) }
+    ensures reads { ReadsSource LineFault.ReadFault (seen S.left S.faults source.old source.new) result }
     ensures* after { sem 𝓛 (Rests the_row lines.entry (LeavesPiece records lines.old (seen S.left S.faults source.old source.new) result)) }
 {
     if !records {

@@ -1,7 +1,7 @@
 //! How far the reading of a trace has come.
-ghost use Rattle.std.specs.Prelude.{◌≡◌, ◌+◌, ◌-◌, ◌≤◌, ◌<◌, ◌^◌, ◌&&◌, ◌⊎◌, None, Some, Err, true, false, length, nat_lt, IfOk, IfErr, IfSome, OnOk, OnErr};
+ghost use Rattle.std.specs.Prelude.{◌≡◌, ◌+◌, ◌-◌, ◌≤◌, ◌<◌, ◌^◌, ◌&&◌, None, Some, Err, true, false, length, nat_lt, IfOk, IfErr, IfSome, OnOk, OnErr};
 ghost use Rattle.bound_io.specs.Devices.{IsUntouched, seen};
-ghost use Rattle.bound_io.specs.Reading.{LosesPrefix};
+ghost use Rattle.bound_io.specs.Reading.{ReadsSource};
 ghost use Rattle.std.specs.Option.{option_map};
 ghost use Rattle.freshness.specs.Stale.{can_end};
 ghost use Rattle.trace_lines.specs.Lines.{IsSpan};
@@ -204,10 +204,7 @@ impl Progress {
         ensures forgets_none { self.old.dropped ≤ self.new.dropped }
         ensures taken { TakesLine self.old self.new (seen S.left S.faults source.old source.new) result }
         ensures lines { IfOk result (λ more. more ≡ true → GoesNoFurtherFrom (S.left source.old) (λ s. s) self.old self.new) }
-        ensures source { LosesPrefix (S.left source.old) (S.left source.new) }
-        ensures later { S.faults source.old ≤ S.faults source.new }
-        ensures none_failed { OnOk result (S.faults source.new ≡ S.faults source.old) }
-        ensures else_none_failed { IfErr result (λ fault. (fault ≡ TraceFault.ReadFault) ⊎ (S.faults source.new ≡ S.faults source.old)) }
+        ensures reads { ReadsSource TraceFault.ReadFault (seen S.left S.faults source.old source.new) result }
         ensures no_further { IfErr result (StopsNoFurther self.old self.new (seen S.left S.faults source.old source.new)) }
         ensures memory { IfErr result (λ fault. fault ≡ TraceFault.NoMemory → NamesVolumes self.old.format) }
     {
@@ -280,10 +277,7 @@ impl Progress {
         ensures forgets_none { self.old.dropped ≤ self.new.dropped }
         ensures next { GivesRequest self.old self.new (seen S.left S.faults source.old source.new) result }
         ensures lines { IfOk result (λ found. IfSome found (GoesToRequest (S.left source.old) self.old self.new)) }
-        ensures source { LosesPrefix (S.left source.old) (S.left source.new) }
-        ensures later { S.faults source.old ≤ S.faults source.new }
-        ensures none_failed { OnOk result (S.faults source.new ≡ S.faults source.old) }
-        ensures else_none_failed { IfErr result (λ fault. (fault ≡ TraceFault.ReadFault) ⊎ (S.faults source.new ≡ S.faults source.old)) }
+        ensures reads { ReadsSource TraceFault.ReadFault (seen S.left S.faults source.old source.new) result }
         ensures no_further { IfErr result (StopsNoFurther self.old self.new (seen S.left S.faults source.old source.new)) }
         ensures untouched { 0 < self.old.ahead.count → IsUntouched (seen S.left S.faults source.old source.new) }
         ensures memory { IfErr result (λ fault. fault ≡ TraceFault.NoMemory → TakesMemory self.old.format) }

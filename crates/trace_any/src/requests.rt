@@ -1,7 +1,7 @@
 //! A reader of requests that keeps what is noted of them.
-ghost use Rattle.std.specs.Prelude.{◌≡◌, ◌+◌, ◌-◌, ◌≤◌, ◌<◌, ◌^◌, ◌&&◌, ◌⊎◌, true, None, Some, Err, IfOk, IfErr, IfSome, OnOk, OnErr, length, nat_lt};
+ghost use Rattle.std.specs.Prelude.{◌≡◌, ◌+◌, ◌-◌, ◌≤◌, ◌<◌, ◌^◌, ◌&&◌, true, None, Some, Err, IfOk, IfErr, IfSome, OnOk, OnErr, length, nat_lt};
 ghost use Rattle.bound_io.specs.Devices.{IsUntouched, seen};
-ghost use Rattle.bound_io.specs.Reading.{LosesPrefix};
+ghost use Rattle.bound_io.specs.Reading.{ReadsSource};
 ghost use Rattle.freshness.specs.Seen.{HasRoomForOne, noted_of, with_noted};
 ghost use Rattle.trace_any.specs.Readings.{IsFormat, TakesMemory, is_marked};
 
@@ -142,10 +142,7 @@ impl RequestReader {
         ensures format { self.new.format ≡ self.old.format }
         ensures few { (self.new.limits ≡ self.old.limits) × (self.new.given ≤ self.new.limits.requests) × (self.new.limits.requests < 2 ^ 32) }
         ensures ahead { length self.new.lines.held ≤ 65536 }
-        ensures source { LosesPrefix (S.left source.old) (S.left source.new) }
-        ensures later { S.faults source.old ≤ S.faults source.new }
-        ensures none_failed { OnOk result (S.faults source.new ≡ S.faults source.old) }
-        ensures else_none_failed { IfErr result (λ fault. (fault ≡ TraceFault.ReadFault) ⊎ (S.faults source.new ≡ S.faults source.old)) }
+        ensures reads { ReadsSource TraceFault.ReadFault (seen S.left S.faults source.old source.new) result }
         ensures no_further { self.old.fault ≡ None → IfErr result (StopsNoFurther self.old self.new (seen S.left S.faults source.old source.new)) }
         ensures untouched { self.old.fault ≡ None → 0 < self.old.ahead.count → IsUntouched (seen S.left S.faults source.old source.new) }
         ensures memory { self.old.fault ≡ None → IfErr result (λ fault. fault ≡ TraceFault.NoMemory → TakesMemory self.old.format) }

@@ -1,8 +1,8 @@
 //! A sweep over all that a source has left.
-ghost use Rattle.std.specs.Prelude.{◌≡◌, List, Bool, [], IfOk, IfErr, OnOk};
+ghost use Rattle.std.specs.Prelude.{◌≡◌, List, Bool, [], IfOk, IfErr};
 ghost use Rattle.area_sums.specs.Groups.{AreCapacities};
 ghost use Rattle.bound_io.specs.Devices.{seen};
-ghost use Rattle.bound_io.specs.Reading.{LosesPrefix};
+ghost use Rattle.bound_io.specs.Reading.{ReadsSource};
 ghost use Rattle.sweep_bounds.specs.Sweep.{HasSeen};
 ghost use Rattle.trace_any.specs.FirstLines.{HasLostThrough};
 ghost use Rattle.trace_any.specs.Loads.{IsRefusedWithin, pass_limits};
@@ -46,8 +46,7 @@ fn sweep_all<S: Source>(
     ensures swept { IfOk result (HasSweptAll warmup stream.old stream.new (seen S.left S.faults source.old source.new) bounds.new) }
     ensures refused { IfErr result (RefusesTrace stream.old (seen S.left S.faults source.old source.new)) }
     ensures lost { IfErr result (HasLostThrough stream.old.format stream.old.limits (seen S.left S.faults source.old source.new)) }
-    ensures source { LosesPrefix (S.left source.old) (S.left source.new) }
-    ensures none_failed { OnOk result (S.faults source.new ≡ S.faults source.old) }
+    ensures reads { ReadsSource TraceFault.ReadFault (seen S.left S.faults source.old source.new) result }
 {
     let mut tally = Tally::NONE;
     while let Some(object) = stream.next(alloc, source)? {
@@ -79,8 +78,7 @@ pub fn sweep<S: Source>(
     requires capacities { AreCapacities capacities.now }
     ensures swept { IfOk result (IsSwept format capacities.now warmup delay (seen S.left S.faults source.old source.new)) }
     ensures refused { IfErr result (IsNotSwept format (seen S.left S.faults source.old source.new)) }
-    ensures source { LosesPrefix (S.left source.old) (S.left source.new) }
-    ensures none_failed { OnOk result (S.faults source.new ≡ S.faults source.old) }
+    ensures reads { ReadsSource TraceFault.ReadFault (seen S.left S.faults source.old source.new) result }
 {
     let mut stream = RequestStream::new(alloc, format, Limits::of_one_pass())?;
     let mut bounds = SweepBounds::new(alloc, capacities, warmup, delay)?;

@@ -25,7 +25,7 @@ pub returns-in-Ok-clause-refused : goal.returns-in-Ok-clause-refused
 returns-in-Ok-clause-refused g c = tt
 
 pub returns-in-Ok-clause-source : goal.returns-in-Ok-clause-source
-returns-in-Ok-clause-source g c = c.load.ensures.source
+returns-in-Ok-clause-source g c = c.load.ensures.reads.source
 
 pub returns-in-Err-clause-loaded : goal.returns-in-Err-clause-loaded
 returns-in-Err-clause-loaded g c = tt
@@ -41,7 +41,7 @@ returns-in-Err-clause-refused g c =
     rw c.refusal_of.ensures (not_loaded c.args.format (g.T.Source.left c.args.trace.now) (g.T.Source.left c.load.new.source) _ _ c.in-Err.fault why lost)
 
 pub returns-in-Err-clause-source : goal.returns-in-Err-clause-source
-returns-in-Err-clause-source g c = c.load.ensures.source
+returns-in-Err-clause-source g c = c.load.ensures.reads.source
 
 pub returns-in_err-reader-clause-loaded : goal.returns-in_err-reader-clause-loaded
 returns-in_err-reader-clause-loaded g c = rw (err_from_is_err_and c.from_residual.result c.from_residual.ensures.1).1 tt
@@ -52,4 +52,4 @@ returns-in_err-reader-clause-refused g c =
     rw (p.1, p.2) tt
 
 pub returns-in-Ok-clause-none_failed : goal.returns-in-Ok-clause-none_failed
-returns-in-Ok-clause-none_failed g c = rw c.in-Ok.is at c.load.ensures.none_failed
+returns-in-Ok-clause-none_failed g c = rw c.in-Ok.is at c.load.ensures.reads.none_failed

@@ -49,12 +49,12 @@ loop-init g c =
       header_rewritten before after x z end h (bytes_written c.begin.new.sink) c.in_ok-header.ensures.range read (c.in_ok-header.ensures.fault none)
           (subst (λ (r : lines.Reader). IfSome (known r.lines before) (IsPast r.lines end.lines)) new c.in_ok-header.ensures.past)
           (subst (λ (r : lines.Reader). IsTaken r.lines end.lines before after) new c.in_ok-header.ensures.taken)
-          c.in_ok-header.ensures.source c.in_ok-header.ensures.later
+          c.in_ok-header.ensures.reads.source c.in_ok-header.ensures.reads.later
           (all ∙ ap (λ s. s ++ text_of (header_lines c.upgraded.result)) c.requires.empty ∙ ap (λ k. text_of (header_lines k)) c.upgraded.ensures),
       ap (λ (w : Writer). w.version) first ∙ ap (λ (k : Header). k.version) c.upgraded.ensures,
       ap (λ (w : Writer). w.price) first ∙ sym read.3,
       refl,
-      c.in_ok-header.ensures.none_failed,
+      c.in_ok-header.ensures.reads.none_failed,
     )
 
 pub next_record-requires : goal.next_record-requires
@@ -68,13 +68,13 @@ returns-in_err-entry-clause-refused g c =
     (record_refused (g.Q.Source.left c.args.source.now) (g.Q.Source.left c.loop.source) (g.Q.Source.left c.next_record.new.source)
     (g.Q.Source.faults c.args.source.now) (g.Q.Source.faults c.loop.source) (g.Q.Source.faults c.next_record.new.source)
     c.in_ok-header.header c.loop.reader c.next_record.new.self (bytes_written c.loop.sink) c.loop.invariant.0 c.loop.invariant.1
-    c.in_err-entry.field-0.0 (c.in_err-entry.ensures.read none) (c.in_err-entry.ensures.within none) c.in_err-entry.ensures.past c.in_err-entry.ensures.ahead c.in_err-entry.ensures.taken c.in_err-entry.ensures.source)
+    c.in_err-entry.field-0.0 (c.in_err-entry.ensures.read none) (c.in_err-entry.ensures.within none) c.in_err-entry.ensures.past c.in_err-entry.ensures.ahead c.in_err-entry.ensures.taken c.in_err-entry.ensures.reads.source)
 
 pub returns-in_err-entry-clause-source : goal.returns-in_err-entry-clause-source
-returns-in_err-entry-clause-source g c = loses_both (g.Q.Source.left c.args.source.now) (g.Q.Source.left c.loop.source) (g.Q.Source.left c.next_record.new.source) c.loop.invariant.1.loses c.in_err-entry.ensures.source
+returns-in_err-entry-clause-source g c = loses_both (g.Q.Source.left c.args.source.now) (g.Q.Source.left c.loop.source) (g.Q.Source.left c.next_record.new.source) c.loop.invariant.1.loses c.in_err-entry.ensures.reads.source
 
 pub returns-in_err-grown-clause-source : goal.returns-in_err-grown-clause-source
-returns-in_err-grown-clause-source g c = loses_both (g.Q.Source.left c.args.source.now) (g.Q.Source.left c.loop.source) (g.Q.Source.left c.next_record.new.source) c.loop.invariant.1.loses c.in_ok-entry.ensures.source
+returns-in_err-grown-clause-source g c = loses_both (g.Q.Source.left c.args.source.now) (g.Q.Source.left c.loop.source) (g.Q.Source.left c.next_record.new.source) c.loop.invariant.1.loses c.in_ok-entry.ensures.reads.source
 
 pub loop-preserved : goal.loop-preserved
 loop-preserved g c =
@@ -89,12 +89,12 @@ loop-preserved g c =
       record_rewritten (g.Q.Source.left c.args.source.now) (g.Q.Source.left c.loop.source) (g.Q.Source.left c.next_record.new.source)
           (g.Q.Source.faults c.args.source.now) (g.Q.Source.faults c.loop.source) (g.Q.Source.faults c.next_record.new.source)
           c.in_ok-header.header c.loop.reader c.next_record.new.self (bytes_written c.loop.sink) c.loop.invariant.0 c.loop.invariant.1
-          r (bytes_written c.push.new.sink) c.in_ok-entry.ensures.range read (c.in_ok-entry.ensures.fault none) c.in_ok-entry.ensures.past c.in_ok-entry.ensures.taken c.in_ok-entry.ensures.source c.in_ok-entry.ensures.later
+          r (bytes_written c.push.new.sink) c.in_ok-entry.ensures.range read (c.in_ok-entry.ensures.fault none) c.in_ok-entry.ensures.past c.in_ok-entry.ensures.taken c.in_ok-entry.ensures.reads.source c.in_ok-entry.ensures.reads.later
           (rw (c.loop.invariant.2, c.loop.invariant.3) at all),
       ap (λ (w : Writer). w.version) after ∙ c.loop.invariant.2,
       ap (λ (w : Writer). w.price) after ∙ sym read.3,
       omega (arith, length-append c.loop.invariant.0 (r ∷ []), c.loop.invariant.4),
-      c.in_ok-entry.ensures.none_failed ∙ c.loop.invariant.5,
+      c.in_ok-entry.ensures.reads.none_failed ∙ c.loop.invariant.5,
     )
 
 pub finish_text-requires : goal.finish_text-requires
@@ -112,13 +112,13 @@ returns-in_err-finish_text-clause-refused g c =
     (record_refused (g.Q.Source.left c.args.source.now) (g.Q.Source.left c.loop.source) (g.Q.Source.left c.finish_text.new.source)
     (g.Q.Source.faults c.args.source.now) (g.Q.Source.faults c.loop.source) (g.Q.Source.faults c.finish_text.new.source)
     c.in_ok-header.header c.loop.reader c.finish_text.new.self (bytes_written c.loop.sink) c.loop.invariant.0 c.loop.invariant.1
-    c.in_err-finish_text.field-0.0 (c.in_err-finish_text.ensures.read none) (c.in_err-finish_text.ensures.within none) c.in_err-finish_text.ensures.past c.in_err-finish_text.ensures.ahead c.in_err-finish_text.ensures.taken c.in_err-finish_text.ensures.source)
+    c.in_err-finish_text.field-0.0 (c.in_err-finish_text.ensures.read none) (c.in_err-finish_text.ensures.within none) c.in_err-finish_text.ensures.past c.in_err-finish_text.ensures.ahead c.in_err-finish_text.ensures.taken c.in_err-finish_text.ensures.reads.source)
 
 pub returns-in_err-finish_text-clause-source : goal.returns-in_err-finish_text-clause-source
-returns-in_err-finish_text-clause-source g c = loses_both (g.Q.Source.left c.args.source.now) (g.Q.Source.left c.loop.source) (g.Q.Source.left c.finish_text.new.source) c.loop.invariant.1.loses c.in_err-finish_text.ensures.source
+returns-in_err-finish_text-clause-source g c = loses_both (g.Q.Source.left c.args.source.now) (g.Q.Source.left c.loop.source) (g.Q.Source.left c.finish_text.new.source) c.loop.invariant.1.loses c.in_err-finish_text.ensures.reads.source
 
 pub returns-in_err-grown-2-clause-source : goal.returns-in_err-grown-2-clause-source
-returns-in_err-grown-2-clause-source g c = loses_both (g.Q.Source.left c.args.source.now) (g.Q.Source.left c.loop.source) (g.Q.Source.left c.finish_text.new.source) c.loop.invariant.1.loses c.in_ok-finish_text.ensures.source
+returns-in_err-grown-2-clause-source g c = loses_both (g.Q.Source.left c.args.source.now) (g.Q.Source.left c.loop.source) (g.Q.Source.left c.finish_text.new.source) c.loop.invariant.1.loses c.in_ok-finish_text.ensures.reads.source
 
 pub returns-clause-rewritten : goal.returns-clause-rewritten
 returns-clause-rewritten g c =
@@ -132,7 +132,7 @@ returns-clause-rewritten g c =
     (bytes_written c.end.new.sink) full (c.in_ok-finish_text.ensures.read none) all
 
 pub returns-clause-source : goal.returns-clause-source
-returns-clause-source g c = loses_both (g.Q.Source.left c.args.source.now) (g.Q.Source.left c.loop.source) (g.Q.Source.left c.finish_text.new.source) c.loop.invariant.1.loses c.in_ok-finish_text.ensures.source
+returns-clause-source g c = loses_both (g.Q.Source.left c.args.source.now) (g.Q.Source.left c.loop.source) (g.Q.Source.left c.finish_text.new.source) c.loop.invariant.1.loses c.in_ok-finish_text.ensures.reads.source
 
 pub returns-clause-none_failed : goal.returns-clause-none_failed
-returns-clause-none_failed g c = c.in_ok-finish_text.ensures.none_failed ∙ c.loop.invariant.5
+returns-clause-none_failed g c = c.in_ok-finish_text.ensures.reads.none_failed ∙ c.loop.invariant.5

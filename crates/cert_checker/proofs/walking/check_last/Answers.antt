@@ -48,7 +48,7 @@ returns-in-Ok-clause-checked g c = λ start reader left faults h given records c
     let e = c.in_ok-finish_text.ensures in
     let now : Inputs = inputs reader left faults c.args.cert.now (g.Q.Source.left c.args.certificate.now) (g.Q.Source.faults c.args.certificate.now) in
     let end : Inputs = inputs reader left faults c.finish_text.new.self (g.Q.Source.left c.finish_text.new.source) (g.Q.Source.faults c.finish_text.new.source) in
-    passes start h given records now c.args.checker.now checked_all full end refl e.ahead e.past (e.read s.cert_fault).2 (e.read s.cert_fault).0 refl refl (record { trace = refl; certificate = e.none_failed }) c.in-Ok.verdict (c.in-Ok.ensures h given.fills given.objects records checked_all.stands)
+    passes start h given records now c.args.checker.now checked_all full end refl e.ahead e.past (e.read s.cert_fault).2 (e.read s.cert_fault).0 refl refl (record { trace = refl; certificate = e.reads.none_failed }) c.in-Ok.verdict (c.in-Ok.ensures h given.fills given.objects records checked_all.stands)
 
 pub returns-in-Err-clause-checked : goal.returns-in-Err-clause-checked
 returns-in-Err-clause-checked g c = λ start reader left faults h given records checked_all.
@@ -77,23 +77,21 @@ returns-in-Ok-clause-taken g c = c.in_ok-finish_text.ensures.taken
 pub returns-in-Err-clause-taken : goal.returns-in-Err-clause-taken
 returns-in-Err-clause-taken g c = c.in_ok-finish_text.ensures.taken
 
-pub returns-in_err-finish_text-clause-source : goal.returns-in_err-finish_text-clause-source
-returns-in_err-finish_text-clause-source g c = c.in_err-finish_text.ensures.source
+pub returns-in_err-finish_text-clause-reads : goal.returns-in_err-finish_text-clause-reads
+returns-in_err-finish_text-clause-reads g c =
+    let p = err_from_is_err_and c.from_residual.result c.from_residual.ensures.1 in
+    let r = c.in_err-finish_text.ensures.reads in
+    rw (p.1, p.2) record { source = r.source; later = r.later; none_failed = tt; else_none_failed = calm_text c.in_err-finish_text.field-0.0 _ _ r.else_none_failed }
 
-pub returns-in_err-finish_text-clause-later : goal.returns-in_err-finish_text-clause-later
-returns-in_err-finish_text-clause-later g c = c.in_err-finish_text.ensures.later
+pub returns-in-Ok-clause-reads : goal.returns-in-Ok-clause-reads
+returns-in-Ok-clause-reads g c =
+    let r = c.in_ok-finish_text.ensures.reads in
+    record { source = r.source; later = r.later; none_failed = r.none_failed; else_none_failed = tt }
 
-pub returns-in-Ok-clause-source : goal.returns-in-Ok-clause-source
-returns-in-Ok-clause-source g c = c.in_ok-finish_text.ensures.source
-
-pub returns-in-Ok-clause-later : goal.returns-in-Ok-clause-later
-returns-in-Ok-clause-later g c = c.in_ok-finish_text.ensures.later
-
-pub returns-in-Err-clause-source : goal.returns-in-Err-clause-source
-returns-in-Err-clause-source g c = c.in_ok-finish_text.ensures.source
-
-pub returns-in-Err-clause-later : goal.returns-in-Err-clause-later
-returns-in-Err-clause-later g c = c.in_ok-finish_text.ensures.later
+pub returns-in-Err-clause-reads : goal.returns-in-Err-clause-reads
+returns-in-Err-clause-reads g c =
+    let r = c.in_ok-finish_text.ensures.reads in
+    record { source = r.source; later = r.later; none_failed = tt; else_none_failed = inr r.none_failed }
 
 pub overflow_add-end : goal.overflow_add-end
 overflow_add-end g c =
@@ -114,11 +112,3 @@ returns-in-Ok-clause-kept g c = (refl, c.in_ok-finish_text.ensures.fault c.requi
 
 pub returns-in-Err-clause-kept : goal.returns-in-Err-clause-kept
 returns-in-Err-clause-kept g c = kept_none _ _ _ refl (c.in_ok-finish_text.ensures.fault c.requires.in_step.3.cert_fault) tt
-
-pub returns-in_err-finish_text-clause-else_none_failed : goal.returns-in_err-finish_text-clause-else_none_failed
-returns-in_err-finish_text-clause-else_none_failed g c =
-    let p = err_from_is_err_and c.from_residual.result c.from_residual.ensures.1 in
-    rw (p.1, p.2) (calm_text c.in_err-finish_text.field-0.0 _ _ c.in_err-finish_text.ensures.else_none_failed)
-
-pub returns-in-Err-clause-else_none_failed : goal.returns-in-Err-clause-else_none_failed
-returns-in-Err-clause-else_none_failed g c = inr c.in_ok-finish_text.ensures.none_failed

@@ -30,7 +30,7 @@ returns-in_default-clause-checked g c = λ start h given records checked.
     let now : Inputs = seen_inputs g.T.Source.left g.T.Source.faults g.Q.Source.left g.Q.Source.faults c.args.reader.now c.args.trace.now c.args.cert.now c.args.certificate.now in
     let end : Inputs = seen_inputs g.T.Source.left g.T.Source.faults g.Q.Source.left g.Q.Source.faults c.next.new.self c.next.new.source c.args.cert.now c.args.certificate.now in
     end_trace start h given records now c.args.checker.now checked end (rw c.in_default.is at c.in_ok-object.ensures.next c.requires.in_step.trace_fault) refl refl
-    (record { trace = c.in_ok-object.ensures.none_failed ∙ checked.calm.trace; certificate = checked.calm.certificate })
+    (record { trace = c.in_ok-object.ensures.reads.none_failed ∙ checked.calm.trace; certificate = checked.calm.certificate })
 
 pub returns-then-read-header-clause-checked : goal.returns-then-read-header-clause-checked
 returns-then-read-header-clause-checked g c = λ start h given records checked.
@@ -88,7 +88,7 @@ returns-clause-checked g c = λ start h given records checked.
     let read = e.read c.requires.in_step.cert_fault in
     goes_further start h given records now c.args.checker.now checked c.in-Some.object c.next.new.self (g.T.Source.left c.next.new.source) c.in_ok-object.ensures.format next.1 near c.in_ok-object.ensures.ahead c.in_ok-entry.entry (line (record_line c.args.cert.now.version c.args.cert.now.price c.in_ok-entry.entry)) end read.4 read.5 e.past c.step.new.checker refl refl
     (c.in_ok-step.ensures.stepped c.next.new.self h given records c.last_fills-only.ensures (marked_now given checked.marked c.in_ok-object.ensures.format) checked.stands)
-    (record { trace = c.in_ok-object.ensures.none_failed ∙ checked.calm.trace; certificate = e.none_failed ∙ checked.calm.certificate })
+    (record { trace = c.in_ok-object.ensures.reads.none_failed ∙ checked.calm.trace; certificate = e.reads.none_failed ∙ checked.calm.certificate })
 
 pub returns-clause-in_step : goal.returns-clause-in_step
 returns-clause-in_step g c =
@@ -169,40 +169,40 @@ pub returns-clause-taken : goal.returns-clause-taken
 returns-clause-taken g c = c.in_ok-entry.ensures.taken
 
 pub returns-in_err-object-clause-trace : goal.returns-in_err-object-clause-trace
-returns-in_err-object-clause-trace g c = (c.in_err-object.ensures.source, c.in_err-object.ensures.later, c.in_err-object.ensures.ahead)
+returns-in_err-object-clause-trace g c = (c.in_err-object.ensures.reads.source, c.in_err-object.ensures.reads.later, c.in_err-object.ensures.ahead)
 
 pub returns-in_err-object-clause-cert : goal.returns-in_err-object-clause-cert
 returns-in_err-object-clause-cert g c = (keeps (g.Q.Source.left c.args.certificate.now), omega arith, c.requires.in_step.held)
 
 pub returns-in_default-clause-trace : goal.returns-in_default-clause-trace
-returns-in_default-clause-trace g c = (c.in_ok-object.ensures.source, c.in_ok-object.ensures.later, c.in_ok-object.ensures.ahead)
+returns-in_default-clause-trace g c = (c.in_ok-object.ensures.reads.source, c.in_ok-object.ensures.reads.later, c.in_ok-object.ensures.ahead)
 
 pub returns-in_default-clause-cert : goal.returns-in_default-clause-cert
 returns-in_default-clause-cert g c = (keeps (g.Q.Source.left c.args.certificate.now), omega arith, c.requires.in_step.held)
 
 pub returns-then-read-header-clause-trace : goal.returns-then-read-header-clause-trace
-returns-then-read-header-clause-trace g c = (c.in_ok-object.ensures.source, c.in_ok-object.ensures.later, c.in_ok-object.ensures.ahead)
+returns-then-read-header-clause-trace g c = (c.in_ok-object.ensures.reads.source, c.in_ok-object.ensures.reads.later, c.in_ok-object.ensures.ahead)
 
 pub returns-then-read-header-clause-cert : goal.returns-then-read-header-clause-cert
 returns-then-read-header-clause-cert g c = (keeps (g.Q.Source.left c.args.certificate.now), omega arith, c.requires.in_step.held)
 
 pub returns-in_err-entry-clause-trace : goal.returns-in_err-entry-clause-trace
-returns-in_err-entry-clause-trace g c = (c.in_ok-object.ensures.source, c.in_ok-object.ensures.later, c.in_ok-object.ensures.ahead)
+returns-in_err-entry-clause-trace g c = (c.in_ok-object.ensures.reads.source, c.in_ok-object.ensures.reads.later, c.in_ok-object.ensures.ahead)
 
 pub returns-in_err-entry-clause-cert : goal.returns-in_err-entry-clause-cert
-returns-in_err-entry-clause-cert g c = (c.in_err-entry.ensures.source, c.in_err-entry.ensures.later, c.in_err-entry.ensures.ahead)
+returns-in_err-entry-clause-cert g c = (c.in_err-entry.ensures.reads.source, c.in_err-entry.ensures.reads.later, c.in_err-entry.ensures.ahead)
 
 pub returns-in_err-step-clause-trace : goal.returns-in_err-step-clause-trace
-returns-in_err-step-clause-trace g c = (c.in_ok-object.ensures.source, c.in_ok-object.ensures.later, c.in_ok-object.ensures.ahead)
+returns-in_err-step-clause-trace g c = (c.in_ok-object.ensures.reads.source, c.in_ok-object.ensures.reads.later, c.in_ok-object.ensures.ahead)
 
 pub returns-in_err-step-clause-cert : goal.returns-in_err-step-clause-cert
-returns-in_err-step-clause-cert g c = (c.in_ok-entry.ensures.source, c.in_ok-entry.ensures.later, c.in_ok-entry.ensures.ahead)
+returns-in_err-step-clause-cert g c = (c.in_ok-entry.ensures.reads.source, c.in_ok-entry.ensures.reads.later, c.in_ok-entry.ensures.ahead)
 
 pub returns-clause-trace : goal.returns-clause-trace
-returns-clause-trace g c = (c.in_ok-object.ensures.source, c.in_ok-object.ensures.later, c.in_ok-object.ensures.ahead)
+returns-clause-trace g c = (c.in_ok-object.ensures.reads.source, c.in_ok-object.ensures.reads.later, c.in_ok-object.ensures.ahead)
 
 pub returns-clause-cert : goal.returns-clause-cert
-returns-clause-cert g c = (c.in_ok-entry.ensures.source, c.in_ok-entry.ensures.later, c.in_ok-entry.ensures.ahead)
+returns-clause-cert g c = (c.in_ok-entry.ensures.reads.source, c.in_ok-entry.ensures.reads.later, c.in_ok-entry.ensures.ahead)
 
 pub returns-in_default-clause-in_step : goal.returns-in_default-clause-in_step
 returns-in_default-clause-in_step g c =
@@ -263,17 +263,17 @@ returns-clause-kept g c = (c.in_ok-object.ensures.fault c.requires.in_step.trace
 pub returns-in_err-object-clause-else_none_failed : goal.returns-in_err-object-clause-else_none_failed
 returns-in_err-object-clause-else_none_failed g c =
     let p = err_from_is_err_and c.from_residual.result c.from_residual.ensures.1 in
-    rw (p.1, p.2) (calm_trace c.in_err-object.field-0.0 _ _ c.in_err-object.ensures.else_none_failed, inr refl)
+    rw (p.1, p.2) (calm_trace c.in_err-object.field-0.0 _ _ c.in_err-object.ensures.reads.else_none_failed, inr refl)
 
 pub returns-then-read-header-clause-else_none_failed : goal.returns-then-read-header-clause-else_none_failed
-returns-then-read-header-clause-else_none_failed g c = (inr c.in_ok-object.ensures.none_failed, inr refl)
+returns-then-read-header-clause-else_none_failed g c = (inr c.in_ok-object.ensures.reads.none_failed, inr refl)
 
 pub returns-in_err-entry-clause-else_none_failed : goal.returns-in_err-entry-clause-else_none_failed
 returns-in_err-entry-clause-else_none_failed g c =
     let p = err_from_is_err_and c.from_residual-in_err-entry.result c.from_residual-in_err-entry.ensures.1 in
-    rw (p.1, p.2) (inr c.in_ok-object.ensures.none_failed, calm_text c.in_err-entry.field-0.0 _ _ c.in_err-entry.ensures.else_none_failed)
+    rw (p.1, p.2) (inr c.in_ok-object.ensures.reads.none_failed, calm_text c.in_err-entry.field-0.0 _ _ c.in_err-entry.ensures.reads.else_none_failed)
 
 pub returns-in_err-step-clause-else_none_failed : goal.returns-in_err-step-clause-else_none_failed
 returns-in_err-step-clause-else_none_failed g c =
     let p = err_from_is_err_and c.from_residual-in_err-step.result c.from_residual-in_err-step.ensures.1 in
-    rw (p.1, p.2) (inr c.in_ok-object.ensures.none_failed, inr c.in_ok-entry.ensures.none_failed)
+    rw (p.1, p.2) (inr c.in_ok-object.ensures.reads.none_failed, inr c.in_ok-entry.ensures.reads.none_failed)

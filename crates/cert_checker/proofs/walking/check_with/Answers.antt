@@ -40,7 +40,7 @@ pub returns-in_err-header-clause-trace : goal.returns-in_err-header-clause-trace
 returns-in_err-header-clause-trace g c = (keeps (g.T.Source.left c.args.trace.now), omega arith, omega (arith, ap (λ r. length r.lines.held) c.requires.fresh_reader))
 
 pub returns-in_err-header-clause-cert : goal.returns-in_err-header-clause-cert
-returns-in_err-header-clause-cert g c = (c.in_err-header.ensures.source, c.in_err-header.ensures.later)
+returns-in_err-header-clause-cert g c = (c.in_err-header.ensures.reads.source, c.in_err-header.ensures.reads.later)
 
 pub returns-in_err-checker : goal.returns-in_err-checker
 returns-in_err-checker g c = absurd (false≢true c.in_err-checker.ensures.succeeds)
@@ -64,12 +64,12 @@ loop-checker-init g c =
         some = (record { objects = []; fills = [] }, [], none_marked (is_marked c.args.reader.now.format), subst (λ k. StandsFor k [] [] [] c.in_ok-checker.checker) (sym st.header) st);
       };
       header = sym st.header;
-      kept = (record { objects = []; fills = [] }, [], c.requires.nothing, opens start c.requires.fresh_reader c.requires.fresh_cert middle e.past c.in_ok-header.header c.in_ok-checker.checker read refl refl st (record { trace = refl; certificate = e.none_failed }));
+      kept = (record { objects = []; fills = [] }, [], c.requires.nothing, opens start c.requires.fresh_reader c.requires.fresh_cert middle e.past c.in_ok-header.header c.in_ok-checker.checker read refl refl st (record { trace = refl; certificate = e.reads.none_failed }));
       trace_source = keeps (g.T.Source.left c.args.trace.now);
       trace_later = omega arith;
       taken = e.taken;
-      cert_source = e.source;
-      cert_later = e.later;
+      cert_source = e.reads.source;
+      cert_later = e.reads.later;
     }
 
 pub loop-checker-preserved : goal.loop-checker-preserved
@@ -166,7 +166,7 @@ pub returns-clause-cert : goal.returns-clause-cert
 returns-clause-cert g c =
     let i = c.loop-checker.invariant in
     let e = c.check_next.ensures in
-    (loses_both (g.Q.Source.left c.args.certificate.now) (g.Q.Source.left c.check_next.new.certificate) (g.Q.Source.left c.check_last.new.certificate) (loses_both (g.Q.Source.left c.args.certificate.now) (g.Q.Source.left c.loop-checker.certificate) (g.Q.Source.left c.check_next.new.certificate) i.cert_source e.cert.0) c.check_last.ensures.source, omega (arith, i.cert_later, e.cert.1, c.check_last.ensures.later))
+    (loses_both (g.Q.Source.left c.args.certificate.now) (g.Q.Source.left c.check_next.new.certificate) (g.Q.Source.left c.check_last.new.certificate) (loses_both (g.Q.Source.left c.args.certificate.now) (g.Q.Source.left c.loop-checker.certificate) (g.Q.Source.left c.check_next.new.certificate) i.cert_source e.cert.0) c.check_last.ensures.reads.source, omega (arith, i.cert_later, e.cert.1, c.check_last.ensures.reads.later))
 
 pub returns-clause-taken : goal.returns-clause-taken
 returns-clause-taken g c =
@@ -190,7 +190,7 @@ returns-clause-checked g c =
 pub returns-in_err-header-clause-else_none_failed : goal.returns-in_err-header-clause-else_none_failed
 returns-in_err-header-clause-else_none_failed g c =
     let p = err_from_is_err_and c.from_residual.result c.from_residual.ensures.1 in
-    rw (p.1, p.2) (inr refl, calm_text c.in_err-header.field-0.0 _ _ c.in_err-header.ensures.else_none_failed)
+    rw (p.1, p.2) (inr refl, calm_text c.in_err-header.field-0.0 _ _ c.in_err-header.ensures.reads.else_none_failed)
 
 pub returns-in_err-object-clause-else_none_failed : goal.returns-in_err-object-clause-else_none_failed
 returns-in_err-object-clause-else_none_failed g c =
@@ -214,4 +214,4 @@ returns-clause-else_none_failed g c =
     let i = c.loop-checker.invariant in
     let all = rw c.in_default.is at (c.in_ok-object.ensures.checked start c.in_ok-header.header i.kept.0 i.kept.1 i.kept.3) in
     let end : Inputs = seen_inputs g.T.Source.left g.T.Source.faults g.Q.Source.left g.Q.Source.faults c.check_next.new.reader c.check_next.new.trace c.check_last.new.cert c.check_last.new.certificate in
-    calm_last start end (g.Q.Source.faults c.check_next.new.certificate) c.check_last.result all.calm.trace all.calm.certificate c.check_last.ensures.else_none_failed
+    calm_last start end (g.Q.Source.faults c.check_next.new.certificate) c.check_last.result all.calm.trace all.calm.certificate c.check_last.ensures.reads.else_none_failed

@@ -8,6 +8,6 @@ pub returns : goal.returns
 returns g c =
     let f = c.next_whole_line.ensures in
     let gave : Gave c.args.lines.now c.next_whole_line.follows.lender-at-none (device (g.S.Source.left c.args.source.now) (g.S.Source.left c.next_whole_line.new.source) (g.S.Source.faults c.args.source.now) (g.S.Source.faults c.next_whole_line.new.source)) c.next_whole_line.result
-    = record { line = f.line; refused = f.refused c.requires.no_fault; next = c.next_whole_line.follows.holds-at-none.0; short = f.short; held = c.next_whole_line.follows.holds-at-none.1; loses = f.source; later = f.later; none_failed = f.none_failed; else_none_failed = f.else_none_failed } in
+    = record { line = f.line; refused = f.refused c.requires.no_fault; next = c.next_whole_line.follows.holds-at-none.0; short = f.short; held = c.next_whole_line.follows.holds-at-none.1; reads = f.reads } in
     reads_as _ _ _ _ _ _ _ _ (c.nothing.ensures ∙ ap (λ n. nothing_given (n + 1) c.next_whole_line.result) c.line-line.ensures)
-    (look_on _ _ _ c.requires.limit c.requires.few f.source f.later c.next_whole_line.result gave)
+    (look_on _ _ _ c.requires.limit c.requires.few f.reads.source f.reads.later c.next_whole_line.result gave)

@@ -14,22 +14,22 @@ pub returns-in_err-text-clause-read : goal.returns-in_err-text-clause-read
 returns-in_err-text-clause-read g c =
     let f = c.next_whole_line.ensures in
     let gave : Gave c.args.lines.now c.next_whole_line.follows.lender-at-none (device (g.S.Source.left c.args.source.now) (g.S.Source.left c.next_whole_line.new.source) (g.S.Source.faults c.args.source.now) (g.S.Source.faults c.next_whole_line.new.source)) c.next_whole_line.result
-    = record { line = f.line; refused = f.refused c.requires.no_fault; next = c.next_whole_line.follows.holds-at-none.0; short = f.short; held = c.next_whole_line.follows.holds-at-none.1; loses = f.source; later = f.later; none_failed = f.none_failed; else_none_failed = f.else_none_failed } in
+    = record { line = f.line; refused = f.refused c.requires.no_fault; next = c.next_whole_line.follows.holds-at-none.0; short = f.short; held = c.next_whole_line.follows.holds-at-none.1; reads = f.reads } in
     let given = ap (λ n. text_given (n + 1) c.next_whole_line.result) (sym c.line-line.ensures) in
     let p = err_from_is_err_and c.from_residual.result c.from_residual.ensures.1 in
-    rw (p.1, p.2) (stop_line warmup_slots (λ bytes. warmup_in (first_text bytes)) _ _ _ c.requires.limit c.requires.few f.source f.later c.next_whole_line.result c.in_err-text.field-0.0 gave (given ∙ c.in_err-text.ensures))
+    rw (p.1, p.2) (stop_line warmup_slots (λ bytes. warmup_in (first_text bytes)) _ _ _ c.requires.limit c.requires.few f.reads.source f.reads.later c.next_whole_line.result c.in_err-text.field-0.0 gave (given ∙ c.in_err-text.ensures))
 
 pub returns-clause-read : goal.returns-clause-read
 returns-clause-read g c =
     let f = c.next_whole_line.ensures in
     let gave : Gave c.args.lines.now c.next_whole_line.follows.lender-at-none (device (g.S.Source.left c.args.source.now) (g.S.Source.left c.next_whole_line.new.source) (g.S.Source.faults c.args.source.now) (g.S.Source.faults c.next_whole_line.new.source)) c.next_whole_line.result
-    = record { line = f.line; refused = f.refused c.requires.no_fault; next = c.next_whole_line.follows.holds-at-none.0; short = f.short; held = c.next_whole_line.follows.holds-at-none.1; loses = f.source; later = f.later; none_failed = f.none_failed; else_none_failed = f.else_none_failed } in
+    = record { line = f.line; refused = f.refused c.requires.no_fault; next = c.next_whole_line.follows.holds-at-none.0; short = f.short; held = c.next_whole_line.follows.holds-at-none.1; reads = f.reads } in
     let given = ap (λ n. text_given (n + 1) c.next_whole_line.result) (sym c.line-line.ensures) in
     let line = c.line-line.ensures in
     let text = c.in_ok-text.text.now in
     let short : line_fault (warmup_slots text) text ≡ None → length text ≤ 63 = λ fits. warmup_short text fits in
     reads_as _ _ _ _ _ _ _ _ (read_of_line c.line-line.result c.args.lines.now.line c.in_line.result c.warmup.result (line_fault (warmup_slots text) text) (warmup_in text) c.in_line.ensures c.warmup.ensures line)
-    (read_line warmup_slots warmup_in _ _ _ text short f.source f.later c.next_whole_line.result gave (given ∙ c.in_ok-text.ensures))
+    (read_line warmup_slots warmup_in _ _ _ text short f.reads.source f.reads.later c.next_whole_line.result gave (given ∙ c.in_ok-text.ensures))
 
 pub returns-clause-range : goal.returns-clause-range
 returns-clause-range g c = warmup_of_line (c.line-line.result + 1) c.in_ok-text.text.now c.in_line.result (c.in_line.ensures ∙ ap (of_line (c.line-line.result + 1)) c.warmup.ensures)

@@ -41,7 +41,7 @@ returns-in_err-object-clause-unread g c =
     rw (p.1, p.2) (trace_unread c.args.reader.format trace hits c.args.reader c.loop-flags.reader c.next.new.self c.loop-flags.requests.requests (bits_of c.loop-flags.flags) c.loop-flags.lines _ _ c.in_err-object.field-0.0 c.requires.reader i.goes_on i.as_many i.flagged why)
 
 pub returns-in_err-object-clause-trace_source : goal.returns-in_err-object-clause-trace_source
-returns-in_err-object-clause-trace_source g c = loses_then _ _ _ (c.next.ensures.source.0) (c.loop-flags.invariant.trace_source) (c.next.ensures.source.1)
+returns-in_err-object-clause-trace_source g c = loses_then _ _ _ (c.next.ensures.reads.source.0) (c.loop-flags.invariant.trace_source) (c.next.ensures.reads.source.1)
 
 pub returns-in_err-flag-clause-unread : goal.returns-in_err-flag-clause-unread
 returns-in_err-flag-clause-unread g c =
@@ -55,22 +55,22 @@ returns-in_err-flag-clause-unread g c =
     rw (p.1, p.2) (flag_unread c.args.reader.format trace hits c.loop-flags.requests.requests.objects (bits_of c.loop-flags.flags) c.loop-flags.lines _ object _ c.in_err-flag.field-0.0 remains i.as_many i.flagged i.line i.hits_faults c.in_err-flag.ensures.stopped c.in_err-flag.ensures.count)
 
 pub returns-in_err-flag-clause-trace_source : goal.returns-in_err-flag-clause-trace_source
-returns-in_err-flag-clause-trace_source g c = loses_then _ _ _ (c.next.ensures.source.0) (c.loop-flags.invariant.trace_source) (c.next.ensures.source.1)
+returns-in_err-flag-clause-trace_source g c = loses_then _ _ _ (c.next.ensures.reads.source.0) (c.loop-flags.invariant.trace_source) (c.next.ensures.reads.source.1)
 
 pub returns-in_err-flag-clause-hits_source : goal.returns-in_err-flag-clause-hits_source
-returns-in_err-flag-clause-hits_source g c = loses_then _ _ _ (c.flag_for.ensures.source.0) (c.loop-flags.invariant.hits_source) (c.flag_for.ensures.source.1)
+returns-in_err-flag-clause-hits_source g c = loses_then _ _ _ (c.flag_for.ensures.reads.source.0) (c.loop-flags.invariant.hits_source) (c.flag_for.ensures.reads.source.1)
 
 pub returns-in_err-make_room-clause-trace_source : goal.returns-in_err-make_room-clause-trace_source
-returns-in_err-make_room-clause-trace_source g c = loses_then _ _ _ (c.next.ensures.source.0) (c.loop-flags.invariant.trace_source) (c.next.ensures.source.1)
+returns-in_err-make_room-clause-trace_source g c = loses_then _ _ _ (c.next.ensures.reads.source.0) (c.loop-flags.invariant.trace_source) (c.next.ensures.reads.source.1)
 
 pub returns-in_err-make_room-clause-hits_source : goal.returns-in_err-make_room-clause-hits_source
-returns-in_err-make_room-clause-hits_source g c = loses_then _ _ _ (c.flag_for.ensures.source.0) (c.loop-flags.invariant.hits_source) (c.flag_for.ensures.source.1)
+returns-in_err-make_room-clause-hits_source g c = loses_then _ _ _ (c.flag_for.ensures.reads.source.0) (c.loop-flags.invariant.hits_source) (c.flag_for.ensures.reads.source.1)
 
 pub returns-in_err-push_given-clause-trace_source : goal.returns-in_err-push_given-clause-trace_source
-returns-in_err-push_given-clause-trace_source g c = loses_then _ _ _ (c.next.ensures.source.0) (c.loop-flags.invariant.trace_source) (c.next.ensures.source.1)
+returns-in_err-push_given-clause-trace_source g c = loses_then _ _ _ (c.next.ensures.reads.source.0) (c.loop-flags.invariant.trace_source) (c.next.ensures.reads.source.1)
 
 pub returns-in_err-push_given-clause-hits_source : goal.returns-in_err-push_given-clause-hits_source
-returns-in_err-push_given-clause-hits_source g c = loses_then _ _ _ (c.flag_for.ensures.source.0) (c.loop-flags.invariant.hits_source) (c.flag_for.ensures.source.1)
+returns-in_err-push_given-clause-hits_source g c = loses_then _ _ _ (c.flag_for.ensures.reads.source.0) (c.loop-flags.invariant.hits_source) (c.flag_for.ensures.reads.source.1)
 
 pub loop-flags-init : goal.loop-flags-init
 loop-flags-init g c =
@@ -125,10 +125,10 @@ loop-flags-preserved g c =
       line = rw pushed (omega (arith, c.in_ok-flag.ensures.line.0, i.line, length-append given.objects (object ∷ [])));
       as_many = rw (pushed, bits) (omega (arith, i.as_many, length-append given.objects (object ∷ []), length-append (bits_of c.loop-flags.flags) (flag ∷ [])));
       flagged = rw bits (more_flags (bits_of c.loop-flags.flags) flag c.loop-flags.lines c.flag_for.new.lines _ _ _ c.in_ok-flag.ensures.line.0 i.flagged c.in_ok-flag.ensures.given);
-      trace_source = loses_then _ _ _ (n.source.0) i.trace_source (n.source.1);
-      hits_source = loses_then _ _ _ (c.flag_for.ensures.source.0) i.hits_source (c.flag_for.ensures.source.1);
-      trace_faults = c.in_ok-object.ensures.none_failed ∙ i.trace_faults;
-      hits_faults = c.in_ok-flag.ensures.none_failed ∙ i.hits_faults;
+      trace_source = loses_then _ _ _ (n.reads.source.0) i.trace_source (n.reads.source.1);
+      hits_source = loses_then _ _ _ (c.flag_for.ensures.reads.source.0) i.hits_source (c.flag_for.ensures.reads.source.1);
+      trace_faults = c.in_ok-object.ensures.reads.none_failed ∙ i.trace_faults;
+      hits_faults = c.in_ok-flag.ensures.reads.none_failed ∙ i.hits_faults;
     }
 
 pub no_more-requires-clause-few : goal.no_more-requires-clause-few
@@ -145,10 +145,10 @@ returns-in_err-no_more-clause-unread g c =
     rw (p.1, p.2) (more_unread c.args.reader.format trace hits c.loop-flags.requests.requests.objects (bits_of c.loop-flags.flags) c.loop-flags.lines _ _ c.in_err-no_more.field-0.0 remains i.as_many i.flagged i.line i.hits_faults c.in_err-no_more.ensures.stopped c.in_err-no_more.ensures.count)
 
 pub returns-in_err-no_more-clause-trace_source : goal.returns-in_err-no_more-clause-trace_source
-returns-in_err-no_more-clause-trace_source g c = loses_then _ _ _ (c.next.ensures.source.0) (c.loop-flags.invariant.trace_source) (c.next.ensures.source.1)
+returns-in_err-no_more-clause-trace_source g c = loses_then _ _ _ (c.next.ensures.reads.source.0) (c.loop-flags.invariant.trace_source) (c.next.ensures.reads.source.1)
 
 pub returns-in_err-no_more-clause-hits_source : goal.returns-in_err-no_more-clause-hits_source
-returns-in_err-no_more-clause-hits_source g c = loses_then _ _ _ (c.no_more.ensures.source.0) (c.loop-flags.invariant.hits_source) (c.no_more.ensures.source.1)
+returns-in_err-no_more-clause-hits_source g c = loses_then _ _ _ (c.no_more.ensures.reads.source.0) (c.loop-flags.invariant.hits_source) (c.no_more.ensures.reads.source.1)
 
 pub returns-clause-read : goal.returns-clause-read
 returns-clause-read g c =
@@ -173,15 +173,15 @@ returns-clause-read g c =
     })
 
 pub returns-clause-trace_source : goal.returns-clause-trace_source
-returns-clause-trace_source g c = loses_then _ _ _ (c.next.ensures.source.0) (c.loop-flags.invariant.trace_source) (c.next.ensures.source.1)
+returns-clause-trace_source g c = loses_then _ _ _ (c.next.ensures.reads.source.0) (c.loop-flags.invariant.trace_source) (c.next.ensures.reads.source.1)
 
 pub returns-clause-hits_source : goal.returns-clause-hits_source
-returns-clause-hits_source g c = loses_then _ _ _ (c.no_more.ensures.source.0) (c.loop-flags.invariant.hits_source) (c.no_more.ensures.source.1)
+returns-clause-hits_source g c = loses_then _ _ _ (c.no_more.ensures.reads.source.0) (c.loop-flags.invariant.hits_source) (c.no_more.ensures.reads.source.1)
 
 pub returns-clause-none_failed : goal.returns-clause-none_failed
 returns-clause-none_failed g c =
     let i = c.loop-flags.invariant in
-    (c.in_ok-object.ensures.none_failed ∙ i.trace_faults, c.in_ok-no_more.ensures.none_failed ∙ i.hits_faults)
+    (c.in_ok-object.ensures.reads.none_failed ∙ i.trace_faults, c.in_ok-no_more.ensures.reads.none_failed ∙ i.hits_faults)
 
 pub returns-in_err-object-clause-near : goal.returns-in_err-object-clause-near
 returns-in_err-object-clause-near g c =
@@ -253,13 +253,13 @@ pub returns-in_err-object-clause-else_none_failed : goal.returns-in_err-object-c
 returns-in_err-object-clause-else_none_failed g c =
     let i = c.loop-flags.invariant in
     let p = err_from_is_err_and c.from_residual-in_err-object.result c.from_residual-in_err-object.ensures.1 in
-    rw (p.1, p.2) (calm_trace _ _ _ _ c.in_err-object.ensures.else_none_failed i.trace_faults, inr i.hits_faults)
+    rw (p.1, p.2) (calm_trace _ _ _ _ c.in_err-object.ensures.reads.else_none_failed i.trace_faults, inr i.hits_faults)
 
 pub returns-in_err-flag-clause-else_none_failed : goal.returns-in_err-flag-clause-else_none_failed
 returns-in_err-flag-clause-else_none_failed g c =
     let i = c.loop-flags.invariant in
     let p = err_from_is_err_and c.from_residual-in_err-flag.result c.from_residual-in_err-flag.ensures.1 in
-    rw (p.1, p.2) (inr (c.in_ok-object.ensures.none_failed ∙ i.trace_faults), calm_hits _ _ _ _ c.in_err-flag.ensures.else_none_failed i.hits_faults)
+    rw (p.1, p.2) (inr (c.in_ok-object.ensures.reads.none_failed ∙ i.trace_faults), calm_hits _ _ _ _ c.in_err-flag.ensures.reads.else_none_failed i.hits_faults)
 
 pub returns-in_err-make_room-clause-unread : goal.returns-in_err-make_room-clause-unread
 returns-in_err-make_room-clause-unread g c = let p = err_from_is_err_and c.from_residual-in_err-make_room.result c.from_residual-in_err-make_room.ensures.1 in rw (p.1, p.2) tt
@@ -277,10 +277,10 @@ pub returns-in_err-push_given-clause-else_none_failed : goal.returns-in_err-push
 returns-in_err-push_given-clause-else_none_failed g c =
     let i = c.loop-flags.invariant in
     let p = err_from_is_err_and c.from_residual-in_err-push_given.result c.from_residual-in_err-push_given.ensures.1 in
-    rw (p.1, p.2) (inr (c.in_ok-object.ensures.none_failed ∙ i.trace_faults), inr (c.in_ok-flag.ensures.none_failed ∙ i.hits_faults))
+    rw (p.1, p.2) (inr (c.in_ok-object.ensures.reads.none_failed ∙ i.trace_faults), inr (c.in_ok-flag.ensures.reads.none_failed ∙ i.hits_faults))
 
 pub returns-in_err-no_more-clause-else_none_failed : goal.returns-in_err-no_more-clause-else_none_failed
 returns-in_err-no_more-clause-else_none_failed g c =
     let i = c.loop-flags.invariant in
     let p = err_from_is_err_and c.from_residual-in_err-no_more.result c.from_residual-in_err-no_more.ensures.1 in
-    rw (p.1, p.2) (inr (c.in_ok-object.ensures.none_failed ∙ i.trace_faults), calm_hits _ _ _ _ c.in_err-no_more.ensures.else_none_failed i.hits_faults)
+    rw (p.1, p.2) (inr (c.in_ok-object.ensures.reads.none_failed ∙ i.trace_faults), calm_hits _ _ _ _ c.in_err-no_more.ensures.reads.else_none_failed i.hits_faults)

@@ -1,5 +1,6 @@
 use Rattle.std.proofs.Common.{◌≡◌, ◌∙◌, refl, sym, ap, arith, length, length-append, None, [], ◌∷◌}
-use Rattle.bound_io.proofs.KnownLemmas.{loses_then}
+use Rattle.std.proofs.lemmas.Result.{err_from_is_err_and}
+use Rattle.bound_io.proofs.KnownLemmas.{loses_then, reads_then_err, reads_then_ok}
 use Rattle.bound_io.specs.Devices.{seen}
 use Rattle.trace_any.specs.declared.fault.TraceFault.TheVariants.{NoMemory}
 use Rattle.trace_any.specs.FirstLines.{StopsNoFurther}
@@ -25,8 +26,10 @@ loop-requests-init g c =
       none_failed = refl;
     }
 
-pub returns-in_err-object-clause-source : goal.returns-in_err-object-clause-source
-returns-in_err-object-clause-source g c = loses_then _ _ _ (c.next.ensures.source.0) (c.loop-requests.invariant.source) (c.next.ensures.source.1)
+pub returns-in_err-object-clause-reads : goal.returns-in_err-object-clause-reads
+returns-in_err-object-clause-reads g c =
+    let p = err_from_is_err_and c.from_residual-in_err-object.result c.from_residual-in_err-object.ensures.1 in
+    rw (p.1, p.2) (reads_then_err _ _ _ _ _ _ _ _ c.loop-requests.invariant.source c.loop-requests.invariant.none_failed c.in_err-object.ensures.reads)
 
 pub loop-requests-preserved : goal.loop-requests-preserved
 loop-requests-preserved g c =
@@ -46,15 +49,15 @@ loop-requests-preserved g c =
       goes_on = λ fresh. rw pushed (loads_more c.args.reader.now c.loop-requests.reader c.next.new.self given object (last_mark c.next.new.self) _ _ _ (i.goes_on fresh) (next.1));
       given_all = λ fresh. rw pushed (given_more c.args.reader.now c.loop-requests.reader c.next.new.self given object (last_mark c.next.new.self) _ _ (rests_after given c.args.reader.now c.loop-requests.reader _ _ (i.goes_on fresh)) (i.given_all fresh) (rw (c.in-Some.is) at (c.in_ok-object.ensures.lines none)));
       unread = rw (← i.fault, none) tt;
-      source = loses_then _ _ _ (n.source.0) i.source (n.source.1);
-      none_failed = c.in_ok-object.ensures.none_failed ∙ i.none_failed;
+      source = loses_then _ _ _ (n.reads.source.0) i.source (n.reads.source.1);
+      none_failed = c.in_ok-object.ensures.reads.none_failed ∙ i.none_failed;
     }
 
-pub returns-in-Err-clause-source : goal.returns-in-Err-clause-source
-returns-in-Err-clause-source g c = loses_then _ _ _ (c.next.ensures.source.0) (c.loop-requests.invariant.source) (c.next.ensures.source.1)
+pub returns-in-Err-clause-reads : goal.returns-in-Err-clause-reads
+returns-in-Err-clause-reads g c = reads_then_ok _ _ _ _ _ _ _ _ _ _ c.loop-requests.invariant.source c.loop-requests.invariant.none_failed c.in_ok-object.ensures.reads
 
-pub returns-clause-source : goal.returns-clause-source
-returns-clause-source g c = loses_then _ _ _ (c.next.ensures.source.0) (c.loop-requests.invariant.source) (c.next.ensures.source.1)
+pub returns-clause-reads : goal.returns-clause-reads
+returns-clause-reads g c = reads_then_ok _ _ _ _ _ _ _ _ _ _ c.loop-requests.invariant.source c.loop-requests.invariant.none_failed c.in_ok-object.ensures.reads
 
 pub loop-requests-smaller : goal.loop-requests-smaller
 loop-requests-smaller g c =
@@ -81,8 +84,8 @@ returns-then-passes_limit-clause-refused g c =
     let past = sym c.passes_limit.ensures ∙ c.if-passes_limit.true in
     rw (c.refuse_rest.ensures.fault) (loads_past c.args.reader.now c.loop-requests.reader c.next.new.self c.loop-requests.requests.requests c.in-Some.object (last_mark c.next.new.self) _ _ _ (i.goes_on fresh) (next.1) (λ bytes. past_room c.next.new.self bytes past))
 
-pub returns-then-passes_limit-clause-source : goal.returns-then-passes_limit-clause-source
-returns-then-passes_limit-clause-source g c = loses_then _ _ _ (c.next.ensures.source.0) (c.loop-requests.invariant.source) (c.next.ensures.source.1)
+pub returns-then-passes_limit-clause-reads : goal.returns-then-passes_limit-clause-reads
+returns-then-passes_limit-clause-reads g c = reads_then_ok _ _ _ _ _ _ _ _ _ _ c.loop-requests.invariant.source c.loop-requests.invariant.none_failed c.in_ok-object.ensures.reads
 
 pub returns-in_err-requests-clause-no_further : goal.returns-in_err-requests-clause-no_further
 returns-in_err-requests-clause-no_further g c = λ _.

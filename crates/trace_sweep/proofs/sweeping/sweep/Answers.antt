@@ -45,3 +45,9 @@ pub returns-in_err-points_of-clause-refused : goal.returns-in_err-points_of-clau
 returns-in_err-points_of-clause-refused g c =
     let p = err_from_is_err_and c.from_residual-in_err-points_of.result c.from_residual-in_err-points_of.ensures.1 in
     rw (p.1, p.2) tt
+
+pub returns-in_err-tally-clause-reads : goal.returns-in_err-tally-clause-reads
+returns-in_err-tally-clause-reads g c =
+    let p = err_from_is_err_and c.from_residual-in_err-tally.result c.from_residual-in_err-tally.ensures.1 in
+    let r = c.in_err-tally.ensures.reads in
+    rw (p.1, p.2) record { source = r.source; later = r.later; none_failed = tt; else_none_failed = r.else_none_failed }

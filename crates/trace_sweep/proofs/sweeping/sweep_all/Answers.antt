@@ -1,5 +1,6 @@
 use Rattle.std.proofs.Common.{◌≡◌, ◌∙◌, ℕ, refl, sym, ap, subst, arith, nat_le, not, ◌&&◌, length, length-append, None, [], ◌∷◌, IfSome}
-use Rattle.bound_io.proofs.KnownLemmas.{loses_then}
+use Rattle.std.proofs.lemmas.Result.{err_from_is_err_and}
+use Rattle.bound_io.proofs.KnownLemmas.{loses_then, reads_then_err, reads_then_ok}
 use Rattle.bound_io.specs.Devices.{seen}
 use Rattle.cache_rules.specs.Stored.{Requests, with_request}
 use Rattle.trace_any.specs.declared.fault.TraceFault.TheVariants.{NoMemory, TooManyRequests}
@@ -72,8 +73,8 @@ loop-object-preserved g c =
       given = omega (arith, next.0, i.given, size);
       goes_on = loads_more c.args.stream.now old new i.trace object (last_mark new) _ _ _ i.goes_on (next.1);
       given_all = given_more c.args.stream.now old new i.trace object (last_mark new) _ _ (rests_after i.trace c.args.stream.now old _ _ i.goes_on) i.given_all (rw (c.in-Some.is) at (c.in_ok-object.ensures.lines i.fault));
-      source = loses_then _ _ _ (n.source.0) i.source (n.source.1);
-      none_failed = c.in_ok-object.ensures.none_failed ∙ i.none_failed;
+      source = loses_then _ _ _ (n.reads.source.0) i.source (n.reads.source.1);
+      none_failed = c.in_ok-object.ensures.reads.none_failed ∙ i.none_failed;
       seen = told_after format old new i.trace object form i.format notes i.aligned c.last_fills.result c.loop-object.bounds c.request.new.self c.last_fills.ensures i.seen told.seen told.seen_unmarked;
       warmup = told.warmup ∙ i.warmup;
       delay = told.delay ∙ i.delay;
@@ -84,17 +85,19 @@ loop-object-preserved g c =
       stale = omega (arith, size, i.stale, more-le c.loop-object.tally.stale c.last_stale.result, ap (λ (t : Tally). t.stale) c.with-tally.ensures);
     }
 
-pub returns-in_err-object-clause-source : goal.returns-in_err-object-clause-source
-returns-in_err-object-clause-source g c = loses_then _ _ _ (c.next.ensures.source.0) (c.loop-object.invariant.source) (c.next.ensures.source.1)
+pub returns-in_err-object-clause-reads : goal.returns-in_err-object-clause-reads
+returns-in_err-object-clause-reads g c =
+    let p = err_from_is_err_and c.from_residual.result c.from_residual.ensures.1 in
+    rw (p.1, p.2) (reads_then_err _ _ _ _ _ _ _ _ c.loop-object.invariant.source c.loop-object.invariant.none_failed c.in_err-object.ensures.reads)
 
-pub returns-then-passes_limit-clause-source : goal.returns-then-passes_limit-clause-source
-returns-then-passes_limit-clause-source g c = loses_then _ _ _ (c.next.ensures.source.0) (c.loop-object.invariant.source) (c.next.ensures.source.1)
+pub returns-then-passes_limit-clause-reads : goal.returns-then-passes_limit-clause-reads
+returns-then-passes_limit-clause-reads g c = reads_then_ok _ _ _ _ _ _ _ _ _ _ c.loop-object.invariant.source c.loop-object.invariant.none_failed c.in_ok-object.ensures.reads
 
-pub returns-in_err-request-clause-source : goal.returns-in_err-request-clause-source
-returns-in_err-request-clause-source g c = loses_then _ _ _ (c.next.ensures.source.0) (c.loop-object.invariant.source) (c.next.ensures.source.1)
+pub returns-in_err-request-clause-reads : goal.returns-in_err-request-clause-reads
+returns-in_err-request-clause-reads g c = reads_then_ok _ _ _ _ _ _ _ _ _ _ c.loop-object.invariant.source c.loop-object.invariant.none_failed c.in_ok-object.ensures.reads
 
-pub returns-clause-source : goal.returns-clause-source
-returns-clause-source g c = loses_then _ _ _ (c.next.ensures.source.0) (c.loop-object.invariant.source) (c.next.ensures.source.1)
+pub returns-clause-reads : goal.returns-clause-reads
+returns-clause-reads g c = reads_then_ok _ _ _ _ _ _ _ _ _ _ c.loop-object.invariant.source c.loop-object.invariant.none_failed c.in_ok-object.ensures.reads
 
 pub returns-in_err-object-clause-lost : goal.returns-in_err-object-clause-lost
 returns-in_err-object-clause-lost g c =

@@ -80,6 +80,3 @@ returns-in_default-clause-extent g c = tt
 
 pub returns-in_default-clause-within : goal.returns-in_default-clause-within
 returns-in_default-clause-within g c = tt
-
-pub returns-in_default-clause-none_failed : goal.returns-in_default-clause-none_failed
-returns-in_default-clause-none_failed g c = tt

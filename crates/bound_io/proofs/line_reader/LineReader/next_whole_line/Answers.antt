@@ -12,7 +12,7 @@ returns-then-extent-eq0 g c =
     let end = end_known _ _ _ f.extent none in
     let held = nil_from_length c.find_line.new.self.held (f.within.none none) in (
       (refl, λ _. tt, (record { still = f.still.0 ∙ ap (λ l. with_held c.args.self.now l) held; fault = f.still.1; nothing = end.0; rest = f.kept }, omega (arith, f.within.none none))),
-      record { line = end.1; short = tt; refused = λ _. tt; again = rw (f.still.1) tt; source = f.source; later = f.later; none_failed = f.none_failed; else_none_failed = tt; untouched = f.untouched; after = tt },
+      record { line = end.1; short = tt; refused = λ _. tt; again = rw (f.still.1) tt; reads = record { source = f.reads.source; later = f.reads.later; none_failed = f.reads.none_failed; else_none_failed = tt }; untouched = f.untouched; after = tt },
     )
 
 pub returns : goal.returns

@@ -1,5 +1,6 @@
 use Rattle.std.proofs.Common.{◌∙◌, refl, [], arith, ap}
-use Rattle.bound_io.proofs.KnownLemmas.{loses_then}
+use Rattle.std.proofs.lemmas.Result.{err_from_is_err_and}
+use Rattle.bound_io.proofs.KnownLemmas.{loses_then, reads_then_err, reads_then_ok}
 use Rattle.bound_io.specs.Devices.{seen}
 use Rattle.trace_any.specs.FirstLines.{StopsNoFurther}
 use Rattle.trace_any.specs.Readers.{last_mark}
@@ -8,11 +9,13 @@ use Rattle.trace_any.proofs.Stopping.{not_past_ungiven, of_fault, stands_as, sta
 use Rattle.trace_any.proofs.Through.{no_further_given, no_further_then, no_further_yet, rests_on}
 use Rattle.trace_any.proofs.progress.Progress.find.Goals as goal
 
-pub returns-in_err-take_line-clause-source : goal.returns-in_err-take_line-clause-source
-returns-in_err-take_line-clause-source g c = loses_then _ _ _ (c.in_err-take_line.ensures.source.0) (c.loop-self.invariant.source) (c.in_err-take_line.ensures.source.1)
+pub returns-in_err-take_line-clause-reads : goal.returns-in_err-take_line-clause-reads
+returns-in_err-take_line-clause-reads g c =
+    let p = err_from_is_err_and c.from_residual.result c.from_residual.ensures.1 in
+    rw (p.1, p.2) (reads_then_err _ _ _ _ _ _ _ _ c.loop-self.invariant.source c.loop-self.invariant.none_failed c.in_err-take_line.ensures.reads)
 
-pub returns-then-not-branch-clause-source : goal.returns-then-not-branch-clause-source
-returns-then-not-branch-clause-source g c = loses_then _ _ _ (c.take_line.ensures.source.0) (c.loop-self.invariant.source) (c.take_line.ensures.source.1)
+pub returns-then-not-branch-clause-reads : goal.returns-then-not-branch-clause-reads
+returns-then-not-branch-clause-reads g c = reads_then_ok _ _ _ _ _ _ _ _ _ _ c.loop-self.invariant.source c.loop-self.invariant.none_failed c.in_ok-take_line.ensures.reads
 
 pub loop-self-smaller : goal.loop-self-smaller
 loop-self-smaller g c =
@@ -34,9 +37,9 @@ loop-self-preserved g c =
       forgets_none = omega (arith, i.forgets_none, t.forgets_none);
       goes_on = goes_then (c.args.self.now) (c.loop-self.self) (c.take_line.new.self) _ _ _ i.goes_on (new.1);
       lines = no_further_then (c.args.self.now) (c.loop-self.self) (c.take_line.new.self) _ _ (rests_on (c.args.self.now) (c.loop-self.self) _ _ i.goes_on) i.lines (taken.lines (c.if-not-branch.false));
-      source = loses_then _ _ _ (t.source.0) i.source (t.source.1);
+      source = loses_then _ _ _ (t.reads.source.0) i.source (t.reads.source.1);
       untouched = λ some. absurd (omega (arith, some, ap (λ r. r.ahead.count) (i.untouched some).0, c.loop-self-test.true, ap (λ r. r.ahead.count) c.self.view_is));
-      none_failed = taken.none_failed ∙ i.none_failed;
+      none_failed = taken.reads.none_failed ∙ i.none_failed;
     }
 
 pub loop-self-init : goal.loop-self-init
