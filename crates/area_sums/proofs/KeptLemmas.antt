@@ -19,6 +19,13 @@ use Rattle.area_sums.proofs.RowLemmas.{rows-read}
 use Rattle.area_sums.proofs.ShortLemmas.{class_few, length_class_few}
 use Rattle.area_sums.proofs.LeastLemmas.{product-le}
 
+-- how many rows of pages the classes of areas and those of lengths have
+abbrev area_pages : ℕ
+area_pages = 2240
+
+abbrev length_pages : ℕ
+length_pages = 704
+
 -- no group is of a class after the pages
 pub none-after : (pages : Pages) (place class : ℕ) → pages.rows * 64 ≤ class → group_in pages place class ≡ no_group
 none-after pages place class past =
@@ -107,10 +114,10 @@ module _ (capacities : List ℕ) (count : ℕ) (hits bytes : Pages) (h : AreKept
     module _ (new_hits new_bytes : Pages) (hits_rows : KeepsRows (class_at Hits s) hits new_hits) (bytes_rows : KeepsRows (class_at Bytes s) bytes new_bytes) where
       -- the pages are of the classes of costs
       new_areas : new_hits.rows * 64 ≤ area_classes
-      new_areas = omega (arith, hits_rows.rows 2240 (omega (arith, h.areas)) (omega (arith, class_few (area_of s) small)))
+      new_areas = omega (arith, hits_rows.no_more area_pages (omega (arith, h.areas)) (omega (arith, class_few (area_of s) small)))
 
       new_lengths : new_bytes.rows * 64 ≤ length_classes
-      new_lengths = omega (arith, bytes_rows.rows 704 (omega (arith, h.lengths)) (omega (arith, length_class_few s.length range.length)))
+      new_lengths = omega (arith, bytes_rows.no_more length_pages (omega (arith, h.lengths)) (omega (arith, length_class_few s.length range.length)))
 
       -- a group with more, if it is that of the span
       abbrev more_at : Objective → ℕ → ℕ → Group → Group → Group

@@ -29,7 +29,7 @@ pub record HasPage (pages : Pages) (place class : ℕ) : Type 0 where
 -- there are as many places, and no more rows than reach to the class
 pub record KeepsRows (class : ℕ) (old new : Pages) : Type 0 where
   pub places : new.places ≡ old.places
-  pub rows : (rows : ℕ) → old.rows ≤ rows → class < rows * page_size → new.rows ≤ rows
+  pub no_more : (rows : ℕ) → old.rows ≤ rows → class < rows * page_size → new.rows ≤ rows
 
 -- no group has changed
 abbrev pub HasSameGroups : Pages → Pages → Type 0

@@ -1,11 +1,12 @@
 -- Groups of classes, as they are added up from place to place.
-use Rattle.std.specs.Prelude.{◌≡◌, ℕ, zero, suc, ◌+◌, ◌^◌, ◌<◌, ◌≤◌, List, length, slice_index, slice_index_or, All, map, zip}
+use Rattle.std.specs.Prelude.{◌≡◌, ℕ, zero, suc, ◌+◌, ◌*◌, ◌^◌, ◌<◌, ◌≤◌, List, length, slice_index, slice_index_or, All, map, zip}
 use Rattle.cache_model.specs.declared.objects.Objective.{Objective}
 use Rattle.area_sums.specs.declared.group.Group.{Group}
 use Rattle.area_sums.specs.declared.bound.CapacityBounds.{CapacityBounds}
 use Rattle.area_sums.specs.declared.bound.EdgeBound.{EdgeBound}
 use Rattle.area_sums.specs.Spans.{Span}
 use Rattle.area_sums.specs.Bounds.{IsLeastBound}
+use Rattle.area_sums.specs.PageLayout.{page_size}
 use Rattle.area_sums.specs.Groups.{AreGroupsOf, IsInRange, both, classes_for, group_at, no_group}
 
 -- the groups of a class at the places before one, as one
@@ -17,6 +18,17 @@ group_before groups class (suc place) = both (group_before groups class place) (
 pub record HasRoomFor (more : ℕ → Group) (classes : List Group) : Type 0 where
   pub gain : (class : ℕ) → class < length classes → (group_at classes class).gain + (more class).gain < 2 ^ 128
   pub area : (class : ℕ) → class < length classes → (group_at classes class).area + (more class).area < 2 ^ 128
+
+-- there is room for more in each class of a row
+pub record HasRoomInRow (more : ℕ → Group) (row : ℕ) (classes : List Group) : Type 0 where
+  pub gain : (class : ℕ) → row * page_size ≤ class → class < row * page_size + page_size → (group_at classes class).gain + (more class).gain < 2 ^ 128
+  pub area : (class : ℕ) → row * page_size ≤ class → class < row * page_size + page_size → (group_at classes class).area + (more class).area < 2 ^ 128
+
+-- the classes of a row have more, and no other has changed
+pub record HasMoreInRow (more : ℕ → Group) (row : ℕ) (old new : List Group) : Type 0 where
+  pub added : (class : ℕ) → row * page_size ≤ class → class < row * page_size + page_size → group_at new class ≡ both (group_at old class) (more class)
+  pub before : (class : ℕ) → class < row * page_size → group_at new class ≡ group_at old class
+  pub after : (class : ℕ) → row * page_size + page_size ≤ class → group_at new class ≡ group_at old class
 
 -- each class has its groups of the places before this one
 pub record AreBefore (place : ℕ) (groups : ℕ → ℕ → Group) (classes : List Group) : Type 0 where

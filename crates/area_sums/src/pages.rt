@@ -1,5 +1,5 @@
 //! Groups by the places of capacities and by classes, in pages.
-ghost use Rattle.std.specs.Prelude.{◌≡◌, ℕ, ◌+◌, ◌*◌, ◌/◌, ◌%◌, ◌<◌, ◌≤◌, ◌^◌, ◌++◌, length, replicate, IfOk, OnOk, OnErr};
+ghost use Rattle.std.specs.Prelude.{◌≡◌, ℕ, ◌+◌, ◌*◌, ◌/◌, ◌%◌, ◌<◌, ◌≤◌, ◌^◌, ◌++◌, length, replicate, false, IfOk, OnOk, OnErr};
 ghost use Rattle.area_sums.specs.Groups.{no_group};
 ghost use Rattle.area_sums.specs.PageLayout.{ArePages, page_size};
 
@@ -7,8 +7,8 @@ use crate::group::Group;
 use bound_base::NoMemory;
 use std::alloc::Global;
 
-// How many successive classes a page has, which take 2 KiB.
-const PAGE: usize = 64;
+/// How many successive classes a page has, which take 2 KiB.
+pub(crate) const PAGE: usize = 64;
 
 /// Groups by the places of capacities and by classes. A page has the groups of successive classes at one place, and is made
 /// when a span of these first comes. It takes one look-up of the number of a page to find a group.
@@ -67,6 +67,22 @@ impl Pages {
         ensures { result ≡ self.now.rows * page_size }
     {
         self.rows * PAGE
+    }
+
+    /// How many pages a place has numbers for.
+    pub(crate) fn rows(&self) -> usize
+        ensures { result ≡ self.now.rows }
+    {
+        self.rows
+    }
+
+    /// Whether there is a page for a row of classes at a place. If not, none of them has a group there.
+    pub(crate) fn has_page(&self, place: usize, row: usize) -> bool
+        requires place { place < self.now.places }
+        requires row { row < self.now.rows }
+        ensures { result ≡ false → (class : ℕ) → row * page_size ≤ class → class < row * page_size + page_size → group_in self.now place class ≡ no_group }
+    {
+        self.numbers[row * self.places + place] > 0
     }
 
     // Where the number of the page of a place and a class stands.

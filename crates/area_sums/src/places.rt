@@ -3,14 +3,28 @@ ghost use Rattle.std.specs.Prelude.{◌≡◌, ℕ, ◌+◌, ◌*◌, ◌<◌, �
 ghost use Rattle.area_sums.specs.Groups.{AreCapacities, area_classes, both, group_at, no_group};
 ghost use Rattle.area_sums.specs.PageLayout.{page_size};
 ghost use Rattle.area_sums.specs.Pages.{group_in};
-ghost use Rattle.area_sums.specs.Places.{AreLeastBefore, AreOfSpans, HasRoomFor};
+ghost use Rattle.area_sums.specs.Places.{AreLeastBefore, AreOfSpans, HasMoreInRow, HasRoomFor, HasRoomInRow};
 
 use crate::bound::EdgeBound;
 use crate::group::Group;
 use crate::least::least_bound;
-use crate::pages::Pages;
+use crate::pages::{PAGE, Pages};
 use bound_base::NoMemory;
 use std::alloc::Global;
+
+// Adds the groups of a row of classes at a place to those of the classes.
+fn add_row(groups: &mut [Group], pages: &Pages, place: usize, row: usize)
+    requires place { place < pages.now.places }
+    requires row { row < pages.now.rows }
+    requires few { length groups.old ≤ area_classes }
+    requires classes { length groups.old ≡ pages.now.rows * page_size }
+    requires room { HasRoomInRow (group_in pages.now place) row groups.old }
+    ensures { HasMoreInRow (group_in pages.now place) row groups.old groups.new }
+{
+    for class in row * PAGE..row * PAGE + PAGE {
+        groups[class] = groups[class].plus(pages.group(place, class as u32));
+    }
+}
 
 // Adds the groups of a place to those of their classes.
 fn add_place(groups: &mut [Group], pages: &Pages, place: usize)
@@ -21,8 +35,10 @@ fn add_place(groups: &mut [Group], pages: &Pages, place: usize)
     ensures { (class : ℕ) → class < length groups.old
         → group_at groups.new class ≡ both (group_at groups.old class) (group_in pages.now place class) }
 {
-    for class in 0..groups.len() {
-        groups[class] = groups[class].plus(pages.group(place, class as u32));
+    for row in 0..pages.rows() {
+        if pages.has_page(place, row) {
+            add_row(groups, pages, place, row);
+        }
     }
 }
 

@@ -10,7 +10,7 @@ returns-clause-hits_rows c =
     let kept = subst (λ k. KeepsRows k c.args.hits.now c.make_page.new.self) class c.in_ok-make_page.ensures.rows in
     record {
       places = c.add.ensures.places ∙ kept.places;
-      rows = λ rows before within. omega (arith, c.add.ensures.rows, kept.rows rows before within);
+      no_more = λ rows before within. omega (arith, c.add.ensures.rows, kept.no_more rows before within);
     }
 
 pub returns-clause-bytes_rows : goal.returns-clause-bytes_rows
@@ -19,5 +19,5 @@ returns-clause-bytes_rows c =
     let kept = subst (λ k. KeepsRows k c.args.bytes.now c.make_page-2.new.self) class c.in_ok-make_page-2.ensures.rows in
     record {
       places = c.add-2.ensures.places ∙ kept.places;
-      rows = λ rows before within. omega (arith, c.add-2.ensures.rows, kept.rows rows before within);
+      no_more = λ rows before within. omega (arith, c.add-2.ensures.rows, kept.no_more rows before within);
     }
