@@ -16,11 +16,11 @@ use cache_model::{CERT_VERSION, Header, Objective, SHORT_VERSION};
 
 /// The counts of a header.
 #[derive(Clone, Copy)]
-struct Counts {
-    capacity: u64,
-    requests: u32,
-    unit: u64,
-    denominator: u64,
+pub struct Counts {
+    pub capacity: u64,
+    pub requests: u32,
+    pub unit: u64,
+    pub denominator: u64,
 }
 
 /// The values of a header, numerators over its denominator but for the last.
@@ -31,7 +31,8 @@ struct Values {
     lower: u128,
 }
 
-fn read_counts<S: Source>(lines: &mut LineReader, source: &mut S) -> Result<Counts, CertFault>
+/// Reads the lines of the counts.
+pub fn read_counts<S: Source>(lines: &mut LineReader, source: &mut S) -> Result<Counts, CertFault>
     requires limit { lines.old.limit ≡ 2 ^ 36 }
     requires few { lines.old.line + 4 < 2 ^ 26 }
     requires no_fault { lines.old.fault ≡ None }
@@ -92,7 +93,8 @@ fn version_of(is_first: bool) -> u8
     }
 }
 
-fn objective_of(of_objects: bool) -> Objective
+/// The objective whose word is the first or the second.
+pub fn objective_of(of_objects: bool) -> Objective
     ensures { result ≡ (if of_objects then Objective.Object else Objective.Bytes) }
 {
     if of_objects {

@@ -48,8 +48,13 @@ mod writing;
 
 pub use cache_model::{Header, Objective, Record};
 pub use fault::{CertFault, TextKind};
+pub use header::{Counts, objective_of, read_counts};
 pub use laws::{read_is_in_range, read_is_written, written_is_read};
+pub use line::{cut, keep_of, number_after, word_after};
+pub use lines::{in_line, read_choice, read_end, read_fixed, read_number, whole_text};
+pub use number::number as number_of;
 pub use reader::CertReader;
 pub use records::{Records, cert_of};
+pub use text::objective_line;
 pub use writer::CertWriter;
 pub use writing::{write_end, write_header, write_record};

@@ -18,8 +18,8 @@ fn space_in(text: &[u8]) -> Option<usize>
     text.iter().position(|byte| *byte == b' ')
 }
 
-// The first word and what stands after its space.
-fn cut(text: &[u8]) -> Option<(&[u8], &[u8])>
+/// The first word and what stands after its space.
+pub fn cut(text: &[u8]) -> Option<(&[u8], &[u8])>
     ensures some { IfSome result (λ parts. words text.now ≡ parts.0.now ∷ words parts.1.now) }
     ensures none { IfNone result (words text.now ≡ text.now ∷ []) }
 {
@@ -34,8 +34,8 @@ fn is_word(text: &[u8]) -> bool
     !text.is_empty() && space_in(text).is_none()
 }
 
-// The word after a name, if the line has these two words.
-fn word_after<'a>(text: &'a [u8], name: &[u8]) -> Option<&'a [u8]>
+/// The word after a name, if the line has these two words.
+pub fn word_after<'a>(text: &'a [u8], name: &[u8]) -> Option<&'a [u8]>
     ensures word { IfSome result (λ word. (words text.now ≡ name.now ∷ word.now ∷ []) × (0 < length word.now)) }
     ensures none { IfNone result ((word : List ℕ) → words text.now ≡ name.now ∷ word ∷ [] → length word ≡ 0) }
 {
@@ -59,12 +59,7 @@ pub(crate) fn fixed(text: &[u8], line: &[u8]) -> Result<(), TextKind>
 }
 
 /// The number of a line of a name and a number.
-pub(crate) fn number_after(
-    text: &[u8],
-    name: &[u8],
-    low: u128,
-    high: u128,
-) -> Result<u128, TextKind>
+pub fn number_after(text: &[u8], name: &[u8], low: u128, high: u128) -> Result<u128, TextKind>
     ensures { result ≡ value_unless (line_fault (number_line name.now low high) text.now) (number_at 1 text.now) }
 {
     match word_after(text, name) {
@@ -109,8 +104,8 @@ struct RecordWords<'a> {
     flow: &'a [u8],
 }
 
-// Whether a keep is kept, if the word is one.
-fn keep_of(word: &[u8]) -> Option<bool>
+/// Whether a keep is kept, if the word is one.
+pub fn keep_of(word: &[u8]) -> Option<bool>
     ensures keep { IfSome result (λ keep. word.now ≡ (48 + keep_digit keep) ∷ []) }
     ensures none { IfNone result (can_stand (OneOf (codes "0" ∷ codes "1" ∷ [])) word.now ≡ false) }
 {

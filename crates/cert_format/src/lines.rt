@@ -12,8 +12,11 @@ use crate::line::{choice_after, fixed, number_after, record, warmup};
 use bound_io::{LineFault, LineReader, Source, WholeLine};
 use cache_model::Record;
 
-// The text of a whole line, which is to be this one. A certificate is too short to pass the limit of its reader.
-fn whole_text<'a>(line: u64, given: Result<WholeLine<'a>, LineFault>) -> Result<&'a [u8], CertFault>
+/// The text of a whole line, which is to be this one. A certificate is too short to pass the limit of its reader.
+pub fn whole_text<'a>(
+    line: u64,
+    given: Result<WholeLine<'a>, LineFault>,
+) -> Result<&'a [u8], CertFault>
     ensures { MatchResult result (λ text. text_given line given.entry ≡ Ok text.now) (λ fault. text_given line given.entry ≡ Err fault) }
 {
     match given {
@@ -41,8 +44,8 @@ fn nothing(line: u64, given: Result<WholeLine<'_>, LineFault>) -> Result<(), Cer
     }
 }
 
-// What the text of a line gives.
-fn in_line<T>(line: u64, read: Result<T, TextKind>) -> Result<T, CertFault>
+/// What the text of a line gives.
+pub fn in_line<T>(line: u64, read: Result<T, TextKind>) -> Result<T, CertFault>
     ensures { result ≡ of_line line read }
 {
     match read {
@@ -52,7 +55,7 @@ fn in_line<T>(line: u64, read: Result<T, TextKind>) -> Result<T, CertFault>
 }
 
 /// Reads a line of fixed words.
-pub(crate) fn read_fixed<S: Source>(
+pub fn read_fixed<S: Source>(
     lines: &mut LineReader,
     source: &mut S,
     words: &[u8],
@@ -69,7 +72,7 @@ pub(crate) fn read_fixed<S: Source>(
 }
 
 /// Reads a line of a name and a number, which is from `low` to `high`.
-pub(crate) fn read_number<S: Source>(
+pub fn read_number<S: Source>(
     lines: &mut LineReader,
     source: &mut S,
     name: &[u8],
@@ -90,7 +93,7 @@ pub(crate) fn read_number<S: Source>(
 }
 
 /// Reads a line of a name and one of two words, and says whether it has the first.
-pub(crate) fn read_choice<S: Source>(
+pub fn read_choice<S: Source>(
     lines: &mut LineReader,
     source: &mut S,
     name: &[u8],
@@ -161,7 +164,7 @@ pub(crate) fn read_nothing<S: Source>(
 }
 
 /// Reads the line after the records, and looks whether nothing follows it.
-pub(crate) fn read_end<S: Source>(lines: &mut LineReader, source: &mut S) -> Result<(), CertFault>
+pub fn read_end<S: Source>(lines: &mut LineReader, source: &mut S) -> Result<(), CertFault>
     requires limit { lines.old.limit ≡ 2 ^ 36 }
     requires few { lines.old.line + 1 < 2 ^ 26 }
     requires no_fault { lines.old.fault ≡ None }

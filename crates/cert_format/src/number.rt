@@ -9,7 +9,7 @@ use crate::fault::TextKind;
 use bound_base::{NumFault, read_u128};
 
 /// The number of a word, from `low` to `high`. It has no leading zero.
-pub(crate) fn number(word: &[u8], low: u128, high: u128) -> Result<u128, TextKind>
+pub fn number(word: &[u8], low: u128, high: u128) -> Result<u128, TextKind>
     ensures { result ≡ value_unless (number_fault (Within low high) word.now) (number_in word.now) }
 {
     if word.len() > 1 && word[0] == b'0' {

@@ -78,7 +78,8 @@ pub(crate) fn record_text(version: u8, before: u128, entry: &Record) -> LineText
     }
 }
 
-fn objective_line(objective: Objective) -> &'static [u8]
+/// The line of an objective, without its end.
+pub fn objective_line(objective: Objective) -> &'static [u8]
     ensures text { result.now ≡ codes "objective " ++ objective_word objective }
     ensures short { length result.now ≤ 20 }
 {
